@@ -1,0 +1,15 @@
+pub mod BoxType
+pub mod Cause
+pub mod Bytes
+pub mod FieldLaws
+pub mod Cursor
+pub mod Boxes
+pub mod PutLaws
+pub mod Children
+pub mod ChildrenLaws
+pub mod GatherLaws
+pub mod Framing
+pub mod FramingLaws
+pub mod WrittenChildren
+pub mod KeyedItems
+pub mod KeyedItemLaws

@@ -1,0 +1,100 @@
+-- Children that were written are the children that are read.
+use Rattle.std.proofs.Common.{◌≡◌, ℕ, zero, suc, ◌+◌, ◌^◌, ◌≤◌, ◌<◌, Bool, true, false, eqb, List, [], ◌∷◌, ◌++◌, length, map, Option, Some, None, Result, Ok, refl, sym, ap, subst, ◌∙◌, append_assoc, arith}
+use Rattle.std.specs.List.{flat_map, AllByRecursion}
+use Rattle.std.specs.Option.{option_to_list}
+use Rattle.std.proofs.lemmas.List.{append-nil, length-append}
+use Rattle.std.proofs.lemmas.List.Concat.{flat_map-cons}
+use Rattle.mp4_codec.specs.declared.box_type.BoxType.{BoxType}
+use Rattle.mp4_codec.specs.BoxType.{code_of}
+use Rattle.mp4_codec.specs.Cause.{Cause}
+use Rattle.mp4_codec.specs.Bytes.{◌⧺◌}
+use Rattle.mp4_codec.specs.FieldLaws.{length-then, then_assoc, then_nothing, nothing_then}
+use Rattle.mp4_codec.specs.Boxes.{frame, optional, all_frames}
+use Rattle.mp4_codec.specs.Framing.{IsSpellable, IsFrame, short}
+use Rattle.mp4_codec.specs.FramingLaws.{child_at-box, length-frame}
+use Rattle.mp4_codec.specs.Children.{ChildBox, child_at, walk, children, is_of, all_of, last}
+use Rattle.mp4_codec.specs.ChildrenLaws.{Begins, walk-begins, walk-ends}
+use Rattle.mp4_codec.specs.GatherLaws.{NoFault}
+
+-- a walk finds these children in the bytes, and nothing behind them
+pub record Walks (bytes : List ℕ) (list : List ChildBox) : Type 0 where
+  pub is : (n : ℕ) → length bytes ≤ n → walk n bytes ≡ (list, [])
+
+-- The bytes are these children, one after the other: a walk finds them before whatever other children follow.
+pub record Frames (bytes : List ℕ) (list : List ChildBox) : Type 0 where
+  pub before : (rest : List ℕ) (others : List ChildBox) → Walks rest others → Walks (bytes ⧺ rest) (list ++ others)
+
+pub children-frames : (payload : List ℕ) (list : List ChildBox) → Frames payload list → children payload ≡ (list, [])
+unfolding children
+children-frames payload list f =
+    let w : Walks (payload ⧺ []) (list ++ []) = f.before [] [] (record { is = λ n h. walk-ends n [] (omega arith) }) in
+    let whole : walk (length payload) (payload ⧺ []) ≡ (list ++ [], []) = w.is (length payload) (omega (arith, ap length (then_nothing payload))) in
+    ap (walk (length payload)) (sym (then_nothing payload)) ∙ whole ∙ ap (λ (cs : List ChildBox). (cs, [])) (append-nil list)
+
+pub Frames-none : Frames [] []
+Frames-none = record { before = λ rest others w. subst (λ (bytes : List ℕ). Walks bytes others) (sym (nothing_then rest)) w }
+
+pub Frames-then : {a b : List ℕ} {cs ds : List ChildBox} → Frames a cs → Frames b ds → Frames (a ⧺ b) (cs ++ ds)
+Frames-then {a} {b} {cs} {ds} f g = record {
+  before = λ rest others w. subst (λ (bytes : List ℕ). Walks bytes ((cs ++ ds) ++ others)) (sym (then_assoc a b rest)) (subst (λ (list : List ChildBox). Walks (a ⧺ (b ⧺ rest)) list) (sym (append_assoc cs ds others)) (f.before (b ⧺ rest) (ds ++ others) (g.before rest others w)));
+}
+
+child_at-frame : (t : BoxType) (payload rest : List ℕ) → IsSpellable t → 8 + length payload < 2 ^ 32 → child_at (frame t payload ⧺ rest) ≡ Some ((t, payload), rest)
+unfolding ◌⧺◌
+child_at-frame t payload rest s small = child_at-box t payload (frame t payload) rest (short s small refl)
+
+pub Frames-one : (t : BoxType) (payload : List ℕ) → IsSpellable t → 8 + length payload < 2 ^ 32 → Frames (frame t payload) ((t, payload) ∷ [])
+Frames-one t payload s small = record { before = λ rest others w. record { is = stepped rest others w } }
+  where
+    stepped : (rest : List ℕ) (others : List ChildBox) → Walks rest others → (n : ℕ) → length (frame t payload ⧺ rest) ≤ n → walk n (frame t payload ⧺ rest) ≡ ((t, payload) ∷ others, [])
+    stepped rest others w zero h = absurd (omega (arith, length-then (frame t payload) rest, length-frame t payload))
+    stepped rest others w (suc n) h =
+        let size : length (frame t payload ⧺ rest) ≡ 8 + length payload + length rest = length-then (frame t payload) rest ∙ ap (λ (k : ℕ). k + length rest) (length-frame t payload) in
+        let b : Begins (frame t payload ⧺ rest) (t, payload) rest = record { long = omega (arith, size); is = child_at-frame t payload rest s small } in
+        let more : walk n rest ≡ (others, []) = w.is n (omega (arith, size)) in
+        walk-begins n (frame t payload ⧺ rest) (t, payload) rest b ∙ rw more refl
+
+-- the children that hold these values
+abbrev pub boxed : {B : Type 0} → BoxType → (B → List ℕ) → List B → List ChildBox
+boxed t payload [] = []
+boxed t payload (b ∷ bs) = (t, payload b) ∷ boxed t payload bs
+
+pub Frames-optional : {B : Type 0} (t : BoxType) (payload : B → List ℕ) (o : Option B) → IsSpellable t → length (optional t payload o) < 2 ^ 32 → Frames (optional t payload o) (boxed t payload (option_to_list o))
+Frames-optional t payload None s small = Frames-none
+Frames-optional t payload (Some b) s small = Frames-one t (payload b) s (omega (arith, length-frame t (payload b)))
+
+joined : (a b : List ℕ) (cs ds : List ChildBox) → Frames a cs → Frames b ds → Frames (a ++ b) (cs ++ ds)
+unfolding ◌⧺◌
+joined a b cs ds f g = Frames-then f g
+
+pub Frames-all : {B : Type 0} (t : BoxType) (payload : B → List ℕ) (bs : List B) → IsSpellable t → length (all_frames t payload bs) < 2 ^ 32 → Frames (all_frames t payload bs) (boxed t payload bs)
+Frames-all t payload [] s small = Frames-none
+Frames-all t payload (b ∷ bs) s small =
+    let whole : all_frames t payload (b ∷ bs) ≡ frame t (payload b) ++ all_frames t payload bs = flat_map-cons (λ x. frame t (payload x)) b bs in
+    let size : length (all_frames t payload (b ∷ bs)) ≡ 8 + length (payload b) + length (all_frames t payload bs) = ap length whole ∙ length-append (frame t (payload b)) (all_frames t payload bs) ∙ ap (λ (n : ℕ). n + length (all_frames t payload bs)) (length-frame t (payload b)) in
+    let first = Frames-one t (payload b) s (omega (arith, size, small)) in
+    let others = Frames-all t payload bs s (omega (arith, size, small)) in
+    subst (λ (bytes : List ℕ). Frames bytes ((t, payload b) ∷ boxed t payload bs)) (sym whole) (joined (frame t (payload b)) (all_frames t payload bs) ((t, payload b) ∷ []) (boxed t payload bs) first others)
+
+-- the children of a type among those that hold values of it: the values, if each is read as it was
+pub all_of-boxed : {B : Type 0} (t : BoxType) (payload : B → List ℕ) (value : List ℕ → Result B Cause) (bs : List B) → AllByRecursion (λ b. value (payload b) ≡ Ok b) bs → all_of t value (boxed t payload bs) ≡ bs
+unfolding all_of
+all_of-boxed t payload value [] h = refl
+all_of-boxed t payload value (b ∷ bs) h = rw (same (code_of t), h.0) (ap (λ (xs : List _). b ∷ xs) (all_of-boxed t payload value bs h.1))
+  where
+    same : (n : ℕ) → eqb n n ≡ true
+    same n = grind arith
+
+-- and none among those of another type
+pub all_of-others : {A B : Type 0} (t u : BoxType) (payload : B → List ℕ) (value : List ℕ → Result A Cause) (bs : List B) → eqb (code_of u) (code_of t) ≡ false → all_of t value (boxed u payload bs) ≡ []
+unfolding all_of
+all_of-others t u payload value [] other = refl
+all_of-others t u payload value (b ∷ bs) other = rw other (all_of-others t u payload value bs other)
+
+pub NoFault-boxed : {B : Type 0} (fault : ChildBox → Option Cause) (t : BoxType) (payload : B → List ℕ) (bs : List B) → AllByRecursion (λ b. fault (t, payload b) ≡ None) bs → NoFault fault (boxed t payload bs)
+NoFault-boxed fault t payload [] h = tt
+NoFault-boxed fault t payload (b ∷ bs) h = (h.0, NoFault-boxed fault t payload bs h.1)
+
+pub last-option : {A : Type 0} (o : Option A) → last (option_to_list o) ≡ o
+last-option None = refl
+last-option (Some x) = refl

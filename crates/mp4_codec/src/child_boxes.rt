@@ -1,0 +1,56 @@
+//! Boxes in a box: the children that are written at the end of a buffer.
+
+ghost use Rattle.std.specs.Prelude.{◌≡◌, ◌-◌, ◌<◌, ◌^◌, min, length};
+ghost use Rattle.mp4_codec.specs.Boxes.{Adds, optional, optional_refusal, all_frames, all_refusal};
+
+use crate::boxes::WriteBox;
+use crate::error::Result;
+use crate::items::Items;
+
+/// Adds the box of a child that may be missing.
+#[tactic(auto, using(crate::proofs::Frames::frames))]
+pub fn put_optional<B: WriteBox>(out: &mut Vec<u8>, child: &Option<B>) -> Result<()>
+    requires { length (optional B.KIND B.payload child.now) < 2 ^ 32 }
+    ensures { Adds out.old.items out.new.items result (optional B.KIND B.payload child.now) (optional_refusal B.refusal child.now) }
+{
+    match child {
+        None => Ok(()),
+        Some(b) => {
+            b.put_box(out)?;
+            Ok(())
+        }
+    }
+}
+
+/// The bytes of that box, 0 where it is missing; they stop at 2^64 - 1.
+#[tactic(auto, using(crate::proofs::Frames::frames))]
+pub fn optional_size<B: WriteBox>(child: &Option<B>) -> u64
+    ensures { result ≡ min (length (optional B.KIND B.payload child.now)) (2 ^ 64 - 1) }
+{
+    match child {
+        None => 0,
+        Some(b) => b.box_size(),
+    }
+}
+
+/// Adds the boxes of a list of children, one after the other.
+pub fn put_all<B: WriteBox>(out: &mut Vec<u8>, children: &Items<B>) -> Result<()>
+    requires { length (all_frames B.KIND B.payload children.now) < 2 ^ 32 }
+    ensures { Adds out.old.items out.new.items result (all_frames B.KIND B.payload children.now) (all_refusal B.refusal children.now) }
+{
+    for child in children.as_slice() {
+        child.put_box(out)?;
+    }
+    Ok(())
+}
+
+/// The bytes of those boxes; they stop at 2^64 - 1.
+pub fn all_size<B: WriteBox>(children: &Items<B>) -> u64
+    ensures { result ≡ min (length (all_frames B.KIND B.payload children.now)) (2 ^ 64 - 1) }
+{
+    let mut size = 0u64;
+    for child in children.as_slice() {
+        size = size.saturating_add(child.box_size());
+    }
+    size
+}

@@ -1,0 +1,175 @@
+//! The entries of a box's list.
+
+ghost use Rattle.std.specs.Prelude.{◌≡◌, ℕ, List, length, Result, Ok, OnOk, min, ◌^◌, ◌-◌};
+ghost use Rattle.std.specs.List.{flat_map};
+ghost use Rattle.mp4_codec.specs.Cause.{Cause, Gives, Answers};
+ghost use Rattle.mp4_codec.specs.Bytes.{Appends, ◌⧺◌, Reader, list_at};
+ghost use Rattle.mp4_codec.specs.FieldLaws.{HasLength};
+
+use crate::error::{Error, Result};
+use crate::fields::Fields;
+use crate::four_cc::FourCC;
+use crate::items::Items;
+use crate::put::{Put, put_four_cc, put_u32, put_u64};
+use std::alloc::Global;
+
+/// An entry of a box's list. Its length in bytes depends on nothing but the version of the box.
+pub trait Entry: Copy {
+    ghost at: { ℕ → Reader Self };
+
+    ghost spelled: { ℕ → Self → List ℕ };
+
+    /// The values that a version spells apart from one another.
+    ghost Fits: { ℕ → Self → Type 0 };
+
+    ghost bytes_each: { ℕ → ℕ };
+
+    /// The bytes of one entry.
+    fn size(version: u8) -> u64
+        ensures { result ≡ bytes_each version };
+
+    /// The next entry.
+    fn read(fields: &mut Fields, version: u8) -> Result<Self>
+        ensures { Gives (λ x. (x, fields.new)) result (at version fields.old) };
+
+    /// Adds the entry at the end of a buffer.
+    fn put(self, out: &mut Vec<u8>, version: u8) -> Put
+        ensures { OnOk result (Appends out.old.items out.new.items (spelled version self)) };
+
+    ghost again: { (version : ℕ) (x : Self) (rest : List ℕ) → Fits version x → at version (spelled version x ⧺ rest) ≡ Ok (x, rest) };
+
+    ghost length_spelled: { (version : ℕ) (x : Self) → length (spelled version x) ≡ bytes_each version };
+
+    ghost has_length: { (version : ℕ) → HasLength (at version) (bytes_each version) };
+}
+
+impl<'a> Fields<'a> {
+    /// So many entries. Where they pass the end they are `InvalidData`, before any memory is taken;
+    /// else the list grows once.
+    pub fn list<T: Entry>(&mut self, alloc: Global, version: u8, count: u32) -> Result<Items<T>>
+        ensures { Answers (λ xs. (xs, self.new)) result (list_at (T.at version) count self.old) }
+    {
+        let bytes = (count as u64).saturating_mul(T::size(version));
+        if bytes > self.len() as u64 {
+            return Err(Error::InvalidData("a list passes the end"));
+        }
+        let mut items = Items::with_capacity(alloc, count as usize)?;
+        for _ in 0..count {
+            let item = T::read(self, version)?;
+            items.push(item)?;
+        }
+        Ok(items)
+    }
+}
+
+/// Adds the entries of a list, one after the other.
+pub fn put_list<T: Entry>(out: &mut Vec<u8>, version: u8, items: &Items<T>) -> Put
+    ensures { OnOk result (Appends out.old.items out.new.items (flat_map (T.spelled version) items.now)) }
+{
+    for item in items.as_slice() {
+        item.put(out, version)?;
+    }
+    Ok(())
+}
+
+/// The bytes of the entries of a list; it stops at 2^64 - 1.
+pub fn list_size<T: Entry>(version: u8, items: &Items<T>) -> u64
+    ensures { result ≡ min (length (flat_map (T.spelled version) items.now)) (2 ^ 64 - 1) }
+{
+    (items.len() as u64).saturating_mul(T::size(version))
+}
+
+impl Entry for u32 {
+    ghost use Rattle.std.specs.Prelude.{◌<◌, ◌^◌};
+    ghost use Rattle.mp4_codec.specs.Bytes.{number_at, number};
+    ghost use Rattle.mp4_codec.specs.FieldLaws.{number_again, length-number, number-has_length};
+
+    ghost at = { λ _. number_at 4 };
+
+    ghost spelled = { λ _. number 4 };
+
+    ghost Fits = { λ _ n. n < 2 ^ 32 };
+
+    ghost bytes_each = { λ _. 4 };
+
+    ghost again = { λ _. number_again 4 };
+
+    ghost length_spelled = { λ _. length-number 4 };
+
+    ghost has_length = { λ _. number-has_length 4 };
+
+    fn size(_version: u8) -> u64 {
+        4
+    }
+
+    fn read(fields: &mut Fields, _version: u8) -> Result<u32> {
+        fields.u32()
+    }
+
+    fn put(self, out: &mut Vec<u8>, _version: u8) -> Put {
+        put_u32(out, self)
+    }
+}
+
+impl Entry for u64 {
+    ghost use Rattle.std.specs.Prelude.{◌<◌, ◌^◌};
+    ghost use Rattle.mp4_codec.specs.Bytes.{number_at, number};
+    ghost use Rattle.mp4_codec.specs.FieldLaws.{number_again, length-number, number-has_length};
+
+    ghost at = { λ _. number_at 8 };
+
+    ghost spelled = { λ _. number 8 };
+
+    ghost Fits = { λ _ n. n < 2 ^ 64 };
+
+    ghost bytes_each = { λ _. 8 };
+
+    ghost again = { λ _. number_again 8 };
+
+    ghost length_spelled = { λ _. length-number 8 };
+
+    ghost has_length = { λ _. number-has_length 8 };
+
+    fn size(_version: u8) -> u64 {
+        8
+    }
+
+    fn read(fields: &mut Fields, _version: u8) -> Result<u64> {
+        fields.u64()
+    }
+
+    fn put(self, out: &mut Vec<u8>, _version: u8) -> Put {
+        put_u64(out, self)
+    }
+}
+
+impl Entry for FourCC {
+    ghost use Rattle.mp4_codec.specs.Bytes.{four_cc_at, four_cc};
+    ghost use Rattle.mp4_codec.specs.FieldLaws.{IsCode, four_cc_again, length-four_cc, four_cc-has_length};
+
+    ghost at = { λ _. four_cc_at };
+
+    ghost spelled = { λ _. four_cc };
+
+    ghost Fits = { λ _. IsCode };
+
+    ghost bytes_each = { λ _. 4 };
+
+    ghost again = { λ _. four_cc_again };
+
+    ghost length_spelled = { λ _. length-four_cc };
+
+    ghost has_length = { λ _. four_cc-has_length };
+
+    fn size(_version: u8) -> u64 {
+        4
+    }
+
+    fn read(fields: &mut Fields, _version: u8) -> Result<FourCC> {
+        fields.four_cc()
+    }
+
+    fn put(self, out: &mut Vec<u8>, _version: u8) -> Put {
+        put_four_cc(out, self)
+    }
+}

@@ -1,0 +1,136 @@
+//! What the children of a payload give.
+
+ghost use Rattle.std.specs.Prelude.{◌≡◌, ◌++◌, ◌∷◌, [], List, Option, Result, Ok};
+ghost use Rattle.mp4_codec.specs.BoxType.{IsNamed};
+ghost use Rattle.mp4_codec.specs.Cause.{Cause, Answers, unless};
+ghost use Rattle.mp4_codec.specs.Children.{ChildBox, child_box, children, gathered, fault_in, last_of, all_of};
+
+use crate::boxes::{Mp4Box, ReadBox};
+use crate::children::{Child, Children};
+use crate::error::Result;
+use crate::items::Items;
+use std::alloc::Global;
+
+/// The parts of a container, which its children give.
+///
+/// `taken` says which parts a list of children gives, in words such as the last of a type; `fault` says
+/// why a child is refused.
+pub trait Gather: Sized + Drop {
+    ghost fault: { ChildBox → Option Cause };
+
+    ghost taken: { List ChildBox → Self };
+
+    ghost added: { Self → ChildBox → Result Self Cause };
+
+    /// The parts before any child.
+    fn none(alloc: Global) -> Self
+        ensures { result ≡ taken [] };
+
+    /// Adds what one child gives.
+    fn add(&mut self, alloc: Global, child: &Child) -> Result<()>
+        requires { IsNamed child.now.name }
+        ensures { Answers (λ _. self.new) result (added self.old (child_box child.now)) };
+
+    ghost adds: { (done : List ChildBox) (c : ChildBox) → added (taken done) c ≡ unless (fault c) (Ok (taken (done ++ c ∷ []))) };
+}
+
+/// The parts that the children of a payload give: the first refused child in file order is the answer,
+/// then a tail that no child begins; else it is what all children give.
+pub fn gather_children<G: Gather>(alloc: Global, payload: &[u8]) -> Result<G>
+    ensures { Answers (λ g. g) result (gathered G.fault G.taken (children payload.now)) }
+{
+    let mut parts = G::none(alloc);
+    let mut children = Children::new(payload);
+    while let Some(child) = children.next_child()? {
+        parts.add(alloc, &child)?;
+    }
+    Ok(parts)
+}
+
+/// The last child of one type.
+#[derive(Drop)]
+struct LastChild<B> {
+    child: Option<B>,
+}
+
+impl<B: Mp4Box + ReadBox> Gather for LastChild<B> {
+    ghost use Rattle.std.specs.Prelude.{Ok};
+    ghost use Rattle.mp4_codec.specs.Cause.{◌>>=◌};
+    ghost use Rattle.mp4_codec.specs.Children.{fault_in, last_of, with_last};
+    ghost use Rattle.mp4_codec.specs.GatherLaws.{last_child-adds};
+
+    ghost fault = { fault_in B.KIND B.value };
+
+    ghost taken = { λ list. record { child = last_of B.KIND B.value list } };
+
+    ghost added = { λ p c. with_last B.KIND B.value c p.child >>= λ x. Ok (record { child = x }) };
+
+    ghost adds = { last_child-adds B.KIND B.value (λ x. record { child = x }) };
+
+    #[tactic(auto, unfolding(crate::specs::Children::last_of, crate::specs::Children::all_of))]
+    fn none(_alloc: Global) -> Self {
+        LastChild { child: None }
+    }
+
+    fn add(&mut self, alloc: Global, child: &Child) -> Result<()> {
+        if u32::from(child.name) == u32::from(B::KIND) {
+            self.child = Some(B::read_payload(alloc, child.payload)?);
+            return Ok(());
+        }
+        Ok(())
+    }
+}
+
+/// The last child of this type, and None where there is none. Other types are skipped; a child of the
+/// type that is refused refuses the payload, also where a later one would stand.
+pub fn last_child<B: Mp4Box + ReadBox>(alloc: Global, payload: &[u8]) -> Result<Option<B>>
+    ensures { Answers (λ b. b) result (gathered (fault_in B.KIND B.value) (last_of B.KIND B.value) (children payload.now)) }
+{
+    let LastChild { child } = gather_children::<LastChild<B>>(alloc, payload)?;
+    Ok(child)
+}
+
+/// All children of one type.
+#[derive(Drop)]
+struct AllChildren<B> {
+    children: Items<B>,
+}
+
+impl<B: Mp4Box + ReadBox> Gather for AllChildren<B> {
+    ghost use Rattle.std.specs.Prelude.{Ok};
+    ghost use Rattle.mp4_codec.specs.Cause.{◌>>=◌};
+    ghost use Rattle.mp4_codec.specs.Children.{fault_in, all_of, with_next};
+    ghost use Rattle.mp4_codec.specs.GatherLaws.{all_children-adds};
+
+    ghost fault = { fault_in B.KIND B.value };
+
+    ghost taken = { λ list. record { children = all_of B.KIND B.value list } };
+
+    ghost added = { λ p c. with_next B.KIND B.value c p.children >>= λ x. Ok (record { children = x }) };
+
+    ghost adds = { all_children-adds B.KIND B.value (λ x. record { children = x }) };
+
+    #[tactic(auto, unfolding(crate::specs::Children::all_of))]
+    fn none(alloc: Global) -> Self {
+        AllChildren {
+            children: Items::new(alloc),
+        }
+    }
+
+    fn add(&mut self, alloc: Global, child: &Child) -> Result<()> {
+        if u32::from(child.name) == u32::from(B::KIND) {
+            self.children.push(B::read_payload(alloc, child.payload)?)?;
+            return Ok(());
+        }
+        Ok(())
+    }
+}
+
+/// All children of this type, in order. Other types are skipped; the first that is refused refuses the
+/// payload.
+pub fn all_children<B: Mp4Box + ReadBox>(alloc: Global, payload: &[u8]) -> Result<Items<B>>
+    ensures { Answers (λ bs. bs) result (gathered (fault_in B.KIND B.value) (all_of B.KIND B.value) (children payload.now)) }
+{
+    let AllChildren { children } = gather_children::<AllChildren<B>>(alloc, payload)?;
+    Ok(children)
+}

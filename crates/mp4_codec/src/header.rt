@@ -1,0 +1,113 @@
+//! The header of a box (ISO/IEC 14496-12, 4.2).
+
+ghost use Rattle.std.specs.Prelude.{◌≡◌, ◌≤◌, ◌+◌, ◌⊎◌, OnOk, IfOk};
+ghost use Rattle.mp4_codec.specs.Cause.{Gives};
+ghost use Rattle.mp4_codec.specs.Cursor.{header_at};
+ghost use Rattle.mp4_codec.specs.BoxType.{IsNamed};
+ghost use Rattle.mp4_codec.specs.Bytes.{number, ◌⧺◌};
+ghost use Rattle.mp4_codec.specs.Boxes.{Writes, size_spelling, header_spelling};
+
+use crate::box_type::BoxType;
+use crate::cursor::ByteCursor;
+use crate::error::{Error, Limit, Result};
+use byteorder::{BigEndian, ByteOrder};
+
+/// The bytes of a header with a 32-bit size.
+pub const HEADER_SIZE: u64 = 8;
+
+/// The bytes of the version and the flags that begin the payload of a full box.
+pub const HEADER_EXT_SIZE: u64 = 4;
+
+/// The bytes of a header with a 64-bit largesize.
+const LARGE_HEADER_SIZE: u64 = 16;
+
+/// The size that says that a largesize follows the type.
+const LARGE: u32 = 1;
+
+/// The header of a box: its type, and a size in bytes that is 8 more than the length of the payload,
+/// whichever way the header is spelled; or 0 where the box goes on to the end of the file.
+#[derive(Clone, Copy, Debug, PartialEq, Eq)]
+pub struct BoxHeader {
+    pub name: BoxType,
+    pub size: u64,
+}
+
+/// The size as it is written, in 32 bits.
+fn spelled_size(size: u64) -> Result<u32>
+    ensures { Gives (λ n. n) result (size_spelling size) }
+{
+    match size {
+        0 => Ok(0),
+        1..=7 => Err(Error::InvalidData("a size below 8")),
+        8..=0xffff_ffff => Ok(size as u32),
+        _ => Err(Error::TooLarge(Limit::BoxSize)),
+    }
+}
+
+/// The bytes of a header: a size and a code.
+#[tactic(auto, unfolding(crate::specs::Bytes::number))]
+pub(crate) fn header_bytes(size: u32, code: u32) -> [u8; 8]
+    ensures { result ≡ number 4 size ⧺ number 4 code }
+{
+    let [a, b, c, d] = size.to_be_bytes();
+    let [e, f, g, h] = code.to_be_bytes();
+    [a, b, c, d, e, f, g, h]
+}
+
+impl BoxHeader {
+    /// A header of this type and size.
+    pub fn new(name: BoxType, size: u64) -> Self
+        ensures { result ≡ record { name = name; size = size } }
+    {
+        BoxHeader { name, size }
+    }
+
+    /// The header at the cursor, which then stands behind it.
+    ///
+    /// `EndOfData` where fewer than 8 bytes are left, or fewer than 16 and the size is 1;
+    /// `InvalidData` for a size of 2 to 7 or a largesize of 1 to 15. A largesize of at least 16 is
+    /// answered less 8, so that `size - 8` is the length of the payload.
+    #[tactic(auto, using(crate::proofs::BoxTypeLaws::is_named), unfolding(crate::specs::Cursor::head_at))]
+    pub fn read(reader: &mut ByteCursor) -> Result<Self>
+        ensures value { Gives (λ h. (h, reader.new)) result (header_at reader.old) }
+        ensures moved { OnOk result (reader.old.position + 8 ≤ reader.new.position) }
+        ensures same { OnOk result (reader.new.bytes ≡ reader.old.bytes) }
+        ensures named { IfOk result (λ h. IsNamed h.name) }
+        ensures size { IfOk result (λ h. (h.size ≡ 0) ⊎ (8 ≤ h.size)) }
+    {
+        let first = reader.take(HEADER_SIZE)?;
+        let size = BigEndian::read_u32(first);
+        let name = BoxType::from(BigEndian::read_u32(&first[4..]));
+        match size {
+            0 => Ok(BoxHeader { name, size: 0 }),
+            LARGE => {
+                let large = BigEndian::read_u64(reader.take(8)?);
+                match large {
+                    0 => Ok(BoxHeader { name, size: 0 }),
+                    1..=15 => Err(Error::InvalidData("a largesize below 16")),
+                    _ => Ok(BoxHeader {
+                        name,
+                        size: large - (LARGE_HEADER_SIZE - HEADER_SIZE),
+                    }),
+                }
+            }
+            2..=7 => Err(Error::InvalidData("a size below 8")),
+            _ => Ok(BoxHeader {
+                name,
+                size: size as u64,
+            }),
+        }
+    }
+
+    /// Adds the 8 bytes of the header at the end of a buffer, and answers their number.
+    ///
+    /// `InvalidData` for a size of 1 to 7, `TooLarge(BoxSize)` for one past 2^32 - 1. After a refusal,
+    /// for want of memory too, the buffer is as before.
+    pub fn write(&self, writer: &mut Vec<u8>) -> Result<u64>
+        ensures { Writes writer.old.items writer.new.items result (header_spelling self.now) }
+    {
+        let size = spelled_size(self.size)?;
+        writer.extend_from_slice(&header_bytes(size, u32::from(self.name)))?;
+        Ok(HEADER_SIZE)
+    }
+}

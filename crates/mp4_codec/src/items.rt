@@ -1,0 +1,129 @@
+//! Lists of values, which contracts see as lists.
+
+ghost use Rattle.std.specs.Prelude.{◌≡◌, ◌==◌, ◌<◌, ◌^◌, [], ◌∷◌, ◌++◌, length, slice_get, OnOk, OnErr, IfOk};
+ghost use Rattle.std.specs.Option.{option_copied};
+ghost use Rattle.std.specs.Slice.Iter.{iter_rest};
+ghost use Rattle.std.specs.Iterator.Adapters.{IterYieldsInOrder};
+ghost use Rattle.std.specs.Cmp.Lexicographic.{pointwise, lists_per, lists_equiv};
+
+use std::alloc::{AllocError, Global};
+use std::marker::Model;
+use std::slice::Iter;
+
+/// A list, as the fields of boxes are. It is made from a `Vec` and gives it back, without taking memory.
+#[derive(Debug, Drop)]
+pub struct Items<T> {
+    items: Vec<T>,
+}
+
+impl<T> Model for Items<T> {
+    ghost use Rattle.std.specs.Prelude.{List};
+
+    ghost Value = { List T };
+
+    ghost view = { λ s. s.items.items };
+}
+
+impl<T> Items<T> {
+    /// An empty list.
+    pub fn new(alloc: Global) -> Self
+        ensures { result ≡ [] }
+    {
+        Items {
+            items: Vec::new(alloc),
+        }
+    }
+
+    /// An empty list with room for so many.
+    pub fn with_capacity(alloc: Global, capacity: usize) -> std::result::Result<Self, AllocError>
+        ensures { IfOk result (λ s. s ≡ []) }
+    {
+        Ok(Items {
+            items: Vec::with_capacity(alloc, capacity)?,
+        })
+    }
+
+    /// Where the list takes its memory from.
+    pub fn allocator(&self) -> Global {
+        *self.items.allocator()
+    }
+
+    /// How many there are.
+    pub fn len(&self) -> usize
+        ensures value { result ≡ length self.now }
+        ensures small { result < 2 ^ 63 }
+    {
+        self.items.len()
+    }
+
+    /// Whether there is none.
+    pub fn is_empty(&self) -> bool
+        ensures { result ≡ (length self.now == 0) }
+    {
+        self.items.is_empty()
+    }
+
+    /// All of them.
+    pub fn as_slice(&self) -> &[T]
+        ensures { result.now ≡ self.now }
+    {
+        self.items.as_slice()
+    }
+
+    /// The one at an index, which counts from 0.
+    pub fn get(&self, index: usize) -> Option<&T>
+        ensures { option_copied result ≡ slice_get self.now index }
+    {
+        self.items.as_slice().get(index)
+    }
+
+    /// One after the other.
+    pub fn iter(&self) -> Iter<'_, T>
+        ensures rest { iter_rest result ≡ self.now }
+        ensures runs { IterYieldsInOrder T }
+    {
+        self.items.as_slice().iter()
+    }
+
+    /// Adds one at the end.
+    pub fn push(&mut self, value: T) -> std::result::Result<(), AllocError>
+    where
+        T: Drop,
+        ensures ok { OnOk result (self.new ≡ self.old ++ value ∷ []) }
+        ensures err { OnErr result (self.new ≡ self.old) }
+    {
+        self.items.push(value)?;
+        Ok(())
+    }
+}
+
+impl<T> From<Vec<T>> for Items<T> {
+    ghost from_gives = { λ v s. s ≡ v.items };
+
+    fn from(items: Vec<T>) -> Self {
+        Items { items }
+    }
+}
+
+impl<T> From<Items<T>> for Vec<T> {
+    ghost from_gives = { λ s v. v.items ≡ s };
+
+    fn from(s: Items<T>) -> Self {
+        let Items { items } = s;
+        items
+    }
+}
+
+impl<T: PartialEq> PartialEq for Items<T> {
+    ghost eq = { pointwise T.eq };
+
+    ghost laws = { lists_per T.laws };
+
+    fn eq(&self, other: &Self) -> bool {
+        self.items == other.items
+    }
+}
+
+impl<T: Eq> Eq for Items<T> {
+    ghost laws = { lists_equiv T.Eq.laws };
+}

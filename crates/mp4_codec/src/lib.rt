@@ -1,0 +1,45 @@
+//! The framing of boxes in MP4 files (ISO/IEC 14496-12): errors, the cursor, headers, children, the traits
+//! of a box, and what boxes are made with.
+#![tactic(auto)]
+
+mod box_type;
+mod boxes;
+mod child_boxes;
+mod children;
+mod cursor;
+mod entry;
+mod error;
+mod fields;
+mod four_cc;
+mod gather;
+mod header;
+mod items;
+mod keyed_items;
+mod laws;
+mod put;
+mod text;
+mod try_clone;
+
+pub use box_type::{BoxType, code_again};
+pub use boxes::{Mp4Box, ReadBox, WriteBox};
+pub use child_boxes::{all_size, optional_size, put_all, put_optional};
+pub use children::{Child, Children};
+pub use cursor::ByteCursor;
+pub use entry::{Entry, list_size, put_list};
+pub use error::{Error, Limit, Result};
+pub use fields::Fields;
+pub use four_cc::FourCC;
+pub use gather::{Gather, all_children, gather_children, last_child};
+pub use header::{BoxHeader, HEADER_EXT_SIZE, HEADER_SIZE};
+pub use items::Items;
+pub use keyed_items::{Key, KeyedItems};
+pub use laws::{frame_has_its_head, payload_has_its_children, refused_head_says_why};
+pub use put::{
+    Put, check_value, check_version, put_bytes, put_four_cc, put_i16, put_i32, put_u8, put_u16,
+    put_u24, put_u32, put_u64, put_versioned, put_zeros,
+};
+pub use text::Text;
+pub use try_clone::TryClone;
+
+#[cfg(test)]
+mod tests;

@@ -1,0 +1,82 @@
+//! Copies that take memory.
+
+ghost use Rattle.std.specs.Prelude.{◌≡◌, Ok};
+ghost use Rattle.mp4_codec.specs.Cause.{Answers};
+
+use crate::box_type::BoxType;
+use crate::error::Result;
+use crate::four_cc::FourCC;
+use crate::items::Items;
+
+/// A value that is copied where there is memory for it. It stands for `Clone`.
+pub trait TryClone: Sized + Drop {
+    /// An equal value. It is refused by `OutOfMemory` alone.
+    fn try_clone(&self) -> Result<Self>
+        ensures { Answers (λ x. x) result (Ok self.now) };
+}
+
+impl TryClone for u8 {
+    fn try_clone(&self) -> Result<u8> {
+        Ok(*self)
+    }
+}
+
+impl TryClone for u16 {
+    fn try_clone(&self) -> Result<u16> {
+        Ok(*self)
+    }
+}
+
+impl TryClone for u32 {
+    fn try_clone(&self) -> Result<u32> {
+        Ok(*self)
+    }
+}
+
+impl TryClone for u64 {
+    fn try_clone(&self) -> Result<u64> {
+        Ok(*self)
+    }
+}
+
+impl TryClone for FourCC {
+    fn try_clone(&self) -> Result<FourCC> {
+        Ok(*self)
+    }
+}
+
+impl TryClone for BoxType {
+    fn try_clone(&self) -> Result<BoxType> {
+        Ok(*self)
+    }
+}
+
+impl<A: TryClone, B: TryClone> TryClone for (A, B) {
+    fn try_clone(&self) -> Result<(A, B)> {
+        let first = self.0.try_clone()?;
+        let second = self.1.try_clone()?;
+        Ok((first, second))
+    }
+}
+
+impl<T: TryClone> TryClone for Option<T> {
+    fn try_clone(&self) -> Result<Option<T>> {
+        match self {
+            None => Ok(None),
+            Some(value) => {
+                let copy = value.try_clone()?;
+                Ok(Some(copy))
+            }
+        }
+    }
+}
+
+impl<T: TryClone> TryClone for Items<T> {
+    fn try_clone(&self) -> Result<Items<T>> {
+        let mut copies = Items::with_capacity(self.allocator(), self.len())?;
+        for item in self.as_slice() {
+            copies.push(item.try_clone()?)?;
+        }
+        Ok(copies)
+    }
+}
