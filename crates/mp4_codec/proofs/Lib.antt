@@ -6,3 +6,4 @@ pub mod Gathering
 pub mod Framed
 pub mod Frames
 pub mod Keyed
+pub mod Numbers

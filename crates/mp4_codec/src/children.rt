@@ -1,4 +1,4 @@
-//! The children of a payload.
+//! The children of a payload (ISO/IEC 14496-12, 4.2).
 
 ghost use Rattle.std.specs.Prelude.{◌≡◌, ◌<◌, Some, length, IfOk, IfSome, OnSome, OnErr};
 ghost use Rattle.std.specs.Option.{option_map};
@@ -9,10 +9,10 @@ ghost use Rattle.mp4_codec.specs.Children.{child_box, child_at, next_of, next_at
 use crate::box_type::BoxType;
 use crate::cursor::ByteCursor;
 use crate::error::{Error, Result};
-use crate::header::BoxHeader;
+use crate::header::{BoxHeader, HEADER_SIZE, OPEN_END};
 use std::marker::Model;
 
-/// A child: its type and its payload.
+/// A child of a payload: its type and its own payload.
 #[derive(Clone, Copy, Debug, PartialEq, Eq)]
 pub struct Child<'a> {
     pub name: BoxType,
@@ -20,7 +20,7 @@ pub struct Child<'a> {
 }
 
 /// The children of a payload, one after the other.
-#[derive(Drop)]
+#[derive(Debug, Drop)]
 pub struct Children<'a> {
     rest: &'a [u8],
 }
@@ -44,10 +44,10 @@ fn first_child(bytes: &[u8]) -> Result<(Child<'_>, &[u8])>
     let Ok(header) = BoxHeader::read(&mut cursor) else {
         return Err(Error::InvalidData("a child's header"));
     };
-    if header.size == 0 {
+    if header.size == OPEN_END {
         return Err(Error::InvalidData("a child with an open end"));
     }
-    let Ok(payload) = cursor.take(header.size - 8) else {
+    let Ok(payload) = cursor.take(header.size - HEADER_SIZE) else {
         return Err(Error::InvalidData("a child passes the end"));
     };
     let rest = cursor.rest();
@@ -61,20 +61,25 @@ fn first_child(bytes: &[u8]) -> Result<(Child<'_>, &[u8])>
 }
 
 impl<'a> Children<'a> {
+    /// All children of a payload.
     pub fn new(payload: &'a [u8]) -> Self
         ensures { result ≡ payload.now }
     {
         Children { rest: payload }
     }
 
-    /// The next child; none where fewer than 8 bytes are left.
+    /// The next child; None where fewer than 8 bytes are left, which are skipped.
+    ///
+    /// `InvalidData` where no child begins the bytes that are left: a size or a largesize below its
+    /// header (0 too, since only a box of a file may be open), a header that is cut, or a child that
+    /// passes the end. A refusal leaves the children that are left.
     pub fn next_child(&mut self) -> Result<Option<Child<'a>>>
         ensures value { Gives (λ c. (option_map child_box c, self.new)) result (next_at self.old) }
         ensures shorter { IfOk result (λ c. OnSome c (length self.new < length self.old)) }
         ensures named { IfOk result (λ c. IfSome c (λ k. IsNamed k.name)) }
         ensures err { OnErr result (self.new ≡ self.old) }
     {
-        if self.rest.len() < 8 {
+        if self.rest.len() < HEADER_SIZE as usize {
             return Ok(None);
         }
         let (child, rest) = first_child(self.rest)?;
