@@ -46,14 +46,14 @@ pub trait Entry: Copy {
 impl<'a> Fields<'a> {
     /// So many entries. Where they pass the end they are `InvalidData`, before any memory is taken;
     /// else the list grows once.
-    pub fn list<T: Entry>(&mut self, alloc: Global, version: u8, count: u32) -> Result<Items<T>>
+    pub fn list<T: Entry>(&mut self, alloc: Global, version: u8, count: usize) -> Result<Items<T>>
         ensures { Answers (λ xs. (xs, self.new)) result (list_at (T.at version) count self.old) }
     {
         let bytes = (count as u64).saturating_mul(T::size(version));
         if bytes > self.len() as u64 {
             return Err(Error::InvalidData("a list passes the end"));
         }
-        let mut items = Items::with_capacity(alloc, count as usize)?;
+        let mut items = Items::with_capacity(alloc, count)?;
         for _ in 0..count {
             let item = T::read(self, version)?;
             items.push(item)?;

@@ -72,7 +72,7 @@ fn a_list_lies_within_the_payload(rt: HostRuntime) -> Result<(), Fail> {
     let list: Items<u32> = fields.list(alloc, 0, 2)?;
     assert!(rt; list.as_slice() == [1, 2].as_slice());
     assert_eq!(rt; fields.len(), 1);
-    for count in [3, 4294967295] {
+    for count in [3, 4294967295, usize::MAX] {
         let refused = Fields::new(&bytes).list::<u32>(alloc, 0, count);
         assert!(rt;
             matches!(&refused, Err(Error::InvalidData(_))),
