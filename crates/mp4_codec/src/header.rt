@@ -21,8 +21,8 @@ pub const HEADER_EXT_SIZE: u64 = 4;
 /// The bytes of a header with a 64-bit largesize.
 const LARGE_HEADER_SIZE: u64 = 16;
 
-/// The size of a box that goes on to the end of the file.
-pub(crate) const OPEN_END: u64 = 0;
+/// The size in a header of a box that goes on to the end of the file.
+pub const OPEN_END: u64 = 0;
 
 /// The size that says that a largesize follows the type.
 const LARGE: u32 = 1;

@@ -30,7 +30,7 @@ pub use error::{Error, Limit, Result};
 pub use fields::Fields;
 pub use four_cc::FourCC;
 pub use gather::{Gather, all_children, gather_children, last_child};
-pub use header::{BoxHeader, HEADER_EXT_SIZE, HEADER_SIZE};
+pub use header::{BoxHeader, HEADER_EXT_SIZE, HEADER_SIZE, OPEN_END};
 pub use items::Items;
 pub use keyed_items::{Key, KeyedItems};
 pub use laws::{frame_has_its_head, payload_has_its_children, refused_head_says_why};
