@@ -1,0 +1,2 @@
+pub mod Moov
+pub mod MoovLaws

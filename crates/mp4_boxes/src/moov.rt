@@ -1,0 +1,141 @@
+//! The movie.
+
+use mp4_codec::{
+    BoxType, Child, Error, Gather, HEADER_SIZE, Mp4Box, ReadBox, Result, TryClone, WriteBox,
+    gather_children,
+};
+use mp4_leaf::MvhdBox;
+use std::alloc::Global;
+
+/// The movie, `moov`: what a file holds beside its samples (ISO/IEC 14496-12, 8.2.1).
+///
+/// Its children may come in any order, and types that it doesn't name are skipped. Of a type the last
+/// child stands. The first refused child in file order is the answer, then `InvalidData` for a broken
+/// tail, then `BoxNotFound(MvhdBox)`.
+#[derive(Debug, PartialEq, Eq, Drop)]
+pub struct MoovBox {
+    /// The movie header, which is required.
+    pub mvhd: MvhdBox,
+}
+
+impl MoovBox {
+    ghost use Rattle.std.specs.Prelude.{◌≡◌, Ok};
+    ghost use Rattle.mp4_codec.specs.declared.box_type.BoxType.TheVariants.{MoovBox as moov};
+    ghost use Rattle.mp4_codec.specs.Cause.{Answers};
+    ghost use Rattle.mp4_codec.specs.Boxes.{size_around};
+    ghost use Rattle.mp4_boxes.specs.Moov.{moov_payload, default_moov};
+
+    /// A movie of a default header.
+    pub fn default(_alloc: Global) -> Result<Self>
+        ensures { Answers (λ b. b) result (Ok default_moov) }
+    {
+        Ok(MoovBox {
+            mvhd: MvhdBox::default(),
+        })
+    }
+
+    /// `moov`.
+    pub fn get_type(&self) -> BoxType
+        ensures { result ≡ moov }
+    {
+        BoxType::MoovBox
+    }
+
+    /// The bytes of the box, its header and all; they stop at 2^64 - 1.
+    #[tactic(auto, using(crate::proofs::Sizes::sizes), unfolding(crate::specs::Moov::moov_payload))]
+    pub fn get_size(&self) -> u64
+        ensures { result ≡ size_around (moov_payload self.now) }
+    {
+        HEADER_SIZE.saturating_add(self.mvhd.box_size())
+    }
+}
+
+impl TryClone for MoovBox {
+    fn try_clone(&self) -> Result<Self> {
+        Ok(MoovBox {
+            mvhd: self.mvhd.try_clone()?,
+        })
+    }
+}
+
+/// What the children of a movie give.
+#[derive(Drop)]
+struct MoovParts {
+    mvhd: Option<MvhdBox>,
+}
+
+impl Gather for MoovParts {
+    ghost use Rattle.mp4_boxes.specs.Moov.{moov_fault, moov_taken, moov_added};
+    ghost use Rattle.mp4_boxes.specs.MoovLaws.{moov_adds};
+
+    ghost fault = { moov_fault };
+
+    ghost taken = { moov_taken };
+
+    ghost added = { moov_added };
+
+    ghost adds = { moov_adds };
+
+    #[tactic(auto, unfolding(crate::specs::Moov::moov_taken, mp4_codec::specs::Children::last_of, mp4_codec::specs::Children::all_of))]
+    fn none(_alloc: Global) -> Self {
+        MoovParts { mvhd: None }
+    }
+
+    #[tactic(auto, unfolding(crate::specs::Moov::moov_added))]
+    fn add(&mut self, alloc: Global, child: &Child) -> Result<()> {
+        match child.name {
+            BoxType::MvhdBox => {
+                self.mvhd = Some(MvhdBox::read_payload(alloc, child.payload)?);
+                Ok(())
+            }
+            _ => Ok(()),
+        }
+    }
+}
+
+impl Mp4Box for MoovBox {
+    ghost use Rattle.mp4_codec.specs.declared.box_type.BoxType.TheVariants.{MoovBox as moov};
+    ghost use Rattle.mp4_boxes.specs.Moov.{moov_payload};
+
+    ghost KIND = { moov };
+
+    const KIND: BoxType = BoxType::MoovBox;
+
+    ghost payload = { moov_payload };
+
+    fn box_size(&self) -> u64 {
+        self.get_size()
+    }
+}
+
+impl ReadBox for MoovBox {
+    ghost use Rattle.mp4_boxes.specs.Moov.{moov_of};
+
+    ghost value = { moov_of };
+
+    #[tactic(auto, unfolding(crate::specs::Moov::moov_of))]
+    fn read_payload(alloc: Global, payload: &[u8]) -> Result<Self> {
+        let MoovParts { mvhd } = gather_children(alloc, payload)?;
+        let Some(mvhd) = mvhd else {
+            return Err(Error::BoxNotFound(BoxType::MvhdBox));
+        };
+        Ok(MoovBox { mvhd })
+    }
+}
+
+impl WriteBox for MoovBox {
+    ghost use Rattle.mp4_boxes.specs.Moov.{moov_refusal, IsCanonicalMoov};
+    ghost use Rattle.mp4_boxes.specs.MoovLaws.{moov_again};
+
+    ghost refusal = { moov_refusal };
+
+    ghost IsCanonical = { IsCanonicalMoov };
+
+    ghost reads_back = { moov_again };
+
+    #[tactic(auto, using(crate::proofs::Sizes::sizes), unfolding(crate::specs::Moov::moov_payload))]
+    fn put_payload(&self, out: &mut Vec<u8>) -> Result<()> {
+        self.mvhd.put_box(out)?;
+        Ok(())
+    }
+}

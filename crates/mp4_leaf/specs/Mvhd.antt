@@ -1,0 +1,87 @@
+-- The movie header (ISO/IEC 14496-12, 8.2.2).
+use Rattle.std.specs.Prelude.{ℕ, ◌^◌, ◌<◌, List, Option, Result, Ok}
+use Rattle.mp4_codec.specs.Cause.{Cause, ◌>>=◌, ◌or◌}
+use Rattle.mp4_codec.specs.Bytes.{number_at, bytes_at, versioned_at, number, zeros, versioned, ◌⧺◌, version_refusal, value_refusal}
+use Rattle.mp4_codec.specs.FieldLaws.{FitsVersion}
+use Rattle.mp4_leaf.specs.declared.mvhd.MvhdBox.{MvhdBox}
+use Rattle.mp4_leaf.specs.Matrix.{matrix_at, matrix, FitsMatrix, unity}
+
+-- the movie header that a payload holds, field by field; what follows is skipped
+unfoldable pub mvhd_of : List ℕ → Result MvhdBox Cause
+mvhd_of payload = do
+  version ← number_at 1 payload
+  flags ← number_at 3 version.1
+  creation_time ← versioned_at version.0 flags.1
+  modification_time ← versioned_at version.0 creation_time.1
+  timescale ← number_at 4 modification_time.1
+  duration ← versioned_at version.0 timescale.1
+  rate ← number_at 4 duration.1
+  volume ← number_at 2 rate.1
+  reserved ← bytes_at 10 volume.1
+  matrix ← matrix_at reserved.1
+  predefined ← bytes_at 24 matrix.1
+  next_track_id ← number_at 4 predefined.1
+  Ok (record {
+    version = version.0;
+    flags = flags.0;
+    creation_time = creation_time.0;
+    modification_time = modification_time.0;
+    timescale = timescale.0;
+    duration = duration.0;
+    rate = record { raw = rate.0 };
+    volume = record { raw = volume.0 };
+    matrix = matrix.0;
+    next_track_id = next_track_id.0;
+  })
+
+-- the payload that holds a movie header
+unfoldable pub mvhd_payload : MvhdBox → List ℕ
+mvhd_payload b =
+    number 1 b.version
+    ⧺ number 3 b.flags
+    ⧺ versioned b.version b.creation_time
+    ⧺ versioned b.version b.modification_time
+    ⧺ number 4 b.timescale
+    ⧺ versioned b.version b.duration
+    ⧺ number 4 b.rate.raw
+    ⧺ number 2 b.volume.raw
+    ⧺ zeros 10
+    ⧺ matrix b.matrix
+    ⧺ zeros 24
+    ⧺ number 4 b.next_track_id
+
+-- why a movie header is not written: its version, then the first number that its version has no room for
+unfoldable pub mvhd_refusal : MvhdBox → Option Cause
+mvhd_refusal b =
+    version_refusal b.version
+    or value_refusal b.version b.creation_time
+    or value_refusal b.version b.modification_time
+    or value_refusal b.version b.duration
+
+-- a movie header that is read again as it is: each number fits its field
+pub record IsCanonicalMvhd (b : MvhdBox) : Type 0 where
+  pub version : b.version < 2
+  pub flags : b.flags < 2 ^ 24
+  pub creation_time : FitsVersion b.version b.creation_time
+  pub modification_time : FitsVersion b.version b.modification_time
+  pub timescale : b.timescale < 2 ^ 32
+  pub duration : FitsVersion b.version b.duration
+  pub rate : b.rate.raw < 2 ^ 32
+  pub volume : b.volume.raw < 2 ^ 16
+  pub matrix : FitsMatrix b.matrix
+  pub next_track_id : b.next_track_id < 2 ^ 32
+
+-- 1000 ticks a second, rate and volume 1.0, the first track id still free
+abbrev pub default_mvhd : MvhdBox
+default_mvhd = record {
+  version = 0;
+  flags = 0;
+  creation_time = 0;
+  modification_time = 0;
+  timescale = 1000;
+  duration = 0;
+  rate = record { raw = 0x00010000 };
+  volume = record { raw = 0x0100 };
+  matrix = unity;
+  next_track_id = 1;
+}

@@ -1,0 +1,143 @@
+//! Fixed-point numbers.
+//!
+//! The high half of the bits is the whole part, and the low half counts fractions of it.
+
+ghost use Rattle.std.specs.Prelude.{◌≡◌, ◌*◌, ◌/◌, pos, ◌*ℤ◌, ◌+ℤ◌, ◌≤ℤ◌, ◌<ℤ◌};
+
+use mp4_codec::{Result, TryClone};
+
+/// An unsigned number of 8.8 bits.
+#[derive(Debug, Clone, Copy, PartialEq, Eq)]
+pub struct FixedPointU8 {
+    /// How many 256ths it is.
+    pub raw: u16,
+}
+
+impl FixedPointU8 {
+    /// A whole number.
+    pub fn new(whole: u8) -> Self
+        ensures { result.raw ≡ whole * 256 }
+    {
+        FixedPointU8 {
+            raw: (whole as u16) << 8,
+        }
+    }
+
+    /// So many 256ths.
+    pub fn new_raw(raw: u16) -> Self
+        ensures { result.raw ≡ raw }
+    {
+        FixedPointU8 { raw }
+    }
+
+    /// The whole part.
+    pub fn value(self) -> u8
+        ensures { result ≡ self.raw / 256 }
+    {
+        (self.raw >> 8) as u8
+    }
+
+    /// How many 256ths it is.
+    pub fn raw_value(self) -> u16
+        ensures { result ≡ self.raw }
+    {
+        self.raw
+    }
+}
+
+impl TryClone for FixedPointU8 {
+    fn try_clone(&self) -> Result<Self> {
+        Ok(*self)
+    }
+}
+
+/// A signed number of 8.8 bits.
+#[derive(Debug, Clone, Copy, PartialEq, Eq)]
+pub struct FixedPointI8 {
+    /// How many 256ths it is.
+    pub raw: i16,
+}
+
+impl FixedPointI8 {
+    /// A whole number.
+    pub fn new(whole: i8) -> Self
+        ensures { result.raw ≡ whole *ℤ pos 256 }
+    {
+        FixedPointI8 {
+            raw: (whole as i16) * 256,
+        }
+    }
+
+    /// So many 256ths.
+    pub fn new_raw(raw: i16) -> Self
+        ensures { result.raw ≡ raw }
+    {
+        FixedPointI8 { raw }
+    }
+
+    /// The whole part: the greatest whole number that isn't above it.
+    pub fn value(self) -> i8
+        ensures at_most { (result *ℤ pos 256) ≤ℤ self.raw }
+        ensures greatest { self.raw <ℤ ((result +ℤ pos 1) *ℤ pos 256) }
+    {
+        (self.raw >> 8) as i8
+    }
+
+    /// How many 256ths it is.
+    pub fn raw_value(self) -> i16
+        ensures { result ≡ self.raw }
+    {
+        self.raw
+    }
+}
+
+impl TryClone for FixedPointI8 {
+    fn try_clone(&self) -> Result<Self> {
+        Ok(*self)
+    }
+}
+
+/// An unsigned number of 16.16 bits.
+#[derive(Debug, Clone, Copy, PartialEq, Eq)]
+pub struct FixedPointU16 {
+    /// How many 65536ths it is.
+    pub raw: u32,
+}
+
+impl FixedPointU16 {
+    /// A whole number.
+    pub fn new(whole: u16) -> Self
+        ensures { result.raw ≡ whole * 65536 }
+    {
+        FixedPointU16 {
+            raw: (whole as u32) << 16,
+        }
+    }
+
+    /// So many 65536ths.
+    pub fn new_raw(raw: u32) -> Self
+        ensures { result.raw ≡ raw }
+    {
+        FixedPointU16 { raw }
+    }
+
+    /// The whole part.
+    pub fn value(self) -> u16
+        ensures { result ≡ self.raw / 65536 }
+    {
+        (self.raw >> 16) as u16
+    }
+
+    /// How many 65536ths it is.
+    pub fn raw_value(self) -> u32
+        ensures { result ≡ self.raw }
+    {
+        self.raw
+    }
+}
+
+impl TryClone for FixedPointU16 {
+    fn try_clone(&self) -> Result<Self> {
+        Ok(*self)
+    }
+}

@@ -1,0 +1,94 @@
+//! The matrix of a movie or a track.
+
+ghost use Rattle.std.specs.Prelude.{OnOk};
+ghost use Rattle.mp4_codec.specs.Bytes.{Appends};
+ghost use Rattle.mp4_codec.specs.Cause.{Gives};
+ghost use Rattle.mp4_leaf.specs.Matrix.{matrix_at, matrix};
+
+use mp4_codec::{Fields, Put, Result, TryClone, put_i32};
+
+/// Where the picture is placed: a 3 by 3 matrix, row by row (ISO/IEC 14496-12, 6.2.2).
+///
+/// `u`, `v` and `w` are of 2.30 bits, the others of 16.16; all are signed. The default changes nothing.
+#[derive(Clone, Copy, Debug, PartialEq, Eq)]
+pub struct Matrix {
+    pub a: i32,
+    pub b: i32,
+    pub u: i32,
+    pub c: i32,
+    pub d: i32,
+    pub v: i32,
+    pub x: i32,
+    pub y: i32,
+    pub w: i32,
+}
+
+impl Default for Matrix {
+    ghost use Rattle.std.specs.Prelude.{◌≡◌};
+    ghost use Rattle.mp4_leaf.specs.Matrix.{unity};
+
+    ghost is_default = { λ m. m ≡ unity };
+
+    fn default() -> Self {
+        Matrix {
+            a: 0x0001_0000,
+            b: 0,
+            u: 0,
+            c: 0,
+            d: 0x0001_0000,
+            v: 0,
+            x: 0,
+            y: 0,
+            w: 0x4000_0000,
+        }
+    }
+}
+
+impl TryClone for Matrix {
+    fn try_clone(&self) -> Result<Self> {
+        Ok(*self)
+    }
+}
+
+/// The next matrix of a payload.
+#[tactic(auto, unfolding(crate::specs::Matrix::matrix_at))]
+pub(crate) fn read_matrix(fields: &mut Fields) -> Result<Matrix>
+    ensures { Gives (λ m. (m, fields.new)) result (matrix_at fields.old) }
+{
+    let a = fields.i32()?;
+    let b = fields.i32()?;
+    let u = fields.i32()?;
+    let c = fields.i32()?;
+    let d = fields.i32()?;
+    let v = fields.i32()?;
+    let x = fields.i32()?;
+    let y = fields.i32()?;
+    let w = fields.i32()?;
+    Ok(Matrix {
+        a,
+        b,
+        u,
+        c,
+        d,
+        v,
+        x,
+        y,
+        w,
+    })
+}
+
+/// Adds the 36 bytes of a matrix.
+pub(crate) fn put_matrix(out: &mut Vec<u8>, m: &Matrix) -> Put
+    ensures { OnOk result (Appends out.old.items out.new.items (matrix m.now)) }
+{
+    put_i32(out, m.a)?;
+    put_i32(out, m.b)?;
+    put_i32(out, m.u)?;
+    put_i32(out, m.c)?;
+    put_i32(out, m.d)?;
+    put_i32(out, m.v)?;
+    put_i32(out, m.x)?;
+    put_i32(out, m.y)?;
+    put_i32(out, m.w)?;
+    Ok(())
+}

@@ -1,0 +1,168 @@
+//! The movie header.
+
+use crate::fixed_point::{FixedPointU8, FixedPointU16};
+use crate::matrix::{Matrix, put_matrix, read_matrix};
+use mp4_codec::{
+    BoxType, Fields, Mp4Box, ReadBox, Result, TryClone, WriteBox, check_value, check_version,
+    put_u8, put_u16, put_u24, put_u32, put_versioned, put_zeros,
+};
+use std::alloc::Global;
+
+/// The movie header, `mvhd`: what holds of the whole presentation (ISO/IEC 14496-12, 8.2.2).
+///
+/// Version 1 has 64 bits for the times and the duration, version 0 has 32. Any other version is
+/// `InvalidData`, both ways; a number past 32 bits isn't written in version 0, but `TooLarge(Value)`.
+#[derive(Clone, Copy, Debug, PartialEq, Eq)]
+pub struct MvhdBox {
+    pub version: u8,
+    /// The low 24 bits are written.
+    pub flags: u32,
+    /// Seconds since 1904-01-01 00:00 UTC.
+    pub creation_time: u64,
+    /// Seconds since 1904-01-01 00:00 UTC.
+    pub modification_time: u64,
+    /// Ticks in a second.
+    pub timescale: u32,
+    /// Ticks of `timescale`; the longest track's.
+    pub duration: u64,
+    /// The speed to play at; 1.0 is as recorded.
+    pub rate: FixedPointU16,
+    /// The loudness to play at; 1.0 is full.
+    pub volume: FixedPointU8,
+    pub matrix: Matrix,
+    /// A number above all track ids, for the next track that is added.
+    pub next_track_id: u32,
+}
+
+impl MvhdBox {
+    ghost use Rattle.std.specs.Prelude.{◌≡◌};
+    ghost use Rattle.mp4_codec.specs.declared.box_type.BoxType.TheVariants.{MvhdBox as mvhd};
+    ghost use Rattle.mp4_codec.specs.Boxes.{size_around};
+    ghost use Rattle.mp4_leaf.specs.Mvhd.{mvhd_payload};
+
+    /// `mvhd`.
+    pub fn get_type(&self) -> BoxType
+        ensures { result ≡ mvhd }
+    {
+        BoxType::MvhdBox
+    }
+
+    /// The bytes of the box, its header and all: 120 in version 1, else 108.
+    #[tactic(auto, using(crate::proofs::Sizes::sizes))]
+    pub fn get_size(&self) -> u64
+        ensures { result ≡ size_around (mvhd_payload self.now) }
+    {
+        if self.version == 1 { 120 } else { 108 }
+    }
+}
+
+impl Default for MvhdBox {
+    ghost use Rattle.std.specs.Prelude.{◌≡◌};
+    ghost use Rattle.mp4_leaf.specs.Mvhd.{default_mvhd};
+
+    ghost is_default = { λ b. b ≡ default_mvhd };
+
+    fn default() -> Self {
+        MvhdBox {
+            version: 0,
+            flags: 0,
+            creation_time: 0,
+            modification_time: 0,
+            timescale: 1000,
+            duration: 0,
+            rate: FixedPointU16::new(1),
+            volume: FixedPointU8::new(1),
+            matrix: Matrix::default(),
+            next_track_id: 1,
+        }
+    }
+}
+
+impl TryClone for MvhdBox {
+    fn try_clone(&self) -> Result<Self> {
+        Ok(*self)
+    }
+}
+
+impl Mp4Box for MvhdBox {
+    ghost use Rattle.mp4_codec.specs.declared.box_type.BoxType.TheVariants.{MvhdBox as mvhd};
+    ghost use Rattle.mp4_leaf.specs.Mvhd.{mvhd_payload};
+
+    ghost KIND = { mvhd };
+
+    const KIND: BoxType = BoxType::MvhdBox;
+
+    ghost payload = { mvhd_payload };
+
+    fn box_size(&self) -> u64 {
+        self.get_size()
+    }
+}
+
+impl ReadBox for MvhdBox {
+    ghost use Rattle.mp4_leaf.specs.Mvhd.{mvhd_of};
+
+    ghost value = { mvhd_of };
+
+    #[tactic(auto, unfolding(crate::specs::Mvhd::mvhd_of))]
+    fn read_payload(_alloc: Global, payload: &[u8]) -> Result<Self> {
+        let mut fields = Fields::new(payload);
+        let version = fields.u8()?;
+        let flags = fields.u24()?;
+        let creation_time = fields.versioned(version)?;
+        let modification_time = fields.versioned(version)?;
+        let timescale = fields.u32()?;
+        let duration = fields.versioned(version)?;
+        let rate = fields.u32()?;
+        let volume = fields.u16()?;
+        fields.bytes(10)?;
+        let matrix = read_matrix(&mut fields)?;
+        fields.bytes(24)?;
+        let next_track_id = fields.u32()?;
+        Ok(MvhdBox {
+            version,
+            flags,
+            creation_time,
+            modification_time,
+            timescale,
+            duration,
+            rate: FixedPointU16::new_raw(rate),
+            volume: FixedPointU8::new_raw(volume),
+            matrix,
+            next_track_id,
+        })
+    }
+}
+
+impl WriteBox for MvhdBox {
+    ghost use Rattle.mp4_leaf.specs.Mvhd.{mvhd_refusal, IsCanonicalMvhd};
+    ghost use Rattle.mp4_leaf.specs.MvhdLaws.{mvhd_again};
+
+    ghost refusal = { mvhd_refusal };
+
+    ghost IsCanonical = { IsCanonicalMvhd };
+
+    ghost reads_back = { mvhd_again };
+
+    #[tactic(auto, unfolding(crate::specs::Mvhd::mvhd_refusal))]
+    fn put_payload(&self, out: &mut Vec<u8>) -> Result<()> {
+        let version = self.version;
+        check_version(version)?;
+        check_value(version, self.creation_time)?;
+        check_value(version, self.modification_time)?;
+        check_value(version, self.duration)?;
+        put_u8(out, version)?;
+        put_u24(out, self.flags)?;
+        put_versioned(out, version, self.creation_time)?;
+        put_versioned(out, version, self.modification_time)?;
+        put_u32(out, self.timescale)?;
+        put_versioned(out, version, self.duration)?;
+        put_u32(out, self.rate.raw_value())?;
+        put_u16(out, self.volume.raw_value())?;
+        put_zeros(out, 10)?;
+        put_matrix(out, &self.matrix)?;
+        put_zeros(out, 24)?;
+        put_u32(out, self.next_track_id)?;
+        Ok(())
+    }
+}

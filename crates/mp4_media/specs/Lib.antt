@@ -1,0 +1,6 @@
+pub mod Mdat
+pub mod Opening
+pub mod OpeningLaws
+pub mod Writing
+pub mod WriterFields
+pub mod WritingLaws

@@ -1,0 +1,12 @@
+-- The media data (ISO/IEC 14496-12, 8.1.1).
+use Rattle.std.specs.Prelude.{ℕ, ◌-◌, ◌^◌, List, nat_lt, if◌then◌else◌}
+use Rattle.mp4_codec.specs.declared.box_type.BoxType.TheVariants.{MdatBox as mdat, WideBox as wide}
+use Rattle.mp4_codec.specs.BoxType.{code_of}
+use Rattle.mp4_codec.specs.Bytes.{number, ◌⧺◌}
+
+-- The 16 bytes that begin mdat, of n bytes in all: a header and an empty `wide` box, or a header with a largesize.
+unfoldable pub mdat_header_of : ℕ → List ℕ
+mdat_header_of n =
+    if nat_lt (2 ^ 32 - 1) n
+    then number 4 1 ⧺ number 4 (code_of mdat) ⧺ number 8 n
+    else number 4 n ⧺ number 4 (code_of mdat) ⧺ number 4 8 ⧺ number 4 (code_of wide)

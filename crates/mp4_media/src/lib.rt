@@ -1,0 +1,19 @@
+//! MP4 files (ISO/IEC 14496-12), read and written.
+#![tactic(auto)]
+
+mod config;
+mod mdat;
+mod opening;
+mod reader;
+mod writer;
+
+pub use config::Mp4Config;
+pub use mdat::mdat_header;
+pub use mp4_boxes::MoovBox;
+pub use mp4_codec::{
+    BoxHeader, BoxType, ByteCursor, Child, Children, Error, FourCC, HEADER_EXT_SIZE, HEADER_SIZE,
+    Items, KeyedItems, Limit, Mp4Box, OPEN_END, ReadBox, Result, Text, TryClone, WriteBox,
+};
+pub use mp4_leaf::{FixedPointI8, FixedPointU8, FixedPointU16, FtypBox, Matrix, MvhdBox};
+pub use reader::{Mp4Reader, read_mp4};
+pub use writer::Mp4Writer;
