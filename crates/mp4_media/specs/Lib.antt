@@ -4,3 +4,4 @@ pub mod OpeningLaws
 pub mod Writing
 pub mod WriterFields
 pub mod WritingLaws
+pub mod Finished

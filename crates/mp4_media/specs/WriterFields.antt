@@ -1,7 +1,7 @@
 -- A writer's fields, and what they say it holds.
-use Rattle.std.specs.Prelude.{◌≡◌, ◌≤◌, ◌<◌, ◌^◌, ℕ, List, length, take, Bool}
+use Rattle.std.specs.Prelude.{◌≡◌, ◌+◌, ◌≤◌, ◌<◌, ◌^◌, ℕ, List, length, take, Bool}
 use Rattle.mp4_leaf.specs.declared.ftyp.FtypBox.{FtypBox}
-use Rattle.mp4_leaf.specs.Ftyp.{IsCanonicalFtyp}
+use Rattle.mp4_leaf.specs.Ftyp.{ftyp_payload, IsCanonicalFtyp}
 use Rattle.mp4_media.specs.declared.config.Mp4Config.{Mp4Config}
 use Rattle.mp4_media.specs.declared.writer.Mp4Writer.TheInside.{Inside}
 use Rattle.mp4_media.specs.Writing.{WriterState, before_data, whole_of}
@@ -18,6 +18,7 @@ pub record IsWriting (front mdat : ℕ) (f : FtypBox) (timescale : ℕ) (buffer 
   pub place : mdat ≡ length (before_data (state_of front f timescale buffer over))
   pub whole : buffer ≡ whole_of (state_of front f timescale buffer over)
   pub file_type : IsCanonicalFtyp f
+  pub small : 8 + length (ftyp_payload f) < 2 ^ 32
   pub ticks : timescale < 2 ^ 32
 
 abbrev pub writer_state : Inside → WriterState

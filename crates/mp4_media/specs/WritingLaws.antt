@@ -155,6 +155,7 @@ module _ (front mdat : ℕ) (f : FtypBox) (timescale : ℕ) (buffer : List ℕ) 
       place = sym place_now ∙ ap length (sym before_then);
       whole = whole_then;
       file_type = h.file_type;
+      small = h.small;
       ticks = h.ticks;
     }
 
@@ -172,11 +173,12 @@ module _ (old : List ℕ) (f : FtypBox) (timescale : ℕ) (buffer : List ℕ) (i
   unfolding whole_of
   whole_begun = is ∙ ap (λ (xs : List ℕ). xs ++ mdat_header_of 8) (sym before_begun) ∙ ap (λ (xs : List ℕ). before_data (state_of (length old) f timescale buffer false) ++ xs) (sym (append-nil (mdat_header_of 8)))
 
-  pub writing_begun : IsCanonicalFtyp f → timescale < 2 ^ 32 → IsWriting (length old) (length (old ++ frame ftyp (ftyp_payload f))) f timescale buffer false
-  writing_begun canonical ticks = record {
+  pub writing_begun : IsCanonicalFtyp f → 8 + length (ftyp_payload f) < 2 ^ 32 → timescale < 2 ^ 32 → IsWriting (length old) (length (old ++ frame ftyp (ftyp_payload f))) f timescale buffer false
+  writing_begun canonical small ticks = record {
     within = omega (arith, ap length is, length-append (old ++ frame ftyp (ftyp_payload f)) (mdat_header_of 8), length-append old (frame ftyp (ftyp_payload f)));
     place = ap length (sym before_begun);
     whole = whole_begun;
     file_type = canonical;
+    small = small;
     ticks = ticks;
   }

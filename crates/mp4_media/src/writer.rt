@@ -8,6 +8,7 @@ ghost use Rattle.mp4_codec.specs.FieldLaws.{IsCode};
 ghost use Rattle.mp4_leaf.specs.Ftyp.{IsCanonicalFtyp};
 ghost use Rattle.std.specs.List.{AllByRecursion};
 ghost use Rattle.mp4_boxes.specs.Moov.{moov_payload, moov_refusal};
+ghost use Rattle.mp4_media.specs.Finished.{Opens};
 ghost use Rattle.mp4_media.specs.Writing.{file_type_of, movie_with, started, with_end, start_cause, end_cause, whole_of};
 
 use crate::config::Mp4Config;
@@ -159,6 +160,7 @@ impl Mp4Writer {
         ensures cause { AnswersCause (end_cause self.old) result }
         ensures ok { OnOk result (self.new ≡ with_end self.old) }
         ensures err { OnErr result (self.new ≡ self.old) }
+        ensures opens { OnOk result (Opens self.new) }
     {
         if self.ended {
             return Err(Error::Ended);

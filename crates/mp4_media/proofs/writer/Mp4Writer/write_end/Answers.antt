@@ -1,4 +1,4 @@
-use Rattle.std.proofs.Common.{◌≡◌, ◌+◌, ◌-◌, ◌++◌, length, take, drop, Bool, false, refl, ap, subst, ◌∙◌, arith}
+use Rattle.std.proofs.Common.{◌≡◌, ◌+◌, ◌-◌, ◌++◌, length, take, drop, Bool, false, refl, ap, subst, ◌∙◌, arith, ◌<◌, ◌^◌}
 use Rattle.mp4_codec.specs.declared.box_type.BoxType.TheVariants.{MoovBox as moov}
 use Rattle.mp4_codec.specs.Boxes.{frame}
 use Rattle.mp4_boxes.specs.Moov.{moov_payload}
@@ -6,6 +6,7 @@ use Rattle.mp4_media.specs.Mdat.{mdat_header_of}
 use Rattle.mp4_media.specs.Writing.{with_end, movie_with}
 use Rattle.mp4_media.specs.WriterFields.{IsWriting}
 use Rattle.mp4_media.specs.WritingLaws.{movie-sound, room_for_header, state_then, writing_then}
+use Rattle.mp4_media.proofs.Finishing.{opens}
 use Rattle.mp4_media.proofs.writer.Mp4Writer.write_end.Goals as goal
 use Rattle.mp4_media.proofs.writer.Mp4Writer.write_end.Goals.{After-self-1}
 
@@ -43,3 +44,9 @@ pub returns-clause-ok : goal.returns-clause-ok
 returns-clause-ok c =
     state_then c.self.inside.front c.self.inside.mdat c.self.inside.ftyp c.self.inside.timescale c.self.inside.buffer.items (writing c) c.finish.new.buffer.items (c.len.result - c.self.inside.mdat) (count c) (bytes c)
     ∙ ap with_end c.self.view_is
+
+pub returns-clause-opens : goal.returns-clause-opens
+returns-clause-opens c =
+    let fits : length c.finish.new.buffer.items < 2 ^ 64 = omega (arith, c.finish.new.buffer.ok.0, c.finish.new.buffer.small) in
+    opens c.self.inside.front c.self.inside.mdat c.self.inside.ftyp c.self.inside.timescale c.finish.new.buffer.items
+    (writing_then c.self.inside.front c.self.inside.mdat c.self.inside.ftyp c.self.inside.timescale c.self.inside.buffer.items (writing c) c.finish.new.buffer.items (c.len.result - c.self.inside.mdat) (count c) (bytes c)) fits

@@ -1,4 +1,4 @@
-use Rattle.std.proofs.Common.{◌≡◌, ◌++◌, ◌≤◌, ◌-◌, ◌^◌, length, None, refl, ap, ◌∙◌, arith}
+use Rattle.std.proofs.Common.{◌+◌, ◌^◌, ◌<◌, ◌≡◌, ◌++◌, ◌≤◌, ◌-◌, length, None, refl, ap, ◌∙◌, arith}
 use Rattle.std.proofs.lemmas.Result.{err_from_is_err_and}
 use Rattle.mp4_codec.specs.declared.box_type.BoxType.TheVariants.{FtypBox as ftyp}
 use Rattle.mp4_codec.specs.Boxes.{frame, size_around, written}
@@ -34,8 +34,9 @@ invariant_of-result c =
     let old = c.args.writer.items in
     let buffer = c.extend_from_slice.new.self.items in
     let fits : size_around payload ≤ 2 ^ 32 - 1 = rw c.in_ok-ftyp.ensures.same (omega (arith, size, c.if-size.false)) in
+    let small : 8 + length payload < 2 ^ 32 = omega (arith, fits) in
     let first = wrote old c.write_box.new.writer.items (frame ftyp payload) c.in_ok-write_box.field-0 (written ftyp payload None) (written-fits ftyp payload None refl fits) c.in_ok-write_box.ensures in
     let is : buffer ≡ (old ++ frame ftyp payload) ++ mdat_header_of 8 = c.in_ok-extend_from_slice.ensures.items ∙ rw (first.0, c.mdat_header.ensures) refl in
     let front : c.len-front.result ≡ length old = omega (arith, c.args.writer.ok.0) in
     let mdat : c.len-mdat.result ≡ length (old ++ frame ftyp payload) = omega (arith, c.write_box.new.writer.ok.0, ap length first.0) in
-    rw (front, mdat) (writing_begun old c.in_ok-ftyp.ftyp c.spelled_number.result buffer is c.in_ok-ftyp.ensures.canonical c.spelled_number.ensures.fits)
+    rw (front, mdat) (writing_begun old c.in_ok-ftyp.ftyp c.spelled_number.result buffer is c.in_ok-ftyp.ensures.canonical small c.spelled_number.ensures.fits)
