@@ -4,3 +4,6 @@
 mod moov;
 
 pub use moov::MoovBox;
+
+#[cfg(test)]
+mod tests;

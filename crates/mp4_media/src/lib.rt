@@ -17,3 +17,6 @@ pub use mp4_codec::{
 pub use mp4_leaf::{FixedPointI8, FixedPointU8, FixedPointU16, FtypBox, Matrix, MvhdBox};
 pub use reader::{Mp4Reader, read_mp4};
 pub use writer::Mp4Writer;
+
+#[cfg(test)]
+mod tests;

@@ -179,6 +179,7 @@ impl Mp4Writer {
     pub fn into_writer(self) -> Vec<u8>
         ensures { result.items ≡ whole_of self }
     {
-        self.buffer
+        let Mp4Writer { buffer, .. } = self;
+        buffer
     }
 }

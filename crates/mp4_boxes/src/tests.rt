@@ -1,0 +1,3 @@
+//! What no contract says: rows of bytes from outside, and that each call succeeds with ample memory.
+
+mod movie;
