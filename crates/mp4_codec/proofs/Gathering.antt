@@ -2,8 +2,9 @@
 use Rattle.std.proofs.Common.{◌≡◌, ℕ, zero, suc, ◌<◌, ◌≤◌, List, [], ◌∷◌, ◌++◌, length, Option, Some, None, Result, Ok, Err, refl, sym, ap, ◌∙◌, append_assoc, arith}
 use Rattle.std.proofs.lemmas.Bool.{lt-ltb, le-ltb}
 use Rattle.std.proofs.lemmas.List.{append-nil}
-use Rattle.mp4_codec.specs.Cause.{Cause, invalid_data, ◌or◌, unless}
-use Rattle.mp4_codec.specs.Children.{ChildBox, children, walk, tail_fault, first_fault, gathered}
+use Rattle.mp4_codec.specs.Steps.{ok_is}
+use Rattle.mp4_codec.specs.Cause.{Cause, unless}
+use Rattle.mp4_codec.specs.Children.{ChildBox, children, walk, first_fault, gathered}
 use Rattle.mp4_codec.specs.ChildrenLaws.{Begins, Breaks, walk-begins, walk-breaks, walk-ends}
 use Rattle.mp4_codec.specs.GatherLaws.{NoFault, NoFault-append, first_fault-append}
 
@@ -20,14 +21,8 @@ pub starts : {P : Type 0} (fault : ChildBox → Option Cause) (taken : List Chil
 unfolding children
 starts fault taken parts payload e = record { done = []; given = e; none = tt; steps = length payload; enough = omega arith; is = refl }
 
-abbrev ok_of : {P : Type 0} → P → Result P Cause
-ok_of x = Ok x
-
-ok_is : {P : Type 0} (x y : P) → ok_of x ≡ ok_of y → x ≡ y
-ok_is x y e = cc
-
 -- a child that is added is not refused, and gives the parts with it
-accepted : {P : Type 0} (f : Option Cause) (x y : P) → ok_of y ≡ unless f (Ok x) → (f ≡ None) × (y ≡ x)
+accepted : {P : Type 0} (f : Option Cause) (x y : P) → Ok y ≡ unless f (Ok x) → (f ≡ None) × (y ≡ x)
 accepted None x y e = (refl, ok_is y x e)
 accepted (Some c) x y e = absurd cc
 

@@ -12,6 +12,7 @@ use Rattle.std.specs.Int.{w16, w32, cast_unsigned, from_be_bytes}
 use Rattle.std.proofs.lemmas.Nat.{from_be_bytes-to_be_bytes_4}
 use Rattle.std.proofs.lemmas.Int.{to_z-of_z}
 use Rattle.mp4_codec.specs.Cause.{Cause, invalid_data, ◌>>=◌}
+use Rattle.mp4_codec.specs.Steps.{ok_is}
 use Rattle.mp4_codec.specs.declared.four_cc.FourCC.{FourCC}
 use Rattle.mp4_codec.specs.Bytes.{coded, four_cc, four_cc_at, until_zero, Reader, ◌⧺◌, bytes_at, number_at, number, zeros, list_at, int16_at, int16, int32_at, int32, versioned_at, versioned, value_refusal}
 
@@ -51,15 +52,6 @@ number_again n x rest h =
 pub record HasLength {A : Type 0} (read : Reader A) (n : ℕ) : Type 0 where
   pub moves : (bytes : List ℕ) (x : A) (rest : List ℕ) → read bytes ≡ Ok (x, rest) → length bytes ≡ n + length rest
   pub refuses : (bytes : List ℕ) (c : Cause) → read bytes ≡ Err c → c ≡ invalid_data
-
-abbrev ok_of : {A : Type 0} → A → Result A Cause
-ok_of x = Ok x
-
-ok_is : {A : Type 0} (x y : A) → ok_of x ≡ ok_of y → x ≡ y
-ok_is x y e = cc
-
-abbrev err_of : {A : Type 0} → A → Cause → Result A Cause
-err_of x c = Err c
 
 number-moves : (n : ℕ) (bytes : List ℕ) (x : ℕ) (rest : List ℕ) → number_at n bytes ≡ Ok (x, rest) → length bytes ≡ n + length rest
 unfolding number_at

@@ -1,11 +1,9 @@
 -- One child more: what the parts of a container take of a list of children, the fold that makes them, and the first fault.
-use Rattle.std.proofs.Common.{◌≡◌, ℕ, Bool, true, false, cond, ltb, eqb, List, [], ◌∷◌, ◌++◌, length, Option, Some, None, Result, Ok, Err, refl, sym, ap, ◌∙◌, append_assoc}
+use Rattle.std.proofs.Common.{◌≡◌, ℕ, Bool, true, false, cond, List, [], ◌∷◌, ◌++◌, Option, Some, None, Result, Ok, Err, refl, sym, ap, ◌∙◌, append_assoc}
 use Rattle.std.proofs.lemmas.List.{append-nil}
 use Rattle.std.specs.Option.{option_to_list}
-use Rattle.std.specs.List.{AllByRecursion}
 use Rattle.mp4_codec.specs.declared.box_type.BoxType.{BoxType}
-use Rattle.mp4_codec.specs.BoxType.{code_of}
-use Rattle.mp4_codec.specs.Cause.{Cause, invalid_data, ◌>>=◌, ◌or◌, unless, fault_of}
+use Rattle.mp4_codec.specs.Cause.{Cause, ◌>>=◌, ◌or◌, unless, fault_of}
 use Rattle.mp4_codec.specs.Children.{ChildBox, is_of, value_of, given_by, fault_in, all_of, last, last_of, tail_fault, first_fault, with_last, with_next}
 
 pub all_of-append : {A : Type 0} (t : BoxType) (value : List ℕ → Result A Cause) (cs ds : List ChildBox) → all_of t value (cs ++ ds) ≡ all_of t value cs ++ all_of t value ds
@@ -14,7 +12,7 @@ all_of-append t value [] ds = refl
 all_of-append t value (c ∷ cs) ds =
     ap (λ (xs : List _). option_to_list (given_by t value c) ++ xs) (all_of-append t value cs ds) ∙ sym (append_assoc (option_to_list (given_by t value c)) (all_of t value cs) (all_of t value ds))
 
-last-push : {A : Type 0} (xs : List A) (x : A) → last (xs ++ x ∷ []) ≡ Some x
+pub last-push : {A : Type 0} (xs : List A) (x : A) → last (xs ++ x ∷ []) ≡ Some x
 last-push [] x = refl
 last-push (y ∷ []) x = refl
 last-push (y ∷ z ∷ zs) x = last-push (z ∷ zs) x

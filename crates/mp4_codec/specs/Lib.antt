@@ -1,10 +1,12 @@
 pub mod BoxType
 pub mod Cause
+pub mod Steps
 pub mod Bytes
 pub mod FieldLaws
 pub mod Cursor
 pub mod Boxes
 pub mod PutLaws
+pub mod WriteLaws
 pub mod Children
 pub mod ChildrenLaws
 pub mod GatherLaws

@@ -1,6 +1,6 @@
 -- Children that were written are the children that are read.
-use Rattle.std.proofs.Common.{◌≡◌, ℕ, zero, suc, ◌+◌, ◌^◌, ◌≤◌, ◌<◌, Bool, true, false, eqb, List, [], ◌∷◌, ◌++◌, length, map, Option, Some, None, Result, Ok, refl, sym, ap, subst, ◌∙◌, append_assoc, arith}
-use Rattle.std.specs.List.{flat_map, AllByRecursion}
+use Rattle.std.proofs.Common.{◌≡◌, ℕ, zero, suc, ◌+◌, ◌^◌, ◌≤◌, ◌<◌, true, false, eqb, List, [], ◌∷◌, ◌++◌, length, Option, Some, None, Result, Ok, refl, sym, ap, subst, ◌∙◌, append_assoc, arith}
+use Rattle.std.specs.List.{AllByRecursion}
 use Rattle.std.specs.Option.{option_to_list}
 use Rattle.std.proofs.lemmas.List.{append-nil, length-append}
 use Rattle.std.proofs.lemmas.List.Concat.{flat_map-cons}
@@ -10,9 +10,9 @@ use Rattle.mp4_codec.specs.Cause.{Cause}
 use Rattle.mp4_codec.specs.Bytes.{◌⧺◌}
 use Rattle.mp4_codec.specs.FieldLaws.{length-then, then_assoc, then_nothing, nothing_then}
 use Rattle.mp4_codec.specs.Boxes.{frame, optional, all_frames}
-use Rattle.mp4_codec.specs.Framing.{IsSpellable, IsFrame, short}
+use Rattle.mp4_codec.specs.Framing.{IsSpellable, short}
 use Rattle.mp4_codec.specs.FramingLaws.{child_at-box, length-frame}
-use Rattle.mp4_codec.specs.Children.{ChildBox, child_at, walk, children, is_of, all_of, last}
+use Rattle.mp4_codec.specs.Children.{ChildBox, child_at, walk, children, all_of, last}
 use Rattle.mp4_codec.specs.ChildrenLaws.{Begins, walk-begins, walk-ends}
 use Rattle.mp4_codec.specs.GatherLaws.{NoFault}
 

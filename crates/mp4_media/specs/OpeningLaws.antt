@@ -7,8 +7,8 @@ use Rattle.mp4_codec.specs.declared.header.BoxHeader.{BoxHeader}
 use Rattle.mp4_codec.specs.BoxType.{box_type, IsNamed}
 use Rattle.mp4_codec.specs.Cause.{Cause, end_of_data, box_not_found, ◌>>=◌}
 use Rattle.mp4_codec.specs.Cursor.{Cursor, header_at}
-use Rattle.mp4_codec.specs.Children.{last}
 use Rattle.mp4_codec.specs.ChildrenLaws.{not_of}
+use Rattle.mp4_codec.specs.GatherLaws.{last-push}
 use Rattle.mp4_leaf.specs.declared.ftyp.FtypBox.{FtypBox}
 use Rattle.mp4_boxes.specs.declared.moov.MoovBox.{MoovBox}
 use Rattle.mp4_media.specs.declared.opening.FileBox.{FileBox}
@@ -21,11 +21,6 @@ abbrev pub with_box : Found → FileBox → Found
 with_box f (Ftyp b) = record f { ftyp = Some b }
 with_box f (Moov b) = record f { moov = Some b }
 with_box f Skipped = f
-
-last-push : {A : Type 0} (xs : List A) (x : A) → last (xs ++ x ∷ []) ≡ Some x
-last-push [] x = refl
-last-push (y ∷ []) x = refl
-last-push (y ∷ z ∷ zs) x = last-push (z ∷ zs) x
 
 ftyps_in-append : (bs cs : List FileBox) → ftyps_in (bs ++ cs) ≡ ftyps_in bs ++ ftyps_in cs
 ftyps_in-append [] cs = refl

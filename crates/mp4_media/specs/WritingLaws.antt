@@ -1,18 +1,15 @@
 -- What is written: sizes, refusals that can't come up, and that the finished file opens.
-use Rattle.std.proofs.Common.{◌≡◌, ◌⊎◌, inl, inr, ℕ, ◌+◌, ◌-◌, ◌^◌, ◌≤◌, ◌<◌, min, Bool, true, false, cond, ltb, List, [], ◌++◌, length, take, drop, Option, Some, None, Result, Ok, Err, refl, sym, ap, subst, ◌∙◌, append_assoc, arith, lit<}
+use Rattle.std.proofs.Common.{◌≡◌, ℕ, ◌+◌, ◌-◌, ◌^◌, ◌≤◌, ◌<◌, min, Bool, true, false, cond, ltb, List, [], ◌++◌, length, take, drop, Some, None, refl, sym, ap, ◌∙◌, append_assoc, arith, lit<}
 use Rattle.std.specs.List.{flat_map}
 use Rattle.std.proofs.lemmas.Bool.{lt-ltb, le-ltb}
 use Rattle.std.proofs.lemmas.List.{append-nil, length-append, take_at as take-exactly, drop_at as drop-exactly, take-append-le, length-take-le}
-use Rattle.mp4_codec.specs.declared.box_type.BoxType.{BoxType}
 use Rattle.mp4_codec.specs.declared.box_type.BoxType.TheVariants.{FtypBox as ftyp, MoovBox as moov, MvhdBox as mvhd, MdatBox as mdat, WideBox as wide}
-use Rattle.mp4_codec.specs.declared.error.Error.{Error}
-use Rattle.mp4_codec.specs.declared.error.Error.TheVariants.{OutOfMemory}
 use Rattle.mp4_codec.specs.declared.error.Limit.TheVariants.{BoxSize}
-use Rattle.mp4_codec.specs.Cause.{Cause, cause_of, too_large}
+use Rattle.mp4_codec.specs.Cause.{too_large}
 use Rattle.mp4_codec.specs.BoxType.{code_of}
 use Rattle.mp4_codec.specs.Bytes.{four_cc, number, ◌⧺◌}
 use Rattle.mp4_codec.specs.FieldLaws.{length-number, length-then}
-use Rattle.mp4_codec.specs.Boxes.{frame, size_around, written, Writes}
+use Rattle.mp4_codec.specs.Boxes.{frame, size_around}
 use Rattle.mp4_codec.specs.FramingLaws.{length-frame}
 use Rattle.mp4_leaf.specs.Matrix.{FitsMatrix, unity}
 use Rattle.mp4_leaf.specs.declared.ftyp.FtypBox.{FtypBox}
@@ -69,25 +66,6 @@ start_cause-large config size e large = let past : 2 ^ 32 - 1 < size_around (fty
 
 pub start_cause-none : (config : Mp4Config) (size : ℕ) → size ≡ size_around (ftyp_payload (file_type_of config)) → size ≤ 2 ^ 32 - 1 → start_cause config ≡ None
 start_cause-none config size e small = let fits : size_around (ftyp_payload (file_type_of config)) ≤ 2 ^ 32 - 1 = omega arith in rw (le-ltb _ _ fits) refl
-
--- a box that fits and isn't refused is written
-pub written-fits : (name : BoxType) (payload : List ℕ) (refusal : Option Cause) → refusal ≡ None → size_around payload ≤ 2 ^ 32 - 1 → written name payload refusal ≡ Ok (frame name payload)
-written-fits name payload refusal none fits = rw (le-ltb _ _ fits, none) refl
-
-abbrev ok_of : {A : Type 0} → A → Result A Cause
-ok_of x = Ok x
-
--- what can only be Ok is refused for want of memory alone
-pub only_memory : {A : Type 0} (e : Error) (answer : Result A Cause) (x : A) → answer ≡ Ok x → (e ≡ OutOfMemory) ⊎ (answer ≡ Err (cause_of e)) → e ≡ OutOfMemory
-only_memory e answer x fine (inl memory) = memory
-only_memory {A} e answer x fine (inr fault) = absurd (apart (cause_of e) (sym fine ∙ fault))
-  where
-    apart : (c : Cause) → ok_of x ≡ Err c → ⊥
-    apart c h = absurd cc
-
--- the bytes that an Ok write appended
-pub wrote : (old new bytes : List ℕ) (n : ℕ) (answer : Result (List ℕ) Cause) → answer ≡ Ok bytes → Writes old new (Ok n) answer → (new ≡ old ++ bytes) × (n ≡ length bytes)
-wrote old new bytes n answer e w = subst (λ (r : Result (List ℕ) Cause). Writes old new (Ok n) r) e w
 
 pub movie-sound : (timescale : ℕ) → timescale < 2 ^ 32 → moov_refusal (movie_with timescale) ≡ None
 movie-sound timescale h = (mvhd_again (record default_mvhd { timescale = timescale }) (header-canonical timescale h)).0

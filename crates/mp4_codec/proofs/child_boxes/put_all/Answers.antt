@@ -1,4 +1,4 @@
-use Rattle.std.proofs.Common.{◌^◌, inl, inr, sym, ap, ◌∙◌}
+use Rattle.std.proofs.Common.{◌^◌, inl, inr, ◌∙◌}
 use Rattle.std.proofs.lemmas.Result.{err_from_is_err_and}
 use Rattle.mp4_codec.specs.Cause.{cause_of}
 use Rattle.mp4_codec.proofs.Lists.{frame_fits, all_frames-more, all_refusal-take_more, all_refusal-first}

@@ -4,7 +4,8 @@ use Rattle.mp4_codec.specs.declared.box_type.BoxType.TheVariants.{FtypBox as fty
 use Rattle.mp4_codec.specs.Boxes.{frame, size_around, written}
 use Rattle.mp4_leaf.specs.Ftyp.{ftyp_payload}
 use Rattle.mp4_media.specs.Mdat.{mdat_header_of}
-use Rattle.mp4_media.specs.WritingLaws.{file_type-size, start_cause-large, start_cause-none, written-fits, only_memory, wrote, writing_begun}
+use Rattle.mp4_codec.specs.WriteLaws.{written-fits, only_memory, wrote}
+use Rattle.mp4_media.specs.WritingLaws.{file_type-size, start_cause-large, start_cause-none, writing_begun}
 use Rattle.mp4_media.proofs.writer.Mp4Writer.write_start.Goals as goal
 
 pub returns-then-size-clause-cause : goal.returns-then-size-clause-cause

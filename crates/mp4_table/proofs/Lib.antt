@@ -1,0 +1,4 @@
+pub mod Sizes
+pub mod Numbering
+pub mod Turns
+pub mod Entries

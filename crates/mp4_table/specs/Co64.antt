@@ -1,0 +1,22 @@
+-- Where chunks lie, in 64 bits (ISO/IEC 14496-12, 8.7.5).
+use Rattle.std.specs.Prelude.{ℕ, ◌^◌, ◌<◌, List, [], Result, Ok}
+use Rattle.mp4_codec.specs.Cause.{Cause, ◌>>=◌}
+use Rattle.mp4_codec.specs.Bytes.{number_at, number}
+use Rattle.mp4_table.specs.declared.co64.Co64Box.{Co64Box}
+use Rattle.mp4_table.specs.Table.{table_of, table, IsCanonicalTable}
+
+-- the table of a payload
+unfoldable pub co64_of : List ℕ → Result Co64Box Cause
+co64_of payload = do
+  table ← table_of (λ _. number_at 8) payload
+  Ok (record { version = table.0; flags = table.1; entries = table.2 })
+
+-- the payload of a table
+unfoldable pub co64_payload : Co64Box → List ℕ
+co64_payload b = table (λ _. number 8) b.version b.flags b.entries
+
+abbrev pub IsCanonicalCo64 : Co64Box → Type 0
+IsCanonicalCo64 b = IsCanonicalTable (λ n. n < 2 ^ 64) b.version b.flags b.entries
+
+abbrev pub default_co64 : Co64Box
+default_co64 = record { version = 0; flags = 0; entries = [] }

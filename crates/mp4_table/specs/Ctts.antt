@@ -1,0 +1,39 @@
+-- How long after its decode time a sample is shown: runs of samples of one offset (ISO/IEC 14496-12, 8.6.1.3). Offsets
+-- are signed, whatever the version.
+use Rattle.std.specs.Prelude.{ℕ, ◌^◌, ◌<◌, List, [], Result, Ok, FitsSigned}
+use Rattle.std.specs.Int.{w32}
+use Rattle.mp4_codec.specs.Cause.{Cause, ◌>>=◌}
+use Rattle.mp4_codec.specs.Bytes.{Reader, number_at, number, int32_at, int32, ◌⧺◌}
+use Rattle.mp4_table.specs.declared.ctts.CttsEntry.{CttsEntry}
+use Rattle.mp4_table.specs.declared.ctts.CttsBox.{CttsBox}
+use Rattle.mp4_table.specs.Table.{table_of, table, IsCanonicalTable}
+
+-- a run: how many samples there are, and the offset of each
+unfoldable pub ctts_entry_at : Reader CttsEntry
+ctts_entry_at bytes = do
+  sample_count ← number_at 4 bytes
+  sample_offset ← int32_at sample_count.1
+  Ok (record { sample_count = sample_count.0; sample_offset = sample_offset.0 }, sample_offset.1)
+
+unfoldable pub ctts_entry : CttsEntry → List ℕ
+ctts_entry e = number 4 e.sample_count ⧺ int32 e.sample_offset
+
+pub record FitsCttsEntry (e : CttsEntry) : Type 0 where
+  pub sample_count : e.sample_count < 2 ^ 32
+  pub sample_offset : FitsSigned w32 e.sample_offset
+
+-- the table of a payload
+unfoldable pub ctts_of : List ℕ → Result CttsBox Cause
+ctts_of payload = do
+  table ← table_of (λ _. ctts_entry_at) payload
+  Ok (record { version = table.0; flags = table.1; entries = table.2 })
+
+-- the payload of a table
+unfoldable pub ctts_payload : CttsBox → List ℕ
+ctts_payload b = table (λ _. ctts_entry) b.version b.flags b.entries
+
+abbrev pub IsCanonicalCtts : CttsBox → Type 0
+IsCanonicalCtts b = IsCanonicalTable FitsCttsEntry b.version b.flags b.entries
+
+abbrev pub default_ctts : CttsBox
+default_ctts = record { version = 0; flags = 0; entries = [] }

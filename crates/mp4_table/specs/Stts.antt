@@ -1,0 +1,37 @@
+-- How long samples last: runs of samples of one duration (ISO/IEC 14496-12, 8.6.1.2).
+use Rattle.std.specs.Prelude.{ℕ, ◌^◌, ◌<◌, List, [], Result, Ok}
+use Rattle.mp4_codec.specs.Cause.{Cause, ◌>>=◌}
+use Rattle.mp4_codec.specs.Bytes.{Reader, number_at, number, ◌⧺◌}
+use Rattle.mp4_table.specs.declared.stts.SttsEntry.{SttsEntry}
+use Rattle.mp4_table.specs.declared.stts.SttsBox.{SttsBox}
+use Rattle.mp4_table.specs.Table.{table_of, table, IsCanonicalTable}
+
+-- a run: how many samples there are, and how long each lasts
+unfoldable pub stts_entry_at : Reader SttsEntry
+stts_entry_at bytes = do
+  sample_count ← number_at 4 bytes
+  sample_delta ← number_at 4 sample_count.1
+  Ok (record { sample_count = sample_count.0; sample_delta = sample_delta.0 }, sample_delta.1)
+
+unfoldable pub stts_entry : SttsEntry → List ℕ
+stts_entry e = number 4 e.sample_count ⧺ number 4 e.sample_delta
+
+pub record FitsSttsEntry (e : SttsEntry) : Type 0 where
+  pub sample_count : e.sample_count < 2 ^ 32
+  pub sample_delta : e.sample_delta < 2 ^ 32
+
+-- the table of a payload
+unfoldable pub stts_of : List ℕ → Result SttsBox Cause
+stts_of payload = do
+  table ← table_of (λ _. stts_entry_at) payload
+  Ok (record { version = table.0; flags = table.1; entries = table.2 })
+
+-- the payload of a table
+unfoldable pub stts_payload : SttsBox → List ℕ
+stts_payload b = table (λ _. stts_entry) b.version b.flags b.entries
+
+abbrev pub IsCanonicalStts : SttsBox → Type 0
+IsCanonicalStts b = IsCanonicalTable FitsSttsEntry b.version b.flags b.entries
+
+abbrev pub default_stts : SttsBox
+default_stts = record { version = 0; flags = 0; entries = [] }

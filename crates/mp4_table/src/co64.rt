@@ -1,0 +1,107 @@
+//! Where chunks lie, in large files.
+
+ghost use Rattle.std.specs.Prelude.{◌≡◌, Ok};
+ghost use Rattle.mp4_codec.specs.Cause.{Answers};
+ghost use Rattle.mp4_codec.specs.Boxes.{size_around};
+ghost use Rattle.mp4_codec.specs.declared.box_type.BoxType.TheVariants.{Co64Box as co64};
+ghost use Rattle.mp4_table.specs.Co64.{co64_payload, default_co64};
+
+use crate::table::{put_table, read_table, table_size};
+use mp4_codec::{BoxType, Items, Mp4Box, ReadBox, Result, TryClone, WriteBox};
+use std::alloc::Global;
+
+/// The chunk offset table of large files, `co64`: where each chunk of a track lies, in 64 bits
+/// (ISO/IEC 14496-12, 8.7.5).
+#[derive(Debug, PartialEq, Eq, Drop)]
+pub struct Co64Box {
+    /// Any version is read and written.
+    pub version: u8,
+    /// The low 24 bits are written.
+    pub flags: u32,
+    /// The bytes of the file before each chunk.
+    pub entries: Items<u64>,
+}
+
+impl Co64Box {
+    /// No entries.
+    pub fn default(alloc: Global) -> Result<Self>
+        ensures { Answers (λ b. b) result (Ok default_co64) }
+    {
+        Ok(Co64Box {
+            version: 0,
+            flags: 0,
+            entries: Items::new(alloc),
+        })
+    }
+
+    /// `co64`.
+    pub fn get_type(&self) -> BoxType
+        ensures { result ≡ co64 }
+    {
+        BoxType::Co64Box
+    }
+
+    /// The bytes of the box, its header and all: 16, and 8 for each entry.
+    #[tactic(auto, unfolding(crate::specs::Co64::co64_payload))]
+    pub fn get_size(&self) -> u64
+        ensures { result ≡ size_around (co64_payload self.now) }
+    {
+        table_size(self.version, self.flags, &self.entries)
+    }
+}
+
+impl TryClone for Co64Box {
+    fn try_clone(&self) -> Result<Self> {
+        Ok(Co64Box {
+            version: self.version,
+            flags: self.flags,
+            entries: self.entries.try_clone()?,
+        })
+    }
+}
+
+impl Mp4Box for Co64Box {
+    ghost KIND = { co64 };
+
+    const KIND: BoxType = BoxType::Co64Box;
+
+    ghost payload = { co64_payload };
+
+    fn box_size(&self) -> u64 {
+        self.get_size()
+    }
+}
+
+impl ReadBox for Co64Box {
+    ghost use Rattle.mp4_table.specs.Co64.{co64_of};
+
+    ghost value = { co64_of };
+
+    #[tactic(auto, unfolding(crate::specs::Co64::co64_of))]
+    fn read_payload(alloc: Global, payload: &[u8]) -> Result<Self> {
+        let (version, flags, entries) = read_table(alloc, payload)?;
+        Ok(Co64Box {
+            version,
+            flags,
+            entries,
+        })
+    }
+}
+
+impl WriteBox for Co64Box {
+    ghost use Rattle.mp4_table.specs.Table.{no_refusal};
+    ghost use Rattle.mp4_table.specs.Co64.{IsCanonicalCo64};
+    ghost use Rattle.mp4_table.specs.Co64Laws.{co64_again};
+
+    ghost refusal = { no_refusal };
+
+    ghost IsCanonical = { IsCanonicalCo64 };
+
+    ghost reads_back = { co64_again };
+
+    #[tactic(auto, using(crate::proofs::Sizes::sizes), unfolding(crate::specs::Co64::co64_payload))]
+    fn put_payload(&self, out: &mut Vec<u8>) -> Result<()> {
+        put_table(out, self.version, self.flags, &self.entries)?;
+        Ok(())
+    }
+}

@@ -1,0 +1,165 @@
+//! How much later than it is decoded a sample is shown.
+
+ghost use Rattle.std.specs.Prelude.{◌≡◌, Ok};
+ghost use Rattle.mp4_codec.specs.Cause.{Answers};
+ghost use Rattle.mp4_codec.specs.Boxes.{size_around};
+ghost use Rattle.mp4_codec.specs.declared.box_type.BoxType.TheVariants.{CttsBox as ctts};
+ghost use Rattle.mp4_table.specs.Ctts.{ctts_payload, default_ctts};
+
+use crate::table::{put_table, read_table, table_size};
+use mp4_codec::{
+    BoxType, Entry, Fields, Items, Mp4Box, Put, ReadBox, Result, TryClone, WriteBox, put_i32,
+    put_u32,
+};
+use std::alloc::Global;
+
+/// A run of samples of one offset.
+#[derive(Debug, Clone, Copy, PartialEq, Eq)]
+pub struct CttsEntry {
+    /// How many samples there are.
+    pub sample_count: u32,
+    /// The composition time of each less its decode time, in ticks of the media's timescale; signed in
+    /// version 0 too.
+    pub sample_offset: i32,
+}
+
+impl TryClone for CttsEntry {
+    fn try_clone(&self) -> Result<Self> {
+        Ok(*self)
+    }
+}
+
+impl Entry for CttsEntry {
+    ghost use Rattle.mp4_table.specs.Ctts.{ctts_entry_at, ctts_entry, FitsCttsEntry};
+    ghost use Rattle.mp4_table.specs.CttsLaws.{ctts_entry_again, length-ctts_entry, ctts_entry-has_length};
+
+    ghost at = { λ _. ctts_entry_at };
+
+    ghost spelled = { λ _. ctts_entry };
+
+    ghost Fits = { λ _. FitsCttsEntry };
+
+    ghost bytes_each = { λ _. 8 };
+
+    ghost again = { λ _. ctts_entry_again };
+
+    ghost length_spelled = { λ _. length-ctts_entry };
+
+    ghost has_length = { λ _. ctts_entry-has_length };
+
+    fn size(_version: u8) -> u64 {
+        8
+    }
+
+    #[tactic(auto, unfolding(crate::specs::Ctts::ctts_entry_at))]
+    fn read(fields: &mut Fields, _version: u8) -> Result<Self> {
+        let sample_count = fields.u32()?;
+        let sample_offset = fields.i32()?;
+        Ok(CttsEntry {
+            sample_count,
+            sample_offset,
+        })
+    }
+
+    fn put(self, out: &mut Vec<u8>, _version: u8) -> Put {
+        put_u32(out, self.sample_count)?;
+        put_i32(out, self.sample_offset)?;
+        Ok(())
+    }
+}
+
+/// The composition offset table, `ctts`: how much later than it is decoded each sample of a track is
+/// shown, in decoding order (ISO/IEC 14496-12, 8.6.1.3).
+#[derive(Debug, PartialEq, Eq, Drop)]
+pub struct CttsBox {
+    /// Any version is read and written.
+    pub version: u8,
+    /// The low 24 bits are written.
+    pub flags: u32,
+    /// The samples in runs of one offset.
+    pub entries: Items<CttsEntry>,
+}
+
+impl CttsBox {
+    /// No entries.
+    pub fn default(alloc: Global) -> Result<Self>
+        ensures { Answers (λ b. b) result (Ok default_ctts) }
+    {
+        Ok(CttsBox {
+            version: 0,
+            flags: 0,
+            entries: Items::new(alloc),
+        })
+    }
+
+    /// `ctts`.
+    pub fn get_type(&self) -> BoxType
+        ensures { result ≡ ctts }
+    {
+        BoxType::CttsBox
+    }
+
+    /// The bytes of the box, its header and all: 16, and 8 for each entry.
+    #[tactic(auto, unfolding(crate::specs::Ctts::ctts_payload))]
+    pub fn get_size(&self) -> u64
+        ensures { result ≡ size_around (ctts_payload self.now) }
+    {
+        table_size(self.version, self.flags, &self.entries)
+    }
+}
+
+impl TryClone for CttsBox {
+    fn try_clone(&self) -> Result<Self> {
+        Ok(CttsBox {
+            version: self.version,
+            flags: self.flags,
+            entries: self.entries.try_clone()?,
+        })
+    }
+}
+
+impl Mp4Box for CttsBox {
+    ghost KIND = { ctts };
+
+    const KIND: BoxType = BoxType::CttsBox;
+
+    ghost payload = { ctts_payload };
+
+    fn box_size(&self) -> u64 {
+        self.get_size()
+    }
+}
+
+impl ReadBox for CttsBox {
+    ghost use Rattle.mp4_table.specs.Ctts.{ctts_of};
+
+    ghost value = { ctts_of };
+
+    #[tactic(auto, unfolding(crate::specs::Ctts::ctts_of))]
+    fn read_payload(alloc: Global, payload: &[u8]) -> Result<Self> {
+        let (version, flags, entries) = read_table(alloc, payload)?;
+        Ok(CttsBox {
+            version,
+            flags,
+            entries,
+        })
+    }
+}
+
+impl WriteBox for CttsBox {
+    ghost use Rattle.mp4_table.specs.Table.{no_refusal};
+    ghost use Rattle.mp4_table.specs.Ctts.{IsCanonicalCtts};
+    ghost use Rattle.mp4_table.specs.CttsLaws.{ctts_again};
+
+    ghost refusal = { no_refusal };
+
+    ghost IsCanonical = { IsCanonicalCtts };
+
+    ghost reads_back = { ctts_again };
+
+    #[tactic(auto, using(crate::proofs::Sizes::sizes), unfolding(crate::specs::Ctts::ctts_payload))]
+    fn put_payload(&self, out: &mut Vec<u8>) -> Result<()> {
+        put_table(out, self.version, self.flags, &self.entries)?;
+        Ok(())
+    }
+}

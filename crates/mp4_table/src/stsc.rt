@@ -1,0 +1,219 @@
+//! How many samples each chunk has.
+
+ghost use Rattle.std.specs.Prelude.{◌≡◌, None, Ok};
+ghost use Rattle.mp4_codec.specs.Cause.{Answers, Gives};
+ghost use Rattle.mp4_codec.specs.Boxes.{size_around};
+ghost use Rattle.mp4_codec.specs.declared.box_type.BoxType.TheVariants.{StscBox as stsc};
+ghost use Rattle.mp4_table.specs.Stsc.{stsc_payload, first_sample_after, numbered_after, default_stsc};
+
+use crate::table::{put_table, read_table, table_size};
+use mp4_codec::{
+    BoxType, Entry, Error, Fields, Items, Mp4Box, Put, ReadBox, Result, TryClone, WriteBox, put_u32,
+};
+use std::alloc::Global;
+
+/// A run of chunks that have equally many samples of one description.
+#[derive(Debug, Clone, Copy, PartialEq, Eq)]
+pub struct StscEntry {
+    /// The number of the run's first chunk, counted from 1. The run ends before the next one's, or with
+    /// the last chunk.
+    pub first_chunk: u32,
+    /// How many samples each chunk has.
+    pub samples_per_chunk: u32,
+    /// The number of the sample description of these samples, counted from 1.
+    pub sample_description_index: u32,
+    /// The number of the run's first sample, counted from 1. It isn't stored: an entry that is read
+    /// alone has 0, reading the box finds it, and writing leaves it out.
+    pub first_sample: u32,
+}
+
+impl TryClone for StscEntry {
+    fn try_clone(&self) -> Result<Self> {
+        Ok(*self)
+    }
+}
+
+impl Entry for StscEntry {
+    ghost use Rattle.mp4_table.specs.Stsc.{stsc_entry_at, stsc_entry, FitsStoredEntry};
+    ghost use Rattle.mp4_table.specs.StscLaws.{stsc_entry_again, length-stsc_entry, stsc_entry-has_length};
+
+    ghost at = { λ _. stsc_entry_at };
+
+    ghost spelled = { λ _. stsc_entry };
+
+    ghost Fits = { λ _. FitsStoredEntry };
+
+    ghost bytes_each = { λ _. 12 };
+
+    ghost again = { λ _. stsc_entry_again };
+
+    ghost length_spelled = { λ _. length-stsc_entry };
+
+    ghost has_length = { λ _. stsc_entry-has_length };
+
+    fn size(_version: u8) -> u64 {
+        12
+    }
+
+    #[tactic(auto, unfolding(crate::specs::Stsc::stsc_entry_at))]
+    fn read(fields: &mut Fields, _version: u8) -> Result<Self> {
+        let first_chunk = fields.u32()?;
+        let samples_per_chunk = fields.u32()?;
+        let sample_description_index = fields.u32()?;
+        Ok(StscEntry {
+            first_chunk,
+            samples_per_chunk,
+            sample_description_index,
+            first_sample: 0,
+        })
+    }
+
+    fn put(self, out: &mut Vec<u8>, _version: u8) -> Put {
+        put_u32(out, self.first_chunk)?;
+        put_u32(out, self.samples_per_chunk)?;
+        put_u32(out, self.sample_description_index)?;
+        Ok(())
+    }
+}
+
+/// The number of the first sample of a run that begins at this chunk, behind the run before it.
+#[tactic(auto, unfolding(crate::specs::Stsc::first_sample_after))]
+fn first_sample_after(before: Option<StscEntry>, first_chunk: u32) -> Result<u32>
+    ensures { Gives (λ n. n) result (first_sample_after before first_chunk) }
+{
+    let Some(before) = before else {
+        return Ok(1);
+    };
+    if first_chunk < before.first_chunk {
+        return Err(Error::InvalidData("a first chunk below the one before"));
+    }
+    let chunks = u64::from(first_chunk - before.first_chunk);
+    let samples = chunks * u64::from(before.samples_per_chunk);
+    let first_sample = u64::from(before.first_sample) + samples;
+    if first_sample > u64::from(u32::MAX) {
+        return Err(Error::InvalidData("a first sample past 32 bits"));
+    }
+    Ok(first_sample as u32)
+}
+
+/// Sets the first sample of each entry.
+fn number_samples(entries: &mut [StscEntry]) -> Result<()>
+    ensures { Gives (λ _. entries.new) result (numbered_after None entries.old) }
+{
+    let mut before: Option<StscEntry> = None;
+    for entry in entries.iter_mut() {
+        entry.first_sample = first_sample_after(before, entry.first_chunk)?;
+        before = Some(*entry);
+    }
+    Ok(())
+}
+
+/// The entries with their first samples.
+fn numbered(stored: Items<StscEntry>) -> Result<Items<StscEntry>>
+    ensures { Gives (λ entries. entries) result (numbered_after None stored) }
+{
+    let mut entries = Vec::from(stored);
+    number_samples(entries.as_mut_slice())?;
+    Ok(Items::from(entries))
+}
+
+/// The sample-to-chunk table, `stsc`: how many samples each chunk of a track has (ISO/IEC 14496-12,
+/// 8.7.4).
+///
+/// What is read has its first samples: 1 for the first entry, and for each next one that of the entry
+/// before and all samples of the chunks between. `InvalidData` where a first chunk is below the one
+/// before, or a first sample passes 2^32 - 1.
+#[derive(Debug, PartialEq, Eq, Drop)]
+pub struct StscBox {
+    /// Any version is read and written.
+    pub version: u8,
+    /// The low 24 bits are written.
+    pub flags: u32,
+    /// The chunks in runs that have equally many samples.
+    pub entries: Items<StscEntry>,
+}
+
+impl StscBox {
+    /// No entries.
+    pub fn default(alloc: Global) -> Result<Self>
+        ensures { Answers (λ b. b) result (Ok default_stsc) }
+    {
+        Ok(StscBox {
+            version: 0,
+            flags: 0,
+            entries: Items::new(alloc),
+        })
+    }
+
+    /// `stsc`.
+    pub fn get_type(&self) -> BoxType
+        ensures { result ≡ stsc }
+    {
+        BoxType::StscBox
+    }
+
+    /// The bytes of the box, its header and all: 16, and 12 for each entry.
+    #[tactic(auto, unfolding(crate::specs::Stsc::stsc_payload))]
+    pub fn get_size(&self) -> u64
+        ensures { result ≡ size_around (stsc_payload self.now) }
+    {
+        table_size(self.version, self.flags, &self.entries)
+    }
+}
+
+impl TryClone for StscBox {
+    fn try_clone(&self) -> Result<Self> {
+        Ok(StscBox {
+            version: self.version,
+            flags: self.flags,
+            entries: self.entries.try_clone()?,
+        })
+    }
+}
+
+impl Mp4Box for StscBox {
+    ghost KIND = { stsc };
+
+    const KIND: BoxType = BoxType::StscBox;
+
+    ghost payload = { stsc_payload };
+
+    fn box_size(&self) -> u64 {
+        self.get_size()
+    }
+}
+
+impl ReadBox for StscBox {
+    ghost use Rattle.mp4_table.specs.Stsc.{stsc_of};
+
+    ghost value = { stsc_of };
+
+    #[tactic(auto, unfolding(crate::specs::Stsc::stsc_of))]
+    fn read_payload(alloc: Global, payload: &[u8]) -> Result<Self> {
+        let (version, flags, stored) = read_table(alloc, payload)?;
+        let entries = numbered(stored)?;
+        Ok(StscBox {
+            version,
+            flags,
+            entries,
+        })
+    }
+}
+
+impl WriteBox for StscBox {
+    ghost use Rattle.mp4_table.specs.Table.{no_refusal};
+    ghost use Rattle.mp4_table.specs.Stsc.{IsCanonicalStsc};
+    ghost use Rattle.mp4_table.specs.StscLaws.{stsc_again};
+
+    ghost refusal = { no_refusal };
+
+    ghost IsCanonical = { IsCanonicalStsc };
+
+    ghost reads_back = { stsc_again };
+
+    #[tactic(auto, using(crate::proofs::Sizes::sizes), unfolding(crate::specs::Stsc::stsc_payload))]
+    fn put_payload(&self, out: &mut Vec<u8>) -> Result<()> {
+        put_table(out, self.version, self.flags, &self.entries)?;
+        Ok(())
+    }
+}

@@ -1,0 +1,163 @@
+//! How long samples last.
+
+ghost use Rattle.std.specs.Prelude.{◌≡◌, Ok};
+ghost use Rattle.mp4_codec.specs.Cause.{Answers};
+ghost use Rattle.mp4_codec.specs.Boxes.{size_around};
+ghost use Rattle.mp4_codec.specs.declared.box_type.BoxType.TheVariants.{SttsBox as stts};
+ghost use Rattle.mp4_table.specs.Stts.{stts_payload, default_stts};
+
+use crate::table::{put_table, read_table, table_size};
+use mp4_codec::{
+    BoxType, Entry, Fields, Items, Mp4Box, Put, ReadBox, Result, TryClone, WriteBox, put_u32,
+};
+use std::alloc::Global;
+
+/// A run of samples of one duration.
+#[derive(Debug, Clone, Copy, PartialEq, Eq)]
+pub struct SttsEntry {
+    /// How many samples there are.
+    pub sample_count: u32,
+    /// How long each lasts, in ticks of the media's timescale.
+    pub sample_delta: u32,
+}
+
+impl TryClone for SttsEntry {
+    fn try_clone(&self) -> Result<Self> {
+        Ok(*self)
+    }
+}
+
+impl Entry for SttsEntry {
+    ghost use Rattle.mp4_table.specs.Stts.{stts_entry_at, stts_entry, FitsSttsEntry};
+    ghost use Rattle.mp4_table.specs.SttsLaws.{stts_entry_again, length-stts_entry, stts_entry-has_length};
+
+    ghost at = { λ _. stts_entry_at };
+
+    ghost spelled = { λ _. stts_entry };
+
+    ghost Fits = { λ _. FitsSttsEntry };
+
+    ghost bytes_each = { λ _. 8 };
+
+    ghost again = { λ _. stts_entry_again };
+
+    ghost length_spelled = { λ _. length-stts_entry };
+
+    ghost has_length = { λ _. stts_entry-has_length };
+
+    fn size(_version: u8) -> u64 {
+        8
+    }
+
+    #[tactic(auto, unfolding(crate::specs::Stts::stts_entry_at))]
+    fn read(fields: &mut Fields, _version: u8) -> Result<Self> {
+        let sample_count = fields.u32()?;
+        let sample_delta = fields.u32()?;
+        Ok(SttsEntry {
+            sample_count,
+            sample_delta,
+        })
+    }
+
+    fn put(self, out: &mut Vec<u8>, _version: u8) -> Put {
+        put_u32(out, self.sample_count)?;
+        put_u32(out, self.sample_delta)?;
+        Ok(())
+    }
+}
+
+/// The time-to-sample table, `stts`: how long each sample of a track lasts, in decoding order
+/// (ISO/IEC 14496-12, 8.6.1.2).
+#[derive(Debug, PartialEq, Eq, Drop)]
+pub struct SttsBox {
+    /// Any version is read and written.
+    pub version: u8,
+    /// The low 24 bits are written.
+    pub flags: u32,
+    /// The samples in runs of one duration.
+    pub entries: Items<SttsEntry>,
+}
+
+impl SttsBox {
+    /// No entries.
+    pub fn default(alloc: Global) -> Result<Self>
+        ensures { Answers (λ b. b) result (Ok default_stts) }
+    {
+        Ok(SttsBox {
+            version: 0,
+            flags: 0,
+            entries: Items::new(alloc),
+        })
+    }
+
+    /// `stts`.
+    pub fn get_type(&self) -> BoxType
+        ensures { result ≡ stts }
+    {
+        BoxType::SttsBox
+    }
+
+    /// The bytes of the box, its header and all: 16, and 8 for each entry.
+    #[tactic(auto, unfolding(crate::specs::Stts::stts_payload))]
+    pub fn get_size(&self) -> u64
+        ensures { result ≡ size_around (stts_payload self.now) }
+    {
+        table_size(self.version, self.flags, &self.entries)
+    }
+}
+
+impl TryClone for SttsBox {
+    fn try_clone(&self) -> Result<Self> {
+        Ok(SttsBox {
+            version: self.version,
+            flags: self.flags,
+            entries: self.entries.try_clone()?,
+        })
+    }
+}
+
+impl Mp4Box for SttsBox {
+    ghost KIND = { stts };
+
+    const KIND: BoxType = BoxType::SttsBox;
+
+    ghost payload = { stts_payload };
+
+    fn box_size(&self) -> u64 {
+        self.get_size()
+    }
+}
+
+impl ReadBox for SttsBox {
+    ghost use Rattle.mp4_table.specs.Stts.{stts_of};
+
+    ghost value = { stts_of };
+
+    #[tactic(auto, unfolding(crate::specs::Stts::stts_of))]
+    fn read_payload(alloc: Global, payload: &[u8]) -> Result<Self> {
+        let (version, flags, entries) = read_table(alloc, payload)?;
+        Ok(SttsBox {
+            version,
+            flags,
+            entries,
+        })
+    }
+}
+
+impl WriteBox for SttsBox {
+    ghost use Rattle.mp4_table.specs.Table.{no_refusal};
+    ghost use Rattle.mp4_table.specs.Stts.{IsCanonicalStts};
+    ghost use Rattle.mp4_table.specs.SttsLaws.{stts_again};
+
+    ghost refusal = { no_refusal };
+
+    ghost IsCanonical = { IsCanonicalStts };
+
+    ghost reads_back = { stts_again };
+
+    #[tactic(auto, using(crate::proofs::Sizes::sizes), unfolding(crate::specs::Stts::stts_payload))]
+    fn put_payload(&self, out: &mut Vec<u8>) -> Result<()> {
+        put_table(out, self.version, self.flags, &self.entries)?;
+        Ok(())
+    }
+}
