@@ -246,6 +246,17 @@ list_last read write Fits back count xs e fits =
 pub numbers_last : (n count : ℕ) (xs : List ℕ) → length xs ≡ count → AllByRecursion (λ x. x < 256 ^ n) xs → list_at (number_at n) count (flat_map (number n) xs) ≡ Ok (xs, [])
 numbers_last n count xs e fits = list_last (number_at n) (number n) (λ x. x < 256 ^ n) (record { again = number_again n }) count xs e fits
 
+-- zeros behind which nothing stands
+pub zeros_last : (n : ℕ) → bytes_at n (zeros n) ≡ Ok (zeros n, [])
+zeros_last n = ap (bytes_at n) (sym (then_nothing (zeros n))) ∙ zeros_again n []
+
+-- the length of a number of either version
+pub versioned-has_length : (version : ℕ) → HasLength (versioned_at version) (cond (eqb version 1) 8 4)
+unfolding versioned_at
+versioned-has_length zero = number-has_length 4
+versioned-has_length (suc zero) = number-has_length 8
+versioned-has_length (suc (suc version)) = record { moves = λ bytes x rest e. absurd cc; refuses = λ bytes c e. cc }
+
 pub nothing_then : (xs : List ℕ) → [] ⧺ xs ≡ xs
 unfolding ◌⧺◌
 nothing_then xs = refl

@@ -12,9 +12,9 @@ use Rattle.mp4_codec.specs.FieldLaws.{length-then, then_assoc, then_nothing, not
 use Rattle.mp4_codec.specs.Boxes.{frame, optional, all_frames}
 use Rattle.mp4_codec.specs.Framing.{IsSpellable, short}
 use Rattle.mp4_codec.specs.FramingLaws.{child_at-box, length-frame}
-use Rattle.mp4_codec.specs.Children.{ChildBox, child_at, walk, children, all_of, last}
+use Rattle.mp4_codec.specs.Children.{ChildBox, child_at, walk, children, all_of, last, fault_in, last_of, gathered}
 use Rattle.mp4_codec.specs.ChildrenLaws.{Begins, walk-begins, walk-ends}
-use Rattle.mp4_codec.specs.GatherLaws.{NoFault}
+use Rattle.mp4_codec.specs.GatherLaws.{NoFault, first_fault-none}
 
 -- a walk finds these children in the bytes, and nothing behind them
 pub record Walks (bytes : List ℕ) (list : List ChildBox) : Type 0 where
@@ -98,3 +98,22 @@ NoFault-boxed fault t payload (b ∷ bs) h = (h.0, NoFault-boxed fault t payload
 pub last-option : {A : Type 0} (o : Option A) → last (option_to_list o) ≡ o
 last-option None = refl
 last-option (Some x) = refl
+
+same_code : (n : ℕ) → eqb n n ≡ true
+same_code n = grind arith
+
+no_fault : {B : Type 0} (t : BoxType) (payload : B → List ℕ) (value : List ℕ → Result B Cause) (bs : List B) → AllByRecursion (λ b. value (payload b) ≡ Ok b) bs → AllByRecursion (λ b. fault_in t value (t, payload b) ≡ None) bs
+no_fault t payload value [] reads = tt
+no_fault t payload value (b ∷ bs) reads = (rw (same_code (code_of t), reads.0) refl, no_fault t payload value bs reads.1)
+
+-- a child that was written, or was missing, is the last of its type among the children
+pub last_child-again : {B : Type 0} (t : BoxType) (payload : B → List ℕ) (value : List ℕ → Result B Cause) (o : Option B) → IsSpellable t → length (optional t payload o) < 2 ^ 32
+    → AllByRecursion (λ b. value (payload b) ≡ Ok b) (option_to_list o) → gathered (fault_in t value) (last_of t value) (children (optional t payload o)) ≡ Ok o
+unfolding last_of
+last_child-again t payload value o s small reads =
+    rw (
+      children-frames (optional t payload o) (boxed t payload (option_to_list o)) (Frames-optional t payload o s small),
+      first_fault-none (fault_in t value) (boxed t payload (option_to_list o)) [] (NoFault-boxed (fault_in t value) t payload (option_to_list o) (no_fault t payload value (option_to_list o) reads)),
+      all_of-boxed t payload value (option_to_list o) reads,
+      last-option o,
+    ) refl
