@@ -157,8 +157,8 @@ impl WriteBox for MvhdBox {
         put_versioned(out, version, self.modification_time)?;
         put_u32(out, self.timescale)?;
         put_versioned(out, version, self.duration)?;
-        put_u32(out, self.rate.raw_value())?;
-        put_u16(out, self.volume.raw_value())?;
+        put_u32(out, self.rate.raw)?;
+        put_u16(out, self.volume.raw)?;
         put_zeros(out, 10)?;
         put_matrix(out, &self.matrix)?;
         put_zeros(out, 24)?;

@@ -14,9 +14,14 @@ pub use mp4_codec::{
     BoxHeader, BoxType, ByteCursor, Child, Children, Error, FourCC, HEADER_EXT_SIZE, HEADER_SIZE,
     Items, KeyedItems, Limit, Mp4Box, OPEN_END, ReadBox, Result, Text, TryClone, WriteBox,
 };
-pub use mp4_leaf::{FixedPointI8, FixedPointU8, FixedPointU16, FtypBox, Matrix, MvhdBox};
-pub use reader::{Mp4Reader, read_mp4};
-pub use writer::Mp4Writer;
+pub use mp4_leaf::{
+    DataBox, DataType, DinfBox, DrefBox, ElstBox, ElstEntry, FixedPointI8, FixedPointU8,
+    FixedPointU16, FtypBox, HdlrBox, Matrix, MdhdBox, MvhdBox, RgbColor, SmhdBox, TkhdBox, UrlBox,
+    VmhdBox, check_language,
+};
+pub use mp4_table::{
+    Co64Box, CttsBox, CttsEntry, StcoBox, StscBox, StscEntry, StssBox, StszBox, SttsBox, SttsEntry,
+};
 
 #[cfg(test)]
 mod tests;

@@ -1,6 +1,11 @@
-//! Halves of fixed-point numbers.
+//! Halves of fixed-point numbers, and copies of all parts of boxes.
 
+use crate::data::DataType;
+use crate::elst::ElstEntry;
 use crate::fixed_point::{FixedPointI8, FixedPointU8, FixedPointU16};
+use crate::matrix::Matrix;
+use crate::vmhd::RgbColor;
+use mp4_codec::{Result, TryClone};
 
 #[test]
 fn whole_numbers_stand_in_the_high_half(rt: HostRuntime) {
@@ -38,4 +43,22 @@ fn the_whole_part_is_rounded_down(rt: HostRuntime) {
     for (raw, whole) in [(0xffff, 0), (0x0001_8000, 1), (0xffff_ffff, 0xffff)] {
         assert_eq!(rt; FixedPointU16::new_raw(raw).value(), whole);
     }
+}
+
+#[test]
+fn parts_have_copies(rt: HostRuntime) -> Result<()> {
+    assert_eq!(rt; FixedPointU8::new(1).try_clone()?, FixedPointU8::new(1));
+    assert_eq!(rt; FixedPointI8::new(-1).try_clone()?, FixedPointI8::new(-1));
+    assert_eq!(rt; FixedPointU16::new(1).try_clone()?, FixedPointU16::new(1));
+    assert!(rt; Matrix::default().try_clone()? == Matrix::default());
+    assert!(rt; RgbColor::default().try_clone()? == RgbColor::default());
+    assert!(rt; DataType::Other(5).try_clone()? == DataType::Other(5));
+    let entry = ElstEntry {
+        segment_duration: 1,
+        media_time: 2,
+        media_rate: 3,
+        media_rate_fraction: 4,
+    };
+    assert!(rt; entry.try_clone()? == entry);
+    Ok(())
 }

@@ -23,38 +23,51 @@ pub fn hex(alloc: Global, text: &str) -> Result<Vec<u8>> {
     Ok(bytes)
 }
 
-/// The bytes of a box.
-pub fn written<B: WriteBox>(alloc: Global, leaf: &B) -> Result<Vec<u8>> {
-    let mut bytes = Vec::new(alloc);
-    leaf.write_box(&mut bytes)?;
-    Ok(bytes)
-}
-
 /// The box of which these are the bytes.
-pub fn read<B: ReadBox>(alloc: Global, bytes: &[u8]) -> Result<B> {
+pub fn read_bytes<B: ReadBox>(alloc: Global, bytes: &[u8]) -> Result<B> {
     let mut reader = ByteCursor::new(bytes);
     reader.set_position(HEADER_SIZE);
     B::read_box(alloc, &mut reader, bytes.len() as u64)
 }
 
-/// Whether a box cut to any length is refused as invalid data, where that is below `needed` bytes,
-/// and read elsewhere.
-pub fn needs<B: ReadBox>(alloc: Global, bytes: &[u8], needed: usize) -> bool {
-    for n in 8..=bytes.len() {
-        let refused = matches!(read::<B>(alloc, &bytes[..n]), Err(Error::InvalidData(_)));
-        if refused != (n < needed) {
-            return false;
-        }
-    }
-    true
+/// The box of which a text spells the bytes.
+pub fn read<B: ReadBox>(alloc: Global, text: &str) -> Result<B> {
+    let bytes = hex(alloc, text)?;
+    read_bytes(alloc, &bytes)
 }
 
-/// These bytes with another one at a place.
-pub fn replaced(mut bytes: Vec<u8>, place: usize, byte: u8) -> Vec<u8> {
-    if let Some(there) = bytes.get_mut(place) {
-        *there = byte;
+/// Whether a box is written as these bytes, and its size is their length.
+pub fn writes<B: WriteBox>(alloc: Global, leaf: &B, text: &str) -> Result<bool> {
+    let bytes = hex(alloc, text)?;
+    let mut written = Vec::new(alloc);
+    let size = leaf.write_box(&mut written)?;
+    Ok(written == bytes && size == bytes.len() as u64 && leaf.box_size() == size)
+}
+
+/// Whether a box is written as these bytes and read from them as it is.
+pub fn is_spelled<B: WriteBox + PartialEq>(alloc: Global, leaf: &B, text: &str) -> Result<bool> {
+    Ok(writes(alloc, leaf, text)? && read::<B>(alloc, text)? == *leaf)
+}
+
+/// Whether a box cut to any length is refused as invalid data, where that is below `needed` bytes,
+/// and read elsewhere.
+pub fn needs<B: ReadBox>(alloc: Global, text: &str, needed: usize) -> Result<bool> {
+    let bytes = hex(alloc, text)?;
+    for n in 8..=bytes.len() {
+        let refused = matches!(
+            read_bytes::<B>(alloc, &bytes[..n]),
+            Err(Error::InvalidData(_))
+        );
+        if refused != (n < needed) {
+            return Ok(false);
+        }
     }
-    bytes
+    Ok(true)
+}
+
+/// Whether a box is refused as invalid data when it is read.
+pub fn is_unreadable<B: ReadBox>(alloc: Global, text: &str) -> bool {
+    matches!(read::<B>(alloc, text), Err(Error::InvalidData(_)))
 }
 
 /// Why a box is not written, if the buffer is then as it was before.
@@ -67,7 +80,7 @@ pub fn refusal<B: WriteBox>(alloc: Global, leaf: &B) -> Result<Option<Error>> {
     }
 }
 
-/// Whether a box is refused as invalid data.
+/// Whether a box is refused as invalid data when it is written.
 pub fn is_invalid<B: WriteBox>(alloc: Global, leaf: &B) -> Result<bool> {
     Ok(matches!(refusal(alloc, leaf)?, Some(Error::InvalidData(_))))
 }
@@ -75,4 +88,9 @@ pub fn is_invalid<B: WriteBox>(alloc: Global, leaf: &B) -> Result<bool> {
 /// Whether a box is refused since a number has no room in its field.
 pub fn is_past_its_field<B: WriteBox>(alloc: Global, leaf: &B) -> Result<bool> {
     Ok(refusal(alloc, leaf)? == Some(Error::TooLarge(Limit::Value)))
+}
+
+/// Whether a box is refused since a value has no spelling.
+pub fn is_unrepresentable<B: WriteBox>(alloc: Global, leaf: &B) -> Result<bool> {
+    Ok(matches!(refusal(alloc, leaf)?, Some(Error::Unrepresentable(_))))
 }

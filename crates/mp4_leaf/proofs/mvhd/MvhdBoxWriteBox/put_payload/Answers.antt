@@ -1,4 +1,4 @@
-use Rattle.mp4_codec.specs.PutLaws.{◌then◌, number_piece}
+use Rattle.mp4_codec.specs.PutLaws.{◌then◌}
 use Rattle.mp4_leaf.specs.Mvhd.{mvhd_payload, mvhd_refusal}
 use Rattle.mp4_leaf.proofs.mvhd.MvhdBoxWriteBox.put_payload.Goals as goal
 
@@ -11,8 +11,8 @@ returns c = (
       then c.in_ok-put_versioned-2.ensures
       then c.in_ok-put_u32.ensures
       then c.in_ok-put_versioned-3.ensures
-      then number_piece 4 _ _ c.raw_value.ensures c.in_ok-put_u32-2.ensures
-      then number_piece 2 _ _ c.raw_value-2.ensures c.in_ok-put_u16.ensures
+      then c.in_ok-put_u32-2.ensures
+      then c.in_ok-put_u16.ensures
       then c.in_ok-put_zeros.ensures
       then c.in_ok-put_matrix.ensures
       then c.in_ok-put_zeros-2.ensures

@@ -1,0 +1,87 @@
+-- What says where the media lies is read as it was written.
+use Rattle.std.proofs.Common.{◌≡◌, ℕ, ◌+◌, ◌^◌, ◌<◌, List, [], ◌∷◌, length, Option, Some, None, Ok, refl, arith}
+use Rattle.std.specs.Prelude.{IfSome}
+use Rattle.std.specs.List.{AllByRecursion}
+use Rattle.std.specs.Option.{option_to_list}
+use Rattle.mp4_codec.specs.declared.box_type.BoxType.TheVariants.{DrefBox as dref, UrlBox as url}
+use Rattle.mp4_codec.specs.BoxType.{box_type}
+use Rattle.mp4_codec.specs.Cause.{Cause}
+use Rattle.mp4_codec.specs.Bytes.{until_zero}
+use Rattle.mp4_codec.specs.Boxes.{optional}
+use Rattle.mp4_codec.specs.Framing.{IsSpellable}
+use Rattle.mp4_codec.specs.FramingLaws.{length-frame}
+use Rattle.mp4_codec.specs.FieldLaws.{HasNoZero, number_again, until_zero-zero, length-number, length-zeros, length-then}
+use Rattle.mp4_codec.specs.WrittenChildren.{last_child-again}
+use Rattle.mp4_leaf.specs.Location.{ended}
+use Rattle.mp4_leaf.specs.declared.dinf.UrlBox.{UrlBox}
+use Rattle.mp4_leaf.specs.declared.dinf.DrefBox.{DrefBox}
+use Rattle.mp4_leaf.specs.declared.dinf.DinfBox.{DinfBox}
+use Rattle.mp4_leaf.specs.Dinf.{url_of, url_payload, IsCanonicalUrl, dref_of, count_of, dref_payload, IsCanonicalDref, dinf_of, dinf_payload, IsCanonicalDinf}
+
+abbrev length_of_ended : List ℕ → ℕ
+length_of_ended [] = 0
+length_of_ended (b ∷ bs) = 1 + length (b ∷ bs)
+
+length-ended : (text : List ℕ) → length (ended text) ≡ length_of_ended text
+length-ended [] = refl
+length-ended (b ∷ bs) = simp (length-then, length-zeros) (omega arith)
+
+pub length-url_payload : (b : UrlBox) → length (url_payload b) ≡ 4 + length_of_ended b.location
+unfolding url_payload
+length-url_payload b = simp (length-then, length-number, length-ended) (omega arith)
+
+until_zero-ended : (text : List ℕ) → HasNoZero text → until_zero (ended text) ≡ text
+unfolding until_zero
+until_zero-ended [] h = refl
+until_zero-ended (b ∷ bs) h = until_zero-zero (b ∷ bs) h
+
+pub url_again : (b : UrlBox) → IsCanonicalUrl b → (◌≡◌ {A = Option Cause} None None) × (url_of (url_payload b) ≡ Ok b)
+unfolding url_of url_payload
+url_again b f = (
+  refl,
+  rw (number_again 1 b.version _ f.version, number_again 3 b.flags _ f.flags, until_zero-ended b.location f.location) refl,
+)
+
+pub length-dref_payload : (b : DrefBox) → length (dref_payload b) ≡ 8 + length (optional url url_payload b.url)
+unfolding dref_payload
+length-dref_payload b = simp (length-then, length-number) (omega arith)
+
+url_spellable : IsSpellable url
+unfolding box_type
+url_spellable = record { named = refl; code = omega arith }
+
+dref_spellable : IsSpellable dref
+unfolding box_type
+dref_spellable = record { named = refl; code = omega arith }
+
+each_url : (o : Option UrlBox) → IfSome o IsCanonicalUrl → AllByRecursion (λ b. url_of (url_payload b) ≡ Ok b) (option_to_list o)
+each_url None f = tt
+each_url (Some b) f = ((url_again b f).1, tt)
+
+few : (o : Option UrlBox) → count_of o < 256 ^ 4
+few None = omega arith
+few (Some b) = omega arith
+
+dref_read : (b : DrefBox) → IsCanonicalDref b → length (optional url url_payload b.url) < 2 ^ 32 → dref_of (dref_payload b) ≡ Ok b
+unfolding dref_of dref_payload
+dref_read b f small =
+    rw (
+      number_again 1 b.version _ f.version,
+      number_again 3 b.flags _ f.flags,
+      number_again 4 (count_of b.url) _ (few b.url),
+      last_child-again url url_payload url_of b.url url_spellable small (each_url b.url f.url),
+    ) refl
+
+pub dref_again : (b : DrefBox) → IsCanonicalDref b → (◌≡◌ {A = Option Cause} None None) × (dref_of (dref_payload b) ≡ Ok b)
+dref_again b f = (refl, dref_read b f (omega (arith, f.size, length-dref_payload b)))
+
+pub length-dinf_payload : (b : DinfBox) → length (dinf_payload b) ≡ 8 + length (dref_payload b.dref)
+unfolding dinf_payload
+length-dinf_payload b = length-frame dref (dref_payload b.dref)
+
+pub dinf_again : (b : DinfBox) → IsCanonicalDinf b → (◌≡◌ {A = Option Cause} None None) × (dinf_of (dinf_payload b) ≡ Ok b)
+unfolding dinf_of dinf_payload
+dinf_again b f = (
+  refl,
+  rw (last_child-again dref dref_payload dref_of (Some b.dref) dref_spellable (omega (arith, f.dref.size, length-frame dref (dref_payload b.dref))) ((dref_again b.dref f.dref).1, tt)) refl,
+)

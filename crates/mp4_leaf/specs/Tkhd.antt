@@ -1,0 +1,99 @@
+-- The track header (ISO/IEC 14496-12, 8.3.2).
+use Rattle.std.specs.Prelude.{ℕ, ◌^◌, ◌<◌, List, Option, Result, Ok}
+use Rattle.mp4_codec.specs.Cause.{Cause, ◌>>=◌, ◌or◌}
+use Rattle.mp4_codec.specs.Bytes.{number_at, bytes_at, versioned_at, number, zeros, versioned, ◌⧺◌, version_refusal, value_refusal}
+use Rattle.mp4_codec.specs.FieldLaws.{FitsVersion}
+use Rattle.mp4_leaf.specs.declared.tkhd.TkhdBox.{TkhdBox}
+use Rattle.mp4_leaf.specs.Matrix.{matrix_at, matrix, FitsMatrix, unity}
+
+-- the track header that a payload holds, field by field; what follows is skipped
+unfoldable pub tkhd_of : List ℕ → Result TkhdBox Cause
+tkhd_of payload = do
+  version ← number_at 1 payload
+  flags ← number_at 3 version.1
+  creation_time ← versioned_at version.0 flags.1
+  modification_time ← versioned_at version.0 creation_time.1
+  track_id ← number_at 4 modification_time.1
+  reserved ← bytes_at 4 track_id.1
+  duration ← versioned_at version.0 reserved.1
+  reserved_too ← bytes_at 8 duration.1
+  layer ← number_at 2 reserved_too.1
+  alternate_group ← number_at 2 layer.1
+  volume ← number_at 2 alternate_group.1
+  reserved_last ← bytes_at 2 volume.1
+  matrix ← matrix_at reserved_last.1
+  width ← number_at 4 matrix.1
+  height ← number_at 4 width.1
+  Ok (record {
+    version = version.0;
+    flags = flags.0;
+    creation_time = creation_time.0;
+    modification_time = modification_time.0;
+    track_id = track_id.0;
+    duration = duration.0;
+    layer = layer.0;
+    alternate_group = alternate_group.0;
+    volume = record { raw = volume.0 };
+    matrix = matrix.0;
+    width = record { raw = width.0 };
+    height = record { raw = height.0 };
+  })
+
+-- the payload that holds a track header
+unfoldable pub tkhd_payload : TkhdBox → List ℕ
+tkhd_payload b =
+    number 1 b.version
+    ⧺ number 3 b.flags
+    ⧺ versioned b.version b.creation_time
+    ⧺ versioned b.version b.modification_time
+    ⧺ number 4 b.track_id
+    ⧺ zeros 4
+    ⧺ versioned b.version b.duration
+    ⧺ zeros 8
+    ⧺ number 2 b.layer
+    ⧺ number 2 b.alternate_group
+    ⧺ number 2 b.volume.raw
+    ⧺ zeros 2
+    ⧺ matrix b.matrix
+    ⧺ number 4 b.width.raw
+    ⧺ number 4 b.height.raw
+
+-- why a track header is not written: its version, then the first number that its version has no room for
+unfoldable pub tkhd_refusal : TkhdBox → Option Cause
+tkhd_refusal b =
+    version_refusal b.version
+    or value_refusal b.version b.creation_time
+    or value_refusal b.version b.modification_time
+    or value_refusal b.version b.duration
+
+-- a track header that is read again as it is: each number fits its field
+pub record IsCanonicalTkhd (b : TkhdBox) : Type 0 where
+  pub version : b.version < 2
+  pub flags : b.flags < 2 ^ 24
+  pub creation_time : FitsVersion b.version b.creation_time
+  pub modification_time : FitsVersion b.version b.modification_time
+  pub track_id : b.track_id < 2 ^ 32
+  pub duration : FitsVersion b.version b.duration
+  pub layer : b.layer < 2 ^ 16
+  pub alternate_group : b.alternate_group < 2 ^ 16
+  pub volume : b.volume.raw < 2 ^ 16
+  pub matrix : FitsMatrix b.matrix
+  pub width : b.width.raw < 2 ^ 32
+  pub height : b.height.raw < 2 ^ 32
+
+-- an enabled track, at volume 1.0
+abbrev pub default_tkhd : TkhdBox
+default_tkhd = record {
+  version = 0;
+  flags = 1;
+  creation_time = 0;
+  modification_time = 0;
+  track_id = 0;
+  duration = 0;
+  layer = 0;
+  alternate_group = 0;
+  volume = record { raw = 0x0100 };
+  matrix = unity;
+  width = record { raw = 0 };
+  height = record { raw = 0 };
+}

@@ -1,0 +1,173 @@
+//! The value of a metadata item.
+
+ghost use Rattle.std.specs.Prelude.{◌≡◌};
+
+use mp4_codec::{
+    BoxType, Fields, Items, Mp4Box, ReadBox, Result, TryClone, WriteBox, put_bytes, put_u32,
+    put_zeros,
+};
+use std::alloc::Global;
+
+/// What the bytes of a metadata value are.
+#[derive(Clone, Copy, Debug, PartialEq, Eq)]
+pub enum DataType {
+    /// 0.
+    Binary,
+    /// 1: UTF-8.
+    Text,
+    /// 13: JPEG.
+    Image,
+    /// 21: a signed big-endian number.
+    TempoCpil,
+    /// Any other number. One of the four above is written, but not read again as it is.
+    Other(u32),
+}
+
+impl Default for DataType {
+    ghost use Rattle.mp4_leaf.specs.declared.data.DataType.TheVariants.{Binary};
+
+    ghost is_default = { λ t. t ≡ Binary };
+
+    fn default() -> Self {
+        DataType::Binary
+    }
+}
+
+impl TryClone for DataType {
+    fn try_clone(&self) -> Result<Self> {
+        Ok(*self)
+    }
+}
+
+impl From<u32> for DataType {
+    ghost use Rattle.mp4_leaf.specs.Data.{data_type};
+
+    ghost from_gives = { λ n t. t ≡ data_type n };
+
+    fn from(code: u32) -> DataType {
+        match code {
+            0 => DataType::Binary,
+            1 => DataType::Text,
+            13 => DataType::Image,
+            21 => DataType::TempoCpil,
+            other => DataType::Other(other),
+        }
+    }
+}
+
+impl From<DataType> for u32 {
+    ghost use Rattle.mp4_leaf.specs.Data.{data_code};
+
+    ghost from_gives = { λ t n. n ≡ data_code t };
+
+    fn from(data_type: DataType) -> u32 {
+        match data_type {
+            DataType::Binary => 0,
+            DataType::Text => 1,
+            DataType::Image => 13,
+            DataType::TempoCpil => 21,
+            DataType::Other(other) => other,
+        }
+    }
+}
+
+/// The value of a metadata item, `data`, as iTunes writes it.
+#[derive(Debug, PartialEq, Eq, Drop)]
+pub struct DataBox {
+    pub data_type: DataType,
+    pub bytes: Items<u8>,
+}
+
+impl DataBox {
+    ghost use Rattle.std.specs.Prelude.{◌≡◌, Ok};
+    ghost use Rattle.mp4_codec.specs.declared.box_type.BoxType.TheVariants.{DataBox as data_kind};
+    ghost use Rattle.mp4_codec.specs.Boxes.{size_around};
+    ghost use Rattle.mp4_codec.specs.Cause.{Answers};
+    ghost use Rattle.mp4_leaf.specs.Data.{data_payload, default_data};
+
+    /// Binary, and empty.
+    pub fn default(alloc: Global) -> Result<Self>
+        ensures { Answers (λ b. b) result (Ok default_data) }
+    {
+        Ok(DataBox {
+            data_type: DataType::default(),
+            bytes: Items::new(alloc),
+        })
+    }
+
+    /// `data`.
+    pub fn get_type(&self) -> BoxType
+        ensures { result ≡ data_kind }
+    {
+        BoxType::DataBox
+    }
+
+    /// The bytes of the box, its header and all: 16, and those of the value.
+    #[tactic(auto, using(crate::proofs::Sizes::sizes))]
+    pub fn get_size(&self) -> u64
+        ensures { result ≡ size_around (data_payload self.now) }
+    {
+        (self.bytes.len() as u64).saturating_add(16)
+    }
+}
+
+impl TryClone for DataBox {
+    fn try_clone(&self) -> Result<Self> {
+        Ok(DataBox {
+            data_type: self.data_type,
+            bytes: self.bytes.try_clone()?,
+        })
+    }
+}
+
+impl Mp4Box for DataBox {
+    ghost use Rattle.mp4_codec.specs.declared.box_type.BoxType.TheVariants.{DataBox as data_kind};
+    ghost use Rattle.mp4_leaf.specs.Data.{data_payload};
+
+    ghost KIND = { data_kind };
+
+    const KIND: BoxType = BoxType::DataBox;
+
+    ghost payload = { data_payload };
+
+    fn box_size(&self) -> u64 {
+        self.get_size()
+    }
+}
+
+impl ReadBox for DataBox {
+    ghost use Rattle.mp4_leaf.specs.Data.{data_of};
+
+    ghost value = { data_of };
+
+    #[tactic(auto, unfolding(crate::specs::Data::data_of))]
+    fn read_payload(alloc: Global, payload: &[u8]) -> Result<Self> {
+        let mut fields = Fields::new(payload);
+        let code = fields.u32()?;
+        fields.bytes(4)?;
+        let bytes = fields.rest().to_vec(alloc)?;
+        Ok(DataBox {
+            data_type: DataType::from(code),
+            bytes: Items::from(bytes),
+        })
+    }
+}
+
+impl WriteBox for DataBox {
+    ghost use Rattle.std.specs.Prelude.{None};
+    ghost use Rattle.mp4_leaf.specs.Data.{IsCanonicalData};
+    ghost use Rattle.mp4_leaf.specs.DataLaws.{data_again};
+
+    ghost refusal = { λ _. None };
+
+    ghost IsCanonical = { IsCanonicalData };
+
+    ghost reads_back = { data_again };
+
+    fn put_payload(&self, out: &mut Vec<u8>) -> Result<()> {
+        put_u32(out, u32::from(self.data_type))?;
+        put_zeros(out, 4)?;
+        put_bytes(out, self.bytes.as_slice())?;
+        Ok(())
+    }
+}

@@ -1,0 +1,156 @@
+//! The media header.
+
+use crate::language::{check_language, pack_language, unpack_language};
+use mp4_codec::{
+    BoxType, Fields, Mp4Box, ReadBox, Result, Text, TryClone, WriteBox, check_value, check_version,
+    put_u8, put_u16, put_u24, put_u32, put_versioned, put_zeros,
+};
+use std::alloc::Global;
+
+/// The media header, `mdhd`: the clock and the language of one track's media (ISO/IEC 14496-12, 8.4.2).
+///
+/// Version 1 has 64 bits for the times and the duration, version 0 has 32. Any other version is
+/// `InvalidData`, both ways; a number past 32 bits isn't written in version 0, but `TooLarge(Value)`.
+#[derive(Debug, PartialEq, Eq, Drop)]
+pub struct MdhdBox {
+    pub version: u8,
+    /// The low 24 bits are written.
+    pub flags: u32,
+    /// Seconds since 1904-01-01 00:00 UTC.
+    pub creation_time: u64,
+    /// Seconds since 1904-01-01 00:00 UTC.
+    pub modification_time: u64,
+    /// Ticks in a second.
+    pub timescale: u32,
+    /// Ticks of `timescale`.
+    pub duration: u64,
+    /// The ISO 639-2/T code, as `eng`, or `und` where there is none. What isn't three characters of
+    /// U+0060 to U+007F is not written, but `Unrepresentable`.
+    pub language: Text,
+}
+
+impl MdhdBox {
+    ghost use Rattle.std.specs.Prelude.{◌≡◌, Ok};
+    ghost use Rattle.mp4_codec.specs.declared.box_type.BoxType.TheVariants.{MdhdBox as mdhd};
+    ghost use Rattle.mp4_codec.specs.Boxes.{size_around};
+    ghost use Rattle.mp4_codec.specs.Cause.{Answers};
+    ghost use Rattle.mp4_leaf.specs.Mdhd.{mdhd_payload, default_mdhd};
+
+    /// 1000 ticks a second, and the language `und`.
+    pub fn default(alloc: Global) -> Result<Self>
+        ensures { Answers (λ b. b) result (Ok default_mdhd) }
+    {
+        Ok(MdhdBox {
+            version: 0,
+            flags: 0,
+            creation_time: 0,
+            modification_time: 0,
+            timescale: 1000,
+            duration: 0,
+            language: Text::from_str(alloc, "und")?,
+        })
+    }
+
+    /// `mdhd`.
+    pub fn get_type(&self) -> BoxType
+        ensures { result ≡ mdhd }
+    {
+        BoxType::MdhdBox
+    }
+
+    /// The bytes of the box, its header and all: 44 in version 1, else 32.
+    #[tactic(auto, using(crate::proofs::Sizes::sizes))]
+    pub fn get_size(&self) -> u64
+        ensures { result ≡ size_around (mdhd_payload self.now) }
+    {
+        if self.version == 1 { 44 } else { 32 }
+    }
+}
+
+impl TryClone for MdhdBox {
+    fn try_clone(&self) -> Result<Self> {
+        Ok(MdhdBox {
+            version: self.version,
+            flags: self.flags,
+            creation_time: self.creation_time,
+            modification_time: self.modification_time,
+            timescale: self.timescale,
+            duration: self.duration,
+            language: self.language.try_clone()?,
+        })
+    }
+}
+
+impl Mp4Box for MdhdBox {
+    ghost use Rattle.mp4_codec.specs.declared.box_type.BoxType.TheVariants.{MdhdBox as mdhd};
+    ghost use Rattle.mp4_leaf.specs.Mdhd.{mdhd_payload};
+
+    ghost KIND = { mdhd };
+
+    const KIND: BoxType = BoxType::MdhdBox;
+
+    ghost payload = { mdhd_payload };
+
+    fn box_size(&self) -> u64 {
+        self.get_size()
+    }
+}
+
+impl ReadBox for MdhdBox {
+    ghost use Rattle.mp4_leaf.specs.Mdhd.{mdhd_of};
+
+    ghost value = { mdhd_of };
+
+    #[tactic(auto, unfolding(crate::specs::Mdhd::mdhd_of))]
+    fn read_payload(alloc: Global, payload: &[u8]) -> Result<Self> {
+        let mut fields = Fields::new(payload);
+        let version = fields.u8()?;
+        let flags = fields.u24()?;
+        let creation_time = fields.versioned(version)?;
+        let modification_time = fields.versioned(version)?;
+        let timescale = fields.u32()?;
+        let duration = fields.versioned(version)?;
+        let code = fields.u16()?;
+        fields.bytes(2)?;
+        let language = unpack_language(alloc, code)?;
+        Ok(MdhdBox {
+            version,
+            flags,
+            creation_time,
+            modification_time,
+            timescale,
+            duration,
+            language,
+        })
+    }
+}
+
+impl WriteBox for MdhdBox {
+    ghost use Rattle.mp4_leaf.specs.Mdhd.{mdhd_refusal, IsCanonicalMdhd};
+    ghost use Rattle.mp4_leaf.specs.MdhdLaws.{mdhd_again};
+
+    ghost refusal = { mdhd_refusal };
+
+    ghost IsCanonical = { IsCanonicalMdhd };
+
+    ghost reads_back = { mdhd_again };
+
+    #[tactic(auto, unfolding(crate::specs::Mdhd::mdhd_refusal))]
+    fn put_payload(&self, out: &mut Vec<u8>) -> Result<()> {
+        let version = self.version;
+        check_version(version)?;
+        check_value(version, self.creation_time)?;
+        check_value(version, self.modification_time)?;
+        check_value(version, self.duration)?;
+        check_language(&self.language)?;
+        put_u8(out, version)?;
+        put_u24(out, self.flags)?;
+        put_versioned(out, version, self.creation_time)?;
+        put_versioned(out, version, self.modification_time)?;
+        put_u32(out, self.timescale)?;
+        put_versioned(out, version, self.duration)?;
+        put_u16(out, pack_language(&self.language))?;
+        put_zeros(out, 2)?;
+        Ok(())
+    }
+}

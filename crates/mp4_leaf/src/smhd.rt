@@ -1,0 +1,118 @@
+//! The sound media header.
+
+use crate::fixed_point::FixedPointI8;
+use mp4_codec::{
+    BoxType, Fields, Mp4Box, ReadBox, Result, TryClone, WriteBox, put_i16, put_u8, put_u24,
+    put_zeros,
+};
+use std::alloc::Global;
+
+/// The sound media header, `smhd`: where a sound track is heard (ISO/IEC 14496-12, 12.2.2).
+///
+/// Any version is read and written.
+#[derive(Clone, Copy, Debug, PartialEq, Eq)]
+pub struct SmhdBox {
+    pub version: u8,
+    /// The low 24 bits are written.
+    pub flags: u32,
+    /// -1.0 is all left, 0 the centre, 1.0 all right.
+    pub balance: FixedPointI8,
+}
+
+impl SmhdBox {
+    ghost use Rattle.std.specs.Prelude.{◌≡◌};
+    ghost use Rattle.mp4_codec.specs.declared.box_type.BoxType.TheVariants.{SmhdBox as smhd};
+    ghost use Rattle.mp4_codec.specs.Boxes.{size_around};
+    ghost use Rattle.mp4_leaf.specs.Smhd.{smhd_payload};
+
+    /// `smhd`.
+    pub fn get_type(&self) -> BoxType
+        ensures { result ≡ smhd }
+    {
+        BoxType::SmhdBox
+    }
+
+    /// The bytes of the box, its header and all: 16.
+    #[tactic(auto, using(crate::proofs::Sizes::sizes))]
+    pub fn get_size(&self) -> u64
+        ensures { result ≡ size_around (smhd_payload self.now) }
+    {
+        16
+    }
+}
+
+impl Default for SmhdBox {
+    ghost use Rattle.std.specs.Prelude.{◌≡◌};
+    ghost use Rattle.mp4_leaf.specs.Smhd.{default_smhd};
+
+    ghost is_default = { λ b. b ≡ default_smhd };
+
+    fn default() -> Self {
+        SmhdBox {
+            version: 0,
+            flags: 0,
+            balance: FixedPointI8::new(0),
+        }
+    }
+}
+
+impl TryClone for SmhdBox {
+    fn try_clone(&self) -> Result<Self> {
+        Ok(*self)
+    }
+}
+
+impl Mp4Box for SmhdBox {
+    ghost use Rattle.mp4_codec.specs.declared.box_type.BoxType.TheVariants.{SmhdBox as smhd};
+    ghost use Rattle.mp4_leaf.specs.Smhd.{smhd_payload};
+
+    ghost KIND = { smhd };
+
+    const KIND: BoxType = BoxType::SmhdBox;
+
+    ghost payload = { smhd_payload };
+
+    fn box_size(&self) -> u64 {
+        self.get_size()
+    }
+}
+
+impl ReadBox for SmhdBox {
+    ghost use Rattle.mp4_leaf.specs.Smhd.{smhd_of};
+
+    ghost value = { smhd_of };
+
+    #[tactic(auto, unfolding(crate::specs::Smhd::smhd_of))]
+    fn read_payload(_alloc: Global, payload: &[u8]) -> Result<Self> {
+        let mut fields = Fields::new(payload);
+        let version = fields.u8()?;
+        let flags = fields.u24()?;
+        let balance = fields.i16()?;
+        fields.bytes(2)?;
+        Ok(SmhdBox {
+            version,
+            flags,
+            balance: FixedPointI8::new_raw(balance),
+        })
+    }
+}
+
+impl WriteBox for SmhdBox {
+    ghost use Rattle.std.specs.Prelude.{None};
+    ghost use Rattle.mp4_leaf.specs.Smhd.{IsCanonicalSmhd};
+    ghost use Rattle.mp4_leaf.specs.SmhdLaws.{smhd_again};
+
+    ghost refusal = { λ _. None };
+
+    ghost IsCanonical = { IsCanonicalSmhd };
+
+    ghost reads_back = { smhd_again };
+
+    fn put_payload(&self, out: &mut Vec<u8>) -> Result<()> {
+        put_u8(out, self.version)?;
+        put_u24(out, self.flags)?;
+        put_i16(out, self.balance.raw)?;
+        put_zeros(out, 2)?;
+        Ok(())
+    }
+}

@@ -1,0 +1,197 @@
+//! The track header.
+
+use crate::fixed_point::{FixedPointU8, FixedPointU16};
+use crate::matrix::{Matrix, put_matrix, read_matrix};
+use mp4_codec::{
+    BoxType, Fields, Mp4Box, ReadBox, Result, TryClone, WriteBox, check_value, check_version,
+    put_u8, put_u16, put_u24, put_u32, put_versioned, put_zeros,
+};
+use std::alloc::Global;
+
+/// The track header, `tkhd`: what holds of one track (ISO/IEC 14496-12, 8.3.2).
+///
+/// Version 1 has 64 bits for the times and the duration, version 0 has 32. Any other version is
+/// `InvalidData`, both ways; a number past 32 bits isn't written in version 0, but `TooLarge(Value)`.
+#[derive(Clone, Copy, Debug, PartialEq, Eq)]
+pub struct TkhdBox {
+    pub version: u8,
+    /// 1 for a track that is enabled, 2 for one that is used in the movie, 4 in a preview. The low 24
+    /// bits are written.
+    pub flags: u32,
+    /// Seconds since 1904-01-01 00:00 UTC.
+    pub creation_time: u64,
+    /// Seconds since 1904-01-01 00:00 UTC.
+    pub modification_time: u64,
+    /// The number that names the track, above 0.
+    pub track_id: u32,
+    /// Ticks of the movie's timescale.
+    pub duration: u64,
+    /// The bits of a signed number; tracks of lower ones are nearer to the viewer.
+    pub layer: u16,
+    /// Of the tracks that share such a number, one is played; 0 is shared with none.
+    pub alternate_group: u16,
+    /// The loudness to play at; 1.0 is full, and 0 stands in tracks without sound.
+    pub volume: FixedPointU8,
+    pub matrix: Matrix,
+    /// The width to show the track at, in pixels.
+    pub width: FixedPointU16,
+    /// The height to show the track at, in pixels.
+    pub height: FixedPointU16,
+}
+
+impl TkhdBox {
+    ghost use Rattle.std.specs.Prelude.{◌≡◌, ◌*◌};
+    ghost use Rattle.mp4_codec.specs.declared.box_type.BoxType.TheVariants.{TkhdBox as tkhd};
+    ghost use Rattle.mp4_codec.specs.Boxes.{size_around};
+    ghost use Rattle.mp4_leaf.specs.Tkhd.{tkhd_payload};
+
+    /// `tkhd`.
+    pub fn get_type(&self) -> BoxType
+        ensures { result ≡ tkhd }
+    {
+        BoxType::TkhdBox
+    }
+
+    /// The bytes of the box, its header and all: 104 in version 1, else 92.
+    #[tactic(auto, using(crate::proofs::Sizes::sizes))]
+    pub fn get_size(&self) -> u64
+        ensures { result ≡ size_around (tkhd_payload self.now) }
+    {
+        if self.version == 1 { 104 } else { 92 }
+    }
+
+    /// Sets a width of whole pixels.
+    pub fn set_width(&mut self, width: u16)
+        ensures { self.new ≡ record self.old { width = record { raw = width * 65536 } } }
+    {
+        self.width = FixedPointU16::new(width);
+    }
+
+    /// Sets a height of whole pixels.
+    pub fn set_height(&mut self, height: u16)
+        ensures { self.new ≡ record self.old { height = record { raw = height * 65536 } } }
+    {
+        self.height = FixedPointU16::new(height);
+    }
+}
+
+impl Default for TkhdBox {
+    ghost use Rattle.std.specs.Prelude.{◌≡◌};
+    ghost use Rattle.mp4_leaf.specs.Tkhd.{default_tkhd};
+
+    ghost is_default = { λ b. b ≡ default_tkhd };
+
+    fn default() -> Self {
+        TkhdBox {
+            version: 0,
+            flags: 1,
+            creation_time: 0,
+            modification_time: 0,
+            track_id: 0,
+            duration: 0,
+            layer: 0,
+            alternate_group: 0,
+            volume: FixedPointU8::new(1),
+            matrix: Matrix::default(),
+            width: FixedPointU16::new(0),
+            height: FixedPointU16::new(0),
+        }
+    }
+}
+
+impl TryClone for TkhdBox {
+    fn try_clone(&self) -> Result<Self> {
+        Ok(*self)
+    }
+}
+
+impl Mp4Box for TkhdBox {
+    ghost use Rattle.mp4_codec.specs.declared.box_type.BoxType.TheVariants.{TkhdBox as tkhd};
+    ghost use Rattle.mp4_leaf.specs.Tkhd.{tkhd_payload};
+
+    ghost KIND = { tkhd };
+
+    const KIND: BoxType = BoxType::TkhdBox;
+
+    ghost payload = { tkhd_payload };
+
+    fn box_size(&self) -> u64 {
+        self.get_size()
+    }
+}
+
+impl ReadBox for TkhdBox {
+    ghost use Rattle.mp4_leaf.specs.Tkhd.{tkhd_of};
+
+    ghost value = { tkhd_of };
+
+    #[tactic(auto, unfolding(crate::specs::Tkhd::tkhd_of))]
+    fn read_payload(_alloc: Global, payload: &[u8]) -> Result<Self> {
+        let mut fields = Fields::new(payload);
+        let version = fields.u8()?;
+        let flags = fields.u24()?;
+        let creation_time = fields.versioned(version)?;
+        let modification_time = fields.versioned(version)?;
+        let track_id = fields.u32()?;
+        fields.bytes(4)?;
+        let duration = fields.versioned(version)?;
+        fields.bytes(8)?;
+        let layer = fields.u16()?;
+        let alternate_group = fields.u16()?;
+        let volume = fields.u16()?;
+        fields.bytes(2)?;
+        let matrix = read_matrix(&mut fields)?;
+        let width = fields.u32()?;
+        let height = fields.u32()?;
+        Ok(TkhdBox {
+            version,
+            flags,
+            creation_time,
+            modification_time,
+            track_id,
+            duration,
+            layer,
+            alternate_group,
+            volume: FixedPointU8::new_raw(volume),
+            matrix,
+            width: FixedPointU16::new_raw(width),
+            height: FixedPointU16::new_raw(height),
+        })
+    }
+}
+
+impl WriteBox for TkhdBox {
+    ghost use Rattle.mp4_leaf.specs.Tkhd.{tkhd_refusal, IsCanonicalTkhd};
+    ghost use Rattle.mp4_leaf.specs.TkhdLaws.{tkhd_again};
+
+    ghost refusal = { tkhd_refusal };
+
+    ghost IsCanonical = { IsCanonicalTkhd };
+
+    ghost reads_back = { tkhd_again };
+
+    #[tactic(auto, unfolding(crate::specs::Tkhd::tkhd_refusal))]
+    fn put_payload(&self, out: &mut Vec<u8>) -> Result<()> {
+        let version = self.version;
+        check_version(version)?;
+        check_value(version, self.creation_time)?;
+        check_value(version, self.modification_time)?;
+        check_value(version, self.duration)?;
+        put_u8(out, version)?;
+        put_u24(out, self.flags)?;
+        put_versioned(out, version, self.creation_time)?;
+        put_versioned(out, version, self.modification_time)?;
+        put_u32(out, self.track_id)?;
+        put_zeros(out, 4)?;
+        put_versioned(out, version, self.duration)?;
+        put_zeros(out, 8)?;
+        put_u16(out, self.layer)?;
+        put_u16(out, self.alternate_group)?;
+        put_u16(out, self.volume.raw)?;
+        put_zeros(out, 2)?;
+        put_matrix(out, &self.matrix)?;
+        put_u32(out, self.width.raw)?;
+        put_u32(out, self.height.raw)?;
+        Ok(())
+    }
+}
