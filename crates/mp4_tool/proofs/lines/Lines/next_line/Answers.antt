@@ -1,0 +1,10 @@
+use Rattle.std.proofs.Common.{ap, ◌∙◌}
+use Rattle.mp4_tool.specs.Lines.{lines_left}
+use Rattle.mp4_tool.proofs.Cutting.{cut_line, whole_line}
+use Rattle.mp4_tool.proofs.lines.Lines.next_line.Goals as goal
+
+pub returns-then-end-text : goal.returns-then-end-text
+returns-then-end-text c = ap (λ rest. lines_left (record { rest = rest })) c.in_ok-text.was ∙ cut_line c.in_ok-text.text.now c.line_length-end.result c.line_length-end.ensures c.if-end-text.true
+
+pub returns-else-end-text : goal.returns-else-end-text
+returns-else-end-text c = ap (λ rest. lines_left (record { rest = rest })) c.in_ok-text.was ∙ whole_line c.in_ok-text.text.now c.line_length-end.result c.line_length-end.ensures c.if-end-text.false

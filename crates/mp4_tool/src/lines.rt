@@ -1,0 +1,42 @@
+//! The lines of a text.
+
+ghost use Rattle.std.specs.Prelude.{◌≡◌, [], ◌∷◌, ◌==◌, ◌≤◌, length, MatchOption};
+ghost use Rattle.std.specs.List.{position_or_len};
+ghost use Rattle.mp4_tool.specs.Lines.{lines_of, lines_left};
+
+/// The lines of a text that are still to be read. Each ends with a line feed; the last one may lack it.
+#[derive(Drop)]
+pub(crate) struct Lines<'a> {
+    /// What stands behind the lines that were read; None behind the last one.
+    rest: Option<&'a [u8]>,
+}
+
+/// The bytes before the first line feed, or all of them.
+fn line_length(text: &[u8]) -> usize
+    ensures { result ≡ position_or_len (λ byte. byte == 10) text.now }
+{
+    text.iter().take_while(|byte| **byte != b'\n').count()
+}
+
+impl<'a> Lines<'a> {
+    pub fn new(text: &'a [u8]) -> Self
+        ensures { lines_left result ≡ lines_of text.now }
+    {
+        Lines { rest: Some(text) }
+    }
+
+    /// The next line, without its line feed; None behind the last one.
+    pub fn next_line(&mut self) -> Option<&'a [u8]>
+        ensures { MatchOption result (lines_left self.old ≡ []) (λ line. lines_left self.old ≡ line.now ∷ lines_left self.new) }
+    {
+        let text = self.rest?;
+        let end = line_length(text);
+        if end < text.len() {
+            self.rest = Some(&text[end + 1..]);
+            Some(&text[..end])
+        } else {
+            self.rest = None;
+            Some(text)
+        }
+    }
+}

@@ -1,0 +1,51 @@
+//! Looks into MP4 files, and makes them of scripts.
+#![tactic(auto)]
+
+mod faults;
+mod info;
+mod lines;
+mod run;
+mod script;
+mod show;
+
+use crate::run::run;
+use mp4_media::{Error, Result};
+use std::process::ExitCode;
+use std::{env, io};
+
+/// The words behind the program's name. There are none where one of them isn't UTF-8: that is no command.
+fn words(rt: &HostRuntime) -> Result<Vec<String>> {
+    match env::args(rt) {
+        Ok(args) => Ok(args.skip(1).collect(rt.alloc())?),
+        Err(error) if error.kind() == io::ErrorKind::OutOfMemory => Err(Error::OutOfMemory),
+        Err(_) => Ok(Vec::new(rt.alloc())),
+    }
+}
+
+/// A run with the arguments and the standard input of the process.
+fn run_process(rt: &HostRuntime, out: &mut Vec<u8>, err: &mut Vec<u8>) -> Result<u8> {
+    let words = words(rt)?;
+    run(rt, rt.alloc(), words.as_slice(), &mut rt.stdin(), out, err)
+}
+
+/// Prints what a run wrote.
+fn print(rt: &HostRuntime, out: &[u8], err: &[u8]) -> io::Result<()> {
+    rt.stderr().write_all(err)?;
+    rt.stdout().write_all(out)
+}
+
+fn main(rt: HostRuntime) -> ExitCode {
+    let mut out = Vec::new(rt.alloc());
+    let mut err = Vec::new(rt.alloc());
+    let Ok(status) = run_process(&rt, &mut out, &mut err) else {
+        let _ = rt.stderr().write_all(b"mp4_tool: out of memory\n");
+        return ExitCode::FAILURE;
+    };
+    match print(&rt, out.as_slice(), err.as_slice()) {
+        Ok(()) => ExitCode::from(status),
+        Err(_) => ExitCode::FAILURE,
+    }
+}
+
+#[cfg(test)]
+mod tests;

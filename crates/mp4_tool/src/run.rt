@@ -1,0 +1,103 @@
+//! A run of the program.
+
+use crate::faults::Fault;
+use crate::info::info_text;
+use crate::show::show_text;
+use mp4_media::Error;
+use std::alloc::Global;
+use std::fs;
+use std::io::{ErrorKind, Read};
+use std::rt::Files;
+
+/// The most reads that are made of one file or input.
+const READS: u64 = 4_294_967_296;
+
+/// The bytes that are asked for by one read.
+const READ_SIZE: usize = 8192;
+
+const STANDARD_INPUT: &str = "standard input";
+
+const USAGE: &str = "usage: mp4_tool make OUT | info FILE | samples FILE TRACK | show\n";
+
+const SUCCESS: u8 = 0;
+
+const FAULT: u8 = 1;
+
+const WRONG_ARGUMENTS: u8 = 2;
+
+/// All bytes of what has this name. It can't be read where a read of it fails, or where it hasn't ended after
+/// so many reads.
+fn read_all<'a, R: Read>(
+    alloc: Global,
+    source: &mut R,
+    name: &'a str,
+) -> Result<Vec<u8>, Fault<'a>> {
+    let mut bytes = Vec::new(alloc);
+    let mut part = [0u8; READ_SIZE];
+    for _ in 0..READS {
+        match source.read(&mut part) {
+            Ok(0) => return Ok(bytes),
+            Ok(n) => bytes.extend_from_slice(&part[..n]).map_err(Error::from)?,
+            Err(error) if error.kind() == ErrorKind::Interrupted => {}
+            Err(_) => break,
+        }
+    }
+    Err(Fault::CannotRead(name))
+}
+
+fn info<'a>(rt: &impl Files, alloc: Global, name: &'a str) -> Result<Vec<u8>, Fault<'a>> {
+    let Ok(mut file) = fs::open(rt, name) else {
+        return Err(Fault::CannotRead(name));
+    };
+    let bytes = read_all(alloc, &mut file, name)?;
+    Ok(info_text(alloc, bytes.as_slice())?)
+}
+
+fn show<R: Read>(alloc: Global, input: &mut R) -> Result<Vec<u8>, Fault<'static>> {
+    let script = read_all(alloc, input, STANDARD_INPUT)?;
+    Ok(show_text(alloc, script.as_slice())?)
+}
+
+/// Adds a text to `out`, or the line of a fault to `err`, and answers the status.
+fn report(
+    alloc: Global,
+    answer: Result<Vec<u8>, Fault>,
+    out: &mut Vec<u8>,
+    err: &mut Vec<u8>,
+) -> mp4_media::Result<u8> {
+    match answer {
+        Ok(text) => {
+            out.extend_from_slice(text.as_slice())?;
+            Ok(SUCCESS)
+        }
+        Err(fault) => {
+            let line = format!(in alloc; "mp4_tool: {fault}\n")?;
+            err.extend_from_slice(line.as_bytes())?;
+            Ok(FAULT)
+        }
+    }
+}
+
+/// A whole run with these words behind the program's name. The answer is the status: 0, 1 after a fault, or 2
+/// where the words are no command. What a run prints is added to `out` and to `err`.
+///
+/// Refused by `OutOfMemory` alone, where what is to be printed has no room.
+pub fn run<R: Read>(
+    rt: &impl Files,
+    alloc: Global,
+    words: &[String],
+    input: &mut R,
+    out: &mut Vec<u8>,
+    err: &mut Vec<u8>,
+) -> mp4_media::Result<u8> {
+    match words {
+        [command] if command.as_str() == "show" => report(alloc, show(alloc, input), out, err),
+        [command, file] if command.as_str() == "info" => {
+            report(alloc, info(rt, alloc, file.as_str()), out, err)
+        }
+        _ => {
+            err.extend_from_slice(USAGE.as_bytes())?;
+            Ok(WRONG_ARGUMENTS)
+        }
+    }
+}

@@ -1,0 +1,141 @@
+//! Whole runs of the program.
+
+use super::info::EMPTY_INFO;
+use super::readers::{FailsBehind, Slow};
+use super::scripts::EMPTY_MOVIE;
+use crate::run::run;
+use mp4_media::Result;
+use std::alloc::{AllocError, Global};
+use std::fs;
+use std::io::Read;
+use std::test::Fail;
+
+const USAGE: &str = "usage: mp4_tool make OUT | info FILE | samples FILE TRACK | show\n";
+
+/// What a run answered and printed.
+#[derive(Debug, Drop)]
+pub struct Printed {
+    pub status: u8,
+    pub out: Vec<u8>,
+    pub err: Vec<u8>,
+}
+
+impl Printed {
+    /// Whether it is this status with this text on both streams.
+    pub fn is(&self, status: u8, out: &str, err: &str) -> bool {
+        self.status == status
+            && self.out.as_slice() == out.as_bytes()
+            && self.err.as_slice() == err.as_bytes()
+    }
+}
+
+/// The words of a text, parted by spaces; none of an empty one.
+fn words_of(alloc: Global, text: &str) -> std::result::Result<Vec<String>, AllocError> {
+    let mut words = Vec::new(alloc);
+    if text.is_empty() {
+        return Ok(words);
+    }
+    for word in text.split(' ') {
+        words.push(String::from_str(alloc, word)?)?;
+    }
+    Ok(words)
+}
+
+/// A run with these words and this input.
+pub fn ran<R: Read>(rt: &HostRuntime, words: &str, input: &mut R) -> Result<Printed> {
+    let words = words_of(rt.alloc(), words)?;
+    let mut out = Vec::new(rt.alloc());
+    let mut err = Vec::new(rt.alloc());
+    let status = run(rt, rt.alloc(), words.as_slice(), input, &mut out, &mut err)?;
+    Ok(Printed { status, out, err })
+}
+
+#[test]
+fn wrong_arguments_are_told_the_usage(rt: HostRuntime) -> std::result::Result<(), Fail> {
+    let rows = [
+        "",
+        "show show",
+        "info",
+        "info a b",
+        "make",
+        "make a",
+        "samples",
+        "samples a",
+        "samples a 1",
+        "samples a x",
+        "Show",
+        "help",
+    ];
+    for words in rows {
+        let printed = ran(&rt, words, &mut b"x".as_slice())?;
+        assert!(rt; printed.is(2, "", USAGE), "of {words:?}: {printed:?}");
+    }
+    Ok(())
+}
+
+#[test]
+fn a_script_is_shown(rt: HostRuntime) -> std::result::Result<(), Fail> {
+    let printed = ran(&rt, "show", &mut b"".as_slice())?;
+    assert!(rt; printed.is(0, EMPTY_INFO, ""), "{printed:?}");
+    let printed = ran(&rt, "show", &mut b"\n\nx".as_slice())?;
+    assert!(rt;
+        printed.is(1, "", "mp4_tool: line 3: not a command\n"),
+        "{printed:?}"
+    );
+    Ok(())
+}
+
+#[test]
+fn an_input_may_be_slow_but_not_fail(rt: HostRuntime) -> std::result::Result<(), Fail> {
+    let mut slow = Slow {
+        text: b"\n\n\n",
+        interrupted: false,
+    };
+    let printed = ran(&rt, "show", &mut slow)?;
+    assert!(rt; printed.is(0, EMPTY_INFO, ""), "{printed:?}");
+    for bytes in [0, 3] {
+        let printed = ran(&rt, "show", &mut FailsBehind { bytes })?;
+        assert!(rt;
+            printed.is(1, "", "mp4_tool: cannot read standard input\n"),
+            "{printed:?}"
+        );
+    }
+    Ok(())
+}
+
+#[test]
+fn a_file_that_is_none_is_not_read(rt: HostRuntime) -> std::result::Result<(), Fail> {
+    let printed = ran(&rt, "info no_such_file.mp4", &mut b"".as_slice())?;
+    assert!(rt;
+        printed.is(1, "", "mp4_tool: cannot read no_such_file.mp4\n"),
+        "{printed:?}"
+    );
+    let printed = ran(&rt, "info /", &mut b"".as_slice())?;
+    assert!(rt;
+        printed.is(1, "", "mp4_tool: cannot read /\n"),
+        "{printed:?}"
+    );
+    Ok(())
+}
+
+#[test]
+fn a_file_is_told_of_or_refused(rt: HostRuntime) -> std::result::Result<(), Fail> {
+    let rows = [
+        (164, 0, EMPTY_INFO, ""),
+        (163, 1, "", "mp4_tool: end of data\n"),
+        (100, 1, "", "mp4_tool: invalid data\n"),
+        (48, 1, "", "mp4_tool: moov not found\n"),
+        (33, 1, "", "mp4_tool: end of data\n"),
+        (0, 1, "", "mp4_tool: ftyp not found\n"),
+    ];
+    for (length, status, out, err) in rows {
+        fs::write(&rt, "empty_movie.mp4", &EMPTY_MOVIE[..length])?;
+        let printed = ran(&rt, "info empty_movie.mp4", &mut b"".as_slice())?;
+        fs::remove_file(&rt, "empty_movie.mp4")?;
+        assert!(rt;
+            printed.is(status, out, err),
+            "of {length} bytes: {printed:?}"
+        );
+    }
+    Ok(())
+}
