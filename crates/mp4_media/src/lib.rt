@@ -22,6 +22,8 @@ pub use mp4_leaf::{
 pub use mp4_table::{
     Co64Box, CttsBox, CttsEntry, StcoBox, StscBox, StscEntry, StssBox, StszBox, SttsBox, SttsEntry,
 };
+pub use reader::{Mp4Reader, read_mp4};
+pub use writer::Mp4Writer;
 
 #[cfg(test)]
 mod tests;
