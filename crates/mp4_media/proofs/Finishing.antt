@@ -86,7 +86,7 @@ next-moov : (size : ℕ) (payload box bytes : List ℕ) (place : ℕ) (m : MoovB
 unfolding file_box_at
 next-moov size payload box bytes place m frames r fits e = next-box size moov payload box bytes place frames r fits (Moov m) (rw (looked-at size moov payload box bytes place frames r fits moov_of m e) refl)
 
-next-none : (size : ℕ) (place : Cursor) → size ≤ place.position → next_box_at size place ≡ Ok (None, place)
+pub next-none : (size : ℕ) (place : Cursor) → size ≤ place.position → next_box_at size place ≡ Ok (None, place)
 unfolding next_box_at
 next-none size place h = rw (over size place.position h) refl
   where

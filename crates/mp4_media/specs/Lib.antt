@@ -1,6 +1,8 @@
 pub mod Mdat
 pub mod Opening
 pub mod OpeningLaws
+pub mod FileGrammar
+pub mod Samples
 pub mod Writing
 pub mod WriterFields
 pub mod WritingLaws

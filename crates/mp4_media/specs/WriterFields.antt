@@ -1,5 +1,5 @@
 -- A writer's fields, and what they say it holds.
-use Rattle.std.specs.Prelude.{◌≡◌, ◌+◌, ◌≤◌, ◌<◌, ◌^◌, ℕ, List, length, take, Bool}
+use Rattle.std.specs.Prelude.{◌≡◌, ◌+◌, ◌≤◌, ◌<◌, ◌^◌, ℕ, List, [], length, take, Bool}
 use Rattle.mp4_leaf.specs.declared.ftyp.FtypBox.{FtypBox}
 use Rattle.mp4_leaf.specs.Ftyp.{ftyp_payload, IsCanonicalFtyp}
 use Rattle.mp4_media.specs.declared.config.Mp4Config.{Mp4Config}
@@ -10,7 +10,7 @@ abbrev pub config_of : FtypBox → ℕ → Mp4Config
 config_of f timescale = record { major_brand = f.major_brand; minor_version = f.minor_version; compatible_brands = f.compatible_brands; timescale = timescale }
 
 abbrev pub state_of : ℕ → FtypBox → ℕ → List ℕ → Bool → WriterState
-state_of front f timescale buffer over = record { front = take front buffer; config = config_of f timescale; ended = over }
+state_of front f timescale buffer over = record { front = take front buffer; config = config_of f timescale; tracks = []; chunks = []; ended = over }
 
 -- the fields agree with one another, and hold what is written in full
 pub record IsWriting (front mdat : ℕ) (f : FtypBox) (timescale : ℕ) (buffer : List ℕ) (over : Bool) : Type 0 where

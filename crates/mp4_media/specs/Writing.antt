@@ -1,5 +1,6 @@
 -- What a writer holds, what each call makes of it, and why a call is refused.
 use Rattle.std.specs.Prelude.{ℕ, ◌+◌, ◌-◌, ◌^◌, List, [], ◌++◌, length, Bool, true, false, Option, Some, None, nat_lt, if◌then◌else◌}
+use Rattle.std.specs.List.{flat_map}
 use Rattle.mp4_codec.specs.declared.box_type.BoxType.TheVariants.{FtypBox as ftyp, MoovBox as moov}
 use Rattle.mp4_codec.specs.declared.error.Limit.TheVariants.{BoxSize}
 use Rattle.mp4_codec.specs.Cause.{Cause, ended, too_large}
@@ -11,12 +12,17 @@ use Rattle.mp4_boxes.specs.declared.moov.MoovBox.{MoovBox}
 use Rattle.mp4_boxes.specs.Moov.{moov_payload}
 use Rattle.mp4_media.specs.declared.config.Mp4Config.{Mp4Config}
 use Rattle.mp4_media.specs.Mdat.{mdat_header_of}
+use Rattle.mp4_media.specs.Samples.{TrackState, Chunk, chunk_bytes, last_chunks, none_pending}
 
 -- what a writer holds
 pub record WriterState : Type 0 where
   -- the buffer that was handed in
   pub front : List ℕ
   pub config : Mp4Config
+  -- the tracks in the order in which they were added: the first has id 1
+  pub tracks : List TrackState
+  -- the chunks in the order in which they stand in mdat
+  pub chunks : List Chunk
   pub ended : Bool
 
 -- the file type that a movie is begun with
@@ -35,9 +41,9 @@ movie_of st = movie_with st.config.timescale
 unfoldable pub before_data : WriterState → List ℕ
 before_data st = st.front ++ frame ftyp (ftyp_payload (file_type_of st.config))
 
--- the data behind the header of mdat
+-- the data behind the header of mdat: the chunks, one after the other
 abbrev pub data_of : WriterState → List ℕ
-data_of st = []
+data_of st = flat_map chunk_bytes st.chunks
 
 -- The bytes of a writer. While it writes, mdat has room for its header, which says that nothing is in it; at the end the
 -- header says how many bytes mdat has, and the movie follows.
@@ -49,11 +55,11 @@ whole_of st =
 
 -- a writer that was begun behind these bytes
 abbrev pub started : List ℕ → Mp4Config → WriterState
-started front config = record { front = front; config = config; ended = false }
+started front config = record { front = front; config = config; tracks = []; chunks = []; ended = false }
 
--- a writer whose end was written
+-- a writer whose end was written: what was pending stands in chunks behind the others
 abbrev pub with_end : WriterState → WriterState
-with_end st = record st { ended = true }
+with_end st = record st { tracks = none_pending st.tracks; chunks = st.chunks ++ last_chunks 1 st.tracks; ended = true }
 
 -- a writer is not begun where its file type is too large
 abbrev pub start_cause : Mp4Config → Option Cause

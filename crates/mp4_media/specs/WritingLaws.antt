@@ -117,7 +117,7 @@ module _ (front mdat : ℕ) (f : FtypBox) (timescale : ℕ) (buffer : List ℕ) 
         ∙ ap (take front) (sym whole_now)
 
     pub state_then : state_of front f timescale new true ≡ with_end (state_of front f timescale buffer false)
-    state_then = ap (λ (xs : List ℕ). record { front = xs; config = config_of f timescale; ended = true }) front_then
+    state_then = ap (λ (xs : List ℕ). record { front = xs; config = config_of f timescale; tracks = []; chunks = []; ended = true }) front_then
 
     before_then : before_data (state_of front f timescale new true) ≡ before_data now
     unfolding before_data now

@@ -2,12 +2,14 @@
 #![tactic(auto)]
 
 mod config;
+mod laws;
 mod mdat;
 mod opening;
 mod reader;
 mod writer;
 
 pub use config::Mp4Config;
+pub use laws::file_opens_by_its_boxes;
 pub use mdat::mdat_header;
 pub use mp4_boxes::MoovBox;
 pub use mp4_codec::{

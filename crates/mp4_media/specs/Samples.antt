@@ -1,0 +1,39 @@
+-- Samples as a track takes them, and the chunks in which they stand (ISO/IEC 14496-12, 8.6.1, 8.6.2 and 8.7.4).
+use Rattle.std.specs.Prelude.{ℕ, ℤ, Bool, List, [], ◌∷◌, ◌++◌, ◌+◌}
+use Rattle.std.specs.List.{flat_map}
+
+-- a sample: its bytes, its duration in ticks of its track, how many ticks later than it is decoded it is shown, and whether it
+-- is a sync sample; when it is decoded follows from the durations before it
+pub record Sample : Type 0 where
+  pub bytes : List ℕ
+  pub duration : ℕ
+  pub rendering_offset : ℤ
+  pub is_sync : Bool
+
+-- a track that is written: its samples that no chunk has yet
+pub record TrackState : Type 0 where
+  pub pending : List Sample
+
+-- a chunk: the id of its track, which counts from 1, and its samples
+pub record Chunk : Type 0 where
+  pub track_id : ℕ
+  pub samples : List Sample
+
+-- the bytes of a chunk's samples, one after the other
+abbrev pub chunk_bytes : Chunk → List ℕ
+chunk_bytes c = flat_map (λ (s : Sample). s.bytes) c.samples
+
+-- these samples as a chunk, where there are any
+abbrev pub chunk_of : ℕ → List Sample → List Chunk
+chunk_of id [] = []
+chunk_of id (s ∷ ss) = record { track_id = id; samples = s ∷ ss } ∷ []
+
+-- what is pending of each track as a chunk of its own, in the order of the tracks, of which the first has this id
+abbrev pub last_chunks : ℕ → List TrackState → List Chunk
+last_chunks id [] = []
+last_chunks id (t ∷ ts) = chunk_of id t.pending ++ last_chunks (id + 1) ts
+
+-- the tracks, with nothing pending
+abbrev pub none_pending : List TrackState → List TrackState
+none_pending [] = []
+none_pending (t ∷ ts) = record t { pending = [] } ∷ none_pending ts
