@@ -3,6 +3,8 @@ pub mod MatrixLaws
 pub mod Language
 pub mod LanguageLaws
 pub mod Location
+pub mod Times
+pub mod TimesLaws
 pub mod Ftyp
 pub mod FtypLaws
 pub mod Mvhd

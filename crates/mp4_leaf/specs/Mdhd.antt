@@ -1,8 +1,9 @@
 -- The media header (ISO/IEC 14496-12, 8.4.2).
 use Rattle.std.specs.Prelude.{ℕ, ◌^◌, ◌<◌, List, [], ◌∷◌, Option, Result, Ok, IsTrue}
 use Rattle.mp4_codec.specs.Cause.{Cause, ◌>>=◌, ◌or◌}
-use Rattle.mp4_codec.specs.Bytes.{number_at, bytes_at, versioned_at, number, zeros, versioned, ◌⧺◌, version_refusal, value_refusal}
+use Rattle.mp4_codec.specs.Bytes.{number_at, bytes_at, versioned_at, number, zeros, versioned, ◌⧺◌}
 use Rattle.mp4_codec.specs.FieldLaws.{FitsVersion}
+use Rattle.mp4_leaf.specs.Times.{times_refusal}
 use Rattle.mp4_leaf.specs.declared.mdhd.MdhdBox.{MdhdBox}
 use Rattle.mp4_leaf.specs.Language.{unpacked, packed, is_language, language_refusal}
 
@@ -41,12 +42,7 @@ mdhd_payload b =
 
 -- why a media header is not written: its version, then the first number that its version has no room for, then its language
 unfoldable pub mdhd_refusal : MdhdBox → Option Cause
-mdhd_refusal b =
-    version_refusal b.version
-    or value_refusal b.version b.creation_time
-    or value_refusal b.version b.modification_time
-    or value_refusal b.version b.duration
-    or language_refusal b.language
+mdhd_refusal b = times_refusal b.version b.creation_time b.modification_time b.duration or language_refusal b.language
 
 -- a media header that is read again as it is: each number fits its field, and the language is one
 pub record IsCanonicalMdhd (b : MdhdBox) : Type 0 where

@@ -1,10 +1,10 @@
 -- A media header is read as it was written.
 use Rattle.std.proofs.Common.{◌≡◌, ◌+◌, Bool, true, false, cond, eqb, length, None, Ok, refl, arith}
-use Rattle.std.proofs.lemmas.Bool.{le-ltb}
-use Rattle.mp4_codec.specs.FieldLaws.{number_again, versioned_again, value_refusal-none, length-number, length-zeros, length-versioned, length-then, zeros_last}
+use Rattle.mp4_codec.specs.FieldLaws.{number_again, versioned_again, length-number, length-zeros, length-versioned, length-then, zeros_last}
 use Rattle.mp4_leaf.specs.declared.mdhd.MdhdBox.{MdhdBox}
 use Rattle.mp4_leaf.specs.LanguageLaws.{unpacked-packed, packed-small, language_refusal-none}
 use Rattle.mp4_leaf.specs.Language.{packed}
+use Rattle.mp4_leaf.specs.TimesLaws.{times_refusal-none}
 use Rattle.mp4_leaf.specs.Mdhd.{mdhd_of, mdhd_payload, mdhd_refusal, IsCanonicalMdhd}
 
 by_version : (b : Bool) → 1 + (3 + (cond b 8 4 + (cond b 8 4 + (4 + (cond b 8 4 + (2 + 2)))))) ≡ cond b 36 24
@@ -17,14 +17,7 @@ length-mdhd_payload b = simp (length-then, length-number, length-zeros, length-v
 
 refused : (b : MdhdBox) → IsCanonicalMdhd b → mdhd_refusal b ≡ None
 unfolding mdhd_refusal
-refused b f =
-    let small = le-ltb 1 b.version (omega (arith, f.version)) in
-    rw (
-      small,
-      value_refusal-none b.version b.creation_time f.creation_time,
-      value_refusal-none b.version b.modification_time f.modification_time,
-      value_refusal-none b.version b.duration f.duration,
-    ) (language_refusal-none b.language f.language)
+refused b f = rw (times_refusal-none b.version b.creation_time b.modification_time b.duration f.version f.creation_time f.modification_time f.duration) (language_refusal-none b.language f.language)
 
 pub mdhd_again : (b : MdhdBox) → IsCanonicalMdhd b → (mdhd_refusal b ≡ None) × (mdhd_of (mdhd_payload b) ≡ Ok b)
 unfolding mdhd_of mdhd_payload

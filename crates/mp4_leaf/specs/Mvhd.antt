@@ -1,8 +1,9 @@
 -- The movie header (ISO/IEC 14496-12, 8.2.2).
 use Rattle.std.specs.Prelude.{ℕ, ◌^◌, ◌<◌, List, Option, Result, Ok}
-use Rattle.mp4_codec.specs.Cause.{Cause, ◌>>=◌, ◌or◌}
-use Rattle.mp4_codec.specs.Bytes.{number_at, bytes_at, versioned_at, number, zeros, versioned, ◌⧺◌, version_refusal, value_refusal}
+use Rattle.mp4_codec.specs.Cause.{Cause, ◌>>=◌}
+use Rattle.mp4_codec.specs.Bytes.{number_at, bytes_at, versioned_at, number, zeros, versioned, ◌⧺◌}
 use Rattle.mp4_codec.specs.FieldLaws.{FitsVersion}
+use Rattle.mp4_leaf.specs.Times.{times_refusal}
 use Rattle.mp4_leaf.specs.declared.mvhd.MvhdBox.{MvhdBox}
 use Rattle.mp4_leaf.specs.Matrix.{matrix_at, matrix, FitsMatrix, unity}
 
@@ -52,11 +53,7 @@ mvhd_payload b =
 
 -- why a movie header is not written: its version, then the first number that its version has no room for
 unfoldable pub mvhd_refusal : MvhdBox → Option Cause
-mvhd_refusal b =
-    version_refusal b.version
-    or value_refusal b.version b.creation_time
-    or value_refusal b.version b.modification_time
-    or value_refusal b.version b.duration
+mvhd_refusal b = times_refusal b.version b.creation_time b.modification_time b.duration
 
 -- a movie header that is read again as it is: each number fits its field
 pub record IsCanonicalMvhd (b : MvhdBox) : Type 0 where

@@ -1,9 +1,9 @@
 -- A movie header is read as it was written.
 use Rattle.std.proofs.Common.{◌≡◌, ◌+◌, Bool, true, false, cond, eqb, length, None, Ok, refl, arith}
-use Rattle.std.proofs.lemmas.Bool.{le-ltb}
-use Rattle.mp4_codec.specs.FieldLaws.{number_again, number_last, zeros_again, versioned_again, value_refusal-none, length-number, length-zeros, length-versioned, length-then}
+use Rattle.mp4_codec.specs.FieldLaws.{number_again, number_last, zeros_again, versioned_again, length-number, length-zeros, length-versioned, length-then}
 use Rattle.mp4_leaf.specs.declared.mvhd.MvhdBox.{MvhdBox}
 use Rattle.mp4_leaf.specs.MatrixLaws.{matrix_again, length-matrix}
+use Rattle.mp4_leaf.specs.TimesLaws.{times_refusal-none}
 use Rattle.mp4_leaf.specs.Mvhd.{mvhd_of, mvhd_payload, mvhd_refusal, IsCanonicalMvhd}
 
 by_version : (b : Bool) → 1 + (3 + (cond b 8 4 + (cond b 8 4 + (4 + (cond b 8 4 + (4 + (2 + (10 + (36 + (24 + 4)))))))))) ≡ cond b 112 100
@@ -16,9 +16,7 @@ length-mvhd_payload b = simp (length-then, length-number, length-zeros, length-v
 
 refused : (b : MvhdBox) → IsCanonicalMvhd b → mvhd_refusal b ≡ None
 unfolding mvhd_refusal
-refused b f =
-    let small = le-ltb 1 b.version (omega (arith, f.version)) in
-    rw (small, value_refusal-none b.version b.creation_time f.creation_time, value_refusal-none b.version b.modification_time f.modification_time) (value_refusal-none b.version b.duration f.duration)
+refused b f = times_refusal-none b.version b.creation_time b.modification_time b.duration f.version f.creation_time f.modification_time f.duration
 
 pub mvhd_again : (b : MvhdBox) → IsCanonicalMvhd b → (mvhd_refusal b ≡ None) × (mvhd_of (mvhd_payload b) ≡ Ok b)
 unfolding mvhd_of mvhd_payload

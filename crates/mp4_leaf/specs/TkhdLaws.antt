@@ -1,9 +1,9 @@
 -- A track header is read as it was written.
 use Rattle.std.proofs.Common.{◌≡◌, ◌+◌, Bool, true, false, cond, eqb, length, None, Ok, refl, arith}
-use Rattle.std.proofs.lemmas.Bool.{le-ltb}
-use Rattle.mp4_codec.specs.FieldLaws.{number_again, number_last, zeros_again, versioned_again, value_refusal-none, length-number, length-zeros, length-versioned, length-then}
+use Rattle.mp4_codec.specs.FieldLaws.{number_again, number_last, zeros_again, versioned_again, length-number, length-zeros, length-versioned, length-then}
 use Rattle.mp4_leaf.specs.declared.tkhd.TkhdBox.{TkhdBox}
 use Rattle.mp4_leaf.specs.MatrixLaws.{matrix_again, length-matrix}
+use Rattle.mp4_leaf.specs.TimesLaws.{times_refusal-none}
 use Rattle.mp4_leaf.specs.Tkhd.{tkhd_of, tkhd_payload, tkhd_refusal, IsCanonicalTkhd}
 
 by_version : (b : Bool) → 1 + (3 + (cond b 8 4 + (cond b 8 4 + (4 + (4 + (cond b 8 4 + (8 + (2 + (2 + (2 + (2 + (36 + (4 + 4))))))))))))) ≡ cond b 96 84
@@ -16,9 +16,7 @@ length-tkhd_payload b = simp (length-then, length-number, length-zeros, length-v
 
 refused : (b : TkhdBox) → IsCanonicalTkhd b → tkhd_refusal b ≡ None
 unfolding tkhd_refusal
-refused b f =
-    let small = le-ltb 1 b.version (omega (arith, f.version)) in
-    rw (small, value_refusal-none b.version b.creation_time f.creation_time, value_refusal-none b.version b.modification_time f.modification_time) (value_refusal-none b.version b.duration f.duration)
+refused b f = times_refusal-none b.version b.creation_time b.modification_time b.duration f.version f.creation_time f.modification_time f.duration
 
 pub tkhd_again : (b : TkhdBox) → IsCanonicalTkhd b → (tkhd_refusal b ≡ None) × (tkhd_of (tkhd_payload b) ≡ Ok b)
 unfolding tkhd_of tkhd_payload

@@ -12,6 +12,7 @@ mod matrix;
 mod mdhd;
 mod mvhd;
 mod smhd;
+mod times;
 mod tkhd;
 mod vmhd;
 

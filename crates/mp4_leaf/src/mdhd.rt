@@ -1,9 +1,10 @@
 //! The media header.
 
 use crate::language::{check_language, pack_language, unpack_language};
+use crate::times::check_times;
 use mp4_codec::{
-    BoxType, Fields, Mp4Box, ReadBox, Result, Text, TryClone, WriteBox, check_value, check_version,
-    put_u8, put_u16, put_u24, put_u32, put_versioned, put_zeros,
+    BoxType, Fields, Mp4Box, ReadBox, Result, Text, TryClone, WriteBox, put_u8, put_u16, put_u24,
+    put_u32, put_versioned, put_zeros,
 };
 use std::alloc::Global;
 
@@ -138,10 +139,12 @@ impl WriteBox for MdhdBox {
     #[tactic(auto, unfolding(crate::specs::Mdhd::mdhd_refusal))]
     fn put_payload(&self, out: &mut Vec<u8>) -> Result<()> {
         let version = self.version;
-        check_version(version)?;
-        check_value(version, self.creation_time)?;
-        check_value(version, self.modification_time)?;
-        check_value(version, self.duration)?;
+        check_times(
+            version,
+            self.creation_time,
+            self.modification_time,
+            self.duration,
+        )?;
         check_language(&self.language)?;
         put_u8(out, version)?;
         put_u24(out, self.flags)?;

@@ -2,9 +2,10 @@
 
 use crate::fixed_point::{FixedPointU8, FixedPointU16};
 use crate::matrix::{Matrix, put_matrix, read_matrix};
+use crate::times::check_times;
 use mp4_codec::{
-    BoxType, Fields, Mp4Box, ReadBox, Result, TryClone, WriteBox, check_value, check_version,
-    put_u8, put_u16, put_u24, put_u32, put_versioned, put_zeros,
+    BoxType, Fields, Mp4Box, ReadBox, Result, TryClone, WriteBox, put_u8, put_u16, put_u24,
+    put_u32, put_versioned, put_zeros,
 };
 use std::alloc::Global;
 
@@ -173,10 +174,12 @@ impl WriteBox for TkhdBox {
     #[tactic(auto, unfolding(crate::specs::Tkhd::tkhd_refusal))]
     fn put_payload(&self, out: &mut Vec<u8>) -> Result<()> {
         let version = self.version;
-        check_version(version)?;
-        check_value(version, self.creation_time)?;
-        check_value(version, self.modification_time)?;
-        check_value(version, self.duration)?;
+        check_times(
+            version,
+            self.creation_time,
+            self.modification_time,
+            self.duration,
+        )?;
         put_u8(out, version)?;
         put_u24(out, self.flags)?;
         put_versioned(out, version, self.creation_time)?;

@@ -13,5 +13,5 @@ returns c = (
       then c.in_ok-put_versioned-3.ensures
       then number_piece 2 _ _ c.pack_language.ensures c.in_ok-put_u16.ensures
       then c.in_ok-put_zeros.ensures,
-  rw (c.in_ok-check_version.ensures, c.in_ok-check_value.ensures, c.in_ok-check_value-2.ensures, c.in_ok-check_value-3.ensures) c.in_ok-check_language.ensures,
+  rw c.in_ok-check_times.ensures c.in_ok-check_language.ensures,
 )

@@ -20,5 +20,5 @@ returns c = (
       then c.in_ok-put_matrix.ensures
       then c.in_ok-put_u32-2.ensures
       then c.in_ok-put_u32-3.ensures,
-  rw (c.in_ok-check_version.ensures, c.in_ok-check_value.ensures, c.in_ok-check_value-2.ensures) c.in_ok-check_value-3.ensures,
+  c.in_ok-check_times.ensures,
 )
