@@ -1,5 +1,5 @@
 -- What is written: sizes, refusals that can't come up, and that the finished file opens.
-use Rattle.std.proofs.Common.{◌≡◌, ℕ, ◌+◌, ◌-◌, ◌^◌, ◌≤◌, ◌<◌, min, Bool, true, false, cond, ltb, List, [], ◌++◌, length, take, drop, Some, None, refl, sym, ap, ◌∙◌, append_assoc, arith, lit<}
+use Rattle.std.proofs.Common.{◌≡◌, ℕ, ◌+◌, ◌-◌, ◌*◌, ◌^◌, ◌≤◌, ◌<◌, min, Bool, true, false, cond, ltb, List, [], ◌++◌, length, take, drop, Some, None, refl, sym, ap, ◌∙◌, append_assoc, arith, lit<}
 use Rattle.std.specs.List.{flat_map}
 use Rattle.std.proofs.lemmas.Bool.{lt-ltb, le-ltb}
 use Rattle.std.proofs.lemmas.List.{append-nil, length-append, take_at as take-exactly, drop_at as drop-exactly, take-append-le, length-take-le}
@@ -8,8 +8,9 @@ use Rattle.mp4_codec.specs.declared.error.Limit.TheVariants.{BoxSize}
 use Rattle.mp4_codec.specs.Cause.{too_large}
 use Rattle.mp4_codec.specs.BoxType.{code_of}
 use Rattle.mp4_codec.specs.Bytes.{four_cc, number, ◌⧺◌}
-use Rattle.mp4_codec.specs.FieldLaws.{length-number, length-then}
+use Rattle.mp4_codec.specs.FieldLaws.{length-number, length-four_cc, length-then}
 use Rattle.mp4_codec.specs.Boxes.{frame, size_around}
+use Rattle.mp4_codec.proofs.Lists.{length-flat_map-same}
 use Rattle.mp4_codec.specs.FramingLaws.{length-frame}
 use Rattle.mp4_leaf.specs.Matrix.{FitsMatrix, unity}
 use Rattle.mp4_leaf.specs.declared.ftyp.FtypBox.{FtypBox}
@@ -20,7 +21,7 @@ use Rattle.mp4_leaf.specs.MvhdLaws.{mvhd_again, length-mvhd_payload}
 use Rattle.mp4_boxes.specs.Moov.{moov_payload, moov_refusal, IsCanonicalMoov}
 use Rattle.mp4_media.specs.declared.config.Mp4Config.{Mp4Config}
 use Rattle.mp4_media.specs.Mdat.{mdat_header_of}
-use Rattle.mp4_media.specs.Writing.{WriterState, file_type_of, movie_with, movie_of, before_data, whole_of, with_end, start_cause}
+use Rattle.mp4_media.specs.Writing.{WriterState, file_type_of, movie_with, movie_of, before_data, whole_of, started, with_end, start_cause, end_cause}
 use Rattle.mp4_media.specs.WriterFields.{config_of, state_of, IsWriting}
 
 pub length-mdat_header_of : (n : ℕ) → length (mdat_header_of n) ≡ 16
@@ -66,6 +67,19 @@ start_cause-large config size e large = let past : 2 ^ 32 - 1 < size_around (fty
 
 pub start_cause-none : (config : Mp4Config) (size : ℕ) → size ≡ size_around (ftyp_payload (file_type_of config)) → size ≤ 2 ^ 32 - 1 → start_cause config ≡ None
 start_cause-none config size e small = let fits : size_around (ftyp_payload (file_type_of config)) ≤ 2 ^ 32 - 1 = omega arith in rw (le-ltb _ _ fits) refl
+
+-- a movie of no more than 16 million brands is begun
+pub start_cause-few : (config : Mp4Config) → length config.compatible_brands ≤ 2 ^ 24 → start_cause config ≡ None
+start_cause-few config few =
+    let brands : length (flat_map four_cc config.compatible_brands) ≡ length config.compatible_brands * 4 = length-flat_map-same four_cc 4 length-four_cc config.compatible_brands in
+    let fits : size_around (ftyp_payload (file_type_of config)) ≤ 2 ^ 32 - 1 = omega (arith, length-ftyp_payload (file_type_of config), brands, few) in
+    rw (le-ltb _ _ fits) refl
+
+-- a movie without tracks is ended
+pub end_cause-begun : (front : List ℕ) (config : Mp4Config) → end_cause (started front config) ≡ None
+end_cause-begun front config =
+    let fits : size_around (moov_payload (movie_of (started front config))) ≤ 2 ^ 32 - 1 = omega (arith, movie-length (started front config)) in
+    rw (le-ltb _ _ fits) refl
 
 pub movie-sound : (timescale : ℕ) → timescale < 2 ^ 32 → moov_refusal (movie_with timescale) ≡ None
 movie-sound timescale h = (mvhd_again (record default_mvhd { timescale = timescale }) (header-canonical timescale h)).0

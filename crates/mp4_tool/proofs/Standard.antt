@@ -1,37 +1,19 @@
 -- The movie of a script is small enough to be begun and to be ended.
-use Rattle.std.proofs.Common.{◌≡◌, inl, ℕ, ◌-◌, ◌^◌, ◌≤◌, List, [], length, None, Result, Ok, Err, refl, sym, ap, subst, ◌∙◌, arith}
+use Rattle.std.proofs.Common.{◌≡◌, inl, ℕ, List, [], None, Result, Ok, Err, refl, sym, ap, subst, ◌∙◌, arith}
 use Rattle.std.specs.Prelude.{Option, IfOk}
-use Rattle.std.specs.List.{flat_map}
-use Rattle.std.proofs.lemmas.Bool.{le-ltb}
-use Rattle.mp4_codec.specs.declared.box_type.BoxType.TheVariants.{MvhdBox as mvhd}
 use Rattle.mp4_codec.specs.declared.error.Error.{Error}
 use Rattle.mp4_codec.specs.declared.error.Error.TheVariants.{OutOfMemory}
-use Rattle.mp4_codec.specs.Bytes.{four_cc, number}
 use Rattle.mp4_codec.specs.Cause.{Cause, Answers, AnswersCause}
-use Rattle.mp4_codec.specs.Boxes.{size_around}
-use Rattle.mp4_codec.specs.FramingLaws.{length-frame}
-use Rattle.mp4_leaf.specs.Ftyp.{ftyp_payload}
-use Rattle.mp4_leaf.specs.FtypLaws.{length-ftyp_payload}
-use Rattle.mp4_leaf.specs.Mvhd.{mvhd_payload}
-use Rattle.mp4_leaf.specs.MvhdLaws.{length-mvhd_payload}
-use Rattle.mp4_boxes.specs.Moov.{moov_payload}
 use Rattle.mp4_media.specs.declared.config.Mp4Config.{Mp4Config}
-use Rattle.mp4_media.specs.Writing.{WriterState, started, start_cause, end_cause, file_type_of, movie_with}
+use Rattle.mp4_media.specs.Writing.{WriterState, started, start_cause, end_cause}
+use Rattle.mp4_media.specs.WritingLaws.{start_cause-few, end_cause-begun}
 use Rattle.mp4_tool.specs.Script.{standard_config}
 
 pub begins : start_cause standard_config ≡ None
-unfolding four_cc number
-begins =
-    let brands : length (flat_map four_cc standard_config.compatible_brands) ≡ 16 = refl in
-    let fits : size_around (ftyp_payload (file_type_of standard_config)) ≤ 2 ^ 32 - 1 = omega (arith, length-ftyp_payload (file_type_of standard_config), brands) in
-    rw (le-ltb _ _ fits) refl
+begins = start_cause-few standard_config (omega arith)
 
 pub ends : end_cause (started [] standard_config) ≡ None
-unfolding moov_payload
-ends =
-    let header = (movie_with standard_config.timescale).mvhd in
-    let fits : size_around (moov_payload (movie_with standard_config.timescale)) ≤ 2 ^ 32 - 1 = omega (arith, length-frame mvhd (mvhd_payload header), length-mvhd_payload header) in
-    rw (le-ltb _ _ fits) refl
+ends = end_cause-begun [] standard_config
 
 -- where there is no cause, a refusal is for want of memory
 pub of_memory : (X : Type 0) (cause : Option Cause) (e : Error) → cause ≡ None → AnswersCause {X = X} cause (Err e) → e ≡ OutOfMemory
