@@ -1,10 +1,10 @@
 -- The movie (ISO/IEC 14496-12, 8.2.1).
-use Rattle.std.specs.Prelude.{ℕ, ◌+◌, ◌^◌, ◌<◌, List, length, Option, Result, Ok}
+use Rattle.std.specs.Prelude.{ℕ, List, Option, Result, Ok}
 use Rattle.mp4_codec.specs.declared.box_type.BoxType.TheVariants.{MvhdBox as mvhd}
 use Rattle.mp4_codec.specs.Cause.{Cause, ◌>>=◌}
-use Rattle.mp4_codec.specs.Boxes.{frame}
+use Rattle.mp4_codec.specs.Boxes.{frame, IsCanonical}
 use Rattle.mp4_codec.specs.Children.{ChildBox, children, gathered, fault_in, last_of, with_last, needed}
-use Rattle.mp4_leaf.specs.Mvhd.{mvhd_of, mvhd_payload, mvhd_refusal, IsCanonicalMvhd, default_mvhd}
+use Rattle.mp4_leaf.specs.Mvhd.{mvhd_of, mvhd_payload, mvhd_refusal, IsInRangeMvhd, RemarksMvhd, default_mvhd}
 use Rattle.mp4_boxes.specs.declared.moov.MoovBox.{MoovBox}
 use Rattle.mp4_boxes.specs.declared.moov.MoovParts.{MoovParts}
 
@@ -37,10 +37,17 @@ moov_payload b = frame mvhd (mvhd_payload b.mvhd)
 abbrev pub moov_refusal : MoovBox → Option Cause
 moov_refusal b = mvhd_refusal b.mvhd
 
--- a movie that is read again as it is: each child is, and the box fits 32 bits
-pub record IsCanonicalMoov (b : MoovBox) : Type 0 where
-  pub mvhd : IsCanonicalMvhd b.mvhd
-  pub small : 8 + length (moov_payload b) < 2 ^ 32
+-- each number is within its type
+pub record IsInRangeMoov (b : MoovBox) : Type 0 where
+  pub mvhd : IsInRangeMvhd b.mvhd
+
+-- the remarks of its children
+pub record RemarksMoov (b : MoovBox) : Type 0 where
+  pub mvhd : RemarksMvhd b.mvhd
+
+-- a movie that is written and reads back equal
+abbrev pub IsCanonicalMoov : MoovBox → Type 0
+IsCanonicalMoov = IsCanonical IsInRangeMoov RemarksMoov moov_payload moov_refusal
 
 -- a movie of a default header
 abbrev pub default_moov : MoovBox

@@ -4,6 +4,3 @@
 mod moov;
 
 pub use moov::MoovBox;
-
-#[cfg(test)]
-mod tests;

@@ -1,8 +1,15 @@
 //! The movie.
 
+ghost use Rattle.std.specs.Prelude.{◌≡◌, Ok};
+ghost use Rattle.mp4_codec.specs.declared.box_type.BoxType.TheVariants.{MoovBox as moov};
+ghost use Rattle.mp4_codec.specs.Cause.{Gives};
+ghost use Rattle.mp4_codec.specs.Boxes.{size_around};
+ghost use Rattle.mp4_boxes.specs.Moov.{moov_payload, default_moov, moov_fault, moov_taken, moov_added, moov_of, moov_refusal, IsInRangeMoov, RemarksMoov};
+ghost use Rattle.mp4_boxes.specs.MoovLaws.{moov_adds, moov_again};
+
 use mp4_codec::{
-    BoxType, Child, Error, Gather, HEADER_SIZE, Mp4Box, ReadBox, Result, TryClone, WriteBox,
-    gather_children,
+    BoxType, Child, Error, Gather, HEADER_SIZE, InRange, Mp4Box, Put, ReadBox, Result, TryClone,
+    WriteBox, gather_children,
 };
 use mp4_leaf::MvhdBox;
 use std::alloc::Global;
@@ -19,15 +26,9 @@ pub struct MoovBox {
 }
 
 impl MoovBox {
-    ghost use Rattle.std.specs.Prelude.{◌≡◌, Ok};
-    ghost use Rattle.mp4_codec.specs.declared.box_type.BoxType.TheVariants.{MoovBox as moov};
-    ghost use Rattle.mp4_codec.specs.Cause.{Answers};
-    ghost use Rattle.mp4_codec.specs.Boxes.{size_around};
-    ghost use Rattle.mp4_boxes.specs.Moov.{moov_payload, default_moov};
-
     /// A movie of a default header.
     pub fn default(_alloc: Global) -> Result<Self>
-        ensures { Answers (λ b. b) result (Ok default_moov) }
+        ensures { Gives (λ b. b) result (Ok default_moov) }
     {
         Ok(MoovBox {
             mvhd: MvhdBox::default(),
@@ -41,7 +42,7 @@ impl MoovBox {
         BoxType::MoovBox
     }
 
-    /// The bytes of the box, its header and all; they stop at 2^64 - 1.
+    /// The bytes of the box, its header included; they stop at 2^64 - 1.
     #[tactic(auto, using(crate::proofs::Sizes::sizes), unfolding(crate::specs::Moov::moov_payload))]
     pub fn get_size(&self) -> u64
         ensures { result ≡ size_around (moov_payload self.now) }
@@ -65,9 +66,6 @@ struct MoovParts {
 }
 
 impl Gather for MoovParts {
-    ghost use Rattle.mp4_boxes.specs.Moov.{moov_fault, moov_taken, moov_added};
-    ghost use Rattle.mp4_boxes.specs.MoovLaws.{moov_adds};
-
     ghost fault = { moov_fault };
 
     ghost taken = { moov_taken };
@@ -93,10 +91,15 @@ impl Gather for MoovParts {
     }
 }
 
-impl Mp4Box for MoovBox {
-    ghost use Rattle.mp4_codec.specs.declared.box_type.BoxType.TheVariants.{MoovBox as moov};
-    ghost use Rattle.mp4_boxes.specs.Moov.{moov_payload};
+impl InRange for MoovBox {
+    ghost IsInRange = { IsInRangeMoov };
 
+    fn in_range(&self) {
+        self.mvhd.in_range();
+    }
+}
+
+impl Mp4Box for MoovBox {
     ghost KIND = { moov };
 
     const KIND: BoxType = BoxType::MoovBox;
@@ -109,8 +112,6 @@ impl Mp4Box for MoovBox {
 }
 
 impl ReadBox for MoovBox {
-    ghost use Rattle.mp4_boxes.specs.Moov.{moov_of};
-
     ghost value = { moov_of };
 
     #[tactic(auto, unfolding(crate::specs::Moov::moov_of))]
@@ -124,17 +125,19 @@ impl ReadBox for MoovBox {
 }
 
 impl WriteBox for MoovBox {
-    ghost use Rattle.mp4_boxes.specs.Moov.{moov_refusal, IsCanonicalMoov};
-    ghost use Rattle.mp4_boxes.specs.MoovLaws.{moov_again};
-
     ghost refusal = { moov_refusal };
 
-    ghost IsCanonical = { IsCanonicalMoov };
+    ghost Remarks = { RemarksMoov };
 
     ghost reads_back = { moov_again };
 
+    fn check(&self) -> Result<()> {
+        self.mvhd.check()?;
+        Ok(())
+    }
+
     #[tactic(auto, using(crate::proofs::Sizes::sizes), unfolding(crate::specs::Moov::moov_payload))]
-    fn put_payload(&self, out: &mut Vec<u8>) -> Result<()> {
+    fn put_payload(&self, out: &mut Vec<u8>) -> Put {
         self.mvhd.put_box(out)?;
         Ok(())
     }

@@ -1,10 +1,6 @@
-pub mod BoxTypeLaws
-pub mod BoxLaws
 pub mod Loop
-pub mod Lists
 pub mod Gathering
 pub mod Framed
 pub mod Frames
 pub mod Keyed
 pub mod Numbers
-pub mod Heads

@@ -1,7 +1,18 @@
 -- The codes of the types of boxes.
 use Rattle.std.specs.Prelude.{◌≡◌, ℕ, List, [], ◌∷◌, ◌==◌, if◌then◌else◌}
 use Rattle.mp4_codec.specs.declared.box_type.BoxType.{BoxType}
-use Rattle.mp4_codec.specs.declared.box_type.BoxType.TheVariants.{FtypBox, MvhdBox, MfhdBox, FreeBox, MdatBox, MoovBox, MvexBox, MehdBox, TrexBox, EmsgBox, MoofBox, TkhdBox, TfhdBox, TfdtBox, EdtsBox, MdiaBox, ElstBox, MdhdBox, HdlrBox, MinfBox, VmhdBox, StblBox, StsdBox, SttsBox, CttsBox, StssBox, StscBox, StszBox, StcoBox, Co64Box, TrakBox, TrafBox, TrunBox, UdtaBox, MetaBox, DinfBox, DrefBox, SmhdBox, Avc1Box, Hev1Box, Mp4aBox, EsdsBox, Tx3gBox, Vp09Box, DataBox, IlstBox, CovrBox, DescBox, WideBox, WaveBox, UrlBox, AvcCBox, HvcCBox, VpccBox, NameBox, DayBox, UnknownBox}
+use Rattle.mp4_codec.specs.declared.box_type.BoxType.TheVariants.{FtypBox, MvhdBox, MfhdBox, FreeBox, MdatBox}
+use Rattle.mp4_codec.specs.declared.box_type.BoxType.TheVariants.{MoovBox, MvexBox, MehdBox, TrexBox, EmsgBox}
+use Rattle.mp4_codec.specs.declared.box_type.BoxType.TheVariants.{MoofBox, TkhdBox, TfhdBox, TfdtBox, EdtsBox}
+use Rattle.mp4_codec.specs.declared.box_type.BoxType.TheVariants.{MdiaBox, ElstBox, MdhdBox, HdlrBox, MinfBox}
+use Rattle.mp4_codec.specs.declared.box_type.BoxType.TheVariants.{VmhdBox, StblBox, StsdBox, SttsBox, CttsBox}
+use Rattle.mp4_codec.specs.declared.box_type.BoxType.TheVariants.{StssBox, StscBox, StszBox, StcoBox, Co64Box}
+use Rattle.mp4_codec.specs.declared.box_type.BoxType.TheVariants.{TrakBox, TrafBox, TrunBox, UdtaBox, MetaBox}
+use Rattle.mp4_codec.specs.declared.box_type.BoxType.TheVariants.{DinfBox, DrefBox, SmhdBox, Avc1Box, Hev1Box}
+use Rattle.mp4_codec.specs.declared.box_type.BoxType.TheVariants.{Mp4aBox, EsdsBox, Tx3gBox, Vp09Box, DataBox}
+use Rattle.mp4_codec.specs.declared.box_type.BoxType.TheVariants.{IlstBox, CovrBox, DescBox, WideBox, WaveBox, UrlBox}
+use Rattle.mp4_codec.specs.declared.box_type.BoxType.TheVariants.{AvcCBox, HvcCBox, VpccBox, NameBox, DayBox}
+use Rattle.mp4_codec.specs.declared.box_type.BoxType.TheVariants.{UnknownBox}
 
 -- the four bytes of a type, as a number
 abbrev pub code_of : BoxType → ℕ
@@ -65,7 +76,12 @@ code_of (UnknownBox code) = code
 
 -- the types that have a name
 abbrev pub named : List BoxType
-named = FtypBox ∷ MvhdBox ∷ MfhdBox ∷ FreeBox ∷ MdatBox ∷ MoovBox ∷ MvexBox ∷ MehdBox ∷ TrexBox ∷ EmsgBox ∷ MoofBox ∷ TkhdBox ∷ TfhdBox ∷ TfdtBox ∷ EdtsBox ∷ MdiaBox ∷ ElstBox ∷ MdhdBox ∷ HdlrBox ∷ MinfBox ∷ VmhdBox ∷ StblBox ∷ StsdBox ∷ SttsBox ∷ CttsBox ∷ StssBox ∷ StscBox ∷ StszBox ∷ StcoBox ∷ Co64Box ∷ TrakBox ∷ TrafBox ∷ TrunBox ∷ UdtaBox ∷ MetaBox ∷ DinfBox ∷ DrefBox ∷ SmhdBox ∷ Avc1Box ∷ Hev1Box ∷ Mp4aBox ∷ EsdsBox ∷ Tx3gBox ∷ Vp09Box ∷ DataBox ∷ IlstBox ∷ CovrBox ∷ DescBox ∷ WideBox ∷ WaveBox ∷ UrlBox ∷ AvcCBox ∷ HvcCBox ∷ VpccBox ∷ NameBox ∷ DayBox ∷ []
+named = FtypBox ∷ MvhdBox ∷ MfhdBox ∷ FreeBox ∷ MdatBox ∷ MoovBox ∷ MvexBox ∷ MehdBox ∷ TrexBox ∷ EmsgBox ∷ MoofBox
+    ∷ TkhdBox ∷ TfhdBox ∷ TfdtBox ∷ EdtsBox ∷ MdiaBox ∷ ElstBox ∷ MdhdBox ∷ HdlrBox ∷ MinfBox ∷ VmhdBox ∷ StblBox
+    ∷ StsdBox ∷ SttsBox ∷ CttsBox ∷ StssBox ∷ StscBox ∷ StszBox ∷ StcoBox ∷ Co64Box ∷ TrakBox ∷ TrafBox ∷ TrunBox
+    ∷ UdtaBox ∷ MetaBox ∷ DinfBox ∷ DrefBox ∷ SmhdBox ∷ Avc1Box ∷ Hev1Box ∷ Mp4aBox ∷ EsdsBox ∷ Tx3gBox ∷ Vp09Box
+    ∷ DataBox ∷ IlstBox ∷ CovrBox ∷ DescBox ∷ WideBox ∷ WaveBox ∷ UrlBox ∷ AvcCBox ∷ HvcCBox ∷ VpccBox ∷ NameBox
+    ∷ DayBox ∷ []
 
 -- the first of the types with this code, or the unknown one
 abbrev pub among : List BoxType → ℕ → BoxType

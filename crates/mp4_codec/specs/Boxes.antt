@@ -1,15 +1,15 @@
 -- What a box's bytes are, and what it means to read and to write one.
-use Rattle.std.specs.Prelude.{◌≡◌, ◌⊎◌, [], ◌∷◌, ℕ, ◌+◌, ◌-◌, ◌^◌, ◌++◌, List, length, min, Option, Some, None, Result, Ok, Err, IsOkAnd, nat_lt, ◌==◌, if◌then◌else◌}
+use Rattle.std.specs.Prelude.{◌≡◌, [], ◌∷◌, ℕ, ◌+◌, ◌-◌, ◌^◌, ◌++◌, List, length, min, Option, Some, None}
+use Rattle.std.specs.Prelude.{Result, Ok, Err, nat_lt, ◌==◌, if◌then◌else◌}
 use Rattle.std.specs.List.{flat_map}
 use Rattle.mp4_codec.specs.declared.box_type.BoxType.{BoxType}
 use Rattle.mp4_codec.specs.declared.header.BoxHeader.{BoxHeader}
 use Rattle.mp4_codec.specs.declared.error.Error.{Error}
-use Rattle.mp4_codec.specs.declared.error.Error.TheVariants.{OutOfMemory}
 use Rattle.mp4_codec.specs.declared.error.Limit.TheVariants.{BoxSize}
 use Rattle.mp4_codec.specs.BoxType.{code_of}
-use Rattle.mp4_codec.specs.Cause.{Cause, cause_of, invalid_data, too_large, ◌>>=◌, ◌or◌}
+use Rattle.mp4_codec.specs.Cause.{Cause, invalid_data, too_large, ◌>>=◌, ◌or◌}
 use Rattle.mp4_codec.specs.Cursor.{Cursor, take_at}
-use Rattle.mp4_codec.specs.Bytes.{number, ◌⧺◌, Appends}
+use Rattle.mp4_codec.specs.Bytes.{number, ◌⧺◌}
 
 -- the length of the box around a payload; it stops at 2^64 - 1
 abbrev pub size_around : List ℕ → ℕ
@@ -30,36 +30,42 @@ box_at value size cursor = do
   x ← value part.0
   Ok (x, part.1)
 
--- the bytes of a box, or why it is not written
-abbrev pub written : BoxType → List ℕ → Option Cause → Result (List ℕ) Cause
-written name payload refusal = if nat_lt (2 ^ 32 - 1) (size_around payload) then Err (too_large BoxSize) else written_unless refusal (frame name payload)
-  where
-    written_unless : Option Cause → List ℕ → Result (List ℕ) Cause
-    written_unless None bytes = Ok bytes
-    written_unless (Some c) bytes = Err c
+-- a box that passes 32 bits is not written
+abbrev pub size_cause : List ℕ → Option Cause
+size_cause payload = if nat_lt (2 ^ 32 - 1) (size_around payload) then Some (too_large BoxSize) else None
 
--- the size in a header that is written: 0 for an open end, or at least 8, within 32 bits
-abbrev pub size_spelling : ℕ → Result ℕ Cause
-size_spelling size =
-    if size == 0 then Ok 0 else
-    if nat_lt size 8 then Err invalid_data else
-    if nat_lt (2 ^ 32 - 1) size then Err (too_large BoxSize) else
-    Ok size
+-- why the box around a payload is not written: its size, and then what refuses its value
+abbrev pub write_cause : List ℕ → Option Cause → Option Cause
+write_cause payload refusal = size_cause payload or refusal
 
--- the bytes of a header, or why it is not written
-abbrev pub header_spelling : BoxHeader → Result (List ℕ) Cause
-header_spelling h = size_spelling h.size >>= λ size. Ok (number 4 size ⧺ number 4 (code_of h.name))
+-- why a header of this size is not written: 0 stands for an open end, and any other size is at least 8 and within 32
+-- bits
+abbrev pub header_cause : ℕ → Option Cause
+header_cause size =
+    if size == 0 then None else
+    if nat_lt size 8 then Some invalid_data else
+    if nat_lt (2 ^ 32 - 1) size then Some (too_large BoxSize) else
+    None
 
--- A call adds these bytes at the end of a buffer and answers how many, or it leaves the buffer and
--- answers why; memory may have run out.
-abbrev pub Writes : List ℕ → List ℕ → Result ℕ Error → Result (List ℕ) Cause → Type 0
-Writes old new (Ok n) answer = IsOkAnd answer (λ bytes. (new ≡ old ++ bytes) × (n ≡ length bytes))
-Writes old new (Err e) answer = (new ≡ old) × ((e ≡ OutOfMemory) ⊎ (answer ≡ Err (cause_of e)))
+-- the eight bytes of a header
+abbrev pub header_spelling : BoxHeader → List ℕ
+header_spelling h = number 4 h.size ⧺ number 4 (code_of h.name)
 
--- A part of a box is added at the end of a buffer that nobody looks at after a refusal.
-abbrev pub Adds : {X : Type 0} → List ℕ → List ℕ → Result X Error → List ℕ → Option Cause → Type 0
-Adds old new (Ok x) bytes refusal = Appends old new bytes × (refusal ≡ None)
-Adds old new (Err e) bytes refusal = (e ≡ OutOfMemory) ⊎ (refusal ≡ Some (cause_of e))
+-- A call adds these bytes at the end of a buffer and answers how many; a refused call leaves the buffer.
+abbrev pub Writes : List ℕ → List ℕ → Result ℕ Error → List ℕ → Type 0
+Writes old new (Ok n) bytes = (new ≡ old ++ bytes) × (n ≡ length bytes)
+Writes old new (Err e) bytes = new ≡ old
+
+-- A canonical value: its numbers are within their types, the remarks of its layout hold of it, and it is written.
+pub record IsCanonical {B : Type 0} (IsInRange Remarks : B → Type 0) (payload : B → List ℕ)
+    (refusal : B → Option Cause) (b : B) : Type 0 where
+  pub in_range : IsInRange b
+  pub remarks : Remarks b
+  pub written : write_cause (payload b) (refusal b) ≡ None
+
+-- each value is written, but for its size
+abbrev pub no_refusal : {B : Type 0} → B → Option Cause
+no_refusal b = None
 
 -- the box of a child that may be missing
 abbrev pub optional : {B : Type 0} → BoxType → (B → List ℕ) → Option B → List ℕ

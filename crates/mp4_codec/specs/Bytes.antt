@@ -1,6 +1,9 @@
 -- Fields as bytes, numbers the highest byte first (ISO/IEC 14496-12, 4.2): each is read from the front of
 -- the bytes and leaves what stands behind it.
-use Rattle.std.specs.Prelude.{◌≡◌, ℕ, zero, suc, ◌-◌, ◌^◌, ℤ, List, [], ◌∷◌, ◌++◌, length, take, drop, Option, Some, None, Result, Ok, Err, nat_lt, ◌==◌, if◌then◌else◌, replicate, take_while, not}
+use Rattle.std.specs.Prelude.{◌≡◌, ℕ, zero, suc, ◌+◌, ◌<◌, ◌-◌, ◌*◌, ◌^◌, ℤ, List, [], ◌∷◌, ◌++◌, length, take, drop}
+use Rattle.std.specs.Prelude.{Option}
+use Rattle.std.specs.Prelude.{Some, None, Result, Ok, Err, nat_lt, ◌==◌, if◌then◌else◌, replicate, take_while, not}
+use Rattle.std.specs.Prelude.{false}
 use Rattle.std.specs.Int.{w16, w32, cast_signed, cast_unsigned, to_be_bytes, from_be_bytes}
 use Rattle.byteorder.specs.Endian.{big_number, big_bytes}
 use Rattle.mp4_codec.specs.declared.four_cc.FourCC.{FourCC}
@@ -42,6 +45,10 @@ list_at read (suc n) bytes = do
   first ← read bytes
   others ← list_at read n first.1
   Ok (first.0 ∷ others.0, others.1)
+
+-- so many fields of n bytes each are refused where they pass the end
+abbrev pub count_cause : ℕ → ℕ → List ℕ → Option Cause
+count_cause count n bytes = if nat_lt (length bytes) (count * n) then Some invalid_data else None
 
 -- signed numbers of two and of four bytes
 unfoldable pub int16_at : Reader ℤ
@@ -104,3 +111,27 @@ text_at bytes = do
   text ← bytes_at (length (until_zero bytes)) bytes
   end ← bytes_at 1 text.1
   Ok (text.0, end.1)
+
+-- what is read is n bytes long, and only bytes that are too few are refused
+pub record HasLength {A : Type 0} (read : Reader A) (n : ℕ) : Type 0 where
+  pub moves : (bytes : List ℕ) (x : A) (rest : List ℕ) → read bytes ≡ Ok (x, rest) → length bytes ≡ n + length rest
+  pub refuses : (bytes : List ℕ) (c : Cause) → read bytes ≡ Err c → c ≡ invalid_data
+
+-- what is written by write is read by read, for each value that fits
+pub record ReadsBack {A : Type 0} (read : Reader A) (write : A → List ℕ) (Fits : A → Type 0) : Type 0 where
+  pub again : (x : A) (rest : List ℕ) → Fits x → read (write x ⧺ rest) ≡ Ok (x, rest)
+
+-- what a field of either version holds
+abbrev pub FitsVersion : ℕ → ℕ → Type 0
+FitsVersion zero x = x < 2 ^ 32
+FitsVersion (suc zero) x = x < 2 ^ 64
+FitsVersion (suc (suc version)) x = ⊥
+
+-- a code is of four bytes
+abbrev pub IsCode : FourCC → Type 0
+IsCode f = (n : ℕ) × (n < 2 ^ 32) × (f ≡ coded n)
+
+-- a text that has no zero in it
+abbrev pub HasNoZero : List ℕ → Type 0
+HasNoZero [] = Unit {0}
+HasNoZero (b ∷ bs) = ((b == 0) ≡ false) × HasNoZero bs

@@ -3,7 +3,12 @@ use Rattle.std.specs.Prelude.{◌≡◌, ◌⊎◌, ℕ, Option, Some, None, Res
 use Rattle.mp4_codec.specs.declared.box_type.BoxType.{BoxType}
 use Rattle.mp4_codec.specs.declared.error.Limit.{Limit}
 use Rattle.mp4_codec.specs.declared.error.Error.{Error}
-use Rattle.mp4_codec.specs.declared.error.Error.TheVariants.{EndOfData, OutOfMemory, InvalidData, BoxNotFound, Box2NotFound, TrakNotFound, BoxInTrakNotFound, BoxInTrafNotFound, BoxInStblNotFound, EntryInStblNotFound, EntryInTrunNotFound, UnsupportedBoxVersion, Ended, ZeroTimescale, TooLarge, Unrepresentable}
+use Rattle.mp4_codec.specs.declared.error.Error.TheVariants.{EndOfData, OutOfMemory, InvalidData, BoxNotFound}
+use Rattle.mp4_codec.specs.declared.error.Error.TheVariants.{Box2NotFound, TrakNotFound, BoxInTrakNotFound}
+use Rattle.mp4_codec.specs.declared.error.Error.TheVariants.{BoxInTrafNotFound, BoxInStblNotFound}
+use Rattle.mp4_codec.specs.declared.error.Error.TheVariants.{EntryInStblNotFound, EntryInTrunNotFound}
+use Rattle.mp4_codec.specs.declared.error.Error.TheVariants.{UnsupportedBoxVersion, Ended, ZeroTimescale, TooLarge}
+use Rattle.mp4_codec.specs.declared.error.Error.TheVariants.{Unrepresentable}
 
 -- an error without its text
 pub data Cause : Type 0 where
@@ -52,18 +57,29 @@ abbrev pub Answers : {X Y : Type 0} → (X → Y) → Result X Error → Result 
 Answers view (Ok x) answer = answer ≡ Ok (view x)
 Answers view (Err e) answer = (e ≡ OutOfMemory) ⊎ (answer ≡ Err (cause_of e))
 
--- What a call of a writer returned: where a cause holds it is just that cause; where none holds it is Ok, or memory ran out.
+-- What a call of a writer returned: where a cause holds it is just that cause; where none holds it is Ok, or memory
+-- ran out.
 abbrev pub AnswersCause : {X : Type 0} → Option Cause → Result X Error → Type 0
 AnswersCause None (Ok x) = Unit {0}
 AnswersCause None (Err e) = e ≡ OutOfMemory
 AnswersCause (Some c) (Ok x) = ⊥
 AnswersCause (Some c) (Err e) = c ≡ cause_of e
 
+-- Where a cause holds, the call answers just that, and want of memory does not stand in its place.
+abbrev pub Refuses : {X : Type 0} → Option Cause → Result X Error → Type 0
+Refuses None result = Unit {0}
+Refuses (Some c) (Ok x) = ⊥
+Refuses (Some c) (Err e) = c ≡ cause_of e
+
 -- a step, and where it is not refused, the next
 infixl 10 ◌>>=◌
 abbrev pub ◌>>=◌ : {A B : Type 0} → Result A Cause → (A → Result B Cause) → Result B Cause
 (Ok x) >>= f = f x
 (Err c) >>= f = Err c
+
+-- an answer, seen in another way
+abbrev pub seen : {A B : Type 0} → (A → B) → Result A Cause → Result B Cause
+seen view answer = answer >>= λ x. Ok (view x)
 
 -- the first of two refusals
 infixl 10 ◌or◌

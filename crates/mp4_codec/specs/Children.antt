@@ -1,5 +1,6 @@
 -- The children of a payload (ISO/IEC 14496-12, 4.2), and what a container takes of them.
-use Rattle.std.specs.Prelude.{ℕ, zero, suc, ◌-◌, List, [], ◌∷◌, ◌++◌, length, Option, Some, None, Result, Ok, Err, nat_lt, ◌==◌, Bool, if◌then◌else◌}
+use Rattle.std.specs.Prelude.{ℕ, zero, suc, ◌-◌, List, [], ◌∷◌, ◌++◌, length, Option, Some, None, Result, Ok, Err}
+use Rattle.std.specs.Prelude.{nat_lt, ◌==◌, Bool, if◌then◌else◌}
 use Rattle.std.specs.Option.{option_to_list}
 use Rattle.mp4_codec.specs.declared.box_type.BoxType.{BoxType}
 use Rattle.mp4_codec.specs.declared.header.BoxHeader.{BoxHeader}
@@ -23,7 +24,8 @@ abbrev pub begun : Result (BoxHeader × Cursor) Cause → Option (ChildBox × Li
 begun (Ok x) = if x.0.size == 0 then None else cut x.0.name (take_at (x.0.size - 8) x.1)
 begun (Err c) = None
 
--- the child that begins the bytes, and what stands behind it; an open end, or a header or a child that passes the end, is none
+-- the child that begins the bytes, and what stands behind it; an open end, or a header or a child that passes the
+-- end, is none
 unfoldable pub child_at : List ℕ → Option (ChildBox × List ℕ)
 child_at bytes = begun (header_at (record { bytes = bytes; position = 0 }))
 
@@ -39,7 +41,8 @@ abbrev pub walk_on : List ℕ → (List ℕ → List ChildBox × List ℕ) → O
 walk_on bytes others None = ([], bytes)
 walk_on bytes others (Some x) = (x.0 ∷ (others x.1).0, (others x.1).1)
 
--- the children of a payload, and the tail behind them; the steps are as many as there are bytes, which is more than enough
+-- the children of a payload, and the tail behind them; the steps are as many as there are bytes, which is more than
+-- enough
 unfoldable pub walk : ℕ → List ℕ → List ChildBox × List ℕ
 walk zero bytes = ([], bytes)
 walk (suc n) bytes = if nat_lt (length bytes) 8 then ([], bytes) else walk_on bytes (walk n) (child_at bytes)
@@ -87,11 +90,13 @@ first_fault fault [] tail = tail_fault tail
 first_fault fault (c ∷ cs) tail = fault c or first_fault fault cs tail
 
 -- What a list of children with its tail gives: the first fault is the answer; else it is what is taken of the list.
-abbrev pub gathered : {P : Type 0} → (ChildBox → Option Cause) → (List ChildBox → P) → List ChildBox × List ℕ → Result P Cause
+abbrev pub gathered : {P : Type 0} → (ChildBox → Option Cause) → (List ChildBox → P) → List ChildBox × List ℕ
+    → Result P Cause
 gathered fault taken list = unless (first_fault fault list.0 list.1) (Ok (taken list.0))
 
 -- one child more, for a part that keeps the last of a type, and for one that keeps all
-abbrev pub with_last : {A : Type 0} → BoxType → (List ℕ → Result A Cause) → ChildBox → Option A → Result (Option A) Cause
+abbrev pub with_last : {A : Type 0} → BoxType → (List ℕ → Result A Cause) → ChildBox → Option A
+    → Result (Option A) Cause
 with_last t value c before = if is_of t c then (value c.1 >>= λ x. Ok (Some x)) else Ok before
 
 abbrev pub with_next : {A : Type 0} → BoxType → (List ℕ → Result A Cause) → ChildBox → List A → Result (List A) Cause

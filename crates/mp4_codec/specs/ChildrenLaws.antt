@@ -1,5 +1,6 @@
 -- The children of a payload, one step at a time.
-use Rattle.std.proofs.Common.{◌≡◌, ℕ, zero, suc, ◌≤◌, ◌<◌, Bool, true, false, cond, ltb, eqb, List, [], ◌∷◌, length, Option, Some, None, Result, Ok, Err, refl, sym, ap, ◌∙◌}
+use Rattle.std.proofs.Common.{◌≡◌, ℕ, zero, suc, ◌≤◌, ◌<◌, Bool, true, false, cond, ltb, eqb, List, [], ◌∷◌, length}
+use Rattle.std.proofs.Common.{Option, Some, None, Result, Ok, Err, refl, sym, ap, ◌∙◌}
 use Rattle.std.proofs.lemmas.Bool.{le-ltb, ltb-false, ltb-true, lt-ltb}
 use Rattle.std.proofs.lemmas.Bool.{eqb-true}
 use Rattle.mp4_codec.specs.declared.box_type.BoxType.{BoxType}
@@ -32,7 +33,8 @@ child_is x y e = cc
 not_some : (k : ChildBox) → some_child k ≡ None → ⊥
 not_some k e = absurd cc
 
-given : (o : Option (ChildBox × List ℕ)) (k : ChildBox) (rest : List ℕ) → next_of o ≡ Ok (Some k, rest) → o ≡ Some (k, rest)
+given : (o : Option (ChildBox × List ℕ)) (k : ChildBox) (rest : List ℕ) → next_of o ≡ Ok (Some k, rest)
+    → o ≡ Some (k, rest)
 given None k rest e = absurd cc
 given (Some x) k rest e =
     let p = step_is (Some x.0, x.1) (Some k, rest) e in
@@ -40,8 +42,10 @@ given (Some x) k rest e =
     let second : x.1 ≡ rest = ap (λ (y : Option ChildBox × List ℕ). y.1) p in
     ap (λ (y : ChildBox). Some (y, x.1)) first ∙ ap (λ (z : List ℕ). Some (k, z)) second
 
-tested : (b : Bool) (bytes : List ℕ) (o : Option (ChildBox × List ℕ)) (k : ChildBox) (rest : List ℕ) → cond b (Ok (None, bytes)) (next_of o) ≡ Ok (Some k, rest) → (b ≡ false) × (o ≡ Some (k, rest))
-tested true bytes o k rest e = absurd (not_some k (sym (ap (λ (y : Option ChildBox × List ℕ). y.0) (step_is (None, bytes) (Some k, rest) e))))
+tested : (b : Bool) (bytes : List ℕ) (o : Option (ChildBox × List ℕ)) (k : ChildBox) (rest : List ℕ)
+    → cond b (Ok (None, bytes)) (next_of o) ≡ Ok (Some k, rest) → (b ≡ false) × (o ≡ Some (k, rest))
+tested true bytes o k rest e =
+    absurd (not_some k (sym (ap (λ (y : Option ChildBox × List ℕ). y.0) (step_is (None, bytes) (Some k, rest) e))))
 tested false bytes o k rest e = (refl, given o k rest e)
 
 pub begins : (bytes : List ℕ) (k : ChildBox) (rest : List ℕ) → next_at bytes ≡ Ok (Some k, rest) → Begins bytes k rest
@@ -51,9 +55,11 @@ begins bytes k rest e =
 
 not_given : (o : Option (ChildBox × List ℕ)) (rest : List ℕ) → next_of o ≡ Ok (None, rest) → ⊥
 not_given None rest e = absurd cc
-not_given (Some x) rest e = not_some x.0 (ap (λ (y : Option ChildBox × List ℕ). y.0) (step_is (Some x.0, x.1) (None, rest) e))
+not_given (Some x) rest e =
+    not_some x.0 (ap (λ (y : Option ChildBox × List ℕ). y.0) (step_is (Some x.0, x.1) (None, rest) e))
 
-ended : (b : Bool) (bytes : List ℕ) (o : Option (ChildBox × List ℕ)) (rest : List ℕ) → cond b (Ok (None, bytes)) (next_of o) ≡ Ok (None, rest) → b ≡ true
+ended : (b : Bool) (bytes : List ℕ) (o : Option (ChildBox × List ℕ)) (rest : List ℕ)
+    → cond b (Ok (None, bytes)) (next_of o) ≡ Ok (None, rest) → b ≡ true
 ended true bytes o rest e = refl
 ended false bytes o rest e = absurd (not_given o rest e)
 
@@ -64,7 +70,8 @@ lacked : (o : Option (ChildBox × List ℕ)) (c : Cause) → next_of o ≡ Err c
 lacked None c e = (refl, cc)
 lacked (Some x) c e = absurd cc
 
-broken : (b : Bool) (bytes : List ℕ) (o : Option (ChildBox × List ℕ)) (c : Cause) → cond b (Ok (None, bytes)) (next_of o) ≡ Err c → (b ≡ false) × (o ≡ None) × (c ≡ invalid_data)
+broken : (b : Bool) (bytes : List ℕ) (o : Option (ChildBox × List ℕ)) (c : Cause)
+    → cond b (Ok (None, bytes)) (next_of o) ≡ Err c → (b ≡ false) × (o ≡ None) × (c ≡ invalid_data)
 broken true bytes o c e = absurd cc
 broken false bytes o c e = let l = lacked o c e in (refl, l.0, l.1)
 
@@ -73,7 +80,8 @@ breaks bytes c e =
     let t = broken (ltb (length bytes) 8) bytes (child_at bytes) c e in
     record { long = ltb-false _ _ t.0; none = t.1; cause = t.2 }
 
-pub walk-begins : (n : ℕ) (bytes : List ℕ) (k : ChildBox) (rest : List ℕ) → Begins bytes k rest → walk (suc n) bytes ≡ (k ∷ (walk n rest).0, (walk n rest).1)
+pub walk-begins : (n : ℕ) (bytes : List ℕ) (k : ChildBox) (rest : List ℕ) → Begins bytes k rest
+    → walk (suc n) bytes ≡ (k ∷ (walk n rest).0, (walk n rest).1)
 unfolding walk
 walk-begins n bytes k rest b = rw (le-ltb _ _ b.long, b.is) refl
 
@@ -94,4 +102,5 @@ refuted false h = refl
 -- a child of another type
 pub not_of : (t : BoxType) (k : ChildBox) → IsNamed t → IsNamed k.0 → (k.0 ≡ t → ⊥) → is_of t k ≡ false
 not_of t k named known other =
-    refuted (eqb (code_of k.0) (code_of t)) (λ e. other (sym known ∙ ap box_type (eqb-true (code_of k.0) (code_of t) e) ∙ named))
+    refuted (eqb (code_of k.0) (code_of t))
+    (λ e. other (sym known ∙ ap box_type (eqb-true (code_of k.0) (code_of t) e) ∙ named))

@@ -1,5 +1,6 @@
 -- Bytes and a place in them, and the headers that stand there.
-use Rattle.std.specs.Prelude.{ℕ, ◌+◌, ◌-◌, List, length, take, drop, Option, Some, None, Result, Ok, Err, nat_lt, ◌==◌, if◌then◌else◌}
+use Rattle.std.specs.Prelude.{ℕ, ◌+◌, ◌-◌, List, length, take, drop, Option, Some, None, Result, Ok, Err, nat_lt}
+use Rattle.std.specs.Prelude.{◌==◌, if◌then◌else◌}
 use Rattle.byteorder.specs.Endian.{big_number}
 use Rattle.mp4_codec.specs.declared.box_type.BoxType.{BoxType}
 use Rattle.mp4_codec.specs.declared.header.BoxHeader.{BoxHeader}
@@ -10,6 +11,10 @@ pub record Cursor : Type 0 where
   pub bytes : List ℕ
   pub position : ℕ
 
+-- a place in bytes
+abbrev pub here : List ℕ → ℕ → Cursor
+here bytes n = record { bytes = bytes; position = n }
+
 -- the bytes from the place on
 abbrev pub left : Cursor → List ℕ
 left cursor = drop cursor.position cursor.bytes
@@ -19,9 +24,11 @@ moved n cursor = record cursor { position = cursor.position + n }
 
 -- the next n bytes, and the place behind them
 abbrev pub take_at : ℕ → Cursor → Result (List ℕ × Cursor) Cause
-take_at n cursor = if nat_lt (length cursor.bytes) (cursor.position + n) then Err end_of_data else Ok (take n (left cursor), moved n cursor)
+take_at n cursor =
+    if nat_lt (length cursor.bytes) (cursor.position + n)
+    then Err end_of_data else Ok (take n (left cursor), moved n cursor)
 
--- the type of a box, and the length of the whole box, header and all, which may be open
+-- the type of a box, and the length of the whole box, its header included, which may be open
 pub record Head : Type 0 where
   pub name : BoxType
   pub header : ℕ
@@ -54,6 +61,10 @@ size_with header (Some total) = total - header + 8
 
 abbrev pub reported : Head → BoxHeader
 reported head = record { name = head.name; size = size_with head.header head.total }
+
+-- a header of so many bytes that says this length of the whole box, as it is reported
+abbrev pub header_saying : BoxType → ℕ → ℕ → Result BoxHeader Cause
+header_saying name header total = head_with name header total >>= λ head. Ok (reported head)
 
 -- the header at the place as it is reported, and the place behind it
 abbrev pub header_at : Cursor → Result (BoxHeader × Cursor) Cause

@@ -1,9 +1,12 @@
 -- A field that was written is read again, whatever follows it.
-use Rattle.std.proofs.Common.{◌≡◌, ℕ, zero, suc, ◌+◌, ◌-◌, ◌^◌, ◌<◌, Bool, true, false, cond, ltb, eqb, List, [], ◌∷◌, ◌++◌, length, ◌*◌, suc-mul, None, Result, Ok, Err, take, drop, ◌≤◌, refl, sym, ap, subst, ◌∙◌, append_assoc, arith}
+use Rattle.std.proofs.Common.{◌≡◌, ℕ, zero, suc, ◌+◌, ◌-◌, ◌^◌, ◌<◌, Bool, true, false, cond, ltb, eqb, List, [], ◌∷◌}
+use Rattle.std.proofs.Common.{◌++◌, length, ◌*◌, suc-mul, None, Some, not, Result, Ok, Err, take, drop, ◌≤◌, refl}
+use Rattle.std.proofs.Common.{sym, ap, subst, ◌∙◌, append_assoc, arith}
 use Rattle.std.specs.List.{flat_map, AllByRecursion}
-use Rattle.std.proofs.lemmas.Bool.{le-ltb, ltb-false}
+use Rattle.std.proofs.lemmas.Bool.{le-ltb, lt-ltb, ltb-false, ltb-true}
 use Rattle.std.proofs.lemmas.List.{append-nil, take_at, drop_at, length-append, length-replicate, length-drop}
 use Rattle.std.proofs.lemmas.List.Concat.{flat_map-cons}
+use Rattle.std.proofs.lemmas.List.Folds.{length-prefix_len}
 use Rattle.std.proofs.Math.Numerals.{one-add}
 use Rattle.byteorder.specs.Endian.{big_number, big_bytes}
 use Rattle.byteorder.specs.Numbers.{length-bytes_high_first, big_number-reads_back}
@@ -11,10 +14,14 @@ use Rattle.std.specs.Prelude.{ℤ, FitsSigned, negsuc, pos}
 use Rattle.std.specs.Int.{w16, w32, cast_unsigned, from_be_bytes}
 use Rattle.std.proofs.lemmas.Nat.{from_be_bytes-to_be_bytes_4}
 use Rattle.std.proofs.lemmas.Int.{to_z-of_z}
-use Rattle.mp4_codec.specs.Cause.{Cause, invalid_data, ◌>>=◌}
+use Rattle.mp4_codec.specs.declared.error.Limit.TheVariants.{Value}
+use Rattle.mp4_codec.specs.Cause.{Cause, invalid_data, too_large, ◌>>=◌}
 use Rattle.mp4_codec.specs.Steps.{ok_is}
 use Rattle.mp4_codec.specs.declared.four_cc.FourCC.{FourCC}
-use Rattle.mp4_codec.specs.Bytes.{coded, four_cc, four_cc_at, until_zero, Reader, ◌⧺◌, bytes_at, number_at, number, zeros, list_at, int16_at, int16, int32_at, int32, versioned_at, versioned, value_refusal}
+use Rattle.mp4_codec.specs.Bytes.{HasLength, ReadsBack, FitsVersion, IsCode, HasNoZero}
+use Rattle.mp4_codec.specs.Bytes.{coded, four_cc, four_cc_at, until_zero, Reader, ◌⧺◌, bytes_at, number_at, number}
+use Rattle.mp4_codec.specs.Bytes.{zeros, list_at, count_cause, int16_at, int16, int32_at, int32, versioned_at}
+use Rattle.mp4_codec.specs.Bytes.{versioned, version_refusal, value_refusal}
 
 long_enough : (xs rest : List ℕ) (n : ℕ) → length xs ≡ n → ltb (length (xs ++ rest)) n ≡ false
 long_enough xs rest n e = le-ltb _ _ (omega (arith, length-append xs rest))
@@ -46,29 +53,35 @@ pub number_again : (n x : ℕ) (rest : List ℕ) → x < 256 ^ n → number_at n
 unfolding number_at ◌⧺◌
 number_again n x rest h =
     let e = length-number n x in
-    rw (long_enough (number n x) rest n e, take_at (number n x) rest n e, drop_at (number n x) rest n e, number_back n x h) refl
+    rw (
+      long_enough (number n x) rest n e,
+      take_at (number n x) rest n e,
+      drop_at (number n x) rest n e,
+      number_back n x h,
+    ) refl
 
--- what is read is n bytes long, and only bytes that are too few are refused
-pub record HasLength {A : Type 0} (read : Reader A) (n : ℕ) : Type 0 where
-  pub moves : (bytes : List ℕ) (x : A) (rest : List ℕ) → read bytes ≡ Ok (x, rest) → length bytes ≡ n + length rest
-  pub refuses : (bytes : List ℕ) (c : Cause) → read bytes ≡ Err c → c ≡ invalid_data
-
-number-moves : (n : ℕ) (bytes : List ℕ) (x : ℕ) (rest : List ℕ) → number_at n bytes ≡ Ok (x, rest) → length bytes ≡ n + length rest
+number-moves : (n : ℕ) (bytes : List ℕ) (x : ℕ) (rest : List ℕ) → number_at n bytes ≡ Ok (x, rest)
+    → length bytes ≡ n + length rest
 unfolding number_at
 number-moves n bytes x rest e = chosen (ltb (length bytes) n) (ltb-false (length bytes) n) e
   where
-    chosen : (b : Bool) → (b ≡ false → n ≤ length bytes) → cond {A = Result (ℕ × List ℕ) Cause} b (Err invalid_data) (Ok (big_number n (take n bytes), drop n bytes)) ≡ Ok (x, rest) → length bytes ≡ n + length rest
+    chosen : (b : Bool) → (b ≡ false → n ≤ length bytes)
+        → cond {A = Result (ℕ × List ℕ) Cause} b (Err invalid_data) (Ok (big_number n (take n bytes), drop n bytes))
+        ≡ Ok (x, rest) → length bytes ≡ n + length rest
     chosen true h e = absurd cc
     chosen false h e =
         let enough : n ≤ length bytes = h refl in
-        let behind : drop n bytes ≡ rest = ap (λ (y : ℕ × List ℕ). y.1) (ok_is (big_number n (take n bytes), drop n bytes) (x, rest) e) in
+        let behind : drop n bytes ≡ rest =
+        ap (λ (y : ℕ × List ℕ). y.1) (ok_is (big_number n (take n bytes), drop n bytes) (x, rest) e) in
         rw (← behind) (omega (arith, length-drop n bytes))
 
 number-refuses : (n : ℕ) (bytes : List ℕ) (c : Cause) → number_at n bytes ≡ Err c → c ≡ invalid_data
 unfolding number_at
 number-refuses n bytes c e = chosen (ltb (length bytes) n) e
   where
-    chosen : (b : Bool) → cond {A = Result (ℕ × List ℕ) Cause} b (Err invalid_data) (Ok (big_number n (take n bytes), drop n bytes)) ≡ Err c → c ≡ invalid_data
+    chosen : (b : Bool)
+        → cond {A = Result (ℕ × List ℕ) Cause} b (Err invalid_data) (Ok (big_number n (take n bytes), drop n bytes))
+        ≡ Err c → c ≡ invalid_data
     chosen true e = cc
     chosen false e = absurd cc
 
@@ -79,16 +92,20 @@ abbrev seen_as : {A B : Type 0} → (A → B) → Result (A × List ℕ) Cause �
 seen_as {A} {B} see r = ◌>>=◌ {B = B × List ℕ} r (λ x. Ok (see x.0, x.1))
 
 -- a field, seen as another value
-pub seen-has_length : {A B : Type 0} (read : Reader A) (n : ℕ) (see : A → B) → HasLength read n → HasLength (λ bytes. seen_as see (read bytes)) n
-seen-has_length {A} {B} read n see h = record { moves = λ bytes. moved bytes (read bytes) refl; refuses = λ bytes. refused bytes (read bytes) refl }
+pub seen-has_length : {A B : Type 0} (read : Reader A) (n : ℕ) (see : A → B) → HasLength read n
+    → HasLength (λ bytes. seen_as see (read bytes)) n
+seen-has_length {A} {B} read n see h =
+    record { moves = λ bytes. moved bytes (read bytes) refl; refuses = λ bytes. refused bytes (read bytes) refl }
   where
-    moved : (bytes : List ℕ) (r : Result (A × List ℕ) Cause) → read bytes ≡ r → (y : B) (rest : List ℕ) → seen_as see r ≡ Ok (y, rest) → length bytes ≡ n + length rest
+    moved : (bytes : List ℕ) (r : Result (A × List ℕ) Cause) → read bytes ≡ r → (y : B) (rest : List ℕ)
+        → seen_as see r ≡ Ok (y, rest) → length bytes ≡ n + length rest
     moved bytes (Ok x) is y rest e =
         let behind : x.1 ≡ rest = ap (λ (z : B × List ℕ). z.1) (ok_is (see x.0, x.1) (y, rest) e) in
         rw (← behind) (h.moves bytes x.0 x.1 is)
     moved bytes (Err c) is y rest e = absurd cc
 
-    refused : (bytes : List ℕ) (r : Result (A × List ℕ) Cause) → read bytes ≡ r → (c : Cause) → seen_as see r ≡ Err c → c ≡ invalid_data
+    refused : (bytes : List ℕ) (r : Result (A × List ℕ) Cause) → read bytes ≡ r → (c : Cause) → seen_as see r ≡ Err c
+        → c ≡ invalid_data
     refused bytes (Ok x) is c e = absurd cc
     refused bytes (Err d) is c e = let same : d ≡ c = cc in rw (← same) (h.refuses bytes d is)
 
@@ -96,51 +113,62 @@ abbrev and_then : {A B : Type 0} → (A → Reader B) → Result (A × List ℕ)
 and_then {A} {B} second r = ◌>>=◌ {B = B × List ℕ} r (λ x. second x.0 x.1)
 
 -- one field, and then another that may depend on it
-pub then-has_length : {A B : Type 0} (first : Reader A) (second : A → Reader B) (n m : ℕ) → HasLength first n → ((x : A) → HasLength (second x) m) → HasLength (λ bytes. and_then second (first bytes)) (n + m)
-then-has_length {A} {B} first second n m h k = record { moves = λ bytes. moved bytes (first bytes) refl; refuses = λ bytes. refused bytes (first bytes) refl }
+pub then-has_length : {A B : Type 0} (first : Reader A) (second : A → Reader B) (n m : ℕ) → HasLength first n
+    → ((x : A) → HasLength (second x) m) → HasLength (λ bytes. and_then second (first bytes)) (n + m)
+then-has_length {A} {B} first second n m h k =
+    record { moves = λ bytes. moved bytes (first bytes) refl; refuses = λ bytes. refused bytes (first bytes) refl }
   where
-    moved : (bytes : List ℕ) (r : Result (A × List ℕ) Cause) → first bytes ≡ r → (y : B) (rest : List ℕ) → and_then second r ≡ Ok (y, rest) → length bytes ≡ n + m + length rest
+    moved : (bytes : List ℕ) (r : Result (A × List ℕ) Cause) → first bytes ≡ r → (y : B) (rest : List ℕ)
+        → and_then second r ≡ Ok (y, rest) → length bytes ≡ n + m + length rest
     moved bytes (Ok x) is y rest e =
         let one : length bytes ≡ n + length x.1 = h.moves bytes x.0 x.1 is in
         let two : length x.1 ≡ m + length rest = (k x.0).moves x.1 y rest e in
         omega arith
     moved bytes (Err c) is y rest e = absurd cc
 
-    refused : (bytes : List ℕ) (r : Result (A × List ℕ) Cause) → first bytes ≡ r → (c : Cause) → and_then second r ≡ Err c → c ≡ invalid_data
+    refused : (bytes : List ℕ) (r : Result (A × List ℕ) Cause) → first bytes ≡ r → (c : Cause)
+        → and_then second r ≡ Err c → c ≡ invalid_data
     refused bytes (Ok x) is c e = (k x.0).refuses x.1 c e
     refused bytes (Err d) is c e = let same : d ≡ c = cc in rw (← same) (h.refuses bytes d is)
 
-abbrev listed : {A : Type 0} → (List ℕ → Result (List A × List ℕ) Cause) → Result (A × List ℕ) Cause → Result (List A × List ℕ) Cause
+abbrev listed : {A : Type 0} → (List ℕ → Result (List A × List ℕ) Cause) → Result (A × List ℕ) Cause
+    → Result (List A × List ℕ) Cause
 listed {A} others r = do
   first ← r
   more ← others first.1
   Ok (first.0 ∷ more.0, more.1)
 
-one-short : {A : Type 0} (read : Reader A) (n count : ℕ) (bytes : List ℕ) (others : List ℕ → Result (List A × List ℕ) Cause) → HasLength read n → length bytes < suc count * n
-    → ((rest : List ℕ) → length rest < count * n → others rest ≡ Err invalid_data) → (r : Result (A × List ℕ) Cause) → read bytes ≡ r → listed others r ≡ Err invalid_data
+one-short : {A : Type 0} (read : Reader A) (n count : ℕ) (bytes : List ℕ)
+    (others : List ℕ → Result (List A × List ℕ) Cause) → HasLength read n → length bytes < suc count * n
+    → ((rest : List ℕ) → length rest < count * n → others rest ≡ Err invalid_data) → (r : Result (A × List ℕ) Cause)
+    → read bytes ≡ r → listed others r ≡ Err invalid_data
 one-short read n count bytes others h short fewer (Ok x) is =
     let moved : length bytes ≡ n + length x.1 = h.moves bytes x.0 x.1 is in
     let left : length x.1 < count * n = omega (arith, suc-mul count n) in
     rw (fewer x.1 left) refl
-one-short read n count bytes others h short fewer (Err c) is = let same : c ≡ invalid_data = h.refuses bytes c is in rw same refl
+one-short read n count bytes others h short fewer (Err c) is =
+    let same : c ≡ invalid_data = h.refuses bytes c is in
+    rw same refl
 
 -- a list that passes the end is refused
-pub list-short : {A : Type 0} (read : Reader A) (n : ℕ) → HasLength read n → (count : ℕ) (bytes : List ℕ) → length bytes < count * n → list_at read count bytes ≡ Err invalid_data
+pub list-short : {A : Type 0} (read : Reader A) (n : ℕ) → HasLength read n → (count : ℕ) (bytes : List ℕ)
+    → length bytes < count * n → list_at read count bytes ≡ Err invalid_data
 unfolding list_at
 list-short read n h zero bytes short = absurd (omega (arith, short))
-list-short read n h (suc count) bytes short = one-short read n count bytes (list_at read count) h short (λ rest fewer. list-short read n h count rest fewer) (read bytes) refl
-
--- what is written by write is read by read, for each value that fits
-pub record ReadsBack {A : Type 0} (read : Reader A) (write : A → List ℕ) (Fits : A → Type 0) : Type 0 where
-  pub again : (x : A) (rest : List ℕ) → Fits x → read (write x ⧺ rest) ≡ Ok (x, rest)
+list-short read n h (suc count) bytes short =
+    one-short read n count bytes (list_at read count) h short (λ rest fewer. list-short read n h count rest fewer)
+    (read bytes) refl
 
 pub list_again : {A : Type 0} (read : Reader A) (write : A → List ℕ) (Fits : A → Type 0) → ReadsBack read write Fits
-    → (xs : List A) (rest : List ℕ) → AllByRecursion Fits xs → list_at read (length xs) (flat_map write xs ⧺ rest) ≡ Ok (xs, rest)
+    → (xs : List A) (rest : List ℕ) → AllByRecursion Fits xs
+    → list_at read (length xs) (flat_map write xs ⧺ rest) ≡ Ok (xs, rest)
 unfolding list_at ◌⧺◌
 list_again read write Fits back [] rest fits = refl
 list_again read write Fits back (x ∷ xs) rest fits =
-    let regrouped : flat_map write (x ∷ xs) ++ rest ≡ write x ++ (flat_map write xs ++ rest) = ap (λ (y : List ℕ). y ++ rest) (flat_map-cons write x xs) ∙ append_assoc (write x) (flat_map write xs) rest in
-    ap (list_at read (suc (length xs))) regrouped ∙ rw (back.again x (flat_map write xs ++ rest) fits.0, list_again read write Fits back xs rest fits.1) refl
+    let regrouped : flat_map write (x ∷ xs) ++ rest ≡ write x ++ (flat_map write xs ++ rest) =
+    ap (λ (y : List ℕ). y ++ rest) (flat_map-cons write x xs) ∙ append_assoc (write x) (flat_map write xs) rest in
+    ap (list_at read (suc (length xs))) regrouped
+    ∙ rw (back.again x (flat_map write xs ++ rest) fits.0, list_again read write Fits back xs rest fits.1) refl
 
 cast_unsigned_fits_16 : (z : ℤ) → FitsSigned w16 z → cast_unsigned w16 z < 256 ^ 2
 cast_unsigned_fits_16 (pos n) h = omega (arith, h)
@@ -148,7 +176,8 @@ cast_unsigned_fits_16 (negsuc n) h = omega (arith, h)
 
 pub int16_again : (z : ℤ) (rest : List ℕ) → FitsSigned w16 z → int16_at (int16 z ⧺ rest) ≡ Ok (z, rest)
 unfolding int16_at int16
-int16_again z rest h = rw (number_again 2 (cast_unsigned w16 z) rest (cast_unsigned_fits_16 z h), to_z-of_z w16 z h) refl
+int16_again z rest h =
+    rw (number_again 2 (cast_unsigned w16 z) rest (cast_unsigned_fits_16 z h), to_z-of_z w16 z h) refl
 
 pub length-int16 : (z : ℤ) → length (int16 z) ≡ 2
 unfolding int16
@@ -160,17 +189,12 @@ cast_unsigned_fits_32 (negsuc n) h = omega (arith, h)
 
 pub int32_again : (z : ℤ) (rest : List ℕ) → FitsSigned w32 z → int32_at (int32 z ⧺ rest) ≡ Ok (z, rest)
 unfolding int32_at int32
-int32_again z rest h = rw (number_again 4 (cast_unsigned w32 z) rest (cast_unsigned_fits_32 z h), to_z-of_z w32 z h) refl
+int32_again z rest h =
+    rw (number_again 4 (cast_unsigned w32 z) rest (cast_unsigned_fits_32 z h), to_z-of_z w32 z h) refl
 
 pub length-int32 : (z : ℤ) → length (int32 z) ≡ 4
 unfolding int32
 length-int32 z = length-number 4 (cast_unsigned w32 z)
-
--- what a field of either version holds
-abbrev pub FitsVersion : ℕ → ℕ → Type 0
-FitsVersion zero x = x < 2 ^ 32
-FitsVersion (suc zero) x = x < 2 ^ 64
-FitsVersion (suc (suc version)) x = ⊥
 
 pub value_refusal-none : (version x : ℕ) → FitsVersion version x → value_refusal version x ≡ None
 unfolding value_refusal
@@ -178,7 +202,32 @@ value_refusal-none zero x h = rw (le-ltb (2 ^ 32 - 1) x (omega arith)) refl
 value_refusal-none (suc zero) x h = refl
 value_refusal-none (suc (suc version)) x h = absurd h
 
-pub versioned_again : (version x : ℕ) (rest : List ℕ) → FitsVersion version x → versioned_at version (versioned version x ⧺ rest) ≡ Ok (x, rest)
+-- a number of 64 bits that is written in its version fits it
+pub FitsVersion-written : (version x : ℕ) → version_refusal version ≡ None → value_refusal version x ≡ None
+    → x < 2 ^ 64 → FitsVersion version x
+unfolding value_refusal
+FitsVersion-written zero x known room h = ltb-fits (ltb (2 ^ 32 - 1) x) (ltb-false (2 ^ 32 - 1) x) room
+  where
+    ltb-fits : (b : Bool) → (b ≡ false → x ≤ 2 ^ 32 - 1) → cond b (Some (too_large Value)) None ≡ None → x < 2 ^ 32
+    ltb-fits true small e = absurd cc
+    ltb-fits false small e = let fits = small refl in omega arith
+FitsVersion-written (suc zero) x known room h = h
+FitsVersion-written (suc (suc version)) x known room h = absurd (other (ltb 1 (suc (suc version))) refl known)
+  where
+    other : (b : Bool) → ltb 1 (suc (suc version)) ≡ b → cond b (Some invalid_data) None ≡ None → ⊥
+    other true is e = absurd cc
+    other false is e = let few = ltb-false 1 (suc (suc version)) is in omega arith
+
+-- a version that is written is 0 or 1
+pub version-written : (version : ℕ) → version_refusal version ≡ None → version < 2
+version-written version e = chosen (ltb 1 version) (ltb-false 1 version) e
+  where
+    chosen : (b : Bool) → (b ≡ false → version ≤ 1) → cond b (Some invalid_data) None ≡ None → version < 2
+    chosen true h e = absurd cc
+    chosen false h e = let small = h refl in omega arith
+
+pub versioned_again : (version x : ℕ) (rest : List ℕ) → FitsVersion version x
+    → versioned_at version (versioned version x ⧺ rest) ≡ Ok (x, rest)
 unfolding versioned_at versioned
 versioned_again zero x rest h = number_again 4 x rest h
 versioned_again (suc zero) x rest h = number_again 8 x rest h
@@ -208,10 +257,6 @@ pub length-four_cc : (f : FourCC) → length (four_cc f) ≡ 4
 unfolding four_cc
 length-four_cc f = length-number 4 (from_be_bytes w32 f.value)
 
--- a code is of four bytes
-abbrev pub IsCode : FourCC → Type 0
-IsCode f = (n : ℕ) × (n < 2 ^ 32) × (f ≡ coded n)
-
 four_cc_coded : (n : ℕ) (rest : List ℕ) → n < 2 ^ 32 → four_cc_at (four_cc (coded n) ⧺ rest) ≡ Ok (coded n, rest)
 unfolding four_cc_at four_cc
 four_cc_coded n rest h = rw (from_be_bytes-to_be_bytes_4 n h, number_again 4 n rest h) refl
@@ -221,12 +266,8 @@ unfolding four_cc_at
 four_cc-has_length = seen-has_length (number_at 4) 4 coded (number-has_length 4)
 
 pub four_cc_again : (f : FourCC) (rest : List ℕ) → IsCode f → four_cc_at (four_cc f ⧺ rest) ≡ Ok (f, rest)
-four_cc_again f rest h = subst (λ (g : FourCC). four_cc_at (four_cc g ⧺ rest) ≡ Ok (g, rest)) (sym h.2) (four_cc_coded h.0 rest h.1)
-
--- a text that has no zero in it
-abbrev pub HasNoZero : List ℕ → Type 0
-HasNoZero [] = Unit {0}
-HasNoZero (b ∷ bs) = (eqb b 0 ≡ false) × HasNoZero bs
+four_cc_again f rest h =
+    subst (λ (g : FourCC). four_cc_at (four_cc g ⧺ rest) ≡ Ok (g, rest)) (sym h.2) (four_cc_coded h.0 rest h.1)
 
 pub until_zero-zero : (text : List ℕ) → HasNoZero text → until_zero (text ⧺ zeros 1) ≡ text
 unfolding until_zero ◌⧺◌ zeros
@@ -235,16 +276,26 @@ until_zero-zero (b ∷ bs) h = rw (h.0, one-add) (ap (λ (x : List ℕ). b ∷ x
 
 pub length-numbers : (n : ℕ) (xs : List ℕ) → length (flat_map (number n) xs) ≡ n * length xs
 length-numbers n [] = omega arith
-length-numbers n (x ∷ xs) = rw (flat_map-cons (number n) x xs, length-append (number n x) (flat_map (number n) xs), length-number n x, length-numbers n xs) (omega arith)
+length-numbers n (x ∷ xs) =
+    rw (
+      flat_map-cons (number n) x xs,
+      length-append (number n x) (flat_map (number n) xs),
+      length-number n x,
+      length-numbers n xs,
+    ) (omega arith)
 
 -- a list behind which nothing stands
 pub list_last : {A : Type 0} (read : Reader A) (write : A → List ℕ) (Fits : A → Type 0) → ReadsBack read write Fits
-    → (count : ℕ) (xs : List A) → length xs ≡ count → AllByRecursion Fits xs → list_at read count (flat_map write xs) ≡ Ok (xs, [])
+    → (count : ℕ) (xs : List A) → length xs ≡ count → AllByRecursion Fits xs
+    → list_at read count (flat_map write xs) ≡ Ok (xs, [])
 list_last read write Fits back count xs e fits =
-    rw (← e) (ap (list_at read (length xs)) (sym (then_nothing (flat_map write xs))) ∙ list_again read write Fits back xs [] fits)
+    rw (← e) (ap (list_at read (length xs)) (sym (then_nothing (flat_map write xs)))
+    ∙ list_again read write Fits back xs [] fits)
 
-pub numbers_last : (n count : ℕ) (xs : List ℕ) → length xs ≡ count → AllByRecursion (λ x. x < 256 ^ n) xs → list_at (number_at n) count (flat_map (number n) xs) ≡ Ok (xs, [])
-numbers_last n count xs e fits = list_last (number_at n) (number n) (λ x. x < 256 ^ n) (record { again = number_again n }) count xs e fits
+pub numbers_last : (n count : ℕ) (xs : List ℕ) → length xs ≡ count → AllByRecursion (λ x. x < 256 ^ n) xs
+    → list_at (number_at n) count (flat_map (number n) xs) ≡ Ok (xs, [])
+numbers_last n count xs e fits =
+    list_last (number_at n) (number n) (λ x. x < 256 ^ n) (record { again = number_again n }) count xs e fits
 
 -- zeros behind which nothing stands
 pub zeros_last : (n : ℕ) → bytes_at n (zeros n) ≡ Ok (zeros n, [])
@@ -256,6 +307,31 @@ unfolding versioned_at
 versioned-has_length zero = number-has_length 4
 versioned-has_length (suc zero) = number-has_length 8
 versioned-has_length (suc (suc version)) = record { moves = λ bytes x rest e. absurd cc; refuses = λ bytes c e. cc }
+
+-- the bytes before the first zero are that many of the first
+pub take-until_zero : (bytes : List ℕ) → take (length (until_zero bytes)) bytes ≡ until_zero bytes
+unfolding until_zero
+take-until_zero bytes = rw (length-prefix_len (λ b. not (eqb b 0)) bytes) refl
+
+-- what passes the end is refused
+pub count_cause-refused : {A : Type 0} (read : Reader A) (n : ℕ) → HasLength read n
+    → (count : ℕ) (bytes : List ℕ) (c : Cause) → count_cause count n bytes ≡ Some c
+    → list_at read count bytes ≡ Err c
+count_cause-refused read n h count bytes c e =
+    chosen (ltb (length bytes) (count * n)) (ltb-true (length bytes) (count * n)) e
+  where
+    chosen : (b : Bool) → (b ≡ true → length bytes < count * n) → cond b (Some invalid_data) None ≡ Some c
+        → list_at read count bytes ≡ Err c
+    chosen true short e = let same : invalid_data ≡ c = cc in list-short read n h count bytes (short refl) ∙ ap Err same
+    chosen false short e = absurd cc
+
+-- a list that does not pass the end has no such refusal
+pub count_cause-none : (count n : ℕ) (bytes : List ℕ) → count * n ≤ length bytes → count_cause count n bytes ≡ None
+count_cause-none count n bytes h = rw (le-ltb _ _ h) refl
+
+pub count_cause-short : (count n : ℕ) (bytes : List ℕ) → length bytes < count * n
+    → count_cause count n bytes ≡ Some invalid_data
+count_cause-short count n bytes h = rw (lt-ltb _ _ h) refl
 
 pub nothing_then : (xs : List ℕ) → [] ⧺ xs ≡ xs
 unfolding ◌⧺◌

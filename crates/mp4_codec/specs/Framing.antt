@@ -1,11 +1,11 @@
--- What ISO/IEC 14496-12 calls a box, said of the bytes and not of how they are read.
-use Rattle.std.specs.Prelude.{◌≡◌, ◌<◌, ◌≤◌, ℕ, ◌+◌, ◌^◌, List, [], ◌∷◌, ◌++◌, length, drop, Ok}
+-- What ISO/IEC 14496-12 calls a box, in terms of the bytes and not of how they are read.
+use Rattle.std.specs.Prelude.{◌≡◌, ◌<◌, ◌≤◌, ℕ, ◌+◌, ◌^◌, List, [], ◌∷◌, ◌++◌, length, drop, Option, Ok}
 use Rattle.std.specs.List.{AllByRecursion}
 use Rattle.byteorder.specs.Endian.{big_number}
 use Rattle.mp4_codec.specs.declared.box_type.BoxType.{BoxType}
 use Rattle.mp4_codec.specs.BoxType.{code_of, IsNamed}
 use Rattle.mp4_codec.specs.Cause.{Cause, end_of_data, invalid_data}
-use Rattle.mp4_codec.specs.Cursor.{take_at, header_at}
+use Rattle.mp4_codec.specs.Cursor.{take_at, head_at, header_at}
 use Rattle.mp4_codec.specs.Bytes.{number, ◌⧺◌}
 use Rattle.mp4_codec.specs.Boxes.{frame}
 use Rattle.mp4_codec.specs.Children.{ChildBox}
@@ -33,8 +33,30 @@ pub data IsFrame (name : BoxType) (payload bytes : List ℕ) : Type 0 where
 pub record ReadsAsBox (name : BoxType) (payload box : List ℕ) (bytes : List ℕ) (place : ℕ) : Type 0 where
   pub header : ℕ
   pub whole : header + length payload ≡ length box
-  pub head : header_at (record { bytes = bytes; position = place }) ≡ Ok (record { name = name; size = 8 + length payload }, record { bytes = bytes; position = place + header })
-  pub body : take_at (length payload) (record { bytes = bytes; position = place + header }) ≡ Ok (payload, record { bytes = bytes; position = place + length box })
+  pub head : header_at (record { bytes = bytes; position = place })
+      ≡ Ok (record { name = name; size = 8 + length payload }, record { bytes = bytes; position = place + header })
+  pub body : take_at (length payload) (record { bytes = bytes; position = place + header })
+      ≡ Ok (payload, record { bytes = bytes; position = place + length box })
+
+-- the eight bytes of a header with this size
+abbrev pub short_header : BoxType → ℕ → List ℕ
+short_header name size = number 4 size ⧺ number 4 (code_of name)
+
+-- the sixteen bytes of a header with this 64-bit size
+abbrev pub long_header : BoxType → ℕ → List ℕ
+long_header name size = number 4 1 ⧺ number 4 (code_of name) ⧺ number 8 size
+
+-- Where these bytes stand, whatever is before them and behind them, the header says this type and this length of the
+-- whole box, or an
+-- open end; and the place behind it is that behind the bytes.
+abbrev pub SaysBox : BoxType → Option ℕ → (header before after : List ℕ) → Type 0
+SaysBox name total header before after =
+    let bytes = before ++ (header ++ after) in
+    head_at (record { bytes = bytes; position = length before })
+    ≡ Ok (
+      record { name = name; header = length header; total = total },
+      record { bytes = bytes; position = length before + length header },
+    )
 
 -- the size in a header
 abbrev pub size_in : List ℕ → ℕ
@@ -44,7 +66,7 @@ size_in left = big_number 4 left
 abbrev pub large_size_in : List ℕ → ℕ
 large_size_in left = big_number 8 (drop 8 left)
 
--- why no header is read off the bytes that are left, and what is said then
+-- why no header is read off the bytes that are left, and what is answered then
 pub data WhyNoHead (left : List ℕ) (c : Cause) : Type 0 where
   -- fewer than 8 bytes are left
   cut_short : length left < 8 → c ≡ end_of_data → WhyNoHead left c
@@ -53,7 +75,8 @@ pub data WhyNoHead (left : List ℕ) (c : Cause) : Type 0 where
   -- the size is 2 to 7, less than the header
   too_small : 8 ≤ length left → 2 ≤ size_in left → size_in left ≤ 7 → c ≡ invalid_data → WhyNoHead left c
   -- the size is 1, and the 64-bit size is 1 to 15, less than the header
-  large_too_small : 16 ≤ length left → size_in left ≡ 1 → 1 ≤ large_size_in left → large_size_in left ≤ 15 → c ≡ invalid_data → WhyNoHead left c
+  large_too_small : 16 ≤ length left → size_in left ≡ 1 → 1 ≤ large_size_in left → large_size_in left ≤ 15
+      → c ≡ invalid_data → WhyNoHead left c
 
 -- no box begins these bytes
 abbrev pub NoFrameBegins : List ℕ → Type 0

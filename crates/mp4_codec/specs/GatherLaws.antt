@@ -1,16 +1,21 @@
--- One child more: what the parts of a container take of a list of children, the fold that makes them, and the first fault.
-use Rattle.std.proofs.Common.{◌≡◌, ℕ, Bool, true, false, cond, List, [], ◌∷◌, ◌++◌, Option, Some, None, Result, Ok, Err, refl, sym, ap, ◌∙◌, append_assoc}
+-- One child more: what the parts of a container take of a list of children, the fold that makes them, and the first
+-- fault.
+use Rattle.std.proofs.Common.{◌≡◌, ℕ, Bool, true, false, cond, List, [], ◌∷◌, ◌++◌, Option, Some, None, Result, Ok}
+use Rattle.std.proofs.Common.{Err, refl, sym, ap, ◌∙◌, append_assoc}
 use Rattle.std.proofs.lemmas.List.{append-nil}
 use Rattle.std.specs.Option.{option_to_list}
 use Rattle.mp4_codec.specs.declared.box_type.BoxType.{BoxType}
 use Rattle.mp4_codec.specs.Cause.{Cause, ◌>>=◌, ◌or◌, unless, fault_of}
-use Rattle.mp4_codec.specs.Children.{ChildBox, is_of, value_of, given_by, fault_in, all_of, last, last_of, tail_fault, first_fault, with_last, with_next}
+use Rattle.mp4_codec.specs.Children.{ChildBox, is_of, value_of, given_by, fault_in, all_of, last, last_of, tail_fault}
+use Rattle.mp4_codec.specs.Children.{first_fault, with_last, with_next}
 
-pub all_of-append : {A : Type 0} (t : BoxType) (value : List ℕ → Result A Cause) (cs ds : List ChildBox) → all_of t value (cs ++ ds) ≡ all_of t value cs ++ all_of t value ds
+pub all_of-append : {A : Type 0} (t : BoxType) (value : List ℕ → Result A Cause) (cs ds : List ChildBox)
+    → all_of t value (cs ++ ds) ≡ all_of t value cs ++ all_of t value ds
 unfolding all_of
 all_of-append t value [] ds = refl
 all_of-append t value (c ∷ cs) ds =
-    ap (λ (xs : List _). option_to_list (given_by t value c) ++ xs) (all_of-append t value cs ds) ∙ sym (append_assoc (option_to_list (given_by t value c)) (all_of t value cs) (all_of t value ds))
+    ap (λ (xs : List _). option_to_list (given_by t value c) ++ xs) (all_of-append t value cs ds)
+    ∙ sym (append_assoc (option_to_list (given_by t value c)) (all_of t value cs) (all_of t value ds))
 
 pub last-push : {A : Type 0} (xs : List A) (x : A) → last (xs ++ x ∷ []) ≡ Some x
 last-push [] x = refl
@@ -27,7 +32,9 @@ with_next-all_of {A} t value cs c = rw (all_of-append t value cs (c ∷ [])) (ch
     before = all_of t value cs
 
     chosen : (b : Bool) (r : Result A Cause)
-        → cond b (r >>= λ x. Ok (all_of t value cs ++ x ∷ [])) (Ok (all_of t value cs)) ≡ unless (cond b (fault_of r) None) (Ok (all_of t value cs ++ (option_to_list (cond b (value_of r) None) ++ [])))
+        → cond b (r >>= λ x. Ok (all_of t value cs ++ x ∷ [])) (Ok (all_of t value cs))
+        ≡ unless (cond b (fault_of r) None)
+        (Ok (all_of t value cs ++ (option_to_list (cond b (value_of r) None) ++ [])))
     chosen true (Ok x) = refl
     chosen true (Err e) = refl
     chosen false r = ap Ok (sym (append-nil (all_of t value cs)))
@@ -39,45 +46,58 @@ unfolding all_of last_of
 with_last-last_of {A} t value cs c = rw (all_of-append t value cs (c ∷ [])) (chosen (is_of t c) (value c.1))
   where
     chosen : (b : Bool) (r : Result A Cause)
-        → cond b (r >>= λ x. Ok (Some x)) (Ok (last (all_of t value cs))) ≡ unless (cond b (fault_of r) None) (Ok (last (all_of t value cs ++ (option_to_list (cond b (value_of r) None) ++ []))))
+        → cond b (r >>= λ x. Ok (Some x)) (Ok (last (all_of t value cs)))
+        ≡ unless (cond b (fault_of r) None)
+        (Ok (last (all_of t value cs ++ (option_to_list (cond b (value_of r) None) ++ []))))
     chosen true (Ok x) = ap Ok (sym (last-push (all_of t value cs) x))
     chosen true (Err e) = refl
     chosen false r = ap (λ (xs : List A). Ok (last xs)) (sym (append-nil (all_of t value cs)))
 
 -- a part after a part: the fault of the first comes first
-pub unless-then : {A B : Type 0} (first second : Option Cause) (x : A) (next : A → Result B Cause) (answer : Result B Cause) → next x ≡ unless second answer
+pub unless-then : {A B : Type 0} (first second : Option Cause) (x : A) (next : A → Result B Cause)
+    (answer : Result B Cause) → next x ≡ unless second answer
     → (unless first (Ok x) >>= next) ≡ unless (first or second) answer
 unless-then None second x next answer e = e
 unless-then (Some c) second x next answer e = refl
 
 -- parts of one field
-of_one : {A P : Type 0} (fault : Option Cause) (x : A) (part : A → P) → (unless fault (Ok x) >>= λ y. Ok (part y)) ≡ unless fault (Ok (part x))
+of_one : {A P : Type 0} (fault : Option Cause) (x : A) (part : A → P)
+    → (unless fault (Ok x) >>= λ y. Ok (part y)) ≡ unless fault (Ok (part x))
 of_one None x part = refl
 of_one (Some c) x part = refl
 
-pub last_child-adds : {A P : Type 0} (t : BoxType) (value : List ℕ → Result A Cause) (part : Option A → P) (cs : List ChildBox) (c : ChildBox)
-    → (with_last t value c (last_of t value cs) >>= λ x. Ok (part x)) ≡ unless (fault_in t value c) (Ok (part (last_of t value (cs ++ c ∷ []))))
-last_child-adds t value part cs c = rw (with_last-last_of t value cs c) (of_one (fault_in t value c) (last_of t value (cs ++ c ∷ [])) part)
+pub last_child-adds : {A P : Type 0} (t : BoxType) (value : List ℕ → Result A Cause) (part : Option A → P)
+    (cs : List ChildBox) (c : ChildBox)
+    → (with_last t value c (last_of t value cs) >>= λ x. Ok (part x))
+    ≡ unless (fault_in t value c) (Ok (part (last_of t value (cs ++ c ∷ []))))
+last_child-adds t value part cs c =
+    rw (with_last-last_of t value cs c) (of_one (fault_in t value c) (last_of t value (cs ++ c ∷ [])) part)
 
-pub all_children-adds : {A P : Type 0} (t : BoxType) (value : List ℕ → Result A Cause) (part : List A → P) (cs : List ChildBox) (c : ChildBox)
-    → (with_next t value c (all_of t value cs) >>= λ x. Ok (part x)) ≡ unless (fault_in t value c) (Ok (part (all_of t value (cs ++ c ∷ []))))
-all_children-adds t value part cs c = rw (with_next-all_of t value cs c) (of_one (fault_in t value c) (all_of t value (cs ++ c ∷ [])) part)
+pub all_children-adds : {A P : Type 0} (t : BoxType) (value : List ℕ → Result A Cause) (part : List A → P)
+    (cs : List ChildBox) (c : ChildBox)
+    → (with_next t value c (all_of t value cs) >>= λ x. Ok (part x))
+    ≡ unless (fault_in t value c) (Ok (part (all_of t value (cs ++ c ∷ []))))
+all_children-adds t value part cs c =
+    rw (with_next-all_of t value cs c) (of_one (fault_in t value c) (all_of t value (cs ++ c ∷ [])) part)
 
 -- no child of a list is refused
 abbrev pub NoFault : (ChildBox → Option Cause) → List ChildBox → Type 0
 NoFault fault [] = Unit {0}
 NoFault fault (c ∷ cs) = (fault c ≡ None) × NoFault fault cs
 
-pub NoFault-append : (fault : ChildBox → Option Cause) (cs ds : List ChildBox) → NoFault fault cs → NoFault fault ds → NoFault fault (cs ++ ds)
+pub NoFault-append : (fault : ChildBox → Option Cause) (cs ds : List ChildBox) → NoFault fault cs → NoFault fault ds
+    → NoFault fault (cs ++ ds)
 NoFault-append fault [] ds none more = more
 NoFault-append fault (c ∷ cs) ds none more = (none.0, NoFault-append fault cs ds none.1 more)
 
-pub first_fault-append : (fault : ChildBox → Option Cause) (cs ds : List ChildBox) (tail : List ℕ) → NoFault fault cs → first_fault fault (cs ++ ds) tail ≡ first_fault fault ds tail
+pub first_fault-append : (fault : ChildBox → Option Cause) (cs ds : List ChildBox) (tail : List ℕ) → NoFault fault cs
+    → first_fault fault (cs ++ ds) tail ≡ first_fault fault ds tail
 unfolding first_fault
 first_fault-append fault [] ds tail none = refl
 first_fault-append fault (c ∷ cs) ds tail none = rw none.0 (first_fault-append fault cs ds tail none.1)
 
-pub first_fault-none : (fault : ChildBox → Option Cause) (cs : List ChildBox) (tail : List ℕ) → NoFault fault cs → first_fault fault cs tail ≡ tail_fault tail
+pub first_fault-none : (fault : ChildBox → Option Cause) (cs : List ChildBox) (tail : List ℕ) → NoFault fault cs
+    → first_fault fault cs tail ≡ tail_fault tail
 unfolding first_fault
 first_fault-none fault [] tail none = refl
 first_fault-none fault (c ∷ cs) tail none = rw none.0 (first_fault-none fault cs tail none.1)

@@ -24,7 +24,8 @@ module _ {V : Type 0} {E : V → V → Bool} (per : IsPartialEquivalence E) wher
   options_per = record { symm = flips; trans = chains }
 
 -- nothing is held by nothing
-pub held_at-no_items : {K V : Type 0} (eq : K → K → Bool) (keys : List K) (key : K) → held_at {V = V} eq keys (no_items keys) key ≡ None
+pub held_at-no_items : {K V : Type 0} (eq : K → K → Bool) (keys : List K) (key : K)
+    → held_at {V = V} eq keys (no_items keys) key ≡ None
 unfolding held_at
 held_at-no_items eq [] key = refl
 held_at-no_items {K} {V} eq (k ∷ keys) key = same (eq key k) (held_at-no_items {V = V} eq keys key)
@@ -34,8 +35,10 @@ held_at-no_items {K} {V} eq (k ∷ keys) key = same (eq key k) (held_at-no_items
     same false e = e
 
 -- at the key the value is held, and all other keys hold what they held
-pub held_at-with_item : {K V : Type 0} {eq : K → K → Bool} → IsEquivalence eq → (keys : List K) (held : List (Option V)) (key : K) (value : V) (q : K)
-    → length held ≡ length keys → is_member eq keys q ≡ true → held_at eq keys (with_item eq keys held key value) q ≡ cond (eq key q) (Some value) (held_at eq keys held q)
+pub held_at-with_item : {K V : Type 0} {eq : K → K → Bool} → IsEquivalence eq
+    → (keys : List K) (held : List (Option V)) (key : K) (value : V) (q : K)
+    → length held ≡ length keys → is_member eq keys q ≡ true
+    → held_at eq keys (with_item eq keys held key value) q ≡ cond (eq key q) (Some value) (held_at eq keys held q)
 unfolding held_at with_item
 held_at-with_item laws [] held key value q long listed = absurd (true≢false (sym listed))
 held_at-with_item laws (k ∷ keys) [] key value q long listed = cc
@@ -48,11 +51,14 @@ held_at-with_item {K} {V} {eq} laws (k ∷ keys) (x ∷ held) key value q long l
     new : Option V
     new = held_at eq keys (with_item eq keys held key value) q
 
-    at_key : (b : Bool) → eq q k ≡ b → (is_member eq keys q ≡ true → new ≡ cond (eq key q) (Some value) old) → cond b (cond (eq key k) (Some value) x) new ≡ cond (eq key q) (Some value) (cond b x old)
-    at_key true e rest = ap (λ t. cond t (Some value) x) (laws.symm key k ∙ sym (laws.congr q k key e) ∙ laws.symm q key)
+    at_key : (b : Bool) → eq q k ≡ b → (is_member eq keys q ≡ true → new ≡ cond (eq key q) (Some value) old)
+        → cond b (cond (eq key k) (Some value) x) new ≡ cond (eq key q) (Some value) (cond b x old)
+    at_key true e rest =
+        ap (λ t. cond t (Some value) x) (laws.symm key k ∙ sym (laws.congr q k key e) ∙ laws.symm q key)
     at_key false e rest = rest (rw e at listed)
 
-pub length-with_item : {K V : Type 0} (eq : K → K → Bool) (keys : List K) (held : List (Option V)) (key : K) (value : V) → length held ≡ length keys → length (with_item eq keys held key value) ≡ length keys
+pub length-with_item : {K V : Type 0} (eq : K → K → Bool) (keys : List K) (held : List (Option V)) (key : K)
+    (value : V) → length held ≡ length keys → length (with_item eq keys held key value) ≡ length keys
 unfolding with_item
 length-with_item eq [] held key value long = refl
 length-with_item eq (k ∷ keys) [] key value long = long

@@ -1,4 +1,5 @@
 pub mod BoxType
+pub mod BoxTypeLaws
 pub mod Cause
 pub mod Steps
 pub mod Bytes
@@ -12,6 +13,8 @@ pub mod ChildrenLaws
 pub mod GatherLaws
 pub mod Framing
 pub mod FramingLaws
+pub mod HeadLaws
+pub mod ListLaws
 pub mod WrittenChildren
 pub mod KeyedItems
 pub mod KeyedItemLaws

@@ -1,5 +1,6 @@
 -- Children that were written are the children that are read.
-use Rattle.std.proofs.Common.{◌≡◌, ℕ, zero, suc, ◌+◌, ◌^◌, ◌≤◌, ◌<◌, true, false, eqb, List, [], ◌∷◌, ◌++◌, length, Option, Some, None, Result, Ok, refl, sym, ap, subst, ◌∙◌, append_assoc, arith}
+use Rattle.std.proofs.Common.{◌≡◌, ℕ, zero, suc, ◌+◌, ◌^◌, ◌≤◌, ◌<◌, true, false, eqb, List, [], ◌∷◌, ◌++◌, length}
+use Rattle.std.proofs.Common.{Option, Some, None, Result, Ok, refl, sym, ap, subst, ◌∙◌, append_assoc, arith}
 use Rattle.std.specs.List.{AllByRecursion}
 use Rattle.std.specs.Option.{option_to_list}
 use Rattle.std.proofs.lemmas.List.{append-nil, length-append}
@@ -28,29 +29,39 @@ pub children-frames : (payload : List ℕ) (list : List ChildBox) → Frames pay
 unfolding children
 children-frames payload list f =
     let w : Walks (payload ⧺ []) (list ++ []) = f.before [] [] (record { is = λ n h. walk-ends n [] (omega arith) }) in
-    let whole : walk (length payload) (payload ⧺ []) ≡ (list ++ [], []) = w.is (length payload) (omega (arith, ap length (then_nothing payload))) in
-    ap (walk (length payload)) (sym (then_nothing payload)) ∙ whole ∙ ap (λ (cs : List ChildBox). (cs, [])) (append-nil list)
+    let whole : walk (length payload) (payload ⧺ []) ≡ (list ++ [], []) =
+    w.is (length payload) (omega (arith, ap length (then_nothing payload))) in
+    ap (walk (length payload)) (sym (then_nothing payload)) ∙ whole
+    ∙ ap (λ (cs : List ChildBox). (cs, [])) (append-nil list)
 
 pub Frames-none : Frames [] []
-Frames-none = record { before = λ rest others w. subst (λ (bytes : List ℕ). Walks bytes others) (sym (nothing_then rest)) w }
+Frames-none =
+    record { before = λ rest others w. subst (λ (bytes : List ℕ). Walks bytes others) (sym (nothing_then rest)) w }
 
 pub Frames-then : {a b : List ℕ} {cs ds : List ChildBox} → Frames a cs → Frames b ds → Frames (a ⧺ b) (cs ++ ds)
 Frames-then {a} {b} {cs} {ds} f g = record {
-  before = λ rest others w. subst (λ (bytes : List ℕ). Walks bytes ((cs ++ ds) ++ others)) (sym (then_assoc a b rest)) (subst (λ (list : List ChildBox). Walks (a ⧺ (b ⧺ rest)) list) (sym (append_assoc cs ds others)) (f.before (b ⧺ rest) (ds ++ others) (g.before rest others w)));
+  before = λ rest others w. subst (λ (bytes : List ℕ). Walks bytes ((cs ++ ds) ++ others)) (sym (then_assoc a b rest))
+      (subst (λ (list : List ChildBox). Walks (a ⧺ (b ⧺ rest)) list) (sym (append_assoc cs ds others))
+      (f.before (b ⧺ rest) (ds ++ others) (g.before rest others w)));
 }
 
-child_at-frame : (t : BoxType) (payload rest : List ℕ) → IsSpellable t → 8 + length payload < 2 ^ 32 → child_at (frame t payload ⧺ rest) ≡ Some ((t, payload), rest)
+child_at-frame : (t : BoxType) (payload rest : List ℕ) → IsSpellable t → 8 + length payload < 2 ^ 32
+    → child_at (frame t payload ⧺ rest) ≡ Some ((t, payload), rest)
 unfolding ◌⧺◌
 child_at-frame t payload rest s small = child_at-box t payload (frame t payload) rest (short s small refl)
 
-pub Frames-one : (t : BoxType) (payload : List ℕ) → IsSpellable t → 8 + length payload < 2 ^ 32 → Frames (frame t payload) ((t, payload) ∷ [])
+pub Frames-one : (t : BoxType) (payload : List ℕ) → IsSpellable t → 8 + length payload < 2 ^ 32
+    → Frames (frame t payload) ((t, payload) ∷ [])
 Frames-one t payload s small = record { before = λ rest others w. record { is = stepped rest others w } }
   where
-    stepped : (rest : List ℕ) (others : List ChildBox) → Walks rest others → (n : ℕ) → length (frame t payload ⧺ rest) ≤ n → walk n (frame t payload ⧺ rest) ≡ ((t, payload) ∷ others, [])
+    stepped : (rest : List ℕ) (others : List ChildBox) → Walks rest others → (n : ℕ)
+        → length (frame t payload ⧺ rest) ≤ n → walk n (frame t payload ⧺ rest) ≡ ((t, payload) ∷ others, [])
     stepped rest others w zero h = absurd (omega (arith, length-then (frame t payload) rest, length-frame t payload))
     stepped rest others w (suc n) h =
-        let size : length (frame t payload ⧺ rest) ≡ 8 + length payload + length rest = length-then (frame t payload) rest ∙ ap (λ (k : ℕ). k + length rest) (length-frame t payload) in
-        let b : Begins (frame t payload ⧺ rest) (t, payload) rest = record { long = omega (arith, size); is = child_at-frame t payload rest s small } in
+        let size : length (frame t payload ⧺ rest) ≡ 8 + length payload + length rest =
+        length-then (frame t payload) rest ∙ ap (λ (k : ℕ). k + length rest) (length-frame t payload) in
+        let b : Begins (frame t payload ⧺ rest) (t, payload) rest =
+        record { long = omega (arith, size); is = child_at-frame t payload rest s small } in
         let more : walk n rest ≡ (others, []) = w.is n (omega (arith, size)) in
         walk-begins n (frame t payload ⧺ rest) (t, payload) rest b ∙ rw more refl
 
@@ -59,7 +70,8 @@ abbrev pub boxed : {B : Type 0} → BoxType → (B → List ℕ) → List B → 
 boxed t payload [] = []
 boxed t payload (b ∷ bs) = (t, payload b) ∷ boxed t payload bs
 
-pub Frames-optional : {B : Type 0} (t : BoxType) (payload : B → List ℕ) (o : Option B) → IsSpellable t → length (optional t payload o) < 2 ^ 32 → Frames (optional t payload o) (boxed t payload (option_to_list o))
+pub Frames-optional : {B : Type 0} (t : BoxType) (payload : B → List ℕ) (o : Option B) → IsSpellable t
+    → length (optional t payload o) < 2 ^ 32 → Frames (optional t payload o) (boxed t payload (option_to_list o))
 Frames-optional t payload None s small = Frames-none
 Frames-optional t payload (Some b) s small = Frames-one t (payload b) s (omega (arith, length-frame t (payload b)))
 
@@ -67,31 +79,41 @@ joined : (a b : List ℕ) (cs ds : List ChildBox) → Frames a cs → Frames b d
 unfolding ◌⧺◌
 joined a b cs ds f g = Frames-then f g
 
-pub Frames-all : {B : Type 0} (t : BoxType) (payload : B → List ℕ) (bs : List B) → IsSpellable t → length (all_frames t payload bs) < 2 ^ 32 → Frames (all_frames t payload bs) (boxed t payload bs)
+pub Frames-all : {B : Type 0} (t : BoxType) (payload : B → List ℕ) (bs : List B) → IsSpellable t
+    → length (all_frames t payload bs) < 2 ^ 32 → Frames (all_frames t payload bs) (boxed t payload bs)
 Frames-all t payload [] s small = Frames-none
 Frames-all t payload (b ∷ bs) s small =
-    let whole : all_frames t payload (b ∷ bs) ≡ frame t (payload b) ++ all_frames t payload bs = flat_map-cons (λ x. frame t (payload x)) b bs in
-    let size : length (all_frames t payload (b ∷ bs)) ≡ 8 + length (payload b) + length (all_frames t payload bs) = ap length whole ∙ length-append (frame t (payload b)) (all_frames t payload bs) ∙ ap (λ (n : ℕ). n + length (all_frames t payload bs)) (length-frame t (payload b)) in
+    let whole : all_frames t payload (b ∷ bs) ≡ frame t (payload b) ++ all_frames t payload bs =
+    flat_map-cons (λ x. frame t (payload x)) b bs in
+    let size : length (all_frames t payload (b ∷ bs)) ≡ 8 + length (payload b) + length (all_frames t payload bs) =
+    ap length whole ∙ length-append (frame t (payload b)) (all_frames t payload bs)
+    ∙ ap (λ (n : ℕ). n + length (all_frames t payload bs)) (length-frame t (payload b)) in
     let first = Frames-one t (payload b) s (omega (arith, size, small)) in
     let others = Frames-all t payload bs s (omega (arith, size, small)) in
-    subst (λ (bytes : List ℕ). Frames bytes ((t, payload b) ∷ boxed t payload bs)) (sym whole) (joined (frame t (payload b)) (all_frames t payload bs) ((t, payload b) ∷ []) (boxed t payload bs) first others)
+    subst (λ (bytes : List ℕ). Frames bytes ((t, payload b) ∷ boxed t payload bs)) (sym whole)
+    (joined (frame t (payload b)) (all_frames t payload bs) ((t, payload b) ∷ []) (boxed t payload bs) first
+    others)
+
+same_code : (n : ℕ) → eqb n n ≡ true
+same_code n = grind arith
 
 -- the children of a type among those that hold values of it: the values, if each is read as it was
-pub all_of-boxed : {B : Type 0} (t : BoxType) (payload : B → List ℕ) (value : List ℕ → Result B Cause) (bs : List B) → AllByRecursion (λ b. value (payload b) ≡ Ok b) bs → all_of t value (boxed t payload bs) ≡ bs
+pub all_of-boxed : {B : Type 0} (t : BoxType) (payload : B → List ℕ) (value : List ℕ → Result B Cause) (bs : List B)
+    → AllByRecursion (λ b. value (payload b) ≡ Ok b) bs → all_of t value (boxed t payload bs) ≡ bs
 unfolding all_of
 all_of-boxed t payload value [] h = refl
-all_of-boxed t payload value (b ∷ bs) h = rw (same (code_of t), h.0) (ap (λ (xs : List _). b ∷ xs) (all_of-boxed t payload value bs h.1))
-  where
-    same : (n : ℕ) → eqb n n ≡ true
-    same n = grind arith
+all_of-boxed t payload value (b ∷ bs) h =
+    rw (same_code (code_of t), h.0) (ap (λ (xs : List _). b ∷ xs) (all_of-boxed t payload value bs h.1))
 
 -- and none among those of another type
-pub all_of-others : {A B : Type 0} (t u : BoxType) (payload : B → List ℕ) (value : List ℕ → Result A Cause) (bs : List B) → eqb (code_of u) (code_of t) ≡ false → all_of t value (boxed u payload bs) ≡ []
+pub all_of-others : {A B : Type 0} (t u : BoxType) (payload : B → List ℕ) (value : List ℕ → Result A Cause)
+    (bs : List B) → eqb (code_of u) (code_of t) ≡ false → all_of t value (boxed u payload bs) ≡ []
 unfolding all_of
 all_of-others t u payload value [] other = refl
 all_of-others t u payload value (b ∷ bs) other = rw other (all_of-others t u payload value bs other)
 
-pub NoFault-boxed : {B : Type 0} (fault : ChildBox → Option Cause) (t : BoxType) (payload : B → List ℕ) (bs : List B) → AllByRecursion (λ b. fault (t, payload b) ≡ None) bs → NoFault fault (boxed t payload bs)
+pub NoFault-boxed : {B : Type 0} (fault : ChildBox → Option Cause) (t : BoxType) (payload : B → List ℕ) (bs : List B)
+    → AllByRecursion (λ b. fault (t, payload b) ≡ None) bs → NoFault fault (boxed t payload bs)
 NoFault-boxed fault t payload [] h = tt
 NoFault-boxed fault t payload (b ∷ bs) h = (h.0, NoFault-boxed fault t payload bs h.1)
 
@@ -99,21 +121,25 @@ pub last-option : {A : Type 0} (o : Option A) → last (option_to_list o) ≡ o
 last-option None = refl
 last-option (Some x) = refl
 
-same_code : (n : ℕ) → eqb n n ≡ true
-same_code n = grind arith
-
-no_fault : {B : Type 0} (t : BoxType) (payload : B → List ℕ) (value : List ℕ → Result B Cause) (bs : List B) → AllByRecursion (λ b. value (payload b) ≡ Ok b) bs → AllByRecursion (λ b. fault_in t value (t, payload b) ≡ None) bs
+no_fault : {B : Type 0} (t : BoxType) (payload : B → List ℕ) (value : List ℕ → Result B Cause) (bs : List B)
+    → AllByRecursion (λ b. value (payload b) ≡ Ok b) bs
+    → AllByRecursion (λ b. fault_in t value (t, payload b) ≡ None) bs
 no_fault t payload value [] reads = tt
-no_fault t payload value (b ∷ bs) reads = (rw (same_code (code_of t), reads.0) refl, no_fault t payload value bs reads.1)
+no_fault t payload value (b ∷ bs) reads =
+    (rw (same_code (code_of t), reads.0) refl, no_fault t payload value bs reads.1)
 
 -- a child that was written, or was missing, is the last of its type among the children
-pub last_child-again : {B : Type 0} (t : BoxType) (payload : B → List ℕ) (value : List ℕ → Result B Cause) (o : Option B) → IsSpellable t → length (optional t payload o) < 2 ^ 32
-    → AllByRecursion (λ b. value (payload b) ≡ Ok b) (option_to_list o) → gathered (fault_in t value) (last_of t value) (children (optional t payload o)) ≡ Ok o
+pub last_child-again : {B : Type 0} (t : BoxType) (payload : B → List ℕ) (value : List ℕ → Result B Cause)
+    (o : Option B) → IsSpellable t → length (optional t payload o) < 2 ^ 32
+    → AllByRecursion (λ b. value (payload b) ≡ Ok b) (option_to_list o)
+    → gathered (fault_in t value) (last_of t value) (children (optional t payload o)) ≡ Ok o
 unfolding last_of
 last_child-again t payload value o s small reads =
     rw (
       children-frames (optional t payload o) (boxed t payload (option_to_list o)) (Frames-optional t payload o s small),
-      first_fault-none (fault_in t value) (boxed t payload (option_to_list o)) [] (NoFault-boxed (fault_in t value) t payload (option_to_list o) (no_fault t payload value (option_to_list o) reads)),
+      first_fault-none (fault_in t value) (boxed t payload (option_to_list o)) []
+          (NoFault-boxed (fault_in t value) t payload (option_to_list o)
+          (no_fault t payload value (option_to_list o) reads)),
       all_of-boxed t payload value (option_to_list o) reads,
       last-option o,
     ) refl

@@ -1,20 +1,21 @@
 //! The traits of a box.
 
-ghost use Rattle.std.specs.Prelude.{◌≡◌, ℕ, ◌+◌, ◌^◌, ◌<◌, List, length, Option, None, Result, Ok};
-ghost use Rattle.mp4_codec.specs.Cause.{Cause, Answers};
-ghost use Rattle.mp4_codec.specs.Boxes.{size_around, box_at, written, Writes, Adds, frame};
+ghost use Rattle.std.specs.Prelude.{◌≡◌, ℕ, ◌+◌, ◌^◌, ◌<◌, List, length, Option, Result, Ok, OnOk};
+ghost use Rattle.mp4_codec.specs.declared.box_type.BoxType.{BoxType};
+ghost use Rattle.mp4_codec.specs.Cause.{Cause, Answers, AnswersCause, Checks, Refuses, fault_of};
+ghost use Rattle.mp4_codec.specs.Bytes.{Appends};
+ghost use Rattle.mp4_codec.specs.Boxes.{size_around, payload_at, box_at, frame, write_cause, Writes, IsCanonical};
 
 use crate::box_type::BoxType;
 use crate::cursor::ByteCursor;
 use crate::error::{Error, Limit, Result};
 use crate::header::HEADER_SIZE;
-use crate::put::put_u32;
+use crate::in_range::InRange;
+use crate::put::{Put, put_u32};
 use std::alloc::Global;
 
 /// A box. What it means is its payload, the bytes behind its header.
 pub trait Mp4Box {
-    ghost use Rattle.mp4_codec.specs.declared.box_type.BoxType.{BoxType};
-
     ghost KIND: { BoxType };
 
     /// The type of all boxes of this kind.
@@ -29,7 +30,7 @@ pub trait Mp4Box {
         Self::KIND
     }
 
-    /// The length of the box in bytes, its header of 8 bytes and all; it stops at 2^64 - 1.
+    /// The length of the box in bytes, its header of 8 bytes included; it stops at 2^64 - 1.
     fn box_size(&self) -> u64
         ensures { result ≡ size_around (payload self.now) };
 }
@@ -44,11 +45,13 @@ pub trait ReadBox: Sized + Drop {
 
     /// The box of this size whose payload stands at the cursor; the size counts a header of 8 bytes.
     ///
-    /// `InvalidData` for a size below 8, `EndOfData` where fewer than `size - 8` bytes are left; else
-    /// the answer is that of those bytes alone. On Ok the cursor stands at the end of the box, after a
+    /// `InvalidData` for a size below 8, `EndOfData` where fewer than `size - 8` bytes are left, both before memory is
+    /// requested; else the answer is that of those bytes alone. On Ok the cursor stands at the end of the box, after a
     /// refusal at any place.
     fn read_box(alloc: Global, reader: &mut ByteCursor, size: u64) -> Result<Self>
-        ensures { Answers (λ x. (x, reader.new)) result (box_at value size reader.old) }
+        ensures value { Answers (λ x. (x, reader.new)) result (box_at value size reader.old) }
+        ensures missing { Refuses (fault_of (payload_at size reader.old)) result }
+        ensures same { reader.new.bytes ≡ reader.old.bytes }
     {
         if size < HEADER_SIZE {
             return Err(Error::InvalidData("a size below 8"));
@@ -59,23 +62,28 @@ pub trait ReadBox: Sized + Drop {
 }
 
 /// A box that can be written.
-pub trait WriteBox: Mp4Box + ReadBox {
-    /// Why a value is not written.
+pub trait WriteBox: Mp4Box + ReadBox + InRange {
+    /// Why a value is not written, whatever its size.
     ghost refusal: { Self → Option Cause };
 
-    /// The values that are read again as they are.
-    ghost IsCanonical: { Self → Type 0 };
+    /// What the layout asks of a value beside its ranges, so that it reads back equal: flags of 24 bits, a text without
+    /// a zero byte and the like.
+    ghost Remarks: { Self → Type 0 };
 
-    /// Adds the payload at the end of a buffer, which nobody looks at after a refusal.
-    fn put_payload(&self, out: &mut Vec<u8>) -> Result<()>
+    /// Whether the value can be written, whatever its size: the first refusal of a leaf in written order.
+    fn check(&self) -> Result<()>
+        ensures { Checks result (refusal self.now) };
+
+    /// Adds the payload at the end of a buffer. Where a request for memory is refused, the buffer may hold a part of it.
+    fn put_payload(&self, out: &mut Vec<u8>) -> Put
         requires { 8 + length (Self.payload self.now) < 2 ^ 32 }
-        ensures { Adds out.old.items out.new.items result (Self.payload self.now) (refusal self.now) };
+        ensures { OnOk result (Appends out.old.items out.new.items (Self.payload self.now)) };
 
-    /// Adds the box at the end of a buffer, which nobody looks at after a refusal.
+    /// Adds the box at the end of a buffer. Where a request for memory is refused, the buffer may hold a part of it.
     #[tactic(auto, unfolding(crate::specs::Boxes::frame))]
-    fn put_box(&self, out: &mut Vec<u8>) -> Result<()>
+    fn put_box(&self, out: &mut Vec<u8>) -> Put
         requires { 8 + length (Self.payload self.now) < 2 ^ 32 }
-        ensures { Adds out.old.items out.new.items result (frame Self.KIND (Self.payload self.now)) (refusal self.now) }
+        ensures { OnOk result (Appends out.old.items out.new.items (frame Self.KIND (Self.payload self.now))) }
     {
         put_u32(out, self.box_size() as u32)?;
         put_u32(out, u32::from(self.box_type()))?;
@@ -83,24 +91,25 @@ pub trait WriteBox: Mp4Box + ReadBox {
         Ok(())
     }
 
-    /// Adds the box at the end of a buffer, and answers its length in bytes, which is that of
-    /// `box_size`.
+    /// Adds the box at the end of a buffer, and answers its length in bytes, which is that of `box_size`.
     ///
-    /// `TooLarge(BoxSize)` where that passes 2^32 - 1, then the first refusal of a leaf in written
-    /// order. After a refusal, for want of memory too, the buffer is as before.
+    /// `TooLarge(BoxSize)` where that passes 2^32 - 1, then the first refusal of a leaf in written order, both before
+    /// memory is requested. A refused call leaves the buffer as before, for want of memory too.
     fn write_box(&self, writer: &mut Vec<u8>) -> Result<u64>
-        ensures { Writes writer.old.items writer.new.items result (written Self.KIND (Self.payload self.now) (refusal self.now)) }
+        ensures cause { AnswersCause (write_cause (Self.payload self.now) (refusal self.now)) result }
+        ensures bytes { Writes writer.old.items writer.new.items result (frame Self.KIND (Self.payload self.now)) }
     {
         let size = self.box_size();
         if size > u32::MAX as u64 {
             return Err(Error::TooLarge(Limit::BoxSize));
         }
+        self.check()?;
         let mut bytes = Vec::with_capacity(*writer.allocator(), size as usize)?;
         self.put_box(&mut bytes)?;
         writer.extend_from_slice(&bytes)?;
         Ok(size)
     }
 
-    /// What is canonical is written, and reads back equal.
-    ghost reads_back: { (x : Self) → IsCanonical x → (refusal x ≡ None) × (Self.value (Self.payload x) ≡ Ok x) };
+    /// What is canonical reads back equal.
+    ghost reads_back: { (x : Self) → IsCanonical Self.IsInRange Remarks Self.payload refusal x → Self.value (Self.payload x) ≡ Ok x };
 }

@@ -1,17 +1,33 @@
 //! Boxes in a box: the children that are written at the end of a buffer.
 
-ghost use Rattle.std.specs.Prelude.{◌≡◌, ◌-◌, ◌<◌, ◌^◌, min, length};
-ghost use Rattle.mp4_codec.specs.Boxes.{Adds, optional, optional_refusal, all_frames, all_refusal};
+ghost use Rattle.std.specs.Prelude.{◌≡◌, ◌-◌, ◌<◌, ◌^◌, min, length, OnOk};
+ghost use Rattle.mp4_codec.specs.Cause.{Checks};
+ghost use Rattle.mp4_codec.specs.Bytes.{Appends};
+ghost use Rattle.mp4_codec.specs.Boxes.{optional, optional_refusal, all_frames, all_refusal};
 
 use crate::boxes::WriteBox;
 use crate::error::Result;
 use crate::items::Items;
+use crate::put::Put;
+
+/// Whether a child that may be missing can be written.
+pub fn check_optional<B: WriteBox>(child: &Option<B>) -> Result<()>
+    ensures { Checks result (optional_refusal B.refusal child.now) }
+{
+    match child {
+        None => Ok(()),
+        Some(b) => {
+            b.check()?;
+            Ok(())
+        }
+    }
+}
 
 /// Adds the box of a child that may be missing.
 #[tactic(auto, using(crate::proofs::Frames::frames))]
-pub fn put_optional<B: WriteBox>(out: &mut Vec<u8>, child: &Option<B>) -> Result<()>
+pub fn put_optional<B: WriteBox>(out: &mut Vec<u8>, child: &Option<B>) -> Put
     requires { length (optional B.KIND B.payload child.now) < 2 ^ 32 }
-    ensures { Adds out.old.items out.new.items result (optional B.KIND B.payload child.now) (optional_refusal B.refusal child.now) }
+    ensures { OnOk result (Appends out.old.items out.new.items (optional B.KIND B.payload child.now)) }
 {
     match child {
         None => Ok(()),
@@ -33,10 +49,20 @@ pub fn optional_size<B: WriteBox>(child: &Option<B>) -> u64
     }
 }
 
+/// Whether each child of a list can be written: the first refusal in order.
+pub fn check_all<B: WriteBox>(children: &Items<B>) -> Result<()>
+    ensures { Checks result (all_refusal B.refusal children.now) }
+{
+    for child in children.as_slice() {
+        child.check()?;
+    }
+    Ok(())
+}
+
 /// Adds the boxes of a list of children, one after the other.
-pub fn put_all<B: WriteBox>(out: &mut Vec<u8>, children: &Items<B>) -> Result<()>
+pub fn put_all<B: WriteBox>(out: &mut Vec<u8>, children: &Items<B>) -> Put
     requires { length (all_frames B.KIND B.payload children.now) < 2 ^ 32 }
-    ensures { Adds out.old.items out.new.items result (all_frames B.KIND B.payload children.now) (all_refusal B.refusal children.now) }
+    ensures { OnOk result (Appends out.old.items out.new.items (all_frames B.KIND B.payload children.now)) }
 {
     for child in children.as_slice() {
         child.put_box(out)?;

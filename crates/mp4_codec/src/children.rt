@@ -1,6 +1,6 @@
 //! The children of a payload (ISO/IEC 14496-12, 4.2).
 
-ghost use Rattle.std.specs.Prelude.{◌≡◌, ◌<◌, Some, length, IfOk, IfSome, OnSome, OnErr};
+ghost use Rattle.std.specs.Prelude.{◌≡◌, ◌<◌, Some, length, IfOk, IfSome, OnSome, OnErr, ℕ, List};
 ghost use Rattle.std.specs.Option.{option_map};
 ghost use Rattle.mp4_codec.specs.Cause.{Gives};
 ghost use Rattle.mp4_codec.specs.BoxType.{IsNamed};
@@ -26,8 +26,6 @@ pub struct Children<'a> {
 }
 
 impl<'a> Model for Children<'a> {
-    ghost use Rattle.std.specs.Prelude.{ℕ, List};
-
     ghost Value = { List ℕ };
 
     ghost view = { λ s. s.rest.now };

@@ -2,7 +2,7 @@
 
 ghost use Rattle.std.specs.Prelude.{◌≡◌, OnErr};
 ghost use Rattle.mp4_codec.specs.Cause.{Gives};
-ghost use Rattle.mp4_codec.specs.Cursor.{take_at, left};
+ghost use Rattle.mp4_codec.specs.Cursor.{take_at, left, Cursor};
 
 use crate::error::{Error, Result};
 use std::marker::Model;
@@ -16,8 +16,6 @@ pub struct ByteCursor<'a> {
 }
 
 impl<'a> Model for ByteCursor<'a> {
-    ghost use Rattle.mp4_codec.specs.Cursor.{Cursor};
-
     ghost Value = { Cursor };
 
     ghost view = { λ c. record { bytes = c.bytes.now; position = c.position } };

@@ -1,10 +1,10 @@
 //! The entries of a box's list.
 
-ghost use Rattle.std.specs.Prelude.{◌≡◌, ℕ, List, length, Result, Ok, OnOk, min, ◌^◌, ◌-◌};
+ghost use Rattle.std.specs.Prelude.{◌≡◌, ℕ, List, length, Result, Ok, OnOk, min, ◌^◌, ◌-◌, ◌<◌};
 ghost use Rattle.std.specs.List.{flat_map};
-ghost use Rattle.mp4_codec.specs.Cause.{Cause, Gives, Answers};
-ghost use Rattle.mp4_codec.specs.Bytes.{Appends, ◌⧺◌, Reader, list_at};
-ghost use Rattle.mp4_codec.specs.FieldLaws.{HasLength};
+ghost use Rattle.mp4_codec.specs.Cause.{Cause, Gives, Answers, Checks, Refuses};
+ghost use Rattle.mp4_codec.specs.Bytes.{Appends, ◌⧺◌, Reader, list_at, count_cause, number_at, number, four_cc_at, four_cc, IsCode, HasLength};
+ghost use Rattle.mp4_codec.specs.FieldLaws.{number_again, length-number, number-has_length, four_cc_again, length-four_cc, four_cc-has_length};
 
 use crate::error::{Error, Result};
 use crate::fields::Fields;
@@ -44,15 +44,24 @@ pub trait Entry: Copy {
 }
 
 impl<'a> Fields<'a> {
-    /// So many entries. Where they pass the end they are `InvalidData`, before any memory is taken;
-    /// else the list grows once.
-    pub fn list<T: Entry>(&mut self, alloc: Global, version: u8, count: usize) -> Result<Items<T>>
-        ensures { Answers (λ xs. (xs, self.new)) result (list_at (T.at version) count self.old) }
+    /// Whether so many entries of this many bytes each are left.
+    fn check_count(&self, count: usize, each: u64) -> Result<()>
+        ensures { Checks result (count_cause count each self.now) }
     {
-        let bytes = (count as u64).saturating_mul(T::size(version));
-        if bytes > self.len() as u64 {
+        let bytes = count as u128 * each as u128;
+        if bytes > self.len() as u128 {
             return Err(Error::InvalidData("a list passes the end"));
         }
+        Ok(())
+    }
+
+    /// So many entries. Where they pass the end they are `InvalidData`, before memory is requested; else the list grows
+    /// once.
+    pub fn list<T: Entry>(&mut self, alloc: Global, version: u8, count: usize) -> Result<Items<T>>
+        ensures value { Answers (λ xs. (xs, self.new)) result (list_at (T.at version) count self.old) }
+        ensures count { Refuses (count_cause count (T.bytes_each version) self.old) result }
+    {
+        self.check_count(count, T::size(version))?;
         let mut items = Items::with_capacity(alloc, count)?;
         for _ in 0..count {
             let item = T::read(self, version)?;
@@ -80,10 +89,6 @@ pub fn list_size<T: Entry>(version: u8, items: &Items<T>) -> u64
 }
 
 impl Entry for u32 {
-    ghost use Rattle.std.specs.Prelude.{◌<◌, ◌^◌};
-    ghost use Rattle.mp4_codec.specs.Bytes.{number_at, number};
-    ghost use Rattle.mp4_codec.specs.FieldLaws.{number_again, length-number, number-has_length};
-
     ghost at = { λ _. number_at 4 };
 
     ghost spelled = { λ _. number 4 };
@@ -112,10 +117,6 @@ impl Entry for u32 {
 }
 
 impl Entry for u64 {
-    ghost use Rattle.std.specs.Prelude.{◌<◌, ◌^◌};
-    ghost use Rattle.mp4_codec.specs.Bytes.{number_at, number};
-    ghost use Rattle.mp4_codec.specs.FieldLaws.{number_again, length-number, number-has_length};
-
     ghost at = { λ _. number_at 8 };
 
     ghost spelled = { λ _. number 8 };
@@ -144,9 +145,6 @@ impl Entry for u64 {
 }
 
 impl Entry for FourCC {
-    ghost use Rattle.mp4_codec.specs.Bytes.{four_cc_at, four_cc};
-    ghost use Rattle.mp4_codec.specs.FieldLaws.{IsCode, four_cc_again, length-four_cc, four_cc-has_length};
-
     ghost at = { λ _. four_cc_at };
 
     ghost spelled = { λ _. four_cc };

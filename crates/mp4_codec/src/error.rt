@@ -18,7 +18,7 @@ pub enum Limit {
     TrackDuration,
     /// The tracks of a movie: at most 2^32 - 1.
     TrackCount,
-    /// The bytes of a box that is written, header and all: at most 2^32 - 1.
+    /// The bytes of a box that is written, header included: at most 2^32 - 1.
     BoxSize,
     /// A number that has to fit its field or its answer.
     Value,

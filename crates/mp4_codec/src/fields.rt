@@ -1,6 +1,6 @@
 //! The fields of a payload, read one after the other.
 
-ghost use Rattle.std.specs.Prelude.{◌≡◌, ◌==◌, length, IfOk};
+ghost use Rattle.std.specs.Prelude.{◌≡◌, ◌==◌, ◌≤◌, length, Ok, ℕ, List};
 ghost use Rattle.mp4_codec.specs.Cause.{Gives, Answers};
 ghost use Rattle.mp4_codec.specs.Bytes.{bytes_at, number_at, int16_at, int32_at, versioned_at, four_cc_at, until_zero, text_at};
 
@@ -8,7 +8,7 @@ use crate::error::{Error, Result};
 use crate::four_cc::FourCC;
 use crate::items::Items;
 use byteorder::{BigEndian, ByteOrder};
-use std::alloc::{AllocError, Global};
+use std::alloc::Global;
 use std::marker::Model;
 
 /// The bytes of a payload that are still to be read.
@@ -21,8 +21,6 @@ pub struct Fields<'a> {
 }
 
 impl<'a> Model for Fields<'a> {
-    ghost use Rattle.std.specs.Prelude.{ℕ, List};
-
     ghost Value = { List ℕ };
 
     ghost view = { λ s. s.rest.now };
@@ -157,11 +155,12 @@ impl<'a> Fields<'a> {
         Ok(FourCC::from(code))
     }
 
-    /// The bytes that are left before the first zero, or all of them.
-    pub fn until_zero(&self, alloc: Global) -> std::result::Result<Items<u8>, AllocError>
-        ensures { IfOk result (λ text. text ≡ until_zero self.now) }
+    /// The bytes that are left before the first zero, or all of them, which are left as they are.
+    pub fn until_zero(&self, alloc: Global) -> Result<Items<u8>>
+        ensures { Answers (λ text. text) result (Ok (until_zero self.now)) }
     {
-        Ok(Items::from(before_zero(alloc, self.rest)?))
+        let n = zero_place(self.rest);
+        Ok(Items::from(self.rest[..n].to_vec(alloc)?))
     }
 
     /// The bytes before the next zero, which has to be there and is passed over.
@@ -179,14 +178,8 @@ impl<'a> Fields<'a> {
 /// The place of the first zero, or the length.
 #[tactic(auto, unfolding(crate::specs::Bytes::until_zero))]
 fn zero_place(bytes: &[u8]) -> usize
-    ensures { result ≡ length (until_zero bytes.now) }
+    ensures place { result ≡ length (until_zero bytes.now) }
+    ensures within { result ≤ length bytes.now }
 {
     bytes.iter().take_while(|b| **b != 0).count()
-}
-
-#[tactic(auto, unfolding(crate::specs::Bytes::until_zero))]
-fn before_zero(alloc: Global, bytes: &[u8]) -> std::result::Result<Vec<u8>, AllocError>
-    ensures { IfOk result (λ v. v.items ≡ until_zero bytes.now) }
-{
-    bytes.iter().copied().take_while(|b| *b != 0).collect(alloc)
 }

@@ -2,8 +2,9 @@
 
 ghost use Rattle.std.specs.Prelude.{◌≡◌, ◌++◌, ◌∷◌, [], List, Option, Result, Ok};
 ghost use Rattle.mp4_codec.specs.BoxType.{IsNamed};
-ghost use Rattle.mp4_codec.specs.Cause.{Cause, Answers, unless};
-ghost use Rattle.mp4_codec.specs.Children.{ChildBox, child_box, children, gathered, fault_in, last_of, all_of};
+ghost use Rattle.mp4_codec.specs.Cause.{Cause, Answers, unless, seen};
+ghost use Rattle.mp4_codec.specs.Children.{ChildBox, child_box, children, gathered, fault_in, last_of, all_of, with_last, with_next};
+ghost use Rattle.mp4_codec.specs.GatherLaws.{last_child-adds, all_children-adds};
 
 use crate::boxes::{Mp4Box, ReadBox};
 use crate::children::{Child, Children};
@@ -54,16 +55,11 @@ struct LastChild<B> {
 }
 
 impl<B: Mp4Box + ReadBox> Gather for LastChild<B> {
-    ghost use Rattle.std.specs.Prelude.{Ok};
-    ghost use Rattle.mp4_codec.specs.Cause.{◌>>=◌};
-    ghost use Rattle.mp4_codec.specs.Children.{fault_in, last_of, with_last};
-    ghost use Rattle.mp4_codec.specs.GatherLaws.{last_child-adds};
-
     ghost fault = { fault_in B.KIND B.value };
 
     ghost taken = { λ list. record { child = last_of B.KIND B.value list } };
 
-    ghost added = { λ p c. with_last B.KIND B.value c p.child >>= λ x. Ok (record { child = x }) };
+    ghost added = { λ p c. seen (λ x. record { child = x }) (with_last B.KIND B.value c p.child) };
 
     ghost adds = { last_child-adds B.KIND B.value (λ x. record { child = x }) };
 
@@ -97,16 +93,11 @@ struct AllChildren<B> {
 }
 
 impl<B: Mp4Box + ReadBox> Gather for AllChildren<B> {
-    ghost use Rattle.std.specs.Prelude.{Ok};
-    ghost use Rattle.mp4_codec.specs.Cause.{◌>>=◌};
-    ghost use Rattle.mp4_codec.specs.Children.{fault_in, all_of, with_next};
-    ghost use Rattle.mp4_codec.specs.GatherLaws.{all_children-adds};
-
     ghost fault = { fault_in B.KIND B.value };
 
     ghost taken = { λ list. record { children = all_of B.KIND B.value list } };
 
-    ghost added = { λ p c. with_next B.KIND B.value c p.children >>= λ x. Ok (record { children = x }) };
+    ghost added = { λ p c. seen (λ x. record { children = x }) (with_next B.KIND B.value c p.children) };
 
     ghost adds = { all_children-adds B.KIND B.value (λ x. record { children = x }) };
 

@@ -1,11 +1,11 @@
 //! The header of a box (ISO/IEC 14496-12, 4.2).
 
 ghost use Rattle.std.specs.Prelude.{◌≡◌, ◌≤◌, ◌+◌, ◌⊎◌, OnOk, IfOk};
-ghost use Rattle.mp4_codec.specs.Cause.{Gives};
-ghost use Rattle.mp4_codec.specs.Cursor.{header_at};
+ghost use Rattle.mp4_codec.specs.Cause.{Gives, AnswersCause, Checks};
+ghost use Rattle.mp4_codec.specs.Cursor.{header_saying, header_at};
 ghost use Rattle.mp4_codec.specs.BoxType.{IsNamed};
 ghost use Rattle.mp4_codec.specs.Bytes.{number, ◌⧺◌};
-ghost use Rattle.mp4_codec.specs.Boxes.{Writes, size_spelling, header_spelling};
+ghost use Rattle.mp4_codec.specs.Boxes.{Writes, header_cause, header_spelling};
 
 use crate::box_type::BoxType;
 use crate::cursor::ByteCursor;
@@ -35,16 +35,38 @@ pub struct BoxHeader {
     pub size: u64,
 }
 
-/// The size as it is written, in 32 bits.
-fn spelled_size(size: u64) -> Result<u32>
-    ensures { Gives (λ n. n) result (size_spelling size) }
+/// Whether a header of this size can be written: 0 for an open end, or 8 and more within 32 bits.
+fn check_size(size: u64) -> Result<()>
+    ensures { Checks result (header_cause size) }
 {
     match size {
-        0 => Ok(0),
+        OPEN_END => Ok(()),
         1..=7 => Err(Error::InvalidData("a size below 8")),
-        8..=0xffff_ffff => Ok(size as u32),
+        8..=0xffff_ffff => Ok(()),
         _ => Err(Error::TooLarge(Limit::BoxSize)),
     }
+}
+
+/// What a header of so many bytes reports, by the length of the whole box that it says: 0 leaves the end open.
+fn header_with(name: BoxType, header: u64, total: u64) -> Result<BoxHeader>
+    requires { 8 ≤ header }
+    ensures value { Gives (λ h. h) result (header_saying name header total) }
+    ensures name { IfOk result (λ h. h.name ≡ name) }
+    ensures size { IfOk result (λ h. (h.size ≡ 0) ⊎ (8 ≤ h.size)) }
+{
+    if total == OPEN_END {
+        return Ok(BoxHeader {
+            name,
+            size: OPEN_END,
+        });
+    }
+    if total < header {
+        return Err(Error::InvalidData("a size below its header"));
+    }
+    Ok(BoxHeader {
+        name,
+        size: total - header + HEADER_SIZE,
+    })
 }
 
 /// The bytes of a header: a size and a code.
@@ -69,48 +91,38 @@ impl BoxHeader {
     ///
     /// `EndOfData` where fewer than 8 bytes are left, or fewer than 16 and the size is 1;
     /// `InvalidData` for a size of 2 to 7 or a largesize of 1 to 15. A largesize of at least 16 is
-    /// answered less 8, so that `size - 8` is the length of the payload.
-    #[tactic(auto, using(crate::proofs::BoxTypeLaws::is_named), unfolding(crate::specs::Cursor::head_at))]
+    /// answered less 8, so that `size - 8` is the length of the payload. A refusal leaves the cursor at any place, over
+    /// the same bytes.
+    #[tactic(auto, using(crate::specs::BoxTypeLaws::is_named), unfolding(crate::specs::Cursor::head_at))]
     pub fn read(reader: &mut ByteCursor) -> Result<Self>
         ensures value { Gives (λ h. (h, reader.new)) result (header_at reader.old) }
         ensures moved { OnOk result (reader.old.position + 8 ≤ reader.new.position) }
-        ensures same { OnOk result (reader.new.bytes ≡ reader.old.bytes) }
+        ensures same { reader.new.bytes ≡ reader.old.bytes }
         ensures named { IfOk result (λ h. IsNamed h.name) }
         ensures size { IfOk result (λ h. (h.size ≡ 0) ⊎ (8 ≤ h.size)) }
     {
         let first = reader.take(HEADER_SIZE)?;
         let size = BigEndian::read_u32(first);
         let name = BoxType::from(BigEndian::read_u32(&first[4..]));
-        match size {
-            0 => Ok(BoxHeader { name, size: 0 }),
-            LARGE => {
-                let large = BigEndian::read_u64(reader.take(8)?);
-                match large {
-                    0 => Ok(BoxHeader { name, size: 0 }),
-                    1..=15 => Err(Error::InvalidData("a largesize below 16")),
-                    _ => Ok(BoxHeader {
-                        name,
-                        size: large - (LARGE_HEADER_SIZE - HEADER_SIZE),
-                    }),
-                }
-            }
-            2..=7 => Err(Error::InvalidData("a size below 8")),
-            _ => Ok(BoxHeader {
-                name,
-                size: size as u64,
-            }),
+        if size == LARGE {
+            let large = BigEndian::read_u64(reader.take(8)?);
+            let header = header_with(name, LARGE_HEADER_SIZE, large)?;
+            return Ok(header);
         }
+        let header = header_with(name, HEADER_SIZE, u64::from(size))?;
+        Ok(header)
     }
 
     /// Adds the 8 bytes of the header at the end of a buffer, and answers their number.
     ///
-    /// `InvalidData` for a size of 1 to 7, `TooLarge(BoxSize)` for one past 2^32 - 1. After a refusal,
-    /// for want of memory too, the buffer is as before.
+    /// `InvalidData` for a size of 1 to 7, `TooLarge(BoxSize)` for one past 2^32 - 1, both before memory is requested. A
+    /// refused call leaves the buffer as before, for want of memory too.
     pub fn write(&self, writer: &mut Vec<u8>) -> Result<u64>
-        ensures { Writes writer.old.items writer.new.items result (header_spelling self.now) }
+        ensures cause { AnswersCause (header_cause self.now.size) result }
+        ensures bytes { Writes writer.old.items writer.new.items result (header_spelling self.now) }
     {
-        let size = spelled_size(self.size)?;
-        writer.extend_from_slice(&header_bytes(size, u32::from(self.name)))?;
+        check_size(self.size)?;
+        writer.extend_from_slice(&header_bytes(self.size as u32, u32::from(self.name)))?;
         Ok(HEADER_SIZE)
     }
 }

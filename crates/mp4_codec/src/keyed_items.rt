@@ -1,6 +1,6 @@
 //! Values at keys, which contracts see as what is held at each key.
 
-ghost use Rattle.std.specs.Prelude.{◌≡◌, ◌==◌, true, List, length, Ok, OnOk, OnErr};
+ghost use Rattle.std.specs.Prelude.{◌≡◌, ◌==◌, true, List, length, Ok, OnOk, OnErr, Option};
 ghost use Rattle.std.specs.Cmp.Lexicographic.{pointwise, lists_per, lists_equiv, options_equiv};
 ghost use Rattle.std.specs.List.{count_by};
 ghost use Rattle.std.specs.Option.{is_some, option_copied, option_eq};
@@ -8,9 +8,6 @@ ghost use Rattle.std.specs.Set.{is_member, distinct_count};
 ghost use Rattle.mp4_codec.specs.Cause.{Answers};
 ghost use Rattle.mp4_codec.specs.KeyedItemLaws.{options_per};
 ghost use Rattle.mp4_codec.specs.KeyedItems.{held_in, held_at, no_items, with_item};
-
-#[cfg(test)]
-mod tests;
 
 use crate::error::Result;
 use crate::try_clone::TryClone;
@@ -41,9 +38,6 @@ pub struct KeyedItems<K: Key, V> {
 }
 
 impl<K: Key, V> Model for KeyedItems<K, V> {
-    ghost use Rattle.std.specs.Prelude.{List, Option};
-    ghost use Rattle.mp4_codec.specs.KeyedItems.{held_in};
-
     ghost Value = { List (Option V) };
 
     ghost view = { λ s. held_in K.eq K.all s.items };

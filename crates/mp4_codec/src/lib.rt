@@ -4,6 +4,7 @@
 
 mod box_type;
 mod boxes;
+mod check;
 mod child_boxes;
 mod children;
 mod cursor;
@@ -13,6 +14,7 @@ mod fields;
 mod four_cc;
 mod gather;
 mod header;
+mod in_range;
 mod items;
 mod keyed_items;
 mod laws;
@@ -22,7 +24,8 @@ mod try_clone;
 
 pub use box_type::{BoxType, code_again};
 pub use boxes::{Mp4Box, ReadBox, WriteBox};
-pub use child_boxes::{all_size, optional_size, put_all, put_optional};
+pub use check::{check_value, check_version};
+pub use child_boxes::{all_size, check_all, check_optional, optional_size, put_all, put_optional};
 pub use children::{Child, Children};
 pub use cursor::ByteCursor;
 pub use entry::{Entry, list_size, put_list};
@@ -31,15 +34,16 @@ pub use fields::Fields;
 pub use four_cc::FourCC;
 pub use gather::{Gather, all_children, gather_children, last_child};
 pub use header::{BoxHeader, HEADER_EXT_SIZE, HEADER_SIZE, OPEN_END};
+pub use in_range::InRange;
 pub use items::Items;
 pub use keyed_items::{Key, KeyedItems};
-pub use laws::{frame_has_its_head, payload_has_its_children, refused_head_says_why};
+pub use laws::{
+    frame_has_its_head, header_says_its_box, insertion_changes_one_key, payload_has_its_children,
+    refused_head_says_why, what_is_written_reads_back,
+};
 pub use put::{
-    Put, check_value, check_version, put_bytes, put_four_cc, put_i16, put_i32, put_u8, put_u16,
-    put_u24, put_u32, put_u64, put_versioned, put_zeros,
+    Put, put_bytes, put_four_cc, put_i16, put_i32, put_u8, put_u16, put_u24, put_u32, put_u64,
+    put_versioned, put_zeros,
 };
 pub use text::Text;
 pub use try_clone::TryClone;
-
-#[cfg(test)]
-mod tests;

@@ -3,10 +3,8 @@
 //! After a refusal, for want of memory, a buffer may hold a part of the field.
 
 ghost use Rattle.std.specs.Prelude.{◌≡◌, ◌<◌, OnOk};
-ghost use Rattle.mp4_codec.specs.Cause.{Checks};
-ghost use Rattle.mp4_codec.specs.Bytes.{Appends, number, zeros, int16, int32, versioned, version_refusal, value_refusal, four_cc};
+ghost use Rattle.mp4_codec.specs.Bytes.{Appends, number, zeros, int16, int32, versioned, four_cc};
 
-use crate::error::{Error, Limit, Result};
 use crate::four_cc::FourCC;
 use byteorder::{BigEndian, ByteOrder};
 use std::alloc::AllocError;
@@ -109,26 +107,4 @@ pub fn put_four_cc(out: &mut Vec<u8>, code: FourCC) -> Put
     ensures { OnOk result (Appends out.old.items out.new.items (four_cc code)) }
 {
     put_u32(out, u32::from(code))
-}
-
-/// Whether a version is 0 or 1; any other is `InvalidData`.
-pub fn check_version(version: u8) -> Result<()>
-    ensures { Checks result (version_refusal version) }
-{
-    if version > 1 {
-        return Err(Error::InvalidData("an unknown version"));
-    }
-    Ok(())
-}
-
-/// Whether a number has room in the bytes that a version gives it; `TooLarge(Value)` where it passes
-/// 32 bits, but in version 1.
-#[tactic(auto, unfolding(crate::specs::Bytes::value_refusal))]
-pub fn check_value(version: u8, n: u64) -> Result<()>
-    ensures { Checks result (value_refusal version n) }
-{
-    if version != 1 && n > u32::MAX as u64 {
-        return Err(Error::TooLarge(Limit::Value));
-    }
-    Ok(())
 }

@@ -1,6 +1,8 @@
 //! Texts, which contracts see as the lists of their bytes.
 
-ghost use Rattle.std.specs.Prelude.{◌≡◌, ◌==◌, [], ◌++◌, length, string_bytes, OnOk, OnErr, IfOk, Ok};
+ghost use Rattle.std.specs.Prelude.{◌≡◌, ◌==◌, [], ◌++◌, length, string_bytes, OnOk, OnErr, IfOk, Ok, ℕ, List, nat_eq};
+ghost use Rattle.std.specs.Cmp.{partial_equiv_from_equiv};
+ghost use Rattle.std.specs.Cmp.Lexicographic.{pointwise, nat_list_eq_equiv};
 ghost use Rattle.mp4_codec.specs.Cause.{Answers};
 
 use crate::error::Result;
@@ -16,8 +18,6 @@ pub struct Text {
 }
 
 impl Model for Text {
-    ghost use Rattle.std.specs.Prelude.{ℕ, List, string_bytes};
-
     ghost Value = { List ℕ };
 
     ghost view = { λ s. string_bytes s.text };
@@ -91,10 +91,6 @@ impl From<Text> for String {
 }
 
 impl PartialEq for Text {
-    ghost use Rattle.std.specs.Prelude.{nat_eq};
-    ghost use Rattle.std.specs.Cmp.{partial_equiv_from_equiv};
-    ghost use Rattle.std.specs.Cmp.Lexicographic.{pointwise, nat_list_eq_equiv};
-
     ghost eq = { pointwise nat_eq };
 
     ghost laws = { partial_equiv_from_equiv nat_list_eq_equiv };
@@ -105,8 +101,6 @@ impl PartialEq for Text {
 }
 
 impl Eq for Text {
-    ghost use Rattle.std.specs.Cmp.Lexicographic.{nat_list_eq_equiv};
-
     ghost laws = { nat_list_eq_equiv };
 }
 

@@ -1,7 +1,7 @@
 //! Copies that take memory.
 
 ghost use Rattle.std.specs.Prelude.{◌≡◌, Ok};
-ghost use Rattle.mp4_codec.specs.Cause.{Answers};
+ghost use Rattle.mp4_codec.specs.Cause.{Answers, Gives};
 
 use crate::box_type::BoxType;
 use crate::error::Result;
@@ -16,37 +16,49 @@ pub trait TryClone: Sized + Drop {
 }
 
 impl TryClone for u8 {
-    fn try_clone(&self) -> Result<u8> {
+    fn try_clone(&self) -> Result<u8>
+        ensures { Gives (λ x. x) result (Ok self.now) }
+    {
         Ok(*self)
     }
 }
 
 impl TryClone for u16 {
-    fn try_clone(&self) -> Result<u16> {
+    fn try_clone(&self) -> Result<u16>
+        ensures { Gives (λ x. x) result (Ok self.now) }
+    {
         Ok(*self)
     }
 }
 
 impl TryClone for u32 {
-    fn try_clone(&self) -> Result<u32> {
+    fn try_clone(&self) -> Result<u32>
+        ensures { Gives (λ x. x) result (Ok self.now) }
+    {
         Ok(*self)
     }
 }
 
 impl TryClone for u64 {
-    fn try_clone(&self) -> Result<u64> {
+    fn try_clone(&self) -> Result<u64>
+        ensures { Gives (λ x. x) result (Ok self.now) }
+    {
         Ok(*self)
     }
 }
 
 impl TryClone for FourCC {
-    fn try_clone(&self) -> Result<FourCC> {
+    fn try_clone(&self) -> Result<FourCC>
+        ensures { Gives (λ x. x) result (Ok self.now) }
+    {
         Ok(*self)
     }
 }
 
 impl TryClone for BoxType {
-    fn try_clone(&self) -> Result<BoxType> {
+    fn try_clone(&self) -> Result<BoxType>
+        ensures { Gives (λ x. x) result (Ok self.now) }
+    {
         Ok(*self)
     }
 }

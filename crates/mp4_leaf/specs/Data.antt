@@ -5,6 +5,7 @@ use Rattle.mp4_codec.specs.Bytes.{number_at, bytes_at, number, zeros, ◌⧺◌}
 use Rattle.mp4_leaf.specs.declared.data.DataType.{DataType}
 use Rattle.mp4_leaf.specs.declared.data.DataType.TheVariants.{Binary, Text, Image, TempoCpil, Other}
 use Rattle.mp4_leaf.specs.declared.data.DataBox.{DataBox}
+use Rattle.mp4_codec.specs.Boxes.{IsCanonical, no_refusal}
 
 -- the number of a type
 abbrev pub data_code : DataType → ℕ
@@ -34,10 +35,21 @@ data_of payload = do
 unfoldable pub data_payload : DataBox → List ℕ
 data_payload b = number 4 (data_code b.data_type) ⧺ zeros 4 ⧺ b.bytes
 
--- a value that is read again as it is: its type is not one of the named ones by its number
-pub record IsCanonicalData (b : DataBox) : Type 0 where
-  pub code : data_code b.data_type < 2 ^ 32
-  pub data_type : data_type (data_code b.data_type) ≡ b.data_type
+-- its number has 32 bits
+abbrev pub IsInRangeDataType : DataType → Type 0
+IsInRangeDataType t = data_code t < 2 ^ 32
+
+-- each number is within its type
+pub record IsInRangeData (b : DataBox) : Type 0 where
+  pub data_type : IsInRangeDataType b.data_type
+
+-- a type is not one of the named ones by its number
+abbrev pub RemarksData : DataBox → Type 0
+RemarksData b = data_type (data_code b.data_type) ≡ b.data_type
+
+-- a value that is written and reads back equal
+abbrev pub IsCanonicalData : DataBox → Type 0
+IsCanonicalData = IsCanonical IsInRangeData RemarksData data_payload no_refusal
 
 -- no bytes
 abbrev pub default_data : DataBox

@@ -1,15 +1,18 @@
 -- Where the media of a track lies (ISO/IEC 14496-12, 8.7).
-use Rattle.std.specs.Prelude.{ℕ, ◌+◌, ◌^◌, ◌<◌, List, [], length, Option, Some, None, Result, Ok, IfSome}
+use Rattle.std.specs.Prelude.{ℕ, ◌^◌, ◌<◌, List, [], ◌∷◌, Option, Some, None, Result, Ok, IfSome}
 use Rattle.mp4_codec.specs.declared.box_type.BoxType.TheVariants.{DrefBox as dref, UrlBox as url}
 use Rattle.mp4_codec.specs.Cause.{Cause, ◌>>=◌}
-use Rattle.mp4_codec.specs.Bytes.{number_at, until_zero, number, ◌⧺◌}
-use Rattle.mp4_codec.specs.Boxes.{frame, optional}
+use Rattle.mp4_codec.specs.Bytes.{number_at, until_zero, number, zeros, ◌⧺◌, HasNoZero}
+use Rattle.mp4_codec.specs.Boxes.{frame, optional, IsCanonical, no_refusal}
 use Rattle.mp4_codec.specs.Children.{children, gathered, fault_in, last_of, needed}
-use Rattle.mp4_codec.specs.FieldLaws.{HasNoZero}
 use Rattle.mp4_leaf.specs.declared.dinf.UrlBox.{UrlBox}
 use Rattle.mp4_leaf.specs.declared.dinf.DrefBox.{DrefBox}
 use Rattle.mp4_leaf.specs.declared.dinf.DinfBox.{DinfBox}
-use Rattle.mp4_leaf.specs.Location.{ended}
+
+-- a text with a zero byte behind it, but for the empty one
+abbrev pub ended : List ℕ → List ℕ
+ended [] = []
+ended (b ∷ bs) = (b ∷ bs) ⧺ zeros 1
 
 -- the reference that a payload holds; its location ends at the first zero byte, or at the end
 unfoldable pub url_of : List ℕ → Result UrlBox Cause
@@ -22,11 +25,18 @@ url_of payload = do
 unfoldable pub url_payload : UrlBox → List ℕ
 url_payload b = number 1 b.version ⧺ number 3 b.flags ⧺ ended b.location
 
--- a reference that is read again as it is: each number fits, and no byte of the location is zero
-pub record IsCanonicalUrl (b : UrlBox) : Type 0 where
+-- each number is within its type
+pub record IsInRangeUrl (b : UrlBox) : Type 0 where
   pub version : b.version < 2 ^ 8
+
+-- flags have 24 bits, and no byte of the location is zero
+pub record RemarksUrl (b : UrlBox) : Type 0 where
   pub flags : b.flags < 2 ^ 24
   pub location : HasNoZero b.location
+
+-- a reference that is written and reads back equal
+abbrev pub IsCanonicalUrl : UrlBox → Type 0
+IsCanonicalUrl = IsCanonical IsInRangeUrl RemarksUrl url_payload no_refusal
 
 -- media in the same file
 abbrev pub default_url : UrlBox
@@ -50,12 +60,19 @@ count_of (Some b) = 1
 unfoldable pub dref_payload : DrefBox → List ℕ
 dref_payload b = number 1 b.version ⧺ number 3 b.flags ⧺ number 4 (count_of b.url) ⧺ optional url url_payload b.url
 
--- references that are read again as they are: each number fits, the reference is such a one, and its box has room in 32 bits
-pub record IsCanonicalDref (b : DrefBox) : Type 0 where
+-- each number is within its type
+pub record IsInRangeDref (b : DrefBox) : Type 0 where
   pub version : b.version < 2 ^ 8
+  pub url : IfSome b.url IsInRangeUrl
+
+-- flags have 24 bits, and the remarks of a reference hold of the one that is there
+pub record RemarksDref (b : DrefBox) : Type 0 where
   pub flags : b.flags < 2 ^ 24
-  pub url : IfSome b.url IsCanonicalUrl
-  pub size : 8 + length (dref_payload b) < 2 ^ 32
+  pub url : IfSome b.url RemarksUrl
+
+-- references that is written and reads back equal
+abbrev pub IsCanonicalDref : DrefBox → Type 0
+IsCanonicalDref = IsCanonical IsInRangeDref RemarksDref dref_payload no_refusal
 
 -- one reference, to the same file
 abbrev pub default_dref : DrefBox
@@ -72,9 +89,17 @@ dinf_of payload = do
 unfoldable pub dinf_payload : DinfBox → List ℕ
 dinf_payload b = frame dref (dref_payload b.dref)
 
--- data information that is read again as it is
-pub record IsCanonicalDinf (b : DinfBox) : Type 0 where
-  pub dref : IsCanonicalDref b.dref
+-- each number is within its type
+pub record IsInRangeDinf (b : DinfBox) : Type 0 where
+  pub dref : IsInRangeDref b.dref
+
+-- the remarks of its references
+abbrev pub RemarksDinf : DinfBox → Type 0
+RemarksDinf b = RemarksDref b.dref
+
+-- data information that is written and reads back equal
+abbrev pub IsCanonicalDinf : DinfBox → Type 0
+IsCanonicalDinf = IsCanonical IsInRangeDinf RemarksDinf dinf_payload no_refusal
 
 abbrev pub default_dinf : DinfBox
 default_dinf = record { dref = default_dref }

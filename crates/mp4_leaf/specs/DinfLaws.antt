@@ -5,18 +5,19 @@ use Rattle.std.specs.List.{AllByRecursion}
 use Rattle.std.specs.Option.{option_to_list}
 use Rattle.mp4_codec.specs.declared.box_type.BoxType.TheVariants.{DrefBox as dref, UrlBox as url}
 use Rattle.mp4_codec.specs.BoxType.{box_type}
-use Rattle.mp4_codec.specs.Cause.{Cause}
-use Rattle.mp4_codec.specs.Bytes.{until_zero}
+use Rattle.mp4_codec.specs.Bytes.{until_zero, HasNoZero}
 use Rattle.mp4_codec.specs.Boxes.{optional}
 use Rattle.mp4_codec.specs.Framing.{IsSpellable}
 use Rattle.mp4_codec.specs.FramingLaws.{length-frame}
-use Rattle.mp4_codec.specs.FieldLaws.{HasNoZero, number_again, until_zero-zero, length-number, length-zeros, length-then}
+use Rattle.mp4_codec.specs.FieldLaws.{number_again, until_zero-zero, length-number, length-zeros}
+use Rattle.mp4_codec.specs.FieldLaws.{length-then}
+use Rattle.mp4_codec.specs.WriteLaws.{is_written, write_cause-none}
 use Rattle.mp4_codec.specs.WrittenChildren.{last_child-again}
-use Rattle.mp4_leaf.specs.Location.{ended}
 use Rattle.mp4_leaf.specs.declared.dinf.UrlBox.{UrlBox}
 use Rattle.mp4_leaf.specs.declared.dinf.DrefBox.{DrefBox}
 use Rattle.mp4_leaf.specs.declared.dinf.DinfBox.{DinfBox}
-use Rattle.mp4_leaf.specs.Dinf.{url_of, url_payload, IsCanonicalUrl, dref_of, count_of, dref_payload, IsCanonicalDref, dinf_of, dinf_payload, IsCanonicalDinf}
+use Rattle.mp4_leaf.specs.Dinf.{ended, url_of, url_payload, IsInRangeUrl, RemarksUrl, IsCanonicalUrl, dref_of}
+use Rattle.mp4_leaf.specs.Dinf.{count_of, dref_payload, IsCanonicalDref, dinf_of, dinf_payload, IsCanonicalDinf}
 
 abbrev length_of_ended : List ℕ → ℕ
 length_of_ended [] = 0
@@ -35,12 +36,14 @@ unfolding until_zero
 until_zero-ended [] h = refl
 until_zero-ended (b ∷ bs) h = until_zero-zero (b ∷ bs) h
 
-pub url_again : (b : UrlBox) → IsCanonicalUrl b → (◌≡◌ {A = Option Cause} None None) × (url_of (url_payload b) ≡ Ok b)
+pub url_again : (b : UrlBox) → IsCanonicalUrl b → url_of (url_payload b) ≡ Ok b
 unfolding url_of url_payload
-url_again b f = (
-  refl,
-  rw (number_again 1 b.version _ f.version, number_again 3 b.flags _ f.flags, until_zero-ended b.location f.location) refl,
-)
+url_again b f =
+    rw (
+      number_again 1 b.version _ f.in_range.version,
+      number_again 3 b.flags _ f.remarks.flags,
+      until_zero-ended b.location f.remarks.location,
+    ) refl
 
 pub length-dref_payload : (b : DrefBox) → length (dref_payload b) ≡ 8 + length (optional url url_payload b.url)
 unfolding dref_payload
@@ -54,34 +57,53 @@ dref_spellable : IsSpellable dref
 unfolding box_type
 dref_spellable = record { named = refl; code = omega arith }
 
-each_url : (o : Option UrlBox) → IfSome o IsCanonicalUrl → AllByRecursion (λ b. url_of (url_payload b) ≡ Ok b) (option_to_list o)
-each_url None f = tt
-each_url (Some b) f = ((url_again b f).1, tt)
+-- a reference within its references is canonical where they are
+each_url : (o : Option UrlBox) → IfSome o IsInRangeUrl → IfSome o RemarksUrl
+    → length (optional url url_payload o) < 2 ^ 32
+    → AllByRecursion (λ b. url_of (url_payload b) ≡ Ok b) (option_to_list o)
+each_url None in_range remarks small = tt
+each_url (Some b) in_range remarks small =
+    let fits : 8 + length (url_payload b) < 2 ^ 32 = omega (arith, small, length-frame url (url_payload b)) in (
+      url_again b (record {
+        in_range = in_range;
+        remarks = remarks;
+        written =
+            write_cause-none (url_payload b) None fits refl;
+      }),
+      tt,
+    )
 
 few : (o : Option UrlBox) → count_of o < 256 ^ 4
 few None = omega arith
 few (Some b) = omega arith
 
-dref_read : (b : DrefBox) → IsCanonicalDref b → length (optional url url_payload b.url) < 2 ^ 32 → dref_of (dref_payload b) ≡ Ok b
+pub dref_again : (b : DrefBox) → IsCanonicalDref b → dref_of (dref_payload b) ≡ Ok b
 unfolding dref_of dref_payload
-dref_read b f small =
+dref_again b f =
+    let size = (is_written (dref_payload b) None f.written).small in
+    let small : length (optional url url_payload b.url) < 2 ^ 32 = omega (arith, size, length-dref_payload b) in
     rw (
-      number_again 1 b.version _ f.version,
-      number_again 3 b.flags _ f.flags,
+      number_again 1 b.version _ f.in_range.version,
+      number_again 3 b.flags _ f.remarks.flags,
       number_again 4 (count_of b.url) _ (few b.url),
-      last_child-again url url_payload url_of b.url url_spellable small (each_url b.url f.url),
+      last_child-again url url_payload url_of b.url url_spellable small
+          (each_url b.url f.in_range.url f.remarks.url small),
     ) refl
-
-pub dref_again : (b : DrefBox) → IsCanonicalDref b → (◌≡◌ {A = Option Cause} None None) × (dref_of (dref_payload b) ≡ Ok b)
-dref_again b f = (refl, dref_read b f (omega (arith, f.size, length-dref_payload b)))
 
 pub length-dinf_payload : (b : DinfBox) → length (dinf_payload b) ≡ 8 + length (dref_payload b.dref)
 unfolding dinf_payload
 length-dinf_payload b = length-frame dref (dref_payload b.dref)
 
-pub dinf_again : (b : DinfBox) → IsCanonicalDinf b → (◌≡◌ {A = Option Cause} None None) × (dinf_of (dinf_payload b) ≡ Ok b)
+pub dinf_again : (b : DinfBox) → IsCanonicalDinf b → dinf_of (dinf_payload b) ≡ Ok b
 unfolding dinf_of dinf_payload
-dinf_again b f = (
-  refl,
-  rw (last_child-again dref dref_payload dref_of (Some b.dref) dref_spellable (omega (arith, f.dref.size, length-frame dref (dref_payload b.dref))) ((dref_again b.dref f.dref).1, tt)) refl,
-)
+dinf_again b f =
+    let size = (is_written (dinf_payload b) None f.written).small in
+    let small : 8 + length (dref_payload b.dref) < 2 ^ 32 = omega (arith, size, length-dinf_payload b) in
+    let again = dref_again b.dref (record {
+      in_range = f.in_range.dref;
+      remarks = f.remarks;
+      written = write_cause-none (dref_payload b.dref) None small refl;
+    }) in
+    let whole : length (optional dref dref_payload (Some b.dref)) < 2 ^ 32 =
+    omega (arith, small, length-frame dref (dref_payload b.dref)) in
+    rw (last_child-again dref dref_payload dref_of (Some b.dref) dref_spellable whole (again, tt)) refl

@@ -2,9 +2,9 @@
 use Rattle.std.specs.Prelude.{ℕ, ◌^◌, ◌<◌, List, [], length, Option, Result, Ok, ◌==◌, if◌then◌else◌}
 use Rattle.std.specs.List.{flat_map, AllByRecursion}
 use Rattle.mp4_codec.specs.Cause.{Cause, ◌>>=◌, ◌or◌, unless}
-use Rattle.mp4_codec.specs.Bytes.{Reader, number_at, versioned_at, list_at, number, versioned, ◌⧺◌, version_refusal, value_refusal}
-use Rattle.mp4_codec.specs.FieldLaws.{FitsVersion}
-use Rattle.mp4_codec.specs.Boxes.{all_refusal}
+use Rattle.mp4_codec.specs.Bytes.{Reader, number_at, versioned_at, list_at, number, versioned, ◌⧺◌, version_refusal}
+use Rattle.mp4_codec.specs.Bytes.{value_refusal, FitsVersion}
+use Rattle.mp4_codec.specs.Boxes.{all_refusal, IsCanonical}
 use Rattle.mp4_leaf.specs.declared.elst.ElstEntry.{ElstEntry}
 use Rattle.mp4_leaf.specs.declared.elst.ElstBox.{ElstBox}
 
@@ -14,13 +14,30 @@ elst_entry_at version bytes = do
   media_time ← versioned_at version segment_duration.1
   media_rate ← number_at 2 media_time.1
   media_rate_fraction ← number_at 2 media_rate.1
-  Ok (record { segment_duration = segment_duration.0; media_time = media_time.0; media_rate = media_rate.0; media_rate_fraction = media_rate_fraction.0 }, media_rate_fraction.1)
+  Ok (
+    record {
+      segment_duration = segment_duration.0;
+      media_time = media_time.0;
+      media_rate = media_rate.0;
+      media_rate_fraction = media_rate_fraction.0;
+    },
+    media_rate_fraction.1,
+  )
 
 unfoldable pub elst_entry : ℕ → ElstEntry → List ℕ
-elst_entry version e = versioned version e.segment_duration ⧺ versioned version e.media_time ⧺ number 2 e.media_rate ⧺ number 2 e.media_rate_fraction
+elst_entry version e =
+    versioned version e.segment_duration ⧺ versioned version e.media_time ⧺ number 2 e.media_rate
+    ⧺ number 2 e.media_rate_fraction
 
 abbrev pub elst_entry_length : ℕ → ℕ
 elst_entry_length version = if version == 1 then 20 else 12
+
+-- each number of an entry is within its type
+pub record IsInRangeElstEntry (e : ElstEntry) : Type 0 where
+  pub segment_duration : e.segment_duration < 2 ^ 64
+  pub media_time : e.media_time < 2 ^ 64
+  pub media_rate : e.media_rate < 2 ^ 16
+  pub media_rate_fraction : e.media_rate_fraction < 2 ^ 16
 
 -- each number of an entry fits its field in this version
 pub record FitsElstEntry (version : ℕ) (e : ElstEntry) : Type 0 where
@@ -45,18 +62,25 @@ elst_of payload = do
 
 -- the payload that holds an edit list
 unfoldable pub elst_payload : ElstBox → List ℕ
-elst_payload b = number 1 b.version ⧺ number 3 b.flags ⧺ number 4 (length b.entries) ⧺ flat_map (elst_entry b.version) b.entries
+elst_payload b =
+    number 1 b.version ⧺ number 3 b.flags ⧺ number 4 (length b.entries) ⧺ flat_map (elst_entry b.version) b.entries
 
 -- why an edit list is not written: its version, then the first number that its version has no room for
 unfoldable pub elst_refusal : ElstBox → Option Cause
 elst_refusal b = version_refusal b.version or all_refusal (elst_entry_refusal b.version) b.entries
 
--- an edit list that is read again as it is: each number fits its field
-pub record IsCanonicalElst (b : ElstBox) : Type 0 where
-  pub version : b.version < 2
-  pub flags : b.flags < 2 ^ 24
-  pub count : length b.entries < 2 ^ 32
-  pub entries : AllByRecursion (FitsElstEntry b.version) b.entries
+-- each number is within its type
+pub record IsInRangeElst (b : ElstBox) : Type 0 where
+  pub version : b.version < 2 ^ 8
+  pub entries : AllByRecursion IsInRangeElstEntry b.entries
+
+-- flags have 24 bits
+abbrev pub RemarksElst : ElstBox → Type 0
+RemarksElst b = b.flags < 2 ^ 24
+
+-- an edit list that is written and reads back equal
+abbrev pub IsCanonicalElst : ElstBox → Type 0
+IsCanonicalElst = IsCanonical IsInRangeElst RemarksElst elst_payload elst_refusal
 
 -- no edits
 abbrev pub default_elst : ElstBox

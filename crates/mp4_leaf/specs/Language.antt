@@ -1,5 +1,6 @@
 -- The language of a media header: three letters of five bits each (ISO/IEC 14496-12, 8.4.2).
-use Rattle.std.specs.Prelude.{ℕ, ◌+◌, ◌*◌, ◌/◌, ◌%◌, List, [], ◌∷◌, Option, Some, None, Bool, false, ◌&&◌, nat_le, if◌then◌else◌}
+use Rattle.std.specs.Prelude.{ℕ, ◌+◌, ◌*◌, ◌/◌, ◌%◌, List, [], ◌∷◌, Option, Some, None, Bool, false, ◌&&◌, nat_le}
+use Rattle.std.specs.Prelude.{if◌then◌else◌}
 use Rattle.mp4_codec.specs.Cause.{Cause, unrepresentable}
 
 -- the letter of the low five bits of a number

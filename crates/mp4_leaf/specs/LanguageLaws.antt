@@ -1,12 +1,19 @@
 -- A language is read as it was written.
-use Rattle.std.proofs.Common.{◌≡◌, ℕ, ◌+◌, ◌*◌, ◌/◌, ◌%◌, ◌<◌, ◌≤◌, ◌^◌, true, leb, List, [], ◌∷◌, None, refl, arith}
+use Rattle.std.proofs.Common.{◌≡◌, ℕ, ◌+◌, ◌*◌, ◌/◌, ◌%◌, ◌<◌, ◌≤◌, ◌^◌, Bool, true, false, cond, leb, Some, List, []}
+use Rattle.std.proofs.Common.{◌∷◌, None, refl, arith}
 use Rattle.std.specs.Prelude.{IsTrue, ◌&&◌}
+use Rattle.mp4_codec.specs.Cause.{unrepresentable}
 use Rattle.std.proofs.lemmas.Bool.{leb-true, and_parts}
 use Rattle.mp4_leaf.specs.Language.{letter, is_letter, unpacked, packed, is_language, language_refusal}
 
-pub language_refusal-none : (text : List ℕ) → IsTrue (is_language text) → language_refusal text ≡ None
+-- a text that is written is three letters
+pub language-written : (text : List ℕ) → language_refusal text ≡ None → IsTrue (is_language text)
 unfolding language_refusal
-language_refusal-none text h = rw h refl
+language-written text e = chosen (is_language text) e
+  where
+    chosen : (b : Bool) → cond b None (Some unrepresentable) ≡ None → IsTrue b
+    chosen true e = refl
+    chosen false e = absurd cc
 
 packed_three-small : (a b c : ℕ) → a % 32 * 1024 + b % 32 * 32 + c % 32 < 2 ^ 16
 packed_three-small a b c = omega arith
@@ -32,7 +39,8 @@ unpacked_three a b c h =
     let first = range a parts.0 in
     let second = range b others.0 in
     let third = range c others.1 in
-    rw (letter-first a b c first.0 first.1, letter-second a b c second.0 second.1, letter-third a b c third.0 third.1) refl
+    rw (letter-first a b c first.0 first.1, letter-second a b c second.0 second.1, letter-third a b c third.0 third.1)
+    refl
 
 pub packed-small : (text : List ℕ) → packed text < 2 ^ 16
 packed-small (a ∷ b ∷ c ∷ []) = packed_three-small a b c

@@ -2,7 +2,6 @@ pub mod Matrix
 pub mod MatrixLaws
 pub mod Language
 pub mod LanguageLaws
-pub mod Location
 pub mod Times
 pub mod TimesLaws
 pub mod Ftyp

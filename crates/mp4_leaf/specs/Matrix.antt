@@ -22,7 +22,7 @@ unfoldable pub matrix : Matrix → List ℕ
 matrix m = int32 m.a ⧺ int32 m.b ⧺ int32 m.u ⧺ int32 m.c ⧺ int32 m.d ⧺ int32 m.v ⧺ int32 m.x ⧺ int32 m.y ⧺ int32 m.w
 
 -- each number is a signed number of 32 bits
-pub record FitsMatrix (m : Matrix) : Type 0 where
+pub record IsInRangeMatrix (m : Matrix) : Type 0 where
   pub a : FitsSigned w32 m.a
   pub b : FitsSigned w32 m.b
   pub u : FitsSigned w32 m.u
@@ -35,4 +35,15 @@ pub record FitsMatrix (m : Matrix) : Type 0 where
 
 -- the matrix that changes nothing
 abbrev pub unity : Matrix
-unity = record { a = pos 0x00010000; b = pos 0; u = pos 0; c = pos 0; d = pos 0x00010000; v = pos 0; x = pos 0; y = pos 0; w = pos 0x40000000 }
+unity = record {
+  a = pos 0x00010000;
+  b = pos 0;
+  u = pos 0;
+  c = pos 0;
+  d = pos 0x00010000;
+  v = pos 0;
+  x = pos 0;
+  y =
+      pos 0;
+  w = pos 0x40000000;
+}

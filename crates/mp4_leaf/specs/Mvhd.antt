@@ -2,20 +2,18 @@
 use Rattle.std.specs.Prelude.{ℕ, ◌^◌, ◌<◌, List, Option, Result, Ok}
 use Rattle.mp4_codec.specs.Cause.{Cause, ◌>>=◌}
 use Rattle.mp4_codec.specs.Bytes.{number_at, bytes_at, versioned_at, number, zeros, versioned, ◌⧺◌}
-use Rattle.mp4_codec.specs.FieldLaws.{FitsVersion}
-use Rattle.mp4_leaf.specs.Times.{times_refusal}
+use Rattle.mp4_leaf.specs.declared.times.Stamp.{Stamp}
+use Rattle.mp4_leaf.specs.Times.{stamp_at, stamp, times_refusal}
 use Rattle.mp4_leaf.specs.declared.mvhd.MvhdBox.{MvhdBox}
-use Rattle.mp4_leaf.specs.Matrix.{matrix_at, matrix, FitsMatrix, unity}
+use Rattle.mp4_leaf.specs.Matrix.{matrix_at, matrix, IsInRangeMatrix, unity}
+use Rattle.mp4_codec.specs.Boxes.{IsCanonical}
 
 -- the movie header that a payload holds, field by field; what follows is skipped
 unfoldable pub mvhd_of : List ℕ → Result MvhdBox Cause
 mvhd_of payload = do
-  version ← number_at 1 payload
-  flags ← number_at 3 version.1
-  creation_time ← versioned_at version.0 flags.1
-  modification_time ← versioned_at version.0 creation_time.1
-  timescale ← number_at 4 modification_time.1
-  duration ← versioned_at version.0 timescale.1
+  stamp ← stamp_at payload
+  timescale ← number_at 4 stamp.1
+  duration ← versioned_at stamp.0.version timescale.1
   rate ← number_at 4 duration.1
   volume ← number_at 2 rate.1
   reserved ← bytes_at 10 volume.1
@@ -23,10 +21,10 @@ mvhd_of payload = do
   predefined ← bytes_at 24 matrix.1
   next_track_id ← number_at 4 predefined.1
   Ok (record {
-    version = version.0;
-    flags = flags.0;
-    creation_time = creation_time.0;
-    modification_time = modification_time.0;
+    version = stamp.0.version;
+    flags = stamp.0.flags;
+    creation_time = stamp.0.creation_time;
+    modification_time = stamp.0.modification_time;
     timescale = timescale.0;
     duration = duration.0;
     rate = record { raw = rate.0 };
@@ -35,13 +33,19 @@ mvhd_of payload = do
     next_track_id = next_track_id.0;
   })
 
+-- what the header begins with
+abbrev pub stamp_of : MvhdBox → Stamp
+stamp_of b = record {
+  version = b.version;
+  flags = b.flags;
+  creation_time = b.creation_time;
+  modification_time = b.modification_time;
+}
+
 -- the payload that holds a movie header
 unfoldable pub mvhd_payload : MvhdBox → List ℕ
 mvhd_payload b =
-    number 1 b.version
-    ⧺ number 3 b.flags
-    ⧺ versioned b.version b.creation_time
-    ⧺ versioned b.version b.modification_time
+    stamp (stamp_of b)
     ⧺ number 4 b.timescale
     ⧺ versioned b.version b.duration
     ⧺ number 4 b.rate.raw
@@ -55,18 +59,25 @@ mvhd_payload b =
 unfoldable pub mvhd_refusal : MvhdBox → Option Cause
 mvhd_refusal b = times_refusal b.version b.creation_time b.modification_time b.duration
 
--- a movie header that is read again as it is: each number fits its field
-pub record IsCanonicalMvhd (b : MvhdBox) : Type 0 where
-  pub version : b.version < 2
-  pub flags : b.flags < 2 ^ 24
-  pub creation_time : FitsVersion b.version b.creation_time
-  pub modification_time : FitsVersion b.version b.modification_time
+-- each number is within its type
+pub record IsInRangeMvhd (b : MvhdBox) : Type 0 where
+  pub version : b.version < 2 ^ 8
+  pub creation_time : b.creation_time < 2 ^ 64
+  pub modification_time : b.modification_time < 2 ^ 64
   pub timescale : b.timescale < 2 ^ 32
-  pub duration : FitsVersion b.version b.duration
+  pub duration : b.duration < 2 ^ 64
   pub rate : b.rate.raw < 2 ^ 32
   pub volume : b.volume.raw < 2 ^ 16
-  pub matrix : FitsMatrix b.matrix
+  pub matrix : IsInRangeMatrix b.matrix
   pub next_track_id : b.next_track_id < 2 ^ 32
+
+-- flags have 24 bits
+abbrev pub RemarksMvhd : MvhdBox → Type 0
+RemarksMvhd b = b.flags < 2 ^ 24
+
+-- a movie header that is written and reads back equal
+abbrev pub IsCanonicalMvhd : MvhdBox → Type 0
+IsCanonicalMvhd = IsCanonical IsInRangeMvhd RemarksMvhd mvhd_payload mvhd_refusal
 
 -- 1000 ticks a second, rate and volume 1.0, the first track id still free
 abbrev pub default_mvhd : MvhdBox

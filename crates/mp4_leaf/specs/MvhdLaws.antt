@@ -1,39 +1,34 @@
 -- A movie header is read as it was written.
-use Rattle.std.proofs.Common.{◌≡◌, ◌+◌, Bool, true, false, cond, eqb, length, None, Ok, refl, arith}
-use Rattle.mp4_codec.specs.FieldLaws.{number_again, number_last, zeros_again, versioned_again, length-number, length-zeros, length-versioned, length-then}
+use Rattle.std.proofs.Common.{◌≡◌, cond, eqb, length, Ok, refl, arith}
+use Rattle.mp4_codec.specs.FieldLaws.{number_again, number_last, zeros_again, versioned_again, length-number}
+use Rattle.mp4_codec.specs.FieldLaws.{length-zeros, length-versioned, length-then}
+use Rattle.mp4_codec.specs.WriteLaws.{is_written}
 use Rattle.mp4_leaf.specs.declared.mvhd.MvhdBox.{MvhdBox}
 use Rattle.mp4_leaf.specs.MatrixLaws.{matrix_again, length-matrix}
-use Rattle.mp4_leaf.specs.TimesLaws.{times_refusal-none}
-use Rattle.mp4_leaf.specs.Mvhd.{mvhd_of, mvhd_payload, mvhd_refusal, IsCanonicalMvhd}
-
-by_version : (b : Bool) → 1 + (3 + (cond b 8 4 + (cond b 8 4 + (4 + (cond b 8 4 + (4 + (2 + (10 + (36 + (24 + 4)))))))))) ≡ cond b 112 100
-by_version true = refl
-by_version false = refl
+use Rattle.mp4_leaf.specs.TimesLaws.{times-have_room, with_duration, length-stamp, stamp_again}
+use Rattle.mp4_leaf.specs.Mvhd.{stamp_of, mvhd_of, mvhd_payload, mvhd_refusal, IsCanonicalMvhd}
 
 pub length-mvhd_payload : (b : MvhdBox) → length (mvhd_payload b) ≡ cond (eqb b.version 1) 112 100
 unfolding mvhd_payload
-length-mvhd_payload b = simp (length-then, length-number, length-zeros, length-versioned, length-matrix) (by_version (eqb b.version 1))
+length-mvhd_payload b =
+    simp (length-then, length-number, length-zeros, length-versioned, length-matrix, length-stamp)
+    (omega (arith, with_duration (eqb b.version 1) 84))
 
-refused : (b : MvhdBox) → IsCanonicalMvhd b → mvhd_refusal b ≡ None
-unfolding mvhd_refusal
-refused b f = times_refusal-none b.version b.creation_time b.modification_time b.duration f.version f.creation_time f.modification_time f.duration
-
-pub mvhd_again : (b : MvhdBox) → IsCanonicalMvhd b → (mvhd_refusal b ≡ None) × (mvhd_of (mvhd_payload b) ≡ Ok b)
-unfolding mvhd_of mvhd_payload
-mvhd_again b f = (
-  refused b f,
-  rw (
-    number_again 1 b.version _ (omega (arith, f.version)),
-    number_again 3 b.flags _ f.flags,
-    versioned_again b.version b.creation_time _ f.creation_time,
-    versioned_again b.version b.modification_time _ f.modification_time,
-    number_again 4 b.timescale _ f.timescale,
-    versioned_again b.version b.duration _ f.duration,
-    number_again 4 b.rate.raw _ f.rate,
-    number_again 2 b.volume.raw _ f.volume,
-    zeros_again 10 _,
-    matrix_again b.matrix _ f.matrix,
-    zeros_again 24 _,
-    number_last 4 b.next_track_id f.next_track_id,
-  ) refl,
-)
+pub mvhd_again : (b : MvhdBox) → IsCanonicalMvhd b → mvhd_of (mvhd_payload b) ≡ Ok b
+unfolding mvhd_of mvhd_payload mvhd_refusal
+mvhd_again b f =
+    let in_range = f.in_range in
+    let sound = (is_written (mvhd_payload b) (mvhd_refusal b) f.written).sound in
+    let room = times-have_room b.version b.creation_time b.modification_time b.duration in_range.creation_time
+    in_range.modification_time in_range.duration sound in
+    rw (
+      stamp_again (stamp_of b) _ in_range.version f.remarks room.creation_time room.modification_time,
+      number_again 4 b.timescale _ in_range.timescale,
+      versioned_again b.version b.duration _ room.duration,
+      number_again 4 b.rate.raw _ in_range.rate,
+      number_again 2 b.volume.raw _ in_range.volume,
+      zeros_again 10 _,
+      matrix_again b.matrix _ in_range.matrix,
+      zeros_again 24 _,
+      number_last 4 b.next_track_id in_range.next_track_id,
+    ) refl

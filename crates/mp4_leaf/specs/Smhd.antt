@@ -4,6 +4,7 @@ use Rattle.std.specs.Int.{w16}
 use Rattle.mp4_codec.specs.Cause.{Cause, ◌>>=◌}
 use Rattle.mp4_codec.specs.Bytes.{number_at, int16_at, bytes_at, number, int16, zeros, ◌⧺◌}
 use Rattle.mp4_leaf.specs.declared.smhd.SmhdBox.{SmhdBox}
+use Rattle.mp4_codec.specs.Boxes.{IsCanonical, no_refusal}
 
 -- the sound media header that a payload holds, field by field; what follows is skipped
 unfoldable pub smhd_of : List ℕ → Result SmhdBox Cause
@@ -18,11 +19,18 @@ smhd_of payload = do
 unfoldable pub smhd_payload : SmhdBox → List ℕ
 smhd_payload b = number 1 b.version ⧺ number 3 b.flags ⧺ int16 b.balance.raw ⧺ zeros 2
 
--- a sound media header that is read again as it is: each number fits its field
-pub record IsCanonicalSmhd (b : SmhdBox) : Type 0 where
+-- each number is within its type
+pub record IsInRangeSmhd (b : SmhdBox) : Type 0 where
   pub version : b.version < 2 ^ 8
-  pub flags : b.flags < 2 ^ 24
   pub balance : FitsSigned w16 b.balance.raw
+
+-- flags have 24 bits
+abbrev pub RemarksSmhd : SmhdBox → Type 0
+RemarksSmhd b = b.flags < 2 ^ 24
+
+-- a sound media header that is written and reads back equal
+abbrev pub IsCanonicalSmhd : SmhdBox → Type 0
+IsCanonicalSmhd = IsCanonical IsInRangeSmhd RemarksSmhd smhd_payload no_refusal
 
 -- sound in the centre
 abbrev pub default_smhd : SmhdBox

@@ -2,21 +2,19 @@
 use Rattle.std.specs.Prelude.{ℕ, ◌^◌, ◌<◌, List, Option, Result, Ok}
 use Rattle.mp4_codec.specs.Cause.{Cause, ◌>>=◌}
 use Rattle.mp4_codec.specs.Bytes.{number_at, bytes_at, versioned_at, number, zeros, versioned, ◌⧺◌}
-use Rattle.mp4_codec.specs.FieldLaws.{FitsVersion}
-use Rattle.mp4_leaf.specs.Times.{times_refusal}
+use Rattle.mp4_leaf.specs.declared.times.Stamp.{Stamp}
+use Rattle.mp4_leaf.specs.Times.{stamp_at, stamp, times_refusal}
 use Rattle.mp4_leaf.specs.declared.tkhd.TkhdBox.{TkhdBox}
-use Rattle.mp4_leaf.specs.Matrix.{matrix_at, matrix, FitsMatrix, unity}
+use Rattle.mp4_leaf.specs.Matrix.{matrix_at, matrix, IsInRangeMatrix, unity}
+use Rattle.mp4_codec.specs.Boxes.{IsCanonical}
 
 -- the track header that a payload holds, field by field; what follows is skipped
 unfoldable pub tkhd_of : List ℕ → Result TkhdBox Cause
 tkhd_of payload = do
-  version ← number_at 1 payload
-  flags ← number_at 3 version.1
-  creation_time ← versioned_at version.0 flags.1
-  modification_time ← versioned_at version.0 creation_time.1
-  track_id ← number_at 4 modification_time.1
+  stamp ← stamp_at payload
+  track_id ← number_at 4 stamp.1
   reserved ← bytes_at 4 track_id.1
-  duration ← versioned_at version.0 reserved.1
+  duration ← versioned_at stamp.0.version reserved.1
   reserved_too ← bytes_at 8 duration.1
   layer ← number_at 2 reserved_too.1
   alternate_group ← number_at 2 layer.1
@@ -26,10 +24,10 @@ tkhd_of payload = do
   width ← number_at 4 matrix.1
   height ← number_at 4 width.1
   Ok (record {
-    version = version.0;
-    flags = flags.0;
-    creation_time = creation_time.0;
-    modification_time = modification_time.0;
+    version = stamp.0.version;
+    flags = stamp.0.flags;
+    creation_time = stamp.0.creation_time;
+    modification_time = stamp.0.modification_time;
     track_id = track_id.0;
     duration = duration.0;
     layer = layer.0;
@@ -40,13 +38,19 @@ tkhd_of payload = do
     height = record { raw = height.0 };
   })
 
+-- what the header begins with
+abbrev pub stamp_of : TkhdBox → Stamp
+stamp_of b = record {
+  version = b.version;
+  flags = b.flags;
+  creation_time = b.creation_time;
+  modification_time = b.modification_time;
+}
+
 -- the payload that holds a track header
 unfoldable pub tkhd_payload : TkhdBox → List ℕ
 tkhd_payload b =
-    number 1 b.version
-    ⧺ number 3 b.flags
-    ⧺ versioned b.version b.creation_time
-    ⧺ versioned b.version b.modification_time
+    stamp (stamp_of b)
     ⧺ number 4 b.track_id
     ⧺ zeros 4
     ⧺ versioned b.version b.duration
@@ -63,20 +67,27 @@ tkhd_payload b =
 unfoldable pub tkhd_refusal : TkhdBox → Option Cause
 tkhd_refusal b = times_refusal b.version b.creation_time b.modification_time b.duration
 
--- a track header that is read again as it is: each number fits its field
-pub record IsCanonicalTkhd (b : TkhdBox) : Type 0 where
-  pub version : b.version < 2
-  pub flags : b.flags < 2 ^ 24
-  pub creation_time : FitsVersion b.version b.creation_time
-  pub modification_time : FitsVersion b.version b.modification_time
+-- each number is within its type
+pub record IsInRangeTkhd (b : TkhdBox) : Type 0 where
+  pub version : b.version < 2 ^ 8
+  pub creation_time : b.creation_time < 2 ^ 64
+  pub modification_time : b.modification_time < 2 ^ 64
   pub track_id : b.track_id < 2 ^ 32
-  pub duration : FitsVersion b.version b.duration
+  pub duration : b.duration < 2 ^ 64
   pub layer : b.layer < 2 ^ 16
   pub alternate_group : b.alternate_group < 2 ^ 16
   pub volume : b.volume.raw < 2 ^ 16
-  pub matrix : FitsMatrix b.matrix
+  pub matrix : IsInRangeMatrix b.matrix
   pub width : b.width.raw < 2 ^ 32
   pub height : b.height.raw < 2 ^ 32
+
+-- flags have 24 bits
+abbrev pub RemarksTkhd : TkhdBox → Type 0
+RemarksTkhd b = b.flags < 2 ^ 24
+
+-- a track header that is written and reads back equal
+abbrev pub IsCanonicalTkhd : TkhdBox → Type 0
+IsCanonicalTkhd = IsCanonical IsInRangeTkhd RemarksTkhd tkhd_payload tkhd_refusal
 
 -- an enabled track, at volume 1.0
 abbrev pub default_tkhd : TkhdBox

@@ -3,6 +3,7 @@ use Rattle.std.specs.Prelude.{ℕ, ◌^◌, ◌<◌, List, Result, Ok}
 use Rattle.mp4_codec.specs.Cause.{Cause, ◌>>=◌}
 use Rattle.mp4_codec.specs.Bytes.{number_at, number, ◌⧺◌}
 use Rattle.mp4_leaf.specs.declared.vmhd.VmhdBox.{VmhdBox}
+use Rattle.mp4_codec.specs.Boxes.{IsCanonical, no_refusal}
 
 -- the video media header that a payload holds, field by field; what follows is skipped
 unfoldable pub vmhd_of : List ℕ → Result VmhdBox Cause
@@ -13,7 +14,13 @@ vmhd_of payload = do
   red ← number_at 2 graphics_mode.1
   green ← number_at 2 red.1
   blue ← number_at 2 green.1
-  Ok (record { version = version.0; flags = flags.0; graphics_mode = graphics_mode.0; op_color = record { red = red.0; green = green.0; blue = blue.0 } })
+  Ok (record {
+    version = version.0;
+    flags = flags.0;
+    graphics_mode = graphics_mode.0;
+    op_color =
+        record { red = red.0; green = green.0; blue = blue.0 };
+  })
 
 -- the payload that holds a video media header
 unfoldable pub vmhd_payload : VmhdBox → List ℕ
@@ -25,14 +32,21 @@ vmhd_payload b =
     ⧺ number 2 b.op_color.green
     ⧺ number 2 b.op_color.blue
 
--- a video media header that is read again as it is: each number fits its field
-pub record IsCanonicalVmhd (b : VmhdBox) : Type 0 where
+-- each number is within its type
+pub record IsInRangeVmhd (b : VmhdBox) : Type 0 where
   pub version : b.version < 2 ^ 8
-  pub flags : b.flags < 2 ^ 24
   pub graphics_mode : b.graphics_mode < 2 ^ 16
   pub red : b.op_color.red < 2 ^ 16
   pub green : b.op_color.green < 2 ^ 16
   pub blue : b.op_color.blue < 2 ^ 16
+
+-- flags have 24 bits
+abbrev pub RemarksVmhd : VmhdBox → Type 0
+RemarksVmhd b = b.flags < 2 ^ 24
+
+-- a video media header that is written and reads back equal
+abbrev pub IsCanonicalVmhd : VmhdBox → Type 0
+IsCanonicalVmhd = IsCanonical IsInRangeVmhd RemarksVmhd vmhd_payload no_refusal
 
 -- video that covers what lies behind it
 abbrev pub default_vmhd : VmhdBox

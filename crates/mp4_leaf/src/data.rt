@@ -1,10 +1,16 @@
 //! The value of a metadata item.
 
-ghost use Rattle.std.specs.Prelude.{◌≡◌};
+ghost use Rattle.std.specs.Prelude.{◌≡◌, Ok};
+ghost use Rattle.mp4_leaf.specs.declared.data.DataType.TheVariants.{Binary};
+ghost use Rattle.mp4_leaf.specs.Data.{data_type, data_code, data_payload, default_data, data_of, IsInRangeData, RemarksData, IsInRangeDataType};
+ghost use Rattle.mp4_codec.specs.declared.box_type.BoxType.TheVariants.{DataBox as data_kind};
+ghost use Rattle.mp4_codec.specs.Boxes.{size_around, no_refusal};
+ghost use Rattle.mp4_codec.specs.Cause.{Gives};
+ghost use Rattle.mp4_leaf.specs.DataLaws.{data_again};
 
 use mp4_codec::{
-    BoxType, Fields, Items, Mp4Box, ReadBox, Result, TryClone, WriteBox, put_bytes, put_u32,
-    put_zeros,
+    BoxType, Fields, InRange, Items, Mp4Box, Put, ReadBox, Result, TryClone, WriteBox, put_bytes,
+    put_u32, put_zeros,
 };
 use std::alloc::Global;
 
@@ -24,8 +30,6 @@ pub enum DataType {
 }
 
 impl Default for DataType {
-    ghost use Rattle.mp4_leaf.specs.declared.data.DataType.TheVariants.{Binary};
-
     ghost is_default = { λ t. t ≡ Binary };
 
     fn default() -> Self {
@@ -34,14 +38,24 @@ impl Default for DataType {
 }
 
 impl TryClone for DataType {
-    fn try_clone(&self) -> Result<Self> {
+    fn try_clone(&self) -> Result<Self>
+        ensures { Gives (λ x. x) result (Ok self.now) }
+    {
         Ok(*self)
     }
 }
 
-impl From<u32> for DataType {
-    ghost use Rattle.mp4_leaf.specs.Data.{data_type};
+impl InRange for DataType {
+    ghost IsInRange = { IsInRangeDataType };
 
+    fn in_range(&self) {
+        if let DataType::Other(code) = self {
+            code.in_range();
+        }
+    }
+}
+
+impl From<u32> for DataType {
     ghost from_gives = { λ n t. t ≡ data_type n };
 
     fn from(code: u32) -> DataType {
@@ -56,8 +70,6 @@ impl From<u32> for DataType {
 }
 
 impl From<DataType> for u32 {
-    ghost use Rattle.mp4_leaf.specs.Data.{data_code};
-
     ghost from_gives = { λ t n. n ≡ data_code t };
 
     fn from(data_type: DataType) -> u32 {
@@ -79,15 +91,9 @@ pub struct DataBox {
 }
 
 impl DataBox {
-    ghost use Rattle.std.specs.Prelude.{◌≡◌, Ok};
-    ghost use Rattle.mp4_codec.specs.declared.box_type.BoxType.TheVariants.{DataBox as data_kind};
-    ghost use Rattle.mp4_codec.specs.Boxes.{size_around};
-    ghost use Rattle.mp4_codec.specs.Cause.{Answers};
-    ghost use Rattle.mp4_leaf.specs.Data.{data_payload, default_data};
-
     /// Binary, and empty.
     pub fn default(alloc: Global) -> Result<Self>
-        ensures { Answers (λ b. b) result (Ok default_data) }
+        ensures { Gives (λ b. b) result (Ok default_data) }
     {
         Ok(DataBox {
             data_type: DataType::default(),
@@ -102,7 +108,7 @@ impl DataBox {
         BoxType::DataBox
     }
 
-    /// The bytes of the box, its header and all: 16, and those of the value.
+    /// The bytes of the box, its header included: 16, and those of the value.
     #[tactic(auto, using(crate::proofs::Sizes::sizes))]
     pub fn get_size(&self) -> u64
         ensures { result ≡ size_around (data_payload self.now) }
@@ -120,10 +126,15 @@ impl TryClone for DataBox {
     }
 }
 
-impl Mp4Box for DataBox {
-    ghost use Rattle.mp4_codec.specs.declared.box_type.BoxType.TheVariants.{DataBox as data_kind};
-    ghost use Rattle.mp4_leaf.specs.Data.{data_payload};
+impl InRange for DataBox {
+    ghost IsInRange = { IsInRangeData };
 
+    fn in_range(&self) {
+        self.data_type.in_range();
+    }
+}
+
+impl Mp4Box for DataBox {
     ghost KIND = { data_kind };
 
     const KIND: BoxType = BoxType::DataBox;
@@ -136,8 +147,6 @@ impl Mp4Box for DataBox {
 }
 
 impl ReadBox for DataBox {
-    ghost use Rattle.mp4_leaf.specs.Data.{data_of};
-
     ghost value = { data_of };
 
     #[tactic(auto, unfolding(crate::specs::Data::data_of))]
@@ -154,17 +163,17 @@ impl ReadBox for DataBox {
 }
 
 impl WriteBox for DataBox {
-    ghost use Rattle.std.specs.Prelude.{None};
-    ghost use Rattle.mp4_leaf.specs.Data.{IsCanonicalData};
-    ghost use Rattle.mp4_leaf.specs.DataLaws.{data_again};
+    ghost refusal = { no_refusal };
 
-    ghost refusal = { λ _. None };
-
-    ghost IsCanonical = { IsCanonicalData };
+    ghost Remarks = { RemarksData };
 
     ghost reads_back = { data_again };
 
-    fn put_payload(&self, out: &mut Vec<u8>) -> Result<()> {
+    fn check(&self) -> Result<()> {
+        Ok(())
+    }
+
+    fn put_payload(&self, out: &mut Vec<u8>) -> Put {
         put_u32(out, u32::from(self.data_type))?;
         put_zeros(out, 4)?;
         put_bytes(out, self.bytes.as_slice())?;

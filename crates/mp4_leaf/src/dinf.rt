@@ -1,12 +1,17 @@
 //! Where the media of a track lies: data information, data references, and their only kind that is kept.
 
-ghost use Rattle.std.specs.Prelude.{OnOk};
+ghost use Rattle.std.specs.Prelude.{OnOk, ◌≡◌, Ok};
 ghost use Rattle.mp4_codec.specs.Bytes.{Appends};
-ghost use Rattle.mp4_leaf.specs.Location.{ended};
+ghost use Rattle.mp4_leaf.specs.Dinf.{ended};
+ghost use Rattle.mp4_codec.specs.declared.box_type.BoxType.TheVariants.{UrlBox as url, DrefBox as dref, DinfBox as dinf};
+ghost use Rattle.mp4_codec.specs.Boxes.{size_around, no_refusal};
+ghost use Rattle.mp4_codec.specs.Cause.{Gives};
+ghost use Rattle.mp4_leaf.specs.Dinf.{url_payload, default_url, url_of, dref_payload, count_of, default_dref, dref_of, dinf_payload, default_dinf, dinf_of, IsInRangeUrl, RemarksUrl, IsInRangeDref, RemarksDref, IsInRangeDinf, RemarksDinf};
+ghost use Rattle.mp4_leaf.specs.DinfLaws.{url_again, dref_again, dinf_again};
 
 use mp4_codec::{
-    BoxType, Error, Fields, Items, Mp4Box, Put, ReadBox, Result, TryClone, WriteBox, last_child,
-    optional_size, put_bytes, put_optional, put_u8, put_u24, put_u32, put_zeros,
+    BoxType, Error, Fields, InRange, Items, Mp4Box, Put, ReadBox, Result, TryClone, WriteBox,
+    last_child, optional_size, put_bytes, put_optional, put_u8, put_u24, put_u32, put_zeros,
 };
 use std::alloc::Global;
 
@@ -36,15 +41,9 @@ fn put_location(out: &mut Vec<u8>, location: &Items<u8>) -> Put
 }
 
 impl UrlBox {
-    ghost use Rattle.std.specs.Prelude.{◌≡◌, Ok};
-    ghost use Rattle.mp4_codec.specs.declared.box_type.BoxType.TheVariants.{UrlBox as url};
-    ghost use Rattle.mp4_codec.specs.Boxes.{size_around};
-    ghost use Rattle.mp4_codec.specs.Cause.{Answers};
-    ghost use Rattle.mp4_leaf.specs.Dinf.{url_payload, default_url};
-
     /// Media in the same file.
     pub fn default(alloc: Global) -> Result<Self>
-        ensures { Answers (λ b. b) result (Ok default_url) }
+        ensures { Gives (λ b. b) result (Ok default_url) }
     {
         Ok(UrlBox {
             version: 0,
@@ -60,7 +59,7 @@ impl UrlBox {
         BoxType::UrlBox
     }
 
-    /// The bytes of the box, its header and all: 12, and what the location takes.
+    /// The bytes of the box, its header included: 12, and what the location takes.
     #[tactic(auto, using(crate::proofs::Sizes::sizes))]
     pub fn get_size(&self) -> u64
         ensures { result ≡ size_around (url_payload self.now) }
@@ -82,10 +81,15 @@ impl TryClone for UrlBox {
     }
 }
 
-impl Mp4Box for UrlBox {
-    ghost use Rattle.mp4_codec.specs.declared.box_type.BoxType.TheVariants.{UrlBox as url};
-    ghost use Rattle.mp4_leaf.specs.Dinf.{url_payload};
+impl InRange for UrlBox {
+    ghost IsInRange = { IsInRangeUrl };
 
+    fn in_range(&self) {
+        self.version.in_range();
+    }
+}
+
+impl Mp4Box for UrlBox {
     ghost KIND = { url };
 
     const KIND: BoxType = BoxType::UrlBox;
@@ -98,8 +102,6 @@ impl Mp4Box for UrlBox {
 }
 
 impl ReadBox for UrlBox {
-    ghost use Rattle.mp4_leaf.specs.Dinf.{url_of};
-
     ghost value = { url_of };
 
     #[tactic(auto, unfolding(crate::specs::Dinf::url_of))]
@@ -117,17 +119,17 @@ impl ReadBox for UrlBox {
 }
 
 impl WriteBox for UrlBox {
-    ghost use Rattle.std.specs.Prelude.{None};
-    ghost use Rattle.mp4_leaf.specs.Dinf.{IsCanonicalUrl};
-    ghost use Rattle.mp4_leaf.specs.DinfLaws.{url_again};
+    ghost refusal = { no_refusal };
 
-    ghost refusal = { λ _. None };
-
-    ghost IsCanonical = { IsCanonicalUrl };
+    ghost Remarks = { RemarksUrl };
 
     ghost reads_back = { url_again };
 
-    fn put_payload(&self, out: &mut Vec<u8>) -> Result<()> {
+    fn check(&self) -> Result<()> {
+        Ok(())
+    }
+
+    fn put_payload(&self, out: &mut Vec<u8>) -> Put {
         put_u8(out, self.version)?;
         put_u24(out, self.flags)?;
         put_location(out, &self.location)?;
@@ -148,15 +150,9 @@ pub struct DrefBox {
 }
 
 impl DrefBox {
-    ghost use Rattle.std.specs.Prelude.{◌≡◌, Ok};
-    ghost use Rattle.mp4_codec.specs.declared.box_type.BoxType.TheVariants.{DrefBox as dref};
-    ghost use Rattle.mp4_codec.specs.Boxes.{size_around};
-    ghost use Rattle.mp4_codec.specs.Cause.{Answers};
-    ghost use Rattle.mp4_leaf.specs.Dinf.{dref_payload, count_of, default_dref};
-
     /// One reference, to media in the same file.
     pub fn default(alloc: Global) -> Result<Self>
-        ensures { Answers (λ b. b) result (Ok default_dref) }
+        ensures { Gives (λ b. b) result (Ok default_dref) }
     {
         Ok(DrefBox {
             version: 0,
@@ -172,7 +168,7 @@ impl DrefBox {
         BoxType::DrefBox
     }
 
-    /// The bytes of the box, its header and all: 16, and those of its reference.
+    /// The bytes of the box, its header included: 16, and those of its reference.
     #[tactic(auto, using(crate::proofs::Sizes::sizes))]
     pub fn get_size(&self) -> u64
         ensures { result ≡ size_around (dref_payload self.now) }
@@ -201,10 +197,16 @@ impl TryClone for DrefBox {
     }
 }
 
-impl Mp4Box for DrefBox {
-    ghost use Rattle.mp4_codec.specs.declared.box_type.BoxType.TheVariants.{DrefBox as dref};
-    ghost use Rattle.mp4_leaf.specs.Dinf.{dref_payload};
+impl InRange for DrefBox {
+    ghost IsInRange = { IsInRangeDref };
 
+    fn in_range(&self) {
+        self.version.in_range();
+        self.url.in_range();
+    }
+}
+
+impl Mp4Box for DrefBox {
     ghost KIND = { dref };
 
     const KIND: BoxType = BoxType::DrefBox;
@@ -217,8 +219,6 @@ impl Mp4Box for DrefBox {
 }
 
 impl ReadBox for DrefBox {
-    ghost use Rattle.mp4_leaf.specs.Dinf.{dref_of};
-
     ghost value = { dref_of };
 
     #[tactic(auto, unfolding(crate::specs::Dinf::dref_of))]
@@ -237,18 +237,18 @@ impl ReadBox for DrefBox {
 }
 
 impl WriteBox for DrefBox {
-    ghost use Rattle.std.specs.Prelude.{None};
-    ghost use Rattle.mp4_leaf.specs.Dinf.{IsCanonicalDref};
-    ghost use Rattle.mp4_leaf.specs.DinfLaws.{dref_again};
+    ghost refusal = { no_refusal };
 
-    ghost refusal = { λ _. None };
-
-    ghost IsCanonical = { IsCanonicalDref };
+    ghost Remarks = { RemarksDref };
 
     ghost reads_back = { dref_again };
 
+    fn check(&self) -> Result<()> {
+        Ok(())
+    }
+
     #[tactic(auto, using(crate::proofs::Sizes::sizes))]
-    fn put_payload(&self, out: &mut Vec<u8>) -> Result<()> {
+    fn put_payload(&self, out: &mut Vec<u8>) -> Put {
         put_u8(out, self.version)?;
         put_u24(out, self.flags)?;
         put_u32(out, self.count())?;
@@ -267,15 +267,9 @@ pub struct DinfBox {
 }
 
 impl DinfBox {
-    ghost use Rattle.std.specs.Prelude.{◌≡◌, Ok};
-    ghost use Rattle.mp4_codec.specs.declared.box_type.BoxType.TheVariants.{DinfBox as dinf};
-    ghost use Rattle.mp4_codec.specs.Boxes.{size_around};
-    ghost use Rattle.mp4_codec.specs.Cause.{Answers};
-    ghost use Rattle.mp4_leaf.specs.Dinf.{dinf_payload, default_dinf};
-
     /// The default of its references.
     pub fn default(alloc: Global) -> Result<Self>
-        ensures { Answers (λ b. b) result (Ok default_dinf) }
+        ensures { Gives (λ b. b) result (Ok default_dinf) }
     {
         Ok(DinfBox {
             dref: DrefBox::default(alloc)?,
@@ -289,7 +283,7 @@ impl DinfBox {
         BoxType::DinfBox
     }
 
-    /// The bytes of the box, its header and all: 8, and those of its references.
+    /// The bytes of the box, its header included: 8, and those of its references.
     #[tactic(auto, using(crate::proofs::Sizes::sizes))]
     pub fn get_size(&self) -> u64
         ensures { result ≡ size_around (dinf_payload self.now) }
@@ -306,10 +300,15 @@ impl TryClone for DinfBox {
     }
 }
 
-impl Mp4Box for DinfBox {
-    ghost use Rattle.mp4_codec.specs.declared.box_type.BoxType.TheVariants.{DinfBox as dinf};
-    ghost use Rattle.mp4_leaf.specs.Dinf.{dinf_payload};
+impl InRange for DinfBox {
+    ghost IsInRange = { IsInRangeDinf };
 
+    fn in_range(&self) {
+        self.dref.in_range();
+    }
+}
+
+impl Mp4Box for DinfBox {
     ghost KIND = { dinf };
 
     const KIND: BoxType = BoxType::DinfBox;
@@ -322,8 +321,6 @@ impl Mp4Box for DinfBox {
 }
 
 impl ReadBox for DinfBox {
-    ghost use Rattle.mp4_leaf.specs.Dinf.{dinf_of};
-
     ghost value = { dinf_of };
 
     #[tactic(auto, unfolding(crate::specs::Dinf::dinf_of))]
@@ -336,18 +333,18 @@ impl ReadBox for DinfBox {
 }
 
 impl WriteBox for DinfBox {
-    ghost use Rattle.std.specs.Prelude.{None};
-    ghost use Rattle.mp4_leaf.specs.Dinf.{IsCanonicalDinf};
-    ghost use Rattle.mp4_leaf.specs.DinfLaws.{dinf_again};
+    ghost refusal = { no_refusal };
 
-    ghost refusal = { λ _. None };
-
-    ghost IsCanonical = { IsCanonicalDinf };
+    ghost Remarks = { RemarksDinf };
 
     ghost reads_back = { dinf_again };
 
+    fn check(&self) -> Result<()> {
+        Ok(())
+    }
+
     #[tactic(auto, using(crate::proofs::Sizes::sizes))]
-    fn put_payload(&self, out: &mut Vec<u8>) -> Result<()> {
+    fn put_payload(&self, out: &mut Vec<u8>) -> Put {
         self.dref.put_box(out)?;
         Ok(())
     }

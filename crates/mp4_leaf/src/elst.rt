@@ -1,8 +1,16 @@
 //! The edit list.
 
+ghost use Rattle.std.specs.Prelude.{◌≡◌, Ok};
+ghost use Rattle.mp4_codec.specs.Cause.{Checks, Gives};
+ghost use Rattle.mp4_leaf.specs.Elst.{elst_entry_refusal, elst_entry_at, elst_entry, FitsElstEntry, elst_entry_length, elst_payload, elst_refusal, default_elst, elst_of, IsInRangeElst, RemarksElst, IsInRangeElstEntry};
+ghost use Rattle.mp4_leaf.specs.ElstLaws.{elst_entry_again, length-elst_entry, elst_entry-has_length, elst_again};
+ghost use Rattle.mp4_codec.specs.declared.box_type.BoxType.TheVariants.{ElstBox as elst};
+ghost use Rattle.mp4_codec.specs.Boxes.{size_around, all_refusal};
+
 use mp4_codec::{
-    BoxType, Entry, Fields, Items, Mp4Box, Put, ReadBox, Result, TryClone, WriteBox, check_value,
-    check_version, list_size, put_list, put_u8, put_u16, put_u24, put_u32, put_versioned,
+    BoxType, Entry, Fields, InRange, Items, Mp4Box, Put, ReadBox, Result, TryClone, WriteBox,
+    check_value, check_version, list_size, put_list, put_u8, put_u16, put_u24, put_u32,
+    put_versioned,
 };
 use std::alloc::Global;
 
@@ -21,9 +29,6 @@ pub struct ElstEntry {
 }
 
 impl ElstEntry {
-    ghost use Rattle.mp4_codec.specs.Cause.{Checks};
-    ghost use Rattle.mp4_leaf.specs.Elst.{elst_entry_refusal};
-
     /// Whether a version has room for the edit.
     #[tactic(auto, unfolding(crate::specs::Elst::elst_entry_refusal))]
     fn check(&self, version: u8) -> Result<()>
@@ -36,15 +41,25 @@ impl ElstEntry {
 }
 
 impl TryClone for ElstEntry {
-    fn try_clone(&self) -> Result<Self> {
+    fn try_clone(&self) -> Result<Self>
+        ensures { Gives (λ x. x) result (Ok self.now) }
+    {
         Ok(*self)
     }
 }
 
-impl Entry for ElstEntry {
-    ghost use Rattle.mp4_leaf.specs.Elst.{elst_entry_at, elst_entry, FitsElstEntry, elst_entry_length};
-    ghost use Rattle.mp4_leaf.specs.ElstLaws.{elst_entry_again, length-elst_entry, elst_entry-has_length};
+impl InRange for ElstEntry {
+    ghost IsInRange = { IsInRangeElstEntry };
 
+    fn in_range(&self) {
+        self.segment_duration.in_range();
+        self.media_time.in_range();
+        self.media_rate.in_range();
+        self.media_rate_fraction.in_range();
+    }
+}
+
+impl Entry for ElstEntry {
     ghost at = { elst_entry_at };
 
     ghost spelled = { elst_entry };
@@ -100,15 +115,9 @@ pub struct ElstBox {
 }
 
 impl ElstBox {
-    ghost use Rattle.std.specs.Prelude.{◌≡◌, Ok};
-    ghost use Rattle.mp4_codec.specs.declared.box_type.BoxType.TheVariants.{ElstBox as elst};
-    ghost use Rattle.mp4_codec.specs.Boxes.{size_around};
-    ghost use Rattle.mp4_codec.specs.Cause.{Answers, Checks};
-    ghost use Rattle.mp4_leaf.specs.Elst.{elst_payload, elst_refusal, default_elst};
-
     /// No edits.
     pub fn default(alloc: Global) -> Result<Self>
-        ensures { Answers (λ b. b) result (Ok default_elst) }
+        ensures { Gives (λ b. b) result (Ok default_elst) }
     {
         Ok(ElstBox {
             version: 0,
@@ -124,7 +133,7 @@ impl ElstBox {
         BoxType::ElstBox
     }
 
-    /// The bytes of the box, its header and all: 16, and for each edit 20 in version 1, else 12.
+    /// The bytes of the box, its header included: 16, and for each edit 20 in version 1, else 12.
     #[tactic(auto, using(crate::proofs::Sizes::sizes))]
     pub fn get_size(&self) -> u64
         ensures { result ≡ size_around (elst_payload self.now) }
@@ -132,12 +141,10 @@ impl ElstBox {
         list_size(self.version, &self.entries).saturating_add(16)
     }
 
-    /// Whether the version is known, and has room for all edits.
-    #[tactic(auto, unfolding(crate::specs::Elst::elst_refusal))]
-    fn check(&self) -> Result<()>
-        ensures { Checks result (elst_refusal self.now) }
+    /// Whether the version has room for all edits.
+    fn check_entries(&self) -> Result<()>
+        ensures { Checks result (all_refusal (elst_entry_refusal self.now.version) self.now.entries) }
     {
-        check_version(self.version)?;
         for entry in self.entries.as_slice() {
             entry.check(self.version)?;
         }
@@ -155,10 +162,16 @@ impl TryClone for ElstBox {
     }
 }
 
-impl Mp4Box for ElstBox {
-    ghost use Rattle.mp4_codec.specs.declared.box_type.BoxType.TheVariants.{ElstBox as elst};
-    ghost use Rattle.mp4_leaf.specs.Elst.{elst_payload};
+impl InRange for ElstBox {
+    ghost IsInRange = { IsInRangeElst };
 
+    fn in_range(&self) {
+        self.version.in_range();
+        self.entries.in_range();
+    }
+}
+
+impl Mp4Box for ElstBox {
     ghost KIND = { elst };
 
     const KIND: BoxType = BoxType::ElstBox;
@@ -171,8 +184,6 @@ impl Mp4Box for ElstBox {
 }
 
 impl ReadBox for ElstBox {
-    ghost use Rattle.mp4_leaf.specs.Elst.{elst_of};
-
     ghost value = { elst_of };
 
     #[tactic(auto, unfolding(crate::specs::Elst::elst_of))]
@@ -192,17 +203,20 @@ impl ReadBox for ElstBox {
 }
 
 impl WriteBox for ElstBox {
-    ghost use Rattle.mp4_leaf.specs.Elst.{elst_refusal, IsCanonicalElst};
-    ghost use Rattle.mp4_leaf.specs.ElstLaws.{elst_again};
-
     ghost refusal = { elst_refusal };
 
-    ghost IsCanonical = { IsCanonicalElst };
+    ghost Remarks = { RemarksElst };
 
     ghost reads_back = { elst_again };
 
-    fn put_payload(&self, out: &mut Vec<u8>) -> Result<()> {
-        self.check()?;
+    #[tactic(auto, unfolding(crate::specs::Elst::elst_refusal))]
+    fn check(&self) -> Result<()> {
+        check_version(self.version)?;
+        self.check_entries()?;
+        Ok(())
+    }
+
+    fn put_payload(&self, out: &mut Vec<u8>) -> Put {
         put_u8(out, self.version)?;
         put_u24(out, self.flags)?;
         put_u32(out, self.entries.len() as u32)?;

@@ -2,7 +2,8 @@
 //!
 //! The high half of the bits is the whole part, and the low half counts fractions of it.
 
-ghost use Rattle.std.specs.Prelude.{◌≡◌, ◌*◌, ◌/◌, pos, ◌*ℤ◌, ◌+ℤ◌, ◌≤ℤ◌, ◌<ℤ◌};
+ghost use Rattle.std.specs.Prelude.{◌≡◌, ◌*◌, ◌/◌, pos, ◌*ℤ◌, ◌+ℤ◌, ◌≤ℤ◌, ◌<ℤ◌, Ok};
+ghost use Rattle.mp4_codec.specs.Cause.{Gives};
 
 use mp4_codec::{Result, TryClone};
 
@@ -46,7 +47,9 @@ impl FixedPointU8 {
 }
 
 impl TryClone for FixedPointU8 {
-    fn try_clone(&self) -> Result<Self> {
+    fn try_clone(&self) -> Result<Self>
+        ensures { Gives (λ x. x) result (Ok self.now) }
+    {
         Ok(*self)
     }
 }
@@ -92,7 +95,9 @@ impl FixedPointI8 {
 }
 
 impl TryClone for FixedPointI8 {
-    fn try_clone(&self) -> Result<Self> {
+    fn try_clone(&self) -> Result<Self>
+        ensures { Gives (λ x. x) result (Ok self.now) }
+    {
         Ok(*self)
     }
 }
@@ -137,7 +142,9 @@ impl FixedPointU16 {
 }
 
 impl TryClone for FixedPointU16 {
-    fn try_clone(&self) -> Result<Self> {
+    fn try_clone(&self) -> Result<Self>
+        ensures { Gives (λ x. x) result (Ok self.now) }
+    {
         Ok(*self)
     }
 }

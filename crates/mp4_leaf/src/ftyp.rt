@@ -1,11 +1,15 @@
 //! The file type.
 
-ghost use Rattle.std.specs.Prelude.{◌≡◌};
-ghost use Rattle.mp4_codec.specs.Cause.{Answers};
+ghost use Rattle.std.specs.Prelude.{◌≡◌, Ok};
+ghost use Rattle.mp4_codec.specs.Cause.{Gives};
+ghost use Rattle.mp4_codec.specs.declared.box_type.BoxType.TheVariants.{FtypBox as ftyp};
+ghost use Rattle.mp4_codec.specs.Boxes.{size_around, no_refusal};
+ghost use Rattle.mp4_leaf.specs.Ftyp.{ftyp_payload, default_ftyp, ftyp_of, IsInRangeFtyp, RemarksFtyp};
+ghost use Rattle.mp4_leaf.specs.FtypLaws.{ftyp_again};
 
 use mp4_codec::{
-    BoxType, Fields, FourCC, Items, Mp4Box, ReadBox, Result, TryClone, WriteBox, list_size,
-    put_four_cc, put_list, put_u32,
+    BoxType, Fields, FourCC, InRange, Items, Mp4Box, Put, ReadBox, Result, TryClone, WriteBox,
+    list_size, put_four_cc, put_list, put_u32,
 };
 use std::alloc::Global;
 
@@ -24,14 +28,9 @@ pub struct FtypBox {
 }
 
 impl FtypBox {
-    ghost use Rattle.std.specs.Prelude.{Ok};
-    ghost use Rattle.mp4_codec.specs.declared.box_type.BoxType.TheVariants.{FtypBox as ftyp};
-    ghost use Rattle.mp4_codec.specs.Boxes.{size_around};
-    ghost use Rattle.mp4_leaf.specs.Ftyp.{ftyp_payload, default_ftyp};
-
     /// A major brand of four zero bytes, and no compatible one.
     pub fn default(alloc: Global) -> Result<Self>
-        ensures { Answers (λ b. b) result (Ok default_ftyp) }
+        ensures { Gives (λ b. b) result (Ok default_ftyp) }
     {
         Ok(FtypBox {
             major_brand: FourCC::default(),
@@ -47,7 +46,7 @@ impl FtypBox {
         BoxType::FtypBox
     }
 
-    /// The bytes of the box, its header and all: 16, and 4 for each compatible brand.
+    /// The bytes of the box, its header included: 16, and 4 for each compatible brand.
     #[tactic(auto, using(crate::proofs::Sizes::sizes))]
     pub fn get_size(&self) -> u64
         ensures { result ≡ size_around (ftyp_payload self.now) }
@@ -66,10 +65,17 @@ impl TryClone for FtypBox {
     }
 }
 
-impl Mp4Box for FtypBox {
-    ghost use Rattle.mp4_codec.specs.declared.box_type.BoxType.TheVariants.{FtypBox as ftyp};
-    ghost use Rattle.mp4_leaf.specs.Ftyp.{ftyp_payload};
+impl InRange for FtypBox {
+    ghost IsInRange = { IsInRangeFtyp };
 
+    fn in_range(&self) {
+        self.major_brand.in_range();
+        self.minor_version.in_range();
+        self.compatible_brands.in_range();
+    }
+}
+
+impl Mp4Box for FtypBox {
     ghost KIND = { ftyp };
 
     const KIND: BoxType = BoxType::FtypBox;
@@ -82,8 +88,6 @@ impl Mp4Box for FtypBox {
 }
 
 impl ReadBox for FtypBox {
-    ghost use Rattle.mp4_leaf.specs.Ftyp.{ftyp_of};
-
     ghost value = { ftyp_of };
 
     #[tactic(auto, unfolding(crate::specs::Ftyp::ftyp_of))]
@@ -102,17 +106,17 @@ impl ReadBox for FtypBox {
 }
 
 impl WriteBox for FtypBox {
-    ghost use Rattle.std.specs.Prelude.{None};
-    ghost use Rattle.mp4_leaf.specs.Ftyp.{IsCanonicalFtyp};
-    ghost use Rattle.mp4_leaf.specs.FtypLaws.{ftyp_again};
+    ghost refusal = { no_refusal };
 
-    ghost refusal = { λ _. None };
-
-    ghost IsCanonical = { IsCanonicalFtyp };
+    ghost Remarks = { RemarksFtyp };
 
     ghost reads_back = { ftyp_again };
 
-    fn put_payload(&self, out: &mut Vec<u8>) -> Result<()> {
+    fn check(&self) -> Result<()> {
+        Ok(())
+    }
+
+    fn put_payload(&self, out: &mut Vec<u8>) -> Put {
         put_four_cc(out, self.major_brand)?;
         put_u32(out, self.minor_version)?;
         put_list(out, 0, &self.compatible_brands)?;

@@ -1,8 +1,15 @@
 //! The handler.
 
+ghost use Rattle.std.specs.Prelude.{◌≡◌, Ok};
+ghost use Rattle.mp4_codec.specs.declared.box_type.BoxType.TheVariants.{HdlrBox as hdlr};
+ghost use Rattle.mp4_codec.specs.Boxes.{size_around, no_refusal};
+ghost use Rattle.mp4_codec.specs.Cause.{Gives};
+ghost use Rattle.mp4_leaf.specs.Hdlr.{hdlr_payload, default_hdlr, hdlr_of, IsInRangeHdlr, RemarksHdlr};
+ghost use Rattle.mp4_leaf.specs.HdlrLaws.{hdlr_again};
+
 use mp4_codec::{
-    BoxType, Fields, FourCC, Items, Mp4Box, ReadBox, Result, TryClone, WriteBox, put_bytes,
-    put_four_cc, put_u8, put_u24, put_zeros,
+    BoxType, Fields, FourCC, InRange, Items, Mp4Box, Put, ReadBox, Result, TryClone, WriteBox,
+    put_bytes, put_four_cc, put_u8, put_u24, put_zeros,
 };
 use std::alloc::Global;
 
@@ -22,15 +29,9 @@ pub struct HdlrBox {
 }
 
 impl HdlrBox {
-    ghost use Rattle.std.specs.Prelude.{◌≡◌, Ok};
-    ghost use Rattle.mp4_codec.specs.declared.box_type.BoxType.TheVariants.{HdlrBox as hdlr};
-    ghost use Rattle.mp4_codec.specs.Boxes.{size_around};
-    ghost use Rattle.mp4_codec.specs.Cause.{Answers};
-    ghost use Rattle.mp4_leaf.specs.Hdlr.{hdlr_payload, default_hdlr};
-
     /// A handler type of four zero bytes, and an empty name.
     pub fn default(alloc: Global) -> Result<Self>
-        ensures { Answers (λ b. b) result (Ok default_hdlr) }
+        ensures { Gives (λ b. b) result (Ok default_hdlr) }
     {
         Ok(HdlrBox {
             version: 0,
@@ -47,7 +48,7 @@ impl HdlrBox {
         BoxType::HdlrBox
     }
 
-    /// The bytes of the box, its header and all: 33, and the length of the name.
+    /// The bytes of the box, its header included: 33, and the length of the name.
     #[tactic(auto, using(crate::proofs::Sizes::sizes))]
     pub fn get_size(&self) -> u64
         ensures { result ≡ size_around (hdlr_payload self.now) }
@@ -67,10 +68,16 @@ impl TryClone for HdlrBox {
     }
 }
 
-impl Mp4Box for HdlrBox {
-    ghost use Rattle.mp4_codec.specs.declared.box_type.BoxType.TheVariants.{HdlrBox as hdlr};
-    ghost use Rattle.mp4_leaf.specs.Hdlr.{hdlr_payload};
+impl InRange for HdlrBox {
+    ghost IsInRange = { IsInRangeHdlr };
 
+    fn in_range(&self) {
+        self.version.in_range();
+        self.handler_type.in_range();
+    }
+}
+
+impl Mp4Box for HdlrBox {
     ghost KIND = { hdlr };
 
     const KIND: BoxType = BoxType::HdlrBox;
@@ -83,8 +90,6 @@ impl Mp4Box for HdlrBox {
 }
 
 impl ReadBox for HdlrBox {
-    ghost use Rattle.mp4_leaf.specs.Hdlr.{hdlr_of};
-
     ghost value = { hdlr_of };
 
     #[tactic(auto, unfolding(crate::specs::Hdlr::hdlr_of))]
@@ -106,17 +111,17 @@ impl ReadBox for HdlrBox {
 }
 
 impl WriteBox for HdlrBox {
-    ghost use Rattle.std.specs.Prelude.{None};
-    ghost use Rattle.mp4_leaf.specs.Hdlr.{IsCanonicalHdlr};
-    ghost use Rattle.mp4_leaf.specs.HdlrLaws.{hdlr_again};
+    ghost refusal = { no_refusal };
 
-    ghost refusal = { λ _. None };
-
-    ghost IsCanonical = { IsCanonicalHdlr };
+    ghost Remarks = { RemarksHdlr };
 
     ghost reads_back = { hdlr_again };
 
-    fn put_payload(&self, out: &mut Vec<u8>) -> Result<()> {
+    fn check(&self) -> Result<()> {
+        Ok(())
+    }
+
+    fn put_payload(&self, out: &mut Vec<u8>) -> Put {
         put_u8(out, self.version)?;
         put_u24(out, self.flags)?;
         put_zeros(out, 4)?;

@@ -29,6 +29,3 @@ pub use mvhd::MvhdBox;
 pub use smhd::SmhdBox;
 pub use tkhd::TkhdBox;
 pub use vmhd::{RgbColor, VmhdBox};
-
-#[cfg(test)]
-mod tests;

@@ -1,11 +1,11 @@
 //! The matrix of a movie or a track.
 
-ghost use Rattle.std.specs.Prelude.{OnOk};
+ghost use Rattle.std.specs.Prelude.{OnOk, ◌≡◌, Ok};
 ghost use Rattle.mp4_codec.specs.Bytes.{Appends};
 ghost use Rattle.mp4_codec.specs.Cause.{Gives};
-ghost use Rattle.mp4_leaf.specs.Matrix.{matrix_at, matrix};
+ghost use Rattle.mp4_leaf.specs.Matrix.{matrix_at, matrix, unity, IsInRangeMatrix};
 
-use mp4_codec::{Fields, Put, Result, TryClone, put_i32};
+use mp4_codec::{Fields, InRange, Put, Result, TryClone, put_i32};
 
 /// Where the picture is placed: a 3 by 3 matrix, row by row (ISO/IEC 14496-12, 6.2.2).
 ///
@@ -24,9 +24,6 @@ pub struct Matrix {
 }
 
 impl Default for Matrix {
-    ghost use Rattle.std.specs.Prelude.{◌≡◌};
-    ghost use Rattle.mp4_leaf.specs.Matrix.{unity};
-
     ghost is_default = { λ m. m ≡ unity };
 
     fn default() -> Self {
@@ -45,8 +42,26 @@ impl Default for Matrix {
 }
 
 impl TryClone for Matrix {
-    fn try_clone(&self) -> Result<Self> {
+    fn try_clone(&self) -> Result<Self>
+        ensures { Gives (λ x. x) result (Ok self.now) }
+    {
         Ok(*self)
+    }
+}
+
+impl InRange for Matrix {
+    ghost IsInRange = { IsInRangeMatrix };
+
+    fn in_range(&self) {
+        self.a.in_range();
+        self.b.in_range();
+        self.u.in_range();
+        self.c.in_range();
+        self.d.in_range();
+        self.v.in_range();
+        self.x.in_range();
+        self.y.in_range();
+        self.w.in_range();
     }
 }
 

@@ -1,9 +1,16 @@
 //! The media header.
 
+ghost use Rattle.std.specs.Prelude.{◌≡◌, Ok};
+ghost use Rattle.mp4_codec.specs.declared.box_type.BoxType.TheVariants.{MdhdBox as mdhd};
+ghost use Rattle.mp4_codec.specs.Boxes.{size_around};
+ghost use Rattle.mp4_codec.specs.Cause.{Answers};
+ghost use Rattle.mp4_leaf.specs.Mdhd.{mdhd_payload, default_mdhd, mdhd_of, mdhd_refusal, IsInRangeMdhd, RemarksMdhd, stamp_of};
+ghost use Rattle.mp4_leaf.specs.MdhdLaws.{mdhd_again};
+
 use crate::language::{check_language, pack_language, unpack_language};
-use crate::times::check_times;
+use crate::times::{Stamp, check_times, put_stamp, read_stamp};
 use mp4_codec::{
-    BoxType, Fields, Mp4Box, ReadBox, Result, Text, TryClone, WriteBox, put_u8, put_u16, put_u24,
+    BoxType, Fields, InRange, Mp4Box, Put, ReadBox, Result, Text, TryClone, WriteBox, put_u16,
     put_u32, put_versioned, put_zeros,
 };
 use std::alloc::Global;
@@ -31,12 +38,6 @@ pub struct MdhdBox {
 }
 
 impl MdhdBox {
-    ghost use Rattle.std.specs.Prelude.{◌≡◌, Ok};
-    ghost use Rattle.mp4_codec.specs.declared.box_type.BoxType.TheVariants.{MdhdBox as mdhd};
-    ghost use Rattle.mp4_codec.specs.Boxes.{size_around};
-    ghost use Rattle.mp4_codec.specs.Cause.{Answers};
-    ghost use Rattle.mp4_leaf.specs.Mdhd.{mdhd_payload, default_mdhd};
-
     /// 1000 ticks a second, and the language `und`.
     pub fn default(alloc: Global) -> Result<Self>
         ensures { Answers (λ b. b) result (Ok default_mdhd) }
@@ -59,7 +60,19 @@ impl MdhdBox {
         BoxType::MdhdBox
     }
 
-    /// The bytes of the box, its header and all: 44 in version 1, else 32.
+    /// What the header begins with.
+    fn stamp(&self) -> Stamp
+        ensures { result ≡ stamp_of self.now }
+    {
+        Stamp {
+            version: self.version,
+            flags: self.flags,
+            creation_time: self.creation_time,
+            modification_time: self.modification_time,
+        }
+    }
+
+    /// The bytes of the box, its header included: 44 in version 1, else 32.
     #[tactic(auto, using(crate::proofs::Sizes::sizes))]
     pub fn get_size(&self) -> u64
         ensures { result ≡ size_around (mdhd_payload self.now) }
@@ -82,10 +95,19 @@ impl TryClone for MdhdBox {
     }
 }
 
-impl Mp4Box for MdhdBox {
-    ghost use Rattle.mp4_codec.specs.declared.box_type.BoxType.TheVariants.{MdhdBox as mdhd};
-    ghost use Rattle.mp4_leaf.specs.Mdhd.{mdhd_payload};
+impl InRange for MdhdBox {
+    ghost IsInRange = { IsInRangeMdhd };
 
+    fn in_range(&self) {
+        self.version.in_range();
+        self.creation_time.in_range();
+        self.modification_time.in_range();
+        self.timescale.in_range();
+        self.duration.in_range();
+    }
+}
+
+impl Mp4Box for MdhdBox {
     ghost KIND = { mdhd };
 
     const KIND: BoxType = BoxType::MdhdBox;
@@ -98,27 +120,22 @@ impl Mp4Box for MdhdBox {
 }
 
 impl ReadBox for MdhdBox {
-    ghost use Rattle.mp4_leaf.specs.Mdhd.{mdhd_of};
-
     ghost value = { mdhd_of };
 
     #[tactic(auto, unfolding(crate::specs::Mdhd::mdhd_of))]
     fn read_payload(alloc: Global, payload: &[u8]) -> Result<Self> {
         let mut fields = Fields::new(payload);
-        let version = fields.u8()?;
-        let flags = fields.u24()?;
-        let creation_time = fields.versioned(version)?;
-        let modification_time = fields.versioned(version)?;
+        let stamp = read_stamp(&mut fields)?;
         let timescale = fields.u32()?;
-        let duration = fields.versioned(version)?;
+        let duration = fields.versioned(stamp.version)?;
         let code = fields.u16()?;
         fields.bytes(2)?;
         let language = unpack_language(alloc, code)?;
         Ok(MdhdBox {
-            version,
-            flags,
-            creation_time,
-            modification_time,
+            version: stamp.version,
+            flags: stamp.flags,
+            creation_time: stamp.creation_time,
+            modification_time: stamp.modification_time,
             timescale,
             duration,
             language,
@@ -127,31 +144,28 @@ impl ReadBox for MdhdBox {
 }
 
 impl WriteBox for MdhdBox {
-    ghost use Rattle.mp4_leaf.specs.Mdhd.{mdhd_refusal, IsCanonicalMdhd};
-    ghost use Rattle.mp4_leaf.specs.MdhdLaws.{mdhd_again};
-
     ghost refusal = { mdhd_refusal };
 
-    ghost IsCanonical = { IsCanonicalMdhd };
+    ghost Remarks = { RemarksMdhd };
 
     ghost reads_back = { mdhd_again };
 
     #[tactic(auto, unfolding(crate::specs::Mdhd::mdhd_refusal))]
-    fn put_payload(&self, out: &mut Vec<u8>) -> Result<()> {
-        let version = self.version;
+    fn check(&self) -> Result<()> {
         check_times(
-            version,
+            self.version,
             self.creation_time,
             self.modification_time,
             self.duration,
         )?;
         check_language(&self.language)?;
-        put_u8(out, version)?;
-        put_u24(out, self.flags)?;
-        put_versioned(out, version, self.creation_time)?;
-        put_versioned(out, version, self.modification_time)?;
+        Ok(())
+    }
+
+    fn put_payload(&self, out: &mut Vec<u8>) -> Put {
+        put_stamp(out, self.stamp())?;
         put_u32(out, self.timescale)?;
-        put_versioned(out, version, self.duration)?;
+        put_versioned(out, self.version, self.duration)?;
         put_u16(out, pack_language(&self.language))?;
         put_zeros(out, 2)?;
         Ok(())

@@ -1,11 +1,18 @@
 //! The movie header.
 
+ghost use Rattle.std.specs.Prelude.{◌≡◌, Ok};
+ghost use Rattle.mp4_codec.specs.Cause.{Gives};
+ghost use Rattle.mp4_codec.specs.declared.box_type.BoxType.TheVariants.{MvhdBox as mvhd};
+ghost use Rattle.mp4_codec.specs.Boxes.{size_around};
+ghost use Rattle.mp4_leaf.specs.Mvhd.{mvhd_payload, default_mvhd, mvhd_of, mvhd_refusal, IsInRangeMvhd, RemarksMvhd, stamp_of};
+ghost use Rattle.mp4_leaf.specs.MvhdLaws.{mvhd_again};
+
 use crate::fixed_point::{FixedPointU8, FixedPointU16};
 use crate::matrix::{Matrix, put_matrix, read_matrix};
-use crate::times::check_times;
+use crate::times::{Stamp, check_times, put_stamp, read_stamp};
 use mp4_codec::{
-    BoxType, Fields, Mp4Box, ReadBox, Result, TryClone, WriteBox, put_u8, put_u16, put_u24,
-    put_u32, put_versioned, put_zeros,
+    BoxType, Fields, InRange, Mp4Box, Put, ReadBox, Result, TryClone, WriteBox, put_u16, put_u32,
+    put_versioned, put_zeros,
 };
 use std::alloc::Global;
 
@@ -36,11 +43,6 @@ pub struct MvhdBox {
 }
 
 impl MvhdBox {
-    ghost use Rattle.std.specs.Prelude.{◌≡◌};
-    ghost use Rattle.mp4_codec.specs.declared.box_type.BoxType.TheVariants.{MvhdBox as mvhd};
-    ghost use Rattle.mp4_codec.specs.Boxes.{size_around};
-    ghost use Rattle.mp4_leaf.specs.Mvhd.{mvhd_payload};
-
     /// `mvhd`.
     pub fn get_type(&self) -> BoxType
         ensures { result ≡ mvhd }
@@ -48,7 +50,19 @@ impl MvhdBox {
         BoxType::MvhdBox
     }
 
-    /// The bytes of the box, its header and all: 120 in version 1, else 108.
+    /// What the header begins with.
+    fn stamp(&self) -> Stamp
+        ensures { result ≡ stamp_of self.now }
+    {
+        Stamp {
+            version: self.version,
+            flags: self.flags,
+            creation_time: self.creation_time,
+            modification_time: self.modification_time,
+        }
+    }
+
+    /// The bytes of the box, its header included: 120 in version 1, else 108.
     #[tactic(auto, using(crate::proofs::Sizes::sizes))]
     pub fn get_size(&self) -> u64
         ensures { result ≡ size_around (mvhd_payload self.now) }
@@ -58,9 +72,6 @@ impl MvhdBox {
 }
 
 impl Default for MvhdBox {
-    ghost use Rattle.std.specs.Prelude.{◌≡◌};
-    ghost use Rattle.mp4_leaf.specs.Mvhd.{default_mvhd};
-
     ghost is_default = { λ b. b ≡ default_mvhd };
 
     fn default() -> Self {
@@ -80,15 +91,30 @@ impl Default for MvhdBox {
 }
 
 impl TryClone for MvhdBox {
-    fn try_clone(&self) -> Result<Self> {
+    fn try_clone(&self) -> Result<Self>
+        ensures { Gives (λ x. x) result (Ok self.now) }
+    {
         Ok(*self)
     }
 }
 
-impl Mp4Box for MvhdBox {
-    ghost use Rattle.mp4_codec.specs.declared.box_type.BoxType.TheVariants.{MvhdBox as mvhd};
-    ghost use Rattle.mp4_leaf.specs.Mvhd.{mvhd_payload};
+impl InRange for MvhdBox {
+    ghost IsInRange = { IsInRangeMvhd };
 
+    fn in_range(&self) {
+        self.version.in_range();
+        self.creation_time.in_range();
+        self.modification_time.in_range();
+        self.timescale.in_range();
+        self.duration.in_range();
+        self.rate.raw.in_range();
+        self.volume.raw.in_range();
+        self.matrix.in_range();
+        self.next_track_id.in_range();
+    }
+}
+
+impl Mp4Box for MvhdBox {
     ghost KIND = { mvhd };
 
     const KIND: BoxType = BoxType::MvhdBox;
@@ -101,19 +127,16 @@ impl Mp4Box for MvhdBox {
 }
 
 impl ReadBox for MvhdBox {
-    ghost use Rattle.mp4_leaf.specs.Mvhd.{mvhd_of};
-
     ghost value = { mvhd_of };
 
     #[tactic(auto, unfolding(crate::specs::Mvhd::mvhd_of))]
-    fn read_payload(_alloc: Global, payload: &[u8]) -> Result<Self> {
+    fn read_payload(_alloc: Global, payload: &[u8]) -> Result<Self>
+        ensures { Gives (λ x. x) result (mvhd_of payload.now) }
+    {
         let mut fields = Fields::new(payload);
-        let version = fields.u8()?;
-        let flags = fields.u24()?;
-        let creation_time = fields.versioned(version)?;
-        let modification_time = fields.versioned(version)?;
+        let stamp = read_stamp(&mut fields)?;
         let timescale = fields.u32()?;
-        let duration = fields.versioned(version)?;
+        let duration = fields.versioned(stamp.version)?;
         let rate = fields.u32()?;
         let volume = fields.u16()?;
         fields.bytes(10)?;
@@ -121,10 +144,10 @@ impl ReadBox for MvhdBox {
         fields.bytes(24)?;
         let next_track_id = fields.u32()?;
         Ok(MvhdBox {
-            version,
-            flags,
-            creation_time,
-            modification_time,
+            version: stamp.version,
+            flags: stamp.flags,
+            creation_time: stamp.creation_time,
+            modification_time: stamp.modification_time,
             timescale,
             duration,
             rate: FixedPointU16::new_raw(rate),
@@ -136,30 +159,27 @@ impl ReadBox for MvhdBox {
 }
 
 impl WriteBox for MvhdBox {
-    ghost use Rattle.mp4_leaf.specs.Mvhd.{mvhd_refusal, IsCanonicalMvhd};
-    ghost use Rattle.mp4_leaf.specs.MvhdLaws.{mvhd_again};
-
     ghost refusal = { mvhd_refusal };
 
-    ghost IsCanonical = { IsCanonicalMvhd };
+    ghost Remarks = { RemarksMvhd };
 
     ghost reads_back = { mvhd_again };
 
     #[tactic(auto, unfolding(crate::specs::Mvhd::mvhd_refusal))]
-    fn put_payload(&self, out: &mut Vec<u8>) -> Result<()> {
-        let version = self.version;
+    fn check(&self) -> Result<()> {
         check_times(
-            version,
+            self.version,
             self.creation_time,
             self.modification_time,
             self.duration,
         )?;
-        put_u8(out, version)?;
-        put_u24(out, self.flags)?;
-        put_versioned(out, version, self.creation_time)?;
-        put_versioned(out, version, self.modification_time)?;
+        Ok(())
+    }
+
+    fn put_payload(&self, out: &mut Vec<u8>) -> Put {
+        put_stamp(out, self.stamp())?;
         put_u32(out, self.timescale)?;
-        put_versioned(out, version, self.duration)?;
+        put_versioned(out, self.version, self.duration)?;
         put_u32(out, self.rate.raw)?;
         put_u16(out, self.volume.raw)?;
         put_zeros(out, 10)?;

@@ -1,9 +1,16 @@
 //! The sound media header.
 
+ghost use Rattle.std.specs.Prelude.{◌≡◌, Ok};
+ghost use Rattle.mp4_codec.specs.declared.box_type.BoxType.TheVariants.{SmhdBox as smhd};
+ghost use Rattle.mp4_codec.specs.Boxes.{size_around, no_refusal};
+ghost use Rattle.mp4_leaf.specs.Smhd.{smhd_payload, default_smhd, smhd_of, IsInRangeSmhd, RemarksSmhd};
+ghost use Rattle.mp4_leaf.specs.SmhdLaws.{smhd_again};
+ghost use Rattle.mp4_codec.specs.Cause.{Gives};
+
 use crate::fixed_point::FixedPointI8;
 use mp4_codec::{
-    BoxType, Fields, Mp4Box, ReadBox, Result, TryClone, WriteBox, put_i16, put_u8, put_u24,
-    put_zeros,
+    BoxType, Fields, InRange, Mp4Box, Put, ReadBox, Result, TryClone, WriteBox, put_i16, put_u8,
+    put_u24, put_zeros,
 };
 use std::alloc::Global;
 
@@ -20,11 +27,6 @@ pub struct SmhdBox {
 }
 
 impl SmhdBox {
-    ghost use Rattle.std.specs.Prelude.{◌≡◌};
-    ghost use Rattle.mp4_codec.specs.declared.box_type.BoxType.TheVariants.{SmhdBox as smhd};
-    ghost use Rattle.mp4_codec.specs.Boxes.{size_around};
-    ghost use Rattle.mp4_leaf.specs.Smhd.{smhd_payload};
-
     /// `smhd`.
     pub fn get_type(&self) -> BoxType
         ensures { result ≡ smhd }
@@ -32,7 +34,7 @@ impl SmhdBox {
         BoxType::SmhdBox
     }
 
-    /// The bytes of the box, its header and all: 16.
+    /// The bytes of the box, its header included: 16.
     #[tactic(auto, using(crate::proofs::Sizes::sizes))]
     pub fn get_size(&self) -> u64
         ensures { result ≡ size_around (smhd_payload self.now) }
@@ -42,9 +44,6 @@ impl SmhdBox {
 }
 
 impl Default for SmhdBox {
-    ghost use Rattle.std.specs.Prelude.{◌≡◌};
-    ghost use Rattle.mp4_leaf.specs.Smhd.{default_smhd};
-
     ghost is_default = { λ b. b ≡ default_smhd };
 
     fn default() -> Self {
@@ -57,15 +56,23 @@ impl Default for SmhdBox {
 }
 
 impl TryClone for SmhdBox {
-    fn try_clone(&self) -> Result<Self> {
+    fn try_clone(&self) -> Result<Self>
+        ensures { Gives (λ x. x) result (Ok self.now) }
+    {
         Ok(*self)
     }
 }
 
-impl Mp4Box for SmhdBox {
-    ghost use Rattle.mp4_codec.specs.declared.box_type.BoxType.TheVariants.{SmhdBox as smhd};
-    ghost use Rattle.mp4_leaf.specs.Smhd.{smhd_payload};
+impl InRange for SmhdBox {
+    ghost IsInRange = { IsInRangeSmhd };
 
+    fn in_range(&self) {
+        self.version.in_range();
+        self.balance.raw.in_range();
+    }
+}
+
+impl Mp4Box for SmhdBox {
     ghost KIND = { smhd };
 
     const KIND: BoxType = BoxType::SmhdBox;
@@ -78,12 +85,12 @@ impl Mp4Box for SmhdBox {
 }
 
 impl ReadBox for SmhdBox {
-    ghost use Rattle.mp4_leaf.specs.Smhd.{smhd_of};
-
     ghost value = { smhd_of };
 
     #[tactic(auto, unfolding(crate::specs::Smhd::smhd_of))]
-    fn read_payload(_alloc: Global, payload: &[u8]) -> Result<Self> {
+    fn read_payload(_alloc: Global, payload: &[u8]) -> Result<Self>
+        ensures { Gives (λ x. x) result (smhd_of payload.now) }
+    {
         let mut fields = Fields::new(payload);
         let version = fields.u8()?;
         let flags = fields.u24()?;
@@ -98,17 +105,17 @@ impl ReadBox for SmhdBox {
 }
 
 impl WriteBox for SmhdBox {
-    ghost use Rattle.std.specs.Prelude.{None};
-    ghost use Rattle.mp4_leaf.specs.Smhd.{IsCanonicalSmhd};
-    ghost use Rattle.mp4_leaf.specs.SmhdLaws.{smhd_again};
+    ghost refusal = { no_refusal };
 
-    ghost refusal = { λ _. None };
-
-    ghost IsCanonical = { IsCanonicalSmhd };
+    ghost Remarks = { RemarksSmhd };
 
     ghost reads_back = { smhd_again };
 
-    fn put_payload(&self, out: &mut Vec<u8>) -> Result<()> {
+    fn check(&self) -> Result<()> {
+        Ok(())
+    }
+
+    fn put_payload(&self, out: &mut Vec<u8>) -> Put {
         put_u8(out, self.version)?;
         put_u24(out, self.flags)?;
         put_i16(out, self.balance.raw)?;

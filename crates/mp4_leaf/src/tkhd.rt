@@ -1,11 +1,18 @@
 //! The track header.
 
+ghost use Rattle.std.specs.Prelude.{◌≡◌, ◌*◌, Ok};
+ghost use Rattle.mp4_codec.specs.declared.box_type.BoxType.TheVariants.{TkhdBox as tkhd};
+ghost use Rattle.mp4_codec.specs.Boxes.{size_around};
+ghost use Rattle.mp4_leaf.specs.Tkhd.{tkhd_payload, default_tkhd, tkhd_of, tkhd_refusal, IsInRangeTkhd, RemarksTkhd, stamp_of};
+ghost use Rattle.mp4_leaf.specs.TkhdLaws.{tkhd_again};
+ghost use Rattle.mp4_codec.specs.Cause.{Gives};
+
 use crate::fixed_point::{FixedPointU8, FixedPointU16};
 use crate::matrix::{Matrix, put_matrix, read_matrix};
-use crate::times::check_times;
+use crate::times::{Stamp, check_times, put_stamp, read_stamp};
 use mp4_codec::{
-    BoxType, Fields, Mp4Box, ReadBox, Result, TryClone, WriteBox, put_u8, put_u16, put_u24,
-    put_u32, put_versioned, put_zeros,
+    BoxType, Fields, InRange, Mp4Box, Put, ReadBox, Result, TryClone, WriteBox, put_u16, put_u32,
+    put_versioned, put_zeros,
 };
 use std::alloc::Global;
 
@@ -41,11 +48,6 @@ pub struct TkhdBox {
 }
 
 impl TkhdBox {
-    ghost use Rattle.std.specs.Prelude.{◌≡◌, ◌*◌};
-    ghost use Rattle.mp4_codec.specs.declared.box_type.BoxType.TheVariants.{TkhdBox as tkhd};
-    ghost use Rattle.mp4_codec.specs.Boxes.{size_around};
-    ghost use Rattle.mp4_leaf.specs.Tkhd.{tkhd_payload};
-
     /// `tkhd`.
     pub fn get_type(&self) -> BoxType
         ensures { result ≡ tkhd }
@@ -53,7 +55,19 @@ impl TkhdBox {
         BoxType::TkhdBox
     }
 
-    /// The bytes of the box, its header and all: 104 in version 1, else 92.
+    /// What the header begins with.
+    fn stamp(&self) -> Stamp
+        ensures { result ≡ stamp_of self.now }
+    {
+        Stamp {
+            version: self.version,
+            flags: self.flags,
+            creation_time: self.creation_time,
+            modification_time: self.modification_time,
+        }
+    }
+
+    /// The bytes of the box, its header included: 104 in version 1, else 92.
     #[tactic(auto, using(crate::proofs::Sizes::sizes))]
     pub fn get_size(&self) -> u64
         ensures { result ≡ size_around (tkhd_payload self.now) }
@@ -77,9 +91,6 @@ impl TkhdBox {
 }
 
 impl Default for TkhdBox {
-    ghost use Rattle.std.specs.Prelude.{◌≡◌};
-    ghost use Rattle.mp4_leaf.specs.Tkhd.{default_tkhd};
-
     ghost is_default = { λ b. b ≡ default_tkhd };
 
     fn default() -> Self {
@@ -101,15 +112,32 @@ impl Default for TkhdBox {
 }
 
 impl TryClone for TkhdBox {
-    fn try_clone(&self) -> Result<Self> {
+    fn try_clone(&self) -> Result<Self>
+        ensures { Gives (λ x. x) result (Ok self.now) }
+    {
         Ok(*self)
     }
 }
 
-impl Mp4Box for TkhdBox {
-    ghost use Rattle.mp4_codec.specs.declared.box_type.BoxType.TheVariants.{TkhdBox as tkhd};
-    ghost use Rattle.mp4_leaf.specs.Tkhd.{tkhd_payload};
+impl InRange for TkhdBox {
+    ghost IsInRange = { IsInRangeTkhd };
 
+    fn in_range(&self) {
+        self.version.in_range();
+        self.creation_time.in_range();
+        self.modification_time.in_range();
+        self.track_id.in_range();
+        self.duration.in_range();
+        self.layer.in_range();
+        self.alternate_group.in_range();
+        self.volume.raw.in_range();
+        self.matrix.in_range();
+        self.width.raw.in_range();
+        self.height.raw.in_range();
+    }
+}
+
+impl Mp4Box for TkhdBox {
     ghost KIND = { tkhd };
 
     const KIND: BoxType = BoxType::TkhdBox;
@@ -122,20 +150,17 @@ impl Mp4Box for TkhdBox {
 }
 
 impl ReadBox for TkhdBox {
-    ghost use Rattle.mp4_leaf.specs.Tkhd.{tkhd_of};
-
     ghost value = { tkhd_of };
 
     #[tactic(auto, unfolding(crate::specs::Tkhd::tkhd_of))]
-    fn read_payload(_alloc: Global, payload: &[u8]) -> Result<Self> {
+    fn read_payload(_alloc: Global, payload: &[u8]) -> Result<Self>
+        ensures { Gives (λ x. x) result (tkhd_of payload.now) }
+    {
         let mut fields = Fields::new(payload);
-        let version = fields.u8()?;
-        let flags = fields.u24()?;
-        let creation_time = fields.versioned(version)?;
-        let modification_time = fields.versioned(version)?;
+        let stamp = read_stamp(&mut fields)?;
         let track_id = fields.u32()?;
         fields.bytes(4)?;
-        let duration = fields.versioned(version)?;
+        let duration = fields.versioned(stamp.version)?;
         fields.bytes(8)?;
         let layer = fields.u16()?;
         let alternate_group = fields.u16()?;
@@ -145,10 +170,10 @@ impl ReadBox for TkhdBox {
         let width = fields.u32()?;
         let height = fields.u32()?;
         Ok(TkhdBox {
-            version,
-            flags,
-            creation_time,
-            modification_time,
+            version: stamp.version,
+            flags: stamp.flags,
+            creation_time: stamp.creation_time,
+            modification_time: stamp.modification_time,
             track_id,
             duration,
             layer,
@@ -162,31 +187,28 @@ impl ReadBox for TkhdBox {
 }
 
 impl WriteBox for TkhdBox {
-    ghost use Rattle.mp4_leaf.specs.Tkhd.{tkhd_refusal, IsCanonicalTkhd};
-    ghost use Rattle.mp4_leaf.specs.TkhdLaws.{tkhd_again};
-
     ghost refusal = { tkhd_refusal };
 
-    ghost IsCanonical = { IsCanonicalTkhd };
+    ghost Remarks = { RemarksTkhd };
 
     ghost reads_back = { tkhd_again };
 
     #[tactic(auto, unfolding(crate::specs::Tkhd::tkhd_refusal))]
-    fn put_payload(&self, out: &mut Vec<u8>) -> Result<()> {
-        let version = self.version;
+    fn check(&self) -> Result<()> {
         check_times(
-            version,
+            self.version,
             self.creation_time,
             self.modification_time,
             self.duration,
         )?;
-        put_u8(out, version)?;
-        put_u24(out, self.flags)?;
-        put_versioned(out, version, self.creation_time)?;
-        put_versioned(out, version, self.modification_time)?;
+        Ok(())
+    }
+
+    fn put_payload(&self, out: &mut Vec<u8>) -> Put {
+        put_stamp(out, self.stamp())?;
         put_u32(out, self.track_id)?;
         put_zeros(out, 4)?;
-        put_versioned(out, version, self.duration)?;
+        put_versioned(out, self.version, self.duration)?;
         put_zeros(out, 8)?;
         put_u16(out, self.layer)?;
         put_u16(out, self.alternate_group)?;

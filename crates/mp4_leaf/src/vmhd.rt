@@ -1,7 +1,15 @@
 //! The video media header.
 
+ghost use Rattle.std.specs.Prelude.{◌≡◌, Ok};
+ghost use Rattle.mp4_codec.specs.declared.box_type.BoxType.TheVariants.{VmhdBox as vmhd};
+ghost use Rattle.mp4_codec.specs.Boxes.{size_around, no_refusal};
+ghost use Rattle.mp4_leaf.specs.Vmhd.{vmhd_payload, default_vmhd, vmhd_of, IsInRangeVmhd, RemarksVmhd};
+ghost use Rattle.mp4_leaf.specs.VmhdLaws.{vmhd_again};
+ghost use Rattle.mp4_codec.specs.Cause.{Gives};
+
 use mp4_codec::{
-    BoxType, Fields, Mp4Box, ReadBox, Result, TryClone, WriteBox, put_u8, put_u16, put_u24,
+    BoxType, Fields, InRange, Mp4Box, Put, ReadBox, Result, TryClone, WriteBox, put_u8, put_u16,
+    put_u24,
 };
 use std::alloc::Global;
 
@@ -14,8 +22,6 @@ pub struct RgbColor {
 }
 
 impl Default for RgbColor {
-    ghost use Rattle.std.specs.Prelude.{◌≡◌};
-
     ghost is_default = { λ color. color ≡ record { red = 0; green = 0; blue = 0 } };
 
     fn default() -> Self {
@@ -28,7 +34,9 @@ impl Default for RgbColor {
 }
 
 impl TryClone for RgbColor {
-    fn try_clone(&self) -> Result<Self> {
+    fn try_clone(&self) -> Result<Self>
+        ensures { Gives (λ x. x) result (Ok self.now) }
+    {
         Ok(*self)
     }
 }
@@ -49,11 +57,6 @@ pub struct VmhdBox {
 }
 
 impl VmhdBox {
-    ghost use Rattle.std.specs.Prelude.{◌≡◌};
-    ghost use Rattle.mp4_codec.specs.declared.box_type.BoxType.TheVariants.{VmhdBox as vmhd};
-    ghost use Rattle.mp4_codec.specs.Boxes.{size_around};
-    ghost use Rattle.mp4_leaf.specs.Vmhd.{vmhd_payload};
-
     /// `vmhd`.
     pub fn get_type(&self) -> BoxType
         ensures { result ≡ vmhd }
@@ -61,7 +64,7 @@ impl VmhdBox {
         BoxType::VmhdBox
     }
 
-    /// The bytes of the box, its header and all: 20.
+    /// The bytes of the box, its header included: 20.
     #[tactic(auto, using(crate::proofs::Sizes::sizes))]
     pub fn get_size(&self) -> u64
         ensures { result ≡ size_around (vmhd_payload self.now) }
@@ -71,9 +74,6 @@ impl VmhdBox {
 }
 
 impl Default for VmhdBox {
-    ghost use Rattle.std.specs.Prelude.{◌≡◌};
-    ghost use Rattle.mp4_leaf.specs.Vmhd.{default_vmhd};
-
     ghost is_default = { λ b. b ≡ default_vmhd };
 
     fn default() -> Self {
@@ -87,15 +87,26 @@ impl Default for VmhdBox {
 }
 
 impl TryClone for VmhdBox {
-    fn try_clone(&self) -> Result<Self> {
+    fn try_clone(&self) -> Result<Self>
+        ensures { Gives (λ x. x) result (Ok self.now) }
+    {
         Ok(*self)
     }
 }
 
-impl Mp4Box for VmhdBox {
-    ghost use Rattle.mp4_codec.specs.declared.box_type.BoxType.TheVariants.{VmhdBox as vmhd};
-    ghost use Rattle.mp4_leaf.specs.Vmhd.{vmhd_payload};
+impl InRange for VmhdBox {
+    ghost IsInRange = { IsInRangeVmhd };
 
+    fn in_range(&self) {
+        self.version.in_range();
+        self.graphics_mode.in_range();
+        self.op_color.red.in_range();
+        self.op_color.green.in_range();
+        self.op_color.blue.in_range();
+    }
+}
+
+impl Mp4Box for VmhdBox {
     ghost KIND = { vmhd };
 
     const KIND: BoxType = BoxType::VmhdBox;
@@ -108,12 +119,12 @@ impl Mp4Box for VmhdBox {
 }
 
 impl ReadBox for VmhdBox {
-    ghost use Rattle.mp4_leaf.specs.Vmhd.{vmhd_of};
-
     ghost value = { vmhd_of };
 
     #[tactic(auto, unfolding(crate::specs::Vmhd::vmhd_of))]
-    fn read_payload(_alloc: Global, payload: &[u8]) -> Result<Self> {
+    fn read_payload(_alloc: Global, payload: &[u8]) -> Result<Self>
+        ensures { Gives (λ x. x) result (vmhd_of payload.now) }
+    {
         let mut fields = Fields::new(payload);
         let version = fields.u8()?;
         let flags = fields.u24()?;
@@ -131,17 +142,17 @@ impl ReadBox for VmhdBox {
 }
 
 impl WriteBox for VmhdBox {
-    ghost use Rattle.std.specs.Prelude.{None};
-    ghost use Rattle.mp4_leaf.specs.Vmhd.{IsCanonicalVmhd};
-    ghost use Rattle.mp4_leaf.specs.VmhdLaws.{vmhd_again};
+    ghost refusal = { no_refusal };
 
-    ghost refusal = { λ _. None };
-
-    ghost IsCanonical = { IsCanonicalVmhd };
+    ghost Remarks = { RemarksVmhd };
 
     ghost reads_back = { vmhd_again };
 
-    fn put_payload(&self, out: &mut Vec<u8>) -> Result<()> {
+    fn check(&self) -> Result<()> {
+        Ok(())
+    }
+
+    fn put_payload(&self, out: &mut Vec<u8>) -> Put {
         put_u8(out, self.version)?;
         put_u24(out, self.flags)?;
         put_u16(out, self.graphics_mode)?;

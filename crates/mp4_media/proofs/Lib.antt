@@ -1,2 +1,5 @@
-pub mod Finishing
+pub mod Contents
+pub mod Walking
 pub mod Grammar
+pub mod OpenAnswers
+pub mod Finishing

@@ -1,9 +1,5 @@
-pub mod Mdat
-pub mod Opening
-pub mod OpeningLaws
+pub mod FileBoxes
 pub mod FileGrammar
-pub mod Samples
-pub mod Writing
+pub mod Walk
 pub mod WriterFields
-pub mod WritingLaws
 pub mod Finished

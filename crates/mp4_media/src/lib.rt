@@ -1,37 +1,32 @@
 //! MP4 files (ISO/IEC 14496-12), read and written.
 #![tactic(auto)]
 
-mod config;
-mod laws;
-mod mdat;
 mod opening;
 mod reader;
 mod writer;
 
-pub use config::Mp4Config;
-pub use laws::file_opens_by_its_boxes;
-pub use mdat::mdat_header;
 pub use mp4_boxes::MoovBox;
 pub use mp4_codec::{
     BoxHeader, BoxType, ByteCursor, Child, Children, Entry, Error, Fields, FourCC, Gather,
-    HEADER_EXT_SIZE, HEADER_SIZE, Items, Key, KeyedItems, Limit, Mp4Box, OPEN_END, Put, ReadBox,
-    Result, Text, TryClone, WriteBox, all_children, all_size, check_value, check_version,
-    code_again, frame_has_its_head, gather_children, last_child, list_size, optional_size,
+    HEADER_EXT_SIZE, HEADER_SIZE, InRange, Items, Key, KeyedItems, Limit, Mp4Box, OPEN_END, Put,
+    ReadBox, Result, Text, TryClone, WriteBox, all_children, all_size, check_all, check_optional,
+    check_value, check_version, code_again, frame_has_its_head, gather_children,
+    header_says_its_box, insertion_changes_one_key, last_child, list_size, optional_size,
     payload_has_its_children, put_all, put_bytes, put_four_cc, put_i16, put_i32, put_list,
     put_optional, put_u8, put_u16, put_u24, put_u32, put_u64, put_versioned, put_zeros,
-    refused_head_says_why,
+    refused_head_says_why, what_is_written_reads_back,
 };
+pub use mp4_frag::{EmsgBox, MehdBox, MfhdBox, TfdtBox, TfhdBox, TrexBox, TrunBox};
 pub use mp4_leaf::{
     DataBox, DataType, DinfBox, DrefBox, ElstBox, ElstEntry, FixedPointI8, FixedPointU8,
     FixedPointU16, FtypBox, HdlrBox, Matrix, MdhdBox, MvhdBox, RgbColor, SmhdBox, TkhdBox, UrlBox,
     VmhdBox, check_language,
 };
+pub use mp4_lookup::time_of;
+pub use mp4_mux::{Mp4Config, mdat_header};
 pub use mp4_table::{
     Co64Box, CttsBox, CttsEntry, StcoBox, StscBox, StscEntry, StssBox, StszBox, SttsBox, SttsEntry,
     entries_are_no_fewer_than_turns, entries_have_first_samples, runs_are_no_fewer_than_turns,
 };
 pub use reader::{Mp4Reader, read_mp4};
 pub use writer::Mp4Writer;
-
-#[cfg(test)]
-mod tests;

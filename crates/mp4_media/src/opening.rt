@@ -1,26 +1,34 @@
 //! Opening a file: its boxes, one after the other.
 
-ghost use Rattle.std.specs.Prelude.{◌≡◌, ◌<◌, ◌≤◌, ◌-◌, ◌+◌, [], OnSome, IfNone, OnOk, IfOk};
+ghost use Rattle.std.specs.Prelude.{◌≡◌, ◌<◌, ◌≤◌, ◌-◌, ◌+◌, None, OnSome, IfNone, OnOk, IfOk};
 ghost use Rattle.mp4_codec.specs.BoxType.{IsNamed};
 ghost use Rattle.mp4_codec.specs.Cause.{Gives, Answers};
-ghost use Rattle.mp4_media.specs.Opening.{skip_at, file_box_at, next_box_at, found_in};
-ghost use Rattle.mp4_media.specs.OpeningLaws.{with_box};
+ghost use Rattle.mp4_media.specs.FileBoxes.{meaning_of, ftyp_from, moov_from, later};
+ghost use Rattle.mp4_media.specs.Walk.{skip_at, content_at, next_box_at};
 
 use mp4_boxes::MoovBox;
 use mp4_codec::{BoxHeader, BoxType, ByteCursor, Error, HEADER_SIZE, OPEN_END, ReadBox, Result};
 use mp4_leaf::FtypBox;
 use std::alloc::Global;
 
-/// What a box of a file gives.
+/// What a box of a file holds.
 #[derive(Drop)]
-pub(crate) enum FileBox {
+pub(crate) enum BoxContent {
     Ftyp(FtypBox),
     Moov(MoovBox),
-    /// A box that isn't looked at.
+    /// A box that isn't read.
     Skipped,
 }
 
-/// What stands of a file's boxes: the last of each type.
+/// A box of a file.
+#[derive(Drop)]
+pub(crate) struct FileBox {
+    /// The place of its first byte.
+    pub place: u64,
+    pub content: BoxContent,
+}
+
+/// What counts of a file's boxes: the last of each type.
 #[derive(Drop)]
 pub(crate) struct Found {
     pub ftyp: Option<FtypBox>,
@@ -29,9 +37,9 @@ pub(crate) struct Found {
 
 impl Found {
     /// No box at all.
-    #[tactic(auto, unfolding(crate::specs::Opening::found_in))]
     pub fn none() -> Self
-        ensures { result ≡ found_in [] }
+        ensures ftyp { result.ftyp ≡ None }
+        ensures moov { result.moov ≡ None }
     {
         Found {
             ftyp: None,
@@ -41,12 +49,13 @@ impl Found {
 
     /// One box more.
     pub fn add(&mut self, file_box: FileBox)
-        ensures { self.new ≡ with_box self.old file_box }
+        ensures ftyp { self.new.ftyp ≡ later (ftyp_from file_box.content) self.old.ftyp }
+        ensures moov { self.new.moov ≡ later (moov_from file_box.content) self.old.moov }
     {
-        match file_box {
-            FileBox::Ftyp(ftyp) => self.ftyp = Some(ftyp),
-            FileBox::Moov(moov) => self.moov = Some(moov),
-            FileBox::Skipped => {}
+        match file_box.content {
+            BoxContent::Ftyp(ftyp) => self.ftyp = Some(ftyp),
+            BoxContent::Moov(moov) => self.moov = Some(moov),
+            BoxContent::Skipped => {}
         }
     }
 }
@@ -62,34 +71,36 @@ fn skip(reader: &mut ByteCursor, n: u64) -> Result<()>
     Ok(())
 }
 
-/// What the box gives whose payload stands at the cursor.
-#[tactic(auto, unfolding(crate::specs::Opening::file_box_at))]
-fn read_file_box(alloc: Global, reader: &mut ByteCursor, header: BoxHeader) -> Result<FileBox>
+/// What the box holds whose payload stands at the cursor, which then stands behind the box.
+fn read_content(alloc: Global, reader: &mut ByteCursor, header: BoxHeader) -> Result<BoxContent>
     requires named { IsNamed header.name }
     requires size { 8 ≤ header.size }
-    ensures answer { Answers (λ b. (b, reader.new)) result (file_box_at header reader.old) }
+    ensures answer { Answers (λ content. (content, reader.new)) result (content_at (meaning_of header.name) header.size reader.old) }
     ensures behind { OnOk result (reader.old.position ≤ reader.new.position) }
     ensures same { OnOk result (reader.new.bytes ≡ reader.old.bytes) }
 {
     match header.name {
         BoxType::FtypBox => {
             let ftyp = FtypBox::read_box(alloc, reader, header.size)?;
-            Ok(FileBox::Ftyp(ftyp))
+            Ok(BoxContent::Ftyp(ftyp))
         }
         BoxType::MoovBox => {
             let moov = MoovBox::read_box(alloc, reader, header.size)?;
-            Ok(FileBox::Moov(moov))
+            Ok(BoxContent::Moov(moov))
         }
         _ => {
             skip(reader, header.size - HEADER_SIZE)?;
-            Ok(FileBox::Skipped)
+            Ok(BoxContent::Skipped)
         }
     }
 }
 
-/// The next box of a file of `size` bytes, and the cursor behind it; None at its end, or at a box whose
-/// end is open.
-#[tactic(auto, unfolding(crate::specs::Opening::next_box_at))]
+/// The next box of a file of `size` bytes, with the cursor behind it; None at its end, or at a box whose
+/// end is open, with the cursor where it was.
+///
+/// `EndOfData` where 1 to 7 bytes are left before `size`, then what refuses the header, then `InvalidData` for
+/// a size past `size`, then what refuses the content.
+#[tactic(auto, unfolding(crate::specs::Walk::next_box_at))]
 pub(crate) fn next_box(alloc: Global, reader: &mut ByteCursor, size: u64) -> Result<Option<FileBox>>
     ensures answer { Answers (λ b. (b, reader.new)) result (next_box_at size reader.old) }
     ensures onward { IfOk result (λ b. OnSome b (reader.old.position < size)) }
@@ -112,6 +123,6 @@ pub(crate) fn next_box(alloc: Global, reader: &mut ByteCursor, size: u64) -> Res
     if header.size > size {
         return Err(Error::InvalidData("a box is larger than the file"));
     }
-    let file_box = read_file_box(alloc, reader, header)?;
-    Ok(Some(file_box))
+    let content = read_content(alloc, reader, header)?;
+    Ok(Some(FileBox { place, content }))
 }

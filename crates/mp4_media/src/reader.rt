@@ -1,17 +1,22 @@
 //! Opened movies.
 
-ghost use Rattle.std.specs.Prelude.{◌≡◌, false, length, IfOk};
-ghost use Rattle.mp4_codec.specs.Cause.{Gives, Answers};
-ghost use Rattle.mp4_media.specs.Opening.{opened_at, opened_file, time_of};
+ghost use Rattle.std.specs.Prelude.{◌≡◌, ◌⊎◌, false, length, Ok, Err, IfOk, IfErr};
+ghost use Rattle.mp4_codec.specs.Cause.{Cause, cause_of, Gives, Answers};
+ghost use Rattle.mp4_codec.specs.Cursor.{here};
+ghost use Rattle.mp4_lookup.specs.Time.{time_of};
+ghost use Rattle.mp4_media.specs.FileBoxes.{OpenedFile, opened_file};
+ghost use Rattle.mp4_media.specs.FileGrammar.{IsFile, IsFaultyFile};
+ghost use Rattle.mp4_media.specs.Walk.{opened_at};
 
 use crate::opening::{Found, next_box};
 use mp4_boxes::MoovBox;
-use mp4_codec::{BoxType, ByteCursor, Error, FourCC, Limit, Result};
+use mp4_codec::{BoxType, ByteCursor, Error, FourCC, Result};
 use mp4_leaf::FtypBox;
+use mp4_lookup::time_of;
 use std::alloc::Global;
 
 /// Milliseconds in a second.
-const MILLISECONDS: u128 = 1000;
+const MILLISECONDS: u32 = 1000;
 
 /// A movie that was opened: its boxes, and the bytes that they were read from.
 ///
@@ -26,44 +31,55 @@ pub struct Mp4Reader<'a> {
     size: u64,
 }
 
+/// Opens a file box by box: the answer is that of the walk over its boxes.
+fn open<'a>(alloc: Global, reader: ByteCursor<'a>, size: u64) -> Result<Mp4Reader<'a>>
+    ensures answer { Answers opened_file result (opened_at size reader.entry) }
+    ensures bytes { IfOk result (λ r. r.bytes.now ≡ reader.entry.bytes) }
+{
+    let mut reader = reader;
+    let start = reader.position();
+    let mut found = Found::none();
+    while let Some(file_box) = next_box(alloc, &mut reader, size)? {
+        found.add(file_box);
+    }
+    let Found { ftyp, moov } = found;
+    let Some(ftyp) = ftyp else {
+        return Err(Error::BoxNotFound(BoxType::FtypBox));
+    };
+    let Some(moov) = moov else {
+        return Err(Error::BoxNotFound(BoxType::MoovBox));
+    };
+    Ok(Mp4Reader {
+        bytes: reader.bytes(),
+        ftyp,
+        moov,
+        size: reader.position() - start,
+    })
+}
+
 impl<'a> Mp4Reader<'a> {
-    /// Opens the movie that begins at the cursor and of which the file has `size` bytes, counted from
-    /// the first byte that the cursor goes over.
+    /// Opens the file that begins at the cursor and has `size` bytes, counted from the first byte that the cursor
+    /// goes over (ISO/IEC 14496-12, 4.2 and 6.2).
     ///
     /// While the position is below `size`, a box stands there. ftyp and moov are read and have to be
     /// within the bytes; all others are skipped to their end, which may lie past the bytes. A size of 0
-    /// ends the walk. The first fault in file order is the answer:
+    /// ends the file. The first fault in file order is the answer:
     ///
     /// - `EndOfData` where fewer than 8 bytes are left before `size`, a header is cut, or an ftyp or moov
     ///   passes the bytes;
     /// - `InvalidData` for a size below its header, a size past `size`, an end past 64 bits, or an ftyp or moov
     ///   without a meaning;
-    /// - whatever refuses an ftyp or a moov.
+    /// - whatever else refuses an ftyp or a moov.
     ///
     /// Then `BoxNotFound` for a missing ftyp, and for a missing moov.
     pub fn read_header(alloc: Global, reader: ByteCursor<'a>, size: u64) -> Result<Self>
-        ensures answer { Answers opened_file result (opened_at size reader.entry) }
+        ensures file { IfOk result (λ r. IsFile size reader.entry (opened_file r)) }
+        ensures opens { (opened : OpenedFile) → IsFile size reader.entry opened → Answers opened_file result (Ok opened) }
+        ensures fault { IfErr result (λ e. (e ≡ Error.OutOfMemory) ⊎ IsFaultyFile size reader.entry (cause_of e)) }
+        ensures refused { (c : Cause) → IsFaultyFile size reader.entry c → Answers opened_file result (Err c) }
         ensures bytes { IfOk result (λ r. r.bytes.now ≡ reader.entry.bytes) }
     {
-        let mut reader = reader;
-        let start = reader.position();
-        let mut found = Found::none();
-        while let Some(file_box) = next_box(alloc, &mut reader, size)? {
-            found.add(file_box);
-        }
-        let Found { ftyp, moov } = found;
-        let Some(ftyp) = ftyp else {
-            return Err(Error::BoxNotFound(BoxType::FtypBox));
-        };
-        let Some(moov) = moov else {
-            return Err(Error::BoxNotFound(BoxType::MoovBox));
-        };
-        Ok(Mp4Reader {
-            bytes: reader.bytes(),
-            ftyp,
-            moov,
-            size: reader.position() - start,
-        })
+        open(alloc, reader, size)
     }
 
     /// The bytes of the file from the place where it was opened to the end of its last box, or to a box
@@ -95,22 +111,17 @@ impl<'a> Mp4Reader<'a> {
         self.ftyp.compatible_brands.as_slice()
     }
 
-    /// The movie's duration in whole milliseconds, rounded down: that of its header.
+    /// The movie's duration in whole milliseconds, rounded down: that of its header (ISO/IEC 14496-12, 8.2.2).
     ///
     /// `ZeroTimescale` where the movie's timescale is 0, then `TooLarge(Value)` past 64 bits.
-    #[tactic(auto, unfolding(crate::specs::Opening::time_of))]
     pub fn duration(&self) -> Result<u64>
         ensures { Gives (λ ms. ms) result (time_of 1000 self.now.moov.mvhd.duration self.now.moov.mvhd.timescale) }
     {
-        let timescale = self.moov.mvhd.timescale;
-        if timescale == 0 {
-            return Err(Error::ZeroTimescale);
-        }
-        let quotient = self.moov.mvhd.duration as u128 * MILLISECONDS / timescale as u128;
-        if quotient > u64::MAX as u128 {
-            return Err(Error::TooLarge(Limit::Value));
-        }
-        Ok(quotient as u64)
+        time_of(
+            MILLISECONDS,
+            self.moov.mvhd.duration,
+            self.moov.mvhd.timescale,
+        )
     }
 
     /// Ticks in a second, of the movie's durations.
@@ -128,9 +139,12 @@ impl<'a> Mp4Reader<'a> {
     }
 }
 
-/// Opens the movie in these bytes, from the first to the last.
+/// Opens the file of these bytes, from the first to the last, as [`Mp4Reader::read_header`] does.
 pub fn read_mp4(alloc: Global, bytes: &[u8]) -> Result<Mp4Reader<'_>>
-    ensures answer { Answers opened_file result (opened_at (length bytes.now) (record { bytes = bytes.now; position = 0 })) }
+    ensures file { IfOk result (λ r. IsFile (length bytes.now) (here bytes.now 0) (opened_file r)) }
+    ensures opens { (opened : OpenedFile) → IsFile (length bytes.now) (here bytes.now 0) opened → Answers opened_file result (Ok opened) }
+    ensures fault { IfErr result (λ e. (e ≡ Error.OutOfMemory) ⊎ IsFaultyFile (length bytes.now) (here bytes.now 0) (cause_of e)) }
+    ensures refused { (c : Cause) → IsFaultyFile (length bytes.now) (here bytes.now 0) c → Answers opened_file result (Err c) }
     ensures bytes { IfOk result (λ r. r.bytes.now ≡ bytes.now) }
 {
     Mp4Reader::read_header(alloc, ByteCursor::new(bytes), bytes.len() as u64)

@@ -1,5 +1,6 @@
 -- Runs are at least as many as the turns of what they expand to.
-use Rattle.std.proofs.Common.{◌≡◌, ℕ, zero, suc, ◌+◌, ◌≤◌, Bool, true, false, cond, List, [], ◌∷◌, ◌++◌, length, replicate, refl, ap, ◌∙◌, arith}
+use Rattle.std.proofs.Common.{◌≡◌, ℕ, zero, suc, ◌+◌, ◌≤◌, Bool, true, false, cond, List, [], ◌∷◌, ◌++◌, length}
+use Rattle.std.proofs.Common.{replicate, refl, ap, ◌∙◌, arith}
 use Rattle.std.proofs.lemmas.List.Concat.{flat_map-cons}
 use Rattle.mp4_table.specs.Runs.{expand, changes, turns}
 
@@ -13,7 +14,8 @@ module _ {A : Type 0} (same : A → A → Bool) (reflexive : (x : A) → same x 
   changes-run : (n : ℕ) (v : A) (xs : List A) → changes same v (replicate n v ++ xs) ≡ changes same v xs
   unfolding changes
   changes-run zero v xs = refl
-  changes-run (suc n) v xs = ap (λ (b : Bool). cond b 0 1 + changes same v (replicate n v ++ xs)) (reflexive v) ∙ omega (arith, changes-run n v xs)
+  changes-run (suc n) v xs = ap (λ (b : Bool). cond b 0 1 + changes same v (replicate n v ++ xs)) (reflexive v)
+      ∙ omega (arith, changes-run n v xs)
 
   changes-le-turns : (v : A) (xs : List A) → changes same v xs ≤ turns same xs
   unfolding changes turns
@@ -26,7 +28,8 @@ module _ {A : Type 0} (same : A → A → Bool) (reflexive : (x : A) → same x 
   turns-run zero v xs = omega arith
   turns-run (suc n) v xs = omega (arith, changes-run n v xs, changes-le-turns v xs)
 
-  pub turns-expand : {R : Type 0} (count : R → ℕ) (value : R → A) (runs : List R) → turns same (expand count value runs) ≤ length runs
+  pub turns-expand : {R : Type 0} (count : R → ℕ) (value : R → A) (runs : List R)
+      → turns same (expand count value runs) ≤ length runs
   unfolding expand turns
   turns-expand count value [] = omega arith
   turns-expand {R} count value (r ∷ runs) =
@@ -36,10 +39,12 @@ module _ {A : Type 0} (same : A → A → Bool) (reflexive : (x : A) → same x 
   changes-nothing : (n : ℕ) (v : A) → changes same v (replicate n v) ≡ 0
   unfolding changes
   changes-nothing zero v = refl
-  changes-nothing (suc n) v = ap (λ (b : Bool). cond b 0 1 + changes same v (replicate n v)) (reflexive v) ∙ omega (arith, changes-nothing n v)
+  changes-nothing (suc n) v = ap (λ (b : Bool). cond b 0 1 + changes same v (replicate n v)) (reflexive v)
+      ∙ omega (arith, changes-nothing n v)
 
   -- so does a run behind them
-  changes-run_behind : (x : A) (xs : List A) (n : ℕ) (v : A) → changes same x (xs ++ replicate n v) ≤ changes same x xs + 1
+  changes-run_behind : (x : A) (xs : List A) (n : ℕ) (v : A)
+      → changes same x (xs ++ replicate n v) ≤ changes same x xs + 1
   unfolding changes
   changes-run_behind x [] zero v = omega arith
   changes-run_behind x [] (suc n) v = omega (arith, at_most_one (same x v), changes-nothing n v)

@@ -1,5 +1,6 @@
 -- Samples in chunks: how many each chunk has, and where each lies (ISO/IEC 14496-12, 8.7.3 to 8.7.5).
-use Rattle.std.specs.Prelude.{ℕ, ◌+◌, ◌≤◌, Bool, List, [], ◌∷◌, ◌++◌, take, drop, map, fold, Option, Some, None, IsSome, option_map, unwrap_or, nat_le, if◌then◌else◌}
+use Rattle.std.specs.Prelude.{ℕ, ◌+◌, ◌≤◌, Bool, List, [], ◌∷◌, ◌++◌, take, drop, map, fold, Option, Some, None}
+use Rattle.std.specs.Prelude.{IsSome, option_map, unwrap_or, nat_le, if◌then◌else◌}
 use Rattle.std.specs.List.{range_with_len}
 use Rattle.mp4_table.specs.declared.stsc.StscEntry.{StscEntry}
 
@@ -28,7 +29,8 @@ unfoldable pub laid_from : ℕ → List ℕ → List (ℕ × ℕ)
 laid_from place [] = []
 laid_from place (size ∷ sizes) = (place, size) ∷ laid_from (place + size) sizes
 
--- The sizes cut into pieces of these counts, a chunk each: the place and the size of each sample, the first of a chunk at
+-- The sizes cut into pieces of these counts, a chunk each: the place and the size of each sample, the first of a
+-- chunk at
 -- its offset.
 unfoldable pub places : List ℕ → List ℕ → List ℕ → List (ℕ × ℕ)
 places [] offsets sizes = []

@@ -6,7 +6,8 @@ use Rattle.mp4_codec.specs.Cause.{Cause, ◌>>=◌}
 use Rattle.mp4_codec.specs.Bytes.{Reader, number_at, number, int32_at, int32, ◌⧺◌}
 use Rattle.mp4_table.specs.declared.ctts.CttsEntry.{CttsEntry}
 use Rattle.mp4_table.specs.declared.ctts.CttsBox.{CttsBox}
-use Rattle.mp4_table.specs.Table.{table_of, table, IsCanonicalTable}
+use Rattle.mp4_table.specs.Table.{table_of, table, IsInRangeTable}
+use Rattle.mp4_codec.specs.Boxes.{IsCanonical, no_refusal}
 
 -- a run: how many samples there are, and the offset of each
 unfoldable pub ctts_entry_at : Reader CttsEntry
@@ -18,7 +19,7 @@ ctts_entry_at bytes = do
 unfoldable pub ctts_entry : CttsEntry → List ℕ
 ctts_entry e = number 4 e.sample_count ⧺ int32 e.sample_offset
 
-pub record FitsCttsEntry (e : CttsEntry) : Type 0 where
+pub record IsInRangeCttsEntry (e : CttsEntry) : Type 0 where
   pub sample_count : e.sample_count < 2 ^ 32
   pub sample_offset : FitsSigned w32 e.sample_offset
 
@@ -32,8 +33,17 @@ ctts_of payload = do
 unfoldable pub ctts_payload : CttsBox → List ℕ
 ctts_payload b = table (λ _. ctts_entry) b.version b.flags b.entries
 
+-- each number is within its type
+abbrev pub IsInRangeCtts : CttsBox → Type 0
+IsInRangeCtts b = IsInRangeTable IsInRangeCttsEntry b.version b.entries
+
+-- flags have 24 bits
+abbrev pub RemarksCtts : CttsBox → Type 0
+RemarksCtts b = b.flags < 2 ^ 24
+
+-- a table that is written and reads back equal
 abbrev pub IsCanonicalCtts : CttsBox → Type 0
-IsCanonicalCtts b = IsCanonicalTable FitsCttsEntry b.version b.flags b.entries
+IsCanonicalCtts = IsCanonical IsInRangeCtts RemarksCtts ctts_payload no_refusal
 
 abbrev pub default_ctts : CttsBox
 default_ctts = record { version = 0; flags = 0; entries = [] }

@@ -5,7 +5,8 @@ use Rattle.mp4_codec.specs.Cause.{Cause, invalid_data, ◌>>=◌}
 use Rattle.mp4_codec.specs.Bytes.{number_at, number}
 use Rattle.mp4_table.specs.declared.stco.StcoBox.{StcoBox}
 use Rattle.mp4_table.specs.declared.co64.Co64Box.{Co64Box}
-use Rattle.mp4_table.specs.Table.{table_of, table, IsCanonicalTable}
+use Rattle.mp4_table.specs.Table.{table_of, table, IsInRangeTable}
+use Rattle.mp4_codec.specs.Boxes.{IsCanonical, no_refusal}
 
 -- the table of a payload
 unfoldable pub stco_of : List ℕ → Result StcoBox Cause
@@ -17,8 +18,17 @@ stco_of payload = do
 unfoldable pub stco_payload : StcoBox → List ℕ
 stco_payload b = table (λ _. number 4) b.version b.flags b.entries
 
+-- each number is within its type
+abbrev pub IsInRangeStco : StcoBox → Type 0
+IsInRangeStco b = IsInRangeTable (λ n. n < 2 ^ 32) b.version b.entries
+
+-- flags have 24 bits
+abbrev pub RemarksStco : StcoBox → Type 0
+RemarksStco b = b.flags < 2 ^ 24
+
+-- a table that is written and reads back equal
 abbrev pub IsCanonicalStco : StcoBox → Type 0
-IsCanonicalStco b = IsCanonicalTable (λ n. n < 2 ^ 32) b.version b.flags b.entries
+IsCanonicalStco = IsCanonical IsInRangeStco RemarksStco stco_payload no_refusal
 
 abbrev pub default_stco : StcoBox
 default_stco = record { version = 0; flags = 0; entries = [] }

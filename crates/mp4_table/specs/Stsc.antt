@@ -1,15 +1,24 @@
 -- How many samples each chunk has: runs of chunks that have equally many (ISO/IEC 14496-12, 8.7.4).
-use Rattle.std.specs.Prelude.{◌≡◌, ℕ, ◌+◌, ◌-◌, ◌*◌, ◌^◌, ◌<◌, ◌≤◌, List, [], ◌∷◌, length, slice_index_or, Option, Some, None, Result, Ok, Err, nat_lt, if◌then◌else◌}
+use Rattle.std.specs.Prelude.{◌≡◌, ℕ, ◌+◌, ◌-◌, ◌*◌, ◌^◌, ◌<◌, ◌≤◌, List, [], ◌∷◌, length, slice_index_or, Option}
+use Rattle.std.specs.Prelude.{Some, None, Result, Ok, Err, nat_lt, if◌then◌else◌}
 use Rattle.std.specs.List.{AllAdjacentBelow}
 use Rattle.mp4_codec.specs.Cause.{Cause, invalid_data, ◌>>=◌}
 use Rattle.mp4_codec.specs.Bytes.{Reader, number_at, number, ◌⧺◌}
 use Rattle.mp4_table.specs.declared.stsc.StscEntry.{StscEntry}
 use Rattle.mp4_table.specs.declared.stsc.StscBox.{StscBox}
-use Rattle.mp4_table.specs.Table.{table_of, table, IsCanonicalTable}
+use Rattle.mp4_table.specs.Table.{table_of, table, IsInRangeTable}
+use Rattle.mp4_codec.specs.Boxes.{IsCanonical, no_refusal}
 
 -- the entry with this first sample
 abbrev pub with_first_sample : ℕ → StscEntry → StscEntry
-with_first_sample n e = record { first_chunk = e.first_chunk; samples_per_chunk = e.samples_per_chunk; sample_description_index = e.sample_description_index; first_sample = n }
+with_first_sample n e =
+    record {
+      first_chunk = e.first_chunk;
+      samples_per_chunk = e.samples_per_chunk;
+      sample_description_index =
+          e.sample_description_index;
+      first_sample = n;
+    }
 
 -- a run: its first chunk, how many samples each chunk has, and their description; the first sample is not stored
 unfoldable pub stsc_entry_at : Reader StscEntry
@@ -17,12 +26,21 @@ stsc_entry_at bytes = do
   first_chunk ← number_at 4 bytes
   samples_per_chunk ← number_at 4 first_chunk.1
   sample_description_index ← number_at 4 samples_per_chunk.1
-  Ok (record { first_chunk = first_chunk.0; samples_per_chunk = samples_per_chunk.0; sample_description_index = sample_description_index.0; first_sample = 0 }, sample_description_index.1)
+  Ok (
+    record {
+      first_chunk = first_chunk.0;
+      samples_per_chunk = samples_per_chunk.0;
+      sample_description_index =
+          sample_description_index.0;
+      first_sample = 0;
+    },
+    sample_description_index.1,
+  )
 
 unfoldable pub stsc_entry : StscEntry → List ℕ
 stsc_entry e = number 4 e.first_chunk ⧺ number 4 e.samples_per_chunk ⧺ number 4 e.sample_description_index
 
-pub record FitsStscEntry (e : StscEntry) : Type 0 where
+pub record IsInRangeStscEntry (e : StscEntry) : Type 0 where
   pub first_chunk : e.first_chunk < 2 ^ 32
   pub samples_per_chunk : e.samples_per_chunk < 2 ^ 32
   pub sample_description_index : e.sample_description_index < 2 ^ 32
@@ -30,7 +48,7 @@ pub record FitsStscEntry (e : StscEntry) : Type 0 where
 
 -- an entry as it is stored
 pub record FitsStoredEntry (e : StscEntry) : Type 0 where
-  pub fits : FitsStscEntry e
+  pub fits : IsInRangeStscEntry e
   pub no_first_sample : e.first_sample ≡ 0
 
 -- the number of a sample, if it fits its field
@@ -69,12 +87,21 @@ stsc_payload b = table (λ _. stsc_entry) b.version b.flags b.entries
 pub record HasFirstSamples (entries : List StscEntry) : Type 0 where
   pub first : (d : StscEntry) → 0 < length entries → (slice_index_or entries 0 d).first_sample ≡ 1
   pub chunks : AllAdjacentBelow (λ a b. a.first_chunk ≤ b.first_chunk) entries (length entries)
-  pub next : AllAdjacentBelow (λ a b. b.first_sample ≡ a.first_sample + (b.first_chunk - a.first_chunk) * a.samples_per_chunk) entries (length entries)
+  pub next : AllAdjacentBelow (λ a b. b.first_sample ≡ a.first_sample
+      + (b.first_chunk - a.first_chunk) * a.samples_per_chunk) entries (length entries)
 
--- what is read again as it was written
-pub record IsCanonicalStsc (b : StscBox) : Type 0 where
-  pub fits : IsCanonicalTable FitsStscEntry b.version b.flags b.entries
+-- each number is within its type
+abbrev pub IsInRangeStsc : StscBox → Type 0
+IsInRangeStsc b = IsInRangeTable IsInRangeStscEntry b.version b.entries
+
+-- flags have 24 bits, and the entries have the first samples that reading finds
+pub record RemarksStsc (b : StscBox) : Type 0 where
+  pub flags : b.flags < 2 ^ 24
   pub first_samples : HasFirstSamples b.entries
+
+-- a table that is written and reads back equal
+abbrev pub IsCanonicalStsc : StscBox → Type 0
+IsCanonicalStsc = IsCanonical IsInRangeStsc RemarksStsc stsc_payload no_refusal
 
 abbrev pub default_stsc : StscBox
 default_stsc = record { version = 0; flags = 0; entries = [] }

@@ -4,7 +4,8 @@ use Rattle.mp4_codec.specs.Cause.{Cause, ◌>>=◌}
 use Rattle.mp4_codec.specs.Bytes.{Reader, number_at, number, ◌⧺◌}
 use Rattle.mp4_table.specs.declared.stts.SttsEntry.{SttsEntry}
 use Rattle.mp4_table.specs.declared.stts.SttsBox.{SttsBox}
-use Rattle.mp4_table.specs.Table.{table_of, table, IsCanonicalTable}
+use Rattle.mp4_table.specs.Table.{table_of, table, IsInRangeTable}
+use Rattle.mp4_codec.specs.Boxes.{IsCanonical, no_refusal}
 
 -- a run: how many samples there are, and how long each lasts
 unfoldable pub stts_entry_at : Reader SttsEntry
@@ -16,7 +17,7 @@ stts_entry_at bytes = do
 unfoldable pub stts_entry : SttsEntry → List ℕ
 stts_entry e = number 4 e.sample_count ⧺ number 4 e.sample_delta
 
-pub record FitsSttsEntry (e : SttsEntry) : Type 0 where
+pub record IsInRangeSttsEntry (e : SttsEntry) : Type 0 where
   pub sample_count : e.sample_count < 2 ^ 32
   pub sample_delta : e.sample_delta < 2 ^ 32
 
@@ -30,8 +31,17 @@ stts_of payload = do
 unfoldable pub stts_payload : SttsBox → List ℕ
 stts_payload b = table (λ _. stts_entry) b.version b.flags b.entries
 
+-- each number is within its type
+abbrev pub IsInRangeStts : SttsBox → Type 0
+IsInRangeStts b = IsInRangeTable IsInRangeSttsEntry b.version b.entries
+
+-- flags have 24 bits
+abbrev pub RemarksStts : SttsBox → Type 0
+RemarksStts b = b.flags < 2 ^ 24
+
+-- a table that is written and reads back equal
 abbrev pub IsCanonicalStts : SttsBox → Type 0
-IsCanonicalStts b = IsCanonicalTable FitsSttsEntry b.version b.flags b.entries
+IsCanonicalStts = IsCanonical IsInRangeStts RemarksStts stts_payload no_refusal
 
 abbrev pub default_stts : SttsBox
 default_stts = record { version = 0; flags = 0; entries = [] }

@@ -1,5 +1,5 @@
 -- What most tables of a track are: version and flags, a count, and so many entries (ISO/IEC 14496-12, 8.6 and 8.7).
-use Rattle.std.specs.Prelude.{ℕ, ◌^◌, ◌<◌, List, length, Option, None, Result, Ok}
+use Rattle.std.specs.Prelude.{ℕ, ◌^◌, ◌<◌, List, length, Result, Ok}
 use Rattle.std.specs.List.{flat_map, AllByRecursion}
 use Rattle.mp4_codec.specs.Cause.{Cause, ◌>>=◌}
 use Rattle.mp4_codec.specs.Bytes.{Reader, number_at, list_at, number, ◌⧺◌}
@@ -15,15 +15,10 @@ table_of entry_at payload = do
 
 -- the payload of a table
 unfoldable pub table : {A : Type 0} → (ℕ → A → List ℕ) → ℕ → ℕ → List A → List ℕ
-table spelled version flags entries = number 1 version ⧺ number 3 flags ⧺ number 4 (length entries) ⧺ flat_map (spelled version) entries
+table spelled version flags entries =
+    number 1 version ⧺ number 3 flags ⧺ number 4 (length entries) ⧺ flat_map (spelled version) entries
 
--- what is read again as it was written
-pub record IsCanonicalTable {A : Type 0} (FitsEntry : A → Type 0) (version flags : ℕ) (entries : List A) : Type 0 where
+-- each number of a table is within its type
+pub record IsInRangeTable {A : Type 0} (IsInRangeEntry : A → Type 0) (version : ℕ) (entries : List A) : Type 0 where
   pub version_fits : version < 2 ^ 8
-  pub flags_fit : flags < 2 ^ 24
-  pub count_fits : length entries < 2 ^ 32
-  pub entries_fit : AllByRecursion FitsEntry entries
-
--- every table is written, but for its length
-abbrev pub no_refusal : {A : Type 0} → A → Option Cause
-no_refusal table = None
+  pub entries_fit : AllByRecursion IsInRangeEntry entries

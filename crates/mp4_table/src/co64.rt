@@ -1,13 +1,14 @@
 //! Where chunks lie, in large files.
 
 ghost use Rattle.std.specs.Prelude.{◌≡◌, Ok};
-ghost use Rattle.mp4_codec.specs.Cause.{Answers};
-ghost use Rattle.mp4_codec.specs.Boxes.{size_around};
+ghost use Rattle.mp4_codec.specs.Cause.{Gives};
+ghost use Rattle.mp4_codec.specs.Boxes.{size_around, no_refusal};
 ghost use Rattle.mp4_codec.specs.declared.box_type.BoxType.TheVariants.{Co64Box as co64};
-ghost use Rattle.mp4_table.specs.Co64.{co64_payload, default_co64};
+ghost use Rattle.mp4_table.specs.Co64.{co64_payload, default_co64, co64_of, IsInRangeCo64, RemarksCo64};
+ghost use Rattle.mp4_table.specs.Co64Laws.{co64_again};
 
 use crate::table::{put_table, read_table, table_size};
-use mp4_codec::{BoxType, Items, Mp4Box, ReadBox, Result, TryClone, WriteBox};
+use mp4_codec::{BoxType, InRange, Items, Mp4Box, Put, ReadBox, Result, TryClone, WriteBox};
 use std::alloc::Global;
 
 /// The chunk offset table of large files, `co64`: where each chunk of a track lies, in 64 bits
@@ -25,7 +26,7 @@ pub struct Co64Box {
 impl Co64Box {
     /// No entries.
     pub fn default(alloc: Global) -> Result<Self>
-        ensures { Answers (λ b. b) result (Ok default_co64) }
+        ensures { Gives (λ b. b) result (Ok default_co64) }
     {
         Ok(Co64Box {
             version: 0,
@@ -41,7 +42,7 @@ impl Co64Box {
         BoxType::Co64Box
     }
 
-    /// The bytes of the box, its header and all: 16, and 8 for each entry.
+    /// The bytes of the box, its header included: 16, and 8 for each entry.
     #[tactic(auto, unfolding(crate::specs::Co64::co64_payload))]
     pub fn get_size(&self) -> u64
         ensures { result ≡ size_around (co64_payload self.now) }
@@ -60,6 +61,15 @@ impl TryClone for Co64Box {
     }
 }
 
+impl InRange for Co64Box {
+    ghost IsInRange = { IsInRangeCo64 };
+
+    fn in_range(&self) {
+        self.version.in_range();
+        self.entries.in_range();
+    }
+}
+
 impl Mp4Box for Co64Box {
     ghost KIND = { co64 };
 
@@ -73,8 +83,6 @@ impl Mp4Box for Co64Box {
 }
 
 impl ReadBox for Co64Box {
-    ghost use Rattle.mp4_table.specs.Co64.{co64_of};
-
     ghost value = { co64_of };
 
     #[tactic(auto, unfolding(crate::specs::Co64::co64_of))]
@@ -89,18 +97,18 @@ impl ReadBox for Co64Box {
 }
 
 impl WriteBox for Co64Box {
-    ghost use Rattle.mp4_table.specs.Table.{no_refusal};
-    ghost use Rattle.mp4_table.specs.Co64.{IsCanonicalCo64};
-    ghost use Rattle.mp4_table.specs.Co64Laws.{co64_again};
-
     ghost refusal = { no_refusal };
 
-    ghost IsCanonical = { IsCanonicalCo64 };
+    ghost Remarks = { RemarksCo64 };
 
     ghost reads_back = { co64_again };
 
+    fn check(&self) -> Result<()> {
+        Ok(())
+    }
+
     #[tactic(auto, using(crate::proofs::Sizes::sizes), unfolding(crate::specs::Co64::co64_payload))]
-    fn put_payload(&self, out: &mut Vec<u8>) -> Result<()> {
+    fn put_payload(&self, out: &mut Vec<u8>) -> Put {
         put_table(out, self.version, self.flags, &self.entries)?;
         Ok(())
     }

@@ -1,15 +1,16 @@
 //! How much later than it is decoded a sample is shown.
 
 ghost use Rattle.std.specs.Prelude.{◌≡◌, Ok};
-ghost use Rattle.mp4_codec.specs.Cause.{Answers};
-ghost use Rattle.mp4_codec.specs.Boxes.{size_around};
+ghost use Rattle.mp4_codec.specs.Cause.{Gives};
+ghost use Rattle.mp4_codec.specs.Boxes.{size_around, no_refusal};
 ghost use Rattle.mp4_codec.specs.declared.box_type.BoxType.TheVariants.{CttsBox as ctts};
-ghost use Rattle.mp4_table.specs.Ctts.{ctts_payload, default_ctts};
+ghost use Rattle.mp4_table.specs.Ctts.{ctts_payload, default_ctts, ctts_entry_at, ctts_entry, IsInRangeCttsEntry, ctts_of, IsInRangeCtts, RemarksCtts};
+ghost use Rattle.mp4_table.specs.CttsLaws.{ctts_entry_again, length-ctts_entry, ctts_entry-has_length, ctts_again};
 
 use crate::table::{put_table, read_table, table_size};
 use mp4_codec::{
-    BoxType, Entry, Fields, Items, Mp4Box, Put, ReadBox, Result, TryClone, WriteBox, put_i32,
-    put_u32,
+    BoxType, Entry, Fields, InRange, Items, Mp4Box, Put, ReadBox, Result, TryClone, WriteBox,
+    put_i32, put_u32,
 };
 use std::alloc::Global;
 
@@ -24,20 +25,28 @@ pub struct CttsEntry {
 }
 
 impl TryClone for CttsEntry {
-    fn try_clone(&self) -> Result<Self> {
+    fn try_clone(&self) -> Result<Self>
+        ensures { Gives (λ x. x) result (Ok self.now) }
+    {
         Ok(*self)
     }
 }
 
-impl Entry for CttsEntry {
-    ghost use Rattle.mp4_table.specs.Ctts.{ctts_entry_at, ctts_entry, FitsCttsEntry};
-    ghost use Rattle.mp4_table.specs.CttsLaws.{ctts_entry_again, length-ctts_entry, ctts_entry-has_length};
+impl InRange for CttsEntry {
+    ghost IsInRange = { IsInRangeCttsEntry };
 
+    fn in_range(&self) {
+        self.sample_count.in_range();
+        self.sample_offset.in_range();
+    }
+}
+
+impl Entry for CttsEntry {
     ghost at = { λ _. ctts_entry_at };
 
     ghost spelled = { λ _. ctts_entry };
 
-    ghost Fits = { λ _. FitsCttsEntry };
+    ghost Fits = { λ _. IsInRangeCttsEntry };
 
     ghost bytes_each = { λ _. 8 };
 
@@ -83,7 +92,7 @@ pub struct CttsBox {
 impl CttsBox {
     /// No entries.
     pub fn default(alloc: Global) -> Result<Self>
-        ensures { Answers (λ b. b) result (Ok default_ctts) }
+        ensures { Gives (λ b. b) result (Ok default_ctts) }
     {
         Ok(CttsBox {
             version: 0,
@@ -99,7 +108,7 @@ impl CttsBox {
         BoxType::CttsBox
     }
 
-    /// The bytes of the box, its header and all: 16, and 8 for each entry.
+    /// The bytes of the box, its header included: 16, and 8 for each entry.
     #[tactic(auto, unfolding(crate::specs::Ctts::ctts_payload))]
     pub fn get_size(&self) -> u64
         ensures { result ≡ size_around (ctts_payload self.now) }
@@ -118,6 +127,15 @@ impl TryClone for CttsBox {
     }
 }
 
+impl InRange for CttsBox {
+    ghost IsInRange = { IsInRangeCtts };
+
+    fn in_range(&self) {
+        self.version.in_range();
+        self.entries.in_range();
+    }
+}
+
 impl Mp4Box for CttsBox {
     ghost KIND = { ctts };
 
@@ -131,8 +149,6 @@ impl Mp4Box for CttsBox {
 }
 
 impl ReadBox for CttsBox {
-    ghost use Rattle.mp4_table.specs.Ctts.{ctts_of};
-
     ghost value = { ctts_of };
 
     #[tactic(auto, unfolding(crate::specs::Ctts::ctts_of))]
@@ -147,18 +163,18 @@ impl ReadBox for CttsBox {
 }
 
 impl WriteBox for CttsBox {
-    ghost use Rattle.mp4_table.specs.Table.{no_refusal};
-    ghost use Rattle.mp4_table.specs.Ctts.{IsCanonicalCtts};
-    ghost use Rattle.mp4_table.specs.CttsLaws.{ctts_again};
-
     ghost refusal = { no_refusal };
 
-    ghost IsCanonical = { IsCanonicalCtts };
+    ghost Remarks = { RemarksCtts };
 
     ghost reads_back = { ctts_again };
 
+    fn check(&self) -> Result<()> {
+        Ok(())
+    }
+
     #[tactic(auto, using(crate::proofs::Sizes::sizes), unfolding(crate::specs::Ctts::ctts_payload))]
-    fn put_payload(&self, out: &mut Vec<u8>) -> Result<()> {
+    fn put_payload(&self, out: &mut Vec<u8>) -> Put {
         put_table(out, self.version, self.flags, &self.entries)?;
         Ok(())
     }

@@ -22,6 +22,3 @@ pub use stsc::{StscBox, StscEntry};
 pub use stss::StssBox;
 pub use stsz::StszBox;
 pub use stts::{SttsBox, SttsEntry};
-
-#[cfg(test)]
-mod tests;

@@ -2,14 +2,15 @@
 
 ghost use Rattle.std.specs.Prelude.{◌≡◌, ◌-◌, ◌^◌, Ok, IfOk, nat_lt};
 ghost use Rattle.std.specs.List.{list_any};
-ghost use Rattle.mp4_codec.specs.Cause.{Answers, AnswersCause};
-ghost use Rattle.mp4_codec.specs.Boxes.{size_around};
+ghost use Rattle.mp4_codec.specs.Cause.{Answers, AnswersCause, Gives};
+ghost use Rattle.mp4_codec.specs.Boxes.{size_around, no_refusal};
 ghost use Rattle.mp4_codec.specs.declared.box_type.BoxType.TheVariants.{StcoBox as stco};
-ghost use Rattle.mp4_table.specs.Stco.{stco_payload, default_stco, offsets_refusal, narrowed, narrowed_refusal};
+ghost use Rattle.mp4_table.specs.Stco.{stco_payload, default_stco, offsets_refusal, narrowed, narrowed_refusal, stco_of, IsInRangeStco, RemarksStco};
+ghost use Rattle.mp4_table.specs.StcoLaws.{stco_again};
 
 use crate::co64::Co64Box;
 use crate::table::{put_table, read_table, table_size};
-use mp4_codec::{BoxType, Error, Items, Mp4Box, ReadBox, Result, TryClone, WriteBox};
+use mp4_codec::{BoxType, Error, InRange, Items, Mp4Box, Put, ReadBox, Result, TryClone, WriteBox};
 use std::alloc::Global;
 
 /// Whether an offset passes 2^32 - 1.
@@ -49,7 +50,7 @@ pub struct StcoBox {
 impl StcoBox {
     /// No entries.
     pub fn default(alloc: Global) -> Result<Self>
-        ensures { Answers (λ b. b) result (Ok default_stco) }
+        ensures { Gives (λ b. b) result (Ok default_stco) }
     {
         Ok(StcoBox {
             version: 0,
@@ -78,7 +79,7 @@ impl StcoBox {
         BoxType::StcoBox
     }
 
-    /// The bytes of the box, its header and all: 16, and 4 for each entry.
+    /// The bytes of the box, its header included: 16, and 4 for each entry.
     #[tactic(auto, unfolding(crate::specs::Stco::stco_payload))]
     pub fn get_size(&self) -> u64
         ensures { result ≡ size_around (stco_payload self.now) }
@@ -97,6 +98,15 @@ impl TryClone for StcoBox {
     }
 }
 
+impl InRange for StcoBox {
+    ghost IsInRange = { IsInRangeStco };
+
+    fn in_range(&self) {
+        self.version.in_range();
+        self.entries.in_range();
+    }
+}
+
 impl Mp4Box for StcoBox {
     ghost KIND = { stco };
 
@@ -110,8 +120,6 @@ impl Mp4Box for StcoBox {
 }
 
 impl ReadBox for StcoBox {
-    ghost use Rattle.mp4_table.specs.Stco.{stco_of};
-
     ghost value = { stco_of };
 
     #[tactic(auto, unfolding(crate::specs::Stco::stco_of))]
@@ -126,18 +134,18 @@ impl ReadBox for StcoBox {
 }
 
 impl WriteBox for StcoBox {
-    ghost use Rattle.mp4_table.specs.Table.{no_refusal};
-    ghost use Rattle.mp4_table.specs.Stco.{IsCanonicalStco};
-    ghost use Rattle.mp4_table.specs.StcoLaws.{stco_again};
-
     ghost refusal = { no_refusal };
 
-    ghost IsCanonical = { IsCanonicalStco };
+    ghost Remarks = { RemarksStco };
 
     ghost reads_back = { stco_again };
 
+    fn check(&self) -> Result<()> {
+        Ok(())
+    }
+
     #[tactic(auto, using(crate::proofs::Sizes::sizes), unfolding(crate::specs::Stco::stco_payload))]
-    fn put_payload(&self, out: &mut Vec<u8>) -> Result<()> {
+    fn put_payload(&self, out: &mut Vec<u8>) -> Put {
         put_table(out, self.version, self.flags, &self.entries)?;
         Ok(())
     }

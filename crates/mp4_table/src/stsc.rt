@@ -1,14 +1,16 @@
 //! How many samples each chunk has.
 
 ghost use Rattle.std.specs.Prelude.{◌≡◌, None, Ok};
-ghost use Rattle.mp4_codec.specs.Cause.{Answers, Gives};
-ghost use Rattle.mp4_codec.specs.Boxes.{size_around};
+ghost use Rattle.mp4_codec.specs.Cause.{Gives};
+ghost use Rattle.mp4_codec.specs.Boxes.{size_around, no_refusal};
 ghost use Rattle.mp4_codec.specs.declared.box_type.BoxType.TheVariants.{StscBox as stsc};
-ghost use Rattle.mp4_table.specs.Stsc.{stsc_payload, first_sample_after, numbered_after, default_stsc};
+ghost use Rattle.mp4_table.specs.Stsc.{stsc_payload, first_sample_after, numbered_after, default_stsc, stsc_entry_at, stsc_entry, FitsStoredEntry, stsc_of, IsInRangeStscEntry, IsInRangeStsc, RemarksStsc};
+ghost use Rattle.mp4_table.specs.StscLaws.{stsc_entry_again, length-stsc_entry, stsc_entry-has_length, stsc_again};
 
 use crate::table::{put_table, read_table, table_size};
 use mp4_codec::{
-    BoxType, Entry, Error, Fields, Items, Mp4Box, Put, ReadBox, Result, TryClone, WriteBox, put_u32,
+    BoxType, Entry, Error, Fields, InRange, Items, Mp4Box, Put, ReadBox, Result, TryClone,
+    WriteBox, put_u32,
 };
 use std::alloc::Global;
 
@@ -28,15 +30,25 @@ pub struct StscEntry {
 }
 
 impl TryClone for StscEntry {
-    fn try_clone(&self) -> Result<Self> {
+    fn try_clone(&self) -> Result<Self>
+        ensures { Gives (λ x. x) result (Ok self.now) }
+    {
         Ok(*self)
     }
 }
 
-impl Entry for StscEntry {
-    ghost use Rattle.mp4_table.specs.Stsc.{stsc_entry_at, stsc_entry, FitsStoredEntry};
-    ghost use Rattle.mp4_table.specs.StscLaws.{stsc_entry_again, length-stsc_entry, stsc_entry-has_length};
+impl InRange for StscEntry {
+    ghost IsInRange = { IsInRangeStscEntry };
 
+    fn in_range(&self) {
+        self.first_chunk.in_range();
+        self.samples_per_chunk.in_range();
+        self.sample_description_index.in_range();
+        self.first_sample.in_range();
+    }
+}
+
+impl Entry for StscEntry {
     ghost at = { λ _. stsc_entry_at };
 
     ghost spelled = { λ _. stsc_entry };
@@ -136,7 +148,7 @@ pub struct StscBox {
 impl StscBox {
     /// No entries.
     pub fn default(alloc: Global) -> Result<Self>
-        ensures { Answers (λ b. b) result (Ok default_stsc) }
+        ensures { Gives (λ b. b) result (Ok default_stsc) }
     {
         Ok(StscBox {
             version: 0,
@@ -152,7 +164,7 @@ impl StscBox {
         BoxType::StscBox
     }
 
-    /// The bytes of the box, its header and all: 16, and 12 for each entry.
+    /// The bytes of the box, its header included: 16, and 12 for each entry.
     #[tactic(auto, unfolding(crate::specs::Stsc::stsc_payload))]
     pub fn get_size(&self) -> u64
         ensures { result ≡ size_around (stsc_payload self.now) }
@@ -171,6 +183,15 @@ impl TryClone for StscBox {
     }
 }
 
+impl InRange for StscBox {
+    ghost IsInRange = { IsInRangeStsc };
+
+    fn in_range(&self) {
+        self.version.in_range();
+        self.entries.in_range();
+    }
+}
+
 impl Mp4Box for StscBox {
     ghost KIND = { stsc };
 
@@ -184,8 +205,6 @@ impl Mp4Box for StscBox {
 }
 
 impl ReadBox for StscBox {
-    ghost use Rattle.mp4_table.specs.Stsc.{stsc_of};
-
     ghost value = { stsc_of };
 
     #[tactic(auto, unfolding(crate::specs::Stsc::stsc_of))]
@@ -201,18 +220,18 @@ impl ReadBox for StscBox {
 }
 
 impl WriteBox for StscBox {
-    ghost use Rattle.mp4_table.specs.Table.{no_refusal};
-    ghost use Rattle.mp4_table.specs.Stsc.{IsCanonicalStsc};
-    ghost use Rattle.mp4_table.specs.StscLaws.{stsc_again};
-
     ghost refusal = { no_refusal };
 
-    ghost IsCanonical = { IsCanonicalStsc };
+    ghost Remarks = { RemarksStsc };
 
     ghost reads_back = { stsc_again };
 
+    fn check(&self) -> Result<()> {
+        Ok(())
+    }
+
     #[tactic(auto, using(crate::proofs::Sizes::sizes), unfolding(crate::specs::Stsc::stsc_payload))]
-    fn put_payload(&self, out: &mut Vec<u8>) -> Result<()> {
+    fn put_payload(&self, out: &mut Vec<u8>) -> Put {
         put_table(out, self.version, self.flags, &self.entries)?;
         Ok(())
     }

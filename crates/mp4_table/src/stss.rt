@@ -1,13 +1,14 @@
 //! Which samples are sync samples.
 
 ghost use Rattle.std.specs.Prelude.{◌≡◌, Ok};
-ghost use Rattle.mp4_codec.specs.Cause.{Answers};
-ghost use Rattle.mp4_codec.specs.Boxes.{size_around};
+ghost use Rattle.mp4_codec.specs.Cause.{Gives};
+ghost use Rattle.mp4_codec.specs.Boxes.{size_around, no_refusal};
 ghost use Rattle.mp4_codec.specs.declared.box_type.BoxType.TheVariants.{StssBox as stss};
-ghost use Rattle.mp4_table.specs.Stss.{stss_payload, default_stss};
+ghost use Rattle.mp4_table.specs.Stss.{stss_payload, default_stss, stss_of, IsInRangeStss, RemarksStss};
+ghost use Rattle.mp4_table.specs.StssLaws.{stss_again};
 
 use crate::table::{put_table, read_table, table_size};
-use mp4_codec::{BoxType, Items, Mp4Box, ReadBox, Result, TryClone, WriteBox};
+use mp4_codec::{BoxType, InRange, Items, Mp4Box, Put, ReadBox, Result, TryClone, WriteBox};
 use std::alloc::Global;
 
 /// The sync sample table, `stss`: from which samples a track can be played (ISO/IEC 14496-12, 8.6.2).
@@ -26,7 +27,7 @@ pub struct StssBox {
 impl StssBox {
     /// No entries.
     pub fn default(alloc: Global) -> Result<Self>
-        ensures { Answers (λ b. b) result (Ok default_stss) }
+        ensures { Gives (λ b. b) result (Ok default_stss) }
     {
         Ok(StssBox {
             version: 0,
@@ -42,7 +43,7 @@ impl StssBox {
         BoxType::StssBox
     }
 
-    /// The bytes of the box, its header and all: 16, and 4 for each entry.
+    /// The bytes of the box, its header included: 16, and 4 for each entry.
     #[tactic(auto, unfolding(crate::specs::Stss::stss_payload))]
     pub fn get_size(&self) -> u64
         ensures { result ≡ size_around (stss_payload self.now) }
@@ -61,6 +62,15 @@ impl TryClone for StssBox {
     }
 }
 
+impl InRange for StssBox {
+    ghost IsInRange = { IsInRangeStss };
+
+    fn in_range(&self) {
+        self.version.in_range();
+        self.entries.in_range();
+    }
+}
+
 impl Mp4Box for StssBox {
     ghost KIND = { stss };
 
@@ -74,8 +84,6 @@ impl Mp4Box for StssBox {
 }
 
 impl ReadBox for StssBox {
-    ghost use Rattle.mp4_table.specs.Stss.{stss_of};
-
     ghost value = { stss_of };
 
     #[tactic(auto, unfolding(crate::specs::Stss::stss_of))]
@@ -90,18 +98,18 @@ impl ReadBox for StssBox {
 }
 
 impl WriteBox for StssBox {
-    ghost use Rattle.mp4_table.specs.Table.{no_refusal};
-    ghost use Rattle.mp4_table.specs.Stss.{IsCanonicalStss};
-    ghost use Rattle.mp4_table.specs.StssLaws.{stss_again};
-
     ghost refusal = { no_refusal };
 
-    ghost IsCanonical = { IsCanonicalStss };
+    ghost Remarks = { RemarksStss };
 
     ghost reads_back = { stss_again };
 
+    fn check(&self) -> Result<()> {
+        Ok(())
+    }
+
     #[tactic(auto, using(crate::proofs::Sizes::sizes), unfolding(crate::specs::Stss::stss_payload))]
-    fn put_payload(&self, out: &mut Vec<u8>) -> Result<()> {
+    fn put_payload(&self, out: &mut Vec<u8>) -> Put {
         put_table(out, self.version, self.flags, &self.entries)?;
         Ok(())
     }

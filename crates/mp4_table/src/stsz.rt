@@ -1,14 +1,15 @@
 //! How long samples are.
 
 ghost use Rattle.std.specs.Prelude.{◌≡◌, Ok};
-ghost use Rattle.mp4_codec.specs.Cause.{Answers, Checks};
+ghost use Rattle.mp4_codec.specs.Cause.{Checks, Gives};
 ghost use Rattle.mp4_codec.specs.Boxes.{size_around};
 ghost use Rattle.mp4_codec.specs.declared.box_type.BoxType.TheVariants.{StszBox as stsz};
-ghost use Rattle.mp4_table.specs.Stsz.{stsz_payload, stsz_refusal, default_stsz};
+ghost use Rattle.mp4_table.specs.Stsz.{stsz_payload, stsz_refusal, default_stsz, stsz_of, IsInRangeStsz, RemarksStsz};
+ghost use Rattle.mp4_table.specs.StszLaws.{stsz_again};
 
 use mp4_codec::{
-    BoxType, Error, Fields, Items, Mp4Box, ReadBox, Result, TryClone, WriteBox, list_size,
-    put_list, put_u8, put_u24, put_u32,
+    BoxType, Error, Fields, InRange, Items, Mp4Box, Put, ReadBox, Result, TryClone, WriteBox,
+    list_size, put_list, put_u8, put_u24, put_u32,
 };
 use std::alloc::Global;
 
@@ -33,7 +34,7 @@ pub struct StszBox {
 impl StszBox {
     /// No samples.
     pub fn default(alloc: Global) -> Result<Self>
-        ensures { Answers (λ b. b) result (Ok default_stsz) }
+        ensures { Gives (λ b. b) result (Ok default_stsz) }
     {
         Ok(StszBox {
             version: 0,
@@ -51,28 +52,12 @@ impl StszBox {
         BoxType::StszBox
     }
 
-    /// The bytes of the box, its header and all: 20, and 4 for each size that is listed.
+    /// The bytes of the box, its header included: 20, and 4 for each size that is listed.
     #[tactic(auto, using(crate::proofs::Sizes::sizes))]
     pub fn get_size(&self) -> u64
         ensures { result ≡ size_around (stsz_payload self.now) }
     {
         list_size(self.version, &self.sample_sizes).saturating_add(20)
-    }
-
-    /// `InvalidData` where the list has not a size for each sample, or has one beside a size for all.
-    #[tactic(auto, unfolding(crate::specs::Stsz::stsz_refusal))]
-    fn check(&self) -> Result<()>
-        ensures { Checks result (stsz_refusal self.now) }
-    {
-        let listed = if self.sample_size == 0 {
-            self.sample_count as usize
-        } else {
-            0
-        };
-        if self.sample_sizes.len() != listed {
-            return Err(Error::InvalidData("the list of sample sizes"));
-        }
-        Ok(())
     }
 }
 
@@ -85,6 +70,17 @@ impl TryClone for StszBox {
             sample_count: self.sample_count,
             sample_sizes: self.sample_sizes.try_clone()?,
         })
+    }
+}
+
+impl InRange for StszBox {
+    ghost IsInRange = { IsInRangeStsz };
+
+    fn in_range(&self) {
+        self.version.in_range();
+        self.sample_size.in_range();
+        self.sample_count.in_range();
+        self.sample_sizes.in_range();
     }
 }
 
@@ -101,8 +97,6 @@ impl Mp4Box for StszBox {
 }
 
 impl ReadBox for StszBox {
-    ghost use Rattle.mp4_table.specs.Stsz.{stsz_of};
-
     ghost value = { stsz_of };
 
     #[tactic(auto, unfolding(crate::specs::Stsz::stsz_of))]
@@ -125,17 +119,26 @@ impl ReadBox for StszBox {
 }
 
 impl WriteBox for StszBox {
-    ghost use Rattle.mp4_table.specs.Stsz.{IsCanonicalStsz};
-    ghost use Rattle.mp4_table.specs.StszLaws.{stsz_again};
-
     ghost refusal = { stsz_refusal };
 
-    ghost IsCanonical = { IsCanonicalStsz };
+    ghost Remarks = { RemarksStsz };
 
     ghost reads_back = { stsz_again };
 
-    fn put_payload(&self, out: &mut Vec<u8>) -> Result<()> {
-        self.check()?;
+    #[tactic(auto, unfolding(crate::specs::Stsz::stsz_refusal))]
+    fn check(&self) -> Result<()> {
+        let listed = if self.sample_size == 0 {
+            self.sample_count as usize
+        } else {
+            0
+        };
+        if self.sample_sizes.len() != listed {
+            return Err(Error::InvalidData("the list of sample sizes"));
+        }
+        Ok(())
+    }
+
+    fn put_payload(&self, out: &mut Vec<u8>) -> Put {
         put_u8(out, self.version)?;
         put_u24(out, self.flags)?;
         put_u32(out, self.sample_size)?;

@@ -1,14 +1,16 @@
 //! How long samples last.
 
 ghost use Rattle.std.specs.Prelude.{◌≡◌, Ok};
-ghost use Rattle.mp4_codec.specs.Cause.{Answers};
-ghost use Rattle.mp4_codec.specs.Boxes.{size_around};
+ghost use Rattle.mp4_codec.specs.Cause.{Gives};
+ghost use Rattle.mp4_codec.specs.Boxes.{size_around, no_refusal};
 ghost use Rattle.mp4_codec.specs.declared.box_type.BoxType.TheVariants.{SttsBox as stts};
-ghost use Rattle.mp4_table.specs.Stts.{stts_payload, default_stts};
+ghost use Rattle.mp4_table.specs.Stts.{stts_payload, default_stts, stts_entry_at, stts_entry, IsInRangeSttsEntry, stts_of, IsInRangeStts, RemarksStts};
+ghost use Rattle.mp4_table.specs.SttsLaws.{stts_entry_again, length-stts_entry, stts_entry-has_length, stts_again};
 
 use crate::table::{put_table, read_table, table_size};
 use mp4_codec::{
-    BoxType, Entry, Fields, Items, Mp4Box, Put, ReadBox, Result, TryClone, WriteBox, put_u32,
+    BoxType, Entry, Fields, InRange, Items, Mp4Box, Put, ReadBox, Result, TryClone, WriteBox,
+    put_u32,
 };
 use std::alloc::Global;
 
@@ -22,20 +24,28 @@ pub struct SttsEntry {
 }
 
 impl TryClone for SttsEntry {
-    fn try_clone(&self) -> Result<Self> {
+    fn try_clone(&self) -> Result<Self>
+        ensures { Gives (λ x. x) result (Ok self.now) }
+    {
         Ok(*self)
     }
 }
 
-impl Entry for SttsEntry {
-    ghost use Rattle.mp4_table.specs.Stts.{stts_entry_at, stts_entry, FitsSttsEntry};
-    ghost use Rattle.mp4_table.specs.SttsLaws.{stts_entry_again, length-stts_entry, stts_entry-has_length};
+impl InRange for SttsEntry {
+    ghost IsInRange = { IsInRangeSttsEntry };
 
+    fn in_range(&self) {
+        self.sample_count.in_range();
+        self.sample_delta.in_range();
+    }
+}
+
+impl Entry for SttsEntry {
     ghost at = { λ _. stts_entry_at };
 
     ghost spelled = { λ _. stts_entry };
 
-    ghost Fits = { λ _. FitsSttsEntry };
+    ghost Fits = { λ _. IsInRangeSttsEntry };
 
     ghost bytes_each = { λ _. 8 };
 
@@ -81,7 +91,7 @@ pub struct SttsBox {
 impl SttsBox {
     /// No entries.
     pub fn default(alloc: Global) -> Result<Self>
-        ensures { Answers (λ b. b) result (Ok default_stts) }
+        ensures { Gives (λ b. b) result (Ok default_stts) }
     {
         Ok(SttsBox {
             version: 0,
@@ -97,7 +107,7 @@ impl SttsBox {
         BoxType::SttsBox
     }
 
-    /// The bytes of the box, its header and all: 16, and 8 for each entry.
+    /// The bytes of the box, its header included: 16, and 8 for each entry.
     #[tactic(auto, unfolding(crate::specs::Stts::stts_payload))]
     pub fn get_size(&self) -> u64
         ensures { result ≡ size_around (stts_payload self.now) }
@@ -116,6 +126,15 @@ impl TryClone for SttsBox {
     }
 }
 
+impl InRange for SttsBox {
+    ghost IsInRange = { IsInRangeStts };
+
+    fn in_range(&self) {
+        self.version.in_range();
+        self.entries.in_range();
+    }
+}
+
 impl Mp4Box for SttsBox {
     ghost KIND = { stts };
 
@@ -129,8 +148,6 @@ impl Mp4Box for SttsBox {
 }
 
 impl ReadBox for SttsBox {
-    ghost use Rattle.mp4_table.specs.Stts.{stts_of};
-
     ghost value = { stts_of };
 
     #[tactic(auto, unfolding(crate::specs::Stts::stts_of))]
@@ -145,18 +162,18 @@ impl ReadBox for SttsBox {
 }
 
 impl WriteBox for SttsBox {
-    ghost use Rattle.mp4_table.specs.Table.{no_refusal};
-    ghost use Rattle.mp4_table.specs.Stts.{IsCanonicalStts};
-    ghost use Rattle.mp4_table.specs.SttsLaws.{stts_again};
-
     ghost refusal = { no_refusal };
 
-    ghost IsCanonical = { IsCanonicalStts };
+    ghost Remarks = { RemarksStts };
 
     ghost reads_back = { stts_again };
 
+    fn check(&self) -> Result<()> {
+        Ok(())
+    }
+
     #[tactic(auto, using(crate::proofs::Sizes::sizes), unfolding(crate::specs::Stts::stts_payload))]
-    fn put_payload(&self, out: &mut Vec<u8>) -> Result<()> {
+    fn put_payload(&self, out: &mut Vec<u8>) -> Put {
         put_table(out, self.version, self.flags, &self.entries)?;
         Ok(())
     }

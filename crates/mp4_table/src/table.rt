@@ -39,7 +39,7 @@ pub(crate) fn put_table<T: Entry>(
     Ok(())
 }
 
-/// The bytes of a table's box, its header and all; they stop at 2^64 - 1.
+/// The bytes of a table's box, its header included; they stop at 2^64 - 1.
 pub(crate) fn table_size<T: Entry>(version: u8, flags: u32, entries: &Items<T>) -> u64
     ensures { result ≡ size_around (table T.spelled version flags entries.now) }
 {

@@ -1,3 +1,3 @@
 pub mod Cutting
-pub mod FaultyLines
+pub mod Steps
 pub mod Standard

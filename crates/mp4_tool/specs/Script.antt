@@ -1,22 +1,15 @@
--- What a script makes.
-use Rattle.std.specs.Prelude.{◌≡◌, ◌⊎◌, ℕ, ◌+◌, List, [], ◌∷◌, length, Option, Some, None, Result, Ok, Err, ◌==◌, if◌then◌else◌, codes}
+-- What a script makes: its lines are run one after the other, each as one step of a writer.
+use Rattle.std.specs.Prelude.{◌≡◌, ◌⊎◌, ℕ, ◌+◌, List, [], ◌∷◌, ◌++◌, length, Some, None, Result, Ok, Err, codes}
 use Rattle.mp4_codec.specs.declared.error.Error.TheVariants.{OutOfMemory}
 use Rattle.mp4_codec.specs.Cause.{Cause, cause_of}
-use Rattle.mp4_media.specs.declared.config.Mp4Config.{Mp4Config}
-use Rattle.mp4_media.specs.Opening.{OpenedFile}
-use Rattle.mp4_media.specs.Writing.{started, with_end, whole_of, file_type_of, movie_with}
+use Rattle.mp4_mux.specs.declared.config.Mp4Config.{Mp4Config}
+use Rattle.mp4_codec.specs.Cursor.{here}
+use Rattle.mp4_media.specs.FileBoxes.{OpenedFile}
+use Rattle.mp4_media.specs.FileGrammar.{IsFile}
+use Rattle.mp4_mux.specs.Writing.{WriterState, started, with_end, end_cause, whole_of, file_type_of, movie_with}
 use Rattle.mp4_tool.specs.Lines.{lines_of}
 use Rattle.mp4_tool.specs.declared.script.ScriptFault.{ScriptFault}
 use Rattle.mp4_tool.specs.declared.script.ScriptFault.TheVariants.{NotACommand, Refused, End}
-
--- the number of the first line that is at fault, where the first of these lines has this number: each that isn't empty is
-unfoldable pub faulty_line_from : ℕ → List (List ℕ) → Option ℕ
-faulty_line_from number [] = None
-faulty_line_from number (line ∷ lines) = if length line == 0 then faulty_line_from (number + 1) lines else Some number
-
--- the number of the first line that is at fault; the first line of a script has number 1
-abbrev pub first_faulty_line : List ℕ → Option ℕ
-first_faulty_line script = faulty_line_from 1 (lines_of script)
 
 -- why a script makes no movie, without the text of a refusal
 pub data ScriptCause : Type 0 where
@@ -29,39 +22,91 @@ script_cause_of (NotACommand line) = not_a_command line
 script_cause_of (Refused line e) = refused line (cause_of e)
 script_cause_of (End e) = at_end (cause_of e)
 
--- memory ran out at a line, or where the movie was begun or ended
-abbrev pub IsOfMemory : ScriptFault → Type 0
-IsOfMemory (NotACommand line) = ⊥
-IsOfMemory (Refused line e) = e ≡ OutOfMemory
-IsOfMemory (End e) = e ≡ OutOfMemory
-
--- What a call returned, seen by view, is this answer, or memory ran out.
-abbrev pub AnswersScript : {X Y : Type 0} → (X → Y) → Result X ScriptFault → Result Y ScriptCause → Type 0
-AnswersScript view (Ok x) answer = answer ≡ Ok (view x)
-AnswersScript view (Err fault) answer = IsOfMemory fault ⊎ (answer ≡ Err (script_cause_of fault))
-
--- this, unless there is a faulty line
-abbrev pub unless_faulty : {A : Type 0} → Option ℕ → A → Result A ScriptCause
-unless_faulty None x = Ok x
-unless_faulty (Some line) x = Err (not_a_command line)
-
 -- what each movie of a script is begun with
 abbrev pub standard_config : Mp4Config
 standard_config = record {
   major_brand = record { value = codes "isom" };
   minor_version = 512;
-  compatible_brands = record { value = codes "isom" } ∷ record { value = codes "iso2" } ∷ record { value = codes "avc1" } ∷ record { value = codes "mp41" } ∷ [];
+  compatible_brands =
+      record { value = codes "isom" }
+      ∷ record { value = codes "iso2" }
+      ∷ record { value = codes "avc1" }
+      ∷ record { value = codes "mp41" }
+      ∷ [];
   timescale = 1000;
 }
 
--- what the lines answer
-abbrev pub lines_checked : List ℕ → Result (Unit {0}) ScriptCause
-lines_checked script = unless_faulty (first_faulty_line script) tt
+-- the writer that a script begins with: there is nothing before its movie
+abbrev pub standard_writer : WriterState
+standard_writer = started [] standard_config
 
--- the bytes of the movie that a script makes: begun behind nothing, and ended
+-- the line of this number: an empty one changes nothing, and any other is not a command
+abbrev pub step : ℕ → List ℕ → WriterState → Result WriterState ScriptCause
+step number [] writer = Ok writer
+step number (byte ∷ bytes) writer = Err (not_a_command number)
+
+-- a step, and where it is not at fault, the next
+infixl 10 ◌>>=◌
+abbrev pub ◌>>=◌ : {A B : Type 0} → Result A ScriptCause → (A → Result B ScriptCause) → Result B ScriptCause
+(Ok x) >>= f = f x
+(Err c) >>= f = Err c
+
+-- lines, one after the other; the first of them has this number
+unfoldable pub run_from : ℕ → List (List ℕ) → WriterState → Result WriterState ScriptCause
+run_from number [] writer = Ok writer
+run_from number (line ∷ lines) writer = step number line writer >>= run_from (number + 1) lines
+
+-- the lines of a script, from the first to the last; the first has number 1
+abbrev pub run_all : List ℕ → WriterState → Result WriterState ScriptCause
+run_all script writer = run_from 1 (lines_of script) writer
+
+-- the bytes of a movie that is ended
+abbrev pub ended_movie : WriterState → Result (List ℕ) ScriptCause
+ended_movie writer = elim (end_cause writer) [
+  | None ↦ Ok (whole_of (with_end writer))
+  | Some cause ↦ Err (at_end cause)
+]
+
+-- the bytes of the movie that a script makes: it is begun, the lines are run, and it is ended
 abbrev pub movie_made_by : List ℕ → Result (List ℕ) ScriptCause
-movie_made_by script = unless_faulty (first_faulty_line script) (whole_of (with_end (started [] standard_config)))
+movie_made_by script = run_all script standard_writer >>= ended_movie
+
+-- a line that calls the writer: there is no such command yet
+abbrev pub CallsWriter : List ℕ → Type 0
+CallsWriter line = ⊥
+
+-- memory ran out in the call of a line, which has this number
+abbrev pub RanOutAt : ℕ → List ℕ → ScriptFault → Type 0
+RanOutAt number line fault = CallsWriter line × (fault ≡ Refused number OutOfMemory)
+
+-- memory ran out in the call of a line of a script, and the lines before it were run
+pub record RanOutIn (script : List ℕ) (writer : WriterState) (fault : ScriptFault) : Type 0 where
+  pub before : List (List ℕ)
+  pub line : List ℕ
+  pub behind : List (List ℕ)
+  pub next : WriterState
+  pub lines : lines_of script ≡ before ++ (line ∷ behind)
+  pub run : run_from 1 before writer ≡ Ok next
+  pub ran_out : RanOutAt (length before + 1) line fault
+
+-- memory ran out where the movie was begun or ended, or in the call of a line
+abbrev pub RanOut : List ℕ → ScriptFault → Type 0
+RanOut script fault = (fault ≡ End OutOfMemory) ⊎ RanOutIn script standard_writer fault
+
+-- What a call returned, seen by view, is this answer, or memory ran out in the way that is given.
+abbrev pub AnswersScript : {X Y : Type 0} → (ScriptFault → Type 0) → (X → Y)
+    → Result X ScriptFault → Result Y ScriptCause → Type 0
+AnswersScript ran_out view (Ok x) answer = answer ≡ Ok (view x)
+AnswersScript ran_out view (Err fault) answer = ran_out fault ⊎ (answer ≡ Err (script_cause_of fault))
 
 -- the movie of a script, opened from so many bytes
 abbrev pub opened_script : ℕ → OpenedFile
-opened_script size = record { ftyp = file_type_of standard_config; moov = movie_with standard_config.timescale; size = size }
+opened_script size = record {
+  ftyp = file_type_of standard_config;
+  moov = movie_with standard_config.timescale;
+  size = size;
+}
+
+-- these bytes are a file, from the first to the last: the movie of a script
+abbrev pub OpensAsScripted : List ℕ → Type 0
+OpensAsScripted bytes = IsFile (length bytes) (here bytes 0) (opened_script (length bytes))

@@ -1,4 +1,4 @@
-//! The words of faults.
+//! Fault messages.
 
 use crate::script::ScriptFault;
 use mp4_media::{Error, Result};
@@ -8,7 +8,7 @@ use thiserror::Error as ThisError;
 /// Why a run gives no text.
 #[derive(Debug, Drop, ThisError)]
 pub enum Fault<'a> {
-    /// What is named can't be read to its end.
+    /// The file or input of this name can't be read to its end.
     #[error("cannot read {0}")]
     CannotRead(&'a str),
     /// A file doesn't open, or memory ran out.
@@ -19,7 +19,7 @@ pub enum Fault<'a> {
     Script(#[from] ScriptFault),
 }
 
-/// The words of an error.
+/// The message of an error.
 pub fn fault_text(alloc: Global, error: &Error) -> Result<Vec<u8>> {
     Ok(format!(in alloc; "{error}")?.into_bytes())
 }

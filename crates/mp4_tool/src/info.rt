@@ -1,4 +1,4 @@
-//! What is told of a movie.
+//! The text that describes a movie.
 
 use mp4_media::{Mp4Reader, Result, read_mp4};
 use std::alloc::{AllocError, Global};
@@ -21,8 +21,8 @@ fn write_duration(text: &mut String, movie: &Mp4Reader) -> std::result::Result<(
     }
 }
 
-/// The lines that tell of a movie: its brands, its size in bytes, its timescale in ticks a second, its
-/// duration in milliseconds, and whether it has fragments. A part that is refused is shown as `-`.
+/// The lines that describe a movie: its brands, its size in bytes, its timescale in ticks a second, its
+/// duration in milliseconds, and whether it has fragments. A duration that can't be computed is shown as `-`.
 ///
 /// Refused as the movie's opening is, and for want of memory.
 pub fn info_text(alloc: Global, file: &[u8]) -> Result<Vec<u8>> {

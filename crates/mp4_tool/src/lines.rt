@@ -1,8 +1,11 @@
 //! The lines of a text.
 
-ghost use Rattle.std.specs.Prelude.{◌≡◌, [], ◌∷◌, ◌==◌, ◌≤◌, length, MatchOption};
+ghost use Rattle.std.specs.Prelude.{◌≡◌, [], ◌∷◌, ◌==◌, ◌≤◌, length, MatchOption, IfNone};
 ghost use Rattle.std.specs.List.{position_or_len};
 ghost use Rattle.mp4_tool.specs.Lines.{lines_of, lines_left};
+
+/// The byte at the end of a line.
+const LINE_FEED: u8 = b'\n';
 
 /// The lines of a text that are still to be read. Each ends with a line feed; the last one may lack it.
 #[derive(Drop)]
@@ -15,7 +18,7 @@ pub(crate) struct Lines<'a> {
 fn line_length(text: &[u8]) -> usize
     ensures { result ≡ position_or_len (λ byte. byte == 10) text.now }
 {
-    text.iter().take_while(|byte| **byte != b'\n').count()
+    text.iter().take_while(|byte| **byte != LINE_FEED).count()
 }
 
 impl<'a> Lines<'a> {
@@ -27,7 +30,8 @@ impl<'a> Lines<'a> {
 
     /// The next line, without its line feed; None behind the last one.
     pub fn next_line(&mut self) -> Option<&'a [u8]>
-        ensures { MatchOption result (lines_left self.old ≡ []) (λ line. lines_left self.old ≡ line.now ∷ lines_left self.new) }
+        ensures line { MatchOption result (lines_left self.old ≡ []) (λ line. lines_left self.old ≡ line.now ∷ lines_left self.new) }
+        ensures end { IfNone result (lines_left self.new ≡ []) }
     {
         let text = self.rest?;
         let end = line_length(text);

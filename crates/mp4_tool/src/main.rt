@@ -13,8 +13,9 @@ use mp4_media::{Error, Result};
 use std::process::ExitCode;
 use std::{env, io};
 
-/// The words behind the program's name. There are none where one of them isn't UTF-8: that is no command.
-fn words(rt: &HostRuntime) -> Result<Vec<String>> {
+/// The arguments behind the program's name. Where one of them isn't UTF-8 the answer is an empty list, which is no
+/// command.
+fn arguments(rt: &HostRuntime) -> Result<Vec<String>> {
     match env::args(rt) {
         Ok(args) => Ok(args.skip(1).collect(rt.alloc())?),
         Err(error) if error.kind() == io::ErrorKind::OutOfMemory => Err(Error::OutOfMemory),
@@ -24,8 +25,15 @@ fn words(rt: &HostRuntime) -> Result<Vec<String>> {
 
 /// A run with the arguments and the standard input of the process.
 fn run_process(rt: &HostRuntime, out: &mut Vec<u8>, err: &mut Vec<u8>) -> Result<u8> {
-    let words = words(rt)?;
-    run(rt, rt.alloc(), words.as_slice(), &mut rt.stdin(), out, err)
+    let arguments = arguments(rt)?;
+    run(
+        rt,
+        rt.alloc(),
+        arguments.as_slice(),
+        &mut rt.stdin(),
+        out,
+        err,
+    )
 }
 
 /// Prints what a run wrote.

@@ -25,8 +25,8 @@ const FAULT: u8 = 1;
 
 const WRONG_ARGUMENTS: u8 = 2;
 
-/// All bytes of what has this name. It can't be read where a read of it fails, or where it hasn't ended after
-/// so many reads.
+/// All bytes of a source, which has this name in faults. It can't be read where a read of it fails, or where it
+/// hasn't ended after [`READS`] reads.
 fn read_all<'a, R: Read>(
     alloc: Global,
     source: &mut R,
@@ -58,7 +58,7 @@ fn show<R: Read>(alloc: Global, input: &mut R) -> Result<Vec<u8>, Fault<'static>
     Ok(show_text(alloc, script.as_slice())?)
 }
 
-/// Adds a text to `out`, or the line of a fault to `err`, and answers the status.
+/// Adds a text to `out`, or the message of a fault to `err`, and answers the status.
 fn report(
     alloc: Global,
     answer: Result<Vec<u8>, Fault>,
@@ -78,19 +78,19 @@ fn report(
     }
 }
 
-/// A whole run with these words behind the program's name. The answer is the status: 0, 1 after a fault, or 2
-/// where the words are no command. What a run prints is added to `out` and to `err`.
+/// A whole run with these arguments behind the program's name. The answer is the status: 0, 1 after a fault, or 2
+/// where the arguments are no command. What a run prints is added to `out` and to `err`.
 ///
 /// Refused by `OutOfMemory` alone, where what is to be printed has no room.
 pub fn run<R: Read>(
     rt: &impl Files,
     alloc: Global,
-    words: &[String],
+    arguments: &[String],
     input: &mut R,
     out: &mut Vec<u8>,
     err: &mut Vec<u8>,
 ) -> mp4_media::Result<u8> {
-    match words {
+    match arguments {
         [command] if command.as_str() == "show" => report(alloc, show(alloc, input), out, err),
         [command, file] if command.as_str() == "info" => {
             report(alloc, info(rt, alloc, file.as_str()), out, err)

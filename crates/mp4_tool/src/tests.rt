@@ -1,8 +1,8 @@
-//! What no contract says: printed texts and statuses, rows from outside, and that each call succeeds with ample
-//! memory.
+//! What no contract says: printed texts and statuses, rows of bytes from outside, and that each call succeeds with
+//! ample memory.
 
 mod info;
-mod memory;
 mod readers;
+mod refused_memory;
 mod runs;
 mod scripts;

@@ -29,29 +29,36 @@ impl Printed {
     }
 }
 
-/// The words of a text, parted by spaces; none of an empty one.
-fn words_of(alloc: Global, text: &str) -> std::result::Result<Vec<String>, AllocError> {
-    let mut words = Vec::new(alloc);
+/// The arguments that a text has, parted by spaces; an empty one has none.
+fn arguments_of(alloc: Global, text: &str) -> std::result::Result<Vec<String>, AllocError> {
+    let mut arguments = Vec::new(alloc);
     if text.is_empty() {
-        return Ok(words);
+        return Ok(arguments);
     }
-    for word in text.split(' ') {
-        words.push(String::from_str(alloc, word)?)?;
+    for argument in text.split(' ') {
+        arguments.push(String::from_str(alloc, argument)?)?;
     }
-    Ok(words)
+    Ok(arguments)
 }
 
-/// A run with these words and this input.
-pub fn ran<R: Read>(rt: &HostRuntime, words: &str, input: &mut R) -> Result<Printed> {
-    let words = words_of(rt.alloc(), words)?;
+/// A run with these arguments and this input.
+pub fn ran<R: Read>(rt: &HostRuntime, command: &str, input: &mut R) -> Result<Printed> {
+    let arguments = arguments_of(rt.alloc(), command)?;
     let mut out = Vec::new(rt.alloc());
     let mut err = Vec::new(rt.alloc());
-    let status = run(rt, rt.alloc(), words.as_slice(), input, &mut out, &mut err)?;
+    let status = run(
+        rt,
+        rt.alloc(),
+        arguments.as_slice(),
+        input,
+        &mut out,
+        &mut err,
+    )?;
     Ok(Printed { status, out, err })
 }
 
 #[test]
-fn wrong_arguments_are_told_the_usage(rt: HostRuntime) -> std::result::Result<(), Fail> {
+fn wrong_arguments_are_answered_by_the_usage(rt: HostRuntime) -> std::result::Result<(), Fail> {
     let rows = [
         "",
         "show show",
@@ -66,15 +73,15 @@ fn wrong_arguments_are_told_the_usage(rt: HostRuntime) -> std::result::Result<()
         "Show",
         "help",
     ];
-    for words in rows {
-        let printed = ran(&rt, words, &mut b"x".as_slice())?;
-        assert!(rt; printed.is(2, "", USAGE), "of {words:?}: {printed:?}");
+    for command in rows {
+        let printed = ran(&rt, command, &mut b"x".as_slice())?;
+        assert!(rt; printed.is(2, "", USAGE), "of {command:?}: {printed:?}");
     }
     Ok(())
 }
 
 #[test]
-fn a_script_is_shown(rt: HostRuntime) -> std::result::Result<(), Fail> {
+fn a_script_is_described_or_its_fault_printed(rt: HostRuntime) -> std::result::Result<(), Fail> {
     let printed = ran(&rt, "show", &mut b"".as_slice())?;
     assert!(rt; printed.is(0, EMPTY_INFO, ""), "{printed:?}");
     let printed = ran(&rt, "show", &mut b"\n\nx".as_slice())?;
@@ -86,7 +93,9 @@ fn a_script_is_shown(rt: HostRuntime) -> std::result::Result<(), Fail> {
 }
 
 #[test]
-fn an_input_may_be_slow_but_not_fail(rt: HostRuntime) -> std::result::Result<(), Fail> {
+fn a_slow_input_is_read_and_a_failing_one_refused(
+    rt: HostRuntime,
+) -> std::result::Result<(), Fail> {
     let mut slow = Slow {
         text: b"\n\n\n",
         interrupted: false,
@@ -104,7 +113,7 @@ fn an_input_may_be_slow_but_not_fail(rt: HostRuntime) -> std::result::Result<(),
 }
 
 #[test]
-fn a_file_that_is_none_is_not_read(rt: HostRuntime) -> std::result::Result<(), Fail> {
+fn a_missing_file_is_refused(rt: HostRuntime) -> std::result::Result<(), Fail> {
     let printed = ran(&rt, "info no_such_file.mp4", &mut b"".as_slice())?;
     assert!(rt;
         printed.is(1, "", "mp4_tool: cannot read no_such_file.mp4\n"),
@@ -119,7 +128,7 @@ fn a_file_that_is_none_is_not_read(rt: HostRuntime) -> std::result::Result<(), F
 }
 
 #[test]
-fn a_file_is_told_of_or_refused(rt: HostRuntime) -> std::result::Result<(), Fail> {
+fn a_whole_file_is_described_and_a_piece_refused(rt: HostRuntime) -> std::result::Result<(), Fail> {
     let rows = [
         (164, 0, EMPTY_INFO, ""),
         (163, 1, "", "mp4_tool: end of data\n"),

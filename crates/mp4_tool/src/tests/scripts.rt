@@ -28,7 +28,7 @@ fn empty_lines_make_the_empty_movie(rt: HostRuntime) -> Result<(), Fail> {
 }
 
 #[test]
-fn the_first_other_line_is_at_fault(rt: HostRuntime) {
+fn the_first_line_that_is_not_empty_is_at_fault(rt: HostRuntime) {
     let rows = [
         ("x", 1),
         ("x\n", 1),
@@ -48,7 +48,7 @@ fn the_first_other_line_is_at_fault(rt: HostRuntime) {
 }
 
 #[test]
-fn the_faults_have_their_words(rt: HostRuntime) -> Result<(), Fail> {
+fn a_fault_has_its_message(rt: HostRuntime) -> Result<(), Fail> {
     let rows = [
         (ScriptFault::NotACommand(7), "line 7: not a command"),
         (
@@ -60,8 +60,8 @@ fn the_faults_have_their_words(rt: HostRuntime) -> Result<(), Fail> {
             "end: too large: box size",
         ),
     ];
-    for (fault, words) in rows {
-        assert_eq!(rt; format!(in rt.alloc(); "{fault}")?.as_str(), words);
+    for (fault, message) in rows {
+        assert_eq!(rt; format!(in rt.alloc(); "{fault}")?.as_str(), message);
     }
     Ok(())
 }

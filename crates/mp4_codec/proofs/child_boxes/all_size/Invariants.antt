@@ -3,4 +3,6 @@ use Rattle.mp4_codec.specs.Boxes.{all_frames}
 use Rattle.mp4_codec.proofs.child_boxes.all_size.Given as goal
 
 abbrev pub invariant-loop-child : goal.invariant-loop-child
-invariant-loop-child g l = l.size ≡ min (length (all_frames g.B.Mp4Box.KIND g.B.Mp4Box.payload (take l.child-index l.child-items))) (2 ^ 64 - 1)
+invariant-loop-child g l =
+    l.size ≡ min (length (all_frames g.B.Mp4Box.KIND g.B.Mp4Box.payload (take l.child-index l.child-items)))
+    (2 ^ 64 - 1)

@@ -4,4 +4,5 @@ use Rattle.mp4_codec.specs.Bytes.{Appends}
 use Rattle.mp4_codec.proofs.entry.put_list.Given as goal
 
 abbrev pub invariant-loop-item : goal.invariant-loop-item
-invariant-loop-item g l = Appends l.fn.out.items l.out.items (flat_map (g.T.Entry.spelled l.version) (take l.item-index l.item-items))
+invariant-loop-item g l =
+    Appends l.fn.out.items l.out.items (flat_map (g.T.Entry.spelled l.version) (take l.item-index l.item-items))

@@ -7,20 +7,27 @@ use Rattle.mp4_codec.proofs.Gathering.{starts, takes, refuses, breaks_off, is_do
 use Rattle.mp4_codec.proofs.gather.gather_children.Goals as goal
 
 pub loop-parts-init : goal.loop-parts-init
-loop-parts-init g c = rw c.new-children.ensures (starts g.G.Gather.fault g.G.Gather.taken c.none-parts.result c.args.payload.now c.none-parts.ensures)
+loop-parts-init g c =
+    rw c.new-children.ensures (starts g.G.Gather.fault g.G.Gather.taken c.none-parts.result c.args.payload.now
+    c.none-parts.ensures)
 
 pub returns-in_err-child : goal.returns-in_err-child
 returns-in_err-child g c =
     let p = err_from_is_err_and c.from_residual.result c.from_residual.ensures.1 in
     let cause = cause_of c.in_err-child.field-0.0 in
-    rw (p.1, p.2) (inr (breaks_off g.G.Gather.fault g.G.Gather.taken c.loop-parts.parts c.loop-parts.children c.args.payload.now cause (breaks c.loop-parts.children cause c.in_err-child.ensures.value) c.loop-parts.invariant))
+    rw (p.1, p.2) (inr (breaks_off g.G.Gather.fault g.G.Gather.taken c.loop-parts.parts c.loop-parts.children
+    c.args.payload.now cause (breaks c.loop-parts.children cause c.in_err-child.ensures.value)
+    c.loop-parts.invariant))
 
 pub loop-parts-preserved : goal.loop-parts-preserved
 loop-parts-preserved g c =
     let child = child_box c.in-Some.child in
     let next = rw c.in-Some.is at c.in_ok-child.ensures.value in
     let shorter = rw c.in-Some.is at c.in_ok-child.ensures.shorter in
-    takes g.G.Gather.fault g.G.Gather.taken g.G.Gather.added g.met.G.Gather.adds c.loop-parts.parts c.add.new.self c.loop-parts.children c.next_child.new.self c.args.payload.now child (begins c.loop-parts.children child c.next_child.new.self next) shorter c.in_ok-add.ensures c.loop-parts.invariant
+    takes g.G.Gather.fault g.G.Gather.taken g.G.Gather.added g.met.G.Gather.adds c.loop-parts.parts c.add.new.self
+    c.loop-parts.children c.next_child.new.self c.args.payload.now child
+    (begins c.loop-parts.children child c.next_child.new.self next) shorter c.in_ok-add.ensures
+    c.loop-parts.invariant
 
 pub returns-in_err-add : goal.returns-in_err-add
 returns-in_err-add g c =
@@ -29,10 +36,14 @@ returns-in_err-add g c =
     let next = rw c.in-Some.is at c.in_ok-child.ensures.value in
     rw (p.1, p.2) (elim c.in_err-add.ensures [
       | inl memory ↦ inl memory
-      | inr fault ↦ inr (refuses g.G.Gather.fault g.G.Gather.taken g.G.Gather.added g.met.G.Gather.adds c.loop-parts.parts c.loop-parts.children c.next_child.new.self c.args.payload.now child (cause_of c.in_err-add.field-0.0) (begins c.loop-parts.children child c.next_child.new.self next) fault c.loop-parts.invariant)
+      | inr fault ↦ inr (refuses g.G.Gather.fault g.G.Gather.taken g.G.Gather.added g.met.G.Gather.adds
+          c.loop-parts.parts c.loop-parts.children c.next_child.new.self c.args.payload.now child
+          (cause_of c.in_err-add.field-0.0) (begins c.loop-parts.children child c.next_child.new.self next) fault
+          c.loop-parts.invariant)
     ])
 
 pub returns : goal.returns
 returns g c =
     let next = rw c.in_default.is at c.in_ok-child.ensures.value in
-    is_done g.G.Gather.fault g.G.Gather.taken c.loop-parts.parts c.loop-parts.children c.args.payload.now (ends c.loop-parts.children c.next_child.new.self next) c.loop-parts.invariant
+    is_done g.G.Gather.fault g.G.Gather.taken c.loop-parts.parts c.loop-parts.children c.args.payload.now
+    (ends c.loop-parts.children c.next_child.new.self next) c.loop-parts.invariant

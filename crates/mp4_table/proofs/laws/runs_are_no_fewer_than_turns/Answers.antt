@@ -8,6 +8,8 @@ use Rattle.mp4_table.proofs.laws.runs_are_no_fewer_than_turns.Goals as goal
 
 pub returns : goal.returns
 returns c = record {
-  durations = turns-expand nat_eq (λ x. eq-eqb x x refl) (λ (r : SttsEntry). r.sample_count) (λ (r : SttsEntry). r.sample_delta);
-  rendering_offsets = turns-expand int_eq int_eq_equiv.refl (λ (r : CttsEntry). r.sample_count) (λ (r : CttsEntry). r.sample_offset);
+  durations = turns-expand nat_eq (λ x. eq-eqb x x refl) (λ (r : SttsEntry). r.sample_count)
+      (λ (r : SttsEntry). r.sample_delta);
+  rendering_offsets =
+      turns-expand int_eq int_eq_equiv.refl (λ (r : CttsEntry). r.sample_count) (λ (r : CttsEntry). r.sample_offset);
 }

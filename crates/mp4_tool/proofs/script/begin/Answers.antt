@@ -2,4 +2,8 @@ use Rattle.mp4_tool.proofs.Standard.{begun}
 use Rattle.mp4_tool.proofs.script.begin.Goals as goal
 
 pub returns : goal.returns
-returns c = begun c.in_ok-config.config c.new.result.items c.write_start.result c.new.ensures.items c.in_ok-config.ensures c.write_start.ensures.cause c.write_start.ensures.ok
+returns c =
+    let writer = c.write_start.result in
+    let started = c.write_start.ensures in
+    begun c.in_ok-config.config c.new.result.items writer c.new.ensures.items c.in_ok-config.ensures started.cause
+    started.ok

@@ -1,8 +1,13 @@
-use Rattle.std.proofs.Common.{◌∙◌, refl, arith}
-use Rattle.mp4_codec.proofs.BoxLaws.{writes_ok}
+use Rattle.std.proofs.Common.{◌≡◌, ◌∙◌, length, refl, arith}
+use Rattle.mp4_codec.specs.Boxes.{frame}
+use Rattle.mp4_codec.specs.FramingLaws.{length-frame}
 use Rattle.mp4_codec.proofs.boxes.WriteBox.write_box.Goals as goal
 
-pub returns : goal.returns
-returns g c =
-    let made = c.in_ok-put_box.ensures in
-    writes_ok g.Self.Mp4Box.KIND (g.Self.Mp4Box.payload c.args.self.now) c.args.writer.now.items c.put_box.new.out.items c.extend_from_slice.new.self.items (g.Self.WriteBox.refusal c.args.self.now) c.box_size-size.result c.box_size-size.ensures (omega arith) made.1 (made.0.is ∙ rw c.in_ok-bytes.ensures.items refl) (c.in_ok-extend_from_slice.ensures.items ∙ rw c.deref.ensures.value refl)
+pub returns-clause-bytes : goal.returns-clause-bytes
+returns-clause-bytes g c =
+    let payload = g.Self.Mp4Box.payload c.args.self.now in
+    let whole = frame g.Self.Mp4Box.KIND payload in
+    let made : c.put_box.new.out.items ≡ whole = c.in_ok-put_box.ensures.is ∙ rw c.in_ok-bytes.ensures.items refl in
+    let size : c.box_size-size.result ≡ length whole =
+    omega (arith, length-frame g.Self.Mp4Box.KIND payload, c.box_size-size.ensures) in
+    (rw (c.in_ok-extend_from_slice.ensures.items, c.deref.ensures.value, made) refl, size)

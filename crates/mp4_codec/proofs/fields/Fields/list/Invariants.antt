@@ -4,4 +4,6 @@ use Rattle.mp4_codec.proofs.Loop.{with_front}
 use Rattle.mp4_codec.proofs.fields.Fields.list.Given as goal
 
 abbrev pub invariant-loop : goal.invariant-loop
-invariant-loop g l = with_front l.items (list_at (g.T.Entry.at l.version) (l.count - l.counter) l.self) ≡ list_at (g.T.Entry.at l.version) l.count l.fn.self
+invariant-loop g l =
+    with_front l.items (list_at (g.T.Entry.at l.version) (l.count - l.counter) l.self)
+    ≡ list_at (g.T.Entry.at l.version) l.count l.fn.self

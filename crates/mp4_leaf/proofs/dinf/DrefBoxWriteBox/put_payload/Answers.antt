@@ -1,14 +1,11 @@
-use Rattle.std.proofs.Common.{refl}
 use Rattle.mp4_codec.specs.PutLaws.{◌then◌, number_piece}
 use Rattle.mp4_leaf.specs.Dinf.{dref_payload}
 use Rattle.mp4_leaf.proofs.dinf.DrefBoxWriteBox.put_payload.Goals as goal
 
 pub returns : goal.returns
 unfolding dref_payload
-returns c = (
-  c.in_ok-put_u8.ensures
-      then c.in_ok-put_u24.ensures
-      then number_piece 4 _ _ c.count.ensures c.in_ok-put_u32.ensures
-      then c.in_ok-put_optional.ensures.0,
-  refl,
-)
+returns c =
+    c.in_ok-put_u8.ensures
+    then c.in_ok-put_u24.ensures
+    then number_piece 4 _ _ c.count.ensures c.in_ok-put_u32.ensures
+    then c.in_ok-put_optional.ensures

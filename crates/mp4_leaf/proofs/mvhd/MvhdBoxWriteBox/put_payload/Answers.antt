@@ -1,21 +1,16 @@
 use Rattle.mp4_codec.specs.PutLaws.{◌then◌}
-use Rattle.mp4_leaf.specs.Mvhd.{mvhd_payload, mvhd_refusal}
+use Rattle.mp4_leaf.specs.Mvhd.{mvhd_payload}
 use Rattle.mp4_leaf.proofs.mvhd.MvhdBoxWriteBox.put_payload.Goals as goal
 
 pub returns : goal.returns
-unfolding mvhd_payload mvhd_refusal
-returns c = (
-  c.in_ok-put_u8.ensures
-      then c.in_ok-put_u24.ensures
-      then c.in_ok-put_versioned.ensures
-      then c.in_ok-put_versioned-2.ensures
-      then c.in_ok-put_u32.ensures
-      then c.in_ok-put_versioned-3.ensures
-      then c.in_ok-put_u32-2.ensures
-      then c.in_ok-put_u16.ensures
-      then c.in_ok-put_zeros.ensures
-      then c.in_ok-put_matrix.ensures
-      then c.in_ok-put_zeros-2.ensures
-      then c.in_ok-put_u32-3.ensures,
-  c.in_ok-check_times.ensures,
-)
+unfolding mvhd_payload
+returns c =
+    (rw (← c.stamp.ensures) c.in_ok-put_stamp.ensures)
+    then c.in_ok-put_u32.ensures
+    then c.in_ok-put_versioned.ensures
+    then c.in_ok-put_u32-2.ensures
+    then c.in_ok-put_u16.ensures
+    then c.in_ok-put_zeros.ensures
+    then c.in_ok-put_matrix.ensures
+    then c.in_ok-put_zeros-2.ensures
+    then c.in_ok-put_u32-3.ensures

@@ -1,55 +1,14 @@
-use Rattle.std.proofs.Common.{refl, inl, inr, ap, sym, ◌∙◌, arith}
-use Rattle.std.proofs.lemmas.Result.{err_from_is_err_and}
-use Rattle.mp4_codec.specs.Cause.{cause_of}
-use Rattle.mp4_media.specs.declared.opening.Found.{Found}
-use Rattle.mp4_media.specs.OpeningLaws.{scan-starts, scan-takes, scan-refuses, scan-ends, opened-refused, opened-no_ftyp, opened-no_moov, opened-both}
+use Rattle.mp4_media.proofs.OpenAnswers.{answers-file, answers-opens, answers-fault, answers-refused}
 use Rattle.mp4_media.proofs.reader.Mp4Reader.read_header.Goals as goal
 
-pub loop-found-init : goal.loop-found-init
-loop-found-init c = (rw c.none-found.ensures (scan-starts c.args.size c.args.reader), omega arith, refl)
+pub returns-clause-file : goal.returns-clause-file
+returns-clause-file c = answers-file c.args.size c.args.reader c.open.result c.open.ensures.answer
 
-pub returns-in_err-file_box-clause-answer : goal.returns-in_err-file_box-clause-answer
-returns-in_err-file_box-clause-answer c =
-    let p = err_from_is_err_and c.from_residual.result c.from_residual.ensures.1 in
-    let cause = cause_of c.in_err-file_box.field-0.0 in
-    rw (p.1, p.2) (elim c.in_err-file_box.ensures.answer [
-      | inl memory ↦ inl memory
-      | inr fault ↦ inr (opened-refused c.args.size c.args.reader cause (scan-refuses c.args.size c.args.reader c.loop-found.reader c.loop-found.found cause fault c.loop-found.invariant.0))
-    ])
+pub returns-clause-opens : goal.returns-clause-opens
+returns-clause-opens c = answers-opens c.args.size c.args.reader c.open.result c.open.ensures.answer
 
-pub loop-found-preserved : goal.loop-found-preserved
-loop-found-preserved c =
-    let next = rw c.in-Some.is at c.in_ok-file_box.ensures.answer in
-    let below = rw c.in-Some.is at c.in_ok-file_box.ensures.onward in
-    let onward = rw c.in-Some.is at c.in_ok-file_box.ensures.moved in (
-      rw c.add.ensures (scan-takes c.args.size c.args.reader c.loop-found.reader c.loop-found.found c.in-Some.file_box c.next_box.new.reader next below onward c.loop-found.invariant.0),
-      omega (arith, onward, c.loop-found.invariant.1),
-      c.in_ok-file_box.ensures.same ∙ c.loop-found.invariant.2,
-    )
+pub returns-clause-fault : goal.returns-clause-fault
+returns-clause-fault c = answers-fault c.args.size c.args.reader c.open.result c.open.ensures.answer
 
-pub returns-in_default-ftyp-clause-answer : goal.returns-in_default-ftyp-clause-answer
-returns-in_default-ftyp-clause-answer c =
-    let next = rw c.in_default.is at c.in_ok-file_box.ensures.answer in
-    let still = rw c.in_default.is at c.in_ok-file_box.ensures.still in
-    let w = c.loop-found.invariant.0 in
-    let read = scan-ends c.args.size c.args.reader c.loop-found.reader c.loop-found.found c.next_box.new.reader next still w in
-    inr (opened-no_ftyp c.args.size c.args.reader w.done c.loop-found.reader.position read (ap (λ (f : Found). f.ftyp) (sym w.given) ∙ c.in_default-ftyp.is))
-
-pub returns-in_default-moov-clause-answer : goal.returns-in_default-moov-clause-answer
-returns-in_default-moov-clause-answer c =
-    let next = rw c.in_default.is at c.in_ok-file_box.ensures.answer in
-    let still = rw c.in_default.is at c.in_ok-file_box.ensures.still in
-    let w = c.loop-found.invariant.0 in
-    let read = scan-ends c.args.size c.args.reader c.loop-found.reader c.loop-found.found c.next_box.new.reader next still w in
-    let some = ap (λ (f : Found). f.ftyp) (sym w.given) ∙ c.in-Some-ftyp.is in
-    inr (opened-no_moov c.args.size c.args.reader w.done c.loop-found.reader.position read c.in-Some-ftyp.ftyp some (ap (λ (f : Found). f.moov) (sym w.given) ∙ c.in_default-moov.is))
-
-pub returns-clause-answer : goal.returns-clause-answer
-returns-clause-answer c =
-    let next = rw c.in_default.is at c.in_ok-file_box.ensures.answer in
-    let still = rw c.in_default.is at c.in_ok-file_box.ensures.still in
-    let w = c.loop-found.invariant.0 in
-    let read = scan-ends c.args.size c.args.reader c.loop-found.reader c.loop-found.found c.next_box.new.reader next still w in
-    let ftyp = ap (λ (f : Found). f.ftyp) (sym w.given) ∙ c.in-Some-ftyp.is in
-    let moov = ap (λ (f : Found). f.moov) (sym w.given) ∙ c.in-Some-moov.is in
-    rw (c.position.ensures, still, c.position-start.ensures) (opened-both c.args.size c.args.reader w.done c.loop-found.reader.position read c.in-Some-ftyp.ftyp c.in-Some-moov.moov ftyp moov)
+pub returns-clause-refused : goal.returns-clause-refused
+returns-clause-refused c = answers-refused c.args.size c.args.reader c.open.result c.open.ensures.answer

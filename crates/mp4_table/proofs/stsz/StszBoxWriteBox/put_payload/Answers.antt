@@ -4,11 +4,9 @@ use Rattle.mp4_table.proofs.stsz.StszBoxWriteBox.put_payload.Goals as goal
 
 pub returns : goal.returns
 unfolding stsz_payload
-returns c = (
-  c.in_ok-put_u8.ensures
-      then c.in_ok-put_u24.ensures
-      then c.in_ok-put_u32.ensures
-      then c.in_ok-put_u32-2.ensures
-      then c.in_ok-put_list.ensures,
-  c.in_ok-check.ensures,
-)
+returns c =
+    c.in_ok-put_u8.ensures
+    then c.in_ok-put_u24.ensures
+    then c.in_ok-put_u32.ensures
+    then c.in_ok-put_u32-2.ensures
+    then c.in_ok-put_list.ensures

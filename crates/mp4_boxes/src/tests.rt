@@ -1,3 +1,0 @@
-//! What no contract says: rows of bytes from outside, and that each call succeeds with ample memory.
-
-mod movie;

@@ -1,0 +1,106 @@
+//! Values whose numbers are within their types.
+
+ghost use Rattle.std.specs.Prelude.{◌≡◌, ◌<◌, ◌^◌, FitsSigned, IfSome};
+ghost use Rattle.std.specs.Int.{w16, w32};
+ghost use Rattle.std.specs.List.{AllByRecursion};
+ghost use Rattle.mp4_codec.specs.Bytes.{IsCode};
+
+use crate::four_cc::FourCC;
+use crate::items::Items;
+
+/// A value that knows the ranges of its numbers.
+///
+/// Contracts see a number as a whole number without bounds, and know its range only where code reads it. A type says
+/// here once what holds of all its values, and a caller that needs it of one calls `in_range`, which does nothing else.
+pub trait InRange {
+    /// Each number of the value is within its type.
+    ghost IsInRange: { Self → Type 0 };
+
+    /// Says that each number of the value is within its type.
+    fn in_range(&self)
+        ensures { IsInRange self.now };
+}
+
+impl InRange for u8 {
+    ghost IsInRange = { λ n. n < 2 ^ 8 };
+
+    fn in_range(&self) {
+        let _number = *self;
+    }
+}
+
+impl InRange for u16 {
+    ghost IsInRange = { λ n. n < 2 ^ 16 };
+
+    fn in_range(&self) {
+        let _number = *self;
+    }
+}
+
+impl InRange for u32 {
+    ghost IsInRange = { λ n. n < 2 ^ 32 };
+
+    fn in_range(&self) {
+        let _number = *self;
+    }
+}
+
+impl InRange for u64 {
+    ghost IsInRange = { λ n. n < 2 ^ 64 };
+
+    fn in_range(&self) {
+        let _number = *self;
+    }
+}
+
+impl InRange for i16 {
+    ghost IsInRange = { FitsSigned w16 };
+
+    fn in_range(&self) {
+        let _number = *self;
+    }
+}
+
+impl InRange for i32 {
+    ghost IsInRange = { FitsSigned w32 };
+
+    fn in_range(&self) {
+        let _number = *self;
+    }
+}
+
+/// The code again, of which it is known that four bytes spell it.
+fn spelled(code: FourCC) -> FourCC
+    ensures same { result ≡ code }
+    ensures spelled { IsCode result }
+{
+    FourCC::from(u32::from(code))
+}
+
+impl InRange for FourCC {
+    ghost IsInRange = { IsCode };
+
+    fn in_range(&self) {
+        let _code = spelled(*self);
+    }
+}
+
+impl<T: InRange> InRange for Option<T> {
+    ghost IsInRange = { λ o. IfSome o T.IsInRange };
+
+    fn in_range(&self) {
+        if let Some(value) = self {
+            value.in_range();
+        }
+    }
+}
+
+impl<T: InRange> InRange for Items<T> {
+    ghost IsInRange = { AllByRecursion T.IsInRange };
+
+    fn in_range(&self) {
+        for item in self.as_slice() {
+            item.in_range();
+        }
+    }
+}

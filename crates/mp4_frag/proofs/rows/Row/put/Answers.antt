@@ -1,0 +1,11 @@
+use Rattle.mp4_codec.specs.PutLaws.{◌then◌}
+use Rattle.mp4_frag.specs.Rows.{row}
+use Rattle.mp4_frag.proofs.rows.Row.put.Goals as goal
+
+pub returns : goal.returns
+unfolding row
+returns c =
+    c.in_ok-put_optional.ensures
+    then c.in_ok-put_optional-2.ensures
+    then c.in_ok-put_optional-3.ensures
+    then c.in_ok-put_optional-4.ensures

@@ -1,0 +1,32 @@
+-- What a call that opens a file answers, in the words of the grammar.
+use Rattle.std.proofs.Common.{◌≡◌, ◌⊎◌, inl, inr, ℕ, Result, Ok, Err, subst}
+use Rattle.std.specs.Prelude.{IfOk, IfErr}
+use Rattle.mp4_codec.specs.declared.error.Error.{Error}
+use Rattle.mp4_codec.specs.declared.error.Error.TheVariants.{OutOfMemory}
+use Rattle.mp4_codec.specs.Cause.{Cause, cause_of, Answers}
+use Rattle.mp4_codec.specs.Cursor.{Cursor}
+use Rattle.mp4_media.specs.declared.reader.Mp4Reader.{Mp4Reader}
+use Rattle.mp4_media.specs.FileBoxes.{OpenedFile, opened_file}
+use Rattle.mp4_media.specs.FileGrammar.{IsFile, IsFaultyFile}
+use Rattle.mp4_media.specs.Walk.{opened_at}
+use Rattle.mp4_media.proofs.Grammar.{file-opens, faulty-refused, opened-is_file, refused-is_faulty}
+
+module _ (size : ℕ) (start : Cursor) where
+  pub answers-file : (result : Result Mp4Reader Error) → Answers opened_file result (opened_at size start)
+      → IfOk result (λ r. IsFile size start (opened_file r))
+  answers-file (Ok r) e = opened-is_file size start (opened_file r) e
+  answers-file (Err error) e = tt
+
+  pub answers-opens : (result : Result Mp4Reader Error) → Answers opened_file result (opened_at size start)
+      → (opened : OpenedFile) → IsFile size start opened → Answers opened_file result (Ok opened)
+  answers-opens result e opened f = subst (Answers opened_file result) (file-opens size start opened f) e
+
+  pub answers-fault : (result : Result Mp4Reader Error) → Answers opened_file result (opened_at size start)
+      → IfErr result (λ e. (e ≡ OutOfMemory) ⊎ IsFaultyFile size start (cause_of e))
+  answers-fault (Ok r) e = tt
+  answers-fault (Err error) (inl memory) = inl memory
+  answers-fault (Err error) (inr fault) = inr (refused-is_faulty size start (cause_of error) fault)
+
+  pub answers-refused : (result : Result Mp4Reader Error) → Answers opened_file result (opened_at size start)
+      → (c : Cause) → IsFaultyFile size start c → Answers opened_file result (Err c)
+  answers-refused result e c f = subst (Answers opened_file result) (faulty-refused size start c f) e

@@ -1,0 +1,422 @@
+//! Calls whose requests for memory may be refused: with ample memory each succeeds at once. `./refused_memory` runs
+//! these tests with one request refused, each in turn. A refused call then answers `OutOfMemory`, it leaves what it
+//! must, and made again it is Ok. While a test prints that a request was refused, the next one is tried.
+
+use crate::movies::{EMPTY_MOVIE, config};
+use crate::sample_boxes::Number;
+use crate::sides::Side;
+use crate::spelled::read_bytes;
+use mp4_boxes::MoovBox;
+use mp4_codec::{
+    BoxHeader, BoxType, Error, Fields, FourCC, Items, KeyedItems, Mp4Box, ReadBox, Result, Text,
+    TryClone, WriteBox, all_children, all_size, last_child, optional_size, put_all, put_bytes,
+    put_four_cc, put_i16, put_i32, put_list, put_optional, put_u8, put_u16, put_u24, put_u32,
+    put_u64, put_versioned, put_zeros,
+};
+use mp4_frag::{EmsgBox, MehdBox, MfhdBox, TfdtBox, TfhdBox, TrexBox, TrunBox};
+use mp4_leaf::{
+    DataBox, DinfBox, ElstBox, FtypBox, HdlrBox, MdhdBox, MvhdBox, SmhdBox, TkhdBox, VmhdBox,
+};
+use mp4_media::{Mp4Config, Mp4Writer, read_mp4};
+use mp4_table::{Co64Box, CttsBox, StcoBox, StscBox, StssBox, StszBox, SttsBox};
+use std::alloc::Global;
+
+/// Prints that a request was refused, and answers whether the call said so.
+fn is_refusal(rt: &HostRuntime, error: &Error) -> bool {
+    let _ = println!(rt; "a request was refused");
+    *error == Error::OutOfMemory
+}
+
+/// What a call answers, and what it answers when it is made again after a refusal.
+fn read_again<B: ReadBox>(rt: &HostRuntime, bytes: &[u8]) -> Result<B> {
+    match read_bytes(rt.alloc(), bytes) {
+        Err(error) if is_refusal(rt, &error) => read_bytes(rt.alloc(), bytes),
+        answer => answer,
+    }
+}
+
+/// A copy, which is made again after a refusal.
+fn copy_again<T: TryClone>(rt: &HostRuntime, value: &T) -> Result<T> {
+    match value.try_clone() {
+        Err(error) if is_refusal(rt, &error) => value.try_clone(),
+        answer => answer,
+    }
+}
+
+/// The bytes of a box. After a refusal the buffer has to be as before, and the box is written again.
+fn write_again<B: WriteBox>(rt: &HostRuntime, value: &B) -> Result<Vec<u8>> {
+    let mut bytes = Vec::new(rt.alloc());
+    match value.write_box(&mut bytes) {
+        Err(error) if is_refusal(rt, &error) && bytes.is_empty() => {
+            value.write_box(&mut bytes)?;
+        }
+        answer => {
+            answer?;
+        }
+    }
+    Ok(bytes)
+}
+
+/// Whether a box is read from these bytes, copied and written as them, each call made again after a refusal.
+fn is_kept<B: WriteBox + TryClone + PartialEq>(rt: &HostRuntime, bytes: &[u8]) -> Result<bool> {
+    let value: B = read_again(rt, bytes)?;
+    let copy = copy_again(rt, &value)?;
+    Ok(copy == value && write_again(rt, &copy)?.as_slice() == bytes)
+}
+
+const FTYP: [u8; 20] = *b"\0\0\0\x14ftypisom\0\0\x02\0mp41";
+
+const DATA: [u8; 19] = *b"\0\0\0\x13data\0\0\0\x01\0\0\0\0abc";
+
+const HDLR: [u8; 35] = *b"\0\0\0\x23hdlr\0\0\0\0\0\0\0\0vide\0\0\0\0\0\0\0\0\0\0\0\0Hi\0";
+
+const MDHD: [u8; 32] = *b"\0\0\0\x20mdhd\0\0\0\0\0\0\0\0\0\0\0\0\0\0\x03\xe8\0\0\0\0\x55\xc4\0\0";
+
+const ELST: [u8; 28] = *b"\0\0\0\x1celst\0\0\0\0\0\0\0\x01\0\0\0\x02\0\0\0\x04\0\x05\0\x06";
+
+const DINF: [u8; 38] =
+    *b"\0\0\0\x26dinf\0\0\0\x1edref\0\0\0\0\0\0\0\x01\0\0\0\x0eurl \0\0\0\x01a\0";
+
+const VMHD: [u8; 20] = *b"\0\0\0\x14vmhd\0\0\0\x01\0\0\0\0\0\0\0\0";
+
+const SMHD: [u8; 16] = *b"\0\0\0\x10smhd\0\0\0\0\0\0\0\0";
+
+const STTS: [u8; 24] = *b"\0\0\0\x18stts\0\0\0\0\0\0\0\x01\0\0\0\x03\0\0\x02\0";
+
+const CTTS: [u8; 24] = *b"\0\0\0\x18ctts\0\0\0\0\0\0\0\x01\0\0\0\x03\xff\xff\xff\x9c";
+
+const STSC: [u8; 28] = *b"\0\0\0\x1cstsc\0\0\0\0\0\0\0\x01\0\0\0\x01\0\0\0\x01\0\0\0\x01";
+
+const STSS: [u8; 20] = *b"\0\0\0\x14stss\0\0\0\0\0\0\0\x01\0\0\0\x0d";
+
+const STSZ: [u8; 24] = *b"\0\0\0\x18stsz\0\0\0\0\0\0\0\0\0\0\0\x01\0\0\0\x09";
+
+const STCO: [u8; 20] = *b"\0\0\0\x14stco\0\0\0\0\0\0\0\x01\0\0\0\x30";
+
+const CO64: [u8; 24] = *b"\0\0\0\x18co64\0\0\0\0\0\0\0\x01\0\0\0\0\0\0\0\x30";
+
+const TFHD: [u8; 20] = *b"\0\0\0\x14tfhd\0\0\0\x08\0\0\0\x09\0\0\0\x04";
+
+const TRUN: [u8; 40] =
+    *b"\0\0\0\x28trun\0\0\x0f\x05\0\0\0\x01\xff\xff\xff\xfe\x02\0\0\0\0\0\0\x11\0\0\0\x21\0\0\0\x31\0\0\0\x41";
+
+const EMSG: [u8; 35] = *b"\0\0\0\x23emsg\0\0\0\0a\0bc\0\0\0\0\x01\0\0\0\x02\0\0\0\x03\0\0\0\x04de";
+
+const FREE: [u8; 12] = *b"\0\0\0\x0cfree\0\0\0\x02";
+
+#[test]
+fn a_refused_call_of_a_header_box_is_made_again(rt: HostRuntime) -> Result<()> {
+    let movie = &EMPTY_MOVIE[48..];
+    assert!(rt; is_kept::<MoovBox>(&rt, movie)?);
+    assert!(rt; is_kept::<MvhdBox>(&rt, &movie[8..])?);
+    Ok(())
+}
+
+#[test]
+fn a_refused_call_of_a_track_header_is_made_again(rt: HostRuntime) -> Result<()> {
+    let value = copy_again(&rt, &TkhdBox::default())?;
+    let bytes = write_again(&rt, &value)?;
+    assert!(rt; read_again::<TkhdBox>(&rt, &bytes)? == value);
+    Ok(())
+}
+
+#[test]
+fn a_refused_call_of_a_media_header_is_made_again(rt: HostRuntime) -> Result<()> {
+    assert!(rt; is_kept::<MdhdBox>(&rt, &MDHD)?);
+    assert!(rt; is_kept::<VmhdBox>(&rt, &VMHD)?);
+    assert!(rt; is_kept::<SmhdBox>(&rt, &SMHD)?);
+    Ok(())
+}
+
+#[test]
+fn a_refused_call_of_a_handler_is_made_again(rt: HostRuntime) -> Result<()> {
+    assert!(rt; is_kept::<HdlrBox>(&rt, &HDLR)?);
+    assert!(rt; is_kept::<ElstBox>(&rt, &ELST)?);
+    Ok(())
+}
+
+#[test]
+fn a_refused_call_of_a_file_type_is_made_again(rt: HostRuntime) -> Result<()> {
+    assert!(rt; is_kept::<FtypBox>(&rt, &FTYP)?);
+    assert!(rt; is_kept::<DataBox>(&rt, &DATA)?);
+    Ok(())
+}
+
+#[test]
+fn a_refused_call_of_data_information_is_made_again(rt: HostRuntime) -> Result<()> {
+    assert!(rt; is_kept::<DinfBox>(&rt, &DINF)?);
+    Ok(())
+}
+
+#[test]
+fn a_refused_call_of_a_table_of_runs_is_made_again(rt: HostRuntime) -> Result<()> {
+    assert!(rt; is_kept::<SttsBox>(&rt, &STTS)?);
+    assert!(rt; is_kept::<CttsBox>(&rt, &CTTS)?);
+    assert!(rt; is_kept::<StscBox>(&rt, &STSC)?);
+    Ok(())
+}
+
+#[test]
+fn a_refused_call_of_a_table_of_samples_is_made_again(rt: HostRuntime) -> Result<()> {
+    assert!(rt; is_kept::<StssBox>(&rt, &STSS)?);
+    assert!(rt; is_kept::<StszBox>(&rt, &STSZ)?);
+    Ok(())
+}
+
+#[test]
+fn a_refused_call_of_a_table_of_offsets_is_made_again(rt: HostRuntime) -> Result<()> {
+    assert!(rt; is_kept::<StcoBox>(&rt, &STCO)?);
+    assert!(rt; is_kept::<Co64Box>(&rt, &CO64)?);
+    let wide: Co64Box = read_again(&rt, &CO64)?;
+    let narrow = match StcoBox::try_from(rt.alloc(), &wide) {
+        Err(error) if is_refusal(&rt, &error) => StcoBox::try_from(rt.alloc(), &wide)?,
+        answer => answer?,
+    };
+    assert!(rt; narrow == read_again(&rt, &STCO)?);
+    Ok(())
+}
+
+#[test]
+fn a_refused_call_of_a_fragments_header_is_made_again(rt: HostRuntime) -> Result<()> {
+    assert!(rt; is_kept::<TfhdBox>(&rt, &TFHD)?);
+    let header = copy_again(&rt, &MfhdBox::default())?;
+    assert!(rt; read_again::<MfhdBox>(&rt, &write_again(&rt, &header)?)? == header);
+    let defaults = copy_again(&rt, &TrexBox::default())?;
+    assert!(rt; read_again::<TrexBox>(&rt, &write_again(&rt, &defaults)?)? == defaults);
+    Ok(())
+}
+
+#[test]
+fn a_refused_call_of_a_fragments_time_is_made_again(rt: HostRuntime) -> Result<()> {
+    let start = copy_again(&rt, &TfdtBox::default())?;
+    assert!(rt; read_again::<TfdtBox>(&rt, &write_again(&rt, &start)?)? == start);
+    let duration = copy_again(&rt, &MehdBox::default())?;
+    assert!(rt; read_again::<MehdBox>(&rt, &write_again(&rt, &duration)?)? == duration);
+    Ok(())
+}
+
+#[test]
+fn a_refused_call_of_a_run_is_made_again(rt: HostRuntime) -> Result<()> {
+    assert!(rt; is_kept::<TrunBox>(&rt, &TRUN)?);
+    Ok(())
+}
+
+#[test]
+fn a_refused_call_of_an_event_message_is_made_again(rt: HostRuntime) -> Result<()> {
+    assert!(rt; is_kept::<EmsgBox>(&rt, &EMSG)?);
+    Ok(())
+}
+
+#[test]
+fn a_refused_default_is_made_again(rt: HostRuntime) -> Result<()> {
+    let default = match MdhdBox::default(rt.alloc()) {
+        Err(error) if is_refusal(&rt, &error) => MdhdBox::default(rt.alloc())?,
+        answer => answer?,
+    };
+    assert!(rt; default == read_again(&rt, &MDHD)?);
+    Ok(())
+}
+
+#[test]
+fn a_refused_header_leaves_the_buffer(rt: HostRuntime) -> Result<()> {
+    let mut out = Vec::new(rt.alloc());
+    let header = BoxHeader::new(BoxType::FreeBox, 12);
+    if let Err(error) = header.write(&mut out) {
+        assert!(rt; is_refusal(&rt, &error) && out.is_empty());
+        assert_eq!(rt; header.write(&mut out)?, 8);
+    }
+    assert!(rt; out.as_slice() == &FREE[..8]);
+    Ok(())
+}
+
+/// Puts each kind of field, each into a buffer of its own.
+fn put_fields(alloc: Global) -> Result<()> {
+    put_u8(&mut Vec::new(alloc), 1)?;
+    put_u16(&mut Vec::new(alloc), 1)?;
+    put_u24(&mut Vec::new(alloc), 1)?;
+    put_u32(&mut Vec::new(alloc), 1)?;
+    put_u64(&mut Vec::new(alloc), 1)?;
+    put_i16(&mut Vec::new(alloc), -1)?;
+    put_i32(&mut Vec::new(alloc), -1)?;
+    put_zeros(&mut Vec::new(alloc), 1)?;
+    put_versioned(&mut Vec::new(alloc), 1, 1)?;
+    put_bytes(&mut Vec::new(alloc), b"a")?;
+    put_four_cc(&mut Vec::new(alloc), FourCC::from(1))?;
+    Ok(())
+}
+
+/// Puts a list of entries, a list of children, one child and a box, each into a buffer of its own. Whether the sizes
+/// are as they should be.
+fn put_lists(alloc: Global) -> Result<bool> {
+    let number = Number { value: 2 };
+    let child = Some(Number { value: 2 });
+    let mut entries = Items::new(alloc);
+    entries.push(1u32)?;
+    let mut children = Items::new(alloc);
+    children.push(Number { value: 2 })?;
+    if all_size(&children) != 12 || optional_size(&child) != 12 || number.box_size() != 12 {
+        return Ok(false);
+    }
+    put_list(&mut Vec::new(alloc), 0, &entries)?;
+    put_all(&mut Vec::new(alloc), &children)?;
+    put_optional(&mut Vec::new(alloc), &child)?;
+    number.put_payload(&mut Vec::new(alloc))?;
+    number.put_box(&mut Vec::new(alloc))?;
+    Ok(true)
+}
+
+#[test]
+fn a_refused_put_is_made_again(rt: HostRuntime) -> Result<()> {
+    match put_fields(rt.alloc()) {
+        Err(error) if is_refusal(&rt, &error) => put_fields(rt.alloc()),
+        answer => answer,
+    }
+}
+
+#[test]
+fn a_refused_put_of_a_list_is_made_again(rt: HostRuntime) -> Result<()> {
+    let are_put = match put_lists(rt.alloc()) {
+        Err(error) if is_refusal(&rt, &error) => put_lists(rt.alloc())?,
+        answer => answer?,
+    };
+    assert!(rt; are_put);
+    Ok(())
+}
+
+/// Reads a list of entries, a text in two ways, and children in two ways.
+fn read_parts(alloc: Global) -> Result<bool> {
+    let entries: Items<u32> = Fields::new(&FREE).list(alloc, 0, 3)?;
+    let name = Fields::new(b"text\0").until_zero(alloc)?;
+    let text = Fields::new(b"text\0").text(alloc)?;
+    let children: Items<Number> = all_children(alloc, &FREE)?;
+    let child: Option<Number> = last_child(alloc, &FREE)?;
+    Ok(entries.len() == 3 && name == text && children.len() == 1 && child.is_some())
+}
+
+#[test]
+fn a_refused_read_of_parts_is_made_again(rt: HostRuntime) -> Result<()> {
+    let are_read = match read_parts(rt.alloc()) {
+        Err(error) if is_refusal(&rt, &error) => read_parts(rt.alloc())?,
+        answer => answer?,
+    };
+    assert!(rt; are_read);
+    assert!(rt; is_kept::<Number>(&rt, &FREE)?);
+    Ok(())
+}
+
+#[test]
+fn a_refused_push_leaves_the_list(rt: HostRuntime) -> Result<()> {
+    let mut list: Items<u32> = Items::new(rt.alloc());
+    for n in 0..5u32 {
+        if list.push(n).is_err() {
+            assert!(rt; is_refusal(&rt, &Error::OutOfMemory) && list.len() == n as usize);
+            list.push(n)?;
+        }
+    }
+    assert!(rt; list.as_slice() == [0, 1, 2, 3, 4].as_slice());
+    assert!(rt; copy_again(&rt, &list)? == list);
+    Ok(())
+}
+
+#[test]
+fn a_refused_list_is_made_again(rt: HostRuntime) {
+    if Items::<u32>::with_capacity(rt.alloc(), 3).is_err() {
+        assert!(rt; is_refusal(&rt, &Error::OutOfMemory));
+        assert!(rt; Items::<u32>::with_capacity(rt.alloc(), 3).is_ok());
+    }
+}
+
+/// A text, which is made again after a refusal.
+fn text_again(rt: &HostRuntime, text: &str) -> Result<Text> {
+    match Text::from_str(rt.alloc(), text) {
+        Ok(made) => Ok(made),
+        Err(refused) => {
+            let _ = is_refusal(rt, &Error::from(refused));
+            Ok(Text::from_str(rt.alloc(), text)?)
+        }
+    }
+}
+
+#[test]
+fn a_refused_addition_leaves_the_text(rt: HostRuntime) -> Result<()> {
+    let mut text = text_again(&rt, "u")?;
+    if text.push_str("nd, und, und").is_err() {
+        assert!(rt; is_refusal(&rt, &Error::OutOfMemory) && text.len() == 1);
+        text.push_str("nd, und, und")?;
+    }
+    assert!(rt; text == text_again(&rt, "und, und, und")?);
+    assert!(rt; copy_again(&rt, &text)? == text);
+    Ok(())
+}
+
+#[test]
+fn a_refused_insert_leaves_the_map(rt: HostRuntime) -> Result<()> {
+    let mut map: KeyedItems<Side, u32> = KeyedItems::new(rt.alloc());
+    let sides = [Side::North, Side::East, Side::South, Side::West];
+    for (count, side) in sides.iter().enumerate() {
+        if map.insert(*side, 7).is_err() {
+            assert!(rt; is_refusal(&rt, &Error::OutOfMemory));
+            assert!(rt; map.len() == count && map.get(*side).is_none());
+            map.insert(*side, 7)?;
+        }
+    }
+    assert_eq!(rt; map.len(), 4);
+    assert!(rt; copy_again(&rt, &map)? == map);
+    Ok(())
+}
+
+/// The configuration of the empty movie, which is made again after a refusal.
+fn config_again(rt: &HostRuntime) -> Result<Mp4Config> {
+    match config(rt.alloc()) {
+        Err(error) if is_refusal(rt, &error) => config(rt.alloc()),
+        answer => answer,
+    }
+}
+
+/// A writer that was begun, which is begun again after a refusal.
+fn start_again(rt: &HostRuntime, config: &Mp4Config) -> Result<Mp4Writer> {
+    match Mp4Writer::write_start(rt.alloc(), Vec::new(rt.alloc()), config) {
+        Err(error) if is_refusal(rt, &error) => {
+            Mp4Writer::write_start(rt.alloc(), Vec::new(rt.alloc()), config)
+        }
+        answer => answer,
+    }
+}
+
+#[test]
+fn a_refused_end_leaves_the_writer(rt: HostRuntime) -> Result<()> {
+    let config = config_again(&rt)?;
+    assert!(rt; copy_again(&rt, &config)? == config);
+    let mut writer = start_again(&rt, &config)?;
+    if let Err(error) = writer.write_end() {
+        assert!(rt; is_refusal(&rt, &error));
+        writer.write_end()?;
+    }
+    assert_eq!(rt; writer.write_end(), Err(Error::Ended));
+    assert!(rt; writer.into_writer().as_slice() == EMPTY_MOVIE.as_slice());
+    Ok(())
+}
+
+#[test]
+fn a_refused_end_leaves_the_bytes(rt: HostRuntime) -> Result<()> {
+    let config = config_again(&rt)?;
+    let mut writer = start_again(&rt, &config)?;
+    if let Err(error) = writer.write_end() {
+        assert!(rt; is_refusal(&rt, &error));
+        let begun = writer.into_writer();
+        let mut expected = (&EMPTY_MOVIE[..32]).to_vec(rt.alloc())?;
+        expected.extend_from_slice(b"\0\0\0\x08mdat\0\0\0\x08wide")?;
+        assert!(rt; begun == expected);
+    }
+    Ok(())
+}
+
+#[test]
+fn a_refused_opening_is_made_again(rt: HostRuntime) -> Result<()> {
+    let movie = match read_mp4(rt.alloc(), &EMPTY_MOVIE) {
+        Err(error) if is_refusal(&rt, &error) => read_mp4(rt.alloc(), &EMPTY_MOVIE)?,
+        answer => answer?,
+    };
+    assert_eq!(rt; movie.size(), 164);
+    Ok(())
+}
