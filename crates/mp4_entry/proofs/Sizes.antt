@@ -1,0 +1,1 @@
+-- The lengths of the entries, for the check.

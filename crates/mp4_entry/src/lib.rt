@@ -1,0 +1,3 @@
+//! Sample entries and the boxes inside them: which codec a track's samples have, and what a decoder is started with
+//! (ISO/IEC 14496-12, 8.5.2).
+#![tactic(auto)]
