@@ -75,7 +75,7 @@ pub(crate) fn is_set(flags: u32, flag: u32) -> bool
 
 /// The next number where its flag is set, else nothing.
 #[tactic(auto, unfolding(crate::specs::Optional::optional_at))]
-pub(crate) fn read_optional<T: Number>(
+pub(crate) fn read_flagged<T: Number>(
     fields: &mut Fields,
     flag: u32,
     flags: u32,
@@ -91,7 +91,7 @@ pub(crate) fn read_optional<T: Number>(
 
 /// Adds a number at the end of a buffer, where there is one.
 #[tactic(auto, unfolding(crate::specs::Optional::optional_field))]
-pub(crate) fn put_optional<T: Number>(out: &mut Vec<u8>, field: Option<T>) -> Put
+pub(crate) fn put_flagged<T: Number>(out: &mut Vec<u8>, field: Option<T>) -> Put
     ensures { OnOk result (Appends out.old.items out.new.items (optional_field T.spelled field)) }
 {
     match field {
@@ -113,7 +113,7 @@ pub(crate) fn how_many<T>(field: &Option<T>) -> u64
 
 /// Whether a field is there just where its flag is set; else it is `InvalidData`.
 #[tactic(auto, unfolding(crate::specs::Optional::flag_refusal))]
-pub(crate) fn check_optional<T>(flag: u32, flags: u32, field: &Option<T>) -> Result<()>
+pub(crate) fn check_flagged<T>(flag: u32, flags: u32, field: &Option<T>) -> Result<()>
     ensures { Checks result (flag_refusal flag flags field.now) }
 {
     match field {

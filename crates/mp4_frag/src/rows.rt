@@ -7,7 +7,7 @@ ghost use Rattle.mp4_codec.specs.Cause.{Answers, Checks, Gives, Refuses};
 ghost use Rattle.mp4_codec.specs.Bytes.{Appends, list_at, count_cause};
 ghost use Rattle.mp4_frag.specs.Rows.{row_at, row, field_length, row_length, with_row, no_columns, columns_after, columns_at, column_refusal};
 
-use crate::optional::{is_set, put_optional, read_optional};
+use crate::optional::{is_set, put_flagged, read_flagged};
 use mp4_codec::{Error, Fields, Items, Put, Result};
 use std::alloc::{AllocError, Global};
 
@@ -38,10 +38,10 @@ impl Row {
     fn read(fields: &mut Fields, flags: u32) -> Result<Row>
         ensures { Gives (λ x. (x, fields.new)) result (row_at flags fields.old) }
     {
-        let duration = read_optional(fields, DURATIONS, flags)?;
-        let size = read_optional(fields, SIZES, flags)?;
-        let sample_flags = read_optional(fields, SAMPLE_FLAGS, flags)?;
-        let cts = read_optional(fields, COMPOSITION_OFFSETS, flags)?;
+        let duration = read_flagged(fields, DURATIONS, flags)?;
+        let size = read_flagged(fields, SIZES, flags)?;
+        let sample_flags = read_flagged(fields, SAMPLE_FLAGS, flags)?;
+        let cts = read_flagged(fields, COMPOSITION_OFFSETS, flags)?;
         Ok(Row {
             duration,
             size,
@@ -54,10 +54,10 @@ impl Row {
     pub(crate) fn put(self, out: &mut Vec<u8>) -> Put
         ensures { OnOk result (Appends out.old.items out.new.items (row self)) }
     {
-        put_optional(out, self.duration)?;
-        put_optional(out, self.size)?;
-        put_optional(out, self.flags)?;
-        put_optional(out, self.cts)?;
+        put_flagged(out, self.duration)?;
+        put_flagged(out, self.size)?;
+        put_flagged(out, self.flags)?;
+        put_flagged(out, self.cts)?;
         Ok(())
     }
 }

@@ -7,7 +7,7 @@ ghost use Rattle.mp4_codec.specs.Boxes.{size_around};
 ghost use Rattle.mp4_frag.specs.Tfhd.{tfhd_payload, default_tfhd, tfhd_of, tfhd_refusal, IsInRangeTfhd, RemarksTfhd};
 ghost use Rattle.mp4_frag.specs.TfhdLaws.{tfhd_again};
 
-use crate::optional::{check_optional, how_many, put_optional, read_optional};
+use crate::optional::{check_flagged, how_many, put_flagged, read_flagged};
 use mp4_codec::{
     BoxType, Fields, InRange, Mp4Box, Put, ReadBox, Result, TryClone, WriteBox, put_u8, put_u24,
     put_u32,
@@ -138,11 +138,11 @@ impl ReadBox for TfhdBox {
         let version = fields.u8()?;
         let flags = fields.u24()?;
         let track_id = fields.u32()?;
-        let base_data_offset = read_optional(&mut fields, BASE_DATA_OFFSET, flags)?;
-        let sample_description_index = read_optional(&mut fields, SAMPLE_DESCRIPTION_INDEX, flags)?;
-        let default_sample_duration = read_optional(&mut fields, DEFAULT_SAMPLE_DURATION, flags)?;
-        let default_sample_size = read_optional(&mut fields, DEFAULT_SAMPLE_SIZE, flags)?;
-        let default_sample_flags = read_optional(&mut fields, DEFAULT_SAMPLE_FLAGS, flags)?;
+        let base_data_offset = read_flagged(&mut fields, BASE_DATA_OFFSET, flags)?;
+        let sample_description_index = read_flagged(&mut fields, SAMPLE_DESCRIPTION_INDEX, flags)?;
+        let default_sample_duration = read_flagged(&mut fields, DEFAULT_SAMPLE_DURATION, flags)?;
+        let default_sample_size = read_flagged(&mut fields, DEFAULT_SAMPLE_SIZE, flags)?;
+        let default_sample_flags = read_flagged(&mut fields, DEFAULT_SAMPLE_FLAGS, flags)?;
         Ok(TfhdBox {
             version,
             flags,
@@ -166,19 +166,19 @@ impl WriteBox for TfhdBox {
     #[tactic(auto, unfolding(crate::specs::Tfhd::tfhd_refusal))]
     fn check(&self) -> Result<()> {
         let flags = self.flags;
-        check_optional(BASE_DATA_OFFSET, flags, &self.base_data_offset)?;
-        check_optional(
+        check_flagged(BASE_DATA_OFFSET, flags, &self.base_data_offset)?;
+        check_flagged(
             SAMPLE_DESCRIPTION_INDEX,
             flags,
             &self.sample_description_index,
         )?;
-        check_optional(
+        check_flagged(
             DEFAULT_SAMPLE_DURATION,
             flags,
             &self.default_sample_duration,
         )?;
-        check_optional(DEFAULT_SAMPLE_SIZE, flags, &self.default_sample_size)?;
-        check_optional(DEFAULT_SAMPLE_FLAGS, flags, &self.default_sample_flags)?;
+        check_flagged(DEFAULT_SAMPLE_SIZE, flags, &self.default_sample_size)?;
+        check_flagged(DEFAULT_SAMPLE_FLAGS, flags, &self.default_sample_flags)?;
         Ok(())
     }
 
@@ -186,11 +186,11 @@ impl WriteBox for TfhdBox {
         put_u8(out, self.version)?;
         put_u24(out, self.flags)?;
         put_u32(out, self.track_id)?;
-        put_optional(out, self.base_data_offset)?;
-        put_optional(out, self.sample_description_index)?;
-        put_optional(out, self.default_sample_duration)?;
-        put_optional(out, self.default_sample_size)?;
-        put_optional(out, self.default_sample_flags)?;
+        put_flagged(out, self.base_data_offset)?;
+        put_flagged(out, self.sample_description_index)?;
+        put_flagged(out, self.default_sample_duration)?;
+        put_flagged(out, self.default_sample_size)?;
+        put_flagged(out, self.default_sample_flags)?;
         Ok(())
     }
 }

@@ -10,7 +10,7 @@ ghost use Rattle.mp4_frag.specs.Rows.{row, rows, row_of, longest};
 ghost use Rattle.mp4_frag.specs.Trun.{trun_payload, columns_of, ListsNothing, default_trun, trun_of, trun_refusal, IsInRangeTrun, RemarksTrun};
 ghost use Rattle.mp4_frag.specs.TrunLaws.{members, trun_again};
 
-use crate::optional::{check_optional, how_many, put_optional, read_optional};
+use crate::optional::{check_flagged, how_many, put_flagged, read_flagged};
 use crate::rows::{
     COMPOSITION_OFFSETS, Columns, DURATIONS, Row, SAMPLE_FLAGS, SIZES, check_column,
 };
@@ -188,8 +188,8 @@ impl ReadBox for TrunBox {
         let version = fields.u8()?;
         let flags = fields.u24()?;
         let sample_count = fields.u32()?;
-        let data_offset = read_optional(&mut fields, DATA_OFFSET, flags)?;
-        let first_sample_flags = read_optional(&mut fields, FIRST_SAMPLE_FLAGS, flags)?;
+        let data_offset = read_flagged(&mut fields, DATA_OFFSET, flags)?;
+        let first_sample_flags = read_flagged(&mut fields, FIRST_SAMPLE_FLAGS, flags)?;
         let samples = Columns::read(alloc, &mut fields, flags, sample_count)?;
         let Columns {
             durations,
@@ -221,8 +221,8 @@ impl WriteBox for TrunBox {
     #[tactic(auto, unfolding(crate::specs::Trun::trun_refusal))]
     fn check(&self) -> Result<()> {
         let (flags, count) = (self.flags, self.sample_count);
-        check_optional(DATA_OFFSET, flags, &self.data_offset)?;
-        check_optional(FIRST_SAMPLE_FLAGS, flags, &self.first_sample_flags)?;
+        check_flagged(DATA_OFFSET, flags, &self.data_offset)?;
+        check_flagged(FIRST_SAMPLE_FLAGS, flags, &self.first_sample_flags)?;
         check_column(DURATIONS, flags, count, &self.sample_durations)?;
         check_column(SIZES, flags, count, &self.sample_sizes)?;
         check_column(SAMPLE_FLAGS, flags, count, &self.sample_flags)?;
@@ -234,8 +234,8 @@ impl WriteBox for TrunBox {
         put_u8(out, self.version)?;
         put_u24(out, self.flags)?;
         put_u32(out, self.sample_count)?;
-        put_optional(out, self.data_offset)?;
-        put_optional(out, self.first_sample_flags)?;
+        put_flagged(out, self.data_offset)?;
+        put_flagged(out, self.first_sample_flags)?;
         self.put_rows(out)?;
         Ok(())
     }

@@ -5,7 +5,7 @@ mod opening;
 mod reader;
 mod writer;
 
-pub use mp4_boxes::MoovBox;
+// Framing, and what boxes are made with.
 pub use mp4_codec::{
     BoxHeader, BoxType, ByteCursor, Child, Children, Entry, Error, Fields, FourCC, Gather,
     HEADER_EXT_SIZE, HEADER_SIZE, InRange, Items, Key, KeyedItems, Limit, Mp4Box, OPEN_END, Put,
@@ -16,17 +16,22 @@ pub use mp4_codec::{
     put_optional, put_u8, put_u16, put_u24, put_u32, put_u64, put_versioned, put_zeros,
     refused_head_says_why, what_is_written_reads_back,
 };
+
+// Leaf boxes and sample tables.
 pub use mp4_frag::{EmsgBox, MehdBox, MfhdBox, TfdtBox, TfhdBox, TrexBox, TrunBox};
 pub use mp4_leaf::{
     DataBox, DataType, DinfBox, DrefBox, ElstBox, ElstEntry, FixedPointI8, FixedPointU8,
     FixedPointU16, FtypBox, HdlrBox, Matrix, MdhdBox, MvhdBox, RgbColor, SmhdBox, TkhdBox, UrlBox,
     VmhdBox, check_language,
 };
-pub use mp4_lookup::time_of;
-pub use mp4_mux::{Mp4Config, mdat_header};
 pub use mp4_table::{
     Co64Box, CttsBox, CttsEntry, StcoBox, StscBox, StscEntry, StssBox, StszBox, SttsBox, SttsEntry,
     entries_are_no_fewer_than_turns, entries_have_first_samples, runs_are_no_fewer_than_turns,
 };
+
+// Movies.
+pub use mp4_boxes::MoovBox;
+pub use mp4_lookup::time_of;
+pub use mp4_mux::{Mp4Config, mdat_header};
 pub use reader::{Mp4Reader, read_mp4};
 pub use writer::Mp4Writer;

@@ -6,7 +6,7 @@ ghost use Rattle.mp4_mux.specs.Mdat.{mdat_header_of};
 /// The bytes of mdat's header and of the empty `wide` box behind it.
 pub(crate) const MDAT_HEADER_SIZE: usize = 16;
 
-/// The 16 bytes that begin a written mdat of n bytes, these 16 and all (ISO/IEC 14496-12, 8.1.1).
+/// The 16 bytes that begin a written mdat of n bytes, these 16 included (ISO/IEC 14496-12, 8.1.1).
 ///
 /// Up to 2^32 - 1 it is a header of 8 bytes and then an empty `wide` box, which leaves room for the
 /// largesize; above, it is a header with a largesize.

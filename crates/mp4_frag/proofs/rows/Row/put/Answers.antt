@@ -5,7 +5,7 @@ use Rattle.mp4_frag.proofs.rows.Row.put.Goals as goal
 pub returns : goal.returns
 unfolding row
 returns c =
-    c.in_ok-put_optional.ensures
-    then c.in_ok-put_optional-2.ensures
-    then c.in_ok-put_optional-3.ensures
-    then c.in_ok-put_optional-4.ensures
+    c.in_ok-put_flagged.ensures
+    then c.in_ok-put_flagged-2.ensures
+    then c.in_ok-put_flagged-3.ensures
+    then c.in_ok-put_flagged-4.ensures

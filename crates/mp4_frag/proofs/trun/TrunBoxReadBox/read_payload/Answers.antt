@@ -36,8 +36,8 @@ returns-in_err-samples-clause-nothing c = λ h.
     rw c.new-fields.ensures at c.in_ok-version.ensures in
     let none = no_rows c.args.payload.now c.u8.new.self c.u24.new.self c.in_ok-version.version c.in_ok-flags.flags
     version c.in_ok-flags.ensures h in
-    rw (p.1, p.2) (refused c.args.payload.now c.u8.new.self c.u24.new.self c.u32.new.self c.read_optional.new.fields
-    c.read_optional-2.new.fields c.in_ok-version.version c.in_ok-flags.flags c.in_ok-sample_count.sample_count
+    rw (p.1, p.2) (refused c.args.payload.now c.u8.new.self c.u24.new.self c.u32.new.self c.read_flagged.new.fields
+    c.read_flagged-2.new.fields c.in_ok-version.version c.in_ok-flags.flags c.in_ok-sample_count.sample_count
     c.in_ok-data_offset.data_offset c.in_ok-first_sample_flags.first_sample_flags
     (cause_of c.in_err-samples.field-0.0) version c.in_ok-flags.ensures c.in_ok-sample_count.ensures
     c.in_ok-data_offset.ensures c.in_ok-first_sample_flags.ensures (c.in_err-samples.ensures.nothing none))

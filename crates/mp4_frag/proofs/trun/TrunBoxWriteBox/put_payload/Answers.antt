@@ -8,6 +8,6 @@ returns c =
     c.in_ok-put_u8.ensures
     then c.in_ok-put_u24.ensures
     then c.in_ok-put_u32.ensures
-    then c.in_ok-put_optional.ensures
-    then c.in_ok-put_optional-2.ensures
+    then c.in_ok-put_flagged.ensures
+    then c.in_ok-put_flagged-2.ensures
     then c.in_ok-put_rows.ensures
