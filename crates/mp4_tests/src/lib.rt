@@ -59,6 +59,8 @@ mod refused_memory;
 #[cfg(test)]
 mod sample_boxes;
 #[cfg(test)]
+mod sample_descriptions;
+#[cfg(test)]
 mod samples;
 #[cfg(test)]
 mod sides;

@@ -13,6 +13,7 @@ use mp4_codec::{
     put_four_cc, put_i16, put_i32, put_list, put_optional, put_u8, put_u16, put_u24, put_u32,
     put_u64, put_versioned, put_zeros,
 };
+use mp4_entry::{HevcConfig, MediaConfig, StsdBox};
 use mp4_frag::{EmsgBox, MehdBox, MfhdBox, TfdtBox, TfhdBox, TrexBox, TrunBox};
 use mp4_leaf::{
     DataBox, DinfBox, ElstBox, FtypBox, HdlrBox, MdhdBox, MvhdBox, SmhdBox, TkhdBox, VmhdBox,
@@ -101,6 +102,21 @@ const TRUN: [u8; 40] =
     *b"\0\0\0\x28trun\0\0\x0f\x05\0\0\0\x01\xff\xff\xff\xfe\x02\0\0\0\0\0\0\x11\0\0\0\x21\0\0\0\x31\0\0\0\x41";
 
 const EMSG: [u8; 35] = *b"\0\0\0\x23emsg\0\0\0\0a\0bc\0\0\0\0\x01\0\0\0\x02\0\0\0\x03\0\0\0\x04de";
+
+const AVC1_DESCRIPTION: [u8; 129] =
+    *b"\0\0\0\x81stsd\0\0\0\0\0\0\0\x01\0\0\0qavc1\0\0\0\0\0\0\0\x01\0\0\0\0\0\0\0\0\0\0\0\0\0\0\0\0\x01@\0\xf0\0H\0\0\0H\0\0\0\0\0\0\0\x01\0\0\0\0\0\0\0\0\0\0\0\0\0\0\0\0\0\0\0\0\0\0\0\0\0\0\0\0\0\0\0\0\0\x18\xff\xff\0\0\0\x1bavcC\x01B\xc0\x1e\xff\xe1\0\x04gB\xc0\x1e\x01\0\x04h\xce<\x80";
+
+const HEV1_DESCRIPTION: [u8; 133] =
+    *b"\0\0\0\x85stsd\0\0\0\0\0\0\0\x01\0\0\0uhev1\0\0\0\0\0\0\0\x01\0\0\0\0\0\0\0\0\0\0\0\0\0\0\0\0\x01@\0\xf0\0H\0\0\0H\0\0\0\0\0\0\0\x01\0\0\0\0\0\0\0\0\0\0\0\0\0\0\0\0\0\0\0\0\0\0\0\0\0\0\0\0\0\0\0\0\0\x18\xff\xff\0\0\0\x1fhvcC\x01\0\0\0\0\0\0\0\0\0\0\0\0\0\0\0\0\0\0\0\0\0\0";
+
+const VP09_DESCRIPTION: [u8; 122] =
+    *b"\0\0\0zstsd\0\0\0\0\0\0\0\x01\0\0\0jvp09\0\0\0\0\0\0\0\x01\0\0\0\0\0\0\0\0\0\0\0\0\0\0\0\0\x01@\0\xf0\0H\0\0\0H\0\0\0\0\0\0\0\x01\0\0\0\0\0\0\0\0\0\0\0\0\0\0\0\0\0\0\0\0\0\0\0\0\0\0\0\0\0\0\0\0\0\x18\xff\xff\0\0\0\x14vpcC\x01\0\0\0\0\x1f\x80\0\0\0\0\0";
+
+const MP4A_DESCRIPTION: [u8; 91] =
+    *b"\0\0\0[stsd\0\0\0\0\0\0\0\x01\0\0\0Kmp4a\0\0\0\0\0\0\0\x01\0\0\0\0\0\0\0\0\0\x02\0\x10\0\0\0\0\xbb\x80\0\0\0\0\0'esds\0\0\0\0\x03\x19\0\x01\0\x04\x11@\x15\0\0\0\0\x01\xf4\0\0\x01\xf4\0\x05\x02\x11\x90\x06\x01\x02";
+
+const TX3G_DESCRIPTION: [u8; 62] =
+    *b"\0\0\0>stsd\0\0\0\0\0\0\0\x01\0\0\0.tx3g\0\0\0\0\0\0\0\x01\0\0\0\0\x01\xff\0\0\0\xff\0\0\0\0\0\0\0\0\0\0\0\0\0\x01\0\x10\xff\xff\xff\xff";
 
 const FREE: [u8; 12] = *b"\0\0\0\x0cfree\0\0\0\x02";
 
@@ -204,6 +220,42 @@ fn a_refused_call_of_a_run_is_made_again(rt: HostRuntime) -> Result<()> {
 #[test]
 fn a_refused_call_of_an_event_message_is_made_again(rt: HostRuntime) -> Result<()> {
     assert!(rt; is_kept::<EmsgBox>(&rt, &EMSG)?);
+    Ok(())
+}
+
+#[test]
+fn a_refused_call_of_a_description_of_video_is_made_again(rt: HostRuntime) -> Result<()> {
+    assert!(rt; is_kept::<StsdBox>(&rt, &AVC1_DESCRIPTION)?);
+    assert!(rt; is_kept::<StsdBox>(&rt, &HEV1_DESCRIPTION)?);
+    assert!(rt; is_kept::<StsdBox>(&rt, &VP09_DESCRIPTION)?);
+    Ok(())
+}
+
+#[test]
+fn a_refused_call_of_a_description_of_sound_or_text_is_made_again(rt: HostRuntime) -> Result<()> {
+    assert!(rt; is_kept::<StsdBox>(&rt, &MP4A_DESCRIPTION)?);
+    assert!(rt; is_kept::<StsdBox>(&rt, &TX3G_DESCRIPTION)?);
+    Ok(())
+}
+
+/// The description of a configuration, which is made again after a refusal.
+fn description_again(rt: &HostRuntime, config: &MediaConfig) -> Result<StsdBox> {
+    match StsdBox::new(rt.alloc(), config) {
+        Err(error) if is_refusal(rt, &error) => StsdBox::new(rt.alloc(), config),
+        answer => answer,
+    }
+}
+
+#[test]
+fn a_refused_description_of_a_configuration_is_made_again(rt: HostRuntime) -> Result<()> {
+    let config = MediaConfig::HevcConfig(HevcConfig {
+        width: 320,
+        height: 240,
+    });
+    let copy = copy_again(&rt, &config)?;
+    assert!(rt; copy == config);
+    let description = description_again(&rt, &copy)?;
+    assert!(rt; write_again(&rt, &description)?.as_slice() == HEV1_DESCRIPTION.as_slice());
     Ok(())
 }
 
