@@ -11,6 +11,8 @@ mod chunks;
 #[cfg(test)]
 mod codes;
 #[cfg(test)]
+mod configurations;
+#[cfg(test)]
 mod copies;
 #[cfg(test)]
 mod data;
@@ -58,8 +60,6 @@ mod opening;
 mod refused_memory;
 #[cfg(test)]
 mod sample_boxes;
-#[cfg(test)]
-mod sample_descriptions;
 #[cfg(test)]
 mod samples;
 #[cfg(test)]
