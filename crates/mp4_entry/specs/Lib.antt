@@ -1,0 +1,10 @@
+pub mod Numbered
+pub mod TrackType
+pub mod MediaType
+pub mod SampleFreqIndex
+pub mod ChannelConfig
+pub mod AudioObjectType
+pub mod AvcProfile
+pub mod NumberLaws
+pub mod Tx3g
+pub mod Tx3gLaws

@@ -9,6 +9,8 @@ mod checks;
 #[cfg(test)]
 mod chunks;
 #[cfg(test)]
+mod codec_types;
+#[cfg(test)]
 mod codes;
 #[cfg(test)]
 mod copies;
