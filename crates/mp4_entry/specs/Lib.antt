@@ -8,3 +8,5 @@ pub mod AvcProfile
 pub mod NumberLaws
 pub mod Tx3g
 pub mod Tx3gLaws
+pub mod Stsd
+pub mod StsdLaws

@@ -1,7 +1,6 @@
 -- What is named by a number is what that number names.
 use Rattle.std.proofs.Common.{◌≡◌, ℕ, Bool, true, false, cond, eqb, ltb, List, [], ◌∷◌, Result, Ok, Err, refl, ◌<◌, arith}
 use Rattle.std.proofs.lemmas.Bool.{eqb-true, le-ltb}
-use Rattle.std.proofs.lemmas.Nat.{from_be_bytes-to_be_bytes_4}
 use Rattle.mp4_codec.specs.Bytes.{coded}
 use Rattle.mp4_codec.specs.Cause.{Cause, invalid_data}
 use Rattle.mp4_codec.specs.Steps.{ok_is}
@@ -23,9 +22,9 @@ use Rattle.mp4_entry.specs.ChannelConfig.{channel_number, channel_config_of, cha
 use Rattle.mp4_entry.specs.AudioObjectType.{IsObjectType, object_type_of}
 
 pub track_type_again : (t : TrackType) → track_type_of (coded (handler_number t)) ≡ Ok t
-track_type_again Video = rw (from_be_bytes-to_be_bytes_4 0x76696465 (omega arith)) refl
-track_type_again Audio = rw (from_be_bytes-to_be_bytes_4 0x736f756e (omega arith)) refl
-track_type_again Subtitle = rw (from_be_bytes-to_be_bytes_4 0x7362746c (omega arith)) refl
+track_type_again Video = refl
+track_type_again Audio = refl
+track_type_again Subtitle = refl
 
 pub freq_index_again : (index : SampleFreqIndex) → freq_index_of (freq_number index) ≡ Ok index
 freq_index_again Freq96000 = refl
@@ -66,11 +65,13 @@ object_type_again n valid = chosen (eqb n 0) (eqb-true n 0) (eqb n 31) (eqb-true
 pub numbered-is : {A : Type 0} (number : A → ℕ) (xs : List A) (n : ℕ) (x : A) → numbered number xs n ≡ Ok x
     → n ≡ number x
 numbered-is number [] n x e = absurd cc
-numbered-is {A} number (y ∷ ys) n x e = chosen (eqb n (number y)) (eqb-true n (number y)) e
+numbered-is {A} number (y ∷ ys) n x e =
+    chosen (eqb n (number y)) (eqb-true n (number y)) (numbered number ys n) (λ later. numbered-is number ys n x later) e
   where
-    chosen : (b : Bool) → (b ≡ true → n ≡ number y) → cond b (Ok y) (numbered number ys n) ≡ Ok x → n ≡ number x
-    chosen true h e = let same : y ≡ x = ok_is y x e in rw (← same) (h refl)
-    chosen false h e = numbered-is number ys n x e
+    chosen : (b : Bool) → (b ≡ true → n ≡ number y) → (others : Result A Cause) → (others ≡ Ok x → n ≡ number x)
+        → cond b (Ok y) others ≡ Ok x → n ≡ number x
+    chosen true h others k e = let same : y ≡ x = ok_is y x e in rw (← same) (h refl)
+    chosen false h others k e = k e
 
 pub freq_number-is : (n : ℕ) (index : SampleFreqIndex) → freq_index_of n ≡ Ok index → n ≡ freq_number index
 freq_number-is n index e = numbered-is freq_number freq_indices n index e

@@ -8,6 +8,7 @@ mod channel_config;
 mod laws;
 mod media_type;
 mod sample_freq_index;
+mod stsd;
 mod track_type;
 mod tx3g;
 
@@ -17,5 +18,6 @@ pub use channel_config::ChannelConfig;
 pub use laws::{numbers_have_one_value, values_have_their_numbers};
 pub use media_type::MediaType;
 pub use sample_freq_index::SampleFreqIndex;
+pub use stsd::StsdBox;
 pub use track_type::TrackType;
 pub use tx3g::{TtxtConfig, Tx3gBox};
