@@ -17,6 +17,20 @@ use std::alloc::Global;
 #[derive(Clone, Copy, Debug, PartialEq, Eq)]
 pub struct TtxtConfig {}
 
+impl TryClone for TtxtConfig {
+    fn try_clone(&self) -> Result<Self>
+        ensures { Gives (λ x. x) result (Ok self.now) }
+    {
+        Ok(*self)
+    }
+}
+
+impl InRange for TtxtConfig {
+    ghost IsInRange = { λ config. Unit {0} };
+
+    fn in_range(&self) {}
+}
+
 /// The sample entry of timed text, `tx3g` (3GPP TS 26.245, 5.16).
 ///
 /// What follows the 30 bytes, as a table of fonts, is skipped.
