@@ -1,11 +1,12 @@
 //! The types of tracks, of coded media and of sound, and the entry of timed text.
 
 use crate::spelled::{is_spelled, needs, read};
-use mp4_codec::{BoxType, Error, FourCC, Result};
+use mp4_codec::{BoxType, Error, FourCC, Items, Result, TryClone};
 use mp4_entry::{
-    AudioObjectType, AvcProfile, ChannelConfig, MediaType, SampleFreqIndex, TrackType, TtxtConfig,
-    Tx3gBox,
+    AacConfig, AudioObjectType, AvcConfig, AvcProfile, ChannelConfig, HevcConfig, MediaConfig,
+    MediaType, SampleFreqIndex, TrackType, TtxtConfig, Tx3gBox, Vp9Config,
 };
+use std::alloc::Global;
 use std::test::Fail;
 
 #[test]
@@ -165,5 +166,82 @@ fn an_entry_of_text_keeps_its_30_bytes(rt: HostRuntime) -> Result<()> {
     let followed = "00000030 74783367 ffffffffffff 0203 \
         80000000 0200 00000000 0000000000000000 00000000 00000000 0000007f abcd";
     assert!(rt; read::<Tx3gBox>(rt.alloc(), followed)? == leaf);
+    Ok(())
+}
+
+/// AVC video with parameter sets of these lengths.
+fn avc(alloc: Global, sequence: usize, picture: usize) -> Result<MediaConfig> {
+    Ok(MediaConfig::AvcConfig(AvcConfig {
+        width: 320,
+        height: 240,
+        seq_param_set: Items::from(vec![in alloc; 0x67u8; sequence]?),
+        pic_param_set: Items::from(vec![in alloc; 0x68u8; picture]?),
+    }))
+}
+
+/// Stereo sound of this type.
+fn aac(number: u8) -> Result<MediaConfig> {
+    Ok(MediaConfig::AacConfig(AacConfig {
+        bitrate: 128_000,
+        profile: AudioObjectType::try_from(number)?,
+        freq_index: SampleFreqIndex::Freq48000,
+        chan_conf: ChannelConfig::Stereo,
+    }))
+}
+
+/// Whether a configuration is refused for what has no spelling.
+fn has_no_spelling(config: &MediaConfig) -> bool {
+    matches!(config.check(), Err(Error::Unrepresentable(_)))
+}
+
+#[test]
+fn parameter_sets_have_a_spelling_of_4_to_65535_bytes(rt: HostRuntime) -> Result<()> {
+    for (sequence, picture) in [(4, 0), (5, 4), (65_535, 65_535)] {
+        assert_eq!(rt; avc(rt.alloc(), sequence, picture)?.check(), Ok(()));
+    }
+    for (sequence, picture) in [(0, 0), (3, 4), (65_536, 4), (4, 65_536), (3, 65_536)] {
+        assert!(rt;
+            has_no_spelling(&avc(rt.alloc(), sequence, picture)?),
+            "{sequence} {picture}"
+        );
+    }
+    Ok(())
+}
+
+#[test]
+fn sound_of_type_1_to_30_has_a_spelling(rt: HostRuntime) -> Result<()> {
+    for number in [1, 2, 30] {
+        assert_eq!(rt; aac(number)?.check(), Ok(()));
+    }
+    for number in [32, 95] {
+        assert!(rt; has_no_spelling(&aac(number)?), "{number}");
+    }
+    Ok(())
+}
+
+#[test]
+fn a_configuration_is_for_a_kind_of_track(rt: HostRuntime) -> Result<()> {
+    let hevc = MediaConfig::HevcConfig(HevcConfig {
+        width: 0,
+        height: 0,
+    });
+    let vp9 = MediaConfig::Vp9Config(Vp9Config {
+        width: 0,
+        height: 0,
+    });
+    let text = MediaConfig::TtxtConfig(TtxtConfig {});
+    let rows = [
+        (avc(rt.alloc(), 4, 0)?, TrackType::Video, MediaType::H264),
+        (hevc, TrackType::Video, MediaType::H265),
+        (vp9, TrackType::Video, MediaType::VP9),
+        (aac(2)?, TrackType::Audio, MediaType::AAC),
+        (text, TrackType::Subtitle, MediaType::TTXT),
+    ];
+    for (config, track_type, media_type) in &rows {
+        assert_eq!(rt; config.track_type(), *track_type);
+        assert_eq!(rt; config.media_type(), *media_type);
+        assert_eq!(rt; config.check(), Ok(()));
+        assert!(rt; config.try_clone()? == *config);
+    }
     Ok(())
 }

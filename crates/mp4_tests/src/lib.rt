@@ -67,6 +67,8 @@ mod sides;
 #[cfg(test)]
 mod spelled;
 #[cfg(test)]
+mod stsd;
+#[cfg(test)]
 mod taste;
 #[cfg(test)]
 mod tfhd;
