@@ -1,0 +1,14 @@
+pub mod Visual
+pub mod VisualLaws
+pub mod Avcc
+pub mod AvccLaws
+pub mod Avc1
+pub mod Avc1Laws
+pub mod Hvcc
+pub mod HvccLaws
+pub mod Hev1
+pub mod Hev1Laws
+pub mod Vpcc
+pub mod VpccLaws
+pub mod Vp09
+pub mod Vp09Laws
