@@ -1,5 +1,5 @@
 -- The types of coded sound, by their numbers (ISO/IEC 14496-3, 1.5.1).
-use Rattle.std.specs.Prelude.{◌≡◌, ◌<◌, ◌≤◌, ◌≢◌, ℕ, Result, Ok, Err, nat_lt, ◌==◌, if◌then◌else◌}
+use Rattle.std.specs.Prelude.{◌≤◌, ◌≢◌, ℕ, Result, Ok, Err, nat_lt, ◌==◌, if◌then◌else◌}
 use Rattle.mp4_codec.specs.Cause.{Cause, invalid_data}
 
 -- the numbers of types; 31 is the escape for those above it

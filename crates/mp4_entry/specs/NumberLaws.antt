@@ -1,5 +1,5 @@
 -- What is named by a number is what that number names.
-use Rattle.std.proofs.Common.{◌≡◌, ℕ, Bool, true, false, cond, eqb, ltb, List, [], ◌∷◌, Result, Ok, Err, refl, ◌<◌, arith}
+use Rattle.std.proofs.Common.{◌≡◌, ℕ, Bool, true, false, cond, eqb, ltb, List, [], ◌∷◌, Result, Ok, Err, refl, arith}
 use Rattle.std.proofs.lemmas.Bool.{eqb-true, le-ltb}
 use Rattle.mp4_codec.specs.Bytes.{coded}
 use Rattle.mp4_codec.specs.Cause.{Cause, invalid_data}

@@ -4,7 +4,7 @@ use Rattle.mp4_codec.specs.Bytes.{bytes_at}
 use Rattle.mp4_codec.specs.FieldLaws.{number_again, zeros_again, bytes_again, then_nothing, length-number, length-zeros}
 use Rattle.mp4_codec.specs.FieldLaws.{length-then}
 use Rattle.mp4_entry.specs.declared.tx3g.Tx3gBox.{Tx3gBox}
-use Rattle.mp4_entry.specs.Tx3g.{tx3g_of, tx3g_payload, IsInRangeTx3g, IsCanonicalTx3g}
+use Rattle.mp4_entry.specs.Tx3g.{tx3g_of, tx3g_payload, IsCanonicalTx3g}
 
 pub length-tx3g_payload : (b : Tx3gBox) → length (tx3g_payload b) ≡ 8 + length b.raw
 unfolding tx3g_payload

@@ -6,10 +6,14 @@ ghost use Rattle.mp4_codec.specs.Boxes.{size_around};
 ghost use Rattle.mp4_codec.specs.Bytes.{Appends};
 ghost use Rattle.mp4_codec.specs.Cause.{Answers, Checks, Gives, seen};
 ghost use Rattle.mp4_codec.specs.Children.{child_box};
-ghost use Rattle.mp4_entry.specs.Stsd.{stsd_payload, default_stsd, stsd_of, stsd_refusal, IsInRangeStsd, RemarksStsd, first_entry, with_entry, entry_of, entry_bytes, entry_count, no_entry};
+ghost use Rattle.mp4_entry.specs.Stsd.{stsd_payload, default_stsd, stsd_of, stsd_of_config, stsd_refusal, IsInRangeStsd, RemarksStsd, first_entry, with_entry, entry_of, entry_bytes, entry_count, no_entry};
 ghost use Rattle.mp4_entry.specs.StsdLaws.{stsd_again};
 
+use crate::avc1::Avc1Box;
+use crate::config::MediaConfig;
+use crate::hev1::Hev1Box;
 use crate::tx3g::Tx3gBox;
+use crate::vp09::Vp09Box;
 use mp4_codec::{
     BoxType, Child, Children, Fields, InRange, Mp4Box, Put, ReadBox, Result, TryClone, WriteBox,
     put_u8, put_u24, put_u32,
@@ -28,6 +32,12 @@ pub struct StsdBox {
     pub version: u8,
     /// The low 24 bits are written.
     pub flags: u32,
+    /// AVC video.
+    pub avc1: Option<Avc1Box>,
+    /// HEVC video.
+    pub hev1: Option<Hev1Box>,
+    /// VP9 video.
+    pub vp09: Option<Vp09Box>,
     /// Timed text.
     pub tx3g: Option<Tx3gBox>,
 }
@@ -38,6 +48,31 @@ impl StsdBox {
         ensures { Gives (λ b. b) result (Ok default_stsd) }
     {
         Ok(Self::without_entry(0, 0))
+    }
+
+    /// The description of a track that is begun with this configuration: version and flags 0, and its entry.
+    pub fn new(alloc: Global, config: &MediaConfig) -> Result<Self>
+        ensures { Answers (λ b. b) result (Ok (stsd_of_config config.now)) }
+    {
+        let mut description = Self::without_entry(0, 0);
+        match config {
+            MediaConfig::AvcConfig(config) => {
+                description.avc1 = Some(Avc1Box::new(alloc, config)?);
+                Ok(description)
+            }
+            MediaConfig::HevcConfig(config) => {
+                description.hev1 = Some(Hev1Box::new(alloc, config)?);
+                Ok(description)
+            }
+            MediaConfig::Vp9Config(config) => {
+                description.vp09 = Some(Vp09Box::new(alloc, config)?);
+                Ok(description)
+            }
+            MediaConfig::TtxtConfig(config) => {
+                description.tx3g = Some(Tx3gBox::new(config));
+                Ok(description)
+            }
+        }
     }
 
     /// `stsd`.
@@ -62,6 +97,9 @@ impl StsdBox {
         StsdBox {
             version,
             flags,
+            avc1: None,
+            hev1: None,
+            vp09: None,
             tx3g: None,
         }
     }
@@ -73,6 +111,18 @@ impl StsdBox {
     {
         let mut description = Self::without_entry(version, flags);
         let code = u32::from(child.name);
+        if code == u32::from(BoxType::Avc1Box) {
+            description.avc1 = Some(Avc1Box::read_payload(alloc, child.payload)?);
+            return Ok(description);
+        }
+        if code == u32::from(BoxType::Hev1Box) {
+            description.hev1 = Some(Hev1Box::read_payload(alloc, child.payload)?);
+            return Ok(description);
+        }
+        if code == u32::from(BoxType::Vp09Box) {
+            description.vp09 = Some(Vp09Box::read_payload(alloc, child.payload)?);
+            return Ok(description);
+        }
         if code == u32::from(BoxType::Tx3gBox) {
             description.tx3g = Some(Tx3gBox::read_payload(alloc, child.payload)?);
             return Ok(description);
@@ -84,6 +134,15 @@ impl StsdBox {
     fn count(&self) -> u32
         ensures { result ≡ entry_count (first_entry self.now) }
     {
+        if self.avc1.is_some() {
+            return 1;
+        }
+        if self.hev1.is_some() {
+            return 1;
+        }
+        if self.vp09.is_some() {
+            return 1;
+        }
         if self.tx3g.is_some() {
             return 1;
         }
@@ -91,10 +150,19 @@ impl StsdBox {
     }
 
     /// The bytes of the entry that is written; they stop at 2^64 - 1.
-    #[tactic(auto, using(crate::proofs::Sizes::sizes))]
+    #[tactic(auto, using(crate::proofs::Sizes::frames))]
     fn entry_size(&self) -> u64
         ensures { result ≡ min (length (entry_bytes (first_entry self.now))) (2 ^ 64 - 1) }
     {
+        if let Some(entry) = &self.avc1 {
+            return entry.box_size();
+        }
+        if let Some(entry) = &self.hev1 {
+            return entry.box_size();
+        }
+        if let Some(entry) = &self.vp09 {
+            return entry.box_size();
+        }
         if let Some(entry) = &self.tx3g {
             return entry.box_size();
         }
@@ -105,6 +173,15 @@ impl StsdBox {
     fn check_entry(&self) -> Result<()>
         ensures { Checks result (stsd_refusal self.now) }
     {
+        if let Some(entry) = &self.avc1 {
+            return entry.check();
+        }
+        if let Some(entry) = &self.hev1 {
+            return entry.check();
+        }
+        if let Some(entry) = &self.vp09 {
+            return entry.check();
+        }
         if let Some(entry) = &self.tx3g {
             return entry.check();
         }
@@ -117,6 +194,15 @@ impl StsdBox {
         requires { length (entry_bytes (first_entry self.now)) < 2 ^ 32 }
         ensures { OnOk result (Appends out.old.items out.new.items (entry_bytes (first_entry self.now))) }
     {
+        if let Some(entry) = &self.avc1 {
+            return entry.put_box(out);
+        }
+        if let Some(entry) = &self.hev1 {
+            return entry.put_box(out);
+        }
+        if let Some(entry) = &self.vp09 {
+            return entry.put_box(out);
+        }
         if let Some(entry) = &self.tx3g {
             return entry.put_box(out);
         }
@@ -129,6 +215,9 @@ impl TryClone for StsdBox {
         Ok(StsdBox {
             version: self.version,
             flags: self.flags,
+            avc1: self.avc1.try_clone()?,
+            hev1: self.hev1.try_clone()?,
+            vp09: self.vp09.try_clone()?,
             tx3g: self.tx3g.try_clone()?,
         })
     }
@@ -139,6 +228,9 @@ impl InRange for StsdBox {
 
     fn in_range(&self) {
         self.version.in_range();
+        self.avc1.in_range();
+        self.hev1.in_range();
+        self.vp09.in_range();
         self.tx3g.in_range();
     }
 }
