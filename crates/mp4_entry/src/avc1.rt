@@ -1,6 +1,6 @@
 //! The sample entry of AVC video.
 
-ghost use Rattle.std.specs.Prelude.{◌≡◌, Ok};
+ghost use Rattle.std.specs.Prelude.{◌≡◌, ◌+◌, length, Ok, IfOk};
 ghost use Rattle.mp4_codec.specs.declared.box_type.BoxType.TheVariants.{Avc1Box as avc1};
 ghost use Rattle.mp4_codec.specs.Cause.{Gives, Answers};
 ghost use Rattle.mp4_codec.specs.Boxes.{size_around};
@@ -111,8 +111,10 @@ impl Avc1Box {
 
     /// The entry of a configuration: that of the default, with its width and height, and one parameter set
     /// of each kind, whose bytes 2 to 4 say the profile and the level.
+    #[tactic(auto, using(crate::specs::Avc1Laws::avc1_of_config_size))]
     pub fn new(_alloc: Global, config: &AvcConfig) -> Result<Self>
-        ensures { Answers (λ b. b) result (Ok (avc1_of_config config.now)) }
+        ensures value { Answers (λ b. b) result (Ok (avc1_of_config config.now)) }
+        ensures size { IfOk result (λ b. 8 + length (avc1_payload b) ≡ 105 + length config.now.seq_param_set + length config.now.pic_param_set) }
     {
         let avcc = AvcCBox::of_sets(&config.seq_param_set, &config.pic_param_set)?;
         Ok(Avc1Box::with(Visual::of_size(config.width, config.height), avcc))
