@@ -9,10 +9,11 @@ use Rattle.mp4_codec.specs.FieldLaws.{length-then}
 use Rattle.mp4_codec.specs.WriteLaws.{is_written, write_cause-none}
 use Rattle.mp4_codec.specs.WrittenChildren.{last_child-again}
 use Rattle.mp4_entry.specs.declared.avc1.Avc1Box.{Avc1Box}
+use Rattle.mp4_entry.specs.declared.avc1.AvcConfig.{AvcConfig}
 use Rattle.mp4_entry.specs.VisualLaws.{length-visual, visual_again}
 use Rattle.mp4_entry.specs.Avcc.{avcc_of, avcc_payload}
-use Rattle.mp4_entry.specs.AvccLaws.{avcc_again}
-use Rattle.mp4_entry.specs.Avc1.{visual_of, avc1_of, avc1_payload, avc1_refusal, IsCanonicalAvc1}
+use Rattle.mp4_entry.specs.AvccLaws.{avcc_again, length-avcc_of_sets}
+use Rattle.mp4_entry.specs.Avc1.{visual_of, avc1_of, avc1_payload, avc1_refusal, IsCanonicalAvc1, avc1_of_config}
 
 pub length-avc1_payload : (b : Avc1Box) → length (avc1_payload b) ≡ 86 + length (avcc_payload b.avcc)
 unfolding avc1_payload
@@ -38,3 +39,9 @@ avc1_again b f =
       visual_again (visual_of b) _ f.in_range.visual,
       last_child-again avcc avcc_payload avcc_of (Some b.avcc) avcc_spellable whole (again, tt),
     ) refl
+
+-- the bytes of the entry of a configuration, its header included
+pub avc1_of_config_size : (c : AvcConfig)
+    → 8 + length (avc1_payload (avc1_of_config c)) ≡ 105 + length c.seq_param_set + length c.pic_param_set
+avc1_of_config_size c =
+    omega (arith, length-avc1_payload (avc1_of_config c), length-avcc_of_sets c.seq_param_set c.pic_param_set)

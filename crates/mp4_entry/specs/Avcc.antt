@@ -110,12 +110,12 @@ byte_of set i = unwrap_or (slice_get set i) 0
 
 -- one set of each kind, and the profile, its constraints and the level that the sequence parameter set says
 abbrev pub avcc_of_sets : List ℕ → List ℕ → AvcCBox
-avcc_of_sets seq_param_set pic_param_set = record {
+avcc_of_sets seq_set pic_set = record {
   configuration_version = 1;
-  avc_profile_indication = byte_of seq_param_set 1;
-  profile_compatibility = byte_of seq_param_set 2;
-  avc_level_indication = byte_of seq_param_set 3;
+  avc_profile_indication = byte_of seq_set 1;
+  profile_compatibility = byte_of seq_set 2;
+  avc_level_indication = byte_of seq_set 3;
   length_size_minus_one = 3;
-  sequence_parameter_sets = record { bytes = seq_param_set } ∷ [];
-  picture_parameter_sets = record { bytes = pic_param_set } ∷ [];
+  sequence_parameter_sets = record { bytes = seq_set } ∷ [];
+  picture_parameter_sets = record { bytes = pic_set } ∷ [];
 }

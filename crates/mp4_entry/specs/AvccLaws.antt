@@ -3,6 +3,8 @@ use Rattle.std.proofs.Common.{◌≡◌, ℕ, ◌+◌, ◌≤◌, ◌<◌, ◌^�
 use Rattle.std.proofs.Common.{Some, None, Ok, refl, arith, ◌%◌}
 use Rattle.std.specs.List.{flat_map, AllByRecursion}
 use Rattle.std.proofs.lemmas.Bool.{ltb-false}
+use Rattle.std.proofs.lemmas.List.{append-nil}
+use Rattle.std.proofs.lemmas.List.Concat.{flat_map-cons}
 use Rattle.std.proofs.lemmas.Nat.{mod-mul-add}
 use Rattle.mp4_codec.specs.Cause.{unrepresentable, ◌or◌}
 use Rattle.mp4_codec.specs.Bytes.{ReadsBack, number, ◌⧺◌}
@@ -12,7 +14,8 @@ use Rattle.mp4_codec.specs.Boxes.{all_refusal}
 use Rattle.mp4_codec.specs.WriteLaws.{is_written, or_parts}
 use Rattle.mp4_entry.specs.declared.avcc.NalUnit.{NalUnit}
 use Rattle.mp4_entry.specs.declared.avcc.AvcCBox.{AvcCBox}
-use Rattle.mp4_entry.specs.Avcc.{unit_at, unit, unit_refusal, past, avcc_of, avcc_payload, avcc_refusal, IsCanonicalAvcC}
+use Rattle.mp4_entry.specs.Avcc.{unit_at, unit, unit_refusal, past, avcc_of, avcc_payload, avcc_refusal}
+use Rattle.mp4_entry.specs.Avcc.{IsCanonicalAvcC, avcc_of_sets}
 
 pub length-unit : (u : NalUnit) → length (unit u) ≡ 2 + length u.bytes
 unfolding unit
@@ -22,6 +25,17 @@ pub length-avcc_payload : (b : AvcCBox) → length (avcc_payload b)
     ≡ 7 + length (flat_map unit b.sequence_parameter_sets) + length (flat_map unit b.picture_parameter_sets)
 unfolding avcc_payload
 length-avcc_payload b = simp (length-then, length-number) (omega arith)
+
+length-one : (u : NalUnit) → length (flat_map unit (u ∷ [])) ≡ 2 + length u.bytes
+length-one u = rw (flat_map-cons unit u [], append-nil (unit u)) (length-unit u)
+
+-- the length of a configuration of one set of each kind
+pub length-avcc_of_sets : (seq_set pic_set : List ℕ)
+    → length (avcc_payload (avcc_of_sets seq_set pic_set)) ≡ 11 + length seq_set + length pic_set
+length-avcc_of_sets seq_set pic_set =
+    let seqs = length-one (record { bytes = seq_set }) in
+    let pics = length-one (record { bytes = pic_set }) in
+    omega (arith, length-avcc_payload (avcc_of_sets seq_set pic_set), seqs, pics)
 
 -- what is not refused is within its bits
 within : (limit n : ℕ) → past limit n ≡ None → n ≤ limit

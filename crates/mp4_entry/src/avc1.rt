@@ -1,6 +1,6 @@
 //! The sample entry of AVC video.
 
-ghost use Rattle.std.specs.Prelude.{◌≡◌, Ok};
+ghost use Rattle.std.specs.Prelude.{◌≡◌, ◌+◌, length, Ok, IfOk};
 ghost use Rattle.mp4_codec.specs.declared.box_type.BoxType.TheVariants.{Avc1Box as avc1};
 ghost use Rattle.mp4_codec.specs.Cause.{Gives, Answers};
 ghost use Rattle.mp4_codec.specs.Boxes.{size_around};
@@ -21,8 +21,7 @@ use std::alloc::Global;
 ///
 /// Its children may come in any order. The last `avcC` stands, and other types are skipped. The first `avcC` that is
 /// refused, a child that passes the end and an entry without `avcC` are `InvalidData`. Fewer than 8 bytes behind the
-/// last child are skipped.
-/// An entry whose `avcC` isn't written isn't written, for the same cause.
+/// last child are skipped. Where its `avcC` isn't written the entry isn't, for the same cause.
 #[derive(Debug, PartialEq, Eq, Drop)]
 pub struct Avc1Box {
     /// Which data reference of the track holds the samples; they count from 1.
@@ -109,12 +108,15 @@ impl Avc1Box {
         }
     }
 
-    /// The entry of a configuration: that of the default, with its width and height, and one parameter set
-    /// of each kind, whose bytes 2 to 4 say the profile and the level.
-    pub fn new(_alloc: Global, config: &AvcConfig) -> Result<Self>
-        ensures { Answers (λ b. b) result (Ok (avc1_of_config config.now)) }
+    /// The entry of a configuration: that of the default, with its width and height and one parameter set of each kind.
+    /// The profile, its constraints and the level are the second, third and fourth byte of the sequence parameter set; a
+    /// byte that it hasn't counts as 0.
+    #[tactic(auto, using(crate::specs::Avc1Laws::avc1_of_config_size))]
+    pub fn new(alloc: Global, config: &AvcConfig) -> Result<Self>
+        ensures value { Answers (λ b. b) result (Ok (avc1_of_config config.now)) }
+        ensures size { IfOk result (λ b. 8 + length (avc1_payload b) ≡ 105 + length config.now.seq_param_set + length config.now.pic_param_set) }
     {
-        let avcc = AvcCBox::of_sets(&config.seq_param_set, &config.pic_param_set)?;
+        let avcc = AvcCBox::of_sets(alloc, &config.seq_param_set, &config.pic_param_set)?;
         Ok(Avc1Box::with(Visual::of_size(config.width, config.height), avcc))
     }
 

@@ -162,10 +162,10 @@ fn byte_at(set: &Items<u8>, index: usize) -> u8
 }
 
 /// One set in a list.
-fn one_unit(bytes: &Items<u8>) -> Result<Items<NalUnit>>
+fn one_unit(alloc: Global, bytes: &Items<u8>) -> Result<Items<NalUnit>>
     ensures { Answers (λ units. units) result (Ok (record { bytes = bytes.now } ∷ [])) }
 {
-    let mut units = Items::new(bytes.allocator());
+    let mut units = Items::new(alloc);
     let bytes = bytes.try_clone()?;
     units.push(NalUnit { bytes })?;
     Ok(units)
@@ -211,11 +211,15 @@ impl AvcCBox {
 
     /// One set of each kind, with the profile, its constraints and the level from the second, third and fourth byte of
     /// the sequence parameter set; a byte that it hasn't counts as 0. Lengths have four bytes.
-    pub(crate) fn of_sets(seq_param_set: &Items<u8>, pic_param_set: &Items<u8>) -> Result<Self>
+    pub(crate) fn of_sets(
+        alloc: Global,
+        seq_param_set: &Items<u8>,
+        pic_param_set: &Items<u8>,
+    ) -> Result<Self>
         ensures { Answers (λ b. b) result (Ok (avcc_of_sets seq_param_set.now pic_param_set.now)) }
     {
-        let sequence_parameter_sets = one_unit(seq_param_set)?;
-        let picture_parameter_sets = one_unit(pic_param_set)?;
+        let sequence_parameter_sets = one_unit(alloc, seq_param_set)?;
+        let picture_parameter_sets = one_unit(alloc, pic_param_set)?;
         Ok(AvcCBox {
             configuration_version: 1,
             avc_profile_indication: byte_at(seq_param_set, 1),

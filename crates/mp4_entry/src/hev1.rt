@@ -1,6 +1,6 @@
 //! The sample entry of HEVC video.
 
-ghost use Rattle.std.specs.Prelude.{◌≡◌, Ok};
+ghost use Rattle.std.specs.Prelude.{◌≡◌, ◌+◌, length, Ok, IfOk};
 ghost use Rattle.mp4_codec.specs.declared.box_type.BoxType.TheVariants.{Hev1Box as hev1};
 ghost use Rattle.mp4_codec.specs.Cause.{Gives, Answers};
 ghost use Rattle.mp4_codec.specs.Boxes.{size_around, no_refusal};
@@ -102,8 +102,10 @@ impl Hev1Box {
     }
 
     /// The entry of a configuration: that of the default, with its width and height.
+    #[tactic(auto, using(crate::specs::Hev1Laws::hev1_of_config_size))]
     pub fn new(alloc: Global, config: &HevcConfig) -> Result<Self>
-        ensures { Answers (λ b. b) result (Ok (hev1_of_config config.now)) }
+        ensures value { Answers (λ b. b) result (Ok (hev1_of_config config.now)) }
+        ensures size { IfOk result (λ b. 8 + length (hev1_payload b) ≡ 117) }
     {
         let hvcc = HvcCBox::default(alloc)?;
         Ok(Hev1Box::with(Visual::of_size(config.width, config.height), hvcc))

@@ -1,6 +1,6 @@
 //! The sample entry of VP9 video.
 
-ghost use Rattle.std.specs.Prelude.{◌≡◌, Ok};
+ghost use Rattle.std.specs.Prelude.{◌≡◌, ◌+◌, length, Ok, IfOk};
 ghost use Rattle.mp4_codec.specs.declared.box_type.BoxType.TheVariants.{Vp09Box as vp09};
 ghost use Rattle.mp4_codec.specs.Cause.{Gives, Answers};
 ghost use Rattle.mp4_codec.specs.Boxes.{size_around, no_refusal};
@@ -102,8 +102,10 @@ impl Vp09Box {
     }
 
     /// The entry of a configuration: that of the default, with its width and height.
+    #[tactic(auto, using(crate::specs::Vp09Laws::vp09_of_config_size))]
     pub fn new(alloc: Global, config: &Vp9Config) -> Result<Self>
-        ensures { Answers (λ b. b) result (Ok (vp09_of_config config.now)) }
+        ensures value { Answers (λ b. b) result (Ok (vp09_of_config config.now)) }
+        ensures size { IfOk result (λ b. 8 + length (vp09_payload b) ≡ 106) }
     {
         let vpcc = VpccBox::default(alloc)?;
         Ok(Vp09Box::with(Visual::of_size(config.width, config.height), vpcc))

@@ -76,3 +76,5 @@ mod tfhd;
 mod tkhd;
 #[cfg(test)]
 mod trun;
+#[cfg(test)]
+mod visual_entries;
