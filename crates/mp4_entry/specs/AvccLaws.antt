@@ -38,7 +38,7 @@ length-avcc_of_sets seq_set pic_set =
     omega (arith, length-avcc_payload (avcc_of_sets seq_set pic_set), seqs, pics)
 
 -- what is not refused is within its bits
-within : (limit n : ℕ) → past limit n ≡ None → n ≤ limit
+pub within : (limit n : ℕ) → past limit n ≡ None → n ≤ limit
 within limit n e = chosen (ltb limit n) (ltb-false limit n) e
   where
     chosen : (t : Bool) → (t ≡ false → n ≤ limit) → cond t (Some unrepresentable) None ≡ None → n ≤ limit

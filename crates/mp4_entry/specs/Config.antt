@@ -1,5 +1,5 @@
 -- What the sample entry of a track is made from.
-use Rattle.std.specs.Prelude.{ℕ, length, Option, Some, None, nat_lt, if◌then◌else◌}
+use Rattle.std.specs.Prelude.{ℕ, ◌+◌, length, Option, Some, None, nat_lt, if◌then◌else◌}
 use Rattle.mp4_codec.specs.Cause.{Cause, unrepresentable, ◌or◌}
 use Rattle.mp4_entry.specs.declared.avc1.AvcConfig.{AvcConfig}
 use Rattle.mp4_entry.specs.declared.config.MediaConfig.{MediaConfig}
@@ -10,19 +10,16 @@ use Rattle.mp4_entry.specs.declared.media_type.MediaType.{MediaType}
 use Rattle.mp4_entry.specs.declared.media_type.MediaType.TheVariants.{H264, H265, VP9, TTXT}
 use Rattle.mp4_entry.specs.declared.track_type.TrackType.{TrackType}
 use Rattle.mp4_entry.specs.declared.track_type.TrackType.TheVariants.{Video, Subtitle}
+use Rattle.mp4_entry.specs.Avcc.{past}
 use Rattle.mp4_entry.specs.Avc1.{IsInRangeAvcConfig}
 use Rattle.mp4_entry.specs.Hev1.{IsInRangeHevcConfig}
 use Rattle.mp4_entry.specs.Vp09.{IsInRangeVp9Config}
 
--- the length of a parameter set has 16 bits
-abbrev pub long_refusal : ℕ → Option Cause
-long_refusal n = if nat_lt 65535 n then Some unrepresentable else None
-
--- a sequence parameter set has its profile and level in the bytes 2 to 4
+-- a sequence parameter set has its profile and level in the bytes 2 to 4, and the length of a set has 16 bits
 abbrev pub avc_refusal : AvcConfig → Option Cause
 avc_refusal c =
     if nat_lt (length c.seq_param_set) 4 then Some unrepresentable else
-    (long_refusal (length c.seq_param_set) or long_refusal (length c.pic_param_set))
+    (past 0xffff (length c.seq_param_set) or past 0xffff (length c.pic_param_set))
 
 -- why an entry of a configuration is not written
 abbrev pub media_refusal : MediaConfig → Option Cause
@@ -51,3 +48,10 @@ IsInRangeMediaConfig (Avc c) = IsInRangeAvcConfig c
 IsInRangeMediaConfig (Hevc c) = IsInRangeHevcConfig c
 IsInRangeMediaConfig (Vp9 c) = IsInRangeVp9Config c
 IsInRangeMediaConfig (Ttxt c) = Unit {0}
+
+-- the bytes of the entry that a configuration makes, its header included
+abbrev pub entry_length : MediaConfig → ℕ
+entry_length (Avc c) = 105 + length c.seq_param_set + length c.pic_param_set
+entry_length (Hevc c) = 117
+entry_length (Vp9 c) = 106
+entry_length (Ttxt c) = 46

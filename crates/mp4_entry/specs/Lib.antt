@@ -5,7 +5,6 @@ pub mod SampleFreqIndex
 pub mod ChannelConfig
 pub mod AudioObjectType
 pub mod AvcProfile
-pub mod NumberLaws
 pub mod Visual
 pub mod VisualLaws
 pub mod Avcc
@@ -25,3 +24,4 @@ pub mod Tx3gLaws
 pub mod Config
 pub mod Stsd
 pub mod StsdLaws
+pub mod ConfigLaws

@@ -28,7 +28,7 @@ pub use channel_config::ChannelConfig;
 pub use config::MediaConfig;
 pub use hev1::{Hev1Box, HevcConfig};
 pub use hvcc::HvcCBox;
-pub use laws::{numbers_have_one_value, values_have_their_numbers};
+pub use laws::{configurations_are_written, numbers_have_one_value, values_have_their_numbers};
 pub use media_type::MediaType;
 pub use sample_freq_index::SampleFreqIndex;
 pub use stsd::StsdBox;
