@@ -11,6 +11,8 @@ mod checks;
 #[cfg(test)]
 mod chunks;
 #[cfg(test)]
+mod codec_types;
+#[cfg(test)]
 mod codes;
 #[cfg(test)]
 mod copies;
@@ -67,6 +69,8 @@ mod sides;
 #[cfg(test)]
 mod spelled;
 #[cfg(test)]
+mod stsd;
+#[cfg(test)]
 mod taste;
 #[cfg(test)]
 mod tfhd;
@@ -74,3 +78,5 @@ mod tfhd;
 mod tkhd;
 #[cfg(test)]
 mod trun;
+#[cfg(test)]
+mod visual_entries;
