@@ -9,6 +9,8 @@ use Rattle.mp4_entry.specs.VpccLaws.{length-vpcc_payload}
 use Rattle.mp4_entry.specs.Vp09Laws.{length-vp09_payload}
 use Rattle.mp4_entry.specs.StsdLaws.{length-stsd_payload}
 use Rattle.mp4_entry.specs.Tx3gLaws.{length-tx3g_payload}
+use Rattle.mp4_entry.specs.EsdsLaws.{length-esds_payload}
+use Rattle.mp4_entry.specs.Mp4aLaws.{length-mp4a_payload}
 
 pub ruleset sizes = (
   length-unit,
@@ -20,6 +22,8 @@ pub ruleset sizes = (
   length-vp09_payload,
   length-stsd_payload,
   length-tx3g_payload,
+  length-esds_payload,
+  length-mp4a_payload,
 )
 
 -- the length of the box of an entry, and that none adds nothing

@@ -19,6 +19,12 @@ pub mod Vpcc
 pub mod VpccLaws
 pub mod Vp09
 pub mod Vp09Laws
+pub mod Descriptor
+pub mod DescriptorLaws
+pub mod Esds
+pub mod EsdsLaws
+pub mod Mp4a
+pub mod Mp4aLaws
 pub mod Tx3g
 pub mod Tx3gLaws
 pub mod Config

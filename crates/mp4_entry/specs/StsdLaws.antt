@@ -5,7 +5,7 @@ use Rattle.std.proofs.lemmas.Bool.{le-ltb}
 use Rattle.std.specs.Prelude.{IfSome}
 use Rattle.mp4_codec.specs.declared.box_type.BoxType.{BoxType}
 use Rattle.mp4_codec.specs.declared.box_type.BoxType.TheVariants.{Avc1Box as avc1, Hev1Box as hev1, Vp09Box as vp09}
-use Rattle.mp4_codec.specs.declared.box_type.BoxType.TheVariants.{Tx3gBox as tx3g}
+use Rattle.mp4_codec.specs.declared.box_type.BoxType.TheVariants.{Mp4aBox as mp4a, Tx3gBox as tx3g}
 use Rattle.mp4_codec.specs.BoxType.{box_type}
 use Rattle.mp4_codec.specs.Bytes.{◌⧺◌}
 use Rattle.mp4_codec.specs.Boxes.{frame}
@@ -21,9 +21,12 @@ use Rattle.mp4_entry.specs.Hev1.{hev1_payload, IsInRangeHev1}
 use Rattle.mp4_entry.specs.Hev1Laws.{hev1_again}
 use Rattle.mp4_entry.specs.Vp09.{vp09_payload, IsInRangeVp09}
 use Rattle.mp4_entry.specs.Vp09Laws.{vp09_again}
+use Rattle.mp4_entry.specs.Mp4a.{mp4a_payload, mp4a_refusal, IsInRangeMp4a}
+use Rattle.mp4_entry.specs.Mp4aLaws.{mp4a_again}
 use Rattle.mp4_entry.specs.Tx3g.{tx3g_payload, IsInRangeTx3g}
 use Rattle.mp4_entry.specs.Tx3gLaws.{tx3g_again}
-use Rattle.mp4_entry.specs.Stsd.{SampleEntry, avc_video, hevc_video, vp9_video, text, no_known, entry_of, entry_in, stsd_of, present_or}
+use Rattle.mp4_entry.specs.Stsd.{SampleEntry, avc_video, hevc_video, vp9_video, aac_sound, text, no_known, entry_of}
+use Rattle.mp4_entry.specs.Stsd.{entry_in, stsd_of, present_or}
 use Rattle.mp4_entry.specs.Stsd.{first_entry, entry_count, entry_bytes, entry_refusal, stsd_payload, stsd_refusal}
 use Rattle.mp4_entry.specs.Stsd.{IsInRangeStsd, RemarksEntry, IsCanonicalStsd}
 
@@ -53,6 +56,10 @@ vp09_spellable : IsSpellable vp09
 unfolding box_type
 vp09_spellable = record { named = refl; code = omega arith }
 
+mp4a_spellable : IsSpellable mp4a
+unfolding box_type
+mp4a_spellable = record { named = refl; code = omega arith }
+
 tx3g_spellable : IsSpellable tx3g
 unfolding box_type
 tx3g_spellable = record { named = refl; code = omega arith }
@@ -62,6 +69,7 @@ abbrev IsInRangeEntry : SampleEntry → Type 0
 IsInRangeEntry (avc_video e) = IsInRangeAvc1 e
 IsInRangeEntry (hevc_video e) = IsInRangeHev1 e
 IsInRangeEntry (vp9_video e) = IsInRangeVp09 e
+IsInRangeEntry (aac_sound e) = IsInRangeMp4a e
 IsInRangeEntry (text e) = IsInRangeTx3g e
 IsInRangeEntry no_known = Unit {0}
 
@@ -76,7 +84,8 @@ first_in_range b f =
     present_in_range b.avc1 IsInRangeAvc1 avc_video _ (λ x h. h) f.avc1 (
     present_in_range b.hev1 IsInRangeHev1 hevc_video _ (λ x h. h) f.hev1 (
     present_in_range b.vp09 IsInRangeVp09 vp9_video _ (λ x h. h) f.vp09 (
-    present_in_range b.tx3g IsInRangeTx3g text _ (λ x h. h) f.tx3g tt)))
+    present_in_range b.mp4a IsInRangeMp4a aac_sound _ (λ x h. h) f.mp4a (
+    present_in_range b.tx3g IsInRangeTx3g text _ (λ x h. h) f.tx3g tt))))
 
 -- what is written of an entry is read as that entry
 record ReadsAs (bytes : List ℕ) (entry : SampleEntry) : Type 0 where
@@ -127,6 +136,19 @@ entry_again (vp9_video e) in_range remarks sound small =
       next = next_at-frame vp09 (vp09_payload e) vp09_spellable fits;
       is = rw again refl;
     }
+entry_again (aac_sound e) in_range remarks sound small =
+    let fits : 8 + length (mp4a_payload e) < 2 ^ 32 = omega (arith, small, length-frame mp4a (mp4a_payload e)) in
+    let again = mp4a_again e (record {
+      in_range = in_range;
+      remarks = remarks;
+      written = write_cause-none (mp4a_payload e) (mp4a_refusal e) fits sound;
+    }) in
+    record {
+      first = Some (mp4a, mp4a_payload e);
+      rest = [];
+      next = next_at-frame mp4a (mp4a_payload e) mp4a_spellable fits;
+      is = rw again refl;
+    }
 entry_again (text e) in_range remarks sound small =
     let fits : 8 + length (tx3g_payload e) < 2 ^ 32 = omega (arith, small, length-frame tx3g (tx3g_payload e)) in
     let again = tx3g_again e (record {
@@ -146,6 +168,7 @@ few : (entry : SampleEntry) → entry_count entry < 256 ^ 4
 few (avc_video e) = omega arith
 few (hevc_video e) = omega arith
 few (vp9_video e) = omega arith
+few (aac_sound e) = omega arith
 few (text e) = omega arith
 few no_known = omega arith
 

@@ -8,10 +8,13 @@ mod avc_profile;
 mod avcc;
 mod channel_config;
 mod config;
+mod descriptor;
+mod esds;
 mod hev1;
 mod hvcc;
 mod laws;
 mod media_type;
+mod mp4a;
 mod sample_freq_index;
 mod stsd;
 mod track_type;
@@ -26,10 +29,14 @@ pub use avc1::{Avc1Box, AvcConfig};
 pub use avcc::{AvcCBox, NalUnit};
 pub use channel_config::ChannelConfig;
 pub use config::MediaConfig;
+pub use esds::{
+    DecoderConfigDescriptor, DecoderSpecificDescriptor, ESDescriptor, EsdsBox, SLConfigDescriptor,
+};
 pub use hev1::{Hev1Box, HevcConfig};
 pub use hvcc::HvcCBox;
 pub use laws::{configurations_are_written, numbers_have_one_value, values_have_their_numbers};
 pub use media_type::MediaType;
+pub use mp4a::Mp4aBox;
 pub use sample_freq_index::SampleFreqIndex;
 pub use stsd::StsdBox;
 pub use track_type::TrackType;

@@ -12,6 +12,7 @@ ghost use Rattle.mp4_entry.specs.StsdLaws.{stsd_again};
 use crate::avc1::Avc1Box;
 use crate::config::MediaConfig;
 use crate::hev1::Hev1Box;
+use crate::mp4a::Mp4aBox;
 use crate::tx3g::Tx3gBox;
 use crate::vp09::Vp09Box;
 use mp4_codec::{
@@ -38,6 +39,8 @@ pub struct StsdBox {
     pub hev1: Option<Hev1Box>,
     /// VP9 video.
     pub vp09: Option<Vp09Box>,
+    /// AAC sound.
+    pub mp4a: Option<Mp4aBox>,
     /// Timed text.
     pub tx3g: Option<Tx3gBox>,
 }
@@ -100,6 +103,7 @@ impl StsdBox {
             avc1: None,
             hev1: None,
             vp09: None,
+            mp4a: None,
             tx3g: None,
         }
     }
@@ -123,6 +127,10 @@ impl StsdBox {
             description.vp09 = Some(Vp09Box::read_payload(alloc, child.payload)?);
             return Ok(description);
         }
+        if code == u32::from(BoxType::Mp4aBox) {
+            description.mp4a = Some(Mp4aBox::read_payload(alloc, child.payload)?);
+            return Ok(description);
+        }
         if code == u32::from(BoxType::Tx3gBox) {
             description.tx3g = Some(Tx3gBox::read_payload(alloc, child.payload)?);
             return Ok(description);
@@ -141,6 +149,9 @@ impl StsdBox {
             return 1;
         }
         if self.vp09.is_some() {
+            return 1;
+        }
+        if self.mp4a.is_some() {
             return 1;
         }
         if self.tx3g.is_some() {
@@ -163,6 +174,9 @@ impl StsdBox {
         if let Some(entry) = &self.vp09 {
             return entry.box_size();
         }
+        if let Some(entry) = &self.mp4a {
+            return entry.box_size();
+        }
         if let Some(entry) = &self.tx3g {
             return entry.box_size();
         }
@@ -180,6 +194,9 @@ impl StsdBox {
             return entry.check();
         }
         if let Some(entry) = &self.vp09 {
+            return entry.check();
+        }
+        if let Some(entry) = &self.mp4a {
             return entry.check();
         }
         if let Some(entry) = &self.tx3g {
@@ -203,6 +220,9 @@ impl StsdBox {
         if let Some(entry) = &self.vp09 {
             return entry.put_box(out);
         }
+        if let Some(entry) = &self.mp4a {
+            return entry.put_box(out);
+        }
         if let Some(entry) = &self.tx3g {
             return entry.put_box(out);
         }
@@ -218,6 +238,7 @@ impl TryClone for StsdBox {
             avc1: self.avc1.try_clone()?,
             hev1: self.hev1.try_clone()?,
             vp09: self.vp09.try_clone()?,
+            mp4a: self.mp4a.try_clone()?,
             tx3g: self.tx3g.try_clone()?,
         })
     }
@@ -231,6 +252,7 @@ impl InRange for StsdBox {
         self.avc1.in_range();
         self.hev1.in_range();
         self.vp09.in_range();
+        self.mp4a.in_range();
         self.tx3g.in_range();
     }
 }
