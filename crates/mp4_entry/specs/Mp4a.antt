@@ -1,14 +1,21 @@
 -- The sample entry of MPEG-4 audio (ISO/IEC 14496-14, 5.6; ISO/IEC 14496-12, 12.2.3; sound version 1 and `wave`: the
 -- QuickTime file format).
-use Rattle.std.specs.Prelude.{ℕ, ◌^◌, ◌<◌, List, Option, Some, None, Result, Ok, Err, IfSome, ◌==◌, if◌then◌else◌}
+use Rattle.std.specs.Prelude.{ℕ, ◌*◌, ◌^◌, ◌<◌, List, Option, Some, None, Result, Ok, Err, IfSome, nat_lt, ◌==◌}
+use Rattle.std.specs.Prelude.{if◌then◌else◌}
 use Rattle.mp4_codec.specs.declared.box_type.BoxType.{BoxType}
 use Rattle.mp4_codec.specs.declared.box_type.BoxType.TheVariants.{EsdsBox as esds, WaveBox as wave}
 use Rattle.mp4_codec.specs.Cause.{Cause, ◌>>=◌}
 use Rattle.mp4_codec.specs.Bytes.{bytes_at, number_at, number, zeros, ◌⧺◌}
 use Rattle.mp4_codec.specs.Boxes.{IsCanonical, optional, optional_refusal}
 use Rattle.mp4_codec.specs.Children.{children, gathered, fault_in, last_of}
+use Rattle.mp4_leaf.specs.declared.fixed_point.FixedPointU16.{FixedPointU16}
 use Rattle.mp4_entry.specs.declared.esds.EsdsBox.{EsdsBox}
 use Rattle.mp4_entry.specs.declared.mp4a.Mp4aBox.{Mp4aBox}
+use Rattle.mp4_entry.specs.declared.mp4a.AacConfig.{AacConfig}
+use Rattle.mp4_entry.specs.declared.sample_freq_index.SampleFreqIndex.{SampleFreqIndex}
+use Rattle.mp4_entry.specs.AudioObjectType.{IsObjectType}
+use Rattle.mp4_entry.specs.ChannelConfig.{channel_number}
+use Rattle.mp4_entry.specs.SampleFreqIndex.{freq_number, hertz}
 use Rattle.mp4_entry.specs.Esds.{esds_of, esds_payload, esds_refusal, IsInRangeEsds, RemarksEsds}
 
 -- any payload, as it stands
@@ -105,3 +112,46 @@ IsCanonicalMp4a = IsCanonical IsInRangeMp4a RemarksMp4a mp4a_payload mp4a_refusa
 abbrev pub default_mp4a : Mp4aBox
 default_mp4a =
     record { data_reference_index = 0; channelcount = 0; samplesize = 0; samplerate = record { raw = 0 }; esds = None }
+
+-- samples of sound in a second, as a number of 16.16 bits; 0 where they pass 65,535
+abbrev pub samplerate_of : SampleFreqIndex → FixedPointU16
+samplerate_of index = record { raw = if nat_lt 65535 (hertz index) then 0 else hertz index * 65536 }
+
+-- what the decoder of a configuration is started with: MPEG-4 audio, of one bit rate
+abbrev pub esds_of_config : AacConfig → EsdsBox
+esds_of_config c = record {
+  version = 0;
+  flags = 0;
+  es_desc = record {
+    es_id = 1;
+    dec_config = record {
+      object_type_indication = 0x40;
+      stream_type = 5;
+      up_stream = 0;
+      buffer_size_db = 0;
+      max_bitrate = c.bitrate;
+      avg_bitrate = c.bitrate;
+      dec_specific = record {
+        profile = c.profile;
+        freq_index = freq_number c.freq_index;
+        chan_conf = channel_number c.chan_conf;
+      };
+    };
+    sl_config = record {};
+  };
+}
+
+-- the entry of a configuration, in the first data reference, with samples of 16 bits
+abbrev pub mp4a_of_config : AacConfig → Mp4aBox
+mp4a_of_config c = record {
+  data_reference_index = 1;
+  channelcount = channel_number c.chan_conf;
+  samplesize = 16;
+  samplerate = samplerate_of c.freq_index;
+  esds = Some (esds_of_config c);
+}
+
+-- each number is within its type
+pub record IsInRangeAacConfig (c : AacConfig) : Type 0 where
+  pub bitrate : c.bitrate < 2 ^ 32
+  pub profile : IsObjectType c.profile

@@ -14,10 +14,11 @@ use Rattle.mp4_codec.specs.Children.{children, first_fault, all_of, last_of, wal
 use Rattle.mp4_codec.specs.WrittenChildren.{last_child-again}
 use Rattle.mp4_entry.specs.declared.esds.EsdsBox.{EsdsBox}
 use Rattle.mp4_entry.specs.declared.mp4a.Mp4aBox.{Mp4aBox}
+use Rattle.mp4_entry.specs.declared.mp4a.AacConfig.{AacConfig}
 use Rattle.mp4_entry.specs.Esds.{esds_of, esds_payload, esds_refusal, IsInRangeEsds, RemarksEsds}
 use Rattle.mp4_entry.specs.EsdsLaws.{esds_again, length-esds_payload}
 use Rattle.mp4_entry.specs.Mp4a.{last_payload, or_wave_esds, child_esds, versioned_esds, mp4a_of, mp4a_payload}
-use Rattle.mp4_entry.specs.Mp4a.{mp4a_refusal, IsCanonicalMp4a}
+use Rattle.mp4_entry.specs.Mp4a.{mp4a_refusal, IsCanonicalMp4a, mp4a_of_config}
 
 pub length-mp4a_payload : (b : Mp4aBox) → length (mp4a_payload b) ≡ 28 + length (optional esds esds_payload b.esds)
 unfolding mp4a_payload
@@ -80,3 +81,7 @@ mp4a_again b f =
       versioned_esds_again (optional esds esds_payload b.esds),
       child_esds_again b.esds (each_esds b.esds f.in_range.esds f.remarks sound),
     ) refl
+
+-- the bytes of the entry of a configuration, its header included
+pub mp4a_of_config_size : (c : AacConfig) → 8 + length (mp4a_payload (mp4a_of_config c)) ≡ 75
+mp4a_of_config_size c = simp (length-mp4a_payload, length-frame, length-esds_payload) refl

@@ -36,7 +36,7 @@ pub use hev1::{Hev1Box, HevcConfig};
 pub use hvcc::HvcCBox;
 pub use laws::{configurations_are_written, numbers_have_one_value, values_have_their_numbers};
 pub use media_type::MediaType;
-pub use mp4a::Mp4aBox;
+pub use mp4a::{AacConfig, Mp4aBox};
 pub use sample_freq_index::SampleFreqIndex;
 pub use stsd::StsdBox;
 pub use track_type::TrackType;

@@ -1,15 +1,20 @@
 //! The sample entry of MPEG-4 audio.
 
-ghost use Rattle.std.specs.Prelude.{◌≡◌, Ok};
+ghost use Rattle.std.specs.Prelude.{◌≡◌, ◌+◌, length, Ok};
 ghost use Rattle.std.specs.Option.{option_map};
 ghost use Rattle.mp4_codec.specs.declared.box_type.BoxType.TheVariants.{EsdsBox as esds, Mp4aBox as mp4a};
 ghost use Rattle.mp4_codec.specs.Cause.{Answers, Gives};
 ghost use Rattle.mp4_codec.specs.Children.{child_box, with_last};
 ghost use Rattle.mp4_codec.specs.Boxes.{size_around};
-ghost use Rattle.mp4_entry.specs.Mp4a.{as_it_is, last_payload, found_esds, child_esds, versioned_esds, mp4a_of, mp4a_payload, mp4a_refusal, IsInRangeMp4a, RemarksMp4a, default_mp4a};
+ghost use Rattle.mp4_entry.specs.Mp4a.{as_it_is, last_payload, found_esds, child_esds, versioned_esds, mp4a_of, mp4a_payload, mp4a_refusal, IsInRangeMp4a, RemarksMp4a, default_mp4a, samplerate_of, esds_of_config, mp4a_of_config, IsInRangeAacConfig};
 ghost use Rattle.mp4_entry.specs.Mp4aLaws.{mp4a_again};
 
-use crate::esds::EsdsBox;
+use crate::audio_object_type::AudioObjectType;
+use crate::channel_config::ChannelConfig;
+use crate::esds::{
+    DecoderConfigDescriptor, DecoderSpecificDescriptor, ESDescriptor, EsdsBox, SLConfigDescriptor,
+};
+use crate::sample_freq_index::SampleFreqIndex;
 use mp4_codec::{
     BoxType, Child, Children, Fields, InRange, Mp4Box, Put, ReadBox, Result, TryClone, WriteBox,
     check_optional, last_child, optional_size, put_optional, put_u16, put_u32, put_zeros,
@@ -36,6 +41,77 @@ pub struct Mp4aBox {
     pub samplerate: FixedPointU16,
     /// What the decoder is started with.
     pub esds: Option<EsdsBox>,
+}
+
+/// What the entry of a track of AAC sound is made from.
+#[derive(Debug, PartialEq, Eq, Drop)]
+pub struct AacConfig {
+    /// Bits in a second.
+    pub bitrate: u32,
+    /// The type of the coded sound; 2 is AAC LC.
+    pub profile: AudioObjectType,
+    pub freq_index: SampleFreqIndex,
+    pub chan_conf: ChannelConfig,
+}
+
+impl TryClone for AacConfig {
+    fn try_clone(&self) -> Result<Self>
+        ensures { Gives (λ x. x) result (Ok self.now) }
+    {
+        Ok(AacConfig {
+            bitrate: self.bitrate,
+            profile: self.profile,
+            freq_index: self.freq_index,
+            chan_conf: self.chan_conf,
+        })
+    }
+}
+
+impl InRange for AacConfig {
+    ghost IsInRange = { IsInRangeAacConfig };
+
+    fn in_range(&self) {
+        self.bitrate.in_range();
+        self.profile.number();
+    }
+}
+
+/// Samples of sound in a second; 0 where they pass the 16 bits of the whole part.
+fn samplerate(index: SampleFreqIndex) -> FixedPointU16
+    ensures { result ≡ samplerate_of index }
+{
+    let hertz = index.freq();
+    if hertz > 65_535 {
+        return FixedPointU16::new_raw(0);
+    }
+    FixedPointU16::new(hertz as u16)
+}
+
+/// What the decoder of a configuration is started with.
+fn esds_of(config: &AacConfig) -> EsdsBox
+    ensures { result ≡ esds_of_config config.now }
+{
+    EsdsBox {
+        version: 0,
+        flags: 0,
+        es_desc: ESDescriptor {
+            es_id: 1,
+            dec_config: DecoderConfigDescriptor {
+                object_type_indication: 0x40,
+                stream_type: 5,
+                up_stream: 0,
+                buffer_size_db: 0,
+                max_bitrate: config.bitrate,
+                avg_bitrate: config.bitrate,
+                dec_specific: DecoderSpecificDescriptor {
+                    profile: config.profile.number(),
+                    freq_index: config.freq_index.number(),
+                    chan_conf: config.chan_conf.number(),
+                },
+            },
+            sl_config: SLConfigDescriptor {},
+        },
+    }
 }
 
 /// The payload of the last child of a type, with one child more.
@@ -104,6 +180,23 @@ fn versioned_esds(alloc: Global, version: u16, fields: &mut Fields) -> Result<Op
 }
 
 impl Mp4aBox {
+    /// The entry of a configuration: in the first data reference, with samples of 16 bits, as many channels as their number
+    /// says, and a decoder for MPEG-4 audio of that bit rate. The sampling rate is 0 where it passes 65,535. The entry of
+    /// a profile over 30 isn't written.
+    #[tactic(auto, using(crate::specs::Mp4aLaws::mp4a_of_config_size))]
+    pub fn new(config: &AacConfig) -> Self
+        ensures value { result ≡ mp4a_of_config config.now }
+        ensures size { 8 + length (mp4a_payload result) ≡ 75 }
+    {
+        Mp4aBox {
+            data_reference_index: 1,
+            channelcount: config.chan_conf.number() as u16,
+            samplesize: 16,
+            samplerate: samplerate(config.freq_index),
+            esds: Some(esds_of(config)),
+        }
+    }
+
     /// `mp4a`.
     pub fn get_type(&self) -> BoxType
         ensures { result ≡ mp4a }

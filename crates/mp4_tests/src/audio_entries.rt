@@ -5,8 +5,8 @@ use crate::spelled::{
 };
 use mp4_codec::{BoxType, Error, Result, TryClone};
 use mp4_entry::{
-    DecoderConfigDescriptor, DecoderSpecificDescriptor, ESDescriptor, EsdsBox, Mp4aBox,
-    SLConfigDescriptor,
+    AacConfig, AudioObjectType, ChannelConfig, DecoderConfigDescriptor, DecoderSpecificDescriptor,
+    ESDescriptor, EsdsBox, Mp4aBox, SLConfigDescriptor, SampleFreqIndex,
 };
 use mp4_leaf::FixedPointU16;
 use std::alloc::Global;
@@ -36,7 +36,8 @@ fn aac() -> EsdsBox {
     }
 }
 
-const AAC: &str = "00000027 65736473 00 000000 03 19 0001 00 04 11 40 15 000000 0001f400 0001f400 05 02 1190 06 01 02";
+const AAC: &str =
+    "00000027 65736473 00 000000 03 19 0001 00 04 11 40 15 000000 0001f400 0001f400 05 02 1190 06 01 02";
 
 /// What is read of the decoder's configuration: profile, frequency, channels.
 fn specific(b: &EsdsBox) -> (u8, u8, u8) {
@@ -112,7 +113,8 @@ fn lengths_of_four_bytes_are_read(rt: HostRuntime) -> Result<()> {
 
 #[test]
 fn descriptors_that_are_cut_read_as_zeros(rt: HostRuntime) -> Result<()> {
-    let text = "00000027 65736473 00 000000 03 19 0102 00 04 11 40 15 0a0b0c 01020304 05060708 05 02 1190 06 01 02";
+    let text =
+        "00000027 65736473 00 000000 03 19 0102 00 04 11 40 15 0a0b0c 01020304 05060708 05 02 1190 06 01 02";
     let bytes = hex(rt.alloc(), text)?;
     // So many bytes of descriptors: the stream's id, the decoder's object type, stream type, buffer size and bit rates.
     let rows = [
@@ -172,10 +174,15 @@ fn descriptors_that_are_cut_read_as_zeros(rt: HostRuntime) -> Result<()> {
 
 #[test]
 fn of_a_tag_the_first_descriptor_counts(rt: HostRuntime) -> Result<()> {
-    let two: EsdsBox = read(rt.alloc(), "00000014 65736473 00 000000 03 02 0001 03 02 0002")?;
+    let two: EsdsBox = read(
+        rt.alloc(),
+        "00000014 65736473 00 000000 03 02 0001 03 02 0002",
+    )?;
     assert_eq!(rt; two.es_desc.es_id, 1);
-    let behind_another: EsdsBox =
-        read(rt.alloc(), "00000014 65736473 00 000000 11 01 ff 03 03 0007 00")?;
+    let behind_another: EsdsBox = read(
+        rt.alloc(),
+        "00000014 65736473 00 000000 11 01 ff 03 03 0007 00",
+    )?;
     assert_eq!(rt; behind_another.es_desc.es_id, 7);
     // Two decoders; the second has a configuration, the first has none.
     let decoders: EsdsBox = read(
@@ -196,7 +203,10 @@ fn of_a_tag_the_first_descriptor_counts(rt: HostRuntime) -> Result<()> {
 #[test]
 fn a_body_that_passes_the_end_of_its_parent_is_cut_there(rt: HostRuntime) -> Result<()> {
     // The decoder stands behind the stream's three bytes, not in them.
-    let beside: EsdsBox = read(rt.alloc(), "00000014 65736473 00 000000 03 03 0001 00 04 01 40")?;
+    let beside: EsdsBox = read(
+        rt.alloc(),
+        "00000014 65736473 00 000000 03 03 0001 00 04 01 40",
+    )?;
     assert_eq!(rt; beside.es_desc.es_id, 1);
     assert_eq!(rt; beside.es_desc.dec_config.object_type_indication, 0);
     // The configuration has one byte within the decoder.
@@ -229,10 +239,17 @@ fn fields_that_a_streams_flags_ask_for_are_skipped(rt: HostRuntime) -> Result<()
     ];
     for text in rows {
         let leaf: EsdsBox = read(rt.alloc(), text)?;
-        assert_eq!(rt; leaf.es_desc.dec_config.object_type_indication, 0x40, "{text}");
+        assert_eq!(rt;
+            leaf.es_desc.dec_config.object_type_indication,
+            0x40,
+            "{text}"
+        );
     }
     // A URL that passes the end.
-    let cut: EsdsBox = read(rt.alloc(), "00000014 65736473 00 000000 03 06 0001 40 ff 04 01")?;
+    let cut: EsdsBox = read(
+        rt.alloc(),
+        "00000014 65736473 00 000000 03 06 0001 40 ff 04 01",
+    )?;
     assert_eq!(rt; cut.es_desc.dec_config.object_type_indication, 0);
     Ok(())
 }
@@ -250,7 +267,10 @@ fn an_extended_object_type_is_read_and_not_written(rt: HostRuntime) -> Result<()
         ("05 03 ffe820", (95, 4, 1)),
     ];
     for (text, expected) in rows {
-        let mut bytes = hex(rt.alloc(), "00000000 65736473 00 000000 03 1a 0001 00 04 15 40 15 000000 00000000 00000000")?;
+        let mut bytes = hex(
+            rt.alloc(),
+            "00000000 65736473 00 000000 03 1a 0001 00 04 15 40 15 000000 00000000 00000000",
+        )?;
         bytes.extend_from_slice(&hex(rt.alloc(), text)?)?;
         let leaf: EsdsBox = read_bytes(rt.alloc(), &bytes)?;
         assert_eq!(rt; specific(&leaf), expected, "{text}");
@@ -310,7 +330,10 @@ fn an_audio_entry_has_36_bytes_and_its_esds(rt: HostRuntime) -> Result<()> {
 
 const FIELDS_0: &str =
     "00000000 6d703461 ffffffffffff 0001 0000 ffffffffffff 0002 0010 ffffffff bb800000";
-const FIELDS_1: &str = "00000000 6d703461 000000000000 0001 0001 000000000000 0002 0010 00000000 bb800000 00000400 00000000 00000000 00000002";
+
+const FIELDS_1: &str =
+    "00000000 6d703461 000000000000 0001 0001 000000000000 0002 0010 00000000 bb800000 00000400 00000000 00000000 00000002";
+
 const FIELDS_2: &str =
     "00000000 6d703461 000000000000 0001 0002 000000000000 0002 0010 00000000 bb800000";
 
@@ -337,11 +360,18 @@ fn id(entry: &Mp4aBox) -> Option<u16> {
 }
 
 const ESDS_1: &str = "00000011 65736473 00 000000 03 03 0001 00";
+
 const ESDS_2: &str = "00000011 65736473 00 000000 03 03 0002 00";
+
 const SHORT_ESDS: &str = "0000000b 65736473 00 0000";
+
 const WAVE_3: &str = "00000019 77617665 00000011 65736473 00 000000 03 03 0003 00";
-const WAVE_4: &str = "0000002a 77617665 00000011 65736473 00 000000 03 03 0005 00 00000011 65736473 00 000000 03 03 0004 00";
+
+const WAVE_4: &str =
+    "0000002a 77617665 00000011 65736473 00 000000 03 03 0005 00 00000011 65736473 00 000000 03 03 0004 00";
+
 const EMPTY_WAVE: &str = "00000008 77617665";
+
 const FREE: &str = "00000008 66726565";
 
 #[test]
@@ -361,7 +391,14 @@ fn the_esds_stands_among_the_children_or_in_a_wave(rt: HostRuntime) -> Result<()
     for (fields, children, expected) in rows {
         let entry = entry(rt.alloc(), fields, &children)?;
         assert_eq!(rt; id(&entry), expected);
-        assert_eq!(rt; (entry.data_reference_index, entry.channelcount, entry.samplesize), (1, 2, 16));
+        assert_eq!(rt;
+            (
+                entry.data_reference_index,
+                entry.channelcount,
+                entry.samplesize
+            ),
+            (1, 2, 16)
+        );
         assert_eq!(rt; entry.samplerate.value(), 48_000);
     }
     Ok(())
@@ -416,8 +453,10 @@ fn a_refused_child_of_an_audio_entry_refuses_it(rt: HostRuntime) -> Result<()> {
 #[test]
 fn in_a_wave_the_last_esds_alone_is_read(rt: HostRuntime) -> Result<()> {
     // The first of two is too short, then the last.
-    let first = "00000024 77617665 0000000b 65736473 00 0000 00000011 65736473 00 000000 03 03 0006 00";
-    let last = "00000024 77617665 00000011 65736473 00 000000 03 03 0006 00 0000000b 65736473 00 0000";
+    let first =
+        "00000024 77617665 0000000b 65736473 00 0000 00000011 65736473 00 000000 03 03 0006 00";
+    let last =
+        "00000024 77617665 00000011 65736473 00 000000 03 03 0006 00 0000000b 65736473 00 0000";
     assert_eq!(rt; id(&entry(rt.alloc(), FIELDS_0, &[first])?), Some(6));
     assert!(rt; is_refused(rt.alloc(), FIELDS_0, &[last]));
     // In an earlier wave nothing is read, and no wave is looked at beside an esds.
@@ -430,10 +469,64 @@ fn in_a_wave_the_last_esds_alone_is_read(rt: HostRuntime) -> Result<()> {
         "00000021 77617665 00000011 65736473 00 000000 03 03 0003 00 00000000 66726565",
     ] {
         assert_eq!(rt; id(&entry(rt.alloc(), FIELDS_0, &[wave])?), None, "{wave}");
-        assert_eq!(rt; id(&entry(rt.alloc(), FIELDS_0, &[WAVE_3, wave])?), None, "{wave}");
+        assert_eq!(rt;
+            id(&entry(rt.alloc(), FIELDS_0, &[WAVE_3, wave])?),
+            None,
+            "{wave}"
+        );
     }
     // A tail of less than 8 bytes is skipped.
     let closed = "0000001d 77617665 00000011 65736473 00 000000 03 03 0003 00 00000000";
     assert_eq!(rt; id(&entry(rt.alloc(), FIELDS_0, &[closed])?), Some(3));
+    Ok(())
+}
+
+#[test]
+fn an_aac_configuration_gives_an_entry_of_75_bytes(rt: HostRuntime) -> Result<()> {
+    let config = AacConfig {
+        bitrate: 128_000,
+        profile: AudioObjectType::try_from(2)?,
+        freq_index: SampleFreqIndex::Freq48000,
+        chan_conf: ChannelConfig::Stereo,
+    };
+    assert!(rt; config.try_clone()? == config);
+    assert!(rt;
+        is_spelled(
+            rt.alloc(),
+            &Mp4aBox::new(&config),
+            "0000004b 6d703461 000000000000 0001 0000 000000000000 0002 0010 00000000 bb800000 00000027 65736473 00 000000 03 19 0001 00 04 11 40 15 000000 0001f400 0001f400 05 02 1190 06 01 02"
+        )?
+    );
+    // A frequency that has no place in samplerate, seven for the number of eight channels, and the greatest object type
+    // that is written: 11110 0000 0111 000.
+    let config = AacConfig {
+        bitrate: u32::MAX,
+        profile: AudioObjectType::try_from(30)?,
+        freq_index: SampleFreqIndex::Freq96000,
+        chan_conf: ChannelConfig::SevenOne,
+    };
+    assert!(rt;
+        is_spelled(
+            rt.alloc(),
+            &Mp4aBox::new(&config),
+            "0000004b 6d703461 000000000000 0001 0000 000000000000 0007 0010 00000000 00000000 00000027 65736473 00 000000 03 19 0001 00 04 11 40 15 000000 ffffffff ffffffff 05 02 f038 06 01 02"
+        )?
+    );
+    Ok(())
+}
+
+#[test]
+fn the_entry_of_a_profile_over_30_is_not_written(rt: HostRuntime) -> Result<()> {
+    for profile in [32u8, 95] {
+        let config = AacConfig {
+            bitrate: 0,
+            profile: AudioObjectType::try_from(profile)?,
+            freq_index: SampleFreqIndex::Freq7350,
+            chan_conf: ChannelConfig::Mono,
+        };
+        let entry = Mp4aBox::new(&config);
+        assert_eq!(rt; entry.get_size(), 75);
+        assert!(rt; is_unrepresentable(rt.alloc(), &entry)?, "{profile}");
+    }
     Ok(())
 }
