@@ -3,11 +3,15 @@
 #![tactic(auto)]
 
 #[cfg(test)]
+mod audio_entries;
+#[cfg(test)]
 mod boxes;
 #[cfg(test)]
 mod checks;
 #[cfg(test)]
 mod chunks;
+#[cfg(test)]
+mod codec_types;
 #[cfg(test)]
 mod codes;
 #[cfg(test)]
@@ -67,6 +71,8 @@ mod sides;
 #[cfg(test)]
 mod spelled;
 #[cfg(test)]
+mod stsd;
+#[cfg(test)]
 mod taste;
 #[cfg(test)]
 mod tfhd;
@@ -74,3 +80,5 @@ mod tfhd;
 mod tkhd;
 #[cfg(test)]
 mod trun;
+#[cfg(test)]
+mod visual_entries;

@@ -1,0 +1,5 @@
+use Rattle.mp4_entry.specs.DescriptorLaws.{padded_at-joined}
+use Rattle.mp4_entry.proofs.descriptor.Padded.u32.Goals as goal
+
+pub returns : goal.returns
+returns c = padded_at-joined 2 2 _ _ _ _ _ c.u16-high.ensures c.u16-low.ensures

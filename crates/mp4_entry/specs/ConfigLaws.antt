@@ -1,0 +1,86 @@
+-- What is made of a configuration that is not refused is written.
+use Rattle.std.proofs.Common.{◌≡◌, ℕ, ◌+◌, ◌≤◌, Bool, true, false, cond, ltb, length, Option, Some, None, refl, arith}
+use Rattle.mp4_codec.specs.declared.box_type.BoxType.TheVariants.{Avc1Box as avc1, Hev1Box as hev1, Vp09Box as vp09}
+use Rattle.mp4_codec.specs.declared.box_type.BoxType.TheVariants.{Tx3gBox as tx3g}
+use Rattle.mp4_codec.specs.Cause.{Cause, unrepresentable, ◌or◌}
+use Rattle.mp4_codec.specs.Boxes.{write_cause}
+use Rattle.mp4_codec.specs.FramingLaws.{length-frame}
+use Rattle.mp4_codec.specs.WriteLaws.{or_parts, write_cause-none}
+use Rattle.mp4_entry.specs.declared.avc1.AvcConfig.{AvcConfig}
+use Rattle.mp4_entry.specs.declared.config.MediaConfig.{MediaConfig}
+use Rattle.mp4_entry.specs.declared.config.MediaConfig.TheVariants.{AvcConfig as Avc, HevcConfig as Hevc}
+use Rattle.mp4_entry.specs.declared.config.MediaConfig.TheVariants.{Vp9Config as Vp9, TtxtConfig as Ttxt}
+use Rattle.mp4_entry.specs.Avcc.{past, avcc_refusal, avcc_of_sets}
+use Rattle.mp4_entry.specs.AvccLaws.{within}
+use Rattle.mp4_entry.specs.Avc1.{avc1_payload, avc1_refusal, avc1_of_config}
+use Rattle.mp4_entry.specs.Avc1Laws.{avc1_of_config_size}
+use Rattle.mp4_entry.specs.Hev1.{hev1_payload, hev1_of_config}
+use Rattle.mp4_entry.specs.Hev1Laws.{hev1_of_config_size}
+use Rattle.mp4_entry.specs.Vp09.{vp09_payload, vp09_of_config}
+use Rattle.mp4_entry.specs.Vp09Laws.{vp09_of_config_size}
+use Rattle.mp4_entry.specs.Tx3g.{tx3g_payload, default_tx3g}
+use Rattle.mp4_entry.specs.Tx3gLaws.{length-tx3g_payload}
+use Rattle.mp4_entry.specs.Config.{avc_refusal, media_refusal, entry_length}
+use Rattle.mp4_entry.specs.Stsd.{entry_bytes, entry_refusal, entry_of_config, stsd_of_config, stsd_payload, stsd_refusal}
+use Rattle.mp4_entry.specs.StsdLaws.{length-stsd_payload}
+
+-- the box of the entry of a configuration has its length
+length-entry : (c : MediaConfig) → length (entry_bytes (entry_of_config c)) ≡ entry_length c
+length-entry (Avc c) =
+    omega (arith, length-frame avc1 (avc1_payload (avc1_of_config c)), avc1_of_config_size c)
+length-entry (Hevc c) =
+    omega (arith, length-frame hev1 (hev1_payload (hev1_of_config c)), hev1_of_config_size c)
+length-entry (Vp9 c) =
+    omega (arith, length-frame vp09 (vp09_payload (vp09_of_config c)), vp09_of_config_size c)
+length-entry (Ttxt c) =
+    omega (arith, length-frame tx3g (tx3g_payload default_tx3g), length-tx3g_payload default_tx3g)
+
+pub length-stsd_of_config : (c : MediaConfig) → length (stsd_payload (stsd_of_config c)) ≡ 8 + entry_length c
+length-stsd_of_config (Avc c) = omega (arith, length-stsd_payload (stsd_of_config (Avc c)), length-entry (Avc c))
+length-stsd_of_config (Hevc c) = omega (arith, length-stsd_payload (stsd_of_config (Hevc c)), length-entry (Hevc c))
+length-stsd_of_config (Vp9 c) = omega (arith, length-stsd_payload (stsd_of_config (Vp9 c)), length-entry (Vp9 c))
+length-stsd_of_config (Ttxt c) = omega (arith, length-stsd_payload (stsd_of_config (Ttxt c)), length-entry (Ttxt c))
+
+-- parameter sets that have room in the 16 bits of their lengths
+record HaveRoom (c : AvcConfig) : Type 0 where
+  sequence : past 0xffff (length c.seq_param_set) ≡ None
+  picture : past 0xffff (length c.pic_param_set) ≡ None
+
+have_room : (c : AvcConfig) → avc_refusal c ≡ None → HaveRoom c
+have_room c e = chosen (ltb (length c.seq_param_set) 4) e
+  where
+    chosen : (short : Bool)
+        → cond short (Some unrepresentable)
+        (past 0xffff (length c.seq_param_set) or past 0xffff (length c.pic_param_set))
+        ≡ None → HaveRoom c
+    chosen true e = absurd cc
+    chosen false e =
+        let parts = or_parts (past 0xffff (length c.seq_param_set)) (past 0xffff (length c.pic_param_set)) e in
+        record { sequence = parts.0; picture = parts.1 }
+
+avc1_sound : (c : AvcConfig) → HaveRoom c → avc1_refusal (avc1_of_config c) ≡ None
+unfolding avc1_refusal avcc_refusal
+avc1_sound c h = rw (h.sequence, h.picture) refl
+
+sound : (c : MediaConfig) → media_refusal c ≡ None → stsd_refusal (stsd_of_config c) ≡ None
+sound (Avc c) e = avc1_sound c (have_room c e)
+sound (Hevc c) e = refl
+sound (Vp9 c) e = refl
+sound (Ttxt c) e = refl
+
+short : (c : MediaConfig) → media_refusal c ≡ None → entry_length c ≤ 131175
+short (Avc c) e =
+    let h = have_room c e in
+    let first : length c.seq_param_set ≤ 0xffff = within 0xffff (length c.seq_param_set) h.sequence in
+    let second : length c.pic_param_set ≤ 0xffff = within 0xffff (length c.pic_param_set) h.picture in
+    omega (arith, first, second)
+short (Hevc c) e = omega arith
+short (Vp9 c) e = omega arith
+short (Ttxt c) e = omega arith
+
+-- the description of a track is written where its configuration is not refused
+pub media_written : (c : MediaConfig) → media_refusal c ≡ None
+    → write_cause (stsd_payload (stsd_of_config c)) (stsd_refusal (stsd_of_config c)) ≡ None
+media_written c e =
+    write_cause-none (stsd_payload (stsd_of_config c)) (stsd_refusal (stsd_of_config c))
+    (omega (arith, length-stsd_of_config c, short c e)) (sound c e)

@@ -1,0 +1,75 @@
+-- The sample entry of HEVC video (ISO/IEC 14496-15, 8.4.1).
+use Rattle.std.specs.Prelude.{ℕ, ◌^◌, ◌<◌, List, Result, Ok}
+use Rattle.mp4_codec.specs.declared.box_type.BoxType.TheVariants.{HvcCBox as hvcc}
+use Rattle.mp4_codec.specs.Cause.{Cause, ◌>>=◌}
+use Rattle.mp4_codec.specs.Bytes.{◌⧺◌}
+use Rattle.mp4_codec.specs.Boxes.{frame, IsCanonical, no_refusal}
+use Rattle.mp4_codec.specs.Children.{children, gathered, fault_in, last_of}
+use Rattle.mp4_entry.specs.declared.visual.Visual.{Visual}
+use Rattle.mp4_entry.specs.declared.hvcc.HvcCBox.{HvcCBox}
+use Rattle.mp4_entry.specs.declared.hev1.HevcConfig.{HevcConfig}
+use Rattle.mp4_entry.specs.declared.hev1.Hev1Box.{Hev1Box}
+use Rattle.mp4_entry.specs.Visual.{visual_at, visual, visual_of_size, required, IsInRangeVisual}
+use Rattle.mp4_entry.specs.Hvcc.{hvcc_of, hvcc_payload, default_hvcc}
+
+-- an entry that begins so, and holds this
+abbrev pub hev1_with : Visual → HvcCBox → Hev1Box
+hev1_with v hvcc_box = record {
+  data_reference_index = v.data_reference_index;
+  width = v.width;
+  height = v.height;
+  horizresolution = v.horizresolution;
+  vertresolution = v.vertresolution;
+  frame_count = v.frame_count;
+  depth = v.depth;
+  hvcc = hvcc_box;
+}
+
+-- the entry that a payload holds: what a visual entry begins with, and the last "hvcC" of its children
+unfoldable pub hev1_of : List ℕ → Result Hev1Box Cause
+hev1_of payload = do
+  begins ← visual_at payload
+  last_hvcc ← gathered (fault_in hvcc hvcc_of) (last_of hvcc hvcc_of) (children begins.1)
+  hvcc_box ← required last_hvcc
+  Ok (hev1_with begins.0 hvcc_box)
+
+-- what the entry begins with
+abbrev pub visual_of : Hev1Box → Visual
+visual_of b = record {
+  data_reference_index = b.data_reference_index;
+  width = b.width;
+  height = b.height;
+  horizresolution = b.horizresolution;
+  vertresolution = b.vertresolution;
+  frame_count = b.frame_count;
+  depth = b.depth;
+}
+
+-- the payload that holds an entry
+unfoldable pub hev1_payload : Hev1Box → List ℕ
+hev1_payload b = visual (visual_of b) ⧺ frame hvcc (hvcc_payload b.hvcc)
+
+-- each number is within its type
+pub record IsInRangeHev1 (b : Hev1Box) : Type 0 where
+  pub visual : IsInRangeVisual (visual_of b)
+
+-- nothing beside what is written
+abbrev pub RemarksHev1 : Hev1Box → Type 0
+RemarksHev1 b = Unit {0}
+
+-- an entry that is written and reads back equal
+abbrev pub IsCanonicalHev1 : Hev1Box → Type 0
+IsCanonicalHev1 = IsCanonical IsInRangeHev1 RemarksHev1 hev1_payload no_refusal
+
+-- pictures of no size
+abbrev pub default_hev1 : Hev1Box
+default_hev1 = hev1_with (visual_of_size 0 0) default_hvcc
+
+-- the entry of a configuration: pictures of its size
+abbrev pub hev1_of_config : HevcConfig → Hev1Box
+hev1_of_config c = hev1_with (visual_of_size c.width c.height) default_hvcc
+
+-- each number is within its type
+pub record IsInRangeHevcConfig (c : HevcConfig) : Type 0 where
+  pub width : c.width < 2 ^ 16
+  pub height : c.height < 2 ^ 16

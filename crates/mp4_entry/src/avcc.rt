@@ -1,0 +1,347 @@
+//! What a decoder of AVC video is started with.
+
+ghost use Rattle.std.specs.Prelude.{◌≡◌, ◌-◌, ◌^◌, [], ◌∷◌, min, length, Ok, OnOk, unwrap_or, slice_get};
+ghost use Rattle.std.specs.List.{flat_map};
+ghost use Rattle.mp4_codec.specs.declared.box_type.BoxType.TheVariants.{AvcCBox as avcc};
+ghost use Rattle.mp4_codec.specs.Cause.{Gives, Answers, Checks};
+ghost use Rattle.mp4_codec.specs.Bytes.{Appends, number, list_at};
+ghost use Rattle.mp4_codec.specs.Boxes.{size_around, all_refusal};
+ghost use Rattle.mp4_entry.specs.Avcc.{unit_at, unit, unit_refusal, past, avcc_of, avcc_payload, avcc_refusal, default_avcc, avcc_of_sets, IsInRangeAvcC, IsInRangeNalUnit, RemarksAvcC};
+ghost use Rattle.mp4_entry.specs.AvccLaws.{avcc_again};
+
+use byteorder::{BigEndian, ByteOrder};
+use mp4_codec::{
+    BoxType, Error, Fields, InRange, Items, Mp4Box, Put, ReadBox, Result, TryClone, WriteBox,
+    put_bytes, put_u8,
+};
+use std::alloc::Global;
+
+/// A parameter set: a NAL unit of AVC video, without a start code (ISO/IEC 14496-15, 5.3.3.1).
+///
+/// One of more than 65,535 bytes isn't written, but `Unrepresentable`.
+#[derive(Debug, PartialEq, Eq, Drop)]
+pub struct NalUnit {
+    pub bytes: Items<u8>,
+}
+
+impl NalUnit {
+    /// The next set: its length in two bytes, and its bytes.
+    #[tactic(auto, unfolding(crate::specs::Avcc::unit_at))]
+    fn read(alloc: Global, fields: &mut Fields) -> Result<Self>
+        ensures { Answers (λ u. (u, fields.new)) result (unit_at fields.old) }
+    {
+        let length = fields.u16()?;
+        let bytes = fields.bytes(length as usize)?;
+        Ok(NalUnit {
+            bytes: Items::from(bytes.to_vec(alloc)?),
+        })
+    }
+
+    /// Whether the set fits the two bytes of its length; else it is `Unrepresentable`.
+    fn check(&self) -> Result<()>
+        ensures { Checks result (unit_refusal self.now) }
+    {
+        check_at_most(0xffff, self.bytes.len())
+    }
+
+    /// Adds the set: the two low bytes of its length, and its bytes.
+    fn put(&self, out: &mut Vec<u8>) -> Put
+        ensures { OnOk result (Appends out.old.items out.new.items (unit self.now)) }
+    {
+        put_length(out, self.bytes.len())?;
+        put_bytes(out, self.bytes.as_slice())?;
+        Ok(())
+    }
+
+    /// The bytes of the set, its length included.
+    #[tactic(auto, using(crate::proofs::Sizes::sizes))]
+    fn size(&self) -> u64
+        ensures { result ≡ min (length (unit self.now)) (2 ^ 64 - 1) }
+    {
+        (self.bytes.len() as u64).saturating_add(2)
+    }
+}
+
+impl TryClone for NalUnit {
+    fn try_clone(&self) -> Result<Self> {
+        Ok(NalUnit {
+            bytes: self.bytes.try_clone()?,
+        })
+    }
+}
+
+impl InRange for NalUnit {
+    ghost IsInRange = { IsInRangeNalUnit };
+
+    fn in_range(&self) {
+        self.bytes.in_range();
+    }
+}
+
+/// Adds the two low bytes of a length, the high one first.
+#[tactic(auto, unfolding(mp4_codec::specs::Bytes::number))]
+fn put_length(out: &mut Vec<u8>, n: usize) -> Put
+    ensures { OnOk result (Appends out.old.items out.new.items (number 2 n)) }
+{
+    let mut bytes = [0u8; 8];
+    BigEndian::write_u64(&mut bytes, n as u64);
+    out.extend_from_slice(&bytes[6..])
+}
+
+/// Adds the low byte of a number.
+#[tactic(auto, unfolding(mp4_codec::specs::Bytes::number))]
+fn put_low_byte(out: &mut Vec<u8>, n: usize) -> Put
+    ensures { OnOk result (Appends out.old.items out.new.items (number 1 n)) }
+{
+    let mut bytes = [0u8; 8];
+    BigEndian::write_u64(&mut bytes, n as u64);
+    out.extend_from_slice(&bytes[7..])
+}
+
+/// Whether a number is within its field; else it is `Unrepresentable`.
+fn check_at_most(limit: usize, n: usize) -> Result<()>
+    ensures { Checks result (past limit n) }
+{
+    if n > limit {
+        return Err(Error::Unrepresentable("a number past its bits"));
+    }
+    Ok(())
+}
+
+/// So many sets, one after the other. The first that passes the end is `InvalidData`.
+fn read_units(alloc: Global, fields: &mut Fields, count: u8) -> Result<Items<NalUnit>>
+    ensures { Answers (λ units. (units, fields.new)) result (list_at unit_at count fields.old) }
+{
+    let mut units = Items::new(alloc);
+    for _ in 0..count {
+        let unit = NalUnit::read(alloc, fields)?;
+        units.push(unit)?;
+    }
+    Ok(units)
+}
+
+/// Adds sets, one after the other.
+fn put_units(out: &mut Vec<u8>, units: &Items<NalUnit>) -> Put
+    ensures { OnOk result (Appends out.old.items out.new.items (flat_map unit units.now)) }
+{
+    for item in units.as_slice() {
+        item.put(out)?;
+    }
+    Ok(())
+}
+
+/// The bytes of sets; they stop at 2^64 - 1.
+fn units_size(units: &Items<NalUnit>) -> u64
+    ensures { result ≡ min (length (flat_map unit units.now)) (2 ^ 64 - 1) }
+{
+    let mut size = 0u64;
+    for item in units.as_slice() {
+        size = size.saturating_add(item.size());
+    }
+    size
+}
+
+/// Whether each set fits the two bytes of its length; else it is `Unrepresentable`.
+fn check_units(units: &Items<NalUnit>) -> Result<()>
+    ensures { Checks result (all_refusal unit_refusal units.now) }
+{
+    for item in units.as_slice() {
+        item.check()?;
+    }
+    Ok(())
+}
+
+/// The byte of a set at an index, which counts from 0; 0 where it has none.
+fn byte_at(set: &Items<u8>, index: usize) -> u8
+    ensures { result ≡ unwrap_or (slice_get set.now index) 0 }
+{
+    match set.get(index) {
+        None => 0,
+        Some(byte) => *byte,
+    }
+}
+
+/// One set in a list.
+fn one_unit(alloc: Global, bytes: &Items<u8>) -> Result<Items<NalUnit>>
+    ensures { Answers (λ units. units) result (Ok (record { bytes = bytes.now } ∷ [])) }
+{
+    let mut units = Items::new(alloc);
+    let bytes = bytes.try_clone()?;
+    units.push(NalUnit { bytes })?;
+    Ok(units)
+}
+
+/// What a decoder of AVC video is started with, `avcC` (ISO/IEC 14496-15, 5.3.3.1).
+///
+/// Sets that pass the end are `InvalidData`; what follows them is skipped. The high six bits of the byte that
+/// `length_size_minus_one` is in, and the high three of the byte with the count of sequence parameter sets, aren't
+/// looked at and are written as ones. `Unrepresentable`, when it is written: a `length_size_minus_one` over 3, over 31
+/// sequence parameter sets, over 255 picture parameter sets, a set of more than 65,535 bytes.
+#[derive(Debug, PartialEq, Eq, Drop)]
+pub struct AvcCBox {
+    /// 1 by the standard; any other is read and written too.
+    pub configuration_version: u8,
+    /// The profile, as the second byte of a sequence parameter set has it: 66 baseline, 77 main, 100 high.
+    pub avc_profile_indication: u8,
+    /// The constraints that the third byte of a sequence parameter set has.
+    pub profile_compatibility: u8,
+    /// The level times 10, as the fourth byte of a sequence parameter set has it.
+    pub avc_level_indication: u8,
+    /// How many bytes the length before each NAL unit of a sample has, less 1: at most 3.
+    pub length_size_minus_one: u8,
+    pub sequence_parameter_sets: Items<NalUnit>,
+    pub picture_parameter_sets: Items<NalUnit>,
+}
+
+impl AvcCBox {
+    /// Lengths of four bytes, and no sets.
+    pub fn default(alloc: Global) -> Result<Self>
+        ensures { Gives (λ b. b) result (Ok default_avcc) }
+    {
+        Ok(AvcCBox {
+            configuration_version: 1,
+            avc_profile_indication: 0,
+            profile_compatibility: 0,
+            avc_level_indication: 0,
+            length_size_minus_one: 3,
+            sequence_parameter_sets: Items::new(alloc),
+            picture_parameter_sets: Items::new(alloc),
+        })
+    }
+
+    /// One set of each kind, with the profile, its constraints and the level from the second, third and fourth byte of
+    /// the sequence parameter set; a byte that it hasn't counts as 0. Lengths have four bytes.
+    pub(crate) fn of_sets(
+        alloc: Global,
+        seq_param_set: &Items<u8>,
+        pic_param_set: &Items<u8>,
+    ) -> Result<Self>
+        ensures { Answers (λ b. b) result (Ok (avcc_of_sets seq_param_set.now pic_param_set.now)) }
+    {
+        let sequence_parameter_sets = one_unit(alloc, seq_param_set)?;
+        let picture_parameter_sets = one_unit(alloc, pic_param_set)?;
+        Ok(AvcCBox {
+            configuration_version: 1,
+            avc_profile_indication: byte_at(seq_param_set, 1),
+            profile_compatibility: byte_at(seq_param_set, 2),
+            avc_level_indication: byte_at(seq_param_set, 3),
+            length_size_minus_one: 3,
+            sequence_parameter_sets,
+            picture_parameter_sets,
+        })
+    }
+
+    /// `avcC`.
+    pub fn get_type(&self) -> BoxType
+        ensures { result ≡ avcc }
+    {
+        BoxType::AvcCBox
+    }
+
+    /// The bytes of the box, its header included: 15, and 2 and its length for each set. They are counted also where
+    /// the box isn't written.
+    #[tactic(auto, using(crate::proofs::Sizes::sizes))]
+    pub fn get_size(&self) -> u64
+        ensures { result ≡ size_around (avcc_payload self.now) }
+    {
+        units_size(&self.sequence_parameter_sets)
+            .saturating_add(units_size(&self.picture_parameter_sets))
+            .saturating_add(15)
+    }
+}
+
+impl TryClone for AvcCBox {
+    fn try_clone(&self) -> Result<Self> {
+        Ok(AvcCBox {
+            configuration_version: self.configuration_version,
+            avc_profile_indication: self.avc_profile_indication,
+            profile_compatibility: self.profile_compatibility,
+            avc_level_indication: self.avc_level_indication,
+            length_size_minus_one: self.length_size_minus_one,
+            sequence_parameter_sets: self.sequence_parameter_sets.try_clone()?,
+            picture_parameter_sets: self.picture_parameter_sets.try_clone()?,
+        })
+    }
+}
+
+impl InRange for AvcCBox {
+    ghost IsInRange = { IsInRangeAvcC };
+
+    fn in_range(&self) {
+        self.configuration_version.in_range();
+        self.avc_profile_indication.in_range();
+        self.profile_compatibility.in_range();
+        self.avc_level_indication.in_range();
+        self.length_size_minus_one.in_range();
+    }
+}
+
+impl Mp4Box for AvcCBox {
+    ghost KIND = { avcc };
+
+    const KIND: BoxType = BoxType::AvcCBox;
+
+    ghost payload = { avcc_payload };
+
+    fn box_size(&self) -> u64 {
+        self.get_size()
+    }
+}
+
+impl ReadBox for AvcCBox {
+    ghost value = { avcc_of };
+
+    #[tactic(auto, unfolding(crate::specs::Avcc::avcc_of))]
+    fn read_payload(alloc: Global, payload: &[u8]) -> Result<Self> {
+        let mut fields = Fields::new(payload);
+        let configuration_version = fields.u8()?;
+        let avc_profile_indication = fields.u8()?;
+        let profile_compatibility = fields.u8()?;
+        let avc_level_indication = fields.u8()?;
+        let length_size = fields.u8()?;
+        let sequence_count = fields.u8()?;
+        let sequence_parameter_sets = read_units(alloc, &mut fields, sequence_count % 32)?;
+        let picture_count = fields.u8()?;
+        let picture_parameter_sets = read_units(alloc, &mut fields, picture_count)?;
+        Ok(AvcCBox {
+            configuration_version,
+            avc_profile_indication,
+            profile_compatibility,
+            avc_level_indication,
+            length_size_minus_one: length_size % 4,
+            sequence_parameter_sets,
+            picture_parameter_sets,
+        })
+    }
+}
+
+impl WriteBox for AvcCBox {
+    ghost refusal = { avcc_refusal };
+
+    ghost Remarks = { RemarksAvcC };
+
+    ghost reads_back = { avcc_again };
+
+    #[tactic(auto, unfolding(crate::specs::Avcc::avcc_refusal))]
+    fn check(&self) -> Result<()> {
+        check_at_most(3, self.length_size_minus_one as usize)?;
+        check_at_most(31, self.sequence_parameter_sets.len())?;
+        check_at_most(255, self.picture_parameter_sets.len())?;
+        check_units(&self.sequence_parameter_sets)?;
+        check_units(&self.picture_parameter_sets)?;
+        Ok(())
+    }
+
+    fn put_payload(&self, out: &mut Vec<u8>) -> Put {
+        put_u8(out, self.configuration_version)?;
+        put_u8(out, self.avc_profile_indication)?;
+        put_u8(out, self.profile_compatibility)?;
+        put_u8(out, self.avc_level_indication)?;
+        put_low_byte(out, 0xfc + self.length_size_minus_one as usize)?;
+        put_low_byte(out, 0xe0 + self.sequence_parameter_sets.len())?;
+        put_units(out, &self.sequence_parameter_sets)?;
+        put_low_byte(out, self.picture_parameter_sets.len())?;
+        put_units(out, &self.picture_parameter_sets)?;
+        Ok(())
+    }
+}

@@ -1,0 +1,118 @@
+//! What the sample entry of a track is made from.
+
+ghost use Rattle.std.specs.Prelude.{◌≡◌, Ok};
+ghost use Rattle.mp4_codec.specs.Cause.{Answers, Checks};
+ghost use Rattle.mp4_entry.specs.Config.{media_refusal, avc_refusal, track_type_in, media_type_in, IsInRangeMediaConfig};
+
+use crate::avc1::AvcConfig;
+use crate::hev1::HevcConfig;
+use crate::media_type::MediaType;
+use crate::track_type::TrackType;
+use crate::tx3g::TtxtConfig;
+use crate::vp09::Vp9Config;
+use mp4_codec::{Error, InRange, Result, TryClone};
+
+/// The longest parameter set, whose length has 16 bits.
+const LONGEST_SET: usize = 65_535;
+
+/// How the samples of a track are coded, and what their decoder is started with.
+#[derive(Debug, PartialEq, Eq, Drop)]
+pub enum MediaConfig {
+    AvcConfig(AvcConfig),
+    HevcConfig(HevcConfig),
+    Vp9Config(Vp9Config),
+    TtxtConfig(TtxtConfig),
+}
+
+/// Whether the parameter sets of AVC video have a spelling.
+fn check_avc(config: &AvcConfig) -> Result<()>
+    ensures { Checks result (avc_refusal config.now) }
+{
+    let sequence = config.seq_param_set.len();
+    if sequence < 4 {
+        return Err(Error::Unrepresentable("a sequence set under 4 bytes"));
+    }
+    if sequence > LONGEST_SET {
+        return Err(Error::Unrepresentable("a sequence set over 65,535 bytes"));
+    }
+    if config.pic_param_set.len() > LONGEST_SET {
+        return Err(Error::Unrepresentable("a picture set over 65,535 bytes"));
+    }
+    Ok(())
+}
+
+impl MediaConfig {
+    /// Whether an entry of it can be written.
+    ///
+    /// `Unrepresentable` for a sequence parameter set of AVC video under 4 bytes, which hasn't its profile and level, or
+    /// over 65,535, then for a picture parameter set over 65,535 bytes; and for a type of sound over 30, which has no
+    /// place in its five bits. Nothing else is refused.
+    pub fn check(&self) -> Result<()>
+        ensures { Checks result (media_refusal self.now) }
+    {
+        match self {
+            MediaConfig::AvcConfig(config) => check_avc(config),
+            _ => Ok(()),
+        }
+    }
+
+    /// The kind of track that it is for.
+    pub fn track_type(&self) -> TrackType
+        ensures { result ≡ track_type_in self.now }
+    {
+        match self {
+            MediaConfig::AvcConfig(_) => TrackType::Video,
+            MediaConfig::HevcConfig(_) => TrackType::Video,
+            MediaConfig::Vp9Config(_) => TrackType::Video,
+            MediaConfig::TtxtConfig(_) => TrackType::Subtitle,
+        }
+    }
+
+    /// How its samples are coded.
+    pub fn media_type(&self) -> MediaType
+        ensures { result ≡ media_type_in self.now }
+    {
+        match self {
+            MediaConfig::AvcConfig(_) => MediaType::H264,
+            MediaConfig::HevcConfig(_) => MediaType::H265,
+            MediaConfig::Vp9Config(_) => MediaType::VP9,
+            MediaConfig::TtxtConfig(_) => MediaType::TTXT,
+        }
+    }
+}
+
+impl TryClone for MediaConfig {
+    fn try_clone(&self) -> Result<Self> {
+        match self {
+            MediaConfig::AvcConfig(config) => {
+                let copy = config.try_clone()?;
+                Ok(MediaConfig::AvcConfig(copy))
+            }
+            MediaConfig::HevcConfig(config) => {
+                let copy = config.try_clone()?;
+                Ok(MediaConfig::HevcConfig(copy))
+            }
+            MediaConfig::Vp9Config(config) => {
+                let copy = config.try_clone()?;
+                Ok(MediaConfig::Vp9Config(copy))
+            }
+            MediaConfig::TtxtConfig(config) => {
+                let copy = config.try_clone()?;
+                Ok(MediaConfig::TtxtConfig(copy))
+            }
+        }
+    }
+}
+
+impl InRange for MediaConfig {
+    ghost IsInRange = { IsInRangeMediaConfig };
+
+    fn in_range(&self) {
+        match self {
+            MediaConfig::AvcConfig(config) => config.in_range(),
+            MediaConfig::HevcConfig(config) => config.in_range(),
+            MediaConfig::Vp9Config(config) => config.in_range(),
+            MediaConfig::TtxtConfig(config) => config.in_range(),
+        }
+    }
+}

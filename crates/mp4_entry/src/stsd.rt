@@ -1,0 +1,308 @@
+//! The sample description.
+
+ghost use Rattle.std.specs.Prelude.{◌≡◌, ◌-◌, ◌<◌, ◌^◌, Ok, OnOk, length, min};
+ghost use Rattle.mp4_codec.specs.declared.box_type.BoxType.TheVariants.{StsdBox as stsd};
+ghost use Rattle.mp4_codec.specs.Boxes.{size_around};
+ghost use Rattle.mp4_codec.specs.Bytes.{Appends};
+ghost use Rattle.mp4_codec.specs.Cause.{Answers, Checks, Gives, seen};
+ghost use Rattle.mp4_codec.specs.Children.{child_box};
+ghost use Rattle.mp4_entry.specs.Stsd.{stsd_payload, default_stsd, stsd_of, stsd_of_config, stsd_refusal, IsInRangeStsd, RemarksStsd, first_entry, with_entry, entry_of, entry_bytes, entry_count, no_entry};
+ghost use Rattle.mp4_entry.specs.StsdLaws.{stsd_again};
+
+use crate::avc1::Avc1Box;
+use crate::config::MediaConfig;
+use crate::hev1::Hev1Box;
+use crate::mp4a::Mp4aBox;
+use crate::tx3g::Tx3gBox;
+use crate::vp09::Vp09Box;
+use mp4_codec::{
+    BoxType, Child, Children, Fields, InRange, Mp4Box, Put, ReadBox, Result, TryClone, WriteBox,
+    put_u8, put_u24, put_u32,
+};
+use std::alloc::Global;
+
+/// The sample description, `stsd`: the sample entry of a track (ISO/IEC 14496-12, 8.5.2).
+///
+/// Any version is read and written. Of what is read the first entry alone is looked at, whatever the count says. Where
+/// fewer than 8 bytes are left there is none; else a box has to begin there and to lie within the payload, or it is
+/// `InvalidData`. An entry of another type than the five is skipped, and so is what follows the first. Of what is
+/// written the first that is there stands, in the order of the fields, with a count of 1, or 0 where none is there; its
+/// refusal is that of the box.
+#[derive(Debug, PartialEq, Eq, Drop)]
+pub struct StsdBox {
+    pub version: u8,
+    /// The low 24 bits are written.
+    pub flags: u32,
+    /// AVC video.
+    pub avc1: Option<Avc1Box>,
+    /// HEVC video.
+    pub hev1: Option<Hev1Box>,
+    /// VP9 video.
+    pub vp09: Option<Vp09Box>,
+    /// AAC sound.
+    pub mp4a: Option<Mp4aBox>,
+    /// Timed text.
+    pub tx3g: Option<Tx3gBox>,
+}
+
+impl StsdBox {
+    /// No entry.
+    pub fn default(_alloc: Global) -> Result<Self>
+        ensures { Gives (λ b. b) result (Ok default_stsd) }
+    {
+        Ok(Self::without_entry(0, 0))
+    }
+
+    /// The description of a track that is begun with this configuration: version and flags 0, and its entry.
+    pub fn new(alloc: Global, config: &MediaConfig) -> Result<Self>
+        ensures { Answers (λ b. b) result (Ok (stsd_of_config config.now)) }
+    {
+        let mut description = Self::without_entry(0, 0);
+        match config {
+            MediaConfig::AvcConfig(config) => {
+                description.avc1 = Some(Avc1Box::new(alloc, config)?);
+                Ok(description)
+            }
+            MediaConfig::HevcConfig(config) => {
+                description.hev1 = Some(Hev1Box::new(alloc, config)?);
+                Ok(description)
+            }
+            MediaConfig::Vp9Config(config) => {
+                description.vp09 = Some(Vp09Box::new(alloc, config)?);
+                Ok(description)
+            }
+            MediaConfig::TtxtConfig(config) => {
+                description.tx3g = Some(Tx3gBox::new(config));
+                Ok(description)
+            }
+        }
+    }
+
+    /// `stsd`.
+    pub fn get_type(&self) -> BoxType
+        ensures { result ≡ stsd }
+    {
+        BoxType::StsdBox
+    }
+
+    /// The bytes of the box, its header included: 16, and those of the entry that is written.
+    #[tactic(auto, using(crate::proofs::Sizes::sizes))]
+    pub fn get_size(&self) -> u64
+        ensures { result ≡ size_around (stsd_payload self.now) }
+    {
+        self.entry_size().saturating_add(16)
+    }
+
+    /// No entry.
+    fn without_entry(version: u8, flags: u32) -> Self
+        ensures { result ≡ no_entry version flags }
+    {
+        StsdBox {
+            version,
+            flags,
+            avc1: None,
+            hev1: None,
+            vp09: None,
+            mp4a: None,
+            tx3g: None,
+        }
+    }
+
+    /// The description whose first entry is this child.
+    #[tactic(auto, unfolding(crate::specs::Stsd::entry_of))]
+    fn read_entry(alloc: Global, version: u8, flags: u32, child: &Child) -> Result<Self>
+        ensures { Answers (λ b. b) result (seen (with_entry version flags) (entry_of (child_box child.now))) }
+    {
+        let mut description = Self::without_entry(version, flags);
+        let code = u32::from(child.name);
+        if code == u32::from(BoxType::Avc1Box) {
+            description.avc1 = Some(Avc1Box::read_payload(alloc, child.payload)?);
+            return Ok(description);
+        }
+        if code == u32::from(BoxType::Hev1Box) {
+            description.hev1 = Some(Hev1Box::read_payload(alloc, child.payload)?);
+            return Ok(description);
+        }
+        if code == u32::from(BoxType::Vp09Box) {
+            description.vp09 = Some(Vp09Box::read_payload(alloc, child.payload)?);
+            return Ok(description);
+        }
+        if code == u32::from(BoxType::Mp4aBox) {
+            description.mp4a = Some(Mp4aBox::read_payload(alloc, child.payload)?);
+            return Ok(description);
+        }
+        if code == u32::from(BoxType::Tx3gBox) {
+            description.tx3g = Some(Tx3gBox::read_payload(alloc, child.payload)?);
+            return Ok(description);
+        }
+        Ok(description)
+    }
+
+    /// How many entries are written.
+    fn count(&self) -> u32
+        ensures { result ≡ entry_count (first_entry self.now) }
+    {
+        if self.avc1.is_some() {
+            return 1;
+        }
+        if self.hev1.is_some() {
+            return 1;
+        }
+        if self.vp09.is_some() {
+            return 1;
+        }
+        if self.mp4a.is_some() {
+            return 1;
+        }
+        if self.tx3g.is_some() {
+            return 1;
+        }
+        0
+    }
+
+    /// The bytes of the entry that is written; they stop at 2^64 - 1.
+    #[tactic(auto, using(crate::proofs::Sizes::frames))]
+    fn entry_size(&self) -> u64
+        ensures { result ≡ min (length (entry_bytes (first_entry self.now))) (2 ^ 64 - 1) }
+    {
+        if let Some(entry) = &self.avc1 {
+            return entry.box_size();
+        }
+        if let Some(entry) = &self.hev1 {
+            return entry.box_size();
+        }
+        if let Some(entry) = &self.vp09 {
+            return entry.box_size();
+        }
+        if let Some(entry) = &self.mp4a {
+            return entry.box_size();
+        }
+        if let Some(entry) = &self.tx3g {
+            return entry.box_size();
+        }
+        0
+    }
+
+    /// Whether the entry that is written can be.
+    fn check_entry(&self) -> Result<()>
+        ensures { Checks result (stsd_refusal self.now) }
+    {
+        if let Some(entry) = &self.avc1 {
+            return entry.check();
+        }
+        if let Some(entry) = &self.hev1 {
+            return entry.check();
+        }
+        if let Some(entry) = &self.vp09 {
+            return entry.check();
+        }
+        if let Some(entry) = &self.mp4a {
+            return entry.check();
+        }
+        if let Some(entry) = &self.tx3g {
+            return entry.check();
+        }
+        Ok(())
+    }
+
+    /// Adds the entry that is written.
+    #[tactic(auto, using(crate::proofs::Sizes::frames))]
+    fn put_entry(&self, out: &mut Vec<u8>) -> Put
+        requires { length (entry_bytes (first_entry self.now)) < 2 ^ 32 }
+        ensures { OnOk result (Appends out.old.items out.new.items (entry_bytes (first_entry self.now))) }
+    {
+        if let Some(entry) = &self.avc1 {
+            return entry.put_box(out);
+        }
+        if let Some(entry) = &self.hev1 {
+            return entry.put_box(out);
+        }
+        if let Some(entry) = &self.vp09 {
+            return entry.put_box(out);
+        }
+        if let Some(entry) = &self.mp4a {
+            return entry.put_box(out);
+        }
+        if let Some(entry) = &self.tx3g {
+            return entry.put_box(out);
+        }
+        Ok(())
+    }
+}
+
+impl TryClone for StsdBox {
+    fn try_clone(&self) -> Result<Self> {
+        Ok(StsdBox {
+            version: self.version,
+            flags: self.flags,
+            avc1: self.avc1.try_clone()?,
+            hev1: self.hev1.try_clone()?,
+            vp09: self.vp09.try_clone()?,
+            mp4a: self.mp4a.try_clone()?,
+            tx3g: self.tx3g.try_clone()?,
+        })
+    }
+}
+
+impl InRange for StsdBox {
+    ghost IsInRange = { IsInRangeStsd };
+
+    fn in_range(&self) {
+        self.version.in_range();
+        self.avc1.in_range();
+        self.hev1.in_range();
+        self.vp09.in_range();
+        self.mp4a.in_range();
+        self.tx3g.in_range();
+    }
+}
+
+impl Mp4Box for StsdBox {
+    ghost KIND = { stsd };
+
+    const KIND: BoxType = BoxType::StsdBox;
+
+    ghost payload = { stsd_payload };
+
+    fn box_size(&self) -> u64 {
+        self.get_size()
+    }
+}
+
+impl ReadBox for StsdBox {
+    ghost value = { stsd_of };
+
+    #[tactic(auto, unfolding(crate::specs::Stsd::stsd_of))]
+    fn read_payload(alloc: Global, payload: &[u8]) -> Result<Self> {
+        let mut fields = Fields::new(payload);
+        let version = fields.u8()?;
+        let flags = fields.u24()?;
+        fields.u32()?;
+        let mut entries = Children::new(fields.rest());
+        match entries.next_child()? {
+            None => Ok(Self::without_entry(version, flags)),
+            Some(child) => Self::read_entry(alloc, version, flags, &child),
+        }
+    }
+}
+
+impl WriteBox for StsdBox {
+    ghost refusal = { stsd_refusal };
+
+    ghost Remarks = { RemarksStsd };
+
+    ghost reads_back = { stsd_again };
+
+    fn check(&self) -> Result<()> {
+        self.check_entry()
+    }
+
+    #[tactic(auto, using(crate::proofs::Sizes::sizes))]
+    fn put_payload(&self, out: &mut Vec<u8>) -> Put {
+        put_u8(out, self.version)?;
+        put_u24(out, self.flags)?;
+        put_u32(out, self.count())?;
+        self.put_entry(out)?;
+        Ok(())
+    }
+}

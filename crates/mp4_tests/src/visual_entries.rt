@@ -1,0 +1,370 @@
+//! Sample entries of video.
+
+use crate::spelled::{
+    hex, is_spelled, is_unreadable, is_unrepresentable, needs, read, refuses, writes,
+};
+use mp4_codec::{BoxType, Items, Result, TryClone, WriteBox};
+use mp4_entry::{
+    Avc1Box, AvcCBox, AvcConfig, Hev1Box, HevcConfig, HvcCBox, NalUnit, Vp09Box, Vp9Config, VpccBox,
+};
+use mp4_leaf::FixedPointU16;
+use std::alloc::Global;
+
+const DEFAULT_AVCC: &str = "0000000f 61766343 01 00 00 00 ff e0 00";
+
+/// Pictures of no size, in front of the children.
+const DEFAULT_VISUAL: &str =
+    "000000000000 0001 00000000000000000000000000000000 0000 0000 00480000 00480000 00000000 0001 0000000000000000000000000000000000000000000000000000000000000000 0018 ffff";
+
+/// A number of its own in each field, in front of the children.
+const VISUAL: &str =
+    "000000000000 0102 00000000000000000000000000000000 0304 0506 0708090a 0b0c0d0e 00000000 0f10 0000000000000000000000000000000000000000000000000000000000000000 1112 ffff";
+
+/// The same, with other bytes where a reader doesn't look.
+const VISUAL_UNSEEN: &str =
+    "a1a2a3a4a5a6 0102 b1b2b3b4b5b6b7b8b9babbbcbdbebfb0 0304 0506 0708090a 0b0c0d0e c1c2c3c4 0f10 d1d2d3d4d5d6d7d8d9dadbdcdddedfd0e1e2e3e4e5e6e7e8e9eaebecedeeefe0 1112 0000";
+
+/// Bytes of one value.
+fn bytes_of(alloc: Global, count: usize, value: u8) -> Result<Items<u8>> {
+    let mut bytes = Vec::new(alloc);
+    bytes.resize(count, value)?;
+    Ok(Items::from(bytes))
+}
+
+/// So many parameter sets without bytes.
+fn empty_sets(alloc: Global, count: usize) -> Result<Items<NalUnit>> {
+    let mut sets = Items::new(alloc);
+    for _ in 0..count {
+        sets.push(NalUnit {
+            bytes: Items::new(alloc),
+        })?;
+    }
+    Ok(sets)
+}
+
+/// One parameter set of these bytes.
+fn one_set(alloc: Global, text: &str) -> Result<Items<NalUnit>> {
+    let mut sets = Items::new(alloc);
+    sets.push(NalUnit {
+        bytes: Items::from(hex(alloc, text)?),
+    })?;
+    Ok(sets)
+}
+
+#[test]
+fn the_default_of_each_has_its_size(rt: HostRuntime) -> Result<()> {
+    let avc1 = Avc1Box::default(rt.alloc())?;
+    assert_eq!(rt; (avc1.get_type(), avc1.get_size()), (BoxType::Avc1Box, 101));
+    assert_eq!(rt; avc1.avcc.get_type(), BoxType::AvcCBox);
+    assert!(rt; is_spelled(rt.alloc(), &avc1.avcc, DEFAULT_AVCC)?);
+    let text = format!(in rt.alloc(); "00000065 61766331 {DEFAULT_VISUAL} {DEFAULT_AVCC}")?;
+    assert!(rt; is_spelled(rt.alloc(), &avc1, &text)?);
+    let hev1 = Hev1Box::default(rt.alloc())?;
+    assert_eq!(rt; (hev1.get_type(), hev1.get_size()), (BoxType::Hev1Box, 117));
+    assert_eq!(rt; hev1.hvcc.get_type(), BoxType::HvcCBox);
+    let hvcc = "0000001f 68766343 01 00000000000000000000000000000000000000000000";
+    assert!(rt; is_spelled(rt.alloc(), &hev1.hvcc, hvcc)?);
+    let text = format!(in rt.alloc(); "00000075 68657631 {DEFAULT_VISUAL} {hvcc}")?;
+    assert!(rt; is_spelled(rt.alloc(), &hev1, &text)?);
+    let vp09 = Vp09Box::default(rt.alloc())?;
+    assert_eq!(rt; (vp09.get_type(), vp09.get_size()), (BoxType::Vp09Box, 106));
+    assert_eq!(rt; vp09.vpcc.get_type(), BoxType::VpccBox);
+    let vpcc = "00000014 76706343 01 000000 00 1f 80 00 00 00 0000";
+    assert!(rt; is_spelled(rt.alloc(), &vp09.vpcc, vpcc)?);
+    let text = format!(in rt.alloc(); "0000006a 76703039 {DEFAULT_VISUAL} {vpcc}")?;
+    assert!(rt; is_spelled(rt.alloc(), &vp09, &text)?);
+    Ok(())
+}
+
+#[test]
+fn each_field_of_an_entry_stands_in_its_place(rt: HostRuntime) -> Result<()> {
+    let avc1 = Avc1Box {
+        data_reference_index: 0x0102,
+        width: 0x0304,
+        height: 0x0506,
+        horizresolution: FixedPointU16::new_raw(0x0708_090a),
+        vertresolution: FixedPointU16::new_raw(0x0b0c_0d0e),
+        frame_count: 0x0f10,
+        depth: 0x1112,
+        avcc: AvcCBox::default(rt.alloc())?,
+    };
+    let text = format!(in rt.alloc(); "00000065 61766331 {VISUAL} {DEFAULT_AVCC}")?;
+    assert!(rt; is_spelled(rt.alloc(), &avc1, &text)?);
+    assert!(rt; needs::<Avc1Box>(rt.alloc(), &text, 101)?);
+    let unseen = format!(in rt.alloc(); "00000065 61766331 {VISUAL_UNSEEN} {DEFAULT_AVCC}")?;
+    assert!(rt; read::<Avc1Box>(rt.alloc(), &unseen)? == avc1);
+    let hev1 = Hev1Box {
+        data_reference_index: 0x0102,
+        width: 0x0304,
+        height: 0x0506,
+        horizresolution: FixedPointU16::new_raw(0x0708_090a),
+        vertresolution: FixedPointU16::new_raw(0x0b0c_0d0e),
+        frame_count: 0x0f10,
+        depth: 0x1112,
+        hvcc: HvcCBox {
+            raw: Items::from(hex(rt.alloc(), "aabbcc")?),
+        },
+    };
+    let text = format!(in rt.alloc(); "00000061 68657631 {VISUAL} 0000000b 68766343 aabbcc")?;
+    assert!(rt; is_spelled(rt.alloc(), &hev1, &text)?);
+    assert!(rt; needs::<Hev1Box>(rt.alloc(), &text, 97)?);
+    let vp09 = Vp09Box {
+        data_reference_index: 0x0102,
+        width: 0x0304,
+        height: 0x0506,
+        horizresolution: FixedPointU16::new_raw(0x0708_090a),
+        vertresolution: FixedPointU16::new_raw(0x0b0c_0d0e),
+        frame_count: 0x0f10,
+        depth: 0x1112,
+        vpcc: VpccBox {
+            raw: Items::from(hex(rt.alloc(), "dd")?),
+        },
+    };
+    let text = format!(in rt.alloc(); "0000005f 76703039 {VISUAL} 00000009 76706343 dd")?;
+    assert!(rt; is_spelled(rt.alloc(), &vp09, &text)?);
+    assert!(rt; needs::<Vp09Box>(rt.alloc(), &text, 95)?);
+    Ok(())
+}
+
+#[test]
+fn the_last_avcc_of_an_entry_stands(rt: HostRuntime) -> Result<()> {
+    // Two of them, with a child of another type before, between and behind them.
+    let text = format!(in rt.alloc();
+        "00000089 61766331 {VISUAL} 00000008 70617370 0000000f 61766343 01 0a0b0c fd e0 00 00000009 62747274 ee 0000000f 61766343 02 0d0e0f fe e0 00 00000007"
+    )?;
+    let entry: Avc1Box = read(rt.alloc(), &text)?;
+    let avcc = "0000000f 61766343 02 0d0e0f fe e0 00";
+    assert!(rt; is_spelled(rt.alloc(), &entry.avcc, avcc)?);
+    let text = format!(in rt.alloc(); "00000065 61766331 {VISUAL} {avcc}")?;
+    assert!(rt; is_spelled(rt.alloc(), &entry, &text)?);
+    Ok(())
+}
+
+#[test]
+fn an_entry_that_ends_in_four_zero_bytes_is_read(rt: HostRuntime) -> Result<()> {
+    let text = format!(in rt.alloc();
+        "00000069 61766331 {DEFAULT_VISUAL} {DEFAULT_AVCC} 00000000"
+    )?;
+    assert!(rt; read::<Avc1Box>(rt.alloc(), &text)? == Avc1Box::default(rt.alloc())?);
+    Ok(())
+}
+
+#[test]
+fn an_entry_without_its_configuration_is_invalid(rt: HostRuntime) -> Result<()> {
+    let children = [
+        // No child, one of another type, one of another coding.
+        "",
+        "00000008 70617370",
+        "00000008 68766343",
+        // No payload, and no count of picture parameter sets.
+        "00000008 61766343",
+        "0000000e 61766343 01 000000 ff e0",
+        // The first of two is refused; the second passes the end.
+        "00000008 61766343 0000000f 61766343 01 000000 ff e0 00",
+        "0000000f 61766343 01 000000 ff e0 00 00000010 61766343 01 000000 ff e0 00",
+        // An open end, and a broken tail of eight bytes.
+        "00000000 61766343 01 000000 ff e0 00",
+        "0000000f 61766343 01 000000 ff e0 00 0000000000000000",
+    ];
+    for child in children {
+        let text = format!(in rt.alloc(); "00000000 61766331 {VISUAL} {child}")?;
+        assert!(rt; is_unreadable::<Avc1Box>(rt.alloc(), &text), "{child}");
+    }
+    let text = format!(in rt.alloc(); "00000000 68657631 {VISUAL} {DEFAULT_AVCC}")?;
+    assert!(rt; is_unreadable::<Hev1Box>(rt.alloc(), &text));
+    let text = format!(in rt.alloc(); "00000000 76703039 {VISUAL} {DEFAULT_AVCC}")?;
+    assert!(rt; is_unreadable::<Vp09Box>(rt.alloc(), &text));
+    // These two are read as they stand, so that an empty one is a configuration.
+    let text = format!(in rt.alloc(); "0000005e 68657631 {VISUAL} 00000008 68766343")?;
+    assert!(rt; read::<Hev1Box>(rt.alloc(), &text)?.hvcc.raw.is_empty());
+    let text = format!(in rt.alloc(); "0000005e 76703039 {VISUAL} 00000008 76706343")?;
+    assert!(rt; read::<Vp09Box>(rt.alloc(), &text)?.vpcc.raw.is_empty());
+    Ok(())
+}
+
+#[test]
+fn the_sets_of_avcc_have_lengths_of_two_bytes(rt: HostRuntime) -> Result<()> {
+    let text = "0000001f 61766343 01 64 0a 1f fc e2 0004 67640a1f 0001 67 02 0003 68ee3c 0000";
+    let mut leaf = AvcCBox::default(rt.alloc())?;
+    leaf.avc_profile_indication = 0x64;
+    leaf.profile_compatibility = 0x0a;
+    leaf.avc_level_indication = 0x1f;
+    leaf.length_size_minus_one = 0;
+    leaf.sequence_parameter_sets = one_set(rt.alloc(), "67640a1f")?;
+    leaf.sequence_parameter_sets.push(NalUnit {
+        bytes: Items::from(hex(rt.alloc(), "67")?),
+    })?;
+    leaf.picture_parameter_sets = one_set(rt.alloc(), "68ee3c")?;
+    leaf.picture_parameter_sets.push(NalUnit {
+        bytes: Items::new(rt.alloc()),
+    })?;
+    assert_eq!(rt; leaf.get_size(), 31);
+    assert!(rt; is_spelled(rt.alloc(), &leaf, text)?);
+    assert!(rt; needs::<AvcCBox>(rt.alloc(), text, 31)?);
+    // A set of 258 bytes, the high byte of whose length comes first.
+    let mut long = AvcCBox::default(rt.alloc())?;
+    long.sequence_parameter_sets.push(NalUnit {
+        bytes: bytes_of(rt.alloc(), 258, 0xee)?,
+    })?;
+    let set = long
+        .sequence_parameter_sets
+        .get(0)
+        .map(|unit| unit.bytes.len());
+    assert_eq!(rt; set, Some(258));
+    let mut bytes = Vec::new(rt.alloc());
+    assert_eq!(rt; long.write_box(&mut bytes)?, 275);
+    assert!(rt; bytes.get(13..16) == Some(&[0xe1, 0x01, 0x02]));
+    Ok(())
+}
+
+#[test]
+fn the_high_bits_of_two_bytes_of_avcc_are_not_looked_at(rt: HostRuntime) -> Result<()> {
+    let mut leaf = AvcCBox::default(rt.alloc())?;
+    leaf.length_size_minus_one = 1;
+    leaf.sequence_parameter_sets = one_set(rt.alloc(), "67")?;
+    assert!(rt;
+        is_spelled(
+            rt.alloc(),
+            &leaf,
+            "00000012 61766343 01 000000 fd e1 0001 67 00"
+        )?
+    );
+    let rows = [
+        "00000012 61766343 01 000000 01 01 0001 67 00",
+        "00000012 61766343 01 000000 a9 a1 0001 67 00",
+        // What follows the sets is skipped.
+        "00000016 61766343 01 000000 fd e1 0001 67 00 fdf8f800",
+    ];
+    for text in rows {
+        assert!(rt; read::<AvcCBox>(rt.alloc(), text)? == leaf, "{text}");
+    }
+    Ok(())
+}
+
+#[test]
+fn sets_that_pass_the_end_are_invalid(rt: HostRuntime) {
+    let rows = [
+        "00000008 61766343",
+        // One sequence parameter set more, and one picture parameter set more.
+        "00000012 61766343 01 000000 ff e2 0001 67 00",
+        "0000000f 61766343 01 000000 ff e0 01",
+        // A length past the end, by one byte and by a high byte.
+        "00000012 61766343 01 000000 ff e0 01 0002 68",
+        "00000012 61766343 01 000000 ff e0 01 0101 68",
+    ];
+    for text in rows {
+        assert!(rt; is_unreadable::<AvcCBox>(rt.alloc(), text), "{text}");
+    }
+}
+
+#[test]
+fn what_avcc_has_no_bits_for_is_unrepresentable(rt: HostRuntime) -> Result<()> {
+    let mut leaf = AvcCBox::default(rt.alloc())?;
+    leaf.length_size_minus_one = 4;
+    assert!(rt; is_unrepresentable(rt.alloc(), &leaf)?);
+    assert_eq!(rt; leaf.get_size(), 15);
+    leaf.length_size_minus_one = 3;
+    leaf.sequence_parameter_sets = empty_sets(rt.alloc(), 32)?;
+    assert!(rt; is_unrepresentable(rt.alloc(), &leaf)?);
+    assert_eq!(rt; leaf.get_size(), 79);
+    leaf.sequence_parameter_sets = empty_sets(rt.alloc(), 31)?;
+    leaf.picture_parameter_sets = empty_sets(rt.alloc(), 256)?;
+    assert!(rt; is_unrepresentable(rt.alloc(), &leaf)?);
+    assert_eq!(rt; leaf.get_size(), 589);
+    leaf.picture_parameter_sets = empty_sets(rt.alloc(), 255)?;
+    let mut bytes = Vec::new(rt.alloc());
+    assert_eq!(rt; leaf.write_box(&mut bytes)?, 587);
+    assert!(rt; bytes.get(13) == Some(&0xff) && bytes.get(76) == Some(&0xff));
+    assert!(rt; crate::spelled::read_bytes::<AvcCBox>(rt.alloc(), &bytes)? == leaf);
+    Ok(())
+}
+
+#[test]
+fn a_set_past_65535_bytes_is_unrepresentable(rt: HostRuntime) -> Result<()> {
+    let mut leaf = AvcCBox::default(rt.alloc())?;
+    leaf.picture_parameter_sets.push(NalUnit {
+        bytes: bytes_of(rt.alloc(), 0x1_0000, 0x68)?,
+    })?;
+    assert!(rt; is_unrepresentable(rt.alloc(), &leaf)?);
+    assert_eq!(rt; leaf.get_size(), 15 + 2 + 0x1_0000);
+    let mut entry = Avc1Box::default(rt.alloc())?;
+    entry.avcc = leaf;
+    assert!(rt; is_unrepresentable(rt.alloc(), &entry)?);
+    assert_eq!(rt; entry.get_size(), 86 + 15 + 2 + 0x1_0000);
+    let mut leaf = AvcCBox::default(rt.alloc())?;
+    leaf.sequence_parameter_sets.push(NalUnit {
+        bytes: bytes_of(rt.alloc(), 0xffff, 0x67)?,
+    })?;
+    let mut bytes = Vec::new(rt.alloc());
+    assert_eq!(rt; leaf.write_box(&mut bytes)?, 15 + 2 + 0xffff);
+    assert!(rt; crate::spelled::read_bytes::<AvcCBox>(rt.alloc(), &bytes)? == leaf);
+    let short = bytes.get(..bytes.len() - 1).unwrap_or(&[]);
+    assert!(rt; refuses::<AvcCBox>(rt.alloc(), short));
+    Ok(())
+}
+
+#[test]
+fn a_configuration_gives_the_default_entry_with_its_size_and_sets(rt: HostRuntime) -> Result<()> {
+    let config = AvcConfig {
+        width: 320,
+        height: 240,
+        seq_param_set: Items::from(hex(rt.alloc(), "6742c01e")?),
+        pic_param_set: Items::from(hex(rt.alloc(), "68ce3c80")?),
+    };
+    assert!(rt; config.try_clone()? == config);
+    let entry = Avc1Box::new(rt.alloc(), &config)?;
+    assert_eq!(rt; entry.get_size(), 113);
+    let text =
+        "00000071 61766331 000000000000 0001 00000000000000000000000000000000 0140 00f0 00480000 00480000 00000000 0001 0000000000000000000000000000000000000000000000000000000000000000 0018 ffff 0000001b 61766343 01 42 c0 1e ff e1 0004 6742c01e 01 0004 68ce3c80";
+    assert!(rt; is_spelled(rt.alloc(), &entry, text)?);
+    let config = HevcConfig {
+        width: 0x0304,
+        height: 0x0506,
+    };
+    assert!(rt; config.try_clone()? == config);
+    let entry = Hev1Box::new(rt.alloc(), &config)?;
+    assert_eq!(rt;
+        (entry.width, entry.height, entry.get_size()),
+        (0x0304, 0x0506, 117)
+    );
+    assert!(rt; entry.hvcc == HvcCBox::default(rt.alloc())?);
+    let config = Vp9Config {
+        width: 0x0304,
+        height: 0x0506,
+    };
+    assert!(rt; config.try_clone()? == config);
+    let entry = Vp09Box::new(rt.alloc(), &config)?;
+    assert_eq!(rt;
+        (entry.width, entry.height, entry.get_size()),
+        (0x0304, 0x0506, 106)
+    );
+    assert!(rt; entry.vpcc == VpccBox::default(rt.alloc())?);
+    Ok(())
+}
+
+#[test]
+fn a_byte_that_a_short_sequence_set_has_not_counts_as_zero(rt: HostRuntime) -> Result<()> {
+    let rows = [
+        ("", "00000013 61766343 01 00 00 00 ff e1 0000 01 0000"),
+        ("67", "00000014 61766343 01 00 00 00 ff e1 0001 67 01 0000"),
+        (
+            "6742",
+            "00000015 61766343 01 42 00 00 ff e1 0002 6742 01 0000",
+        ),
+        (
+            "6742c0",
+            "00000016 61766343 01 42 c0 00 ff e1 0003 6742c0 01 0000",
+        ),
+    ];
+    for (set, text) in rows {
+        let config = AvcConfig {
+            width: 0,
+            height: 0,
+            seq_param_set: Items::from(hex(rt.alloc(), set)?),
+            pic_param_set: Items::new(rt.alloc()),
+        };
+        let entry = Avc1Box::new(rt.alloc(), &config)?;
+        assert!(rt; writes(rt.alloc(), &entry.avcc, text)?, "{text}");
+    }
+    Ok(())
+}
