@@ -1,12 +1,13 @@
 -- What a decoder of AVC video is started with (ISO/IEC 14496-15, 5.3.3.1).
-use Rattle.std.specs.Prelude.{ℕ, ◌+◌, ◌^◌, ◌<◌, ◌%◌, List, [], ◌∷◌, length, slice_get, unwrap_or, Option, Some, None}
-use Rattle.std.specs.Prelude.{Result, Ok, nat_lt, if◌then◌else◌}
+use Rattle.std.specs.Prelude.{ℕ, ◌+◌, ◌^◌, ◌<◌, ◌%◌, List, [], ◌∷◌, length, slice_get, unwrap_or, Option}
+use Rattle.std.specs.Prelude.{Result, Ok}
 use Rattle.std.specs.List.{flat_map, AllByRecursion}
-use Rattle.mp4_codec.specs.Cause.{Cause, unrepresentable, ◌>>=◌, ◌or◌}
+use Rattle.mp4_codec.specs.Cause.{Cause, ◌>>=◌, ◌or◌}
 use Rattle.mp4_codec.specs.Bytes.{Reader, number_at, bytes_at, list_at, number, ◌⧺◌}
 use Rattle.mp4_codec.specs.Boxes.{IsCanonical, all_refusal}
 use Rattle.mp4_entry.specs.declared.avcc.NalUnit.{NalUnit}
 use Rattle.mp4_entry.specs.declared.avcc.AvcCBox.{AvcCBox}
+use Rattle.mp4_entry.specs.Narrow.{past}
 
 -- the next parameter set: its length, and so many bytes
 unfoldable pub unit_at : Reader NalUnit
@@ -55,11 +56,7 @@ avcc_payload b =
     ⧺ number 1 (length b.picture_parameter_sets)
     ⧺ flat_map unit b.picture_parameter_sets
 
--- a number past the greatest that its bits spell is not written
-abbrev pub past : ℕ → ℕ → Option Cause
-past limit n = if nat_lt limit n then Some unrepresentable else None
-
--- nor is a set past the two bytes of its length
+-- a set past the two bytes of its length is not written
 abbrev pub unit_refusal : NalUnit → Option Cause
 unit_refusal u = past 0xffff (length u.bytes)
 

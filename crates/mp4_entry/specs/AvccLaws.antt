@@ -1,12 +1,11 @@
 -- A configuration of AVC video is read as it was written.
-use Rattle.std.proofs.Common.{◌≡◌, ℕ, ◌+◌, ◌≤◌, ◌<◌, ◌^◌, Bool, true, false, cond, ltb, List, [], ◌∷◌, length}
-use Rattle.std.proofs.Common.{Some, None, Ok, refl, arith, ◌%◌}
+use Rattle.std.proofs.Common.{◌≡◌, ℕ, ◌+◌, ◌≤◌, ◌<◌, ◌^◌, List, [], ◌∷◌, length}
+use Rattle.std.proofs.Common.{None, Ok, refl, arith, ◌%◌}
 use Rattle.std.specs.List.{flat_map, AllByRecursion}
-use Rattle.std.proofs.lemmas.Bool.{ltb-false}
 use Rattle.std.proofs.lemmas.List.{append-nil}
 use Rattle.std.proofs.lemmas.List.Concat.{flat_map-cons}
 use Rattle.std.proofs.lemmas.Nat.{mod-mul-add}
-use Rattle.mp4_codec.specs.Cause.{unrepresentable, ◌or◌}
+use Rattle.mp4_codec.specs.Cause.{◌or◌}
 use Rattle.mp4_codec.specs.Bytes.{ReadsBack, number, ◌⧺◌}
 use Rattle.mp4_codec.specs.FieldLaws.{number_again, bytes_again, list_again, list_last, length-number, length-then}
 use Rattle.mp4_codec.specs.FieldLaws.{then_assoc}
@@ -14,8 +13,10 @@ use Rattle.mp4_codec.specs.Boxes.{all_refusal}
 use Rattle.mp4_codec.specs.WriteLaws.{is_written, or_parts}
 use Rattle.mp4_entry.specs.declared.avcc.NalUnit.{NalUnit}
 use Rattle.mp4_entry.specs.declared.avcc.AvcCBox.{AvcCBox}
-use Rattle.mp4_entry.specs.Avcc.{unit_at, unit, unit_refusal, past, avcc_of, avcc_payload, avcc_refusal}
+use Rattle.mp4_entry.specs.Avcc.{unit_at, unit, unit_refusal, avcc_of, avcc_payload, avcc_refusal}
 use Rattle.mp4_entry.specs.Avcc.{IsCanonicalAvcC, avcc_of_sets}
+use Rattle.mp4_entry.specs.Narrow.{past}
+use Rattle.mp4_entry.specs.NarrowLaws.{within}
 
 pub length-unit : (u : NalUnit) → length (unit u) ≡ 2 + length u.bytes
 unfolding unit
@@ -36,14 +37,6 @@ length-avcc_of_sets seq_set pic_set =
     let seqs = length-one (record { bytes = seq_set }) in
     let pics = length-one (record { bytes = pic_set }) in
     omega (arith, length-avcc_payload (avcc_of_sets seq_set pic_set), seqs, pics)
-
--- what is not refused is within its bits
-pub within : (limit n : ℕ) → past limit n ≡ None → n ≤ limit
-within limit n e = chosen (ltb limit n) (ltb-false limit n) e
-  where
-    chosen : (t : Bool) → (t ≡ false → n ≤ limit) → cond t (Some unrepresentable) None ≡ None → n ≤ limit
-    chosen true h e = absurd cc
-    chosen false h e = h refl
 
 -- a set whose length has room
 abbrev HasRoom : NalUnit → Type 0

@@ -10,7 +10,7 @@ use Rattle.mp4_entry.specs.declared.media_type.MediaType.{MediaType}
 use Rattle.mp4_entry.specs.declared.media_type.MediaType.TheVariants.{H264, H265, VP9, TTXT}
 use Rattle.mp4_entry.specs.declared.track_type.TrackType.{TrackType}
 use Rattle.mp4_entry.specs.declared.track_type.TrackType.TheVariants.{Video, Subtitle}
-use Rattle.mp4_entry.specs.Avcc.{past}
+use Rattle.mp4_entry.specs.Narrow.{past}
 use Rattle.mp4_entry.specs.Avc1.{IsInRangeAvcConfig}
 use Rattle.mp4_entry.specs.Hev1.{IsInRangeHevcConfig}
 use Rattle.mp4_entry.specs.Vp09.{IsInRangeVp9Config}

@@ -10,8 +10,9 @@ use Rattle.mp4_entry.specs.declared.avc1.AvcConfig.{AvcConfig}
 use Rattle.mp4_entry.specs.declared.config.MediaConfig.{MediaConfig}
 use Rattle.mp4_entry.specs.declared.config.MediaConfig.TheVariants.{AvcConfig as Avc, HevcConfig as Hevc}
 use Rattle.mp4_entry.specs.declared.config.MediaConfig.TheVariants.{Vp9Config as Vp9, TtxtConfig as Ttxt}
-use Rattle.mp4_entry.specs.Avcc.{past, avcc_refusal, avcc_of_sets}
-use Rattle.mp4_entry.specs.AvccLaws.{within}
+use Rattle.mp4_entry.specs.Avcc.{avcc_refusal, avcc_of_sets}
+use Rattle.mp4_entry.specs.Narrow.{past}
+use Rattle.mp4_entry.specs.NarrowLaws.{within}
 use Rattle.mp4_entry.specs.Avc1.{avc1_payload, avc1_refusal, avc1_of_config}
 use Rattle.mp4_entry.specs.Avc1Laws.{avc1_of_config_size}
 use Rattle.mp4_entry.specs.Hev1.{hev1_payload, hev1_of_config}

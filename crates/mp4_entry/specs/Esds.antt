@@ -7,6 +7,7 @@ use Rattle.mp4_codec.specs.Cause.{Cause, unrepresentable, ◌>>=◌, ◌or◌}
 use Rattle.mp4_codec.specs.Bytes.{number_at, number, ◌⧺◌}
 use Rattle.mp4_codec.specs.Boxes.{IsCanonical}
 use Rattle.mp4_entry.specs.Descriptor.{padded_at, first_of, descriptor}
+use Rattle.mp4_entry.specs.Narrow.{past}
 use Rattle.mp4_entry.specs.declared.esds.EsdsBox.{EsdsBox}
 use Rattle.mp4_entry.specs.declared.esds.ESDescriptor.{ESDescriptor}
 use Rattle.mp4_entry.specs.declared.esds.DecoderConfigDescriptor.{DecoderConfigDescriptor}
@@ -120,19 +121,16 @@ es_descriptor d =
 unfoldable pub esds_payload : EsdsBox → List ℕ
 esds_payload b = number 1 b.version ⧺ number 3 b.flags ⧺ descriptor 3 (es_descriptor b.es_desc)
 
--- a number that is above what its bits spell is not written
-abbrev pub over : ℕ → ℕ → Option Cause
-over most n = if nat_lt most n then Some unrepresentable else None
-
+-- why the numbers of a configuration are not written: the first that its bits don't spell
 abbrev pub specific_refusal : DecoderSpecificDescriptor → Option Cause
-specific_refusal d = over 30 d.profile or over 14 d.freq_index or over 15 d.chan_conf
+specific_refusal d = past 30 d.profile or past 14 d.freq_index or past 15 d.chan_conf
 
 abbrev pub config_refusal : DecoderConfigDescriptor → Option Cause
 config_refusal d =
     specific_refusal d.dec_specific
-    or over 63 d.stream_type
-    or over 1 d.up_stream
-    or over (2 ^ 24 - 1) d.buffer_size_db
+    or past 63 d.stream_type
+    or past 1 d.up_stream
+    or past (2 ^ 24 - 1) d.buffer_size_db
 
 -- why a box is not written: 31 and 15 say that more bits follow, which are not written
 unfoldable pub esds_refusal : EsdsBox → Option Cause

@@ -14,9 +14,11 @@ use Rattle.mp4_entry.specs.declared.esds.EsdsBox.{EsdsBox}
 use Rattle.mp4_entry.specs.declared.esds.ESDescriptor.{ESDescriptor}
 use Rattle.mp4_entry.specs.declared.esds.DecoderConfigDescriptor.{DecoderConfigDescriptor}
 use Rattle.mp4_entry.specs.declared.esds.DecoderSpecificDescriptor.{DecoderSpecificDescriptor}
+use Rattle.mp4_entry.specs.Narrow.{past}
+use Rattle.mp4_entry.specs.NarrowLaws.{within}
 use Rattle.mp4_entry.specs.Esds.{bits, profile_in, profile_end, frequency_in, frequency_end, decoder_specific_of}
 use Rattle.mp4_entry.specs.Esds.{decoder_config_of, is_set, behind_options, es_descriptor_of, esds_of, specific_word}
-use Rattle.mp4_entry.specs.Esds.{stream_byte, decoder_config, es_descriptor, esds_payload, over, esds_refusal}
+use Rattle.mp4_entry.specs.Esds.{stream_byte, decoder_config, es_descriptor, esds_payload, esds_refusal}
 use Rattle.mp4_entry.specs.Esds.{specific_refusal, IsInRangeEsds, IsCanonicalEsds}
 
 pub length-decoder_config : (d : DecoderConfigDescriptor) → length (decoder_config d) ≡ 17
@@ -140,20 +142,13 @@ es_again d id f =
       config_again d.dec_config f,
     ) refl
 
-over-none : (most n : ℕ) → over most n ≡ None → n ≤ most
-over-none most n e = chosen (ltb most n) (ltb-false most n) e
-  where
-    chosen : (b : Bool) → (b ≡ false → n ≤ most) → cond b (Some unrepresentable) None ≡ None → n ≤ most
-    chosen true h e = absurd cc
-    chosen false h e = h refl
-
 specific_fits : (d : DecoderSpecificDescriptor) → specific_refusal d ≡ None → Fits d
 specific_fits d e =
-    let all = or_parts (over 30 d.profile or over 14 d.freq_index) (over 15 d.chan_conf) e in
-    let two = or_parts (over 30 d.profile) (over 14 d.freq_index) all.0 in record {
-      profile = over-none 30 d.profile two.0;
-      freq_index = over-none 14 d.freq_index two.1;
-      chan_conf = over-none 15 d.chan_conf all.1;
+    let all = or_parts (past 30 d.profile or past 14 d.freq_index) (past 15 d.chan_conf) e in
+    let two = or_parts (past 30 d.profile) (past 14 d.freq_index) all.0 in record {
+      profile = within 30 d.profile two.0;
+      freq_index = within 14 d.freq_index two.1;
+      chan_conf = within 15 d.chan_conf all.1;
     }
 
 config_fits : (b : EsdsBox) → IsInRangeEsds b → esds_refusal b ≡ None → FitsConfig b.es_desc.dec_config
@@ -162,14 +157,14 @@ config_fits b r e =
     let d = b.es_desc.dec_config in
     let most = 2 ^ 24 - 1 in
     let all =
-    or_parts (specific_refusal d.dec_specific or over 63 d.stream_type or over 1 d.up_stream)
-    (over most d.buffer_size_db) e in
-    let three = or_parts (specific_refusal d.dec_specific or over 63 d.stream_type) (over 1 d.up_stream) all.0 in
-    let two = or_parts (specific_refusal d.dec_specific) (over 63 d.stream_type) three.0 in record {
+    or_parts (specific_refusal d.dec_specific or past 63 d.stream_type or past 1 d.up_stream)
+    (past most d.buffer_size_db) e in
+    let three = or_parts (specific_refusal d.dec_specific or past 63 d.stream_type) (past 1 d.up_stream) all.0 in
+    let two = or_parts (specific_refusal d.dec_specific) (past 63 d.stream_type) three.0 in record {
       object_type_indication = r.object_type_indication;
-      stream_type = over-none 63 d.stream_type two.1;
-      up_stream = over-none 1 d.up_stream three.1;
-      buffer_size_db = over-none most d.buffer_size_db all.1;
+      stream_type = within 63 d.stream_type two.1;
+      up_stream = within 1 d.up_stream three.1;
+      buffer_size_db = within most d.buffer_size_db all.1;
       max_bitrate = r.max_bitrate;
       avg_bitrate = r.avg_bitrate;
       dec_specific = specific_fits d.dec_specific two.0;

@@ -1,3 +1,5 @@
+pub mod Narrow
+pub mod NarrowLaws
 pub mod Numbered
 pub mod TrackType
 pub mod MediaType

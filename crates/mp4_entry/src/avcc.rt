@@ -6,13 +6,13 @@ ghost use Rattle.mp4_codec.specs.declared.box_type.BoxType.TheVariants.{AvcCBox 
 ghost use Rattle.mp4_codec.specs.Cause.{Gives, Answers, Checks};
 ghost use Rattle.mp4_codec.specs.Bytes.{Appends, number, list_at};
 ghost use Rattle.mp4_codec.specs.Boxes.{size_around, all_refusal};
-ghost use Rattle.mp4_entry.specs.Avcc.{unit_at, unit, unit_refusal, past, avcc_of, avcc_payload, avcc_refusal, default_avcc, avcc_of_sets, IsInRangeAvcC, IsInRangeNalUnit, RemarksAvcC};
+ghost use Rattle.mp4_entry.specs.Avcc.{unit_at, unit, unit_refusal, avcc_of, avcc_payload, avcc_refusal, default_avcc, avcc_of_sets, IsInRangeAvcC, IsInRangeNalUnit, RemarksAvcC};
 ghost use Rattle.mp4_entry.specs.AvccLaws.{avcc_again};
 
-use byteorder::{BigEndian, ByteOrder};
+use crate::narrow::{check_most, put_low_u8, put_low_u16};
 use mp4_codec::{
-    BoxType, Error, Fields, InRange, Items, Mp4Box, Put, ReadBox, Result, TryClone, WriteBox,
-    put_bytes, put_u8,
+    BoxType, Fields, InRange, Items, Mp4Box, Put, ReadBox, Result, TryClone, WriteBox, put_bytes,
+    put_u8,
 };
 use std::alloc::Global;
 
@@ -41,14 +41,14 @@ impl NalUnit {
     fn check(&self) -> Result<()>
         ensures { Checks result (unit_refusal self.now) }
     {
-        check_at_most(0xffff, self.bytes.len())
+        check_most(self.bytes.len() as u64, 0xffff)
     }
 
     /// Adds the set: the two low bytes of its length, and its bytes.
     fn put(&self, out: &mut Vec<u8>) -> Put
         ensures { OnOk result (Appends out.old.items out.new.items (unit self.now)) }
     {
-        put_length(out, self.bytes.len())?;
+        put_low_u16(out, self.bytes.len() as u64)?;
         put_bytes(out, self.bytes.as_slice())?;
         Ok(())
     }
@@ -76,36 +76,6 @@ impl InRange for NalUnit {
     fn in_range(&self) {
         self.bytes.in_range();
     }
-}
-
-/// Adds the two low bytes of a length, the high one first.
-#[tactic(auto, unfolding(mp4_codec::specs::Bytes::number))]
-fn put_length(out: &mut Vec<u8>, n: usize) -> Put
-    ensures { OnOk result (Appends out.old.items out.new.items (number 2 n)) }
-{
-    let mut bytes = [0u8; 8];
-    BigEndian::write_u64(&mut bytes, n as u64);
-    out.extend_from_slice(&bytes[6..])
-}
-
-/// Adds the low byte of a number.
-#[tactic(auto, unfolding(mp4_codec::specs::Bytes::number))]
-fn put_low_byte(out: &mut Vec<u8>, n: usize) -> Put
-    ensures { OnOk result (Appends out.old.items out.new.items (number 1 n)) }
-{
-    let mut bytes = [0u8; 8];
-    BigEndian::write_u64(&mut bytes, n as u64);
-    out.extend_from_slice(&bytes[7..])
-}
-
-/// Whether a number is within its field; else it is `Unrepresentable`.
-fn check_at_most(limit: usize, n: usize) -> Result<()>
-    ensures { Checks result (past limit n) }
-{
-    if n > limit {
-        return Err(Error::Unrepresentable("a number past its bits"));
-    }
-    Ok(())
 }
 
 /// So many sets, one after the other. The first that passes the end is `InvalidData`.
@@ -324,9 +294,9 @@ impl WriteBox for AvcCBox {
 
     #[tactic(auto, unfolding(crate::specs::Avcc::avcc_refusal))]
     fn check(&self) -> Result<()> {
-        check_at_most(3, self.length_size_minus_one as usize)?;
-        check_at_most(31, self.sequence_parameter_sets.len())?;
-        check_at_most(255, self.picture_parameter_sets.len())?;
+        check_most(self.length_size_minus_one as u64, 3)?;
+        check_most(self.sequence_parameter_sets.len() as u64, 31)?;
+        check_most(self.picture_parameter_sets.len() as u64, 255)?;
         check_units(&self.sequence_parameter_sets)?;
         check_units(&self.picture_parameter_sets)?;
         Ok(())
@@ -337,10 +307,10 @@ impl WriteBox for AvcCBox {
         put_u8(out, self.avc_profile_indication)?;
         put_u8(out, self.profile_compatibility)?;
         put_u8(out, self.avc_level_indication)?;
-        put_low_byte(out, 0xfc + self.length_size_minus_one as usize)?;
-        put_low_byte(out, 0xe0 + self.sequence_parameter_sets.len())?;
+        put_low_u8(out, 0xfc + self.length_size_minus_one as u64)?;
+        put_low_u8(out, 0xe0 + self.sequence_parameter_sets.len() as u64)?;
         put_units(out, &self.sequence_parameter_sets)?;
-        put_low_byte(out, self.picture_parameter_sets.len())?;
+        put_low_u8(out, self.picture_parameter_sets.len() as u64)?;
         put_units(out, &self.picture_parameter_sets)?;
         Ok(())
     }

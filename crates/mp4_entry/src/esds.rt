@@ -7,13 +7,14 @@ ghost use Rattle.mp4_codec.specs.Bytes.{Appends, number};
 ghost use Rattle.mp4_codec.specs.Boxes.{size_around};
 ghost use Rattle.mp4_entry.specs.Descriptor.{descriptor};
 ghost use Rattle.mp4_entry.specs.Esds.{bits, profile_in, profile_end, frequency_in, frequency_end, decoder_specific_of, decoder_config_of, es_descriptor_of, is_set, behind_id, behind_url, behind_options};
-ghost use Rattle.mp4_entry.specs.Esds.{esds_of, esds_payload, esds_refusal, specific_word, stream_byte, decoder_config, es_descriptor, over, specific_refusal, config_refusal, IsInRangeEsds, RemarksEsds, default_esds};
+ghost use Rattle.mp4_entry.specs.Esds.{esds_of, esds_payload, esds_refusal, specific_word, stream_byte, decoder_config, es_descriptor, specific_refusal, config_refusal, IsInRangeEsds, RemarksEsds, default_esds};
 ghost use Rattle.mp4_entry.specs.EsdsLaws.{esds_again};
 
 use crate::descriptor::{Padded, first_body};
+use crate::narrow::{check_most, put_low_u8, put_low_u16};
 use mp4_codec::{
-    BoxType, Error, Fields, InRange, Mp4Box, Put, ReadBox, Result, TryClone, WriteBox, put_bytes,
-    put_u8, put_u16, put_u24, put_u32,
+    BoxType, Fields, InRange, Mp4Box, Put, ReadBox, Result, TryClone, WriteBox, put_u8, put_u16,
+    put_u24, put_u32,
 };
 use std::alloc::Global;
 
@@ -152,32 +153,6 @@ fn skip_options(fields: &mut Padded, flags: u8)
     skip_id(fields, is_set(flags, 0x20));
 }
 
-/// Whether a number is at most what its bits spell; else it is `Unrepresentable`.
-fn check_most(n: u32, most: u32) -> Result<()>
-    ensures { Checks result (over most n) }
-{
-    if n > most {
-        return Err(Error::Unrepresentable("a number of a decoder's descriptors"));
-    }
-    Ok(())
-}
-
-/// Adds the low byte of a number.
-#[tactic(auto, unfolding(mp4_codec::specs::Bytes::number))]
-fn put_low_u8(out: &mut Vec<u8>, n: u32) -> Put
-    ensures { OnOk result (Appends out.old.items out.new.items (number 1 n)) }
-{
-    put_bytes(out, &n.to_be_bytes()[3..])
-}
-
-/// Adds the two low bytes of a number, the high one first.
-#[tactic(auto, unfolding(mp4_codec::specs::Bytes::number))]
-fn put_low_u16(out: &mut Vec<u8>, n: u32) -> Put
-    ensures { OnOk result (Appends out.old.items out.new.items (number 2 n)) }
-{
-    put_bytes(out, &n.to_be_bytes()[2..])
-}
-
 impl DecoderSpecificDescriptor {
     /// The configuration that a body holds.
     #[tactic(auto, unfolding(crate::specs::Esds::decoder_specific_of))]
@@ -196,9 +171,9 @@ impl DecoderSpecificDescriptor {
     fn check(&self) -> Result<()>
         ensures { Checks result (specific_refusal self.now) }
     {
-        check_most(self.profile as u32, 30)?;
-        check_most(self.freq_index as u32, 14)?;
-        check_most(self.chan_conf as u32, 15)?;
+        check_most(self.profile as u64, 30)?;
+        check_most(self.freq_index as u64, 14)?;
+        check_most(self.chan_conf as u64, 15)?;
         Ok(())
     }
 
@@ -210,7 +185,7 @@ impl DecoderSpecificDescriptor {
         put_u8(out, 2)?;
         put_low_u16(
             out,
-            self.profile as u32 * 2048 + self.freq_index as u32 * 128 + self.chan_conf as u32 * 8,
+            self.profile as u64 * 2048 + self.freq_index as u64 * 128 + self.chan_conf as u64 * 8,
         )?;
         Ok(())
     }
@@ -244,9 +219,9 @@ impl DecoderConfigDescriptor {
         ensures { Checks result (config_refusal self.now) }
     {
         self.dec_specific.check()?;
-        check_most(self.stream_type as u32, 63)?;
-        check_most(self.up_stream as u32, 1)?;
-        check_most(self.buffer_size_db, 0xffffff)?;
+        check_most(self.stream_type as u64, 63)?;
+        check_most(self.up_stream as u64, 1)?;
+        check_most(self.buffer_size_db as u64, 0xffffff)?;
         Ok(())
     }
 
@@ -259,7 +234,7 @@ impl DecoderConfigDescriptor {
         put_u8(out, self.object_type_indication)?;
         put_low_u8(
             out,
-            self.stream_type as u32 * 4 + self.up_stream as u32 * 2 + 1,
+            self.stream_type as u64 * 4 + self.up_stream as u64 * 2 + 1,
         )?;
         put_u24(out, self.buffer_size_db)?;
         put_u32(out, self.max_bitrate)?;

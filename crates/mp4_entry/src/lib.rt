@@ -15,6 +15,7 @@ mod hvcc;
 mod laws;
 mod media_type;
 mod mp4a;
+mod narrow;
 mod sample_freq_index;
 mod stsd;
 mod track_type;

@@ -10,8 +10,8 @@ returns c =
     then c.in_ok-put_u8-2.ensures
     then c.in_ok-put_u8-3.ensures
     then c.in_ok-put_u8-4.ensures
-    then c.in_ok-put_low_byte.ensures
-    then number_piece 1 _ _ (ap (λ n. 0xe0 + n) c.len.ensures.value) c.in_ok-put_low_byte-2.ensures
+    then c.in_ok-put_low_u8.ensures
+    then number_piece 1 _ _ (ap (λ n. 0xe0 + n) c.len.ensures.value) c.in_ok-put_low_u8-2.ensures
     then c.in_ok-put_units.ensures
-    then number_piece 1 _ _ c.len-2.ensures.value c.in_ok-put_low_byte-3.ensures
+    then number_piece 1 _ _ c.len-2.ensures.value c.in_ok-put_low_u8-3.ensures
     then c.in_ok-put_units-2.ensures
