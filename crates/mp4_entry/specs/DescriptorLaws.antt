@@ -7,7 +7,7 @@ use Rattle.std.proofs.lemmas.Bool.{lt-ltb}
 use Rattle.std.proofs.lemmas.List.{drop_at, take_at, length-drop, get_or-drop, drop-drop}
 use Rattle.std.proofs.Math.Nat.{mod-eq_of_lt, add-mul, mul_assoc, add_assoc}
 use Rattle.std.proofs.lemmas.Nat.{pow-add}
-use Rattle.byteorder.specs.Endian.{big_from, big_number}
+use Rattle.byteorder.specs.Endian.{big_from}
 use Rattle.byteorder.specs.Numbers.{big_number-reads_back, length-bytes_high_first}
 use Rattle.mp4_codec.specs.Bytes.{number, ◌⧺◌}
 use Rattle.mp4_codec.specs.FieldLaws.{length-number, length-then, then_assoc, then_nothing}

@@ -44,7 +44,7 @@ pub struct Mp4aBox {
 }
 
 /// What the entry of a track of AAC sound is made from.
-#[derive(Debug, PartialEq, Eq, Drop)]
+#[derive(Clone, Copy, Debug, PartialEq, Eq)]
 pub struct AacConfig {
     /// Bits in a second.
     pub bitrate: u32,
@@ -58,12 +58,7 @@ impl TryClone for AacConfig {
     fn try_clone(&self) -> Result<Self>
         ensures { Gives (λ x. x) result (Ok self.now) }
     {
-        Ok(AacConfig {
-            bitrate: self.bitrate,
-            profile: self.profile,
-            freq_index: self.freq_index,
-            chan_conf: self.chan_conf,
-        })
+        Ok(*self)
     }
 }
 

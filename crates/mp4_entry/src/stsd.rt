@@ -71,6 +71,10 @@ impl StsdBox {
                 description.vp09 = Some(Vp09Box::new(alloc, config)?);
                 Ok(description)
             }
+            MediaConfig::AacConfig(config) => {
+                description.mp4a = Some(Mp4aBox::new(config));
+                Ok(description)
+            }
             MediaConfig::TtxtConfig(config) => {
                 description.tx3g = Some(Tx3gBox::new(config));
                 Ok(description)
