@@ -238,7 +238,8 @@ padded_at-joined m n bytes a xs b ys first second =
 module _ (tag other : ℕ) (bytes body rest found : List ℕ) where
   pub first_of-found : Some ((other, body), rest) ≡ descriptor_at bytes → eqb other tag ≡ true
       → first_of tag bytes ≡ found → body ≡ found
-  first_of-found next same so_far = sym (first_of-next tag bytes ((other, body), rest) (sym next) ∙ rw same refl) ∙ so_far
+  first_of-found next same so_far =
+      sym (first_of-next tag bytes ((other, body), rest) (sym next) ∙ rw same refl) ∙ so_far
 
   pub first_of-passed : Some ((other, body), rest) ≡ descriptor_at bytes → eqb other tag ≡ false
       → first_of tag bytes ≡ found → first_of tag rest ≡ found

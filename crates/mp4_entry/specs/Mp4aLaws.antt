@@ -33,7 +33,8 @@ small_optional None = omega arith
 small_optional (Some b) = omega (arith, length-frame esds (esds_payload b), length-esds_payload b)
 
 -- an esds within its entry is canonical where that is
-each_esds : (o : Option EsdsBox) → IfSome o IsInRangeEsds → IfSome o RemarksEsds → optional_refusal esds_refusal o ≡ None
+each_esds : (o : Option EsdsBox) → IfSome o IsInRangeEsds → IfSome o RemarksEsds
+    → optional_refusal esds_refusal o ≡ None
     → AllByRecursion (λ b. esds_of (esds_payload b) ≡ Ok b) (option_to_list o)
 each_esds None in_range remarks sound = tt
 each_esds (Some b) in_range remarks sound =
