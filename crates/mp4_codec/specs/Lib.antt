@@ -15,6 +15,7 @@ pub mod Framing
 pub mod FramingLaws
 pub mod HeadLaws
 pub mod ListLaws
+pub mod ListLoop
 pub mod WrittenChildren
 pub mod KeyedItems
 pub mod KeyedItemLaws

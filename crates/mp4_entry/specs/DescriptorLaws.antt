@@ -7,7 +7,7 @@ use Rattle.std.proofs.lemmas.Bool.{lt-ltb}
 use Rattle.std.proofs.lemmas.List.{drop_at, take_at, length-drop, get_or-drop, drop-drop}
 use Rattle.std.proofs.Math.Nat.{mod-eq_of_lt, add-mul, mul_assoc, add_assoc}
 use Rattle.std.proofs.lemmas.Nat.{pow-add}
-use Rattle.byteorder.specs.Endian.{big_from, big_number}
+use Rattle.byteorder.specs.Endian.{big_from}
 use Rattle.byteorder.specs.Numbers.{big_number-reads_back, length-bytes_high_first}
 use Rattle.mp4_codec.specs.Bytes.{number, ◌⧺◌}
 use Rattle.mp4_codec.specs.FieldLaws.{length-number, length-then, then_assoc, then_nothing}
@@ -238,7 +238,8 @@ padded_at-joined m n bytes a xs b ys first second =
 module _ (tag other : ℕ) (bytes body rest found : List ℕ) where
   pub first_of-found : Some ((other, body), rest) ≡ descriptor_at bytes → eqb other tag ≡ true
       → first_of tag bytes ≡ found → body ≡ found
-  first_of-found next same so_far = sym (first_of-next tag bytes ((other, body), rest) (sym next) ∙ rw same refl) ∙ so_far
+  first_of-found next same so_far =
+      sym (first_of-next tag bytes ((other, body), rest) (sym next) ∙ rw same refl) ∙ so_far
 
   pub first_of-passed : Some ((other, body), rest) ≡ descriptor_at bytes → eqb other tag ≡ false
       → first_of tag bytes ≡ found → first_of tag rest ≡ found

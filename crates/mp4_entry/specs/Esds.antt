@@ -1,7 +1,7 @@
 -- What an MPEG-4 audio decoder is started with: the elementary stream descriptor (ISO/IEC 14496-14, 5.6) with the
 -- descriptors in it (ISO/IEC 14496-1, 7.2.6), and the configuration of the decoder (ISO/IEC 14496-3, 1.6.2.1).
-use Rattle.std.specs.Prelude.{ℕ, ◌+◌, ◌-◌, ◌*◌, ◌/◌, ◌%◌, ◌^◌, ◌<◌, Bool, List, drop, not, Option, Some, None, Result, Ok}
-use Rattle.std.specs.Prelude.{nat_lt, ◌==◌, if◌then◌else◌}
+use Rattle.std.specs.Prelude.{ℕ, ◌+◌, ◌-◌, ◌*◌, ◌/◌, ◌%◌, ◌^◌, ◌<◌, Bool, List, drop, not, Option, Some, None}
+use Rattle.std.specs.Prelude.{Result, Ok, nat_lt, ◌==◌, if◌then◌else◌}
 use Rattle.std.specs.Int.Bits.{bit_and}
 use Rattle.mp4_codec.specs.Cause.{Cause, unrepresentable, ◌>>=◌, ◌or◌}
 use Rattle.mp4_codec.specs.Bytes.{number_at, number, ◌⧺◌}

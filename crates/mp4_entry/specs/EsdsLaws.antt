@@ -1,13 +1,12 @@
 -- An elementary stream descriptor is read as it was written.
-use Rattle.std.proofs.Common.{◌≡◌, ℕ, ◌+◌, ◌-◌, ◌*◌, ◌/◌, ◌%◌, ◌^◌, ◌≤◌, ◌<◌, Bool, true, false, cond, ltb, eqb, List, []}
-use Rattle.std.proofs.Common.{length, drop, Option, Some, None, Ok, refl, sym, ap, ◌∙◌, arith}
-use Rattle.std.proofs.lemmas.Bool.{ltb-false}
+use Rattle.std.proofs.Common.{◌≡◌, ℕ, ◌+◌, ◌-◌, ◌*◌, ◌/◌, ◌%◌, ◌^◌, ◌≤◌, ◌<◌, false, eqb}
+use Rattle.std.proofs.Common.{List, [], length, drop, None, Ok, refl, sym, ap, ◌∙◌, arith}
 use Rattle.std.proofs.lemmas.Nat.{div-mul-add}
-use Rattle.mp4_codec.specs.Cause.{unrepresentable, ◌or◌}
-use Rattle.mp4_codec.specs.Bytes.{number, ◌⧺◌}
+use Rattle.mp4_codec.specs.Cause.{◌or◌}
+use Rattle.mp4_codec.specs.Bytes.{number}
 use Rattle.mp4_codec.specs.FieldLaws.{number_again, length-number, length-then, then_nothing}
 use Rattle.mp4_codec.specs.WriteLaws.{is_written, or_parts}
-use Rattle.mp4_entry.specs.Descriptor.{padded_at, first_of, descriptor}
+use Rattle.mp4_entry.specs.Descriptor.{padded_at, descriptor}
 use Rattle.mp4_entry.specs.DescriptorLaws.{padded_at-split, padded_again, first_of-descriptor, first_of-last}
 use Rattle.mp4_entry.specs.DescriptorLaws.{length-descriptor, padded_at-rest, padded_at-nothing}
 use Rattle.mp4_entry.specs.declared.esds.EsdsBox.{EsdsBox}
@@ -16,7 +15,7 @@ use Rattle.mp4_entry.specs.declared.esds.DecoderConfigDescriptor.{DecoderConfigD
 use Rattle.mp4_entry.specs.declared.esds.DecoderSpecificDescriptor.{DecoderSpecificDescriptor}
 use Rattle.mp4_entry.specs.Narrow.{past}
 use Rattle.mp4_entry.specs.NarrowLaws.{within}
-use Rattle.mp4_entry.specs.Esds.{bits, profile_in, profile_end, frequency_in, frequency_end, decoder_specific_of}
+use Rattle.mp4_entry.specs.Esds.{bits, profile_in, frequency_in, frequency_end, decoder_specific_of}
 use Rattle.mp4_entry.specs.Esds.{decoder_config_of, is_set, behind_options, es_descriptor_of, esds_of, specific_word}
 use Rattle.mp4_entry.specs.Esds.{stream_byte, decoder_config, es_descriptor, esds_payload, esds_refusal}
 use Rattle.mp4_entry.specs.Esds.{specific_refusal, IsInRangeEsds, IsCanonicalEsds}

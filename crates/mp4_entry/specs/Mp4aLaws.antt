@@ -1,5 +1,5 @@
 -- A sample entry of MPEG-4 audio is read as it was written.
-use Rattle.std.proofs.Common.{◌≡◌, ℕ, ◌+◌, ◌^◌, ◌<◌, List, [], length, Option, Some, None, Ok, refl, sym, ap, ◌∙◌, arith}
+use Rattle.std.proofs.Common.{◌≡◌, ℕ, ◌+◌, ◌^◌, ◌<◌, List, [], length, Option, Some, None, Ok, refl, arith}
 use Rattle.std.specs.Prelude.{IfSome}
 use Rattle.std.specs.List.{AllByRecursion}
 use Rattle.std.specs.Option.{option_to_list}
@@ -33,7 +33,8 @@ small_optional None = omega arith
 small_optional (Some b) = omega (arith, length-frame esds (esds_payload b), length-esds_payload b)
 
 -- an esds within its entry is canonical where that is
-each_esds : (o : Option EsdsBox) → IfSome o IsInRangeEsds → IfSome o RemarksEsds → optional_refusal esds_refusal o ≡ None
+each_esds : (o : Option EsdsBox) → IfSome o IsInRangeEsds → IfSome o RemarksEsds
+    → optional_refusal esds_refusal o ≡ None
     → AllByRecursion (λ b. esds_of (esds_payload b) ≡ Ok b) (option_to_list o)
 each_esds None in_range remarks sound = tt
 each_esds (Some b) in_range remarks sound =

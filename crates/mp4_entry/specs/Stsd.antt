@@ -8,7 +8,8 @@ use Rattle.mp4_codec.specs.Boxes.{frame, IsCanonical}
 use Rattle.mp4_codec.specs.Children.{ChildBox, next_at, is_of}
 use Rattle.mp4_entry.specs.declared.config.MediaConfig.{MediaConfig}
 use Rattle.mp4_entry.specs.declared.config.MediaConfig.TheVariants.{AvcConfig as Avc, HevcConfig as Hevc}
-use Rattle.mp4_entry.specs.declared.config.MediaConfig.TheVariants.{Vp9Config as Vp9, TtxtConfig as Ttxt}
+use Rattle.mp4_entry.specs.declared.config.MediaConfig.TheVariants.{Vp9Config as Vp9, AacConfig as Aac}
+use Rattle.mp4_entry.specs.declared.config.MediaConfig.TheVariants.{TtxtConfig as Ttxt}
 use Rattle.mp4_entry.specs.declared.stsd.StsdBox.{StsdBox}
 use Rattle.mp4_entry.specs.declared.avc1.Avc1Box.{Avc1Box}
 use Rattle.mp4_entry.specs.declared.hev1.Hev1Box.{Hev1Box}
@@ -18,7 +19,7 @@ use Rattle.mp4_entry.specs.declared.tx3g.Tx3gBox.{Tx3gBox}
 use Rattle.mp4_entry.specs.Avc1.{avc1_of, avc1_payload, avc1_refusal, IsInRangeAvc1, RemarksAvc1, avc1_of_config}
 use Rattle.mp4_entry.specs.Hev1.{hev1_of, hev1_payload, IsInRangeHev1, RemarksHev1, hev1_of_config}
 use Rattle.mp4_entry.specs.Vp09.{vp09_of, vp09_payload, IsInRangeVp09, RemarksVp09, vp09_of_config}
-use Rattle.mp4_entry.specs.Mp4a.{mp4a_of, mp4a_payload, mp4a_refusal, IsInRangeMp4a, RemarksMp4a}
+use Rattle.mp4_entry.specs.Mp4a.{mp4a_of, mp4a_payload, mp4a_refusal, IsInRangeMp4a, RemarksMp4a, mp4a_of_config}
 use Rattle.mp4_entry.specs.Tx3g.{tx3g_of, tx3g_payload, IsInRangeTx3g, RemarksTx3g, default_tx3g}
 
 -- a sample entry; an entry of another type is as none
@@ -153,6 +154,7 @@ abbrev pub entry_of_config : MediaConfig → SampleEntry
 entry_of_config (Avc c) = avc_video (avc1_of_config c)
 entry_of_config (Hevc c) = hevc_video (hev1_of_config c)
 entry_of_config (Vp9 c) = vp9_video (vp09_of_config c)
+entry_of_config (Aac c) = aac_sound (mp4a_of_config c)
 entry_of_config (Ttxt c) = text default_tx3g
 
 -- the description of a track that is begun with a configuration

@@ -7,6 +7,7 @@ ghost use Rattle.mp4_entry.specs.Config.{media_refusal, avc_refusal, track_type_
 use crate::avc1::AvcConfig;
 use crate::hev1::HevcConfig;
 use crate::media_type::MediaType;
+use crate::mp4a::AacConfig;
 use crate::track_type::TrackType;
 use crate::tx3g::TtxtConfig;
 use crate::vp09::Vp9Config;
@@ -21,6 +22,7 @@ pub enum MediaConfig {
     AvcConfig(AvcConfig),
     HevcConfig(HevcConfig),
     Vp9Config(Vp9Config),
+    AacConfig(AacConfig),
     TtxtConfig(TtxtConfig),
 }
 
@@ -52,6 +54,12 @@ impl MediaConfig {
     {
         match self {
             MediaConfig::AvcConfig(config) => check_avc(config),
+            MediaConfig::AacConfig(config) => {
+                if config.profile.number() > 30 {
+                    return Err(Error::Unrepresentable("a type of sound over 30"));
+                }
+                Ok(())
+            }
             _ => Ok(()),
         }
     }
@@ -64,6 +72,7 @@ impl MediaConfig {
             MediaConfig::AvcConfig(_) => TrackType::Video,
             MediaConfig::HevcConfig(_) => TrackType::Video,
             MediaConfig::Vp9Config(_) => TrackType::Video,
+            MediaConfig::AacConfig(_) => TrackType::Audio,
             MediaConfig::TtxtConfig(_) => TrackType::Subtitle,
         }
     }
@@ -76,6 +85,7 @@ impl MediaConfig {
             MediaConfig::AvcConfig(_) => MediaType::H264,
             MediaConfig::HevcConfig(_) => MediaType::H265,
             MediaConfig::Vp9Config(_) => MediaType::VP9,
+            MediaConfig::AacConfig(_) => MediaType::AAC,
             MediaConfig::TtxtConfig(_) => MediaType::TTXT,
         }
     }
@@ -96,6 +106,7 @@ impl TryClone for MediaConfig {
                 let copy = config.try_clone()?;
                 Ok(MediaConfig::Vp9Config(copy))
             }
+            MediaConfig::AacConfig(config) => Ok(MediaConfig::AacConfig(*config)),
             MediaConfig::TtxtConfig(config) => {
                 let copy = config.try_clone()?;
                 Ok(MediaConfig::TtxtConfig(copy))
@@ -112,6 +123,7 @@ impl InRange for MediaConfig {
             MediaConfig::AvcConfig(config) => config.in_range(),
             MediaConfig::HevcConfig(config) => config.in_range(),
             MediaConfig::Vp9Config(config) => config.in_range(),
+            MediaConfig::AacConfig(config) => config.in_range(),
             MediaConfig::TtxtConfig(config) => config.in_range(),
         }
     }

@@ -64,10 +64,10 @@ pub struct ESDescriptor {
 
 /// The elementary stream descriptor of a sound track, `esds` (ISO/IEC 14496-14, 5.6).
 ///
-/// Any version is read and written. A payload of less than four bytes is `InvalidData`. Behind its version and flags stand
-/// descriptors, which are always read: of a tag the first counts, others are skipped, a body that passes the end of
-/// its parent is cut there, and what is missing reads as zeros, byte by byte. What was read can therefore be a value that
-/// isn't written, but `Unrepresentable`: the fields say how far they are written.
+/// Any version is read and written. A payload of less than four bytes is `InvalidData`. Behind its version and flags
+/// stand descriptors, which are always read: of a tag the first counts, others are skipped, a body that passes the end
+/// of its parent is cut there, and what is missing reads as zeros, byte by byte. A number past what its field says isn't
+/// written, but `Unrepresentable`; such a profile or frequency index can have been read.
 #[derive(Clone, Copy, Debug, PartialEq, Eq)]
 pub struct EsdsBox {
     pub version: u8,

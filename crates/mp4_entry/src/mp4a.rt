@@ -24,12 +24,12 @@ use std::alloc::Global;
 
 /// The sample entry of MPEG-4 audio, `mp4a` (ISO/IEC 14496-14, 5.6; ISO/IEC 14496-12, 12.2.3).
 ///
-/// Behind the fields of sound version 0 stand children. In version 1, QuickTime's, 16 more bytes stand before them; less
-/// than 16 are `InvalidData`. In any other version children aren't looked at. It is written in version 0.
+/// Behind the fields of sound version 0 stand children. In version 1, QuickTime's, 16 more bytes stand before them;
+/// less than 16 are `InvalidData`. In any other version children aren't looked at. It is written in version 0.
 ///
-/// The last `esds` among the children stands; each of them is read, and the first fault in file order, of framing too, is
-/// the answer. Where there is none, the last `esds` of the last `wave` stands, and it alone is read there; a `wave` whose
-/// children don't frame has none.
+/// The last `esds` among the children stands; each of them is read, and the first fault in file order, of framing too,
+/// is the answer. Where there is none, the last `esds` of the last `wave` stands, and it alone is read there; a `wave`
+/// whose children don't frame has none. An entry isn't written where its `esds` isn't, for the same cause.
 #[derive(Clone, Copy, Debug, PartialEq, Eq)]
 pub struct Mp4aBox {
     /// Which of the track's data references has the samples, counted from 1.
@@ -44,7 +44,7 @@ pub struct Mp4aBox {
 }
 
 /// What the entry of a track of AAC sound is made from.
-#[derive(Debug, PartialEq, Eq, Drop)]
+#[derive(Clone, Copy, Debug, PartialEq, Eq)]
 pub struct AacConfig {
     /// Bits in a second.
     pub bitrate: u32,
@@ -58,12 +58,7 @@ impl TryClone for AacConfig {
     fn try_clone(&self) -> Result<Self>
         ensures { Gives (λ x. x) result (Ok self.now) }
     {
-        Ok(AacConfig {
-            bitrate: self.bitrate,
-            profile: self.profile,
-            freq_index: self.freq_index,
-            chan_conf: self.chan_conf,
-        })
+        Ok(*self)
     }
 }
 
@@ -180,9 +175,9 @@ fn versioned_esds(alloc: Global, version: u16, fields: &mut Fields) -> Result<Op
 }
 
 impl Mp4aBox {
-    /// The entry of a configuration: in the first data reference, with samples of 16 bits, as many channels as their number
-    /// says, and a decoder for MPEG-4 audio of that bit rate. The sampling rate is 0 where it passes 65,535. The entry of
-    /// a profile over 30 isn't written.
+    /// The entry of a configuration: in the first data reference, with samples of 16 bits, as many channels as the number
+    /// of `chan_conf`, and a decoder for MPEG-4 audio of that bit rate. The sampling rate is 0 where it passes 65,535.
+    /// The entry of a profile over 30 isn't written.
     #[tactic(auto, using(crate::specs::Mp4aLaws::mp4a_of_config_size))]
     pub fn new(config: &AacConfig) -> Self
         ensures value { result ≡ mp4a_of_config config.now }

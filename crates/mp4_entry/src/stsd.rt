@@ -4,7 +4,7 @@ ghost use Rattle.std.specs.Prelude.{◌≡◌, ◌-◌, ◌<◌, ◌^◌, Ok, On
 ghost use Rattle.mp4_codec.specs.declared.box_type.BoxType.TheVariants.{StsdBox as stsd};
 ghost use Rattle.mp4_codec.specs.Boxes.{size_around};
 ghost use Rattle.mp4_codec.specs.Bytes.{Appends};
-ghost use Rattle.mp4_codec.specs.Cause.{Answers, Checks, Gives, seen};
+ghost use Rattle.mp4_codec.specs.Cause.{Answers, Checks, seen};
 ghost use Rattle.mp4_codec.specs.Children.{child_box};
 ghost use Rattle.mp4_entry.specs.Stsd.{stsd_payload, default_stsd, stsd_of, stsd_of_config, stsd_refusal, IsInRangeStsd, RemarksStsd, first_entry, with_entry, entry_of, entry_bytes, entry_count, no_entry};
 ghost use Rattle.mp4_entry.specs.StsdLaws.{stsd_again};
@@ -46,13 +46,6 @@ pub struct StsdBox {
 }
 
 impl StsdBox {
-    /// No entry.
-    pub fn default(_alloc: Global) -> Result<Self>
-        ensures { Gives (λ b. b) result (Ok default_stsd) }
-    {
-        Ok(Self::without_entry(0, 0))
-    }
-
     /// The description of a track that is begun with this configuration: version and flags 0, and its entry.
     pub fn new(alloc: Global, config: &MediaConfig) -> Result<Self>
         ensures { Answers (λ b. b) result (Ok (stsd_of_config config.now)) }
@@ -69,6 +62,10 @@ impl StsdBox {
             }
             MediaConfig::Vp9Config(config) => {
                 description.vp09 = Some(Vp09Box::new(alloc, config)?);
+                Ok(description)
+            }
+            MediaConfig::AacConfig(config) => {
+                description.mp4a = Some(Mp4aBox::new(config));
                 Ok(description)
             }
             MediaConfig::TtxtConfig(config) => {
@@ -227,6 +224,15 @@ impl StsdBox {
             return entry.put_box(out);
         }
         Ok(())
+    }
+}
+
+impl Default for StsdBox {
+    ghost is_default = { λ b. b ≡ default_stsd };
+
+    /// No entry.
+    fn default() -> Self {
+        Self::without_entry(0, 0)
     }
 }
 

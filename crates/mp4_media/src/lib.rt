@@ -17,7 +17,14 @@ pub use mp4_codec::{
     refused_head_says_why, what_is_written_reads_back,
 };
 
-// Leaf boxes and sample tables.
+// Leaf boxes, sample entries and sample tables.
+pub use mp4_entry::{
+    AacConfig, AudioObjectType, Avc1Box, AvcCBox, AvcConfig, AvcProfile, ChannelConfig,
+    DecoderConfigDescriptor, DecoderSpecificDescriptor, ESDescriptor, EsdsBox, Hev1Box, HevcConfig,
+    HvcCBox, MediaConfig, MediaType, Mp4aBox, NalUnit, SLConfigDescriptor, SampleFreqIndex,
+    StsdBox, TrackType, TtxtConfig, Tx3gBox, Vp09Box, Vp9Config, VpccBox,
+    configurations_are_written, numbers_have_one_value, values_have_their_numbers,
+};
 pub use mp4_frag::{EmsgBox, MehdBox, MfhdBox, TfdtBox, TfhdBox, TrexBox, TrunBox};
 pub use mp4_leaf::{
     DataBox, DataType, DinfBox, DrefBox, ElstBox, ElstEntry, FixedPointI8, FixedPointU8,

@@ -39,6 +39,11 @@ fn aac() -> EsdsBox {
 const AAC: &str =
     "00000027 65736473 00 000000 03 19 0001 00 04 11 40 15 000000 0001f400 0001f400 05 02 1190 06 01 02";
 
+/// The first n bytes, or all.
+fn cut(bytes: &[u8], n: usize) -> &[u8] {
+    &bytes[..n.min(bytes.len())]
+}
+
 /// What is read of the decoder's configuration: profile, frequency, channels.
 fn specific(b: &EsdsBox) -> (u8, u8, u8) {
     let specific = b.es_desc.dec_config.dec_specific;
@@ -116,32 +121,32 @@ fn descriptors_that_are_cut_read_as_zeros(rt: HostRuntime) -> Result<()> {
     let text =
         "00000027 65736473 00 000000 03 19 0102 00 04 11 40 15 0a0b0c 01020304 05060708 05 02 1190 06 01 02";
     let bytes = hex(rt.alloc(), text)?;
-    // So many bytes of descriptors: the stream's id, the decoder's object type, stream type, buffer size and bit rates.
+    // The length of the box; the stream's id, the decoder's object type, stream type and buffer size; its bit rates.
     let rows = [
-        (0, (0, 0, 0, 0), (0, 0)),
-        (1, (0, 0, 0, 0), (0, 0)),
-        (2, (0, 0, 0, 0), (0, 0)),
-        (3, (0x0100, 0, 0, 0), (0, 0)),
-        (4, (0x0102, 0, 0, 0), (0, 0)),
-        (5, (0x0102, 0, 0, 0), (0, 0)),
-        (6, (0x0102, 0, 0, 0), (0, 0)),
-        (7, (0x0102, 0, 0, 0), (0, 0)),
-        (8, (0x0102, 0x40, 0, 0), (0, 0)),
-        (9, (0x0102, 0x40, 5, 0), (0, 0)),
-        (10, (0x0102, 0x40, 5, 0x0a0000), (0, 0)),
-        (11, (0x0102, 0x40, 5, 0x0a0b00), (0, 0)),
-        (12, (0x0102, 0x40, 5, 0x0a0b0c), (0, 0)),
-        (13, (0x0102, 0x40, 5, 0x0a0b0c), (0x01000000, 0)),
-        (14, (0x0102, 0x40, 5, 0x0a0b0c), (0x01020000, 0)),
-        (15, (0x0102, 0x40, 5, 0x0a0b0c), (0x01020300, 0)),
-        (16, (0x0102, 0x40, 5, 0x0a0b0c), (0x01020304, 0)),
-        (17, (0x0102, 0x40, 5, 0x0a0b0c), (0x01020304, 0x05000000)),
-        (18, (0x0102, 0x40, 5, 0x0a0b0c), (0x01020304, 0x05060000)),
-        (19, (0x0102, 0x40, 5, 0x0a0b0c), (0x01020304, 0x05060700)),
-        (20, (0x0102, 0x40, 5, 0x0a0b0c), (0x01020304, 0x05060708)),
+        (12, (0, 0, 0, 0), (0, 0)),
+        (13, (0, 0, 0, 0), (0, 0)),
+        (14, (0, 0, 0, 0), (0, 0)),
+        (15, (0x0100, 0, 0, 0), (0, 0)),
+        (16, (0x0102, 0, 0, 0), (0, 0)),
+        (17, (0x0102, 0, 0, 0), (0, 0)),
+        (18, (0x0102, 0, 0, 0), (0, 0)),
+        (19, (0x0102, 0, 0, 0), (0, 0)),
+        (20, (0x0102, 0x40, 0, 0), (0, 0)),
+        (21, (0x0102, 0x40, 5, 0), (0, 0)),
+        (22, (0x0102, 0x40, 5, 0x0a0000), (0, 0)),
+        (23, (0x0102, 0x40, 5, 0x0a0b00), (0, 0)),
+        (24, (0x0102, 0x40, 5, 0x0a0b0c), (0, 0)),
+        (25, (0x0102, 0x40, 5, 0x0a0b0c), (0x01000000, 0)),
+        (26, (0x0102, 0x40, 5, 0x0a0b0c), (0x01020000, 0)),
+        (27, (0x0102, 0x40, 5, 0x0a0b0c), (0x01020300, 0)),
+        (28, (0x0102, 0x40, 5, 0x0a0b0c), (0x01020304, 0)),
+        (29, (0x0102, 0x40, 5, 0x0a0b0c), (0x01020304, 0x05000000)),
+        (30, (0x0102, 0x40, 5, 0x0a0b0c), (0x01020304, 0x05060000)),
+        (31, (0x0102, 0x40, 5, 0x0a0b0c), (0x01020304, 0x05060700)),
+        (32, (0x0102, 0x40, 5, 0x0a0b0c), (0x01020304, 0x05060708)),
     ];
     for (n, head, rates) in rows {
-        let leaf: EsdsBox = read_bytes(rt.alloc(), &bytes[..12 + n])?;
+        let leaf: EsdsBox = read_bytes(rt.alloc(), cut(&bytes, n))?;
         let decoder = leaf.es_desc.dec_config;
         assert_eq!(rt;
             (
@@ -158,14 +163,14 @@ fn descriptors_that_are_cut_read_as_zeros(rt: HostRuntime) -> Result<()> {
     }
     // The configuration without its length, without its body, with its first byte, and whole.
     let rows = [
-        (21, (0, 0, 0)),
-        (22, (0, 0, 0)),
-        (23, (2, 2, 0)),
-        (24, (2, 3, 2)),
-        (27, (2, 3, 2)),
+        (33, (0, 0, 0)),
+        (34, (0, 0, 0)),
+        (35, (2, 2, 0)),
+        (36, (2, 3, 2)),
+        (39, (2, 3, 2)),
     ];
     for (n, expected) in rows {
-        let leaf: EsdsBox = read_bytes(rt.alloc(), &bytes[..12 + n])?;
+        let leaf: EsdsBox = read_bytes(rt.alloc(), cut(&bytes, n))?;
         assert_eq!(rt; leaf.es_desc.dec_config.avg_bitrate, 0x05060708, "{n}");
         assert_eq!(rt; specific(&leaf), expected, "{n}");
     }

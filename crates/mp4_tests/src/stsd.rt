@@ -6,7 +6,7 @@ use mp4_entry::{Hev1Box, MediaConfig, StsdBox, TtxtConfig, Tx3gBox};
 
 #[test]
 fn a_description_without_an_entry_has_16_bytes(rt: HostRuntime) -> Result<()> {
-    let default = StsdBox::default(rt.alloc())?;
+    let default = StsdBox::default();
     assert_eq!(rt; default.get_type(), BoxType::StsdBox);
     assert_eq!(rt; default.get_size(), 16);
     assert!(rt; is_spelled(rt.alloc(), &default, "00000010 73747364 00 000000 00000000")?);
@@ -38,7 +38,7 @@ fn the_first_entry_alone_is_looked_at_whatever_the_count(rt: HostRuntime) -> Res
         00000008 6d657474 \
         0000002e 74783367 000000000000 0001 \
         00000000 01ff 000000ff 0000000000000000 00000000 00010010 ffffffff";
-    let mut none = StsdBox::default(rt.alloc())?;
+    let mut none = StsdBox::default();
     none.version = 1;
     none.flags = 2;
     assert!(rt; read::<StsdBox>(rt.alloc(), other_first)? == none);
@@ -48,7 +48,7 @@ fn the_first_entry_alone_is_looked_at_whatever_the_count(rt: HostRuntime) -> Res
 #[test]
 fn fewer_than_8_bytes_are_no_entry(rt: HostRuntime) -> Result<()> {
     let text = "00000017 73747364 00 000000 00000001 00000008 747833";
-    assert!(rt; read::<StsdBox>(rt.alloc(), text)? == StsdBox::default(rt.alloc())?);
+    assert!(rt; read::<StsdBox>(rt.alloc(), text)? == StsdBox::default());
     Ok(())
 }
 
@@ -73,7 +73,7 @@ fn a_fault_inside_the_first_entry_is_invalid(rt: HostRuntime) {
 
 #[test]
 fn the_first_of_two_entries_is_written(rt: HostRuntime) -> Result<()> {
-    let mut description = StsdBox::default(rt.alloc())?;
+    let mut description = StsdBox::default();
     description.hev1 = Some(Hev1Box::default(rt.alloc())?);
     description.tx3g = Some(Tx3gBox::default());
     assert_eq!(rt; description.get_size(), 133);

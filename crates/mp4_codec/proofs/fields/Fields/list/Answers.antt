@@ -3,7 +3,7 @@ use Rattle.std.proofs.lemmas.Result.{err_from_is_err_and}
 use Rattle.mp4_codec.specs.Cause.{cause_of}
 use Rattle.mp4_codec.specs.Bytes.{list_at, count_cause}
 use Rattle.mp4_codec.specs.FieldLaws.{count_cause-refused}
-use Rattle.mp4_codec.proofs.Loop.{goes_on, ends, is_done}
+use Rattle.mp4_codec.specs.ListLoop.{goes_on, ends, is_done}
 use Rattle.mp4_codec.proofs.fields.Fields.list.Goals as goal
 
 pub returns-in_err-check_count : goal.returns-in_err-check_count

@@ -1,6 +1,6 @@
 use Rattle.std.proofs.Common.{◌≡◌, ◌-◌}
 use Rattle.mp4_codec.specs.Bytes.{list_at}
-use Rattle.mp4_codec.proofs.Loop.{with_front}
+use Rattle.mp4_codec.specs.ListLoop.{with_front}
 use Rattle.mp4_codec.proofs.fields.Fields.list.Given as goal
 
 abbrev pub invariant-loop : goal.invariant-loop

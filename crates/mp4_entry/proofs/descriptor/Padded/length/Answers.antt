@@ -1,4 +1,4 @@
-use Rattle.std.proofs.Common.{arith, rules}
+use Rattle.std.proofs.Common.{arith}
 use Rattle.mp4_entry.proofs.Lengths.{few, ends, goes_on, is_done}
 use Rattle.mp4_entry.proofs.descriptor.Padded.length.Goals as goal
 

@@ -1,5 +1,4 @@
 use Rattle.std.proofs.Common.{sym}
-use Rattle.mp4_codec.specs.Bytes.{number}
 use Rattle.mp4_codec.specs.FieldLaws.{length-number}
 use Rattle.mp4_codec.specs.PutLaws.{◌then◌, number_piece}
 use Rattle.mp4_entry.specs.Descriptor.{descriptor}
