@@ -1,4 +1,3 @@
-pub mod Gathering
 pub mod Framed
 pub mod Frames
 pub mod Keyed

@@ -11,6 +11,7 @@ pub mod WriteLaws
 pub mod Children
 pub mod ChildrenLaws
 pub mod GatherLaws
+pub mod GatherLoop
 pub mod Framing
 pub mod FramingLaws
 pub mod HeadLaws
