@@ -25,7 +25,7 @@ avc_refusal c =
 
 -- a type of sound is written in five bits, of which all ones are an escape
 abbrev pub aac_refusal : AacConfig → Option Cause
-aac_refusal c = past 30 c.profile
+aac_refusal c = past 30 c.profile.number
 
 -- why an entry of a configuration is not written
 abbrev pub media_refusal : MediaConfig → Option Cause

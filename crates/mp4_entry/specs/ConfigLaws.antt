@@ -106,7 +106,7 @@ few_channels Five = refl
 few_channels FiveOne = refl
 few_channels SevenOne = refl
 
-mp4a_sound : (c : AacConfig) → past 30 c.profile ≡ None → mp4a_refusal (mp4a_of_config c) ≡ None
+mp4a_sound : (c : AacConfig) → past 30 c.profile.number ≡ None → mp4a_refusal (mp4a_of_config c) ≡ None
 unfolding mp4a_refusal esds_refusal
 mp4a_sound c e = rw (e, few_frequencies c.freq_index, few_channels c.chan_conf) refl
 

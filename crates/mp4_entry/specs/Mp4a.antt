@@ -13,7 +13,6 @@ use Rattle.mp4_entry.specs.declared.esds.EsdsBox.{EsdsBox}
 use Rattle.mp4_entry.specs.declared.mp4a.Mp4aBox.{Mp4aBox}
 use Rattle.mp4_entry.specs.declared.mp4a.AacConfig.{AacConfig}
 use Rattle.mp4_entry.specs.declared.sample_freq_index.SampleFreqIndex.{SampleFreqIndex}
-use Rattle.mp4_entry.specs.AudioObjectType.{IsObjectType}
 use Rattle.mp4_entry.specs.ChannelConfig.{channel_number}
 use Rattle.mp4_entry.specs.SampleFreqIndex.{freq_number, hertz}
 use Rattle.mp4_entry.specs.Esds.{esds_of, esds_payload, esds_refusal, IsInRangeEsds, RemarksEsds}
@@ -132,7 +131,7 @@ esds_of_config c = record {
       max_bitrate = c.bitrate;
       avg_bitrate = c.bitrate;
       dec_specific = record {
-        profile = c.profile;
+        profile = c.profile.number;
         freq_index = freq_number c.freq_index;
         chan_conf = channel_number c.chan_conf;
       };
@@ -154,4 +153,4 @@ mp4a_of_config c = record {
 -- each number is within its type
 pub record IsInRangeAacConfig (c : AacConfig) : Type 0 where
   pub bitrate : c.bitrate < 2 ^ 32
-  pub profile : IsObjectType c.profile
+  pub profile : c.profile.number < 2 ^ 8

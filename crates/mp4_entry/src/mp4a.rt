@@ -67,7 +67,7 @@ impl InRange for AacConfig {
 
     fn in_range(&self) {
         self.bitrate.in_range();
-        self.profile.number();
+        self.profile.in_range();
     }
 }
 

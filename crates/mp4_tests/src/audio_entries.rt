@@ -379,31 +379,38 @@ const EMPTY_WAVE: &str = "00000008 77617665";
 
 const FREE: &str = "00000008 66726565";
 
+/// The id of the stream in the esds of an entry with three children.
+fn read_id(alloc: Global, fields: &str, a: &str, b: &str, c: &str) -> Result<Option<u16>> {
+    let entry = entry(alloc, fields, &[a, b, c])?;
+    Ok(id(&entry))
+}
+
 #[test]
 fn the_esds_stands_among_the_children_or_in_a_wave(rt: HostRuntime) -> Result<()> {
     let rows = [
-        (FIELDS_0, [FREE, FREE, FREE], None),
-        (FIELDS_0, [ESDS_1, FREE, ESDS_2], Some(2)),
-        (FIELDS_0, [ESDS_1, WAVE_3, FREE], Some(1)),
-        (FIELDS_0, [WAVE_3, ESDS_1, WAVE_4], Some(1)),
-        (FIELDS_0, [FREE, WAVE_3, FREE], Some(3)),
-        (FIELDS_0, [WAVE_3, FREE, WAVE_4], Some(4)),
-        (FIELDS_0, [WAVE_3, WAVE_4, EMPTY_WAVE], None),
-        (FIELDS_1, [FREE, WAVE_4, FREE], Some(4)),
-        (FIELDS_1, [FREE, ESDS_1, WAVE_3], Some(1)),
-        (FIELDS_2, [ESDS_1, WAVE_3, FREE], None),
+        (FIELDS_0, FREE, FREE, FREE, None),
+        (FIELDS_0, ESDS_1, FREE, ESDS_2, Some(2)),
+        (FIELDS_0, ESDS_1, WAVE_3, FREE, Some(1)),
+        (FIELDS_0, WAVE_3, ESDS_1, WAVE_4, Some(1)),
+        (FIELDS_0, FREE, WAVE_3, FREE, Some(3)),
+        (FIELDS_0, WAVE_3, FREE, WAVE_4, Some(4)),
+        (FIELDS_0, WAVE_3, WAVE_4, EMPTY_WAVE, None),
+        (FIELDS_1, FREE, WAVE_4, FREE, Some(4)),
+        (FIELDS_1, FREE, ESDS_1, WAVE_3, Some(1)),
+        (FIELDS_2, ESDS_1, WAVE_3, FREE, None),
     ];
-    for (fields, children, expected) in rows {
-        let entry = entry(rt.alloc(), fields, &children)?;
-        assert_eq!(rt; id(&entry), expected);
-        assert_eq!(rt;
-            (
-                entry.data_reference_index,
-                entry.channelcount,
-                entry.samplesize
-            ),
-            (1, 2, 16)
-        );
+    for (fields, a, b, c, expected) in rows {
+        assert_eq!(rt; read_id(rt.alloc(), fields, a, b, c)?, expected);
+    }
+    Ok(())
+}
+
+#[test]
+fn the_fields_of_an_audio_entry_are_read(rt: HostRuntime) -> Result<()> {
+    for fields in [FIELDS_0, FIELDS_1, FIELDS_2] {
+        let entry = entry(rt.alloc(), fields, &[FREE])?;
+        assert_eq!(rt; entry.data_reference_index, 1);
+        assert_eq!(rt; (entry.channelcount, entry.samplesize), (2, 16));
         assert_eq!(rt; entry.samplerate.value(), 48_000);
     }
     Ok(())
@@ -486,34 +493,57 @@ fn in_a_wave_the_last_esds_alone_is_read(rt: HostRuntime) -> Result<()> {
     Ok(())
 }
 
+/// The entry of a copy of a configuration.
+fn entry_of(
+    bitrate: u32,
+    profile: u8,
+    freq_index: SampleFreqIndex,
+    chan_conf: ChannelConfig,
+) -> Result<Mp4aBox> {
+    match AudioObjectType::try_from(profile) {
+        Ok(profile) => {
+            let config = AacConfig {
+                bitrate,
+                profile,
+                freq_index,
+                chan_conf,
+            };
+            match config.try_clone() {
+                Ok(copy) => Ok(Mp4aBox::new(&copy)),
+                Err(error) => Err(error),
+            }
+        }
+        Err(error) => Err(error),
+    }
+}
+
 #[test]
 fn an_aac_configuration_gives_an_entry_of_75_bytes(rt: HostRuntime) -> Result<()> {
-    let config = AacConfig {
-        bitrate: 128_000,
-        profile: AudioObjectType::try_from(2)?,
-        freq_index: SampleFreqIndex::Freq48000,
-        chan_conf: ChannelConfig::Stereo,
-    };
-    assert!(rt; config.try_clone()? == config);
+    let entry = entry_of(
+        128_000,
+        2,
+        SampleFreqIndex::Freq48000,
+        ChannelConfig::Stereo,
+    )?;
     assert!(rt;
         is_spelled(
             rt.alloc(),
-            &Mp4aBox::new(&config),
+            &entry,
             "0000004b 6d703461 000000000000 0001 0000 000000000000 0002 0010 00000000 bb800000 00000027 65736473 00 000000 03 19 0001 00 04 11 40 15 000000 0001f400 0001f400 05 02 1190 06 01 02"
         )?
     );
     // A frequency that has no place in samplerate, seven for the number of eight channels, and the greatest object type
     // that is written: 11110 0000 0111 000.
-    let config = AacConfig {
-        bitrate: u32::MAX,
-        profile: AudioObjectType::try_from(30)?,
-        freq_index: SampleFreqIndex::Freq96000,
-        chan_conf: ChannelConfig::SevenOne,
-    };
+    let entry = entry_of(
+        u32::MAX,
+        30,
+        SampleFreqIndex::Freq96000,
+        ChannelConfig::SevenOne,
+    )?;
     assert!(rt;
         is_spelled(
             rt.alloc(),
-            &Mp4aBox::new(&config),
+            &entry,
             "0000004b 6d703461 000000000000 0001 0000 000000000000 0007 0010 00000000 00000000 00000027 65736473 00 000000 03 19 0001 00 04 11 40 15 000000 ffffffff ffffffff 05 02 f038 06 01 02"
         )?
     );
@@ -523,13 +553,7 @@ fn an_aac_configuration_gives_an_entry_of_75_bytes(rt: HostRuntime) -> Result<()
 #[test]
 fn the_entry_of_a_profile_over_30_is_not_written(rt: HostRuntime) -> Result<()> {
     for profile in [32u8, 95] {
-        let config = AacConfig {
-            bitrate: 0,
-            profile: AudioObjectType::try_from(profile)?,
-            freq_index: SampleFreqIndex::Freq7350,
-            chan_conf: ChannelConfig::Mono,
-        };
-        let entry = Mp4aBox::new(&config);
+        let entry = entry_of(0, profile, SampleFreqIndex::Freq7350, ChannelConfig::Mono)?;
         assert_eq!(rt; entry.get_size(), 75);
         assert!(rt; is_unrepresentable(rt.alloc(), &entry)?, "{profile}");
     }
