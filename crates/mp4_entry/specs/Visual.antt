@@ -4,8 +4,9 @@ use Rattle.mp4_codec.specs.Cause.{Cause, invalid_data, ◌>>=◌}
 use Rattle.mp4_codec.specs.Bytes.{Reader, number_at, bytes_at, number, zeros, ◌⧺◌}
 use Rattle.mp4_entry.specs.declared.visual.Visual.{Visual}
 
--- the next beginning of an entry: the number of the data reference, the size of a picture, its pixels an inch both ways,
--- how many pictures a sample has, the bits of a pixel; the reserved bytes and the compressor's name are not looked at
+-- the next beginning of an entry: the number of the data reference, the size of a picture, its pixels an inch both
+-- ways, how many pictures a sample has, the bits of a pixel; the reserved bytes and the compressor's name are not
+-- looked at
 unfoldable pub visual_at : Reader Visual
 visual_at bytes = do
   reserved ← bytes_at 6 bytes
