@@ -1,7 +1,7 @@
 //! Sample entries of video.
 
 use crate::spelled::{
-    hex, is_spelled, is_unreadable, is_unrepresentable, needs, read, refuses, writes,
+    hex, is_spelled, is_unreadable, is_unrepresentable, needs, read, read_bytes, writes, written,
 };
 use mp4_codec::{BoxType, Items, Result, TryClone, WriteBox};
 use mp4_entry::{
@@ -51,33 +51,66 @@ fn one_set(alloc: Global, text: &str) -> Result<Items<NalUnit>> {
     Ok(sets)
 }
 
+/// The text of an entry: its header, what visual entries begin with, and its child.
+fn entry_text(alloc: Global, header: &str, visual: &str, child: &str) -> Result<String> {
+    Ok(format!(in alloc; "{header} {visual} {child}")?)
+}
+
+/// Whether an entry is spelled by these parts, and any that is cut is refused.
+fn is_entry<B: WriteBox + TryClone + PartialEq>(
+    alloc: Global,
+    value: &B,
+    header: &str,
+    visual: &str,
+    child: &str,
+) -> Result<bool> {
+    let text = entry_text(alloc, header, visual, child)?;
+    let size = value.box_size() as usize;
+    Ok(is_spelled(alloc, value, &text)? && needs::<B>(alloc, &text, size)?)
+}
+
 #[test]
-fn the_default_of_each_has_its_size(rt: HostRuntime) -> Result<()> {
+fn the_default_avc1_has_101_bytes(rt: HostRuntime) -> Result<()> {
     let avc1 = Avc1Box::default(rt.alloc())?;
     assert_eq!(rt; (avc1.get_type(), avc1.get_size()), (BoxType::Avc1Box, 101));
-    assert_eq!(rt; avc1.avcc.get_type(), BoxType::AvcCBox);
     assert!(rt; is_spelled(rt.alloc(), &avc1.avcc, DEFAULT_AVCC)?);
-    let text = format!(in rt.alloc(); "00000065 61766331 {DEFAULT_VISUAL} {DEFAULT_AVCC}")?;
-    assert!(rt; is_spelled(rt.alloc(), &avc1, &text)?);
-    let hev1 = Hev1Box::default(rt.alloc())?;
-    assert_eq!(rt; (hev1.get_type(), hev1.get_size()), (BoxType::Hev1Box, 117));
-    assert_eq!(rt; hev1.hvcc.get_type(), BoxType::HvcCBox);
-    let hvcc = "0000001f 68766343 01 00000000000000000000000000000000000000000000";
-    assert!(rt; is_spelled(rt.alloc(), &hev1.hvcc, hvcc)?);
-    let text = format!(in rt.alloc(); "00000075 68657631 {DEFAULT_VISUAL} {hvcc}")?;
-    assert!(rt; is_spelled(rt.alloc(), &hev1, &text)?);
-    let vp09 = Vp09Box::default(rt.alloc())?;
-    assert_eq!(rt; (vp09.get_type(), vp09.get_size()), (BoxType::Vp09Box, 106));
-    assert_eq!(rt; vp09.vpcc.get_type(), BoxType::VpccBox);
-    let vpcc = "00000014 76706343 01 000000 00 1f 80 00 00 00 0000";
-    assert!(rt; is_spelled(rt.alloc(), &vp09.vpcc, vpcc)?);
-    let text = format!(in rt.alloc(); "0000006a 76703039 {DEFAULT_VISUAL} {vpcc}")?;
-    assert!(rt; is_spelled(rt.alloc(), &vp09, &text)?);
+    let header = "00000065 61766331";
+    assert!(rt; is_entry(rt.alloc(), &avc1, header, DEFAULT_VISUAL, DEFAULT_AVCC)?);
     Ok(())
 }
 
 #[test]
-fn each_field_of_an_entry_stands_in_its_place(rt: HostRuntime) -> Result<()> {
+fn the_default_hev1_has_117_bytes(rt: HostRuntime) -> Result<()> {
+    let hev1 = Hev1Box::default(rt.alloc())?;
+    assert_eq!(rt; (hev1.get_type(), hev1.get_size()), (BoxType::Hev1Box, 117));
+    let hvcc = "0000001f 68766343 01 00000000000000000000000000000000000000000000";
+    assert!(rt; is_spelled(rt.alloc(), &hev1.hvcc, hvcc)?);
+    let header = "00000075 68657631";
+    assert!(rt; is_entry(rt.alloc(), &hev1, header, DEFAULT_VISUAL, hvcc)?);
+    Ok(())
+}
+
+#[test]
+fn the_default_vp09_has_106_bytes(rt: HostRuntime) -> Result<()> {
+    let vp09 = Vp09Box::default(rt.alloc())?;
+    assert_eq!(rt; (vp09.get_type(), vp09.get_size()), (BoxType::Vp09Box, 106));
+    let vpcc = "00000014 76706343 01 000000 00 1f 80 00 00 00 0000";
+    assert!(rt; is_spelled(rt.alloc(), &vp09.vpcc, vpcc)?);
+    let header = "0000006a 76703039";
+    assert!(rt; is_entry(rt.alloc(), &vp09, header, DEFAULT_VISUAL, vpcc)?);
+    Ok(())
+}
+
+#[test]
+fn each_box_in_an_entry_has_its_type(rt: HostRuntime) -> Result<()> {
+    assert_eq!(rt; AvcCBox::default(rt.alloc())?.get_type(), BoxType::AvcCBox);
+    assert_eq!(rt; HvcCBox::default(rt.alloc())?.get_type(), BoxType::HvcCBox);
+    assert_eq!(rt; VpccBox::default(rt.alloc())?.get_type(), BoxType::VpccBox);
+    Ok(())
+}
+
+#[test]
+fn each_field_of_avc1_stands_in_its_place(rt: HostRuntime) -> Result<()> {
     let avc1 = Avc1Box {
         data_reference_index: 0x0102,
         width: 0x0304,
@@ -88,11 +121,15 @@ fn each_field_of_an_entry_stands_in_its_place(rt: HostRuntime) -> Result<()> {
         depth: 0x1112,
         avcc: AvcCBox::default(rt.alloc())?,
     };
-    let text = format!(in rt.alloc(); "00000065 61766331 {VISUAL} {DEFAULT_AVCC}")?;
-    assert!(rt; is_spelled(rt.alloc(), &avc1, &text)?);
-    assert!(rt; needs::<Avc1Box>(rt.alloc(), &text, 101)?);
-    let unseen = format!(in rt.alloc(); "00000065 61766331 {VISUAL_UNSEEN} {DEFAULT_AVCC}")?;
+    let header = "00000065 61766331";
+    assert!(rt; is_entry(rt.alloc(), &avc1, header, VISUAL, DEFAULT_AVCC)?);
+    let unseen = entry_text(rt.alloc(), header, VISUAL_UNSEEN, DEFAULT_AVCC)?;
     assert!(rt; read::<Avc1Box>(rt.alloc(), &unseen)? == avc1);
+    Ok(())
+}
+
+#[test]
+fn each_field_of_hev1_stands_in_its_place(rt: HostRuntime) -> Result<()> {
     let hev1 = Hev1Box {
         data_reference_index: 0x0102,
         width: 0x0304,
@@ -105,9 +142,13 @@ fn each_field_of_an_entry_stands_in_its_place(rt: HostRuntime) -> Result<()> {
             raw: Items::from(hex(rt.alloc(), "aabbcc")?),
         },
     };
-    let text = format!(in rt.alloc(); "00000061 68657631 {VISUAL} 0000000b 68766343 aabbcc")?;
-    assert!(rt; is_spelled(rt.alloc(), &hev1, &text)?);
-    assert!(rt; needs::<Hev1Box>(rt.alloc(), &text, 97)?);
+    let hvcc = "0000000b 68766343 aabbcc";
+    assert!(rt; is_entry(rt.alloc(), &hev1, "00000061 68657631", VISUAL, hvcc)?);
+    Ok(())
+}
+
+#[test]
+fn each_field_of_vp09_stands_in_its_place(rt: HostRuntime) -> Result<()> {
     let vp09 = Vp09Box {
         data_reference_index: 0x0102,
         width: 0x0304,
@@ -120,9 +161,8 @@ fn each_field_of_an_entry_stands_in_its_place(rt: HostRuntime) -> Result<()> {
             raw: Items::from(hex(rt.alloc(), "dd")?),
         },
     };
-    let text = format!(in rt.alloc(); "0000005f 76703039 {VISUAL} 00000009 76706343 dd")?;
-    assert!(rt; is_spelled(rt.alloc(), &vp09, &text)?);
-    assert!(rt; needs::<Vp09Box>(rt.alloc(), &text, 95)?);
+    let vpcc = "00000009 76706343 dd";
+    assert!(rt; is_entry(rt.alloc(), &vp09, "0000005f 76703039", VISUAL, vpcc)?);
     Ok(())
 }
 
@@ -170,49 +210,67 @@ fn an_entry_without_its_configuration_is_invalid(rt: HostRuntime) -> Result<()> 
         let text = format!(in rt.alloc(); "00000000 61766331 {VISUAL} {child}")?;
         assert!(rt; is_unreadable::<Avc1Box>(rt.alloc(), &text), "{child}");
     }
-    let text = format!(in rt.alloc(); "00000000 68657631 {VISUAL} {DEFAULT_AVCC}")?;
-    assert!(rt; is_unreadable::<Hev1Box>(rt.alloc(), &text));
-    let text = format!(in rt.alloc(); "00000000 76703039 {VISUAL} {DEFAULT_AVCC}")?;
-    assert!(rt; is_unreadable::<Vp09Box>(rt.alloc(), &text));
-    // These two are read as they stand, so that an empty one is a configuration.
-    let text = format!(in rt.alloc(); "0000005e 68657631 {VISUAL} 00000008 68766343")?;
-    assert!(rt; read::<Hev1Box>(rt.alloc(), &text)?.hvcc.raw.is_empty());
-    let text = format!(in rt.alloc(); "0000005e 76703039 {VISUAL} 00000008 76706343")?;
-    assert!(rt; read::<Vp09Box>(rt.alloc(), &text)?.vpcc.raw.is_empty());
     Ok(())
 }
 
 #[test]
-fn the_sets_of_avcc_have_lengths_of_two_bytes(rt: HostRuntime) -> Result<()> {
-    let text = "0000001f 61766343 01 64 0a 1f fc e2 0004 67640a1f 0001 67 02 0003 68ee3c 0000";
-    let mut leaf = AvcCBox::default(rt.alloc())?;
-    leaf.avc_profile_indication = 0x64;
-    leaf.profile_compatibility = 0x0a;
-    leaf.avc_level_indication = 0x1f;
-    leaf.length_size_minus_one = 0;
-    leaf.sequence_parameter_sets = one_set(rt.alloc(), "67640a1f")?;
+fn an_entry_with_the_configuration_of_another_coding_is_invalid(rt: HostRuntime) -> Result<()> {
+    let text = entry_text(rt.alloc(), "00000000 68657631", VISUAL, DEFAULT_AVCC)?;
+    assert!(rt; is_unreadable::<Hev1Box>(rt.alloc(), &text));
+    let text = entry_text(rt.alloc(), "00000000 76703039", VISUAL, DEFAULT_AVCC)?;
+    assert!(rt; is_unreadable::<Vp09Box>(rt.alloc(), &text));
+    Ok(())
+}
+
+#[test]
+fn a_configuration_that_is_kept_as_it_stands_may_be_empty(rt: HostRuntime) -> Result<()> {
+    let text = entry_text(rt.alloc(), "0000005e 68657631", VISUAL, "00000008 68766343")?;
+    assert!(rt; read::<Hev1Box>(rt.alloc(), &text)?.hvcc.raw.is_empty());
+    let text = entry_text(rt.alloc(), "0000005e 76703039", VISUAL, "00000008 76706343")?;
+    assert!(rt; read::<Vp09Box>(rt.alloc(), &text)?.vpcc.raw.is_empty());
+    Ok(())
+}
+
+/// Two parameter sets of these bytes.
+fn two_sets(alloc: Global, first: &str, second: &str) -> Result<Items<NalUnit>> {
+    let mut sets = one_set(alloc, first)?;
+    sets.push(NalUnit {
+        bytes: Items::from(hex(alloc, second)?),
+    })?;
+    Ok(sets)
+}
+
+/// A configuration with one sequence parameter set of so many bytes.
+fn long_set(alloc: Global, count: usize) -> Result<AvcCBox> {
+    let mut leaf = AvcCBox::default(alloc)?;
     leaf.sequence_parameter_sets.push(NalUnit {
-        bytes: Items::from(hex(rt.alloc(), "67")?),
+        bytes: bytes_of(alloc, count, 0xee)?,
     })?;
-    leaf.picture_parameter_sets = one_set(rt.alloc(), "68ee3c")?;
-    leaf.picture_parameter_sets.push(NalUnit {
-        bytes: Items::new(rt.alloc()),
-    })?;
+    Ok(leaf)
+}
+
+#[test]
+fn the_sets_of_avcc_have_lengths_of_two_bytes(rt: HostRuntime) -> Result<()> {
+    let leaf = AvcCBox {
+        configuration_version: 1,
+        avc_profile_indication: 0x64,
+        profile_compatibility: 0x0a,
+        avc_level_indication: 0x1f,
+        length_size_minus_one: 0,
+        sequence_parameter_sets: two_sets(rt.alloc(), "67640a1f", "67")?,
+        picture_parameter_sets: two_sets(rt.alloc(), "68ee3c", "")?,
+    };
+    let text = "0000001f 61766343 01 64 0a 1f fc e2 0004 67640a1f 0001 67 02 0003 68ee3c 0000";
     assert_eq!(rt; leaf.get_size(), 31);
     assert!(rt; is_spelled(rt.alloc(), &leaf, text)?);
     assert!(rt; needs::<AvcCBox>(rt.alloc(), text, 31)?);
-    // A set of 258 bytes, the high byte of whose length comes first.
-    let mut long = AvcCBox::default(rt.alloc())?;
-    long.sequence_parameter_sets.push(NalUnit {
-        bytes: bytes_of(rt.alloc(), 258, 0xee)?,
-    })?;
-    let set = long
-        .sequence_parameter_sets
-        .get(0)
-        .map(|unit| unit.bytes.len());
-    assert_eq!(rt; set, Some(258));
-    let mut bytes = Vec::new(rt.alloc());
-    assert_eq!(rt; long.write_box(&mut bytes)?, 275);
+    Ok(())
+}
+
+#[test]
+fn the_high_byte_of_a_sets_length_comes_first(rt: HostRuntime) -> Result<()> {
+    let bytes = written(rt.alloc(), &long_set(rt.alloc(), 258)?)?;
+    assert_eq!(rt; bytes.len(), 275);
     assert!(rt; bytes.get(13..16) == Some(&[0xe1, 0x01, 0x02]));
     Ok(())
 }
@@ -257,54 +315,67 @@ fn sets_that_pass_the_end_are_invalid(rt: HostRuntime) {
     }
 }
 
+/// A configuration with so many sets of each kind, all without bytes.
+fn with_sets(alloc: Global, sequences: usize, pictures: usize) -> Result<AvcCBox> {
+    let mut leaf = AvcCBox::default(alloc)?;
+    leaf.sequence_parameter_sets = empty_sets(alloc, sequences)?;
+    leaf.picture_parameter_sets = empty_sets(alloc, pictures)?;
+    Ok(leaf)
+}
+
+/// Whether a configuration is unrepresentable, and its size counts all that it holds.
+fn has_no_bits(alloc: Global, leaf: &AvcCBox, size: u64) -> Result<bool> {
+    Ok(is_unrepresentable(alloc, leaf)? && leaf.get_size() == size)
+}
+
 #[test]
-fn what_avcc_has_no_bits_for_is_unrepresentable(rt: HostRuntime) -> Result<()> {
+fn a_length_size_over_3_is_unrepresentable(rt: HostRuntime) -> Result<()> {
     let mut leaf = AvcCBox::default(rt.alloc())?;
     leaf.length_size_minus_one = 4;
-    assert!(rt; is_unrepresentable(rt.alloc(), &leaf)?);
-    assert_eq!(rt; leaf.get_size(), 15);
-    leaf.length_size_minus_one = 3;
-    leaf.sequence_parameter_sets = empty_sets(rt.alloc(), 32)?;
-    assert!(rt; is_unrepresentable(rt.alloc(), &leaf)?);
-    assert_eq!(rt; leaf.get_size(), 79);
-    leaf.sequence_parameter_sets = empty_sets(rt.alloc(), 31)?;
-    leaf.picture_parameter_sets = empty_sets(rt.alloc(), 256)?;
-    assert!(rt; is_unrepresentable(rt.alloc(), &leaf)?);
-    assert_eq!(rt; leaf.get_size(), 589);
-    leaf.picture_parameter_sets = empty_sets(rt.alloc(), 255)?;
-    let mut bytes = Vec::new(rt.alloc());
-    assert_eq!(rt; leaf.write_box(&mut bytes)?, 587);
+    assert!(rt; has_no_bits(rt.alloc(), &leaf, 15)?);
+    Ok(())
+}
+
+#[test]
+fn more_sets_than_avcc_counts_are_unrepresentable(rt: HostRuntime) -> Result<()> {
+    assert!(rt; has_no_bits(rt.alloc(), &with_sets(rt.alloc(), 32, 0)?, 79)?);
+    assert!(rt; has_no_bits(rt.alloc(), &with_sets(rt.alloc(), 31, 256)?, 589)?);
+    Ok(())
+}
+
+#[test]
+fn as_many_sets_as_avcc_counts_are_written(rt: HostRuntime) -> Result<()> {
+    let leaf = with_sets(rt.alloc(), 31, 255)?;
+    let bytes = written(rt.alloc(), &leaf)?;
+    assert_eq!(rt; bytes.len(), 587);
     assert!(rt; bytes.get(13) == Some(&0xff) && bytes.get(76) == Some(&0xff));
-    assert!(rt; crate::spelled::read_bytes::<AvcCBox>(rt.alloc(), &bytes)? == leaf);
+    assert!(rt; read_bytes::<AvcCBox>(rt.alloc(), &bytes)? == leaf);
     Ok(())
 }
 
 #[test]
 fn a_set_past_65535_bytes_is_unrepresentable(rt: HostRuntime) -> Result<()> {
-    let mut leaf = AvcCBox::default(rt.alloc())?;
-    leaf.picture_parameter_sets.push(NalUnit {
-        bytes: bytes_of(rt.alloc(), 0x1_0000, 0x68)?,
-    })?;
-    assert!(rt; is_unrepresentable(rt.alloc(), &leaf)?);
-    assert_eq!(rt; leaf.get_size(), 15 + 2 + 0x1_0000);
     let mut entry = Avc1Box::default(rt.alloc())?;
-    entry.avcc = leaf;
+    entry.avcc = long_set(rt.alloc(), 0x1_0000)?;
+    assert!(rt; has_no_bits(rt.alloc(), &entry.avcc, 15 + 2 + 0x1_0000)?);
     assert!(rt; is_unrepresentable(rt.alloc(), &entry)?);
     assert_eq!(rt; entry.get_size(), 86 + 15 + 2 + 0x1_0000);
-    let mut leaf = AvcCBox::default(rt.alloc())?;
-    leaf.sequence_parameter_sets.push(NalUnit {
-        bytes: bytes_of(rt.alloc(), 0xffff, 0x67)?,
-    })?;
-    let mut bytes = Vec::new(rt.alloc());
-    assert_eq!(rt; leaf.write_box(&mut bytes)?, 15 + 2 + 0xffff);
-    assert!(rt; crate::spelled::read_bytes::<AvcCBox>(rt.alloc(), &bytes)? == leaf);
-    let short = bytes.get(..bytes.len() - 1).unwrap_or(&[]);
-    assert!(rt; refuses::<AvcCBox>(rt.alloc(), short));
     Ok(())
 }
 
 #[test]
-fn a_configuration_gives_the_default_entry_with_its_size_and_sets(rt: HostRuntime) -> Result<()> {
+fn a_set_of_65535_bytes_is_written(rt: HostRuntime) -> Result<()> {
+    let leaf = long_set(rt.alloc(), 0xffff)?;
+    let bytes = written(rt.alloc(), &leaf)?;
+    assert_eq!(rt; bytes.len(), 15 + 2 + 0xffff);
+    assert!(rt; read_bytes::<AvcCBox>(rt.alloc(), &bytes)? == leaf);
+    Ok(())
+}
+
+#[test]
+fn a_configuration_of_avc_gives_the_default_entry_with_its_size_and_sets(
+    rt: HostRuntime,
+) -> Result<()> {
     let config = AvcConfig {
         width: 320,
         height: 240,
@@ -317,28 +388,34 @@ fn a_configuration_gives_the_default_entry_with_its_size_and_sets(rt: HostRuntim
     let text =
         "00000071 61766331 000000000000 0001 00000000000000000000000000000000 0140 00f0 00480000 00480000 00000000 0001 0000000000000000000000000000000000000000000000000000000000000000 0018 ffff 0000001b 61766343 01 42 c0 1e ff e1 0004 6742c01e 01 0004 68ce3c80";
     assert!(rt; is_spelled(rt.alloc(), &entry, text)?);
+    Ok(())
+}
+
+#[test]
+fn a_configuration_of_hevc_gives_the_default_entry_with_its_size(rt: HostRuntime) -> Result<()> {
     let config = HevcConfig {
         width: 0x0304,
         height: 0x0506,
     };
     assert!(rt; config.try_clone()? == config);
-    let entry = Hev1Box::new(rt.alloc(), &config)?;
-    assert_eq!(rt;
-        (entry.width, entry.height, entry.get_size()),
-        (0x0304, 0x0506, 117)
-    );
-    assert!(rt; entry.hvcc == HvcCBox::default(rt.alloc())?);
+    let mut entry = Hev1Box::default(rt.alloc())?;
+    entry.width = 0x0304;
+    entry.height = 0x0506;
+    assert!(rt; Hev1Box::new(rt.alloc(), &config)? == entry);
+    Ok(())
+}
+
+#[test]
+fn a_configuration_of_vp9_gives_the_default_entry_with_its_size(rt: HostRuntime) -> Result<()> {
     let config = Vp9Config {
         width: 0x0304,
         height: 0x0506,
     };
     assert!(rt; config.try_clone()? == config);
-    let entry = Vp09Box::new(rt.alloc(), &config)?;
-    assert_eq!(rt;
-        (entry.width, entry.height, entry.get_size()),
-        (0x0304, 0x0506, 106)
-    );
-    assert!(rt; entry.vpcc == VpccBox::default(rt.alloc())?);
+    let mut entry = Vp09Box::default(rt.alloc())?;
+    entry.width = 0x0304;
+    entry.height = 0x0506;
+    assert!(rt; Vp09Box::new(rt.alloc(), &config)? == entry);
     Ok(())
 }
 
