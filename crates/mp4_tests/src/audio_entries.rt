@@ -500,21 +500,14 @@ fn entry_of(
     freq_index: SampleFreqIndex,
     chan_conf: ChannelConfig,
 ) -> Result<Mp4aBox> {
-    match AudioObjectType::try_from(profile) {
-        Ok(profile) => {
-            let config = AacConfig {
-                bitrate,
-                profile,
-                freq_index,
-                chan_conf,
-            };
-            match config.try_clone() {
-                Ok(copy) => Ok(Mp4aBox::new(&copy)),
-                Err(error) => Err(error),
-            }
-        }
-        Err(error) => Err(error),
-    }
+    let config = AacConfig {
+        bitrate,
+        profile: AudioObjectType::try_from(profile)?,
+        freq_index,
+        chan_conf,
+    };
+    let copy = config.try_clone()?;
+    Ok(Mp4aBox::new(&copy))
 }
 
 #[test]
