@@ -2,5 +2,7 @@
 #![tactic(auto)]
 
 mod moov;
+mod traf;
 
 pub use moov::MoovBox;
+pub use traf::TrafBox;

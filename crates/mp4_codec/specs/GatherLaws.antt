@@ -3,6 +3,8 @@
 use Rattle.std.proofs.Common.{◌≡◌, ℕ, Bool, true, false, cond, List, [], ◌∷◌, ◌++◌, Option, Some, None, Result, Ok}
 use Rattle.std.proofs.Common.{Err, refl, sym, ap, ◌∙◌, append_assoc}
 use Rattle.std.proofs.lemmas.List.{append-nil}
+use Rattle.std.specs.Prelude.{IfSome}
+use Rattle.std.specs.List.{AllByRecursion}
 use Rattle.std.specs.Option.{option_to_list}
 use Rattle.mp4_codec.specs.declared.box_type.BoxType.{BoxType}
 use Rattle.mp4_codec.specs.Cause.{Cause, ◌>>=◌, ◌or◌, unless, fault_of}
@@ -101,3 +103,30 @@ pub first_fault-none : (fault : ChildBox → Option Cause) (cs : List ChildBox) 
 unfolding first_fault
 first_fault-none fault [] tail none = refl
 first_fault-none fault (c ∷ cs) tail none = rw none.0 (first_fault-none fault cs tail none.1)
+
+-- what holds of each value that is read holds of all children of a type
+pub all_of-holds : {A : Type 0} (P : A → Type 0) (t : BoxType) (value : List ℕ → Result A Cause)
+    → ((payload : List ℕ) (x : A) → value payload ≡ Ok x → P x)
+    → (cs : List ChildBox) → AllByRecursion P (all_of t value cs)
+unfolding all_of
+all_of-holds P t value holds [] = tt
+all_of-holds P t value holds (c ∷ cs) =
+    with_this (is_of t c) (value c.1) (holds c.1) (all_of t value cs) (all_of-holds P t value holds cs)
+  where
+    with_this : (b : Bool) (r : Result _ Cause) → ((x : _) → r ≡ Ok x → P x) → (others : List _)
+        → AllByRecursion P others → AllByRecursion P (option_to_list (cond b (value_of r) None) ++ others)
+    with_this true (Ok x) h others rest = (h x refl, rest)
+    with_this true (Err e) h others rest = rest
+    with_this false r h others rest = rest
+
+-- and of the last one
+pub last_of-holds : {A : Type 0} (P : A → Type 0) (t : BoxType) (value : List ℕ → Result A Cause)
+    → ((payload : List ℕ) (x : A) → value payload ≡ Ok x → P x)
+    → (cs : List ChildBox) → IfSome (last_of t value cs) P
+unfolding last_of
+last_of-holds P t value holds cs = of_last (all_of t value cs) (all_of-holds P t value holds cs)
+  where
+    of_last : (xs : List _) → AllByRecursion P xs → IfSome (last xs) P
+    of_last [] h = tt
+    of_last (x ∷ []) h = h.0
+    of_last (x ∷ y ∷ ys) h = of_last (y ∷ ys) h.1

@@ -18,5 +18,6 @@ pub mod HeadLaws
 pub mod ListLaws
 pub mod ListLoop
 pub mod WrittenChildren
+pub mod WrittenParts
 pub mod KeyedItems
 pub mod KeyedItemLaws

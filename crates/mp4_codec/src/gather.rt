@@ -2,13 +2,13 @@
 
 ghost use Rattle.std.specs.Prelude.{◌≡◌, ◌++◌, ◌∷◌, [], List, Option, Result, Ok};
 ghost use Rattle.mp4_codec.specs.BoxType.{IsNamed};
-ghost use Rattle.mp4_codec.specs.Cause.{Cause, Answers, unless, seen};
-ghost use Rattle.mp4_codec.specs.Children.{ChildBox, child_box, children, gathered, fault_in, last_of, all_of, with_last, with_next};
+ghost use Rattle.mp4_codec.specs.Cause.{Cause, Answers, Gives, unless, seen};
+ghost use Rattle.mp4_codec.specs.Children.{ChildBox, child_box, children, gathered, fault_in, last_of, all_of, with_last, with_next, needed};
 ghost use Rattle.mp4_codec.specs.GatherLaws.{last_child-adds, all_children-adds};
 
 use crate::boxes::{Mp4Box, ReadBox};
 use crate::children::{Child, Children};
-use crate::error::Result;
+use crate::error::{Error, Result};
 use crate::items::Items;
 use std::alloc::Global;
 
@@ -48,6 +48,46 @@ pub fn gather_children<G: Gather>(alloc: Global, payload: &[u8]) -> Result<G>
     Ok(parts)
 }
 
+/// Reads a child into the place of the last one of its type; a child of another type leaves it.
+pub fn keep_last<B: Mp4Box + ReadBox>(
+    alloc: Global,
+    child: &Child,
+    last: &mut Option<B>,
+) -> Result<()>
+    ensures { Answers (λ _. last.new) result (with_last B.KIND B.value (child_box child.now) last.old) }
+{
+    if u32::from(child.name) == u32::from(B::KIND) {
+        *last = Some(B::read_payload(alloc, child.payload)?);
+        return Ok(());
+    }
+    Ok(())
+}
+
+/// Reads a child behind those of its type; a child of another type leaves them.
+pub fn keep_each<B: Mp4Box + ReadBox>(
+    alloc: Global,
+    child: &Child,
+    all: &mut Items<B>,
+) -> Result<()>
+    ensures { Answers (λ _. all.new) result (with_next B.KIND B.value (child_box child.now) all.old) }
+{
+    if u32::from(child.name) == u32::from(B::KIND) {
+        all.push(B::read_payload(alloc, child.payload)?)?;
+        return Ok(());
+    }
+    Ok(())
+}
+
+/// A child that has to be there; `BoxNotFound` where it is missing.
+pub fn required<B: Mp4Box>(child: Option<B>) -> Result<B>
+    ensures { Gives (λ b. b) result (needed B.KIND child) }
+{
+    match child {
+        None => Err(Error::BoxNotFound(B::KIND)),
+        Some(b) => Ok(b),
+    }
+}
+
 /// The last child of one type.
 #[derive(Drop)]
 struct LastChild<B> {
@@ -69,10 +109,7 @@ impl<B: Mp4Box + ReadBox> Gather for LastChild<B> {
     }
 
     fn add(&mut self, alloc: Global, child: &Child) -> Result<()> {
-        if u32::from(child.name) == u32::from(B::KIND) {
-            self.child = Some(B::read_payload(alloc, child.payload)?);
-            return Ok(());
-        }
+        keep_last(alloc, child, &mut self.child)?;
         Ok(())
     }
 }
@@ -109,10 +146,7 @@ impl<B: Mp4Box + ReadBox> Gather for AllChildren<B> {
     }
 
     fn add(&mut self, alloc: Global, child: &Child) -> Result<()> {
-        if u32::from(child.name) == u32::from(B::KIND) {
-            self.children.push(B::read_payload(alloc, child.payload)?)?;
-            return Ok(());
-        }
+        keep_each(alloc, child, &mut self.children)?;
         Ok(())
     }
 }

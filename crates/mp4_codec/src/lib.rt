@@ -32,7 +32,9 @@ pub use entry::{Entry, list_size, put_list};
 pub use error::{Error, Limit, Result};
 pub use fields::Fields;
 pub use four_cc::FourCC;
-pub use gather::{Gather, all_children, gather_children, last_child};
+pub use gather::{
+    Gather, all_children, gather_children, keep_each, keep_last, last_child, required,
+};
 pub use header::{BoxHeader, HEADER_EXT_SIZE, HEADER_SIZE, OPEN_END};
 pub use in_range::InRange;
 pub use items::Items;

@@ -1,0 +1,63 @@
+-- The leaves of fragments, as kinds of boxes that containers hold.
+use Rattle.std.proofs.Common.{refl, lit<}
+use Rattle.mp4_codec.specs.declared.box_type.BoxType.TheVariants.{TfhdBox as tfhd, TfdtBox as tfdt, TrunBox as trun}
+use Rattle.mp4_codec.specs.BoxType.{box_type}
+use Rattle.mp4_codec.specs.Framing.{IsSpellable}
+use Rattle.mp4_codec.specs.WrittenParts.{Kind}
+use Rattle.mp4_frag.specs.declared.tfhd.TfhdBox.{TfhdBox}
+use Rattle.mp4_frag.specs.declared.tfdt.TfdtBox.{TfdtBox}
+use Rattle.mp4_frag.specs.declared.trun.TrunBox.{TrunBox}
+use Rattle.mp4_frag.specs.Tfhd.{tfhd_of, tfhd_payload, tfhd_refusal, IsInRangeTfhd, RemarksTfhd}
+use Rattle.mp4_frag.specs.TfhdLaws.{tfhd_again}
+use Rattle.mp4_frag.specs.Tfdt.{tfdt_of, tfdt_payload, tfdt_refusal, IsInRangeTfdt, RemarksTfdt}
+use Rattle.mp4_frag.specs.TfdtLaws.{tfdt_again}
+use Rattle.mp4_frag.specs.Trun.{trun_of, trun_payload, trun_refusal, IsInRangeTrun, RemarksTrun}
+use Rattle.mp4_frag.specs.TrunLaws.{trun_again}
+
+pub spellable_tfhd : IsSpellable tfhd
+unfolding box_type
+spellable_tfhd = record { named = refl; code = lit< tt }
+
+pub spellable_tfdt : IsSpellable tfdt
+unfolding box_type
+spellable_tfdt = record { named = refl; code = lit< tt }
+
+pub spellable_trun : IsSpellable trun
+unfolding box_type
+spellable_trun = record { named = refl; code = lit< tt }
+
+abbrev pub tfhd_kind : Kind TfhdBox
+tfhd_kind = record {
+  name = tfhd;
+  payload = tfhd_payload;
+  value = tfhd_of;
+  refusal = tfhd_refusal;
+  IsInRange = IsInRangeTfhd;
+  Remarks = RemarksTfhd;
+  spellable = spellable_tfhd;
+  again = tfhd_again;
+}
+
+abbrev pub tfdt_kind : Kind TfdtBox
+tfdt_kind = record {
+  name = tfdt;
+  payload = tfdt_payload;
+  value = tfdt_of;
+  refusal = tfdt_refusal;
+  IsInRange = IsInRangeTfdt;
+  Remarks = RemarksTfdt;
+  spellable = spellable_tfdt;
+  again = tfdt_again;
+}
+
+abbrev pub trun_kind : Kind TrunBox
+trun_kind = record {
+  name = trun;
+  payload = trun_payload;
+  value = trun_of;
+  refusal = trun_refusal;
+  IsInRange = IsInRangeTrun;
+  Remarks = RemarksTrun;
+  spellable = spellable_trun;
+  again = trun_again;
+}
