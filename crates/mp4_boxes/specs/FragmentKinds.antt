@@ -1,30 +1,81 @@
 -- The leaves of fragments, as kinds of boxes that containers hold.
 use Rattle.std.proofs.Common.{refl, lit<}
+use Rattle.mp4_codec.specs.declared.box_type.BoxType.TheVariants.{MehdBox as mehd, TrexBox as trex, MfhdBox as mfhd}
 use Rattle.mp4_codec.specs.declared.box_type.BoxType.TheVariants.{TfhdBox as tfhd, TfdtBox as tfdt, TrunBox as trun}
 use Rattle.mp4_codec.specs.BoxType.{box_type}
+use Rattle.mp4_codec.specs.Boxes.{no_refusal}
 use Rattle.mp4_codec.specs.Framing.{IsSpellable}
 use Rattle.mp4_codec.specs.WrittenParts.{Kind}
+use Rattle.mp4_frag.specs.declared.mehd.MehdBox.{MehdBox}
+use Rattle.mp4_frag.specs.Mehd.{mehd_of, mehd_payload, mehd_refusal, IsInRangeMehd, RemarksMehd}
+use Rattle.mp4_frag.specs.MehdLaws.{mehd_again}
+use Rattle.mp4_frag.specs.declared.trex.TrexBox.{TrexBox}
+use Rattle.mp4_frag.specs.Trex.{trex_of, trex_payload, IsInRangeTrex, RemarksTrex}
+use Rattle.mp4_frag.specs.TrexLaws.{trex_again}
+use Rattle.mp4_frag.specs.declared.mfhd.MfhdBox.{MfhdBox}
+use Rattle.mp4_frag.specs.Mfhd.{mfhd_of, mfhd_payload, IsInRangeMfhd, RemarksMfhd}
+use Rattle.mp4_frag.specs.MfhdLaws.{mfhd_again}
 use Rattle.mp4_frag.specs.declared.tfhd.TfhdBox.{TfhdBox}
-use Rattle.mp4_frag.specs.declared.tfdt.TfdtBox.{TfdtBox}
-use Rattle.mp4_frag.specs.declared.trun.TrunBox.{TrunBox}
 use Rattle.mp4_frag.specs.Tfhd.{tfhd_of, tfhd_payload, tfhd_refusal, IsInRangeTfhd, RemarksTfhd}
 use Rattle.mp4_frag.specs.TfhdLaws.{tfhd_again}
+use Rattle.mp4_frag.specs.declared.tfdt.TfdtBox.{TfdtBox}
 use Rattle.mp4_frag.specs.Tfdt.{tfdt_of, tfdt_payload, tfdt_refusal, IsInRangeTfdt, RemarksTfdt}
 use Rattle.mp4_frag.specs.TfdtLaws.{tfdt_again}
+use Rattle.mp4_frag.specs.declared.trun.TrunBox.{TrunBox}
 use Rattle.mp4_frag.specs.Trun.{trun_of, trun_payload, trun_refusal, IsInRangeTrun, RemarksTrun}
 use Rattle.mp4_frag.specs.TrunLaws.{trun_again}
+
+pub spellable_mehd : IsSpellable mehd
+unfolding box_type
+spellable_mehd = record { named = refl; code = lit< tt }
+
+abbrev pub mehd_kind : Kind MehdBox
+mehd_kind = record {
+  name = mehd;
+  payload = mehd_payload;
+  value = mehd_of;
+  refusal = mehd_refusal;
+  IsInRange = IsInRangeMehd;
+  Remarks = RemarksMehd;
+  spellable = spellable_mehd;
+  again = mehd_again;
+}
+
+pub spellable_trex : IsSpellable trex
+unfolding box_type
+spellable_trex = record { named = refl; code = lit< tt }
+
+abbrev pub trex_kind : Kind TrexBox
+trex_kind = record {
+  name = trex;
+  payload = trex_payload;
+  value = trex_of;
+  refusal = no_refusal;
+  IsInRange = IsInRangeTrex;
+  Remarks = RemarksTrex;
+  spellable = spellable_trex;
+  again = trex_again;
+}
+
+pub spellable_mfhd : IsSpellable mfhd
+unfolding box_type
+spellable_mfhd = record { named = refl; code = lit< tt }
+
+abbrev pub mfhd_kind : Kind MfhdBox
+mfhd_kind = record {
+  name = mfhd;
+  payload = mfhd_payload;
+  value = mfhd_of;
+  refusal = no_refusal;
+  IsInRange = IsInRangeMfhd;
+  Remarks = RemarksMfhd;
+  spellable = spellable_mfhd;
+  again = mfhd_again;
+}
 
 pub spellable_tfhd : IsSpellable tfhd
 unfolding box_type
 spellable_tfhd = record { named = refl; code = lit< tt }
-
-pub spellable_tfdt : IsSpellable tfdt
-unfolding box_type
-spellable_tfdt = record { named = refl; code = lit< tt }
-
-pub spellable_trun : IsSpellable trun
-unfolding box_type
-spellable_trun = record { named = refl; code = lit< tt }
 
 abbrev pub tfhd_kind : Kind TfhdBox
 tfhd_kind = record {
@@ -38,6 +89,10 @@ tfhd_kind = record {
   again = tfhd_again;
 }
 
+pub spellable_tfdt : IsSpellable tfdt
+unfolding box_type
+spellable_tfdt = record { named = refl; code = lit< tt }
+
 abbrev pub tfdt_kind : Kind TfdtBox
 tfdt_kind = record {
   name = tfdt;
@@ -49,6 +104,10 @@ tfdt_kind = record {
   spellable = spellable_tfdt;
   again = tfdt_again;
 }
+
+pub spellable_trun : IsSpellable trun
+unfolding box_type
+spellable_trun = record { named = refl; code = lit< tt }
 
 abbrev pub trun_kind : Kind TrunBox
 trun_kind = record {

@@ -1,5 +1,11 @@
+pub mod Edts
+pub mod EdtsLaws
 pub mod FragmentKinds
+pub mod Moof
+pub mod MoofLaws
 pub mod Moov
 pub mod MoovLaws
+pub mod Mvex
+pub mod MvexLaws
 pub mod Traf
 pub mod TrafLaws

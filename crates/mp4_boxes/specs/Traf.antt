@@ -1,11 +1,12 @@
 -- The fragment of a track (ISO/IEC 14496-12, 8.8.6).
-use Rattle.std.specs.Prelude.{ℕ, List, [], Option, Some, None, Result, Ok, IfSome}
+use Rattle.std.specs.Prelude.{ℕ, List, [], Option, None, Result, Ok, IfSome}
 use Rattle.std.specs.List.{AllByRecursion}
 use Rattle.mp4_codec.specs.declared.box_type.BoxType.TheVariants.{TfhdBox as tfhd, TfdtBox as tfdt, TrunBox as trun}
 use Rattle.mp4_codec.specs.Cause.{Cause, ◌>>=◌, ◌or◌}
 use Rattle.mp4_codec.specs.Bytes.{◌⧺◌}
 use Rattle.mp4_codec.specs.Boxes.{frame, optional, optional_refusal, all_frames, all_refusal, IsCanonical}
-use Rattle.mp4_codec.specs.Children.{ChildBox, children, gathered, fault_in, last_of, all_of, with_last, with_next, needed}
+use Rattle.mp4_codec.specs.Children.{ChildBox, children, gathered, fault_in, last_of, all_of, with_last, with_next}
+use Rattle.mp4_codec.specs.Children.{needed}
 use Rattle.mp4_frag.specs.Tfhd.{tfhd_of, tfhd_payload, tfhd_refusal, IsInRangeTfhd, RemarksTfhd, default_tfhd}
 use Rattle.mp4_frag.specs.Tfdt.{tfdt_of, tfdt_payload, tfdt_refusal, IsInRangeTfdt, RemarksTfdt}
 use Rattle.mp4_frag.specs.Trun.{trun_of, trun_payload, trun_refusal, IsInRangeTrun, RemarksTrun}
@@ -18,7 +19,11 @@ traf_fault c = fault_in tfhd tfhd_of c or (fault_in tfdt tfdt_of c or fault_in t
 
 -- what is taken of the children: the last header, the last time, and all runs
 unfoldable pub traf_taken : List ChildBox → TrafParts
-traf_taken cs = record { tfhd = last_of tfhd tfhd_of cs; tfdt = last_of tfdt tfdt_of cs; truns = all_of trun trun_of cs }
+traf_taken cs = record {
+  tfhd = last_of tfhd tfhd_of cs;
+  tfdt = last_of tfdt tfdt_of cs;
+  truns = all_of trun trun_of cs;
+}
 
 -- the same with one child more
 unfoldable pub traf_added : TrafParts → ChildBox → Result TrafParts Cause
@@ -37,7 +42,10 @@ traf_of payload = do
 
 -- the payload that holds a fragment
 unfoldable pub traf_payload : TrafBox → List ℕ
-traf_payload b = frame tfhd (tfhd_payload b.tfhd) ⧺ optional tfdt tfdt_payload b.tfdt ⧺ all_frames trun trun_payload b.truns
+traf_payload b =
+    frame tfhd (tfhd_payload b.tfhd)
+    ⧺ optional tfdt tfdt_payload b.tfdt
+    ⧺ all_frames trun trun_payload b.truns
 
 -- why a fragment is not written: the first refusal in written order
 unfoldable pub traf_refusal : TrafBox → Option Cause

@@ -1,22 +1,27 @@
 -- The fragment of a track is read as it was written.
 use Rattle.std.proofs.Common.{◌≡◌, ℕ, ◌^◌, ◌<◌, List, [], ◌∷◌, ◌++◌, length, Option, Some, None, Ok, refl, arith}
 use Rattle.std.specs.Option.{option_to_list}
+use Rattle.std.proofs.Common.{lit<}
 use Rattle.mp4_codec.specs.declared.box_type.BoxType.TheVariants.{TfhdBox as tfhd, TfdtBox as tfdt, TrunBox as trun}
+use Rattle.mp4_codec.specs.declared.box_type.BoxType.TheVariants.{TrafBox as traf}
+use Rattle.mp4_codec.specs.BoxType.{box_type}
+use Rattle.mp4_codec.specs.Framing.{IsSpellable}
 use Rattle.mp4_codec.specs.Cause.{unless}
 use Rattle.mp4_codec.specs.Bytes.{◌⧺◌}
 use Rattle.mp4_codec.specs.Boxes.{frame, optional, all_frames, optional_refusal, all_refusal}
-use Rattle.mp4_codec.specs.Children.{ChildBox, fault_in, last_of, all_of}
+use Rattle.mp4_codec.specs.Children.{ChildBox, fault_in}
 use Rattle.mp4_codec.specs.GatherLaws.{unless-then, with_last-last_of, all_children-adds}
 use Rattle.mp4_codec.specs.WriteLaws.{is_written, or_parts}
 use Rattle.mp4_codec.specs.WrittenParts.{Groups, Part, Written, payloads, required_part, optional_part, list_part}
-use Rattle.mp4_codec.specs.WrittenParts.{group, last_group, gathered-written, all_of-part, last_of-part, both_fit}
+use Rattle.mp4_codec.specs.WrittenParts.{group, last_group, gathered-written, last_of-part, all_of-part, both_fit}
+use Rattle.mp4_codec.specs.WrittenParts.{Kind}
 use Rattle.mp4_frag.specs.Tfhd.{tfhd_of, tfhd_payload, tfhd_refusal}
 use Rattle.mp4_frag.specs.Tfdt.{tfdt_of, tfdt_payload, tfdt_refusal}
 use Rattle.mp4_frag.specs.Trun.{trun_of, trun_payload, trun_refusal}
 use Rattle.mp4_boxes.specs.declared.traf.TrafBox.{TrafBox}
-use Rattle.mp4_boxes.specs.declared.traf.TrafParts.{TrafParts}
 use Rattle.mp4_boxes.specs.FragmentKinds.{tfhd_kind, tfdt_kind, trun_kind}
-use Rattle.mp4_boxes.specs.Traf.{traf_fault, traf_taken, traf_added, traf_of, traf_payload, traf_refusal, IsCanonicalTraf}
+use Rattle.mp4_boxes.specs.Traf.{traf_fault, traf_taken, traf_added, traf_of, traf_payload, traf_refusal}
+use Rattle.mp4_boxes.specs.Traf.{IsInRangeTraf, RemarksTraf, IsCanonicalTraf}
 
 pub traf_adds : (cs : List ChildBox) (c : ChildBox)
     → traf_added (traf_taken cs) c ≡ unless (traf_fault c) (Ok (traf_taken (cs ++ c ∷ [])))
@@ -41,16 +46,16 @@ parts : (b : TrafBox) → IsCanonicalTraf b → Parts b
 unfolding traf_payload traf_refusal
 parts b f =
     let written = is_written (traf_payload b) (traf_refusal b) f.written in
-    let behind_time = all_frames trun trun_payload b.truns in
-    let behind_header = optional tfdt tfdt_payload b.tfdt ⧺ behind_time in
-    let first = both_fit (frame tfhd (tfhd_payload b.tfhd)) behind_header (2 ^ 32) (omega (arith, written.small)) in
-    let second = both_fit (optional tfdt tfdt_payload b.tfdt) behind_time (2 ^ 32) first.1 in
-    let header = or_parts (tfhd_refusal b.tfhd) _ written.sound in
-    let time = or_parts (optional_refusal tfdt_refusal b.tfdt) _ header.1 in
+    let behind_tfdt = all_frames trun trun_payload b.truns in
+    let behind_tfhd = optional tfdt tfdt_payload b.tfdt ⧺ behind_tfdt in
+    let tfhd_fits = both_fit (frame tfhd (tfhd_payload b.tfhd)) behind_tfhd (2 ^ 32) (omega (arith, written.small)) in
+    let tfdt_fits = both_fit (optional tfdt tfdt_payload b.tfdt) behind_tfdt (2 ^ 32) tfhd_fits.1 in
+    let tfhd_sound = or_parts (tfhd_refusal b.tfhd) _ written.sound in
+    let tfdt_sound = or_parts (optional_refusal tfdt_refusal b.tfdt) _ tfhd_sound.1 in
     record {
-      tfhd = required_part tfhd_kind b.tfhd f.in_range.tfhd f.remarks.tfhd header.0 first.0;
-      tfdt = optional_part tfdt_kind b.tfdt f.in_range.tfdt f.remarks.tfdt time.0 second.0;
-      truns = list_part trun_kind b.truns f.in_range.truns f.remarks.truns time.1 second.1;
+      tfhd = required_part tfhd_kind b.tfhd f.in_range.tfhd f.remarks.tfhd tfhd_sound.0 tfhd_fits.0;
+      tfdt = optional_part tfdt_kind b.tfdt f.in_range.tfdt f.remarks.tfdt tfdt_sound.0 tfdt_fits.0;
+      truns = list_part trun_kind b.truns f.in_range.truns f.remarks.truns tfdt_sound.1 tfdt_fits.1;
     }
 
 pub traf_again : (b : TrafBox) → IsCanonicalTraf b → traf_of (traf_payload b) ≡ Ok b
@@ -67,3 +72,19 @@ traf_again b f =
       last_of-part tfdt_kind b.tfdt (groups b) p.tfdt refl,
       all_of-part trun_kind b.truns (groups b) p.truns refl,
     ) refl
+
+pub spellable_traf : IsSpellable traf
+unfolding box_type
+spellable_traf = record { named = refl; code = lit< tt }
+
+abbrev pub traf_kind : Kind TrafBox
+traf_kind = record {
+  name = traf;
+  payload = traf_payload;
+  value = traf_of;
+  refusal = traf_refusal;
+  IsInRange = IsInRangeTraf;
+  Remarks = RemarksTraf;
+  spellable = spellable_traf;
+  again = traf_again;
+}

@@ -106,3 +106,8 @@ with_next t value c before = if is_of t c then (value c.1 >>= λ x. Ok (before +
 abbrev pub needed : {A : Type 0} → BoxType → Option A → Result A Cause
 needed t None = Err (box_not_found t)
 needed t (Some x) = Ok x
+
+-- children of which at least one has to be there
+abbrev pub some_needed : {A : Type 0} → BoxType → List A → Result (List A) Cause
+some_needed t [] = Err (box_not_found t)
+some_needed t (x ∷ xs) = Ok (x ∷ xs)

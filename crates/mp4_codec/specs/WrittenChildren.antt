@@ -3,6 +3,7 @@ use Rattle.std.proofs.Common.{◌≡◌, ℕ, zero, suc, ◌+◌, ◌^◌, ◌�
 use Rattle.std.proofs.Common.{Option, Some, None, Result, Ok, refl, sym, ap, subst, ◌∙◌, append_assoc, arith}
 use Rattle.std.specs.List.{AllByRecursion}
 use Rattle.std.specs.Option.{option_to_list}
+use Rattle.std.proofs.lemmas.Bool.{le-ltb}
 use Rattle.std.proofs.lemmas.List.{append-nil, length-append}
 use Rattle.std.proofs.lemmas.List.Concat.{flat_map-cons}
 use Rattle.mp4_codec.specs.declared.box_type.BoxType.{BoxType}
@@ -13,7 +14,7 @@ use Rattle.mp4_codec.specs.FieldLaws.{length-then, then_assoc, then_nothing, not
 use Rattle.mp4_codec.specs.Boxes.{frame, optional, all_frames}
 use Rattle.mp4_codec.specs.Framing.{IsSpellable, short}
 use Rattle.mp4_codec.specs.FramingLaws.{child_at-box, length-frame}
-use Rattle.mp4_codec.specs.Children.{ChildBox, child_at, walk, children, all_of, last, fault_in, last_of, gathered}
+use Rattle.mp4_codec.specs.Children.{ChildBox, child_at, next_at, walk, children, all_of, last, fault_in, last_of, gathered}
 use Rattle.mp4_codec.specs.ChildrenLaws.{Begins, walk-begins, walk-ends}
 use Rattle.mp4_codec.specs.GatherLaws.{NoFault, first_fault-none}
 
@@ -49,6 +50,15 @@ child_at-frame : (t : BoxType) (payload rest : List ℕ) → IsSpellable t → 8
     → child_at (frame t payload ⧺ rest) ≡ Some ((t, payload), rest)
 unfolding ◌⧺◌
 child_at-frame t payload rest s small = child_at-box t payload (frame t payload) rest (short s small refl)
+
+-- the first child of a payload that is one box
+pub next_at-frame : (t : BoxType) (payload : List ℕ) → IsSpellable t → 8 + length payload < 2 ^ 32
+    → next_at (frame t payload) ≡ Ok (Some (t, payload), [])
+next_at-frame t payload s small =
+    let first : child_at (frame t payload) ≡ Some ((t, payload), []) =
+    ap child_at (sym (then_nothing (frame t payload))) ∙ child_at-frame t payload [] s small in
+    let long : 8 ≤ length (frame t payload) = omega (arith, length-frame t payload) in
+    rw (le-ltb _ _ long, first) refl
 
 pub Frames-one : (t : BoxType) (payload : List ℕ) → IsSpellable t → 8 + length payload < 2 ^ 32
     → Frames (frame t payload) ((t, payload) ∷ [])

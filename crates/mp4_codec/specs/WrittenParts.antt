@@ -11,10 +11,12 @@ use Rattle.mp4_codec.specs.BoxType.{code_of}
 use Rattle.mp4_codec.specs.Cause.{Cause}
 use Rattle.mp4_codec.specs.Bytes.{◌⧺◌}
 use Rattle.mp4_codec.specs.FieldLaws.{length-then}
-use Rattle.mp4_codec.specs.Boxes.{frame, optional, optional_refusal, all_frames, all_refusal, IsCanonical}
+use Rattle.mp4_codec.specs.Boxes.{frame, optional, optional_refusal, all_frames, all_refusal, no_refusal}
+use Rattle.mp4_codec.specs.Boxes.{IsCanonical}
 use Rattle.mp4_codec.specs.Framing.{IsSpellable}
 use Rattle.mp4_codec.specs.FramingLaws.{length-frame}
 use Rattle.mp4_codec.specs.Children.{ChildBox, children, gathered, value_of, all_of, last, last_of}
+use Rattle.mp4_codec.specs.Children.{some_needed}
 use Rattle.mp4_codec.specs.GatherLaws.{all_of-append, NoFault, NoFault-append, first_fault-none}
 use Rattle.mp4_codec.specs.WriteLaws.{or_parts, write_cause-none}
 use Rattle.mp4_codec.specs.WrittenChildren.{Frames, Frames-one, Frames-optional, Frames-all, Frames-then, boxed}
@@ -234,3 +236,17 @@ pub last_of-part : {B : Type 0} {bytes : List ℕ} (k : Kind B) (o : Option B) (
     → last_of k.name k.value (children_in gs) ≡ o
 unfolding last_of
 last_of-part k o gs p same = ap last (all_of-part k (option_to_list o) gs p same) ∙ last-option o
+
+-- values that nothing refuses
+pub none_refuses : {B : Type 0} (o : Option B) → optional_refusal no_refusal o ≡ None
+none_refuses None = refl
+none_refuses (Some b) = refl
+
+pub none_refuse : {B : Type 0} (bs : List B) → all_refusal no_refusal bs ≡ None
+none_refuse [] = refl
+none_refuse (b ∷ bs) = none_refuse bs
+
+-- where at least one child was written, at least one is read
+pub some_needed-again : {B : Type 0} (t : BoxType) (bs : List B) → (bs ≡ [] → ⊥) → some_needed t bs ≡ Ok bs
+some_needed-again t [] some = absurd (some refl)
+some_needed-again t (b ∷ bs) some = refl

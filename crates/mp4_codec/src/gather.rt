@@ -3,7 +3,7 @@
 ghost use Rattle.std.specs.Prelude.{◌≡◌, ◌++◌, ◌∷◌, [], List, Option, Result, Ok};
 ghost use Rattle.mp4_codec.specs.BoxType.{IsNamed};
 ghost use Rattle.mp4_codec.specs.Cause.{Cause, Answers, Gives, unless, seen};
-ghost use Rattle.mp4_codec.specs.Children.{ChildBox, child_box, children, gathered, fault_in, last_of, all_of, with_last, with_next, needed};
+ghost use Rattle.mp4_codec.specs.Children.{ChildBox, child_box, children, gathered, fault_in, last_of, all_of, with_last, with_next, needed, some_needed};
 ghost use Rattle.mp4_codec.specs.GatherLaws.{last_child-adds, all_children-adds};
 
 use crate::boxes::{Mp4Box, ReadBox};
@@ -86,6 +86,16 @@ pub fn required<B: Mp4Box>(child: Option<B>) -> Result<B>
         None => Err(Error::BoxNotFound(B::KIND)),
         Some(b) => Ok(b),
     }
+}
+
+/// Children of which at least one has to be there; `BoxNotFound` where all are missing.
+pub fn some_required<B: Mp4Box + Drop>(children: Items<B>) -> Result<Items<B>>
+    ensures { Gives (λ bs. bs) result (some_needed B.KIND children) }
+{
+    if children.is_empty() {
+        return Err(Error::BoxNotFound(B::KIND));
+    }
+    Ok(children)
 }
 
 /// The last child of one type.

@@ -34,6 +34,7 @@ pub use fields::Fields;
 pub use four_cc::FourCC;
 pub use gather::{
     Gather, all_children, gather_children, keep_each, keep_last, last_child, required,
+    some_required,
 };
 pub use header::{BoxHeader, HEADER_EXT_SIZE, HEADER_SIZE, OPEN_END};
 pub use in_range::InRange;

@@ -1,0 +1,45 @@
+-- The edits of a track (ISO/IEC 14496-12, 8.6.5).
+use Rattle.std.specs.Prelude.{ℕ, List, Option, Some, None, Result, Ok, IfSome}
+use Rattle.mp4_codec.specs.declared.box_type.BoxType.TheVariants.{ElstBox as elst}
+use Rattle.mp4_codec.specs.Cause.{Cause, ◌>>=◌}
+use Rattle.mp4_codec.specs.Boxes.{optional, optional_refusal, IsCanonical}
+use Rattle.mp4_codec.specs.Children.{ChildBox, next_at, with_last}
+use Rattle.mp4_leaf.specs.declared.elst.ElstBox.{ElstBox}
+use Rattle.mp4_leaf.specs.Elst.{elst_of, elst_payload, elst_refusal, IsInRangeElst, RemarksElst}
+use Rattle.mp4_boxes.specs.declared.edts.EdtsBox.{EdtsBox}
+
+-- the edit list that a first child is, if it is one
+abbrev pub edit_list : Option ChildBox → Result (Option ElstBox) Cause
+edit_list None = Ok None
+edit_list (Some c) = with_last elst elst_of c None
+
+-- the edits that a payload holds: its first child alone is looked at
+unfoldable pub edts_of : List ℕ → Result EdtsBox Cause
+edts_of payload = do
+  first ← next_at payload
+  edits ← edit_list first.0
+  Ok (record { elst = edits })
+
+-- the payload that holds edits
+unfoldable pub edts_payload : EdtsBox → List ℕ
+edts_payload b = optional elst elst_payload b.elst
+
+-- why edits are not written
+unfoldable pub edts_refusal : EdtsBox → Option Cause
+edts_refusal b = optional_refusal elst_refusal b.elst
+
+-- each number is within its type
+pub record IsInRangeEdts (b : EdtsBox) : Type 0 where
+  pub elst : IfSome b.elst IsInRangeElst
+
+-- the remarks of its child
+pub record RemarksEdts (b : EdtsBox) : Type 0 where
+  pub elst : IfSome b.elst RemarksElst
+
+-- edits that are written and read back equal
+abbrev pub IsCanonicalEdts : EdtsBox → Type 0
+IsCanonicalEdts = IsCanonical IsInRangeEdts RemarksEdts edts_payload edts_refusal
+
+-- no edit list
+abbrev pub default_edts : EdtsBox
+default_edts = record { elst = None }
