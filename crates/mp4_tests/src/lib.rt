@@ -23,6 +23,8 @@ mod data;
 #[cfg(test)]
 mod dinf;
 #[cfg(test)]
+mod edits;
+#[cfg(test)]
 mod elst;
 #[cfg(test)]
 mod emsg;
@@ -32,6 +34,8 @@ mod errors;
 mod fields;
 #[cfg(test)]
 mod fixed_point;
+#[cfg(test)]
+mod fragment_boxes;
 #[cfg(test)]
 mod fragment_headers;
 #[cfg(test)]
