@@ -1,5 +1,9 @@
 pub mod FragmentKinds
 pub mod Moov
 pub mod MoovLaws
+pub mod PartLaws
+pub mod Stbl
+pub mod StblLaws
+pub mod TableKinds
 pub mod Traf
 pub mod TrafLaws

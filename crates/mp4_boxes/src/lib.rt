@@ -2,7 +2,9 @@
 #![tactic(auto)]
 
 mod moov;
+mod stbl;
 mod traf;
 
 pub use moov::MoovBox;
+pub use stbl::StblBox;
 pub use traf::TrafBox;
