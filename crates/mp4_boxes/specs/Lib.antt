@@ -1,4 +1,7 @@
 pub mod FragmentKinds
+pub mod MediaKinds
+pub mod Minf
+pub mod MinfLaws
 pub mod Moov
 pub mod MoovLaws
 pub mod PartLaws
