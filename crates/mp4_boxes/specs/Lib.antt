@@ -1,4 +1,6 @@
 pub mod FragmentKinds
+pub mod Mdia
+pub mod MdiaLaws
 pub mod MediaKinds
 pub mod Minf
 pub mod MinfLaws
