@@ -13,11 +13,8 @@ use Rattle.mp4_leaf.specs.declared.elst.ElstBox.{ElstBox}
 use Rattle.mp4_leaf.specs.Elst.{elst_payload, elst_refusal, IsInRangeElst, RemarksElst}
 use Rattle.mp4_leaf.specs.ElstLaws.{elst_again}
 use Rattle.mp4_boxes.specs.declared.edts.EdtsBox.{EdtsBox}
+use Rattle.mp4_boxes.specs.LeafKinds.{spellable_elst}
 use Rattle.mp4_boxes.specs.Edts.{edts_of, edts_payload, edts_refusal, IsInRangeEdts, RemarksEdts, IsCanonicalEdts}
-
-spellable_elst : IsSpellable elst
-unfolding box_type
-spellable_elst = record { named = refl; code = lit< tt }
 
 again : (o : Option ElstBox) → IfSome o IsInRangeElst → IfSome o RemarksElst → optional_refusal elst_refusal o ≡ None
     → length (optional elst elst_payload o) < 2 ^ 32

@@ -1,7 +1,7 @@
 -- One child more: what the parts of a container take of a list of children, the fold that makes them, and the first
 -- fault.
 use Rattle.std.proofs.Common.{◌≡◌, ℕ, Bool, true, false, cond, List, [], ◌∷◌, ◌++◌, Option, Some, None, Result, Ok}
-use Rattle.std.proofs.Common.{Err, refl, sym, ap, ◌∙◌, append_assoc}
+use Rattle.std.proofs.Common.{Err, refl, sym, ap, subst, ◌∙◌, append_assoc}
 use Rattle.std.proofs.lemmas.List.{append-nil}
 use Rattle.std.specs.Prelude.{IfSome}
 use Rattle.std.specs.List.{AllByRecursion}
@@ -9,7 +9,8 @@ use Rattle.std.specs.Option.{option_to_list}
 use Rattle.mp4_codec.specs.declared.box_type.BoxType.{BoxType}
 use Rattle.mp4_codec.specs.Cause.{Cause, ◌>>=◌, ◌or◌, unless, fault_of}
 use Rattle.mp4_codec.specs.Children.{ChildBox, is_of, value_of, given_by, fault_in, all_of, last, last_of, tail_fault}
-use Rattle.mp4_codec.specs.Children.{first_fault, with_last, with_next}
+use Rattle.mp4_codec.specs.Children.{first_fault, gathered, with_last, with_next, needed}
+use Rattle.mp4_codec.specs.Steps.{ok_is}
 
 pub all_of-append : {A : Type 0} (t : BoxType) (value : List ℕ → Result A Cause) (cs ds : List ChildBox)
     → all_of t value (cs ++ ds) ≡ all_of t value cs ++ all_of t value ds
@@ -130,3 +131,22 @@ last_of-holds P t value holds cs = of_last (all_of t value cs) (all_of-holds P t
     of_last [] h = tt
     of_last (x ∷ []) h = h.0
     of_last (x ∷ y ∷ ys) h = of_last (y ∷ ys) h.1
+
+unless-ok : {P : Type 0} (fault : Option Cause) (parts taken : P) → unless fault (Ok taken) ≡ Ok parts → taken ≡ parts
+unless-ok None parts taken e = ok_is taken parts e
+unless-ok (Some c) parts taken e = absurd cc
+
+-- the parts that children give are what is taken of them
+pub gathered-taken : {P : Type 0} (fault : ChildBox → Option Cause) (taken : List ChildBox → P)
+    (list : List ChildBox × List ℕ) (parts : P) → gathered fault taken list ≡ Ok parts → taken list.0 ≡ parts
+gathered-taken fault taken list parts e = unless-ok (first_fault fault list.0 list.1) parts (taken list.0) e
+
+-- what holds of each value that is read holds of the last child that has to be there
+pub needed-holds : {A : Type 0} (P : A → Type 0) (t : BoxType) (value : List ℕ → Result A Cause)
+    → ((payload : List ℕ) (x : A) → value payload ≡ Ok x → P x)
+    → (cs : List ChildBox) (x : A) → needed t (last_of t value cs) ≡ Ok x → P x
+needed-holds {A} P t value holds cs x e = of_last (last_of t value cs) (last_of-holds P t value holds cs) e
+  where
+    of_last : (o : Option A) → IfSome o P → needed t o ≡ Ok x → P x
+    of_last None h e = absurd cc
+    of_last (Some y) h e = subst P (ok_is y x e) h
