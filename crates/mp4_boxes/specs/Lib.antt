@@ -6,6 +6,7 @@ pub mod Minf
 pub mod MinfLaws
 pub mod Moov
 pub mod MoovLaws
+pub mod Needed
 pub mod PartLaws
 pub mod Stbl
 pub mod StblLaws

@@ -5,6 +5,7 @@ mod laws;
 mod mdia;
 mod minf;
 mod moov;
+mod parts;
 mod stbl;
 mod traf;
 
