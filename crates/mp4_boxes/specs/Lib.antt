@@ -12,6 +12,7 @@ pub mod Moov
 pub mod MoovLaws
 pub mod Mvex
 pub mod MvexLaws
+pub mod Needed
 pub mod Stbl
 pub mod StblLaws
 pub mod TableKinds

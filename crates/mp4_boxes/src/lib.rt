@@ -8,6 +8,7 @@ mod minf;
 mod moof;
 mod moov;
 mod mvex;
+mod parts;
 mod stbl;
 mod traf;
 

@@ -8,9 +8,10 @@ ghost use Rattle.mp4_boxes.specs.Mdia.{mdia_payload, default_mdia, mdia_fault, m
 ghost use Rattle.mp4_boxes.specs.MdiaLaws.{mdia_adds, mdia_again};
 
 use crate::minf::MinfBox;
+use crate::parts::required_three;
 use mp4_codec::{
     BoxType, Child, Gather, HEADER_SIZE, InRange, Mp4Box, Put, ReadBox, Result, TryClone, WriteBox,
-    gather_children, keep_last, required,
+    gather_children, keep_last,
 };
 use mp4_leaf::{HdlrBox, MdhdBox};
 use std::alloc::Global;
@@ -131,12 +132,10 @@ impl Mp4Box for MdiaBox {
 impl ReadBox for MdiaBox {
     ghost value = { mdia_of };
 
-    #[tactic(auto, unfolding(crate::specs::Mdia::mdia_of))]
+    #[tactic(auto, using(crate::proofs::Media::mdia_of_steps))]
     fn read_payload(alloc: Global, payload: &[u8]) -> Result<Self> {
         let MdiaParts { mdhd, hdlr, minf } = gather_children(alloc, payload)?;
-        let mdhd = required(mdhd)?;
-        let hdlr = required(hdlr)?;
-        let minf = required(minf)?;
+        let (mdhd, hdlr, minf) = required_three(mdhd, hdlr, minf)?;
         Ok(MdiaBox { mdhd, hdlr, minf })
     }
 }

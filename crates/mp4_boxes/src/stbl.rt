@@ -7,6 +7,7 @@ ghost use Rattle.mp4_codec.specs.Boxes.{size_around};
 ghost use Rattle.mp4_boxes.specs.Stbl.{stbl_payload, default_stbl, stbl_fault, stbl_taken, stbl_added, stbl_of, stbl_refusal, needed_tables, needed_places, IsInRangeStbl, RemarksStbl};
 ghost use Rattle.mp4_boxes.specs.StblLaws.{stbl_adds, stbl_again};
 
+use crate::parts::four_copies;
 use mp4_codec::{
     BoxType, Child, Error, Gather, HEADER_SIZE, InRange, Mp4Box, Put, ReadBox, Result, TryClone,
     WriteBox, gather_children, keep_last, optional_size, put_optional, required,
@@ -121,15 +122,17 @@ impl StblBox {
 
 impl TryClone for StblBox {
     fn try_clone(&self) -> Result<Self> {
+        let (stsd, stts, stsc, stsz) = four_copies(&self.stsd, &self.stts, &self.stsc, &self.stsz)?;
+        let (ctts, stss, stco, co64) = four_copies(&self.ctts, &self.stss, &self.stco, &self.co64)?;
         Ok(StblBox {
-            stsd: self.stsd.try_clone()?,
-            stts: self.stts.try_clone()?,
-            ctts: self.ctts.try_clone()?,
-            stss: self.stss.try_clone()?,
-            stsc: self.stsc.try_clone()?,
-            stsz: self.stsz.try_clone()?,
-            stco: self.stco.try_clone()?,
-            co64: self.co64.try_clone()?,
+            stsd,
+            stts,
+            ctts,
+            stss,
+            stsc,
+            stsz,
+            stco,
+            co64,
         })
     }
 }
