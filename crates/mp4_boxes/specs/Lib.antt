@@ -1,4 +1,7 @@
 pub mod FragmentKinds
+pub mod Ilst
+pub mod IlstLaws
+pub mod MetadataKinds
 pub mod Moov
 pub mod MoovLaws
 pub mod Traf

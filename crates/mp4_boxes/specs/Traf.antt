@@ -1,5 +1,5 @@
 -- The fragment of a track (ISO/IEC 14496-12, 8.8.6).
-use Rattle.std.specs.Prelude.{ℕ, List, [], Option, Some, None, Result, Ok, IfSome}
+use Rattle.std.specs.Prelude.{ℕ, List, [], Option, None, Result, Ok, IfSome}
 use Rattle.std.specs.List.{AllByRecursion}
 use Rattle.mp4_codec.specs.declared.box_type.BoxType.TheVariants.{TfhdBox as tfhd, TfdtBox as tfdt, TrunBox as trun}
 use Rattle.mp4_codec.specs.Cause.{Cause, ◌>>=◌, ◌or◌}

@@ -1,20 +1,19 @@
 -- The fragment of a track is read as it was written.
-use Rattle.std.proofs.Common.{◌≡◌, ℕ, ◌^◌, ◌<◌, List, [], ◌∷◌, ◌++◌, length, Option, Some, None, Ok, refl, arith}
+use Rattle.std.proofs.Common.{◌≡◌, ◌^◌, List, [], ◌∷◌, ◌++◌, Some, Ok, refl, arith}
 use Rattle.std.specs.Option.{option_to_list}
 use Rattle.mp4_codec.specs.declared.box_type.BoxType.TheVariants.{TfhdBox as tfhd, TfdtBox as tfdt, TrunBox as trun}
 use Rattle.mp4_codec.specs.Cause.{unless}
 use Rattle.mp4_codec.specs.Bytes.{◌⧺◌}
-use Rattle.mp4_codec.specs.Boxes.{frame, optional, all_frames, optional_refusal, all_refusal}
-use Rattle.mp4_codec.specs.Children.{ChildBox, fault_in, last_of, all_of}
+use Rattle.mp4_codec.specs.Boxes.{frame, optional, all_frames, optional_refusal}
+use Rattle.mp4_codec.specs.Children.{ChildBox, fault_in}
 use Rattle.mp4_codec.specs.GatherLaws.{unless-then, with_last-last_of, all_children-adds}
 use Rattle.mp4_codec.specs.WriteLaws.{is_written, or_parts}
 use Rattle.mp4_codec.specs.WrittenParts.{Groups, Part, Written, payloads, required_part, optional_part, list_part}
 use Rattle.mp4_codec.specs.WrittenParts.{group, last_group, gathered-written, all_of-part, last_of-part, both_fit}
 use Rattle.mp4_frag.specs.Tfhd.{tfhd_of, tfhd_payload, tfhd_refusal}
 use Rattle.mp4_frag.specs.Tfdt.{tfdt_of, tfdt_payload, tfdt_refusal}
-use Rattle.mp4_frag.specs.Trun.{trun_of, trun_payload, trun_refusal}
+use Rattle.mp4_frag.specs.Trun.{trun_of, trun_payload}
 use Rattle.mp4_boxes.specs.declared.traf.TrafBox.{TrafBox}
-use Rattle.mp4_boxes.specs.declared.traf.TrafParts.{TrafParts}
 use Rattle.mp4_boxes.specs.FragmentKinds.{tfhd_kind, tfdt_kind, trun_kind}
 use Rattle.mp4_boxes.specs.Traf.{traf_fault, traf_taken, traf_added, traf_of, traf_payload, traf_refusal, IsCanonicalTraf}
 

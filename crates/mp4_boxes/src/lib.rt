@@ -1,8 +1,12 @@
 //! The containers of MP4 files (ISO/IEC 14496-12): boxes of boxes.
 #![tactic(auto)]
 
+mod ilst;
+mod metadata_key;
 mod moov;
 mod traf;
 
+pub use ilst::{IlstBox, IlstItemBox};
+pub use metadata_key::{MetadataKey, equal_keys_hash_alike};
 pub use moov::MoovBox;
 pub use traf::TrafBox;
