@@ -1,9 +1,10 @@
 -- Metadata as a list of items is read as it was written.
 use Rattle.std.proofs.Common.{◌≡◌, ◌^◌, List, [], ◌∷◌, ◌++◌, length, Option, Some, None, Ok, refl}
-use Rattle.std.proofs.Common.{arith}
+use Rattle.std.proofs.Common.{arith, lit<}
 use Rattle.std.specs.Option.{option_to_list}
 use Rattle.mp4_codec.specs.declared.box_type.BoxType.{BoxType}
-use Rattle.mp4_codec.specs.declared.box_type.BoxType.TheVariants.{DataBox as data_box, NameBox, DayBox, CovrBox, DescBox}
+use Rattle.mp4_codec.specs.declared.box_type.BoxType.TheVariants.{DataBox as data_box, NameBox, DayBox, CovrBox, DescBox, IlstBox as ilst}
+use Rattle.mp4_codec.specs.BoxType.{box_type}
 use Rattle.mp4_codec.specs.Cause.{unless}
 use Rattle.mp4_codec.specs.Bytes.{◌⧺◌}
 use Rattle.mp4_codec.specs.Boxes.{frame, optional, no_refusal, IsCanonical}
@@ -20,7 +21,7 @@ use Rattle.mp4_boxes.specs.declared.ilst.IlstBox.{IlstBox}
 use Rattle.mp4_boxes.specs.MetadataKinds.{data_kind, spellable_name, spellable_day, spellable_covr, spellable_desc}
 use Rattle.mp4_boxes.specs.Ilst.{item_of, item_payload, IsInRangeItem, RemarksItem, Held, item_at, item_frame, ilst_fault}
 use Rattle.mp4_boxes.specs.Ilst.{ilst_taken, ilst_added, ilst_of, ilst_payload}
-use Rattle.mp4_boxes.specs.Ilst.{IsCanonicalIlst}
+use Rattle.mp4_boxes.specs.Ilst.{IsInRangeIlst, RemarksIlst, IsCanonicalIlst}
 
 item_again : (i : IlstItemBox) → IsCanonical IsInRangeItem RemarksItem item_payload no_refusal i
     → item_of (item_payload i) ≡ Ok i
@@ -136,3 +137,19 @@ ilst_again b f =
       last_of-part summary_kind (item_at Summary b.items) (groups b) p.summary refl,
       places b.items f.in_range.keys,
     ) refl
+
+pub spellable_ilst : IsSpellable ilst
+unfolding box_type
+spellable_ilst = record { named = refl; code = lit< tt }
+
+abbrev pub ilst_kind : Kind IlstBox
+ilst_kind = record {
+  name = ilst;
+  payload = ilst_payload;
+  value = ilst_of;
+  refusal = no_refusal;
+  IsInRange = IsInRangeIlst;
+  Remarks = RemarksIlst;
+  spellable = spellable_ilst;
+  again = ilst_again;
+}

@@ -1,8 +1,12 @@
 pub mod FragmentKinds
 pub mod Ilst
 pub mod IlstLaws
+pub mod Meta
+pub mod MetaLaws
 pub mod MetadataKinds
 pub mod Moov
 pub mod MoovLaws
 pub mod Traf
 pub mod TrafLaws
+pub mod Udta
+pub mod UdtaLaws

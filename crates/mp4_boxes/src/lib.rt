@@ -2,11 +2,15 @@
 #![tactic(auto)]
 
 mod ilst;
+mod meta;
 mod metadata_key;
 mod moov;
 mod traf;
+mod udta;
 
 pub use ilst::{IlstBox, IlstItemBox};
+pub use meta::MetaBox;
 pub use metadata_key::{MetadataKey, equal_keys_hash_alike};
 pub use moov::MoovBox;
 pub use traf::TrafBox;
+pub use udta::UdtaBox;
