@@ -3,6 +3,7 @@ pub mod Ilst
 pub mod IlstLaws
 pub mod Meta
 pub mod MetaLaws
+pub mod Metadata
 pub mod MetadataKinds
 pub mod Moov
 pub mod MoovLaws

@@ -96,7 +96,7 @@ fn keep_item(
 }
 
 /// The item of a key.
-fn item_of_key(
+pub(crate) fn item_of_key(
     items: &KeyedItems<MetadataKey, IlstItemBox>,
     key: MetadataKey,
 ) -> Option<&IlstItemBox>

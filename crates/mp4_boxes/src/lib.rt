@@ -3,6 +3,7 @@
 
 mod ilst;
 mod meta;
+mod metadata;
 mod metadata_key;
 mod moov;
 mod traf;
@@ -10,6 +11,7 @@ mod udta;
 
 pub use ilst::{IlstBox, IlstItemBox};
 pub use meta::MetaBox;
+pub use metadata::Metadata;
 pub use metadata_key::{MetadataKey, equal_keys_hash_alike};
 pub use moov::MoovBox;
 pub use traf::TrafBox;
