@@ -1,9 +1,15 @@
 pub mod Edts
 pub mod EdtsLaws
 pub mod FragmentKinds
+pub mod Ilst
+pub mod IlstLaws
 pub mod LeafKinds
 pub mod Mdia
 pub mod MdiaLaws
+pub mod Meta
+pub mod MetaLaws
+pub mod Metadata
+pub mod MetadataKinds
 pub mod Minf
 pub mod MinfLaws
 pub mod Moof
@@ -18,3 +24,7 @@ pub mod StblLaws
 pub mod TableKinds
 pub mod Traf
 pub mod TrafLaws
+pub mod Trak
+pub mod TrakLaws
+pub mod Udta
+pub mod UdtaLaws

@@ -7,9 +7,14 @@ ghost use Rattle.mp4_codec.specs.Boxes.{size_around};
 ghost use Rattle.mp4_boxes.specs.Moov.{moov_payload, default_moov, moov_fault, moov_taken, moov_added, moov_of, moov_refusal, IsInRangeMoov, RemarksMoov};
 ghost use Rattle.mp4_boxes.specs.MoovLaws.{moov_adds, moov_again};
 
+use crate::meta::MetaBox;
+use crate::mvex::MvexBox;
+use crate::trak::TrakBox;
+use crate::udta::UdtaBox;
 use mp4_codec::{
-    BoxType, Child, Error, Gather, HEADER_SIZE, InRange, Mp4Box, Put, ReadBox, Result, TryClone,
-    WriteBox, gather_children,
+    BoxType, Child, Gather, HEADER_SIZE, InRange, Items, Mp4Box, Put, ReadBox, Result, TryClone,
+    WriteBox, all_size, check_all, check_optional, gather_children, keep_each, keep_last,
+    optional_size, put_all, put_optional, required,
 };
 use mp4_leaf::MvhdBox;
 use std::alloc::Global;
@@ -23,15 +28,27 @@ use std::alloc::Global;
 pub struct MoovBox {
     /// The movie header, which is required.
     pub mvhd: MvhdBox,
+    /// The tracks, in file order.
+    pub traks: Items<TrakBox>,
+    /// What is said of fragments that may follow.
+    pub mvex: Option<MvexBox>,
+    /// The metadata of the movie.
+    pub meta: Option<MetaBox>,
+    /// The user data, where a title and the like stand.
+    pub udta: Option<UdtaBox>,
 }
 
 impl MoovBox {
-    /// A movie of a default header.
-    pub fn default(_alloc: Global) -> Result<Self>
+    /// A movie of a default header, without tracks.
+    pub fn default(alloc: Global) -> Result<Self>
         ensures { Gives (λ b. b) result (Ok default_moov) }
     {
         Ok(MoovBox {
             mvhd: MvhdBox::default(),
+            traks: Items::new(alloc),
+            mvex: None,
+            meta: None,
+            udta: None,
         })
     }
 
@@ -47,7 +64,12 @@ impl MoovBox {
     pub fn get_size(&self) -> u64
         ensures { result ≡ size_around (moov_payload self.now) }
     {
-        HEADER_SIZE.saturating_add(self.mvhd.box_size())
+        HEADER_SIZE
+            .saturating_add(self.mvhd.box_size())
+            .saturating_add(all_size(&self.traks))
+            .saturating_add(optional_size(&self.mvex))
+            .saturating_add(optional_size(&self.meta))
+            .saturating_add(optional_size(&self.udta))
     }
 }
 
@@ -55,6 +77,10 @@ impl TryClone for MoovBox {
     fn try_clone(&self) -> Result<Self> {
         Ok(MoovBox {
             mvhd: self.mvhd.try_clone()?,
+            traks: self.traks.try_clone()?,
+            mvex: self.mvex.try_clone()?,
+            meta: self.meta.try_clone()?,
+            udta: self.udta.try_clone()?,
         })
     }
 }
@@ -63,6 +89,10 @@ impl TryClone for MoovBox {
 #[derive(Drop)]
 struct MoovParts {
     mvhd: Option<MvhdBox>,
+    traks: Items<TrakBox>,
+    mvex: Option<MvexBox>,
+    meta: Option<MetaBox>,
+    udta: Option<UdtaBox>,
 }
 
 impl Gather for MoovParts {
@@ -75,19 +105,24 @@ impl Gather for MoovParts {
     ghost adds = { moov_adds };
 
     #[tactic(auto, unfolding(crate::specs::Moov::moov_taken, mp4_codec::specs::Children::last_of, mp4_codec::specs::Children::all_of))]
-    fn none(_alloc: Global) -> Self {
-        MoovParts { mvhd: None }
+    fn none(alloc: Global) -> Self {
+        MoovParts {
+            mvhd: None,
+            traks: Items::new(alloc),
+            mvex: None,
+            meta: None,
+            udta: None,
+        }
     }
 
     #[tactic(auto, unfolding(crate::specs::Moov::moov_added))]
     fn add(&mut self, alloc: Global, child: &Child) -> Result<()> {
-        match child.name {
-            BoxType::MvhdBox => {
-                self.mvhd = Some(MvhdBox::read_payload(alloc, child.payload)?);
-                Ok(())
-            }
-            _ => Ok(()),
-        }
+        keep_last(alloc, child, &mut self.mvhd)?;
+        keep_each(alloc, child, &mut self.traks)?;
+        keep_last(alloc, child, &mut self.mvex)?;
+        keep_last(alloc, child, &mut self.meta)?;
+        keep_last(alloc, child, &mut self.udta)?;
+        Ok(())
     }
 }
 
@@ -96,6 +131,10 @@ impl InRange for MoovBox {
 
     fn in_range(&self) {
         self.mvhd.in_range();
+        self.traks.in_range();
+        self.mvex.in_range();
+        self.meta.in_range();
+        self.udta.in_range();
     }
 }
 
@@ -116,11 +155,21 @@ impl ReadBox for MoovBox {
 
     #[tactic(auto, unfolding(crate::specs::Moov::moov_of))]
     fn read_payload(alloc: Global, payload: &[u8]) -> Result<Self> {
-        let MoovParts { mvhd } = gather_children(alloc, payload)?;
-        let Some(mvhd) = mvhd else {
-            return Err(Error::BoxNotFound(BoxType::MvhdBox));
-        };
-        Ok(MoovBox { mvhd })
+        let MoovParts {
+            mvhd,
+            traks,
+            mvex,
+            meta,
+            udta,
+        } = gather_children(alloc, payload)?;
+        let mvhd = required(mvhd)?;
+        Ok(MoovBox {
+            mvhd,
+            traks,
+            mvex,
+            meta,
+            udta,
+        })
     }
 }
 
@@ -131,14 +180,21 @@ impl WriteBox for MoovBox {
 
     ghost reads_back = { moov_again };
 
+    #[tactic(auto, unfolding(crate::specs::Moov::moov_refusal))]
     fn check(&self) -> Result<()> {
         self.mvhd.check()?;
+        check_all(&self.traks)?;
+        check_optional(&self.mvex)?;
         Ok(())
     }
 
     #[tactic(auto, using(crate::proofs::Sizes::sizes), unfolding(crate::specs::Moov::moov_payload))]
     fn put_payload(&self, out: &mut Vec<u8>) -> Put {
         self.mvhd.put_box(out)?;
+        put_all(out, &self.traks)?;
+        put_optional(out, &self.mvex)?;
+        put_optional(out, &self.meta)?;
+        put_optional(out, &self.udta)?;
         Ok(())
     }
 }
