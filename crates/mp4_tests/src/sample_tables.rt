@@ -197,9 +197,12 @@ fn entries_have_their_first_samples(rt: HostRuntime) -> Result<()> {
     let two =
         "00000028 73747363 00 000000 00000002 00000001 00000003 00000001 00000005 00000001 00000001";
     let table: StblBox = of_children(rt.alloc(), &[STSD, STTS, two, STSZ, STCO])?;
-    let entries = table.stsc.entries.as_slice();
-    assert_eq!(rt; entries.len(), 2);
-    assert_eq!(rt; (entries[0].first_sample, entries[1].first_sample), (1, 13));
+    let firsts = (
+        table.stsc.entries.get(0).map(|entry| entry.first_sample),
+        table.stsc.entries.get(1).map(|entry| entry.first_sample),
+    );
+    assert_eq!(rt; table.stsc.entries.len(), 2);
+    assert_eq!(rt; firsts, (Some(1), Some(13)));
     Ok(())
 }
 
