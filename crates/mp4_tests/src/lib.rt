@@ -69,6 +69,8 @@ mod refused_memory;
 #[cfg(test)]
 mod sample_boxes;
 #[cfg(test)]
+mod sample_tables;
+#[cfg(test)]
 mod samples;
 #[cfg(test)]
 mod sides;
