@@ -71,8 +71,9 @@ impl Mp4Writer {
         if self.ended {
             return Err(Error::Ended);
         }
-        check_movie(self.config.timescale)?;
-        let movie = movie_box(self.config.timescale);
+        let alloc = *self.buffer.allocator();
+        check_movie(alloc, self.config.timescale)?;
+        let movie = movie_box(alloc, self.config.timescale);
         finish(&mut self.buffer, self.mdat, &movie)?;
         self.ended = true;
         Ok(())

@@ -8,7 +8,7 @@ use Rattle.mp4_leaf.specs.declared.ftyp.FtypBox.{FtypBox}
 use Rattle.mp4_leaf.specs.Ftyp.{ftyp_payload}
 use Rattle.mp4_leaf.specs.Mvhd.{default_mvhd}
 use Rattle.mp4_boxes.specs.declared.moov.MoovBox.{MoovBox}
-use Rattle.mp4_boxes.specs.Moov.{moov_payload}
+use Rattle.mp4_boxes.specs.Moov.{moov_payload, default_moov}
 use Rattle.mp4_mux.specs.declared.config.Mp4Config.{Mp4Config}
 use Rattle.mp4_mux.specs.Mdat.{mdat_header_of}
 use Rattle.mp4_mux.specs.Chunks.{TrackState, Chunk, chunk_bytes, last_chunks, none_pending}
@@ -36,7 +36,7 @@ file_type_of config =
 
 -- a movie of this timescale, without tracks
 abbrev pub movie_with : ℕ → MoovBox
-movie_with timescale = record { mvhd = record default_mvhd { timescale = timescale } }
+movie_with timescale = record default_moov { mvhd = record default_mvhd { timescale = timescale } }
 
 -- the movie that stands behind the data
 abbrev pub movie_of : WriterState → MoovBox

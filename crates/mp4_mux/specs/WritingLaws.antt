@@ -1,12 +1,13 @@
 -- What is written: sizes, and causes that can't come up.
-use Rattle.std.proofs.Common.{◌≡◌, ℕ, ◌-◌, ◌*◌, ◌^◌, ◌≤◌, ◌<◌, Bool, true, false, cond, ltb, List, length, None, refl}
+use Rattle.std.proofs.Common.{◌≡◌, ℕ, ◌-◌, ◌*◌, ◌^◌, ◌≤◌, ◌<◌, Bool, true, false, cond, ltb, List, length, None, refl, ap}
 use Rattle.std.proofs.Common.{arith, lit<}
 use Rattle.std.specs.List.{flat_map}
+use Rattle.std.proofs.lemmas.List.{append-nil}
 use Rattle.mp4_codec.specs.declared.box_type.BoxType.TheVariants.{MvhdBox as mvhd, MdatBox as mdat, WideBox as wide}
 use Rattle.mp4_codec.specs.BoxType.{code_of}
 use Rattle.mp4_codec.specs.Bytes.{four_cc, number, value_refusal, ◌⧺◌}
 use Rattle.mp4_codec.specs.FieldLaws.{length-number, length-four_cc, length-then}
-use Rattle.mp4_codec.specs.Boxes.{size_around, write_cause}
+use Rattle.mp4_codec.specs.Boxes.{size_around, frame, write_cause}
 use Rattle.mp4_codec.specs.WriteLaws.{size_cause-none, write_cause-none}
 use Rattle.mp4_codec.specs.ListLaws.{length-flat_map-same}
 use Rattle.mp4_codec.specs.FramingLaws.{length-frame}
@@ -59,13 +60,15 @@ header-in_range timescale h = record {
 }
 
 movie-length : (timescale : ℕ) → length (moov_payload (movie_with timescale)) ≡ 108
-unfolding moov_payload
+unfolding moov_payload ◌⧺◌
 movie-length timescale =
     let header = (movie_with timescale).mvhd in
-    omega (arith, length-frame mvhd (mvhd_payload header), length-mvhd_payload header)
+    let alone : length (moov_payload (movie_with timescale)) ≡ length (frame mvhd (mvhd_payload header)) =
+    ap length (append-nil (frame mvhd (mvhd_payload header))) in
+    omega (arith, alone, length-frame mvhd (mvhd_payload header), length-mvhd_payload header)
 
 movie-sound : (timescale : ℕ) → moov_refusal (movie_with timescale) ≡ None
-unfolding mvhd_refusal times_refusal value_refusal
+unfolding moov_refusal mvhd_refusal times_refusal value_refusal
 movie-sound timescale = refl
 
 -- the movie is written
@@ -79,8 +82,8 @@ movie-written timescale =
 -- the movie reads back equal
 pub movie-canonical : (timescale : ℕ) → timescale < 2 ^ 32 → IsCanonicalMoov (movie_with timescale)
 movie-canonical timescale h = record {
-  in_range = record { mvhd = header-in_range timescale h };
-  remarks = record { mvhd = lit< tt };
+  in_range = record { mvhd = header-in_range timescale h; traks = tt; mvex = tt; meta = tt; udta = tt };
+  remarks = record { mvhd = lit< tt; traks = tt; mvex = tt; meta = tt; udta = tt };
   written = movie-written timescale;
 }
 

@@ -9,11 +9,13 @@ ghost use Rattle.mp4_mux.specs.Parts.{bytes_at_end};
 
 use crate::mdat::{MDAT_HEADER_SIZE, mdat_header};
 use mp4_boxes::MoovBox;
-use mp4_codec::{Error, Limit, Result, WriteBox};
+use mp4_codec::{Error, Items, Limit, Result, WriteBox};
 use mp4_leaf::MvhdBox;
+use std::alloc::Global;
 
-/// The movie box of a movie of this timescale, in ticks a second (ISO/IEC 14496-12, 8.2.1).
-pub fn movie_box(timescale: u32) -> MoovBox
+/// The movie box of a movie of this timescale, in ticks a second, without tracks (ISO/IEC 14496-12, 8.2.1). It requests
+/// no memory.
+pub fn movie_box(alloc: Global, timescale: u32) -> MoovBox
     ensures { result ≡ movie_with timescale }
 {
     MoovBox {
@@ -21,22 +23,26 @@ pub fn movie_box(timescale: u32) -> MoovBox
             timescale,
             ..MvhdBox::default()
         },
+        traks: Items::new(alloc),
+        mvex: None,
+        meta: None,
+        udta: None,
     }
 }
 
 /// How many bytes that box has, its header included; it stops at 2^64 - 1. It requests no memory.
-pub fn movie_size(timescale: u32) -> u64
+pub fn movie_size(alloc: Global, timescale: u32) -> u64
     ensures { result ≡ size_around (moov_payload (movie_with timescale)) }
 {
-    movie_box(timescale).get_size()
+    movie_box(alloc, timescale).get_size()
 }
 
 /// Whether that box can be written: `TooLarge(BoxSize)` where it passes 2^32 - 1 bytes (ISO/IEC 14496-12, 4.2). It
 /// requests no memory.
-pub fn check_movie(timescale: u32) -> Result<()>
+pub fn check_movie(alloc: Global, timescale: u32) -> Result<()>
     ensures { Checks result (size_cause (moov_payload (movie_with timescale))) }
 {
-    if movie_size(timescale) > u32::MAX as u64 {
+    if movie_size(alloc, timescale) > u32::MAX as u64 {
         return Err(Error::TooLarge(Limit::BoxSize));
     }
     Ok(())
