@@ -55,6 +55,8 @@ mod mdhd;
 #[cfg(test)]
 mod media_headers;
 #[cfg(test)]
+mod metadata;
+#[cfg(test)]
 mod moov;
 #[cfg(test)]
 mod movies;
