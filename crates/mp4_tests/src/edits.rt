@@ -1,34 +1,46 @@
 //! The edits of a track.
 
-use crate::spelled::{is_spelled, is_unreadable, read};
+use crate::spelled::{check, holds, is_spelled, is_unreadable, read};
 use mp4_boxes::EdtsBox;
 use mp4_codec::Result;
 use mp4_leaf::ElstBox;
+use std::alloc::Global;
 
 #[test]
-fn no_edits_have_8_bytes(rt: HostRuntime) -> Result<()> {
-    assert!(rt; is_spelled(rt.alloc(), &EdtsBox::default(), "00000008 65647473")?);
-    Ok(())
+fn no_edits_have_8_bytes(rt: HostRuntime) {
+    check(&rt, 1, is_spelled(rt.alloc(), &EdtsBox::default(), "00000008 65647473"));
 }
 
-#[test]
-fn an_empty_edit_list_makes_24_bytes(rt: HostRuntime) -> Result<()> {
+fn an_empty_list_has_24_bytes(alloc: Global) -> Result<bool> {
     let edits = EdtsBox {
-        elst: Some(ElstBox::default(rt.alloc())?),
+        elst: Some(ElstBox::default(alloc)?),
     };
     let text = "00000018 65647473 00000010 656c7374 00000000 00000000";
-    assert!(rt; is_spelled(rt.alloc(), &edits, text)?);
-    Ok(())
+    is_spelled(alloc, &edits, text)
 }
 
 #[test]
-fn only_the_first_child_of_edits_is_looked_at(rt: HostRuntime) -> Result<()> {
+fn an_empty_edit_list_makes_24_bytes(rt: HostRuntime) {
+    check(&rt, 1, an_empty_list_has_24_bytes(rt.alloc()));
+}
+
+/// Whether an edit list is read.
+fn has_edits(alloc: Global, text: &str) -> Result<bool> {
+    Ok(read::<EdtsBox>(alloc, text)?.elst.is_some())
+}
+
+/// Whether no edit list is read.
+fn has_no_edits(alloc: Global, text: &str) -> Result<bool> {
+    Ok(!has_edits(alloc, text)?)
+}
+
+#[test]
+fn only_the_first_child_of_edits_is_looked_at(rt: HostRuntime) {
     // A free box and then an edit list; an edit list and then what no box begins.
     let hidden = "00000020 65647473 00000008 66726565 00000010 656c7374 00000000 00000000";
-    assert!(rt; read::<EdtsBox>(rt.alloc(), hidden)?.elst.is_none());
+    check(&rt, 1, has_no_edits(rt.alloc(), hidden));
     let broken = "00000020 65647473 00000010 656c7374 00000000 00000000 00000007 00000000";
-    assert!(rt; read::<EdtsBox>(rt.alloc(), broken)?.elst.is_some());
-    Ok(())
+    check(&rt, 2, has_edits(rt.alloc(), broken));
 }
 
 #[test]
@@ -39,14 +51,13 @@ fn a_first_child_that_passes_the_end_is_refused(rt: HostRuntime) {
         "00000010 65647473 00000007 656c7374",
         "00000010 65647473 00000008 656c7374",
     ] {
-        assert!(rt; is_unreadable::<EdtsBox>(rt.alloc(), text), "{text}");
+        holds(&rt, text, is_unreadable::<EdtsBox>(rt.alloc(), text));
     }
 }
 
 #[test]
-fn a_rest_of_fewer_than_8_bytes_holds_no_edits(rt: HostRuntime) -> Result<()> {
+fn a_rest_of_fewer_than_8_bytes_holds_no_edits(rt: HostRuntime) {
     for text in ["00000009 65647473 00", "0000000f 65647473 00000000 000000"] {
-        assert!(rt; read::<EdtsBox>(rt.alloc(), text)?.elst.is_none(), "{text}");
+        check(&rt, text, has_no_edits(rt.alloc(), text));
     }
-    Ok(())
 }

@@ -1,12 +1,10 @@
 //! Movie fragments, and what a movie says of them: moof, traf and mvex.
 
-use crate::spelled::{is_invalid, is_spelled, is_unreadable, read, written};
+use crate::spelled::{check, holds, is_invalid, is_spelled, is_unreadable, lacks, read, written};
 use mp4_boxes::{MoofBox, MvexBox, TrafBox};
-use mp4_codec::{BoxType, Error, Result, WriteBox};
+use mp4_codec::{BoxType, Result, WriteBox};
 use mp4_frag::{TfdtBox, TfhdBox, TrexBox, TrunBox};
 use std::alloc::Global;
-
-const TREX: &str = "00000020 74726578 00000000 00000000 00000000 00000000 00000000 00000000";
 
 /// The defaults of this track, all zero.
 fn defaults_of(track_id: u32) -> TrexBox {
@@ -21,30 +19,32 @@ fn has_length<B: WriteBox>(alloc: Global, value: &B, length: usize) -> Result<bo
     Ok(written(alloc, value)?.len() == length && value.box_size() == length as u64)
 }
 
-fn two_defaults(alloc: Global) -> Result<MvexBox> {
+fn two_defaults_have_72_bytes(alloc: Global) -> Result<bool> {
     let mut mvex = MvexBox::default(alloc)?;
     mvex.trexs.push(TrexBox::default())?;
     mvex.trexs.push(TrexBox::default())?;
-    Ok(mvex)
+    has_length(alloc, &mvex, 72)
 }
 
 #[test]
-fn the_defaults_of_two_tracks_have_72_bytes(rt: HostRuntime) -> Result<()> {
-    assert!(rt; has_length(rt.alloc(), &two_defaults(rt.alloc())?, 72)?);
-    Ok(())
+fn the_defaults_of_two_tracks_have_72_bytes(rt: HostRuntime) {
+    check(&rt, 1, two_defaults_have_72_bytes(rt.alloc()));
 }
 
-#[test]
-fn the_defaults_of_all_tracks_are_read_in_order(rt: HostRuntime) -> Result<()> {
+fn two_defaults_are_read(alloc: Global) -> Result<bool> {
     let text = "00000058 6d766578 00000010 6d656864 00000000 00000007 \
         00000020 74726578 00000000 00000001 00000000 00000000 00000000 00000000 \
         00000020 74726578 00000000 00000002 00000000 00000000 00000000 00000000";
-    let mvex = read::<MvexBox>(rt.alloc(), text)?;
-    assert_eq!(rt; mvex.mehd.map(|header| header.fragment_duration), Some(7));
-    assert!(rt; mvex.trexs.get(0) == Some(&defaults_of(1)));
-    assert!(rt; mvex.trexs.get(1) == Some(&defaults_of(2)));
-    assert!(rt; is_spelled(rt.alloc(), &mvex, text)?);
-    Ok(())
+    let mvex = read::<MvexBox>(alloc, text)?;
+    let whole = mvex.mehd.map(|header| header.fragment_duration) == Some(7);
+    let first = mvex.trexs.get(0) == Some(&defaults_of(1));
+    let second = mvex.trexs.get(1) == Some(&defaults_of(2));
+    Ok(whole && first && second && is_spelled(alloc, &mvex, text)?)
+}
+
+#[test]
+fn the_defaults_of_all_tracks_are_read_in_order(rt: HostRuntime) {
+    check(&rt, 1, two_defaults_are_read(rt.alloc()));
 }
 
 #[test]
@@ -53,106 +53,114 @@ fn a_movie_extends_box_without_defaults_is_refused(rt: HostRuntime) {
         "00000008 6d766578",
         "00000018 6d766578 00000010 6d656864 00000000 00000007",
     ] {
-        assert!(rt;
-            read::<MvexBox>(rt.alloc(), text).err() == Some(Error::BoxNotFound(BoxType::TrexBox)),
-            "{text}"
-        );
+        holds(&rt, text, lacks::<MvexBox>(rt.alloc(), text, BoxType::TrexBox));
     }
 }
 
 #[test]
 fn a_broken_tail_comes_before_missing_defaults(rt: HostRuntime) {
     let text = "00000010 6d766578 00000000 00000000";
-    assert!(rt; is_unreadable::<MvexBox>(rt.alloc(), text));
+    holds(&rt, 1, is_unreadable::<MvexBox>(rt.alloc(), text));
 }
 
-fn two_runs(alloc: Global) -> Result<TrafBox> {
+fn two_runs_make_56_bytes(alloc: Global) -> Result<bool> {
     let mut traf = TrafBox::default(alloc)?;
     traf.truns.push(TrunBox::default(alloc)?)?;
     traf.truns.push(TrunBox::default(alloc)?)?;
-    Ok(traf)
+    has_length(alloc, &traf, 56)
 }
 
-#[test]
-fn a_fragment_of_two_runs_has_56_bytes(rt: HostRuntime) -> Result<()> {
-    assert!(rt; has_length(rt.alloc(), &two_runs(rt.alloc())?, 56)?);
-    Ok(())
-}
-
-#[test]
-fn a_fragment_of_a_time_and_a_run_has_56_bytes(rt: HostRuntime) -> Result<()> {
-    let mut traf = TrafBox::default(rt.alloc())?;
+fn a_time_and_a_run_make_56_bytes(alloc: Global) -> Result<bool> {
+    let mut traf = TrafBox::default(alloc)?;
     traf.tfdt = Some(TfdtBox::default());
-    traf.truns.push(TrunBox::default(rt.alloc())?)?;
-    assert!(rt; has_length(rt.alloc(), &traf, 56)?);
-    Ok(())
+    traf.truns.push(TrunBox::default(alloc)?)?;
+    has_length(alloc, &traf, 56)
 }
 
 #[test]
-fn all_runs_of_a_fragment_are_kept_in_order(rt: HostRuntime) -> Result<()> {
+fn each_default_child_of_a_fragment_has_16_bytes(rt: HostRuntime) {
+    check(&rt, 1, two_runs_make_56_bytes(rt.alloc()));
+    check(&rt, 2, a_time_and_a_run_make_56_bytes(rt.alloc()));
+}
+
+fn two_runs_are_read(alloc: Global) -> Result<bool> {
     let text = "00000048 74726166 00000010 74666864 00000000 00000009 \
         00000010 74666474 00000000 00000005 \
         00000010 7472756e 01000000 00000003 00000010 7472756e 00000000 00000004";
-    let traf = read::<TrafBox>(rt.alloc(), text)?;
-    assert_eq!(rt; traf.tfhd.track_id, 9);
-    assert_eq!(rt; traf.tfdt.map(|time| time.base_media_decode_time), Some(5));
-    assert_eq!(rt; traf.truns.get(0).map(|run| run.sample_count), Some(3));
-    assert_eq!(rt; traf.truns.get(1).map(|run| run.sample_count), Some(4));
-    assert!(rt; is_spelled(rt.alloc(), &traf, text)?);
-    Ok(())
+    let traf = read::<TrafBox>(alloc, text)?;
+    let track = traf.tfhd.track_id == 9;
+    let time = traf.tfdt.map(|time| time.base_media_decode_time) == Some(5);
+    let first = traf.truns.get(0).map(|run| run.sample_count) == Some(3);
+    let second = traf.truns.get(1).map(|run| run.sample_count) == Some(4);
+    Ok(track && time && first && second && is_spelled(alloc, &traf, text)?)
 }
 
 #[test]
-fn of_two_headers_of_a_fragment_the_last_stands(rt: HostRuntime) -> Result<()> {
-    let text =
-        "00000028 74726166 00000010 74666864 00000000 00000001 00000010 74666864 00000000 00000002";
-    assert_eq!(rt; read::<TrafBox>(rt.alloc(), text)?.tfhd.track_id, 2);
-    Ok(())
+fn all_runs_of_a_fragment_are_kept_in_order(rt: HostRuntime) {
+    check(&rt, 1, two_runs_are_read(rt.alloc()));
+}
+
+fn the_second_header_is_read(alloc: Global) -> Result<bool> {
+    let text = "00000028 74726166 00000010 74666864 00000000 00000001 \
+        00000010 74666864 00000000 00000002";
+    let last = TfhdBox {
+        track_id: 2,
+        ..TfhdBox::default()
+    };
+    Ok(read::<TrafBox>(alloc, text)?.tfhd == last)
+}
+
+#[test]
+fn of_two_headers_of_a_fragment_the_last_stands(rt: HostRuntime) {
+    check(&rt, 1, the_second_header_is_read(rt.alloc()));
 }
 
 #[test]
 fn a_fragment_without_its_header_is_refused(rt: HostRuntime) {
     let text = "00000018 74726166 00000010 74666474 00000000 00000005";
-    assert!(rt;
-        read::<TrafBox>(rt.alloc(), text).err() == Some(Error::BoxNotFound(BoxType::TfhdBox))
-    );
+    holds(&rt, 1, lacks::<TrafBox>(rt.alloc(), text, BoxType::TfhdBox));
 }
 
-#[test]
-fn a_fragment_is_not_written_where_a_run_is_refused(rt: HostRuntime) -> Result<()> {
-    let mut traf = TrafBox::default(rt.alloc())?;
-    let mut run = TrunBox::default(rt.alloc())?;
+fn a_refused_run_is_not_written(alloc: Global) -> Result<bool> {
+    let mut traf = TrafBox::default(alloc)?;
+    let mut run = TrunBox::default(alloc)?;
     run.sample_durations.push(1)?;
     traf.truns.push(run)?;
-    assert!(rt; is_invalid(rt.alloc(), &traf)?);
-    Ok(())
+    is_invalid(alloc, &traf)
 }
 
 #[test]
-fn a_default_movie_fragment_has_24_bytes(rt: HostRuntime) -> Result<()> {
+fn a_fragment_is_not_written_where_a_run_is_refused(rt: HostRuntime) {
+    check(&rt, 1, a_refused_run_is_not_written(rt.alloc()));
+}
+
+fn a_default_has_24_bytes(alloc: Global) -> Result<bool> {
     let text = "00000018 6d6f6f66 00000010 6d666864 00000000 00000001";
-    assert!(rt; is_spelled(rt.alloc(), &MoofBox::default(rt.alloc())?, text)?);
-    Ok(())
+    is_spelled(alloc, &MoofBox::default(alloc)?, text)
 }
 
 #[test]
-fn all_tracks_of_a_movie_fragment_are_kept_in_order(rt: HostRuntime) -> Result<()> {
+fn a_default_movie_fragment_has_24_bytes(rt: HostRuntime) {
+    check(&rt, 1, a_default_has_24_bytes(rt.alloc()));
+}
+
+fn two_tracks_are_read(alloc: Global) -> Result<bool> {
     // A fragment of track 2, a free box, the header and a fragment of track 1.
-    let text =
-        "00000050 6d6f6f66 00000018 74726166 00000010 74666864 00000000 00000002 00000008 66726565 \
+    let text = "00000050 6d6f6f66 00000018 74726166 00000010 74666864 00000000 00000002 00000008 66726565 \
         00000010 6d666864 00000000 00000007 00000018 74726166 00000010 74666864 00000000 00000001";
-    let moof = read::<MoofBox>(rt.alloc(), text)?;
-    assert_eq!(rt; moof.mfhd.sequence_number, 7);
-    assert_eq!(rt; moof.trafs.get(0).map(|traf| traf.tfhd.track_id), Some(2));
-    assert_eq!(rt; moof.trafs.get(1).map(|traf| traf.tfhd.track_id), Some(1));
-    assert_eq!(rt; moof.trafs.len(), 2);
-    Ok(())
+    let moof = read::<MoofBox>(alloc, text)?;
+    let number = moof.mfhd.sequence_number == 7;
+    let first = moof.trafs.get(0).map(|traf| traf.tfhd.track_id) == Some(2);
+    let second = moof.trafs.get(1).map(|traf| traf.tfhd.track_id) == Some(1);
+    Ok(number && first && second && moof.trafs.len() == 2)
+}
+
+#[test]
+fn all_tracks_of_a_movie_fragment_are_kept_in_order(rt: HostRuntime) {
+    check(&rt, 1, two_tracks_are_read(rt.alloc()));
 }
 
 #[test]
 fn a_movie_fragment_without_its_header_is_refused(rt: HostRuntime) {
-    let text = "00000008 6d6f6f66";
-    assert!(rt;
-        read::<MoofBox>(rt.alloc(), text).err() == Some(Error::BoxNotFound(BoxType::MfhdBox))
-    );
+    holds(&rt, 1, lacks::<MoofBox>(rt.alloc(), "00000008 6d6f6f66", BoxType::MfhdBox));
 }

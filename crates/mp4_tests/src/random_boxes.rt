@@ -1,0 +1,409 @@
+//! Boxes of boxes at random, from fixed seeds: each is read as it was written, and no cut and no changed byte stops a
+//! reader.
+
+use crate::spelled::{read_bytes, written};
+use mp4_boxes::{
+    EdtsBox, IlstBox, IlstItemBox, MdiaBox, MetaBox, MetadataKey, MinfBox, MoofBox, MoovBox,
+    MvexBox, StblBox, TrafBox, TrakBox, UdtaBox,
+};
+use mp4_codec::{BoxType, FourCC, Items, Result, WriteBox};
+use mp4_entry::{StsdBox, Tx3gBox};
+use mp4_frag::{MehdBox, TfdtBox, TfhdBox, TrexBox, TrunBox};
+use mp4_leaf::{DataBox, DataType, ElstBox, ElstEntry, HdlrBox, SmhdBox, VmhdBox};
+use mp4_table::{
+    Co64Box, CttsBox, CttsEntry, StcoBox, StscEntry, StssBox, StszBox, SttsEntry,
+};
+use std::alloc::Global;
+
+/// Numbers in an order that a seed settles.
+struct Random {
+    state: u64,
+}
+
+impl Random {
+    fn new(seed: u64) -> Self {
+        Random { state: seed }
+    }
+
+    /// The next number.
+    fn next(&mut self) -> u32 {
+        self.state = self
+            .state
+            .wrapping_mul(6_364_136_223_846_793_005)
+            .wrapping_add(1_442_695_040_888_963_407);
+        (self.state / 0x1_0000_0000) as u32
+    }
+
+    /// A number below 4.
+    fn few(&mut self) -> u32 {
+        self.next() / 0x4000_0000
+    }
+
+    fn byte(&mut self) -> u8 {
+        (self.next() / 0x100_0000) as u8
+    }
+
+    fn chance(&mut self) -> bool {
+        self.few() < 2
+    }
+}
+
+/// At most three numbers.
+fn numbers(alloc: Global, random: &mut Random) -> Result<Items<u32>> {
+    let mut list = Items::new(alloc);
+    for _ in 0..random.few() {
+        list.push(random.next())?;
+    }
+    Ok(list)
+}
+
+/// At most three bytes other than zero.
+fn letters(alloc: Global, random: &mut Random) -> Result<Items<u8>> {
+    let mut list = Items::new(alloc);
+    for _ in 0..random.few() {
+        list.push(random.byte() | 1)?;
+    }
+    Ok(list)
+}
+
+fn header_of_a_fragment(random: &mut Random) -> TfhdBox {
+    let mut header = TfhdBox {
+        track_id: random.next(),
+        ..TfhdBox::default()
+    };
+    if random.chance() {
+        header.flags = 0x20009;
+        header.base_data_offset = Some(u64::from(random.next()));
+        header.default_sample_duration = Some(random.next());
+    }
+    header
+}
+
+fn run(alloc: Global, random: &mut Random) -> Result<TrunBox> {
+    let mut run = TrunBox::default(alloc)?;
+    run.sample_sizes = numbers(alloc, random)?;
+    run.sample_count = run.sample_sizes.len() as u32;
+    run.flags = 0x201;
+    run.data_offset = Some(-7);
+    Ok(run)
+}
+
+fn runs(alloc: Global, random: &mut Random) -> Result<Items<TrunBox>> {
+    let mut list = Items::new(alloc);
+    for _ in 0..random.few() {
+        list.push(run(alloc, random)?)?;
+    }
+    Ok(list)
+}
+
+fn time(random: &mut Random) -> Option<TfdtBox> {
+    if random.chance() {
+        return None;
+    }
+    Some(TfdtBox {
+        version: 1,
+        flags: 0,
+        base_media_decode_time: u64::from(random.next()).wrapping_mul(3),
+    })
+}
+
+fn fragment_of_a_track(alloc: Global, random: &mut Random) -> Result<TrafBox> {
+    Ok(TrafBox {
+        tfhd: header_of_a_fragment(random),
+        tfdt: time(random),
+        truns: runs(alloc, random)?,
+    })
+}
+
+fn fragment(alloc: Global, random: &mut Random) -> Result<MoofBox> {
+    let mut fragment = MoofBox::default(alloc)?;
+    fragment.mfhd.sequence_number = random.next();
+    for _ in 0..random.few() {
+        fragment.trafs.push(fragment_of_a_track(alloc, random)?)?;
+    }
+    Ok(fragment)
+}
+
+fn defaults(alloc: Global, random: &mut Random) -> Result<MvexBox> {
+    let mut mvex = MvexBox::default(alloc)?;
+    if random.chance() {
+        mvex.mehd = Some(MehdBox::default());
+    }
+    for _ in 0..=random.few() {
+        mvex.trexs.push(TrexBox {
+            track_id: random.next(),
+            default_sample_size: random.next(),
+            ..TrexBox::default()
+        })?;
+    }
+    Ok(mvex)
+}
+
+fn edits(alloc: Global, random: &mut Random) -> Result<EdtsBox> {
+    if random.chance() {
+        return Ok(EdtsBox::default());
+    }
+    let mut list = ElstBox::default(alloc)?;
+    for _ in 0..random.few() {
+        list.entries.push(ElstEntry {
+            segment_duration: u64::from(random.next()),
+            media_time: u64::from(random.next()),
+            media_rate: 1,
+            media_rate_fraction: 0,
+        })?;
+    }
+    Ok(EdtsBox { elst: Some(list) })
+}
+
+fn value(alloc: Global, random: &mut Random) -> Result<IlstItemBox> {
+    let mut value = DataBox::default(alloc)?;
+    value.bytes = letters(alloc, random)?;
+    value.data_type = if random.chance() { DataType::Text } else { DataType::Other(14) };
+    Ok(IlstItemBox { item: value })
+}
+
+fn items(alloc: Global, random: &mut Random) -> Result<IlstBox> {
+    let mut list = IlstBox::default(alloc)?;
+    for key in [
+        MetadataKey::Summary,
+        MetadataKey::Title,
+        MetadataKey::Poster,
+        MetadataKey::Year,
+    ] {
+        if random.chance() {
+            list.items.insert(key, value(alloc, random)?)?;
+        }
+    }
+    Ok(list)
+}
+
+fn unknown_children(alloc: Global, random: &mut Random) -> Result<Items<(BoxType, Items<u8>)>> {
+    let mut list = Items::new(alloc);
+    for _ in 0..random.few() {
+        list.push((BoxType::FreeBox, letters(alloc, random)?))?;
+        list.push((BoxType::UnknownBox(7), letters(alloc, random)?))?;
+    }
+    Ok(list)
+}
+
+fn handler(alloc: Global, random: &mut Random) -> Result<HdlrBox> {
+    let mut handler = HdlrBox::default(alloc)?;
+    handler.handler_type = FourCC::from(*b"test");
+    handler.name = letters(alloc, random)?;
+    Ok(handler)
+}
+
+fn metadata(alloc: Global, random: &mut Random) -> Result<MetaBox> {
+    if random.chance() {
+        return Ok(MetaBox::Mdir {
+            ilst: Some(items(alloc, random)?),
+        });
+    }
+    Ok(MetaBox::Unknown {
+        hdlr: handler(alloc, random)?,
+        children: unknown_children(alloc, random)?,
+    })
+}
+
+fn perhaps_metadata(alloc: Global, random: &mut Random) -> Result<Option<MetaBox>> {
+    if random.chance() {
+        return Ok(None);
+    }
+    Ok(Some(metadata(alloc, random)?))
+}
+
+fn user_data(alloc: Global, random: &mut Random) -> Result<UdtaBox> {
+    Ok(UdtaBox {
+        meta: perhaps_metadata(alloc, random)?,
+    })
+}
+
+fn description(random: &mut Random) -> StsdBox {
+    let mut description = StsdBox::default();
+    if random.chance() {
+        description.tx3g = Some(Tx3gBox::default());
+    }
+    description
+}
+
+fn sizes(alloc: Global, random: &mut Random) -> Result<StszBox> {
+    let mut sizes = StszBox::default(alloc)?;
+    if random.chance() {
+        sizes.sample_size = 5;
+        sizes.sample_count = random.next();
+        return Ok(sizes);
+    }
+    sizes.sample_sizes = numbers(alloc, random)?;
+    sizes.sample_count = sizes.sample_sizes.len() as u32;
+    Ok(sizes)
+}
+
+fn offsets(alloc: Global, random: &mut Random) -> Result<CttsBox> {
+    let mut offsets = CttsBox::default(alloc)?;
+    for _ in 0..random.few() {
+        offsets.entries.push(CttsEntry {
+            sample_count: random.next(),
+            sample_offset: -3,
+        })?;
+    }
+    Ok(offsets)
+}
+
+fn syncs(alloc: Global, random: &mut Random) -> Result<StssBox> {
+    let mut syncs = StssBox::default(alloc)?;
+    syncs.entries = numbers(alloc, random)?;
+    Ok(syncs)
+}
+
+fn places(alloc: Global, random: &mut Random) -> Result<StcoBox> {
+    let mut places = StcoBox::default(alloc)?;
+    places.entries = numbers(alloc, random)?;
+    Ok(places)
+}
+
+fn far_places(alloc: Global, random: &mut Random) -> Result<Co64Box> {
+    let mut places = Co64Box::default(alloc)?;
+    for _ in 0..random.few() {
+        places.entries.push(u64::from(random.next()).wrapping_mul(9))?;
+    }
+    Ok(places)
+}
+
+/// The durations, and the chunks of which the first has some samples.
+fn runs_of_tables(alloc: Global, random: &mut Random, tables: &mut StblBox) -> Result<()> {
+    for _ in 0..random.few() {
+        tables.stts.entries.push(SttsEntry {
+            sample_count: random.next(),
+            sample_delta: random.next(),
+        })?;
+    }
+    if random.chance() {
+        tables.stsc.entries.push(StscEntry {
+            first_chunk: random.next(),
+            samples_per_chunk: random.next(),
+            sample_description_index: 1,
+            first_sample: 1,
+        })?;
+    }
+    Ok(())
+}
+
+fn sample_tables(alloc: Global, random: &mut Random) -> Result<StblBox> {
+    let mut tables = StblBox::default(alloc)?;
+    tables.stsd = description(random);
+    tables.stsz = sizes(alloc, random)?;
+    if random.chance() {
+        tables.ctts = Some(offsets(alloc, random)?);
+        tables.stss = Some(syncs(alloc, random)?);
+        tables.stco = Some(places(alloc, random)?);
+    } else {
+        tables.co64 = Some(far_places(alloc, random)?);
+    }
+    runs_of_tables(alloc, random, &mut tables)?;
+    Ok(tables)
+}
+
+fn media_information(alloc: Global, random: &mut Random) -> Result<MinfBox> {
+    let mut information = MinfBox::default(alloc)?;
+    if random.chance() {
+        information.vmhd = Some(VmhdBox::default());
+    } else {
+        information.smhd = Some(SmhdBox::default());
+    }
+    information.stbl = sample_tables(alloc, random)?;
+    Ok(information)
+}
+
+fn media(alloc: Global, random: &mut Random) -> Result<MdiaBox> {
+    let mut media = MdiaBox::default(alloc)?;
+    media.mdhd.timescale = random.next();
+    media.hdlr = handler(alloc, random)?;
+    media.minf = media_information(alloc, random)?;
+    Ok(media)
+}
+
+fn track(alloc: Global, random: &mut Random) -> Result<TrakBox> {
+    let mut track = TrakBox::default(alloc)?;
+    track.tkhd.track_id = random.next();
+    if random.chance() {
+        track.edts = Some(edits(alloc, random)?);
+    }
+    track.meta = perhaps_metadata(alloc, random)?;
+    track.mdia = media(alloc, random)?;
+    Ok(track)
+}
+
+fn tracks(alloc: Global, random: &mut Random) -> Result<Items<TrakBox>> {
+    let mut list = Items::new(alloc);
+    for _ in 0..random.few() {
+        list.push(track(alloc, random)?)?;
+    }
+    Ok(list)
+}
+
+fn movie(alloc: Global, random: &mut Random) -> Result<MoovBox> {
+    let mut movie = MoovBox::default(alloc)?;
+    movie.mvhd.timescale = random.next();
+    movie.traks = tracks(alloc, random)?;
+    if random.chance() {
+        movie.mvex = Some(defaults(alloc, random)?);
+    }
+    movie.meta = perhaps_metadata(alloc, random)?;
+    if random.chance() {
+        movie.udta = Some(user_data(alloc, random)?);
+    }
+    Ok(movie)
+}
+
+/// Reads the box cut after each byte, and with each byte changed, one after the other; the answers don't matter.
+fn survives<B: WriteBox>(alloc: Global, bytes: &mut Vec<u8>) {
+    for end in 8..bytes.len() {
+        if let Some(cut) = bytes.get(..end) {
+            let _answer = read_bytes::<B>(alloc, cut).is_ok();
+        }
+    }
+    for place in 8..bytes.len() {
+        change(bytes, place);
+        let _answer = read_bytes::<B>(alloc, bytes).is_ok();
+        change(bytes, place);
+    }
+}
+
+/// Turns the low bits of a byte; a second time turns them back.
+fn change(bytes: &mut Vec<u8>, place: usize) {
+    if let Some(byte) = bytes.get_mut(place) {
+        *byte ^= 0x15;
+    }
+}
+
+/// Whether a value is read as it was written, in as many bytes as its size; its bytes, cut and changed, are read too.
+fn is_kept<B: WriteBox + PartialEq>(alloc: Global, value: &B) -> Result<bool> {
+    let mut bytes = written(alloc, value)?;
+    let kept = read_bytes::<B>(alloc, &bytes)? == *value && bytes.len() as u64 == value.box_size();
+    survives::<B>(alloc, &mut bytes);
+    Ok(kept)
+}
+
+fn a_movie_is_kept(alloc: Global, seed: u64) -> Result<bool> {
+    is_kept(alloc, &movie(alloc, &mut Random::new(seed))?)
+}
+
+fn a_fragment_is_kept(alloc: Global, seed: u64) -> Result<bool> {
+    is_kept(alloc, &fragment(alloc, &mut Random::new(seed))?)
+}
+
+#[test]
+fn three_hundred_movies_are_kept(rt: HostRuntime) -> Result<()> {
+    for seed in 0..300 {
+        assert!(rt; a_movie_is_kept(rt.alloc(), seed)?, "seed {seed}");
+    }
+    Ok(())
+}
+
+#[test]
+fn three_hundred_fragments_are_kept(rt: HostRuntime) -> Result<()> {
+    for seed in 0..300 {
+        assert!(rt; a_fragment_is_kept(rt.alloc(), seed)?, "seed {seed}");
+    }
+    Ok(())
+}
