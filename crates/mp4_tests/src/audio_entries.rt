@@ -1,7 +1,8 @@
 //! The sample entry of MPEG-4 audio, and what its decoder is started with.
 
 use crate::spelled::{
-    hex, is_spelled, is_unreadable, is_unrepresentable, needs, read, read_bytes, writes,
+    check, hex, holds, is_spelled, is_unreadable, is_unrepresentable, needs, read, read_bytes,
+    reads, same, same_at, writes,
 };
 use mp4_codec::{BoxType, Error, Result, TryClone};
 use mp4_entry::{
@@ -51,19 +52,21 @@ fn specific(b: &EsdsBox) -> (u8, u8, u8) {
 }
 
 #[test]
-fn an_esds_has_39_bytes(rt: HostRuntime) -> Result<()> {
+fn an_esds_has_39_bytes(rt: HostRuntime) {
     let default = EsdsBox::default();
-    assert_eq!(rt; default.get_type(), BoxType::EsdsBox);
-    assert_eq!(rt; default.get_size(), 39);
-    assert!(rt;
+    same(&rt, default.get_type(), BoxType::EsdsBox);
+    same(&rt, default.get_size(), 39);
+    check(
+        &rt,
+        1,
         is_spelled(
             rt.alloc(),
             &default,
-            "00000027 65736473 00 000000 03 19 0000 00 04 11 00 01 000000 00000000 00000000 05 02 0000 06 01 02"
-        )?
+            "00000027 65736473 00 000000 03 19 0000 00 04 11 00 01 000000 00000000 00000000 05 02 0000 06 01 02",
+        ),
     );
-    assert!(rt; is_spelled(rt.alloc(), &aac(), AAC)?);
-    assert!(rt; needs::<EsdsBox>(rt.alloc(), AAC, 12)?);
+    check(&rt, 2, is_spelled(rt.alloc(), &aac(), AAC));
+    check(&rt, 3, needs::<EsdsBox>(rt.alloc(), AAC, 12));
     let mut all = aac();
     all.version = 1;
     all.flags = 0x020304;
@@ -81,28 +84,33 @@ fn an_esds_has_39_bytes(rt: HostRuntime) -> Result<()> {
             chan_conf: 15,
         },
     };
-    assert!(rt;
+    check(
+        &rt,
+        4,
         is_spelled(
             rt.alloc(),
             &all,
-            "00000027 65736473 01 020304 03 19 0506 00 04 11 ff ff abcdef 01020304 05060708 05 02 f778 06 01 02"
-        )?
+            "00000027 65736473 01 020304 03 19 0506 00 04 11 ff ff abcdef 01020304 05060708 05 02 f778 06 01 02",
+        ),
     );
-    Ok(())
 }
 
 #[test]
 fn the_parts_of_an_esds_are_copied(rt: HostRuntime) -> Result<()> {
     let stream = aac().es_desc;
-    assert!(rt; stream.try_clone()? == stream);
-    assert!(rt; stream.dec_config.try_clone()? == stream.dec_config);
-    assert!(rt; stream.dec_config.dec_specific.try_clone()? == stream.dec_config.dec_specific);
-    assert!(rt; stream.sl_config.try_clone()? == stream.sl_config);
+    holds(&rt, 1, stream.try_clone()? == stream);
+    holds(&rt, 2, stream.dec_config.try_clone()? == stream.dec_config);
+    holds(
+        &rt,
+        3,
+        stream.dec_config.dec_specific.try_clone()? == stream.dec_config.dec_specific,
+    );
+    holds(&rt, 4, stream.sl_config.try_clone()? == stream.sl_config);
     Ok(())
 }
 
 #[test]
-fn lengths_of_four_bytes_are_read(rt: HostRuntime) -> Result<()> {
+fn lengths_of_four_bytes_are_read(rt: HostRuntime) {
     let rows = [
         "00000033 65736473 00 000000 03 80808022 0001 00 04 80808014 40 15 000000 0001f400 0001f400 05 80808002 1190 06 80808001 02",
         // In two and in three bytes.
@@ -111,9 +119,8 @@ fn lengths_of_four_bytes_are_read(rt: HostRuntime) -> Result<()> {
         "0000002d 65736473 00 000000 03 8080809c 0001 00 04 808012 40 15 000000 0001f400 0001f400 05 8002 1190 06 01 02",
     ];
     for text in rows {
-        assert!(rt; read::<EsdsBox>(rt.alloc(), text)? == aac(), "{text}");
+        check(&rt, text, reads(rt.alloc(), text, &aac()));
     }
-    Ok(())
 }
 
 #[test]
@@ -148,7 +155,9 @@ fn descriptors_that_are_cut_read_as_zeros(rt: HostRuntime) -> Result<()> {
     for (n, head, rates) in rows {
         let leaf: EsdsBox = read_bytes(rt.alloc(), cut(&bytes, n))?;
         let decoder = leaf.es_desc.dec_config;
-        assert_eq!(rt;
+        same_at(
+            &rt,
+            n,
             (
                 leaf.es_desc.es_id,
                 decoder.object_type_indication,
@@ -156,10 +165,9 @@ fn descriptors_that_are_cut_read_as_zeros(rt: HostRuntime) -> Result<()> {
                 decoder.buffer_size_db,
             ),
             head,
-            "{n}"
         );
-        assert_eq!(rt; (decoder.max_bitrate, decoder.avg_bitrate), rates, "{n}");
-        assert_eq!(rt; specific(&leaf), (0, 0, 0), "{n}");
+        same_at(&rt, n, (decoder.max_bitrate, decoder.avg_bitrate), rates);
+        same_at(&rt, n, specific(&leaf), (0, 0, 0));
     }
     // The configuration without its length, without its body, with its first byte, and whole.
     let rows = [
@@ -171,8 +179,8 @@ fn descriptors_that_are_cut_read_as_zeros(rt: HostRuntime) -> Result<()> {
     ];
     for (n, expected) in rows {
         let leaf: EsdsBox = read_bytes(rt.alloc(), cut(&bytes, n))?;
-        assert_eq!(rt; leaf.es_desc.dec_config.avg_bitrate, 0x05060708, "{n}");
-        assert_eq!(rt; specific(&leaf), expected, "{n}");
+        same_at(&rt, n, leaf.es_desc.dec_config.avg_bitrate, 0x05060708);
+        same_at(&rt, n, specific(&leaf), expected);
     }
     Ok(())
 }
@@ -183,25 +191,29 @@ fn of_a_tag_the_first_descriptor_counts(rt: HostRuntime) -> Result<()> {
         rt.alloc(),
         "00000014 65736473 00 000000 03 02 0001 03 02 0002",
     )?;
-    assert_eq!(rt; two.es_desc.es_id, 1);
+    same(&rt, two.es_desc.es_id, 1);
     let behind_another: EsdsBox = read(
         rt.alloc(),
         "00000014 65736473 00 000000 11 01 ff 03 03 0007 00",
     )?;
-    assert_eq!(rt; behind_another.es_desc.es_id, 7);
+    same(&rt, behind_another.es_desc.es_id, 7);
     // Two decoders; the second has a configuration, the first has none.
     let decoders: EsdsBox = read(
         rt.alloc(),
         "00000027 65736473 00 000000 03 19 0001 00 04 01 40 04 11 41 15 000000 00000000 00000000 05 02 1190",
     )?;
-    assert_eq!(rt; decoders.es_desc.dec_config.object_type_indication, 0x40);
-    assert_eq!(rt; specific(&decoders), (0, 0, 0));
+    same(
+        &rt,
+        decoders.es_desc.dec_config.object_type_indication,
+        0x40,
+    );
+    same(&rt, specific(&decoders), (0, 0, 0));
     // Two configurations in a decoder.
     let specifics: EsdsBox = read(
         rt.alloc(),
         "00000028 65736473 00 000000 03 1a 0001 00 04 15 40 15 000000 00000000 00000000 05 02 1190 05 02 0a10",
     )?;
-    assert_eq!(rt; specific(&specifics), (2, 3, 2));
+    same(&rt, specific(&specifics), (2, 3, 2));
     Ok(())
 }
 
@@ -212,21 +224,21 @@ fn a_body_that_passes_the_end_of_its_parent_is_cut_there(rt: HostRuntime) -> Res
         rt.alloc(),
         "00000014 65736473 00 000000 03 03 0001 00 04 01 40",
     )?;
-    assert_eq!(rt; beside.es_desc.es_id, 1);
-    assert_eq!(rt; beside.es_desc.dec_config.object_type_indication, 0);
+    same(&rt, beside.es_desc.es_id, 1);
+    same(&rt, beside.es_desc.dec_config.object_type_indication, 0);
     // The configuration has one byte within the decoder.
     let within: EsdsBox = read(
         rt.alloc(),
         "00000024 65736473 00 000000 03 16 0001 00 04 10 40 15 000000 00000000 00000000 05 02 1190",
     )?;
-    assert_eq!(rt; specific(&within), (2, 2, 0));
+    same(&rt, specific(&within), (2, 2, 0));
     // Lengths far past the end.
     let far: EsdsBox = read(
         rt.alloc(),
         "00000027 65736473 00 000000 03 7f 0001 00 04 ffffff7f 40 15 000000 00000000 00000000 05 01 1190",
     )?;
-    assert_eq!(rt; far.es_desc.dec_config.object_type_indication, 0x40);
-    assert_eq!(rt; specific(&far), (2, 2, 0));
+    same(&rt, far.es_desc.dec_config.object_type_indication, 0x40);
+    same(&rt, specific(&far), (2, 2, 0));
     Ok(())
 }
 
@@ -244,10 +256,11 @@ fn fields_that_a_streams_flags_ask_for_are_skipped(rt: HostRuntime) -> Result<()
     ];
     for text in rows {
         let leaf: EsdsBox = read(rt.alloc(), text)?;
-        assert_eq!(rt;
+        same_at(
+            &rt,
+            text,
             leaf.es_desc.dec_config.object_type_indication,
             0x40,
-            "{text}"
         );
     }
     // A URL that passes the end.
@@ -255,7 +268,7 @@ fn fields_that_a_streams_flags_ask_for_are_skipped(rt: HostRuntime) -> Result<()
         rt.alloc(),
         "00000014 65736473 00 000000 03 06 0001 40 ff 04 01",
     )?;
-    assert_eq!(rt; cut.es_desc.dec_config.object_type_indication, 0);
+    same(&rt, cut.es_desc.dec_config.object_type_indication, 0);
     Ok(())
 }
 
@@ -278,15 +291,15 @@ fn an_extended_object_type_is_read_and_not_written(rt: HostRuntime) -> Result<()
         )?;
         bytes.extend_from_slice(&hex(rt.alloc(), text)?)?;
         let leaf: EsdsBox = read_bytes(rt.alloc(), &bytes)?;
-        assert_eq!(rt; specific(&leaf), expected, "{text}");
-        assert!(rt; is_unrepresentable(rt.alloc(), &leaf)?, "{text}");
-        assert_eq!(rt; leaf.get_size(), 39, "{text}");
+        same_at(&rt, text, specific(&leaf), expected);
+        check(&rt, text, is_unrepresentable(rt.alloc(), &leaf));
+        same_at(&rt, text, leaf.get_size(), 39);
     }
     Ok(())
 }
 
 #[test]
-fn a_number_past_its_bits_is_not_written(rt: HostRuntime) -> Result<()> {
+fn a_number_past_its_bits_is_not_written(rt: HostRuntime) {
     for number in 0..6 {
         let mut leaf = aac();
         let decoder = &mut leaf.es_desc.dec_config;
@@ -298,23 +311,22 @@ fn a_number_past_its_bits_is_not_written(rt: HostRuntime) -> Result<()> {
             4 => decoder.up_stream = 2,
             _ => decoder.buffer_size_db = 0x1000000,
         }
-        assert!(rt; is_unrepresentable(rt.alloc(), &leaf)?, "{number}");
+        check(&rt, number, is_unrepresentable(rt.alloc(), &leaf));
         let mut entry = Mp4aBox::default();
         entry.esds = Some(leaf);
-        assert!(rt; is_unrepresentable(rt.alloc(), &entry)?, "{number}");
-        assert_eq!(rt; entry.get_size(), 75);
+        check(&rt, number, is_unrepresentable(rt.alloc(), &entry));
+        same(&rt, entry.get_size(), 75);
     }
-    Ok(())
 }
 
 #[test]
-fn an_audio_entry_has_36_bytes_and_its_esds(rt: HostRuntime) -> Result<()> {
+fn an_audio_entry_has_36_bytes_and_its_esds(rt: HostRuntime) {
     let default = Mp4aBox::default();
-    assert_eq!(rt; default.get_type(), BoxType::Mp4aBox);
-    assert_eq!(rt; default.get_size(), 36);
+    same(&rt, default.get_type(), BoxType::Mp4aBox);
+    same(&rt, default.get_size(), 36);
     let text = "00000024 6d703461 000000000000 0000 0000 000000000000 0000 0000 00000000 00000000";
-    assert!(rt; is_spelled(rt.alloc(), &default, text)?);
-    assert!(rt; needs::<Mp4aBox>(rt.alloc(), text, 36)?);
+    check(&rt, 1, is_spelled(rt.alloc(), &default, text));
+    check(&rt, 2, needs::<Mp4aBox>(rt.alloc(), text, 36));
     let entry = Mp4aBox {
         data_reference_index: 1,
         channelcount: 2,
@@ -322,15 +334,16 @@ fn an_audio_entry_has_36_bytes_and_its_esds(rt: HostRuntime) -> Result<()> {
         samplerate: FixedPointU16::new(48_000),
         esds: Some(aac()),
     };
-    assert_eq!(rt; entry.get_size(), 75);
-    assert!(rt;
+    same(&rt, entry.get_size(), 75);
+    check(
+        &rt,
+        3,
         is_spelled(
             rt.alloc(),
             &entry,
-            "0000004b 6d703461 000000000000 0001 0000 000000000000 0002 0010 00000000 bb800000 00000027 65736473 00 000000 03 19 0001 00 04 11 40 15 000000 0001f400 0001f400 05 02 1190 06 01 02"
-        )?
+            "0000004b 6d703461 000000000000 0001 0000 000000000000 0002 0010 00000000 bb800000 00000027 65736473 00 000000 03 19 0001 00 04 11 40 15 000000 0001f400 0001f400 05 02 1190 06 01 02",
+        ),
     );
-    Ok(())
 }
 
 const FIELDS_0: &str =
@@ -400,7 +413,7 @@ fn the_esds_stands_among_the_children_or_in_a_wave(rt: HostRuntime) -> Result<()
         (FIELDS_2, ESDS_1, WAVE_3, FREE, None),
     ];
     for (fields, a, b, c, expected) in rows {
-        assert_eq!(rt; read_id(rt.alloc(), fields, a, b, c)?, expected);
+        same(&rt, read_id(rt.alloc(), fields, a, b, c)?, expected);
     }
     Ok(())
 }
@@ -409,24 +422,26 @@ fn the_esds_stands_among_the_children_or_in_a_wave(rt: HostRuntime) -> Result<()
 fn the_fields_of_an_audio_entry_are_read(rt: HostRuntime) -> Result<()> {
     for fields in [FIELDS_0, FIELDS_1, FIELDS_2] {
         let entry = entry(rt.alloc(), fields, &[FREE])?;
-        assert_eq!(rt; entry.data_reference_index, 1);
-        assert_eq!(rt; (entry.channelcount, entry.samplesize), (2, 16));
-        assert_eq!(rt; entry.samplerate.value(), 48_000);
+        same(&rt, entry.data_reference_index, 1);
+        same(&rt, (entry.channelcount, entry.samplesize), (2, 16));
+        same(&rt, entry.samplerate.value(), 48_000);
     }
     Ok(())
 }
 
 #[test]
 fn sound_version_1_has_16_bytes_more(rt: HostRuntime) -> Result<()> {
-    assert!(rt; needs::<Mp4aBox>(rt.alloc(), FIELDS_1, 52)?);
+    check(&rt, 1, needs::<Mp4aBox>(rt.alloc(), FIELDS_1, 52));
     let read = entry(rt.alloc(), FIELDS_1, &[ESDS_1])?;
     // It is written in version 0.
-    assert!(rt;
+    check(
+        &rt,
+        2,
         writes(
             rt.alloc(),
             &read,
-            "0000004b 6d703461 000000000000 0001 0000 000000000000 0002 0010 00000000 bb800000 00000027 65736473 00 000000 03 19 0001 00 04 11 00 01 000000 00000000 00000000 05 02 0000 06 01 02"
-        )?
+            "0000004b 6d703461 000000000000 0001 0000 000000000000 0002 0010 00000000 bb800000 00000027 65736473 00 000000 03 19 0001 00 04 11 00 01 000000 00000000 00000000 05 02 0000 06 01 02",
+        ),
     );
     Ok(())
 }
@@ -435,13 +450,13 @@ fn sound_version_1_has_16_bytes_more(rt: HostRuntime) -> Result<()> {
 fn children_of_another_sound_version_are_not_looked_at(rt: HostRuntime) -> Result<()> {
     for child in [SHORT_ESDS, "00000009 66726565", "00000000 00000000"] {
         let entry = entry(rt.alloc(), FIELDS_2, &[child])?;
-        assert_eq!(rt; id(&entry), None, "{child}");
+        same_at(&rt, child, id(&entry), None);
     }
     Ok(())
 }
 
 #[test]
-fn a_refused_child_of_an_audio_entry_refuses_it(rt: HostRuntime) -> Result<()> {
+fn a_refused_child_of_an_audio_entry_refuses_it(rt: HostRuntime) {
     for fields in [FIELDS_0, FIELDS_1] {
         for children in [
             [SHORT_ESDS, ESDS_1],
@@ -450,16 +465,17 @@ fn a_refused_child_of_an_audio_entry_refuses_it(rt: HostRuntime) -> Result<()> {
             [WAVE_3, "00000007 66726565"],
             [WAVE_3, "00000000 66726565"],
         ] {
-            assert!(rt; is_refused(rt.alloc(), fields, &children));
+            holds(&rt, 1, is_refused(rt.alloc(), fields, &children));
         }
     }
-    assert!(rt;
+    holds(
+        &rt,
+        2,
         is_unreadable::<Mp4aBox>(
             rt.alloc(),
-            "0000002c 6d703461 000000000000 0001 0000 000000000000 0002 0010 00000000 bb800000 00000009 66726565"
-        )
+            "0000002c 6d703461 000000000000 0001 0000 000000000000 0002 0010 00000000 bb800000 00000009 66726565",
+        ),
     );
-    Ok(())
 }
 
 #[test]
@@ -469,27 +485,36 @@ fn in_a_wave_the_last_esds_alone_is_read(rt: HostRuntime) -> Result<()> {
         "00000024 77617665 0000000b 65736473 00 0000 00000011 65736473 00 000000 03 03 0006 00";
     let last =
         "00000024 77617665 00000011 65736473 00 000000 03 03 0006 00 0000000b 65736473 00 0000";
-    assert_eq!(rt; id(&entry(rt.alloc(), FIELDS_0, &[first])?), Some(6));
-    assert!(rt; is_refused(rt.alloc(), FIELDS_0, &[last]));
+    same(&rt, id(&entry(rt.alloc(), FIELDS_0, &[first])?), Some(6));
+    holds(&rt, 1, is_refused(rt.alloc(), FIELDS_0, &[last]));
     // In an earlier wave nothing is read, and no wave is looked at beside an esds.
-    assert_eq!(rt; id(&entry(rt.alloc(), FIELDS_0, &[last, WAVE_3])?), Some(3));
-    assert_eq!(rt; id(&entry(rt.alloc(), FIELDS_0, &[last, ESDS_1])?), Some(1));
+    same(
+        &rt,
+        id(&entry(rt.alloc(), FIELDS_0, &[last, WAVE_3])?),
+        Some(3),
+    );
+    same(
+        &rt,
+        id(&entry(rt.alloc(), FIELDS_0, &[last, ESDS_1])?),
+        Some(1),
+    );
     // Children that don't frame.
     for wave in [
         "00000019 77617665 00000012 65736473 00 000000 03 03 0003 00",
         "00000021 77617665 00000011 65736473 00 000000 03 03 0003 00 00000009 66726565",
         "00000021 77617665 00000011 65736473 00 000000 03 03 0003 00 00000000 66726565",
     ] {
-        assert_eq!(rt; id(&entry(rt.alloc(), FIELDS_0, &[wave])?), None, "{wave}");
-        assert_eq!(rt;
+        same_at(&rt, wave, id(&entry(rt.alloc(), FIELDS_0, &[wave])?), None);
+        same_at(
+            &rt,
+            wave,
             id(&entry(rt.alloc(), FIELDS_0, &[WAVE_3, wave])?),
             None,
-            "{wave}"
         );
     }
     // A tail of less than 8 bytes is skipped.
     let closed = "0000001d 77617665 00000011 65736473 00 000000 03 03 0003 00 00000000";
-    assert_eq!(rt; id(&entry(rt.alloc(), FIELDS_0, &[closed])?), Some(3));
+    same(&rt, id(&entry(rt.alloc(), FIELDS_0, &[closed])?), Some(3));
     Ok(())
 }
 
@@ -518,12 +543,14 @@ fn an_aac_configuration_gives_an_entry_of_75_bytes(rt: HostRuntime) -> Result<()
         SampleFreqIndex::Freq48000,
         ChannelConfig::Stereo,
     )?;
-    assert!(rt;
+    check(
+        &rt,
+        1,
         is_spelled(
             rt.alloc(),
             &entry,
-            "0000004b 6d703461 000000000000 0001 0000 000000000000 0002 0010 00000000 bb800000 00000027 65736473 00 000000 03 19 0001 00 04 11 40 15 000000 0001f400 0001f400 05 02 1190 06 01 02"
-        )?
+            "0000004b 6d703461 000000000000 0001 0000 000000000000 0002 0010 00000000 bb800000 00000027 65736473 00 000000 03 19 0001 00 04 11 40 15 000000 0001f400 0001f400 05 02 1190 06 01 02",
+        ),
     );
     // A frequency that has no place in samplerate, seven for the number of eight channels, and the greatest object type
     // that is written: 11110 0000 0111 000.
@@ -533,12 +560,14 @@ fn an_aac_configuration_gives_an_entry_of_75_bytes(rt: HostRuntime) -> Result<()
         SampleFreqIndex::Freq96000,
         ChannelConfig::SevenOne,
     )?;
-    assert!(rt;
+    check(
+        &rt,
+        2,
         is_spelled(
             rt.alloc(),
             &entry,
-            "0000004b 6d703461 000000000000 0001 0000 000000000000 0007 0010 00000000 00000000 00000027 65736473 00 000000 03 19 0001 00 04 11 40 15 000000 ffffffff ffffffff 05 02 f038 06 01 02"
-        )?
+            "0000004b 6d703461 000000000000 0001 0000 000000000000 0007 0010 00000000 00000000 00000027 65736473 00 000000 03 19 0001 00 04 11 40 15 000000 ffffffff ffffffff 05 02 f038 06 01 02",
+        ),
     );
     Ok(())
 }
@@ -547,8 +576,8 @@ fn an_aac_configuration_gives_an_entry_of_75_bytes(rt: HostRuntime) -> Result<()
 fn the_entry_of_a_profile_over_30_is_not_written(rt: HostRuntime) -> Result<()> {
     for profile in [32u8, 95] {
         let entry = entry_of(0, profile, SampleFreqIndex::Freq7350, ChannelConfig::Mono)?;
-        assert_eq!(rt; entry.get_size(), 75);
-        assert!(rt; is_unrepresentable(rt.alloc(), &entry)?, "{profile}");
+        same(&rt, entry.get_size(), 75);
+        check(&rt, profile, is_unrepresentable(rt.alloc(), &entry));
     }
     Ok(())
 }

@@ -1,6 +1,7 @@
 //! Whether values can be written.
 
 use crate::sample_boxes::Number;
+use crate::spelled::{holds, same, same_at};
 use mp4_codec::{
     Error, Items, Limit, Result, Text, WriteBox, check_all, check_optional, check_value,
     check_version,
@@ -9,11 +10,12 @@ use mp4_leaf::{MvhdBox, check_language};
 
 #[test]
 fn a_version_above_1_is_invalid(rt: HostRuntime) {
-    assert!(rt; check_version(0).is_ok() && check_version(1).is_ok());
+    holds(&rt, 1, check_version(0).is_ok() && check_version(1).is_ok());
     for version in [2, 255] {
-        assert!(rt;
+        holds(
+            &rt,
+            version,
             matches!(check_version(version), Err(Error::InvalidData(_))),
-            "{version}"
         );
     }
 }
@@ -22,20 +24,21 @@ fn a_version_above_1_is_invalid(rt: HostRuntime) {
 fn a_number_past_32_bits_is_refused_but_in_version_1(rt: HostRuntime) {
     let past = 0x1_0000_0000;
     for version in [0, 2] {
-        assert_eq!(rt; check_value(version, past - 1), Ok(()));
-        assert_eq!(rt;
+        same(&rt, check_value(version, past - 1), Ok(()));
+        same(
+            &rt,
             check_value(version, past),
-            Err(Error::TooLarge(Limit::Value))
+            Err(Error::TooLarge(Limit::Value)),
         );
     }
-    assert_eq!(rt; check_value(1, u64::MAX), Ok(()));
+    same(&rt, check_value(1, u64::MAX), Ok(()));
 }
 
 #[test]
 fn a_language_of_other_letters_is_refused(rt: HostRuntime) -> Result<()> {
     for (language, accepted) in [("und", true), ("`~`", true), ("Und", false), ("un", false)] {
         let text = Text::from_str(rt.alloc(), language)?;
-        assert_eq!(rt; check_language(&text).is_ok(), accepted, "{language}");
+        same_at(&rt, language, check_language(&text).is_ok(), accepted);
     }
     Ok(())
 }
@@ -44,17 +47,18 @@ fn a_language_of_other_letters_is_refused(rt: HostRuntime) -> Result<()> {
 fn the_first_child_that_cannot_be_written_is_the_answer(rt: HostRuntime) -> Result<()> {
     let mut children = Items::new(rt.alloc());
     children.push(Number { value: 1 })?;
-    assert_eq!(rt; check_all(&children), Ok(()));
+    same(&rt, check_all(&children), Ok(()));
     let none: Option<MvhdBox> = None;
-    assert_eq!(rt; check_optional(&none), Ok(()));
+    same(&rt, check_optional(&none), Ok(()));
     let late = MvhdBox {
         duration: 0x1_0000_0000,
         ..MvhdBox::default()
     };
-    assert_eq!(rt; late.check(), Err(Error::TooLarge(Limit::Value)));
-    assert_eq!(rt;
+    same(&rt, late.check(), Err(Error::TooLarge(Limit::Value)));
+    same(
+        &rt,
         check_optional(&Some(late)),
-        Err(Error::TooLarge(Limit::Value))
+        Err(Error::TooLarge(Limit::Value)),
     );
     let mut headers = Items::new(rt.alloc());
     headers.push(MvhdBox::default())?;
@@ -66,6 +70,10 @@ fn the_first_child_that_cannot_be_written_is_the_answer(rt: HostRuntime) -> Resu
         duration: 0x1_0000_0000,
         ..MvhdBox::default()
     })?;
-    assert!(rt; matches!(check_all(&headers), Err(Error::InvalidData(_))));
+    holds(
+        &rt,
+        1,
+        matches!(check_all(&headers), Err(Error::InvalidData(_))),
+    );
     Ok(())
 }

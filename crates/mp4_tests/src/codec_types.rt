@@ -1,6 +1,6 @@
 //! The types of tracks, of coded media and of sound, and the entry of timed text.
 
-use crate::spelled::{is_spelled, needs, read};
+use crate::spelled::{check, holds, is_spelled, needs, reads, same};
 use mp4_codec::{BoxType, Error, FourCC, Items, Result, TryClone};
 use mp4_entry::{
     AacConfig, AudioObjectType, AvcConfig, AvcProfile, ChannelConfig, HevcConfig, MediaConfig,
@@ -18,9 +18,9 @@ fn a_track_type_has_a_handler_and_a_name(rt: HostRuntime) -> std::result::Result
     ];
     for (track_type, code, name) in rows {
         let handler = FourCC::from(*code);
-        assert_eq!(rt; FourCC::from(track_type), handler);
-        assert_eq!(rt; TrackType::try_from(&handler), Ok(track_type));
-        assert_eq!(rt; format!(in rt.alloc(); "{track_type}")?.as_str(), name);
+        same(&rt, FourCC::from(track_type), handler);
+        same(&rt, TrackType::try_from(&handler), Ok(track_type));
+        same(&rt, format!(in rt.alloc(); "{track_type}")?.as_str(), name);
     }
     Ok(())
 }
@@ -28,11 +28,13 @@ fn a_track_type_has_a_handler_and_a_name(rt: HostRuntime) -> std::result::Result
 #[test]
 fn another_handler_is_of_no_track_type(rt: HostRuntime) {
     for code in [*b"mdir", *b"Vide", *b"text", [0; 4]] {
-        assert!(rt;
+        holds(
+            &rt,
+            1,
             matches!(
                 TrackType::try_from(&FourCC::from(code)),
                 Err(Error::InvalidData(_))
-            )
+            ),
         );
     }
 }
@@ -47,7 +49,7 @@ fn a_media_type_has_an_entry(rt: HostRuntime) {
         (MediaType::TTXT, BoxType::Tx3gBox),
     ];
     for (media_type, entry) in rows {
-        assert_eq!(rt; BoxType::from(media_type), entry);
+        same(&rt, BoxType::from(media_type), entry);
     }
 }
 
@@ -69,12 +71,12 @@ fn an_index_has_a_frequency(rt: HostRuntime) {
         (SampleFreqIndex::Freq7350, 12, 7350),
     ];
     for (index, number, hertz) in rows {
-        assert_eq!(rt; index.number(), number);
-        assert_eq!(rt; index.freq(), hertz);
-        assert_eq!(rt; SampleFreqIndex::try_from(number), Ok(index));
+        same(&rt, index.number(), number);
+        same(&rt, index.freq(), hertz);
+        same(&rt, SampleFreqIndex::try_from(number), Ok(index));
     }
     for number in [13, 15, 255] {
-        assert!(rt; SampleFreqIndex::try_from(number).is_err(), "{number}");
+        holds(&rt, number, SampleFreqIndex::try_from(number).is_err());
     }
 }
 
@@ -90,26 +92,27 @@ fn channels_have_a_number(rt: HostRuntime) {
         (ChannelConfig::SevenOne, 7),
     ];
     for (config, number) in rows {
-        assert_eq!(rt; config.number(), number);
-        assert_eq!(rt; ChannelConfig::try_from(number), Ok(config));
+        same(&rt, config.number(), number);
+        same(&rt, ChannelConfig::try_from(number), Ok(config));
     }
     for number in [0, 8, 15] {
-        assert!(rt; ChannelConfig::try_from(number).is_err(), "{number}");
+        holds(&rt, number, ChannelConfig::try_from(number).is_err());
     }
 }
 
 #[test]
 fn a_type_of_sound_is_1_to_95_without_31(rt: HostRuntime) -> Result<()> {
     for number in [1, 2, 30, 32, 95] {
-        assert_eq!(rt; AudioObjectType::try_from(number)?.number(), number);
+        same(&rt, AudioObjectType::try_from(number)?.number(), number);
     }
     for number in [0, 31, 96, 255] {
-        assert!(rt;
+        holds(
+            &rt,
+            number,
             matches!(
                 AudioObjectType::try_from(number),
                 Err(Error::InvalidData(_))
             ),
-            "{number}"
         );
     }
     Ok(())
@@ -127,31 +130,32 @@ fn a_profile_of_video_has_a_number_and_a_bit(rt: HostRuntime) {
         ((100, 0xff), AvcProfile::AvcHigh),
     ];
     for (pair, profile) in rows {
-        assert_eq!(rt; AvcProfile::try_from(pair), Ok(profile));
+        same(&rt, AvcProfile::try_from(pair), Ok(profile));
     }
-    assert!(rt;
+    holds(
+        &rt,
+        1,
         matches!(
             AvcProfile::try_from((110, 0x40)),
             Err(Error::InvalidData(_))
-        )
+        ),
     );
 }
 
 #[test]
-fn an_entry_of_text_has_46_bytes(rt: HostRuntime) -> Result<()> {
+fn an_entry_of_text_has_46_bytes(rt: HostRuntime) {
     let text = "0000002e 74783367 000000000000 0001 \
         00000000 01ff 000000ff 0000000000000000 00000000 00010010 ffffffff";
     let default = Tx3gBox::default();
-    assert_eq!(rt; default.get_type(), BoxType::Tx3gBox);
-    assert_eq!(rt; default.get_size(), 46);
-    assert_eq!(rt; Tx3gBox::new(&TtxtConfig {}), default);
-    assert!(rt; is_spelled(rt.alloc(), &default, text)?);
-    assert!(rt; needs::<Tx3gBox>(rt.alloc(), text, 46)?);
-    Ok(())
+    same(&rt, default.get_type(), BoxType::Tx3gBox);
+    same(&rt, default.get_size(), 46);
+    same(&rt, Tx3gBox::new(&TtxtConfig {}), default);
+    check(&rt, 1, is_spelled(rt.alloc(), &default, text));
+    check(&rt, 2, needs::<Tx3gBox>(rt.alloc(), text, 46));
 }
 
 #[test]
-fn an_entry_of_text_keeps_its_30_bytes(rt: HostRuntime) -> Result<()> {
+fn an_entry_of_text_keeps_its_30_bytes(rt: HostRuntime) {
     let mut raw = [0u8; 30];
     raw[0] = 0x80;
     raw[4] = 0x02;
@@ -162,11 +166,10 @@ fn an_entry_of_text_keeps_its_30_bytes(rt: HostRuntime) -> Result<()> {
     };
     let text = "0000002e 74783367 000000000000 0203 \
         80000000 0200 00000000 0000000000000000 00000000 00000000 0000007f";
-    assert!(rt; is_spelled(rt.alloc(), &leaf, text)?);
+    check(&rt, 1, is_spelled(rt.alloc(), &leaf, text));
     let followed = "00000030 74783367 ffffffffffff 0203 \
         80000000 0200 00000000 0000000000000000 00000000 00000000 0000007f abcd";
-    assert!(rt; read::<Tx3gBox>(rt.alloc(), followed)? == leaf);
-    Ok(())
+    check(&rt, 2, reads(rt.alloc(), followed, &leaf));
 }
 
 /// AVC video with parameter sets of these lengths.
@@ -197,12 +200,13 @@ fn has_no_spelling(config: &MediaConfig) -> bool {
 #[test]
 fn parameter_sets_have_a_spelling_of_4_to_65535_bytes(rt: HostRuntime) -> Result<()> {
     for (sequence, picture) in [(4, 0), (5, 4), (65_535, 65_535)] {
-        assert_eq!(rt; avc(rt.alloc(), sequence, picture)?.check(), Ok(()));
+        same(&rt, avc(rt.alloc(), sequence, picture)?.check(), Ok(()));
     }
     for (sequence, picture) in [(0, 0), (3, 4), (65_536, 4), (4, 65_536), (3, 65_536)] {
-        assert!(rt;
+        holds(
+            &rt,
+            1,
             has_no_spelling(&avc(rt.alloc(), sequence, picture)?),
-            "{sequence} {picture}"
         );
     }
     Ok(())
@@ -211,10 +215,10 @@ fn parameter_sets_have_a_spelling_of_4_to_65535_bytes(rt: HostRuntime) -> Result
 #[test]
 fn sound_of_type_1_to_30_has_a_spelling(rt: HostRuntime) -> Result<()> {
     for number in [1, 2, 30] {
-        assert_eq!(rt; aac(number)?.check(), Ok(()));
+        same(&rt, aac(number)?.check(), Ok(()));
     }
     for number in [32, 95] {
-        assert!(rt; has_no_spelling(&aac(number)?), "{number}");
+        holds(&rt, number, has_no_spelling(&aac(number)?));
     }
     Ok(())
 }
@@ -238,10 +242,10 @@ fn a_configuration_is_for_a_kind_of_track(rt: HostRuntime) -> Result<()> {
         (text, TrackType::Subtitle, MediaType::TTXT),
     ];
     for (config, track_type, media_type) in &rows {
-        assert_eq!(rt; config.track_type(), *track_type);
-        assert_eq!(rt; config.media_type(), *media_type);
-        assert_eq!(rt; config.check(), Ok(()));
-        assert!(rt; config.try_clone()? == *config);
+        same(&rt, config.track_type(), *track_type);
+        same(&rt, config.media_type(), *media_type);
+        same(&rt, config.check(), Ok(()));
+        holds(&rt, 1, config.try_clone()? == *config);
     }
     Ok(())
 }

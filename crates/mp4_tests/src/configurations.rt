@@ -1,6 +1,6 @@
 //! The sample descriptions that configurations make.
 
-use crate::spelled::is_spelled;
+use crate::spelled::{check, is_spelled};
 use mp4_codec::{Items, Result};
 use mp4_entry::{
     AacConfig, AudioObjectType, AvcConfig, ChannelConfig, HevcConfig, MediaConfig, SampleFreqIndex,
@@ -77,19 +77,19 @@ fn makes(alloc: Global, config: &MediaConfig, text: &str, place: usize) -> Resul
 #[test]
 fn a_configuration_of_video_makes_its_entry(rt: HostRuntime) -> Result<()> {
     let avc = MediaConfig::AvcConfig(avc(rt.alloc())?);
-    assert!(rt; makes(rt.alloc(), &avc, AVC, 0)?);
+    check(&rt, 1, makes(rt.alloc(), &avc, AVC, 0));
     let hevc = MediaConfig::HevcConfig(hevc());
-    assert!(rt; makes(rt.alloc(), &hevc, HEVC, 1)?);
+    check(&rt, 2, makes(rt.alloc(), &hevc, HEVC, 1));
     let vp9 = MediaConfig::Vp9Config(vp9());
-    assert!(rt; makes(rt.alloc(), &vp9, VP9, 2)?);
+    check(&rt, 3, makes(rt.alloc(), &vp9, VP9, 2));
     Ok(())
 }
 
 #[test]
 fn a_configuration_of_sound_or_text_makes_its_entry(rt: HostRuntime) -> Result<()> {
     let aac = MediaConfig::AacConfig(aac()?);
-    assert!(rt; makes(rt.alloc(), &aac, AAC, 3)?);
+    check(&rt, 1, makes(rt.alloc(), &aac, AAC, 3));
     let text = MediaConfig::TtxtConfig(TtxtConfig {});
-    assert!(rt; makes(rt.alloc(), &text, TEXT, 4)?);
+    check(&rt, 2, makes(rt.alloc(), &text, TEXT, 4));
     Ok(())
 }

@@ -1,6 +1,6 @@
 //! Metadata values.
 
-use crate::spelled::{is_spelled, needs, read, writes};
+use crate::spelled::{check, is_spelled, needs, read, same, writes};
 use mp4_codec::{BoxType, Items, Result};
 use mp4_leaf::{DataBox, DataType};
 
@@ -8,10 +8,10 @@ use mp4_leaf::{DataBox, DataType};
 fn the_default_has_16_bytes(rt: HostRuntime) -> Result<()> {
     let text = "00000010 64617461 00000000 00000000";
     let default = DataBox::default(rt.alloc())?;
-    assert_eq!(rt; default.get_type(), BoxType::DataBox);
-    assert_eq!(rt; default.get_size(), 16);
-    assert!(rt; is_spelled(rt.alloc(), &default, text)?);
-    assert!(rt; needs::<DataBox>(rt.alloc(), text, 16)?);
+    same(&rt, default.get_type(), BoxType::DataBox);
+    same(&rt, default.get_size(), 16);
+    check(&rt, 1, is_spelled(rt.alloc(), &default, text));
+    check(&rt, 2, needs::<DataBox>(rt.alloc(), text, 16));
     Ok(())
 }
 
@@ -45,7 +45,7 @@ fn each_type_of_data_has_its_number(rt: HostRuntime) -> Result<()> {
             data_type,
             bytes: Items::from(vec![in rt.alloc(); 1, 2, 3]?),
         };
-        assert!(rt; is_spelled(rt.alloc(), &leaf, text)?, "{text}");
+        check(&rt, text, is_spelled(rt.alloc(), &leaf, text));
     }
     Ok(())
 }
@@ -55,10 +55,11 @@ fn another_name_for_a_known_number_is_read_as_that(rt: HostRuntime) -> Result<()
     let text = "00000010 64617461 00000001 00000000";
     let mut leaf = DataBox::default(rt.alloc())?;
     leaf.data_type = DataType::Other(1);
-    assert!(rt; writes(rt.alloc(), &leaf, text)?);
-    assert_eq!(rt;
+    check(&rt, 1, writes(rt.alloc(), &leaf, text));
+    same(
+        &rt,
         read::<DataBox>(rt.alloc(), text)?.data_type,
-        DataType::Text
+        DataType::Text,
     );
     Ok(())
 }

@@ -1,6 +1,9 @@
 //! Data information.
 
-use crate::spelled::{hex, is_spelled, is_unreadable, needs, read, read_bytes, writes};
+use crate::spelled::{
+    check, hex, holds, is_spelled, is_unreadable, needs, read, read_bytes, reads, same, same_at,
+    writes,
+};
 use mp4_codec::{BoxType, Error, Items, Result};
 use mp4_leaf::{DinfBox, DrefBox, UrlBox};
 
@@ -10,28 +13,52 @@ const DEFAULT: &str =
 #[test]
 fn the_default_has_36_bytes(rt: HostRuntime) -> Result<()> {
     let default = DinfBox::default(rt.alloc())?;
-    assert_eq!(rt; default.get_type(), BoxType::DinfBox);
-    assert_eq!(rt; default.dref.get_type(), BoxType::DrefBox);
-    assert_eq!(rt; (default.get_size(), default.dref.get_size()), (36, 28));
-    assert!(rt; is_spelled(rt.alloc(), &default, DEFAULT)?);
+    same(&rt, default.get_type(), BoxType::DinfBox);
+    same(&rt, default.dref.get_type(), BoxType::DrefBox);
+    same(&rt, (default.get_size(), default.dref.get_size()), (36, 28));
+    check(&rt, 1, is_spelled(rt.alloc(), &default, DEFAULT));
     let url = UrlBox::default(rt.alloc())?;
-    assert_eq!(rt; url.get_type(), BoxType::UrlBox);
-    assert_eq!(rt; url.get_size(), 12);
-    assert!(rt; needs::<UrlBox>(rt.alloc(), "0000000c 75726c20 00 000001", 12)?);
+    same(&rt, url.get_type(), BoxType::UrlBox);
+    same(&rt, url.get_size(), 12);
+    check(
+        &rt,
+        2,
+        needs::<UrlBox>(rt.alloc(), "0000000c 75726c20 00 000001", 12),
+    );
     Ok(())
 }
 
 #[test]
 fn a_location_that_is_not_empty_ends_in_a_zero_byte(rt: HostRuntime) -> Result<()> {
     let mut leaf = UrlBox::default(rt.alloc())?;
-    assert!(rt; is_spelled(rt.alloc(), &leaf, "0000000c 75726c20 00 000001")?);
-    assert!(rt; read::<UrlBox>(rt.alloc(), "0000000e 75726c20 00 000001 0061")? == leaf);
+    check(
+        &rt,
+        1,
+        is_spelled(rt.alloc(), &leaf, "0000000c 75726c20 00 000001"),
+    );
+    check(
+        &rt,
+        2,
+        reads(rt.alloc(), "0000000e 75726c20 00 000001 0061", &leaf),
+    );
     leaf.location = Items::from(vec![in rt.alloc(); 0x61, 0x62]?);
-    assert_eq!(rt; leaf.get_size(), 15);
-    assert!(rt; is_spelled(rt.alloc(), &leaf, "0000000f 75726c20 00 000001 6162 00")?);
-    assert!(rt; read::<UrlBox>(rt.alloc(), "0000000e 75726c20 00 000001 6162")? == leaf);
+    same(&rt, leaf.get_size(), 15);
+    check(
+        &rt,
+        3,
+        is_spelled(rt.alloc(), &leaf, "0000000f 75726c20 00 000001 6162 00"),
+    );
+    check(
+        &rt,
+        4,
+        reads(rt.alloc(), "0000000e 75726c20 00 000001 6162", &leaf),
+    );
     leaf.location = Items::from(vec![in rt.alloc(); 0]?);
-    assert!(rt; writes(rt.alloc(), &leaf, "0000000e 75726c20 00 000001 00 00")?);
+    check(
+        &rt,
+        5,
+        writes(rt.alloc(), &leaf, "0000000e 75726c20 00 000001 00 00"),
+    );
     Ok(())
 }
 
@@ -43,7 +70,7 @@ fn the_last_of_two_locations_stands(rt: HostRuntime) -> Result<()> {
         flags: 0,
         url: None,
     };
-    assert!(rt; is_spelled(rt.alloc(), &leaf, none)?);
+    check(&rt, 1, is_spelled(rt.alloc(), &leaf, none));
     let rows = [
         // A count that is wrong, and seven bytes that no child begins.
         ("00000017 64726566 00 000000 00000009 0000000c 75726c", None),
@@ -65,8 +92,8 @@ fn the_last_of_two_locations_stands(rt: HostRuntime) -> Result<()> {
     for (text, flags) in rows {
         let leaf: DrefBox = read(rt.alloc(), text)?;
         match leaf.url {
-            None => assert_eq!(rt; flags, None, "{text}"),
-            Some(url) => assert_eq!(rt; flags, Some(url.flags), "{text}"),
+            None => same_at(&rt, text, flags, None),
+            Some(url) => same_at(&rt, text, flags, Some(url.flags)),
         }
     }
     Ok(())
@@ -86,7 +113,7 @@ fn references_with_a_refused_location_are_refused(rt: HostRuntime) {
         "0000000f 64726566 00 000000 000000",
     ];
     for text in rows {
-        assert!(rt; is_unreadable::<DrefBox>(rt.alloc(), text), "{text}");
+        holds(&rt, text, is_unreadable::<DrefBox>(rt.alloc(), text));
     }
 }
 
@@ -97,23 +124,29 @@ fn data_information_without_references_is_refused(rt: HostRuntime) -> Result<()>
         "0000000f 64696e66 00000009 647265",
         "00000010 64696e66 00000008 66726565",
     ] {
-        assert!(rt;
+        holds(
+            &rt,
+            text,
             read::<DinfBox>(rt.alloc(), text) == Err(Error::BoxNotFound(BoxType::DrefBox)),
-            "{text}"
         );
     }
     let two =
         "00000028 64696e66 00000010 64726566 00 000000 00000000 00000010 64726566 01 000002 00000000";
     let last: DinfBox = read(rt.alloc(), two)?;
-    assert_eq!(rt; (last.dref.version, last.dref.flags), (1, 2));
+    same(&rt, (last.dref.version, last.dref.flags), (1, 2));
     let first_is_refused =
         "00000027 64696e66 0000000f 64726566 00 000000 000000 00000010 64726566 01 000002 00000000";
-    assert!(rt; is_unreadable::<DinfBox>(rt.alloc(), first_is_refused));
+    holds(
+        &rt,
+        1,
+        is_unreadable::<DinfBox>(rt.alloc(), first_is_refused),
+    );
     let bytes = hex(rt.alloc(), DEFAULT)?;
     for n in 8..bytes.len() {
-        assert!(rt;
+        holds(
+            &rt,
+            n,
             read_bytes::<DinfBox>(rt.alloc(), &bytes[..n]).is_err(),
-            "{n}"
         );
     }
     Ok(())

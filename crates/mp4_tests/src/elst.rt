@@ -1,6 +1,8 @@
 //! Edit lists.
 
-use crate::spelled::{is_invalid, is_past_its_field, is_spelled, is_unreadable, needs};
+use crate::spelled::{
+    check, holds, is_invalid, is_past_its_field, is_spelled, is_unreadable, needs, same,
+};
 use mp4_codec::{BoxType, Items, Result};
 use mp4_leaf::{ElstBox, ElstEntry};
 use std::alloc::Global;
@@ -34,10 +36,10 @@ fn two_edits(alloc: Global, version: u8, duration: u64, time: u64) -> Result<Els
 fn the_default_has_no_edits(rt: HostRuntime) -> Result<()> {
     let text = "00000010 656c7374 00 000000 00000000";
     let default = ElstBox::default(rt.alloc())?;
-    assert_eq!(rt; default.get_type(), BoxType::ElstBox);
-    assert_eq!(rt; default.get_size(), 16);
-    assert!(rt; is_spelled(rt.alloc(), &default, text)?);
-    assert!(rt; needs::<ElstBox>(rt.alloc(), text, 16)?);
+    same(&rt, default.get_type(), BoxType::ElstBox);
+    same(&rt, default.get_size(), 16);
+    check(&rt, 1, is_spelled(rt.alloc(), &default, text));
+    check(&rt, 2, needs::<ElstBox>(rt.alloc(), text, 16));
     Ok(())
 }
 
@@ -46,13 +48,13 @@ fn an_edit_has_12_bytes_in_version_zero_and_20_in_version_one(rt: HostRuntime) -
     let short =
         "00000028 656c7374 00 000000 00000002 00000002 00000004 0005 0006 00000007 ffffffff 0001 0000";
     let leaf = two_edits(rt.alloc(), 0, 2, 4)?;
-    assert_eq!(rt; leaf.get_size(), 40);
-    assert!(rt; is_spelled(rt.alloc(), &leaf, short)?);
-    assert!(rt; needs::<ElstBox>(rt.alloc(), short, 40)?);
+    same(&rt, leaf.get_size(), 40);
+    check(&rt, 1, is_spelled(rt.alloc(), &leaf, short));
+    check(&rt, 2, needs::<ElstBox>(rt.alloc(), short, 40));
     let leaf = two_edits(rt.alloc(), 1, 0x0000_0001_0000_0002, 0x0000_0003_0000_0004)?;
-    assert_eq!(rt; leaf.get_size(), 56);
-    assert!(rt; is_spelled(rt.alloc(), &leaf, VERSION_ONE)?);
-    assert!(rt; needs::<ElstBox>(rt.alloc(), VERSION_ONE, 56)?);
+    same(&rt, leaf.get_size(), 56);
+    check(&rt, 3, is_spelled(rt.alloc(), &leaf, VERSION_ONE));
+    check(&rt, 4, needs::<ElstBox>(rt.alloc(), VERSION_ONE, 56));
     Ok(())
 }
 
@@ -67,7 +69,7 @@ fn a_list_past_the_payload_or_of_an_unknown_version_is_invalid(rt: HostRuntime) 
         "00000010 656c7374 ff 000000 00000000",
     ];
     for text in rows {
-        assert!(rt; is_unreadable::<ElstBox>(rt.alloc(), text), "{text}");
+        holds(&rt, text, is_unreadable::<ElstBox>(rt.alloc(), text));
     }
 }
 
@@ -75,11 +77,11 @@ fn a_list_past_the_payload_or_of_an_unknown_version_is_invalid(rt: HostRuntime) 
 fn a_number_past_32_bits_is_written_in_version_one_alone(rt: HostRuntime) -> Result<()> {
     for (duration, time) in [(0x1_0000_0000, 0), (0, 0x1_0000_0000)] {
         let mut leaf = two_edits(rt.alloc(), 0, duration, time)?;
-        assert!(rt; is_past_its_field(rt.alloc(), &leaf)?);
-        assert_eq!(rt; leaf.get_size(), 40);
+        check(&rt, 1, is_past_its_field(rt.alloc(), &leaf));
+        same(&rt, leaf.get_size(), 40);
         leaf.version = 2;
-        assert!(rt; is_invalid(rt.alloc(), &leaf)?);
-        assert_eq!(rt; leaf.get_size(), 40);
+        check(&rt, 2, is_invalid(rt.alloc(), &leaf));
+        same(&rt, leaf.get_size(), 40);
     }
     Ok(())
 }

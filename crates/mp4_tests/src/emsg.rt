@@ -1,6 +1,6 @@
 //! Event messages.
 
-use crate::spelled::{is_invalid, is_spelled, is_unreadable, needs, read};
+use crate::spelled::{check, holds, is_invalid, is_spelled, is_unreadable, needs, read, same};
 use mp4_codec::{BoxType, Error, Items, Result};
 use mp4_frag::EmsgBox;
 use std::alloc::Global;
@@ -34,18 +34,18 @@ const VERSION_ONE: &str =
 #[test]
 fn the_default_has_neither_of_the_times_and_is_not_written(rt: HostRuntime) -> Result<()> {
     let default = EmsgBox::default(rt.alloc())?;
-    assert_eq!(rt; default.get_type(), BoxType::EmsgBox);
-    assert_eq!(rt; default.get_size(), 30);
-    assert!(rt; is_invalid(rt.alloc(), &default)?);
+    same(&rt, default.get_type(), BoxType::EmsgBox);
+    same(&rt, default.get_size(), 30);
+    check(&rt, 1, is_invalid(rt.alloc(), &default));
     Ok(())
 }
 
 #[test]
 fn version_zero_begins_with_the_texts(rt: HostRuntime) -> Result<()> {
     let leaf = short(rt.alloc(), 0, Some(2), None)?;
-    assert_eq!(rt; leaf.get_size(), 31);
-    assert!(rt; is_spelled(rt.alloc(), &leaf, SHORT)?);
-    assert!(rt; needs::<EmsgBox>(rt.alloc(), SHORT, 31)?);
+    same(&rt, leaf.get_size(), 31);
+    check(&rt, 1, is_spelled(rt.alloc(), &leaf, SHORT));
+    check(&rt, 2, needs::<EmsgBox>(rt.alloc(), SHORT, 31));
     Ok(())
 }
 
@@ -55,9 +55,9 @@ fn version_one_ends_with_the_texts_and_the_message(rt: HostRuntime) -> Result<()
     leaf.flags = 0x010203;
     leaf.value = Items::from(b"bc".to_vec(rt.alloc())?);
     leaf.message_data = Items::from([0x0d, 0, 0x0e, 0x0f].as_slice().to_vec(rt.alloc())?);
-    assert_eq!(rt; leaf.get_size(), 41);
-    assert!(rt; is_spelled(rt.alloc(), &leaf, VERSION_ONE)?);
-    assert!(rt; needs::<EmsgBox>(rt.alloc(), VERSION_ONE, 37)?);
+    same(&rt, leaf.get_size(), 41);
+    check(&rt, 1, is_spelled(rt.alloc(), &leaf, VERSION_ONE));
+    check(&rt, 2, needs::<EmsgBox>(rt.alloc(), VERSION_ONE, 37));
     Ok(())
 }
 
@@ -68,8 +68,8 @@ fn a_message_of_version_zero_goes_to_the_end(rt: HostRuntime) -> Result<()> {
     let mut leaf = short(rt.alloc(), 0, Some(2), None)?;
     leaf.value = Items::from(b"bc".to_vec(rt.alloc())?);
     leaf.message_data = Items::from([0x0d, 0, 0x0e, 0x0f].as_slice().to_vec(rt.alloc())?);
-    assert_eq!(rt; leaf.get_size(), 37);
-    assert!(rt; is_spelled(rt.alloc(), &leaf, text)?);
+    same(&rt, leaf.get_size(), 37);
+    check(&rt, 1, is_spelled(rt.alloc(), &leaf, text));
     Ok(())
 }
 
@@ -82,7 +82,7 @@ fn a_text_without_its_zero_is_invalid(rt: HostRuntime) {
         "00000023 656d7367 01 000000 00000001 0000000500000006 00000003 00000004 610062",
     ];
     for text in rows {
-        assert!(rt; is_unreadable::<EmsgBox>(rt.alloc(), text), "{text}");
+        holds(&rt, text, is_unreadable::<EmsgBox>(rt.alloc(), text));
     }
 }
 
@@ -93,13 +93,22 @@ fn another_version_is_unsupported_where_four_bytes_are_there(rt: HostRuntime) {
         ("00000010 656d7367 ff 000000 00000000", 255),
     ] {
         let refused: Result<EmsgBox> = read(rt.alloc(), text);
-        assert_eq!(rt;
+        same(
+            &rt,
             refused.err(),
-            Some(Error::UnsupportedBoxVersion(BoxType::EmsgBox, version))
+            Some(Error::UnsupportedBoxVersion(BoxType::EmsgBox, version)),
         );
     }
-    assert!(rt; is_unreadable::<EmsgBox>(rt.alloc(), "0000000b 656d7367 02 0000"));
-    assert!(rt; is_unreadable::<EmsgBox>(rt.alloc(), "00000008 656d7367"));
+    holds(
+        &rt,
+        1,
+        is_unreadable::<EmsgBox>(rt.alloc(), "0000000b 656d7367 02 0000"),
+    );
+    holds(
+        &rt,
+        2,
+        is_unreadable::<EmsgBox>(rt.alloc(), "00000008 656d7367"),
+    );
 }
 
 #[test]
@@ -107,13 +116,13 @@ fn a_message_is_written_with_the_time_of_its_version_alone(rt: HostRuntime) -> R
     for (delta, time) in [(None, None), (Some(2), Some(5))] {
         for (version, size) in [(0, 31), (1, 35), (2, 31)] {
             let leaf = short(rt.alloc(), version, delta, time)?;
-            assert!(rt; is_invalid(rt.alloc(), &leaf)?, "version {version}");
-            assert_eq!(rt; leaf.get_size(), size);
+            check(&rt, version, is_invalid(rt.alloc(), &leaf));
+            same(&rt, leaf.get_size(), size);
         }
     }
     for (version, delta, time) in [(0, None, Some(5)), (1, Some(2), None), (2, Some(2), None)] {
         let leaf = short(rt.alloc(), version, delta, time)?;
-        assert!(rt; is_invalid(rt.alloc(), &leaf)?, "version {version}");
+        check(&rt, version, is_invalid(rt.alloc(), &leaf));
     }
     Ok(())
 }

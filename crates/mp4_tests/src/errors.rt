@@ -1,5 +1,6 @@
 //! The messages of errors.
 
+use crate::spelled::same;
 use mp4_codec::{BoxType, Error, Limit};
 use std::test::Fail;
 
@@ -37,7 +38,7 @@ fn an_error_of_the_mp4_crate_has_its_message(rt: HostRuntime) -> Result<(), Fail
         ),
     ];
     for (error, message) in rows {
-        assert_eq!(rt; format!(in rt.alloc(); "{error}")?.as_str(), message);
+        same(&rt, format!(in rt.alloc(); "{error}")?.as_str(), message);
     }
     Ok(())
 }
@@ -72,7 +73,7 @@ fn an_error_of_this_library_has_its_message(rt: HostRuntime) -> Result<(), Fail>
         ),
     ];
     for (error, message) in rows {
-        assert_eq!(rt; format!(in rt.alloc(); "{error}")?.as_str(), message);
+        same(&rt, format!(in rt.alloc(); "{error}")?.as_str(), message);
     }
     Ok(())
 }

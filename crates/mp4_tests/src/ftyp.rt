@@ -1,15 +1,19 @@
 //! File types.
 
-use crate::spelled::{is_spelled, needs, read};
+use crate::spelled::{check, holds, is_spelled, needs, read, same, same_at};
 use mp4_codec::{BoxType, FourCC, Items, Result};
 use mp4_leaf::FtypBox;
 
 #[test]
 fn the_default_has_no_brands(rt: HostRuntime) -> Result<()> {
     let default = FtypBox::default(rt.alloc())?;
-    assert_eq!(rt; default.get_type(), BoxType::FtypBox);
-    assert_eq!(rt; default.get_size(), 16);
-    assert!(rt; is_spelled(rt.alloc(), &default, "00000010 66747970 00000000 00000000")?);
+    same(&rt, default.get_type(), BoxType::FtypBox);
+    same(&rt, default.get_size(), 16);
+    check(
+        &rt,
+        1,
+        is_spelled(rt.alloc(), &default, "00000010 66747970 00000000 00000000"),
+    );
     Ok(())
 }
 
@@ -22,11 +26,11 @@ fn three_brands_are_read(rt: HostRuntime) -> Result<()> {
         FourCC::from(*b"avc1"),
         FourCC::from(*b"mp42"),
     ]?;
-    assert_eq!(rt; leaf.major_brand, FourCC::from(*b"isom"));
-    assert_eq!(rt; leaf.minor_version, 512);
-    assert!(rt; leaf.compatible_brands == Items::from(brands));
-    assert!(rt; is_spelled(rt.alloc(), &leaf, text)?);
-    assert!(rt; needs::<FtypBox>(rt.alloc(), text, 16)?);
+    same(&rt, leaf.major_brand, FourCC::from(*b"isom"));
+    same(&rt, leaf.minor_version, 512);
+    holds(&rt, 1, leaf.compatible_brands == Items::from(brands));
+    check(&rt, 2, is_spelled(rt.alloc(), &leaf, text));
+    check(&rt, 3, needs::<FtypBox>(rt.alloc(), text, 16));
     Ok(())
 }
 
@@ -40,7 +44,7 @@ fn one_to_three_bytes_behind_the_last_brand_are_skipped(rt: HostRuntime) -> Resu
     ];
     for (text, brands) in rows {
         let leaf: FtypBox = read(rt.alloc(), text)?;
-        assert_eq!(rt; leaf.compatible_brands.len(), brands, "{text}");
+        same_at(&rt, text, leaf.compatible_brands.len(), brands);
     }
     Ok(())
 }

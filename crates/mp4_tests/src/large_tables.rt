@@ -1,6 +1,6 @@
 //! Tables of a million entries.
 
-use crate::spelled::{read_bytes, written};
+use crate::spelled::{holds, read_bytes, written};
 use mp4_codec::Result;
 use mp4_table::{StscBox, SttsBox};
 use std::alloc::Global;
@@ -22,8 +22,8 @@ fn a_million_runs_are_kept(rt: HostRuntime) -> Result<()> {
     let head = b"\x00\x7a\x12\x10stts\0\0\0\0\x00\x0f\x42\x40";
     let bytes = million(rt.alloc(), head, b"\0\0\0\x01")?;
     let table: SttsBox = read_bytes(rt.alloc(), &bytes)?;
-    assert!(rt; table.entries.len() == 1_000_000);
-    assert!(rt; written(rt.alloc(), &table)? == bytes);
+    holds(&rt, 1, table.entries.len() == 1_000_000);
+    holds(&rt, 2, written(rt.alloc(), &table)? == bytes);
     Ok(())
 }
 
@@ -37,7 +37,7 @@ fn a_million_runs_of_chunks_have_first_samples(rt: HostRuntime) -> Result<()> {
         .as_slice()
         .last()
         .map(|entry| entry.first_sample);
-    assert!(rt; last == Some(1_999_999));
-    assert!(rt; written(rt.alloc(), &table)? == bytes);
+    holds(&rt, 1, last == Some(1_999_999));
+    holds(&rt, 2, written(rt.alloc(), &table)? == bytes);
     Ok(())
 }

@@ -1,7 +1,8 @@
 //! Media headers, and their languages.
 
 use crate::spelled::{
-    is_invalid, is_past_its_field, is_spelled, is_unreadable, is_unrepresentable, needs, read,
+    check, holds, is_invalid, is_past_its_field, is_spelled, is_unreadable, is_unrepresentable,
+    needs, reads, same,
 };
 use mp4_codec::{BoxType, Result, Text};
 use mp4_leaf::MdhdBox;
@@ -15,10 +16,10 @@ const VERSION_ONE: &str =
 #[test]
 fn the_default_has_32_bytes(rt: HostRuntime) -> Result<()> {
     let default = MdhdBox::default(rt.alloc())?;
-    assert_eq!(rt; default.get_type(), BoxType::MdhdBox);
-    assert_eq!(rt; default.get_size(), 32);
-    assert!(rt; is_spelled(rt.alloc(), &default, DEFAULT)?);
-    assert!(rt; needs::<MdhdBox>(rt.alloc(), DEFAULT, 32)?);
+    same(&rt, default.get_type(), BoxType::MdhdBox);
+    same(&rt, default.get_size(), 32);
+    check(&rt, 1, is_spelled(rt.alloc(), &default, DEFAULT));
+    check(&rt, 2, needs::<MdhdBox>(rt.alloc(), DEFAULT, 32));
     Ok(())
 }
 
@@ -33,9 +34,9 @@ fn version_one_has_44_bytes(rt: HostRuntime) -> Result<()> {
         duration: 0x0000_0006_0000_0007,
         language: Text::from_str(rt.alloc(), "eng")?,
     };
-    assert_eq!(rt; leaf.get_size(), 44);
-    assert!(rt; is_spelled(rt.alloc(), &leaf, VERSION_ONE)?);
-    assert!(rt; needs::<MdhdBox>(rt.alloc(), VERSION_ONE, 44)?);
+    same(&rt, leaf.get_size(), 44);
+    check(&rt, 1, is_spelled(rt.alloc(), &leaf, VERSION_ONE));
+    check(&rt, 2, needs::<MdhdBox>(rt.alloc(), VERSION_ONE, 44));
     Ok(())
 }
 
@@ -62,16 +63,21 @@ fn a_language_of_three_letters_has_15_bits(rt: HostRuntime) -> Result<()> {
     for (language, text) in rows {
         let mut leaf = MdhdBox::default(rt.alloc())?;
         leaf.language = Text::from_str(rt.alloc(), language)?;
-        assert!(rt; is_spelled(rt.alloc(), &leaf, text)?, "{language}");
+        check(&rt, language, is_spelled(rt.alloc(), &leaf, text));
     }
     Ok(())
 }
 
+/// Whether a text spells the default.
+fn reads_as_default(alloc: Global, text: &str) -> Result<bool> {
+    let default = MdhdBox::default(alloc)?;
+    reads(alloc, text, &default)
+}
+
 #[test]
-fn the_highest_bit_of_a_language_is_skipped(rt: HostRuntime) -> Result<()> {
+fn the_highest_bit_of_a_language_is_skipped(rt: HostRuntime) {
     let text = "00000020 6d646864 00 000000 00000000 00000000 000003e8 00000000 d5c4 ffff";
-    assert!(rt; read::<MdhdBox>(rt.alloc(), text)? == MdhdBox::default(rt.alloc())?);
-    Ok(())
+    check(&rt, 1, reads_as_default(rt.alloc(), text));
 }
 
 #[test]
@@ -79,12 +85,12 @@ fn another_language_is_not_written(rt: HostRuntime) -> Result<()> {
     for language in ["", "en", "engl", "ENG", "en_", "e\u{e9}"] {
         let mut leaf = MdhdBox::default(rt.alloc())?;
         leaf.language = Text::from_str(rt.alloc(), language)?;
-        assert!(rt; is_unrepresentable(rt.alloc(), &leaf)?, "{language}");
-        assert_eq!(rt; leaf.get_size(), 32);
+        check(&rt, language, is_unrepresentable(rt.alloc(), &leaf));
+        same(&rt, leaf.get_size(), 32);
         leaf.duration = 0x1_0000_0000;
-        assert!(rt; is_past_its_field(rt.alloc(), &leaf)?);
+        check(&rt, 1, is_past_its_field(rt.alloc(), &leaf));
         leaf.version = 2;
-        assert!(rt; is_invalid(rt.alloc(), &leaf)?);
+        check(&rt, 2, is_invalid(rt.alloc(), &leaf));
     }
     Ok(())
 }
@@ -92,5 +98,5 @@ fn another_language_is_not_written(rt: HostRuntime) -> Result<()> {
 #[test]
 fn an_unknown_version_is_invalid(rt: HostRuntime) {
     let text = "00000020 6d646864 02 000000 00000000 00000000 000003e8 00000000 55c4 0000";
-    assert!(rt; is_unreadable::<MdhdBox>(rt.alloc(), text));
+    holds(&rt, 1, is_unreadable::<MdhdBox>(rt.alloc(), text));
 }

@@ -1,5 +1,6 @@
 //! Movies without tracks, as they are written.
 
+use crate::spelled::{holds, same};
 use mp4_codec::{ByteCursor, Error, FourCC, Items, Result, TryClone};
 use mp4_media::{Mp4Config, Mp4Reader, Mp4Writer, mdat_header, read_mp4};
 use std::alloc::Global;
@@ -41,17 +42,21 @@ pub fn written(alloc: Global, buffer: Vec<u8>, config: &Mp4Config) -> Result<Vec
 fn an_empty_movie_is_164_bytes(rt: HostRuntime) -> std::result::Result<(), Fail> {
     let alloc = rt.alloc();
     let config = config(alloc)?;
-    assert!(rt; config.try_clone()? == config);
+    holds(&rt, 1, config.try_clone()? == config);
     let bytes = written(alloc, Vec::new(alloc), &config)?;
-    assert!(rt; bytes.as_slice() == EMPTY_MOVIE.as_slice());
+    holds(&rt, 2, bytes.as_slice() == EMPTY_MOVIE.as_slice());
     let movie = read_mp4(alloc, &bytes)?;
-    assert_eq!(rt; movie.size(), 164);
-    assert_eq!(rt; *movie.major_brand(), FourCC::from(0x69736f6d));
-    assert_eq!(rt; movie.minor_version(), 512);
-    assert!(rt; movie.compatible_brands() == config.compatible_brands.as_slice());
-    assert_eq!(rt; movie.timescale(), 1000);
-    assert_eq!(rt; movie.duration(), Ok(0));
-    assert!(rt; !movie.is_fragmented());
+    same(&rt, movie.size(), 164);
+    same(&rt, *movie.major_brand(), FourCC::from(0x69736f6d));
+    same(&rt, movie.minor_version(), 512);
+    holds(
+        &rt,
+        3,
+        movie.compatible_brands() == config.compatible_brands.as_slice(),
+    );
+    same(&rt, movie.timescale(), 1000);
+    same(&rt, movie.duration(), Ok(0));
+    holds(&rt, 4, !movie.is_fragmented());
     Ok(())
 }
 
@@ -59,13 +64,13 @@ fn an_empty_movie_is_164_bytes(rt: HostRuntime) -> std::result::Result<(), Fail>
 fn a_movie_begins_behind_the_buffer_handed_in(rt: HostRuntime) -> std::result::Result<(), Fail> {
     let alloc = rt.alloc();
     let bytes = written(alloc, vec![in alloc; b'a', b'b']?, &config(alloc)?)?;
-    assert_eq!(rt; bytes.len(), 166);
-    assert!(rt; &bytes[..2] == b"ab".as_slice());
-    assert!(rt; &bytes[2..] == EMPTY_MOVIE.as_slice());
+    same(&rt, bytes.len(), 166);
+    holds(&rt, 1, &bytes[..2] == b"ab".as_slice());
+    holds(&rt, 2, &bytes[2..] == EMPTY_MOVIE.as_slice());
     let mut cursor = ByteCursor::new(&bytes);
     cursor.set_position(2);
     let movie = Mp4Reader::read_header(alloc, cursor, 166)?;
-    assert_eq!(rt; movie.size(), 164);
+    same(&rt, movie.size(), 164);
     Ok(())
 }
 
@@ -74,12 +79,16 @@ fn a_writer_that_ended_refuses_to_end(rt: HostRuntime) -> std::result::Result<()
     let alloc = rt.alloc();
     let mut writer = Mp4Writer::write_start(alloc, Vec::new(alloc), &config(alloc)?)?;
     writer.write_end()?;
-    assert_eq!(rt; writer.write_end(), Err(Error::Ended));
-    assert!(rt; writer.into_writer().as_slice() == EMPTY_MOVIE.as_slice());
+    same(&rt, writer.write_end(), Err(Error::Ended));
+    holds(
+        &rt,
+        1,
+        writer.into_writer().as_slice() == EMPTY_MOVIE.as_slice(),
+    );
     let begun = Mp4Writer::write_start(alloc, Vec::new(alloc), &config(alloc)?)?.into_writer();
     let mut expected = (&EMPTY_MOVIE[..32]).to_vec(alloc)?;
     expected.extend_from_slice(b"\0\0\0\x08mdat\0\0\0\x08wide")?;
-    assert!(rt; begun == expected);
+    holds(&rt, 2, begun == expected);
     Ok(())
 }
 
@@ -89,8 +98,16 @@ fn the_header_of_mdat_has_sixteen_bytes(rt: HostRuntime) {
         0xff, 0xff, 0xff, 0xff, b'm', b'd', b'a', b't', 0, 0, 0, 8, b'w', b'i', b'd', b'e',
     ];
     let large = [0, 0, 0, 1, b'm', b'd', b'a', b't', 0, 0, 0, 1, 0, 0, 0, 0];
-    assert!(rt; mdat_header(4294967295).as_slice() == small.as_slice());
-    assert!(rt; mdat_header(4294967296).as_slice() == large.as_slice());
+    holds(
+        &rt,
+        1,
+        mdat_header(4294967295).as_slice() == small.as_slice(),
+    );
+    holds(
+        &rt,
+        2,
+        mdat_header(4294967296).as_slice() == large.as_slice(),
+    );
 }
 
 #[test]
@@ -100,7 +117,7 @@ fn a_timescale_of_zero_is_accepted(rt: HostRuntime) -> std::result::Result<(), F
     config.timescale = 0;
     let bytes = written(alloc, Vec::new(alloc), &config)?;
     let movie = read_mp4(alloc, &bytes)?;
-    assert_eq!(rt; movie.timescale(), 0);
-    assert_eq!(rt; movie.duration(), Err(Error::ZeroTimescale));
+    same(&rt, movie.timescale(), 0);
+    same(&rt, movie.duration(), Err(Error::ZeroTimescale));
     Ok(())
 }

@@ -1,6 +1,6 @@
 //! Where chunks lie.
 
-use crate::spelled::{is_spelled, keeps_to_its_end};
+use crate::spelled::{check, holds, is_spelled, keeps_to_its_end};
 use mp4_codec::{BoxType, Error, Result};
 use mp4_table::{Co64Box, StcoBox};
 use std::alloc::Global;
@@ -22,19 +22,27 @@ fn wide(alloc: Global, offset: u64) -> Result<Co64Box> {
 #[test]
 fn an_offset_of_64_bits_has_8_bytes(rt: HostRuntime) -> Result<()> {
     let table = wide(rt.alloc(), 0xffff_ffff)?;
-    assert!(rt; table.get_type() == BoxType::Co64Box && table.get_size() == 32);
-    assert!(rt; is_spelled(rt.alloc(), &table, WIDE)?);
-    assert!(rt; keeps_to_its_end::<Co64Box>(rt.alloc(), WIDE, 15)?);
+    holds(
+        &rt,
+        1,
+        table.get_type() == BoxType::Co64Box && table.get_size() == 32,
+    );
+    check(&rt, 2, is_spelled(rt.alloc(), &table, WIDE));
+    check(&rt, 3, keeps_to_its_end::<Co64Box>(rt.alloc(), WIDE, 15));
     Ok(())
 }
 
 #[test]
 fn an_offset_of_32_bits_has_4_bytes(rt: HostRuntime) -> Result<()> {
     let table = StcoBox::try_from(rt.alloc(), &wide(rt.alloc(), 0xffff_ffff)?)?;
-    assert!(rt; table.get_type() == BoxType::StcoBox && table.get_size() == 24);
-    assert!(rt; is_spelled(rt.alloc(), &table, NARROW)?);
-    assert!(rt; keeps_to_its_end::<StcoBox>(rt.alloc(), NARROW, 15)?);
-    assert!(rt; StcoBox::default(rt.alloc())?.entries.is_empty());
+    holds(
+        &rt,
+        1,
+        table.get_type() == BoxType::StcoBox && table.get_size() == 24,
+    );
+    check(&rt, 2, is_spelled(rt.alloc(), &table, NARROW));
+    check(&rt, 3, keeps_to_its_end::<StcoBox>(rt.alloc(), NARROW, 15));
+    holds(&rt, 4, StcoBox::default(rt.alloc())?.entries.is_empty());
     Ok(())
 }
 
@@ -42,7 +50,7 @@ fn an_offset_of_32_bits_has_4_bytes(rt: HostRuntime) -> Result<()> {
 fn an_offset_past_32_bits_is_refused(rt: HostRuntime) -> Result<()> {
     for offset in [0x1_0000_0000, 0x1_0000_0001, u64::MAX] {
         let narrow = StcoBox::try_from(rt.alloc(), &wide(rt.alloc(), offset)?);
-        assert!(rt; matches!(&narrow, Err(Error::InvalidData(_))), "{offset}");
+        holds(&rt, offset, matches!(&narrow, Err(Error::InvalidData(_))));
     }
     Ok(())
 }

@@ -1,6 +1,7 @@
 //! Movies that are opened: whole, cut, changed and lengthened.
 
 use crate::movies::EMPTY_MOVIE;
+use crate::spelled::{holds, same, same_at};
 use mp4_codec::{BoxType, Error, Limit, Result};
 use mp4_media::read_mp4;
 use std::alloc::Global;
@@ -37,11 +38,7 @@ fn a_piece_of_the_empty_movie_is_refused(rt: HostRuntime) {
             164 => Ok(164),
             _ => Err(Error::EndOfData),
         };
-        assert_eq!(rt;
-            opened(rt.alloc(), &EMPTY_MOVIE[..end]),
-            expected,
-            "{end} bytes"
-        );
+        same_at(&rt, end, opened(rt.alloc(), &EMPTY_MOVIE[..end]), expected);
     }
 }
 
@@ -50,10 +47,11 @@ fn a_movie_header_of_another_size_is_invalid(rt: HostRuntime) {
     for size in [0, 1, 2, 7, 8, 100, 109] {
         let mut bytes = EMPTY_MOVIE;
         bytes[MVHD + 3] = size;
-        assert_eq!(rt;
+        same_at(
+            &rt,
+            size,
             opened(rt.alloc(), &bytes),
             Err(Error::InvalidData("")),
-            "size {size}"
         );
     }
     let mut bytes = EMPTY_MOVIE;
@@ -61,9 +59,10 @@ fn a_movie_header_of_another_size_is_invalid(rt: HostRuntime) {
     bytes[MVHD + 5] = b'r';
     bytes[MVHD + 6] = b'e';
     bytes[MVHD + 7] = b'e';
-    assert_eq!(rt;
+    same(
+        &rt,
         opened(rt.alloc(), &bytes),
-        Err(Error::BoxNotFound(BoxType::MvhdBox))
+        Err(Error::BoxNotFound(BoxType::MvhdBox)),
     );
 }
 
@@ -72,9 +71,9 @@ fn a_tail_of_the_movie_box_is_closed_or_broken(rt: HostRuntime) -> std::result::
     let alloc = rt.alloc();
     for (tail, expected) in [(7, Ok(171)), (8, Err(Error::InvalidData("")))] {
         let mut bytes = with_tail(alloc, &[0; 8][..tail])?;
-        assert!(rt; bytes.len() > MOOV + 3);
+        holds(&rt, 1, bytes.len() > MOOV + 3);
         bytes[MOOV + 3] = if tail == 7 { 0x7b } else { 0x7c };
-        assert_eq!(rt; opened(alloc, &bytes), expected, "{tail} bytes");
+        same_at(&rt, tail, opened(alloc, &bytes), expected);
     }
     Ok(())
 }
@@ -88,25 +87,33 @@ fn boxes_behind_the_movie_are_skipped(rt: HostRuntime) -> std::result::Result<()
     let far = [
         0, 0, 0, 1, b'f', b'r', b'e', b'e', 0xff, 0xff, 0xff, 0xff, 0xff, 0xff, 0xff, 0xff,
     ];
-    assert_eq!(rt;
+    same(
+        &rt,
         opened(alloc, &with_tail(alloc, &[9; 7])?),
-        Err(Error::EndOfData)
+        Err(Error::EndOfData),
     );
-    assert_eq!(rt; opened(alloc, &with_tail(alloc, &[0; 8])?), Ok(164));
-    assert_eq!(rt; opened(alloc, &with_tail(alloc, &free)?), Ok(180));
-    assert_eq!(rt;
+    same(&rt, opened(alloc, &with_tail(alloc, &[0; 8])?), Ok(164));
+    same(&rt, opened(alloc, &with_tail(alloc, &free)?), Ok(180));
+    same(
+        &rt,
         opened(alloc, &with_tail(alloc, &past)?),
-        Err(Error::InvalidData(""))
+        Err(Error::InvalidData("")),
     );
-    assert_eq!(rt;
+    same(
+        &rt,
         opened(alloc, &with_tail(alloc, &cut)?),
-        Err(Error::EndOfData)
+        Err(Error::EndOfData),
     );
-    assert_eq!(rt;
+    same(
+        &rt,
         opened(alloc, &with_tail(alloc, &far)?),
-        Err(Error::InvalidData(""))
+        Err(Error::InvalidData("")),
     );
-    assert_eq!(rt; opened(alloc, &with_tail(alloc, &EMPTY_MOVIE)?), Ok(328));
+    same(
+        &rt,
+        opened(alloc, &with_tail(alloc, &EMPTY_MOVIE)?),
+        Ok(328),
+    );
     Ok(())
 }
 
@@ -118,11 +125,11 @@ fn an_open_end_within_a_box_is_refused(rt: HostRuntime) -> std::result::Result<(
     ];
     let mut bytes = (&EMPTY_MOVIE[..32]).to_vec(alloc)?;
     bytes.extend_from_slice(&nested)?;
-    assert_eq!(rt; opened(alloc, &bytes), Err(Error::InvalidData("")));
+    same(&rt, opened(alloc, &bytes), Err(Error::InvalidData("")));
     let mut bytes = (&EMPTY_MOVIE[..32]).to_vec(alloc)?;
     bytes.extend_from_slice(&EMPTY_MOVIE[MOOV..])?;
     bytes.extend_from_slice(&[0, 0, 0, 0, b'm', b'd', b'a', b't', 1, 2, 3])?;
-    assert_eq!(rt; opened(alloc, &bytes), Ok(148));
+    same(&rt, opened(alloc, &bytes), Ok(148));
     Ok(())
 }
 
@@ -134,8 +141,8 @@ fn the_last_file_type_and_the_last_movie_stand(rt: HostRuntime) -> std::result::
     second[MVHD + 23] = 7;
     let bytes = with_tail(alloc, &second)?;
     let movie = read_mp4(alloc, &bytes)?;
-    assert_eq!(rt; movie.major_brand().value[3], b'2');
-    assert_eq!(rt; movie.timescale(), 0x307);
+    same(&rt, movie.major_brand().value[3], b'2');
+    same(&rt, movie.timescale(), 0x307);
     Ok(())
 }
 
@@ -153,9 +160,9 @@ fn a_duration_is_in_milliseconds(rt: HostRuntime) -> std::result::Result<(), Fai
     for (duration, timescale, expected) in rows {
         movie.moov.mvhd.duration = duration;
         movie.moov.mvhd.timescale = timescale;
-        assert_eq!(rt; movie.timescale(), timescale);
-        assert_eq!(rt; movie.duration(), expected);
+        same(&rt, movie.timescale(), timescale);
+        same(&rt, movie.duration(), expected);
     }
-    assert_eq!(rt; movie.size(), 164);
+    same(&rt, movie.size(), 164);
     Ok(())
 }

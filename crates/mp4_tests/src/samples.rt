@@ -1,6 +1,6 @@
 //! Durations, composition offsets, sync samples and sizes of samples.
 
-use crate::spelled::{hex, is_spelled, keeps_to_its_end, read_bytes, refusal};
+use crate::spelled::{check, holds, is_spelled, keeps_to_its_end, reads, refusal};
 use mp4_codec::{BoxType, Error, Result};
 use mp4_table::{CttsBox, CttsEntry, StssBox, StszBox, SttsBox, SttsEntry};
 use std::alloc::Global;
@@ -25,9 +25,17 @@ fn durations(alloc: Global) -> Result<SttsBox> {
 #[test]
 fn a_run_of_durations_has_8_bytes(rt: HostRuntime) -> Result<()> {
     let table = durations(rt.alloc())?;
-    assert!(rt; table.get_type() == BoxType::SttsBox && table.get_size() == 32);
-    assert!(rt; is_spelled(rt.alloc(), &table, DURATIONS)?);
-    assert!(rt; keeps_to_its_end::<SttsBox>(rt.alloc(), DURATIONS, 15)?);
+    holds(
+        &rt,
+        1,
+        table.get_type() == BoxType::SttsBox && table.get_size() == 32,
+    );
+    check(&rt, 2, is_spelled(rt.alloc(), &table, DURATIONS));
+    check(
+        &rt,
+        3,
+        keeps_to_its_end::<SttsBox>(rt.alloc(), DURATIONS, 15),
+    );
     Ok(())
 }
 
@@ -53,10 +61,18 @@ fn offsets(alloc: Global, version: u8) -> Result<CttsBox> {
 #[test]
 fn runs_of_offsets_are_signed_in_either_version(rt: HostRuntime) -> Result<()> {
     let table = offsets(rt.alloc(), 0)?;
-    assert!(rt; table.get_type() == BoxType::CttsBox && table.get_size() == 32);
-    assert!(rt; is_spelled(rt.alloc(), &table, OFFSETS)?);
-    assert!(rt; is_spelled(rt.alloc(), &offsets(rt.alloc(), 1)?, OFFSETS_OF_VERSION_1)?);
-    assert!(rt; keeps_to_its_end::<CttsBox>(rt.alloc(), OFFSETS, 15)?);
+    holds(
+        &rt,
+        1,
+        table.get_type() == BoxType::CttsBox && table.get_size() == 32,
+    );
+    check(&rt, 2, is_spelled(rt.alloc(), &table, OFFSETS));
+    check(
+        &rt,
+        3,
+        is_spelled(rt.alloc(), &offsets(rt.alloc(), 1)?, OFFSETS_OF_VERSION_1),
+    );
+    check(&rt, 4, keeps_to_its_end::<CttsBox>(rt.alloc(), OFFSETS, 15));
     Ok(())
 }
 
@@ -72,9 +88,13 @@ fn sync(alloc: Global) -> Result<StssBox> {
 #[test]
 fn sync_samples_are_listed(rt: HostRuntime) -> Result<()> {
     let table = sync(rt.alloc())?;
-    assert!(rt; table.get_type() == BoxType::StssBox && table.get_size() == 24);
-    assert!(rt; is_spelled(rt.alloc(), &table, SYNC)?);
-    assert!(rt; keeps_to_its_end::<StssBox>(rt.alloc(), SYNC, 15)?);
+    holds(
+        &rt,
+        1,
+        table.get_type() == BoxType::StssBox && table.get_size() == 24,
+    );
+    check(&rt, 2, is_spelled(rt.alloc(), &table, SYNC));
+    check(&rt, 3, keeps_to_its_end::<StssBox>(rt.alloc(), SYNC, 15));
     Ok(())
 }
 
@@ -103,20 +123,22 @@ fn sizes_are_one_for_all_or_listed(rt: HostRuntime) -> Result<()> {
         (0, 2, 2, LISTED),
     ] {
         let table = sizes(rt.alloc(), sample_size, sample_count, listed)?;
-        assert!(rt; is_spelled(rt.alloc(), &table, text)?, "{sample_count}");
+        check(&rt, sample_count, is_spelled(rt.alloc(), &table, text));
     }
-    assert!(rt; keeps_to_its_end::<StszBox>(rt.alloc(), LISTED, 19)?);
+    check(&rt, 1, keeps_to_its_end::<StszBox>(rt.alloc(), LISTED, 19));
     Ok(())
 }
 
+/// Whether a text spells three samples of 512 bytes.
+fn reads_one_size(alloc: Global, text: &str) -> Result<bool> {
+    let table = sizes(alloc, 512, 3, 0)?;
+    Ok(table.get_type() == BoxType::StszBox && reads(alloc, text, &table)?)
+}
+
 #[test]
-fn a_table_of_one_size_lists_nothing(rt: HostRuntime) -> Result<()> {
-    let mut bytes = hex(rt.alloc(), ONE_SIZE)?;
-    bytes.extend_from_slice(&[0xff; 16])?;
-    let table: StszBox = read_bytes(rt.alloc(), &bytes)?;
-    assert!(rt; table == sizes(rt.alloc(), 512, 3, 0)?);
-    assert!(rt; table.get_type() == BoxType::StszBox);
-    Ok(())
+fn a_table_of_one_size_lists_nothing(rt: HostRuntime) {
+    let text = "00000024 7374737a 00000000 00000200 00000003 ffffffffffffffffffffffffffffffff";
+    check(&rt, 1, reads_one_size(rt.alloc(), text));
 }
 
 #[test]
@@ -130,8 +152,8 @@ fn a_list_that_is_not_as_long_as_it_says_is_refused(rt: HostRuntime) -> Result<(
     ] {
         let table = sizes(rt.alloc(), sample_size, sample_count, listed)?;
         let refused = refusal(rt.alloc(), &table)?;
-        assert!(rt; matches!(&refused, Some(Error::InvalidData(_))), "{size}");
-        assert!(rt; table.get_size() == size, "{size}");
+        holds(&rt, size, matches!(&refused, Some(Error::InvalidData(_))));
+        holds(&rt, size, table.get_size() == size);
     }
     Ok(())
 }

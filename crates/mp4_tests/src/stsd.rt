@@ -1,16 +1,19 @@
 //! Sample descriptions.
 
-use crate::spelled::{is_spelled, is_unreadable, read, writes};
+use crate::spelled::{check, holds, is_spelled, is_unreadable, read, reads, same, writes};
 use mp4_codec::{BoxType, Result};
 use mp4_entry::{Hev1Box, MediaConfig, StsdBox, TtxtConfig, Tx3gBox};
 
 #[test]
-fn a_description_without_an_entry_has_16_bytes(rt: HostRuntime) -> Result<()> {
+fn a_description_without_an_entry_has_16_bytes(rt: HostRuntime) {
     let default = StsdBox::default();
-    assert_eq!(rt; default.get_type(), BoxType::StsdBox);
-    assert_eq!(rt; default.get_size(), 16);
-    assert!(rt; is_spelled(rt.alloc(), &default, "00000010 73747364 00 000000 00000000")?);
-    Ok(())
+    same(&rt, default.get_type(), BoxType::StsdBox);
+    same(&rt, default.get_size(), 16);
+    check(
+        &rt,
+        1,
+        is_spelled(rt.alloc(), &default, "00000010 73747364 00 000000 00000000"),
+    );
 }
 
 #[test]
@@ -20,9 +23,9 @@ fn a_text_track_has_an_entry_of_46_bytes(rt: HostRuntime) -> Result<()> {
         00000000 01ff 000000ff 0000000000000000 00000000 00010010 ffffffff";
     let config = MediaConfig::TtxtConfig(TtxtConfig {});
     let description = StsdBox::new(rt.alloc(), &config)?;
-    assert_eq!(rt; description.tx3g, Some(Tx3gBox::default()));
-    assert_eq!(rt; description.get_size(), 62);
-    assert!(rt; is_spelled(rt.alloc(), &description, text)?);
+    same(&rt, description.tx3g, Some(Tx3gBox::default()));
+    same(&rt, description.get_size(), 62);
+    check(&rt, 1, is_spelled(rt.alloc(), &description, text));
     Ok(())
 }
 
@@ -33,7 +36,7 @@ fn the_first_entry_alone_is_looked_at_whatever_the_count(rt: HostRuntime) -> Res
         00000000 01ff 000000ff 0000000000000000 00000000 00010010 ffffffff \
         ffffffff 74783367 0000";
     let description = read::<StsdBox>(rt.alloc(), text)?;
-    assert_eq!(rt; description.tx3g, Some(Tx3gBox::default()));
+    same(&rt, description.tx3g, Some(Tx3gBox::default()));
     let other_first = "00000046 73747364 01 000002 00000002 \
         00000008 6d657474 \
         0000002e 74783367 000000000000 0001 \
@@ -41,15 +44,14 @@ fn the_first_entry_alone_is_looked_at_whatever_the_count(rt: HostRuntime) -> Res
     let mut none = StsdBox::default();
     none.version = 1;
     none.flags = 2;
-    assert!(rt; read::<StsdBox>(rt.alloc(), other_first)? == none);
+    check(&rt, 1, reads(rt.alloc(), other_first, &none));
     Ok(())
 }
 
 #[test]
-fn fewer_than_8_bytes_are_no_entry(rt: HostRuntime) -> Result<()> {
+fn fewer_than_8_bytes_are_no_entry(rt: HostRuntime) {
     let text = "00000017 73747364 00 000000 00000001 00000008 747833";
-    assert!(rt; read::<StsdBox>(rt.alloc(), text)? == StsdBox::default());
-    Ok(())
+    check(&rt, 1, reads(rt.alloc(), text, &StsdBox::default()));
 }
 
 #[test]
@@ -61,14 +63,14 @@ fn a_first_entry_that_does_not_frame_is_invalid(rt: HostRuntime) {
         "00000018 73747364 00 000000 00000001 00000001 6d657474",
         "00000018 73747364 00 000000 00000000 ffffffff 6d657474",
     ] {
-        assert!(rt; is_unreadable::<StsdBox>(rt.alloc(), text), "{text}");
+        holds(&rt, text, is_unreadable::<StsdBox>(rt.alloc(), text));
     }
 }
 
 #[test]
 fn a_fault_inside_the_first_entry_is_invalid(rt: HostRuntime) {
     let text = "00000020 73747364 00 000000 00000001 00000010 74783367 000000000000 0001";
-    assert!(rt; is_unreadable::<StsdBox>(rt.alloc(), text));
+    holds(&rt, 1, is_unreadable::<StsdBox>(rt.alloc(), text));
 }
 
 #[test]
@@ -76,14 +78,14 @@ fn the_first_of_two_entries_is_written(rt: HostRuntime) -> Result<()> {
     let mut description = StsdBox::default();
     description.hev1 = Some(Hev1Box::default(rt.alloc())?);
     description.tx3g = Some(Tx3gBox::default());
-    assert_eq!(rt; description.get_size(), 133);
+    same(&rt, description.get_size(), 133);
     let text = "00000085 73747364 00 000000 00000001 \
         00000075 68657631 000000000000 0001 00000000000000000000000000000000 \
         0000 0000 00480000 00480000 00000000 0001 \
         0000000000000000000000000000000000000000000000000000000000000000 0018 ffff \
         0000001f 68766343 01 00000000000000000000000000000000000000000000";
-    assert!(rt; writes(rt.alloc(), &description, text)?);
+    check(&rt, 1, writes(rt.alloc(), &description, text));
     let again = read::<StsdBox>(rt.alloc(), text)?;
-    assert!(rt; again.hev1 == description.hev1 && again.tx3g == None);
+    holds(&rt, 2, again.hev1 == description.hev1 && again.tx3g == None);
     Ok(())
 }

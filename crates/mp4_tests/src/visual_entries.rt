@@ -1,7 +1,8 @@
 //! Sample entries of video.
 
 use crate::spelled::{
-    hex, is_spelled, is_unreadable, is_unrepresentable, needs, read, read_bytes, writes, written,
+    check, hex, holds, is_spelled, is_unreadable, is_unrepresentable, needs, read, read_bytes,
+    reads, same, writes, written,
 };
 use mp4_codec::{BoxType, Items, Result, TryClone, WriteBox};
 use mp4_entry::{
@@ -72,40 +73,76 @@ fn is_entry<B: WriteBox + TryClone + PartialEq>(
 #[test]
 fn the_default_avc1_has_101_bytes(rt: HostRuntime) -> Result<()> {
     let avc1 = Avc1Box::default(rt.alloc())?;
-    assert_eq!(rt; (avc1.get_type(), avc1.get_size()), (BoxType::Avc1Box, 101));
-    assert!(rt; is_spelled(rt.alloc(), &avc1.avcc, DEFAULT_AVCC)?);
+    same(
+        &rt,
+        (avc1.get_type(), avc1.get_size()),
+        (BoxType::Avc1Box, 101),
+    );
+    check(&rt, 1, is_spelled(rt.alloc(), &avc1.avcc, DEFAULT_AVCC));
     let header = "00000065 61766331";
-    assert!(rt; is_entry(rt.alloc(), &avc1, header, DEFAULT_VISUAL, DEFAULT_AVCC)?);
+    check(
+        &rt,
+        2,
+        is_entry(rt.alloc(), &avc1, header, DEFAULT_VISUAL, DEFAULT_AVCC),
+    );
     Ok(())
 }
 
 #[test]
 fn the_default_hev1_has_117_bytes(rt: HostRuntime) -> Result<()> {
     let hev1 = Hev1Box::default(rt.alloc())?;
-    assert_eq!(rt; (hev1.get_type(), hev1.get_size()), (BoxType::Hev1Box, 117));
+    same(
+        &rt,
+        (hev1.get_type(), hev1.get_size()),
+        (BoxType::Hev1Box, 117),
+    );
     let hvcc = "0000001f 68766343 01 00000000000000000000000000000000000000000000";
-    assert!(rt; is_spelled(rt.alloc(), &hev1.hvcc, hvcc)?);
+    check(&rt, 1, is_spelled(rt.alloc(), &hev1.hvcc, hvcc));
     let header = "00000075 68657631";
-    assert!(rt; is_entry(rt.alloc(), &hev1, header, DEFAULT_VISUAL, hvcc)?);
+    check(
+        &rt,
+        2,
+        is_entry(rt.alloc(), &hev1, header, DEFAULT_VISUAL, hvcc),
+    );
     Ok(())
 }
 
 #[test]
 fn the_default_vp09_has_106_bytes(rt: HostRuntime) -> Result<()> {
     let vp09 = Vp09Box::default(rt.alloc())?;
-    assert_eq!(rt; (vp09.get_type(), vp09.get_size()), (BoxType::Vp09Box, 106));
+    same(
+        &rt,
+        (vp09.get_type(), vp09.get_size()),
+        (BoxType::Vp09Box, 106),
+    );
     let vpcc = "00000014 76706343 01 000000 00 1f 80 00 00 00 0000";
-    assert!(rt; is_spelled(rt.alloc(), &vp09.vpcc, vpcc)?);
+    check(&rt, 1, is_spelled(rt.alloc(), &vp09.vpcc, vpcc));
     let header = "0000006a 76703039";
-    assert!(rt; is_entry(rt.alloc(), &vp09, header, DEFAULT_VISUAL, vpcc)?);
+    check(
+        &rt,
+        2,
+        is_entry(rt.alloc(), &vp09, header, DEFAULT_VISUAL, vpcc),
+    );
     Ok(())
 }
 
 #[test]
 fn each_box_in_an_entry_has_its_type(rt: HostRuntime) -> Result<()> {
-    assert_eq!(rt; AvcCBox::default(rt.alloc())?.get_type(), BoxType::AvcCBox);
-    assert_eq!(rt; HvcCBox::default(rt.alloc())?.get_type(), BoxType::HvcCBox);
-    assert_eq!(rt; VpccBox::default(rt.alloc())?.get_type(), BoxType::VpccBox);
+    same(
+        &rt,
+        AvcCBox::default(rt.alloc())?.get_type(),
+        BoxType::AvcCBox,
+    );
+    same(
+        &rt,
+        HvcCBox::default(rt.alloc())?.get_type(),
+        BoxType::HvcCBox,
+    );
+    same(
+        &rt,
+        VpccBox::default(rt.alloc())?.get_type(),
+        BoxType::VpccBox,
+    );
     Ok(())
 }
 
@@ -122,9 +159,13 @@ fn each_field_of_avc1_stands_in_its_place(rt: HostRuntime) -> Result<()> {
         avcc: AvcCBox::default(rt.alloc())?,
     };
     let header = "00000065 61766331";
-    assert!(rt; is_entry(rt.alloc(), &avc1, header, VISUAL, DEFAULT_AVCC)?);
+    check(
+        &rt,
+        1,
+        is_entry(rt.alloc(), &avc1, header, VISUAL, DEFAULT_AVCC),
+    );
     let unseen = entry_text(rt.alloc(), header, VISUAL_UNSEEN, DEFAULT_AVCC)?;
-    assert!(rt; read::<Avc1Box>(rt.alloc(), &unseen)? == avc1);
+    check(&rt, 2, reads(rt.alloc(), &unseen, &avc1));
     Ok(())
 }
 
@@ -143,7 +184,11 @@ fn each_field_of_hev1_stands_in_its_place(rt: HostRuntime) -> Result<()> {
         },
     };
     let hvcc = "0000000b 68766343 aabbcc";
-    assert!(rt; is_entry(rt.alloc(), &hev1, "00000061 68657631", VISUAL, hvcc)?);
+    check(
+        &rt,
+        1,
+        is_entry(rt.alloc(), &hev1, "00000061 68657631", VISUAL, hvcc),
+    );
     Ok(())
 }
 
@@ -162,7 +207,11 @@ fn each_field_of_vp09_stands_in_its_place(rt: HostRuntime) -> Result<()> {
         },
     };
     let vpcc = "00000009 76706343 dd";
-    assert!(rt; is_entry(rt.alloc(), &vp09, "0000005f 76703039", VISUAL, vpcc)?);
+    check(
+        &rt,
+        1,
+        is_entry(rt.alloc(), &vp09, "0000005f 76703039", VISUAL, vpcc),
+    );
     Ok(())
 }
 
@@ -174,19 +223,22 @@ fn the_last_avcc_of_an_entry_stands(rt: HostRuntime) -> Result<()> {
     )?;
     let entry: Avc1Box = read(rt.alloc(), &text)?;
     let avcc = "0000000f 61766343 02 0d0e0f fe e0 00";
-    assert!(rt; is_spelled(rt.alloc(), &entry.avcc, avcc)?);
+    check(&rt, 1, is_spelled(rt.alloc(), &entry.avcc, avcc));
     let text = format!(in rt.alloc(); "00000065 61766331 {VISUAL} {avcc}")?;
-    assert!(rt; is_spelled(rt.alloc(), &entry, &text)?);
+    check(&rt, 2, is_spelled(rt.alloc(), &entry, &text));
     Ok(())
 }
 
+/// Whether four zero bytes behind the default are skipped.
+fn reads_with_four_zero_bytes(alloc: Global) -> Result<bool> {
+    let default = Avc1Box::default(alloc)?;
+    let text = format!(in alloc; "00000069 61766331 {DEFAULT_VISUAL} {DEFAULT_AVCC} 00000000")?;
+    reads(alloc, &text, &default)
+}
+
 #[test]
-fn an_entry_that_ends_in_four_zero_bytes_is_read(rt: HostRuntime) -> Result<()> {
-    let text = format!(in rt.alloc();
-        "00000069 61766331 {DEFAULT_VISUAL} {DEFAULT_AVCC} 00000000"
-    )?;
-    assert!(rt; read::<Avc1Box>(rt.alloc(), &text)? == Avc1Box::default(rt.alloc())?);
-    Ok(())
+fn an_entry_that_ends_in_four_zero_bytes_is_read(rt: HostRuntime) {
+    check(&rt, 1, reads_with_four_zero_bytes(rt.alloc()));
 }
 
 #[test]
@@ -208,7 +260,7 @@ fn an_entry_without_its_configuration_is_invalid(rt: HostRuntime) -> Result<()> 
     ];
     for child in children {
         let text = format!(in rt.alloc(); "00000000 61766331 {VISUAL} {child}")?;
-        assert!(rt; is_unreadable::<Avc1Box>(rt.alloc(), &text), "{child}");
+        holds(&rt, child, is_unreadable::<Avc1Box>(rt.alloc(), &text));
     }
     Ok(())
 }
@@ -216,18 +268,26 @@ fn an_entry_without_its_configuration_is_invalid(rt: HostRuntime) -> Result<()> 
 #[test]
 fn an_entry_with_the_configuration_of_another_coding_is_invalid(rt: HostRuntime) -> Result<()> {
     let text = entry_text(rt.alloc(), "00000000 68657631", VISUAL, DEFAULT_AVCC)?;
-    assert!(rt; is_unreadable::<Hev1Box>(rt.alloc(), &text));
+    holds(&rt, 1, is_unreadable::<Hev1Box>(rt.alloc(), &text));
     let text = entry_text(rt.alloc(), "00000000 76703039", VISUAL, DEFAULT_AVCC)?;
-    assert!(rt; is_unreadable::<Vp09Box>(rt.alloc(), &text));
+    holds(&rt, 2, is_unreadable::<Vp09Box>(rt.alloc(), &text));
     Ok(())
 }
 
 #[test]
 fn a_configuration_that_is_kept_as_it_stands_may_be_empty(rt: HostRuntime) -> Result<()> {
     let text = entry_text(rt.alloc(), "0000005e 68657631", VISUAL, "00000008 68766343")?;
-    assert!(rt; read::<Hev1Box>(rt.alloc(), &text)?.hvcc.raw.is_empty());
+    holds(
+        &rt,
+        1,
+        read::<Hev1Box>(rt.alloc(), &text)?.hvcc.raw.is_empty(),
+    );
     let text = entry_text(rt.alloc(), "0000005e 76703039", VISUAL, "00000008 76706343")?;
-    assert!(rt; read::<Vp09Box>(rt.alloc(), &text)?.vpcc.raw.is_empty());
+    holds(
+        &rt,
+        2,
+        read::<Vp09Box>(rt.alloc(), &text)?.vpcc.raw.is_empty(),
+    );
     Ok(())
 }
 
@@ -261,17 +321,17 @@ fn the_sets_of_avcc_have_lengths_of_two_bytes(rt: HostRuntime) -> Result<()> {
         picture_parameter_sets: two_sets(rt.alloc(), "68ee3c", "")?,
     };
     let text = "0000001f 61766343 01 64 0a 1f fc e2 0004 67640a1f 0001 67 02 0003 68ee3c 0000";
-    assert_eq!(rt; leaf.get_size(), 31);
-    assert!(rt; is_spelled(rt.alloc(), &leaf, text)?);
-    assert!(rt; needs::<AvcCBox>(rt.alloc(), text, 31)?);
+    same(&rt, leaf.get_size(), 31);
+    check(&rt, 1, is_spelled(rt.alloc(), &leaf, text));
+    check(&rt, 2, needs::<AvcCBox>(rt.alloc(), text, 31));
     Ok(())
 }
 
 #[test]
 fn the_high_byte_of_a_sets_length_comes_first(rt: HostRuntime) -> Result<()> {
     let bytes = written(rt.alloc(), &long_set(rt.alloc(), 258)?)?;
-    assert_eq!(rt; bytes.len(), 275);
-    assert!(rt; bytes.get(13..16) == Some(&[0xe1, 0x01, 0x02]));
+    same(&rt, bytes.len(), 275);
+    holds(&rt, 1, bytes.get(13..16) == Some(&[0xe1, 0x01, 0x02]));
     Ok(())
 }
 
@@ -280,12 +340,14 @@ fn the_high_bits_of_two_bytes_of_avcc_are_not_looked_at(rt: HostRuntime) -> Resu
     let mut leaf = AvcCBox::default(rt.alloc())?;
     leaf.length_size_minus_one = 1;
     leaf.sequence_parameter_sets = one_set(rt.alloc(), "67")?;
-    assert!(rt;
+    check(
+        &rt,
+        1,
         is_spelled(
             rt.alloc(),
             &leaf,
-            "00000012 61766343 01 000000 fd e1 0001 67 00"
-        )?
+            "00000012 61766343 01 000000 fd e1 0001 67 00",
+        ),
     );
     let rows = [
         "00000012 61766343 01 000000 01 01 0001 67 00",
@@ -294,7 +356,7 @@ fn the_high_bits_of_two_bytes_of_avcc_are_not_looked_at(rt: HostRuntime) -> Resu
         "00000016 61766343 01 000000 fd e1 0001 67 00 fdf8f800",
     ];
     for text in rows {
-        assert!(rt; read::<AvcCBox>(rt.alloc(), text)? == leaf, "{text}");
+        check(&rt, text, reads(rt.alloc(), text, &leaf));
     }
     Ok(())
 }
@@ -311,7 +373,7 @@ fn sets_that_pass_the_end_are_invalid(rt: HostRuntime) {
         "00000012 61766343 01 000000 ff e0 01 0101 68",
     ];
     for text in rows {
-        assert!(rt; is_unreadable::<AvcCBox>(rt.alloc(), text), "{text}");
+        holds(&rt, text, is_unreadable::<AvcCBox>(rt.alloc(), text));
     }
 }
 
@@ -332,14 +394,22 @@ fn has_no_bits(alloc: Global, leaf: &AvcCBox, size: u64) -> Result<bool> {
 fn a_length_size_over_3_is_unrepresentable(rt: HostRuntime) -> Result<()> {
     let mut leaf = AvcCBox::default(rt.alloc())?;
     leaf.length_size_minus_one = 4;
-    assert!(rt; has_no_bits(rt.alloc(), &leaf, 15)?);
+    check(&rt, 1, has_no_bits(rt.alloc(), &leaf, 15));
     Ok(())
 }
 
 #[test]
 fn more_sets_than_avcc_counts_are_unrepresentable(rt: HostRuntime) -> Result<()> {
-    assert!(rt; has_no_bits(rt.alloc(), &with_sets(rt.alloc(), 32, 0)?, 79)?);
-    assert!(rt; has_no_bits(rt.alloc(), &with_sets(rt.alloc(), 31, 256)?, 589)?);
+    check(
+        &rt,
+        1,
+        has_no_bits(rt.alloc(), &with_sets(rt.alloc(), 32, 0)?, 79),
+    );
+    check(
+        &rt,
+        2,
+        has_no_bits(rt.alloc(), &with_sets(rt.alloc(), 31, 256)?, 589),
+    );
     Ok(())
 }
 
@@ -347,9 +417,13 @@ fn more_sets_than_avcc_counts_are_unrepresentable(rt: HostRuntime) -> Result<()>
 fn as_many_sets_as_avcc_counts_are_written(rt: HostRuntime) -> Result<()> {
     let leaf = with_sets(rt.alloc(), 31, 255)?;
     let bytes = written(rt.alloc(), &leaf)?;
-    assert_eq!(rt; bytes.len(), 587);
-    assert!(rt; bytes.get(13) == Some(&0xff) && bytes.get(76) == Some(&0xff));
-    assert!(rt; read_bytes::<AvcCBox>(rt.alloc(), &bytes)? == leaf);
+    same(&rt, bytes.len(), 587);
+    holds(
+        &rt,
+        1,
+        bytes.get(13) == Some(&0xff) && bytes.get(76) == Some(&0xff),
+    );
+    holds(&rt, 2, read_bytes::<AvcCBox>(rt.alloc(), &bytes)? == leaf);
     Ok(())
 }
 
@@ -357,9 +431,13 @@ fn as_many_sets_as_avcc_counts_are_written(rt: HostRuntime) -> Result<()> {
 fn a_set_past_65535_bytes_is_unrepresentable(rt: HostRuntime) -> Result<()> {
     let mut entry = Avc1Box::default(rt.alloc())?;
     entry.avcc = long_set(rt.alloc(), 0x1_0000)?;
-    assert!(rt; has_no_bits(rt.alloc(), &entry.avcc, 15 + 2 + 0x1_0000)?);
-    assert!(rt; is_unrepresentable(rt.alloc(), &entry)?);
-    assert_eq!(rt; entry.get_size(), 86 + 15 + 2 + 0x1_0000);
+    check(
+        &rt,
+        1,
+        has_no_bits(rt.alloc(), &entry.avcc, 15 + 2 + 0x1_0000),
+    );
+    check(&rt, 2, is_unrepresentable(rt.alloc(), &entry));
+    same(&rt, entry.get_size(), 86 + 15 + 2 + 0x1_0000);
     Ok(())
 }
 
@@ -367,8 +445,8 @@ fn a_set_past_65535_bytes_is_unrepresentable(rt: HostRuntime) -> Result<()> {
 fn a_set_of_65535_bytes_is_written(rt: HostRuntime) -> Result<()> {
     let leaf = long_set(rt.alloc(), 0xffff)?;
     let bytes = written(rt.alloc(), &leaf)?;
-    assert_eq!(rt; bytes.len(), 15 + 2 + 0xffff);
-    assert!(rt; read_bytes::<AvcCBox>(rt.alloc(), &bytes)? == leaf);
+    same(&rt, bytes.len(), 15 + 2 + 0xffff);
+    holds(&rt, 1, read_bytes::<AvcCBox>(rt.alloc(), &bytes)? == leaf);
     Ok(())
 }
 
@@ -382,12 +460,12 @@ fn a_configuration_of_avc_gives_the_default_entry_with_its_size_and_sets(
         seq_param_set: Items::from(hex(rt.alloc(), "6742c01e")?),
         pic_param_set: Items::from(hex(rt.alloc(), "68ce3c80")?),
     };
-    assert!(rt; config.try_clone()? == config);
+    holds(&rt, 1, config.try_clone()? == config);
     let entry = Avc1Box::new(rt.alloc(), &config)?;
-    assert_eq!(rt; entry.get_size(), 113);
+    same(&rt, entry.get_size(), 113);
     let text =
         "00000071 61766331 000000000000 0001 00000000000000000000000000000000 0140 00f0 00480000 00480000 00000000 0001 0000000000000000000000000000000000000000000000000000000000000000 0018 ffff 0000001b 61766343 01 42 c0 1e ff e1 0004 6742c01e 01 0004 68ce3c80";
-    assert!(rt; is_spelled(rt.alloc(), &entry, text)?);
+    check(&rt, 2, is_spelled(rt.alloc(), &entry, text));
     Ok(())
 }
 
@@ -397,11 +475,11 @@ fn a_configuration_of_hevc_gives_the_default_entry_with_its_size(rt: HostRuntime
         width: 0x0304,
         height: 0x0506,
     };
-    assert!(rt; config.try_clone()? == config);
+    holds(&rt, 1, config.try_clone()? == config);
     let mut entry = Hev1Box::default(rt.alloc())?;
     entry.width = 0x0304;
     entry.height = 0x0506;
-    assert!(rt; Hev1Box::new(rt.alloc(), &config)? == entry);
+    holds(&rt, 2, Hev1Box::new(rt.alloc(), &config)? == entry);
     Ok(())
 }
 
@@ -411,11 +489,11 @@ fn a_configuration_of_vp9_gives_the_default_entry_with_its_size(rt: HostRuntime)
         width: 0x0304,
         height: 0x0506,
     };
-    assert!(rt; config.try_clone()? == config);
+    holds(&rt, 1, config.try_clone()? == config);
     let mut entry = Vp09Box::default(rt.alloc())?;
     entry.width = 0x0304;
     entry.height = 0x0506;
-    assert!(rt; Vp09Box::new(rt.alloc(), &config)? == entry);
+    holds(&rt, 2, Vp09Box::new(rt.alloc(), &config)? == entry);
     Ok(())
 }
 
@@ -441,7 +519,7 @@ fn a_byte_that_a_short_sequence_set_has_not_counts_as_zero(rt: HostRuntime) -> R
             pic_param_set: Items::new(rt.alloc()),
         };
         let entry = Avc1Box::new(rt.alloc(), &config)?;
-        assert!(rt; writes(rt.alloc(), &entry.avcc, text)?, "{text}");
+        check(&rt, text, writes(rt.alloc(), &entry.avcc, text));
     }
     Ok(())
 }
