@@ -1,24 +1,22 @@
 //! Codes of four bytes, and the types of boxes.
 
-use crate::spelled::{holds, same};
+use crate::spelled::{check, holds, prints, same};
 use mp4_codec::{BoxType, FourCC};
-use std::test::Fail;
+
+const PRINTED: [(BoxType, &str); 5] = [
+    (BoxType::NameBox, ".nam"),
+    (BoxType::DayBox, ".day"),
+    (BoxType::UrlBox, "url "),
+    (BoxType::AvcCBox, "avcC"),
+    (BoxType::UnknownBox(0x201f7e7f), " .~."),
+];
 
 #[test]
-fn a_code_prints_a_full_stop_outside_ascii(rt: HostRuntime) -> Result<(), Fail> {
-    let rows = [
-        (BoxType::NameBox, ".nam"),
-        (BoxType::DayBox, ".day"),
-        (BoxType::UrlBox, "url "),
-        (BoxType::AvcCBox, "avcC"),
-        (BoxType::UnknownBox(0x201f7e7f), " .~."),
-    ];
-    for (name, text) in rows {
-        same(&rt, format!(in rt.alloc(); "{name}")?.as_str(), text);
-        let code = FourCC::from(name);
-        same(&rt, format!(in rt.alloc(); "{code}")?.as_str(), text);
+fn a_code_prints_a_full_stop_outside_ascii(rt: HostRuntime) {
+    for (name, text) in PRINTED {
+        check(&rt, text, prints(rt.alloc(), &name, text));
+        check(&rt, text, prints(rt.alloc(), &FourCC::from(name), text));
     }
-    Ok(())
 }
 
 #[test]

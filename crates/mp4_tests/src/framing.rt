@@ -1,10 +1,10 @@
 //! Headers, the cursor and children: rows of bytes.
 
-use crate::spelled::{holds, same, same_at};
+use crate::spelled::{check, holds, same, same_at};
 use mp4_codec::{
     BoxHeader, BoxType, ByteCursor, Children, Error, HEADER_EXT_SIZE, HEADER_SIZE, Limit, Result,
 };
-use std::test::Fail;
+use std::alloc::Global;
 
 /// A header whose size is 1, of type 01020304, with this last byte of its largesize.
 fn large_header(last: u8) -> [u8; 16] {
@@ -15,22 +15,19 @@ fn read(bytes: &[u8]) -> Result<BoxHeader> {
     BoxHeader::read(&mut ByteCursor::new(bytes))
 }
 
+/// Whether a header is refused as invalid data.
+fn is_unreadable_header(bytes: &[u8]) -> bool {
+    matches!(read(bytes), Err(Error::InvalidData(_)))
+}
+
 #[test]
 fn a_largesize_counts_sixteen_bytes_of_header(rt: HostRuntime) {
     let name = BoxType::UnknownBox(0x01020304);
     same(&rt, read(&large_header(0x10)), Ok(BoxHeader::new(name, 8)));
     same(&rt, read(&large_header(0x11)), Ok(BoxHeader::new(name, 9)));
     same(&rt, read(&large_header(0)), Ok(BoxHeader::new(name, 0)));
-    holds(
-        &rt,
-        1,
-        matches!(&read(&large_header(0x0f)), Err(Error::InvalidData(_))),
-    );
-    holds(
-        &rt,
-        2,
-        matches!(&read(&large_header(1)), Err(Error::InvalidData(_))),
-    );
+    holds(&rt, 1, is_unreadable_header(&large_header(0x0f)));
+    holds(&rt, 2, is_unreadable_header(&large_header(1)));
     same(&rt, read(&large_header(0x10)[..15]), Err(Error::EndOfData));
     same(&rt, HEADER_SIZE, 8);
     same(&rt, HEADER_EXT_SIZE, 4);
@@ -40,11 +37,7 @@ fn a_largesize_counts_sixteen_bytes_of_header(rt: HostRuntime) {
 fn a_size_below_its_header_is_invalid(rt: HostRuntime) {
     for size in 2..8 {
         let header = [0, 0, 0, size, b'f', b'r', b'e', b'e'];
-        holds(
-            &rt,
-            size,
-            matches!(&read(&header), Err(Error::InvalidData(_))),
-        );
+        holds(&rt, size, is_unreadable_header(&header));
     }
     let eight = [0, 0, 0, 8, b'f', b'r', b'e', b'e'];
     same(&rt, read(&eight), Ok(BoxHeader::new(BoxType::FreeBox, 8)));
@@ -53,39 +46,49 @@ fn a_size_below_its_header_is_invalid(rt: HostRuntime) {
     same(&rt, read(&open), Ok(BoxHeader::new(BoxType::MdatBox, 0)));
 }
 
-#[test]
-fn a_header_is_written_in_eight_bytes(rt: HostRuntime) -> std::result::Result<(), Fail> {
-    let rows = [
-        (0, [0, 0, 0, 0, b'm', b'o', b'o', b'v']),
-        (8, [0, 0, 0, 8, b'm', b'o', b'o', b'v']),
-        (4294967295, [0xff, 0xff, 0xff, 0xff, b'm', b'o', b'o', b'v']),
-    ];
-    for (size, bytes) in rows {
-        let mut out = vec![in rt.alloc(); 7u8]?;
-        same(
-            &rt,
-            BoxHeader::new(BoxType::MoovBox, size).write(&mut out),
-            Ok(8),
-        );
-        same(&rt, out.len(), 9);
-        holds(&rt, 1, out[0] == 7 && &out[1..] == bytes.as_slice());
-    }
-    Ok(())
+/// Whether a header is written as these bytes behind a buffer of one byte, 7.
+fn is_header(alloc: Global, size: u64, expected: &[u8]) -> Result<bool> {
+    let mut out = vec![in alloc; 7u8]?;
+    let written = BoxHeader::new(BoxType::MoovBox, size).write(&mut out)?;
+    Ok(written == 8 && out.as_slice() == expected)
 }
 
 #[test]
-fn a_header_that_cannot_be_written_leaves_the_buffer(
-    rt: HostRuntime,
-) -> std::result::Result<(), Fail> {
-    let mut out = vec![in rt.alloc(); 7u8]?;
-    for size in 1..8 {
-        let refused = BoxHeader::new(BoxType::MoovBox, size).write(&mut out);
-        holds(&rt, size, matches!(&refused, Err(Error::InvalidData(_))));
+fn a_header_is_written_in_eight_bytes(rt: HostRuntime) {
+    let rows = [
+        (0, [7, 0, 0, 0, 0, b'm', b'o', b'o', b'v']),
+        (8, [7, 0, 0, 0, 8, b'm', b'o', b'o', b'v']),
+        (
+            4294967295,
+            [7, 0xff, 0xff, 0xff, 0xff, b'm', b'o', b'o', b'v'],
+        ),
+    ];
+    for (size, bytes) in rows {
+        check(&rt, size, is_header(rt.alloc(), size, &bytes));
     }
-    let refused = BoxHeader::new(BoxType::MoovBox, 4294967296).write(&mut out);
-    same(&rt, refused, Err(Error::TooLarge(Limit::BoxSize)));
-    holds(&rt, 1, out.as_slice() == [7].as_slice());
-    Ok(())
+}
+
+/// Why a header is not written, if a buffer of one byte is then as it was before.
+fn refused_header(alloc: Global, size: u64) -> Result<Option<Error>> {
+    let mut out = vec![in alloc; 7u8]?;
+    match BoxHeader::new(BoxType::MoovBox, size).write(&mut out) {
+        Err(error) if out.as_slice() == [7].as_slice() => Ok(Some(error)),
+        _ => Ok(None),
+    }
+}
+
+/// Whether a header is refused as invalid data.
+fn is_invalid_header(alloc: Global, size: u64) -> bool {
+    matches!(refused_header(alloc, size), Ok(Some(Error::InvalidData(_))))
+}
+
+#[test]
+fn a_header_that_cannot_be_written_leaves_the_buffer(rt: HostRuntime) {
+    for size in 1..8 {
+        holds(&rt, size, is_invalid_header(rt.alloc(), size));
+    }
+    let refused = refused_header(rt.alloc(), 4294967296);
+    same(&rt, refused, Ok(Some(Error::TooLarge(Limit::BoxSize))));
 }
 
 #[test]
@@ -165,13 +168,18 @@ fn a_tail_of_less_than_eight_bytes_is_skipped(rt: HostRuntime) {
     }
 }
 
+/// Whether a payload is one child of this type with this payload.
+fn is_child(payload: &[u8], name: BoxType, expected: &[u8]) -> Result<bool> {
+    let mut children = Children::new(payload);
+    let is_first = match children.next_child()? {
+        None => false,
+        Some(child) => child.name == name && child.payload == expected,
+    };
+    Ok(is_first && children.next_child()?.is_none())
+}
+
 #[test]
-fn a_child_has_its_type_and_its_payload(rt: HostRuntime) -> std::result::Result<(), Fail> {
+fn a_child_has_its_type_and_its_payload(rt: HostRuntime) {
     let payload = [0, 0, 0, 10, b'd', b'a', b't', b'a', 1, 2];
-    let mut children = Children::new(&payload);
-    let child = children.next_child()?.ok_or("a child")?;
-    same(&rt, child.name, BoxType::DataBox);
-    holds(&rt, 1, child.payload == [1, 2].as_slice());
-    holds(&rt, 2, children.next_child()?.is_none());
-    Ok(())
+    check(&rt, 1, is_child(&payload, BoxType::DataBox, &[1, 2]));
 }

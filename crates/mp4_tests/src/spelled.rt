@@ -32,6 +32,11 @@ pub fn same_at<T: PartialEq + Debug + Drop>(
     assert_eq!(rt; value, expected, "case {case}");
 }
 
+/// Whether a value prints as a text.
+pub fn prints(alloc: Global, value: &impl Display, text: &str) -> Result<bool> {
+    Ok(format!(in alloc; "{value}")?.as_str() == text)
+}
+
 /// The bytes that a text spells, two digits each; spaces are skipped.
 pub fn hex(alloc: Global, text: &str) -> Result<Vec<u8>> {
     let mut bytes = Vec::new(alloc);
