@@ -1,7 +1,8 @@
 //! The sample entry of MPEG-4 audio, and what its decoder is started with.
 
 use crate::spelled::{
-    hex, is_spelled, is_unreadable, is_unrepresentable, needs, read, read_bytes, writes,
+    check, hex, holds, is_spelled, is_unreadable, is_unrepresentable, needs, read, read_bytes,
+    reads, same, writes,
 };
 use mp4_codec::{BoxType, Error, Result, TryClone};
 use mp4_entry::{
@@ -44,26 +45,52 @@ fn cut(bytes: &[u8], n: usize) -> &[u8] {
     &bytes[..n.min(bytes.len())]
 }
 
-/// What is read of the decoder's configuration: profile, frequency, channels.
-fn specific(b: &EsdsBox) -> (u8, u8, u8) {
-    let specific = b.es_desc.dec_config.dec_specific;
-    (specific.profile, specific.freq_index, specific.chan_conf)
+/// What is read of an esds: the stream's id; the decoder's object type, stream type, buffer size and its two
+/// bit rates; of its configuration the profile, the frequency and the channels.
+fn numbers(b: &EsdsBox) -> [u32; 9] {
+    let decoder = b.es_desc.dec_config;
+    let specific = decoder.dec_specific;
+    [
+        b.es_desc.es_id as u32,
+        decoder.object_type_indication as u32,
+        decoder.stream_type as u32,
+        decoder.buffer_size_db,
+        decoder.max_bitrate,
+        decoder.avg_bitrate,
+        specific.profile as u32,
+        specific.freq_index as u32,
+        specific.chan_conf as u32,
+    ]
+}
+
+/// Whether the esds of these bytes has these numbers.
+fn has_numbers(alloc: Global, bytes: &[u8], expected: &[u32; 9]) -> Result<bool> {
+    let leaf: EsdsBox = read_bytes(alloc, bytes)?;
+    Ok(numbers(&leaf) == *expected)
+}
+
+/// Whether the esds that a text spells has these numbers.
+fn is_read_as(alloc: Global, text: &str, expected: &[u32; 9]) -> Result<bool> {
+    let bytes = hex(alloc, text)?;
+    has_numbers(alloc, &bytes, expected)
 }
 
 #[test]
-fn an_esds_has_39_bytes(rt: HostRuntime) -> Result<()> {
+fn an_esds_has_39_bytes(rt: HostRuntime) {
     let default = EsdsBox::default();
-    assert_eq!(rt; default.get_type(), BoxType::EsdsBox);
-    assert_eq!(rt; default.get_size(), 39);
-    assert!(rt;
+    same(&rt, default.get_type(), BoxType::EsdsBox);
+    same(&rt, default.get_size(), 39);
+    check(
+        &rt,
+        1,
         is_spelled(
             rt.alloc(),
             &default,
-            "00000027 65736473 00 000000 03 19 0000 00 04 11 00 01 000000 00000000 00000000 05 02 0000 06 01 02"
-        )?
+            "00000027 65736473 00 000000 03 19 0000 00 04 11 00 01 000000 00000000 00000000 05 02 0000 06 01 02",
+        ),
     );
-    assert!(rt; is_spelled(rt.alloc(), &aac(), AAC)?);
-    assert!(rt; needs::<EsdsBox>(rt.alloc(), AAC, 12)?);
+    check(&rt, 2, is_spelled(rt.alloc(), &aac(), AAC));
+    check(&rt, 3, needs::<EsdsBox>(rt.alloc(), AAC, 12));
     let mut all = aac();
     all.version = 1;
     all.flags = 0x020304;
@@ -81,28 +108,33 @@ fn an_esds_has_39_bytes(rt: HostRuntime) -> Result<()> {
             chan_conf: 15,
         },
     };
-    assert!(rt;
+    check(
+        &rt,
+        4,
         is_spelled(
             rt.alloc(),
             &all,
-            "00000027 65736473 01 020304 03 19 0506 00 04 11 ff ff abcdef 01020304 05060708 05 02 f778 06 01 02"
-        )?
+            "00000027 65736473 01 020304 03 19 0506 00 04 11 ff ff abcdef 01020304 05060708 05 02 f778 06 01 02",
+        ),
     );
-    Ok(())
+}
+
+/// Whether the copy of a value is equal to it.
+fn is_copied<T: TryClone + PartialEq>(value: &T) -> Result<bool> {
+    Ok(value.try_clone()? == *value)
 }
 
 #[test]
-fn the_parts_of_an_esds_are_copied(rt: HostRuntime) -> Result<()> {
+fn the_parts_of_an_esds_are_copied(rt: HostRuntime) {
     let stream = aac().es_desc;
-    assert!(rt; stream.try_clone()? == stream);
-    assert!(rt; stream.dec_config.try_clone()? == stream.dec_config);
-    assert!(rt; stream.dec_config.dec_specific.try_clone()? == stream.dec_config.dec_specific);
-    assert!(rt; stream.sl_config.try_clone()? == stream.sl_config);
-    Ok(())
+    check(&rt, 1, is_copied(&stream));
+    check(&rt, 2, is_copied(&stream.dec_config));
+    check(&rt, 3, is_copied(&stream.dec_config.dec_specific));
+    check(&rt, 4, is_copied(&stream.sl_config));
 }
 
 #[test]
-fn lengths_of_four_bytes_are_read(rt: HostRuntime) -> Result<()> {
+fn lengths_of_four_bytes_are_read(rt: HostRuntime) {
     let rows = [
         "00000033 65736473 00 000000 03 80808022 0001 00 04 80808014 40 15 000000 0001f400 0001f400 05 80808002 1190 06 80808001 02",
         // In two and in three bytes.
@@ -111,210 +143,257 @@ fn lengths_of_four_bytes_are_read(rt: HostRuntime) -> Result<()> {
         "0000002d 65736473 00 000000 03 8080809c 0001 00 04 808012 40 15 000000 0001f400 0001f400 05 8002 1190 06 01 02",
     ];
     for text in rows {
-        assert!(rt; read::<EsdsBox>(rt.alloc(), text)? == aac(), "{text}");
+        check(&rt, text, reads(rt.alloc(), text, &aac()));
     }
-    Ok(())
 }
 
-#[test]
-fn descriptors_that_are_cut_read_as_zeros(rt: HostRuntime) -> Result<()> {
-    let text =
-        "00000027 65736473 00 000000 03 19 0102 00 04 11 40 15 0a0b0c 01020304 05060708 05 02 1190 06 01 02";
-    let bytes = hex(rt.alloc(), text)?;
-    // The length of the box; the stream's id, the decoder's object type, stream type and buffer size; its bit rates.
-    let rows = [
-        (12, (0, 0, 0, 0), (0, 0)),
-        (13, (0, 0, 0, 0), (0, 0)),
-        (14, (0, 0, 0, 0), (0, 0)),
-        (15, (0x0100, 0, 0, 0), (0, 0)),
-        (16, (0x0102, 0, 0, 0), (0, 0)),
-        (17, (0x0102, 0, 0, 0), (0, 0)),
-        (18, (0x0102, 0, 0, 0), (0, 0)),
-        (19, (0x0102, 0, 0, 0), (0, 0)),
-        (20, (0x0102, 0x40, 0, 0), (0, 0)),
-        (21, (0x0102, 0x40, 5, 0), (0, 0)),
-        (22, (0x0102, 0x40, 5, 0x0a0000), (0, 0)),
-        (23, (0x0102, 0x40, 5, 0x0a0b00), (0, 0)),
-        (24, (0x0102, 0x40, 5, 0x0a0b0c), (0, 0)),
-        (25, (0x0102, 0x40, 5, 0x0a0b0c), (0x01000000, 0)),
-        (26, (0x0102, 0x40, 5, 0x0a0b0c), (0x01020000, 0)),
-        (27, (0x0102, 0x40, 5, 0x0a0b0c), (0x01020300, 0)),
-        (28, (0x0102, 0x40, 5, 0x0a0b0c), (0x01020304, 0)),
-        (29, (0x0102, 0x40, 5, 0x0a0b0c), (0x01020304, 0x05000000)),
-        (30, (0x0102, 0x40, 5, 0x0a0b0c), (0x01020304, 0x05060000)),
-        (31, (0x0102, 0x40, 5, 0x0a0b0c), (0x01020304, 0x05060700)),
-        (32, (0x0102, 0x40, 5, 0x0a0b0c), (0x01020304, 0x05060708)),
-    ];
-    for (n, head, rates) in rows {
-        let leaf: EsdsBox = read_bytes(rt.alloc(), cut(&bytes, n))?;
-        let decoder = leaf.es_desc.dec_config;
-        assert_eq!(rt;
-            (
-                leaf.es_desc.es_id,
-                decoder.object_type_indication,
-                decoder.stream_type,
-                decoder.buffer_size_db,
-            ),
-            head,
-            "{n}"
-        );
-        assert_eq!(rt; (decoder.max_bitrate, decoder.avg_bitrate), rates, "{n}");
-        assert_eq!(rt; specific(&leaf), (0, 0, 0), "{n}");
-    }
+const WHOLE: &str =
+    "00000027 65736473 00 000000 03 19 0102 00 04 11 40 15 0a0b0c 01020304 05060708 05 02 1190 06 01 02";
+
+/// The length of the box, and the numbers that are read of so many bytes.
+const CUT: [(usize, [u32; 9]); 26] = [
+    (12, [0, 0, 0, 0, 0, 0, 0, 0, 0]),
+    (13, [0, 0, 0, 0, 0, 0, 0, 0, 0]),
+    (14, [0, 0, 0, 0, 0, 0, 0, 0, 0]),
+    (15, [0x0100, 0, 0, 0, 0, 0, 0, 0, 0]),
+    (16, [0x0102, 0, 0, 0, 0, 0, 0, 0, 0]),
+    (17, [0x0102, 0, 0, 0, 0, 0, 0, 0, 0]),
+    (18, [0x0102, 0, 0, 0, 0, 0, 0, 0, 0]),
+    (19, [0x0102, 0, 0, 0, 0, 0, 0, 0, 0]),
+    (20, [0x0102, 0x40, 0, 0, 0, 0, 0, 0, 0]),
+    (21, [0x0102, 0x40, 5, 0, 0, 0, 0, 0, 0]),
+    (22, [0x0102, 0x40, 5, 0x0a0000, 0, 0, 0, 0, 0]),
+    (23, [0x0102, 0x40, 5, 0x0a0b00, 0, 0, 0, 0, 0]),
+    (24, [0x0102, 0x40, 5, 0x0a0b0c, 0, 0, 0, 0, 0]),
+    (25, [0x0102, 0x40, 5, 0x0a0b0c, 0x01000000, 0, 0, 0, 0]),
+    (26, [0x0102, 0x40, 5, 0x0a0b0c, 0x01020000, 0, 0, 0, 0]),
+    (27, [0x0102, 0x40, 5, 0x0a0b0c, 0x01020300, 0, 0, 0, 0]),
+    (28, [0x0102, 0x40, 5, 0x0a0b0c, 0x01020304, 0, 0, 0, 0]),
+    (
+        29,
+        [0x0102, 0x40, 5, 0x0a0b0c, 0x01020304, 0x05000000, 0, 0, 0],
+    ),
+    (
+        30,
+        [0x0102, 0x40, 5, 0x0a0b0c, 0x01020304, 0x05060000, 0, 0, 0],
+    ),
+    (
+        31,
+        [0x0102, 0x40, 5, 0x0a0b0c, 0x01020304, 0x05060700, 0, 0, 0],
+    ),
+    (
+        32,
+        [0x0102, 0x40, 5, 0x0a0b0c, 0x01020304, 0x05060708, 0, 0, 0],
+    ),
     // The configuration without its length, without its body, with its first byte, and whole.
-    let rows = [
-        (33, (0, 0, 0)),
-        (34, (0, 0, 0)),
-        (35, (2, 2, 0)),
-        (36, (2, 3, 2)),
-        (39, (2, 3, 2)),
-    ];
-    for (n, expected) in rows {
-        let leaf: EsdsBox = read_bytes(rt.alloc(), cut(&bytes, n))?;
-        assert_eq!(rt; leaf.es_desc.dec_config.avg_bitrate, 0x05060708, "{n}");
-        assert_eq!(rt; specific(&leaf), expected, "{n}");
-    }
-    Ok(())
+    (
+        33,
+        [0x0102, 0x40, 5, 0x0a0b0c, 0x01020304, 0x05060708, 0, 0, 0],
+    ),
+    (
+        34,
+        [0x0102, 0x40, 5, 0x0a0b0c, 0x01020304, 0x05060708, 0, 0, 0],
+    ),
+    (
+        35,
+        [0x0102, 0x40, 5, 0x0a0b0c, 0x01020304, 0x05060708, 2, 2, 0],
+    ),
+    (
+        36,
+        [0x0102, 0x40, 5, 0x0a0b0c, 0x01020304, 0x05060708, 2, 3, 2],
+    ),
+    (
+        39,
+        [0x0102, 0x40, 5, 0x0a0b0c, 0x01020304, 0x05060708, 2, 3, 2],
+    ),
+];
+
+/// Whether the first n bytes of the whole box have these numbers.
+fn has_numbers_if_cut(alloc: Global, n: usize, expected: &[u32; 9]) -> Result<bool> {
+    let bytes = hex(alloc, WHOLE)?;
+    has_numbers(alloc, cut(&bytes, n), expected)
 }
 
 #[test]
-fn of_a_tag_the_first_descriptor_counts(rt: HostRuntime) -> Result<()> {
-    let two: EsdsBox = read(
-        rt.alloc(),
+fn descriptors_that_are_cut_read_as_zeros(rt: HostRuntime) {
+    for (n, expected) in CUT {
+        check(&rt, n, has_numbers_if_cut(rt.alloc(), n, &expected));
+    }
+}
+
+const FIRST_COUNTS: [(&str, [u32; 9]); 4] = [
+    (
         "00000014 65736473 00 000000 03 02 0001 03 02 0002",
-    )?;
-    assert_eq!(rt; two.es_desc.es_id, 1);
-    let behind_another: EsdsBox = read(
-        rt.alloc(),
+        [1, 0, 0, 0, 0, 0, 0, 0, 0],
+    ),
+    (
         "00000014 65736473 00 000000 11 01 ff 03 03 0007 00",
-    )?;
-    assert_eq!(rt; behind_another.es_desc.es_id, 7);
+        [7, 0, 0, 0, 0, 0, 0, 0, 0],
+    ),
     // Two decoders; the second has a configuration, the first has none.
-    let decoders: EsdsBox = read(
-        rt.alloc(),
+    (
         "00000027 65736473 00 000000 03 19 0001 00 04 01 40 04 11 41 15 000000 00000000 00000000 05 02 1190",
-    )?;
-    assert_eq!(rt; decoders.es_desc.dec_config.object_type_indication, 0x40);
-    assert_eq!(rt; specific(&decoders), (0, 0, 0));
+        [1, 0x40, 0, 0, 0, 0, 0, 0, 0],
+    ),
     // Two configurations in a decoder.
-    let specifics: EsdsBox = read(
-        rt.alloc(),
+    (
         "00000028 65736473 00 000000 03 1a 0001 00 04 15 40 15 000000 00000000 00000000 05 02 1190 05 02 0a10",
-    )?;
-    assert_eq!(rt; specific(&specifics), (2, 3, 2));
-    Ok(())
-}
+        [1, 0x40, 5, 0, 0, 0, 2, 3, 2],
+    ),
+];
 
 #[test]
-fn a_body_that_passes_the_end_of_its_parent_is_cut_there(rt: HostRuntime) -> Result<()> {
+fn of_a_tag_the_first_descriptor_counts(rt: HostRuntime) {
+    for (text, expected) in FIRST_COUNTS {
+        check(&rt, text, is_read_as(rt.alloc(), text, &expected));
+    }
+}
+
+const PAST_THE_PARENT: [(&str, [u32; 9]); 3] = [
     // The decoder stands behind the stream's three bytes, not in them.
-    let beside: EsdsBox = read(
-        rt.alloc(),
+    (
         "00000014 65736473 00 000000 03 03 0001 00 04 01 40",
-    )?;
-    assert_eq!(rt; beside.es_desc.es_id, 1);
-    assert_eq!(rt; beside.es_desc.dec_config.object_type_indication, 0);
+        [1, 0, 0, 0, 0, 0, 0, 0, 0],
+    ),
     // The configuration has one byte within the decoder.
-    let within: EsdsBox = read(
-        rt.alloc(),
+    (
         "00000024 65736473 00 000000 03 16 0001 00 04 10 40 15 000000 00000000 00000000 05 02 1190",
-    )?;
-    assert_eq!(rt; specific(&within), (2, 2, 0));
+        [1, 0x40, 5, 0, 0, 0, 2, 2, 0],
+    ),
     // Lengths far past the end.
-    let far: EsdsBox = read(
-        rt.alloc(),
+    (
         "00000027 65736473 00 000000 03 7f 0001 00 04 ffffff7f 40 15 000000 00000000 00000000 05 01 1190",
-    )?;
-    assert_eq!(rt; far.es_desc.dec_config.object_type_indication, 0x40);
-    assert_eq!(rt; specific(&far), (2, 2, 0));
-    Ok(())
-}
+        [1, 0x40, 5, 0, 0, 0, 2, 2, 0],
+    ),
+];
 
 #[test]
-fn fields_that_a_streams_flags_ask_for_are_skipped(rt: HostRuntime) -> Result<()> {
-    let rows = [
+fn a_body_that_passes_the_end_of_its_parent_is_cut_there(rt: HostRuntime) {
+    for (text, expected) in PAST_THE_PARENT {
+        check(&rt, text, is_read_as(rt.alloc(), text, &expected));
+    }
+}
+
+const SKIPPED: [(&str, [u32; 9]); 8] = [
+    (
         "00000014 65736473 00 000000 03 06 0001 00 04 01 40",
+        [1, 0x40, 0, 0, 0, 0, 0, 0, 0],
+    ),
+    (
         "00000016 65736473 00 000000 03 08 0001 80 aaaa 04 01 40",
+        [1, 0x40, 0, 0, 0, 0, 0, 0, 0],
+    ),
+    (
         "00000018 65736473 00 000000 03 0a 0001 40 03 040141 04 01 40",
+        [1, 0x40, 0, 0, 0, 0, 0, 0, 0],
+    ),
+    (
         "00000015 65736473 00 000000 03 07 0001 40 00 04 01 40",
+        [1, 0x40, 0, 0, 0, 0, 0, 0, 0],
+    ),
+    (
         "00000016 65736473 00 000000 03 08 0001 20 0404 04 01 40",
+        [1, 0x40, 0, 0, 0, 0, 0, 0, 0],
+    ),
+    (
         "0000001c 65736473 00 000000 03 0e 0001 e0 aaaa 03 040141 0404 04 01 40",
-        // The other bits are a priority.
+        [1, 0x40, 0, 0, 0, 0, 0, 0, 0],
+    ),
+    // The other bits are a priority.
+    (
         "00000014 65736473 00 000000 03 06 0001 1f 04 01 40",
-    ];
-    for text in rows {
-        let leaf: EsdsBox = read(rt.alloc(), text)?;
-        assert_eq!(rt;
-            leaf.es_desc.dec_config.object_type_indication,
-            0x40,
-            "{text}"
-        );
-    }
+        [1, 0x40, 0, 0, 0, 0, 0, 0, 0],
+    ),
     // A URL that passes the end.
-    let cut: EsdsBox = read(
-        rt.alloc(),
+    (
         "00000014 65736473 00 000000 03 06 0001 40 ff 04 01",
-    )?;
-    assert_eq!(rt; cut.es_desc.dec_config.object_type_indication, 0);
-    Ok(())
-}
+        [1, 0, 0, 0, 0, 0, 0, 0, 0],
+    ),
+];
 
 #[test]
-fn an_extended_object_type_is_read_and_not_written(rt: HostRuntime) -> Result<()> {
-    let rows = [
-        // 31 and six bits: 35, 3, 2.
-        ("05 03 f86640", (35, 3, 2)),
-        // A frequency of 24 bits, 48,000.
-        ("05 05 1780 5dc010", (2, 15, 2)),
-        // Both.
-        ("05 06 f87e01770040", (35, 15, 2)),
-        // The greatest of all: 95.
-        ("05 03 ffe820", (95, 4, 1)),
-    ];
-    for (text, expected) in rows {
-        let mut bytes = hex(
-            rt.alloc(),
-            "00000000 65736473 00 000000 03 1a 0001 00 04 15 40 15 000000 00000000 00000000",
-        )?;
-        bytes.extend_from_slice(&hex(rt.alloc(), text)?)?;
-        let leaf: EsdsBox = read_bytes(rt.alloc(), &bytes)?;
-        assert_eq!(rt; specific(&leaf), expected, "{text}");
-        assert!(rt; is_unrepresentable(rt.alloc(), &leaf)?, "{text}");
-        assert_eq!(rt; leaf.get_size(), 39, "{text}");
+fn fields_that_a_streams_flags_ask_for_are_skipped(rt: HostRuntime) {
+    for (text, expected) in SKIPPED {
+        check(&rt, text, is_read_as(rt.alloc(), text, &expected));
     }
-    Ok(())
+}
+
+const EXTENDED: [(&str, [u32; 9]); 4] = [
+    // 31 and six bits: 35, 3, 2.
+    (
+        "00000000 65736473 00 000000 03 1a 0001 00 04 15 40 15 000000 00000000 00000000 05 03 f86640",
+        [1, 0x40, 5, 0, 0, 0, 35, 3, 2],
+    ),
+    // A frequency of 24 bits, 48,000.
+    (
+        "00000000 65736473 00 000000 03 1a 0001 00 04 15 40 15 000000 00000000 00000000 05 05 1780 5dc010",
+        [1, 0x40, 5, 0, 0, 0, 2, 15, 2],
+    ),
+    // Both.
+    (
+        "00000000 65736473 00 000000 03 1a 0001 00 04 15 40 15 000000 00000000 00000000 05 06 f87e01770040",
+        [1, 0x40, 5, 0, 0, 0, 35, 15, 2],
+    ),
+    // The greatest of all: 95.
+    (
+        "00000000 65736473 00 000000 03 1a 0001 00 04 15 40 15 000000 00000000 00000000 05 03 ffe820",
+        [1, 0x40, 5, 0, 0, 0, 95, 4, 1],
+    ),
+];
+
+/// Whether an esds that a text spells has no spelling of its own, and its size is that of any.
+fn is_not_spelled(alloc: Global, text: &str) -> Result<bool> {
+    let leaf: EsdsBox = read(alloc, text)?;
+    Ok(leaf.get_size() == 39 && is_unrepresentable(alloc, &leaf)?)
 }
 
 #[test]
-fn a_number_past_its_bits_is_not_written(rt: HostRuntime) -> Result<()> {
+fn an_extended_object_type_is_read_and_not_written(rt: HostRuntime) {
+    for (text, expected) in EXTENDED {
+        check(&rt, text, is_read_as(rt.alloc(), text, &expected));
+        check(&rt, text, is_not_spelled(rt.alloc(), text));
+    }
+}
+
+/// An esds that has a number past its bits, one of six.
+fn past_its_bits(number: u8) -> EsdsBox {
+    let mut leaf = aac();
+    let decoder = &mut leaf.es_desc.dec_config;
+    match number {
+        0 => decoder.dec_specific.profile = 31,
+        1 => decoder.dec_specific.freq_index = 15,
+        2 => decoder.dec_specific.chan_conf = 16,
+        3 => decoder.stream_type = 64,
+        4 => decoder.up_stream = 2,
+        _ => decoder.buffer_size_db = 0x1000000,
+    }
+    leaf
+}
+
+/// Whether an entry is not written, and has its size.
+fn is_not_written(alloc: Global, entry: &Mp4aBox) -> Result<bool> {
+    Ok(entry.get_size() == 75 && is_unrepresentable(alloc, entry)?)
+}
+
+#[test]
+fn a_number_past_its_bits_is_not_written(rt: HostRuntime) {
     for number in 0..6 {
-        let mut leaf = aac();
-        let decoder = &mut leaf.es_desc.dec_config;
-        match number {
-            0 => decoder.dec_specific.profile = 31,
-            1 => decoder.dec_specific.freq_index = 15,
-            2 => decoder.dec_specific.chan_conf = 16,
-            3 => decoder.stream_type = 64,
-            4 => decoder.up_stream = 2,
-            _ => decoder.buffer_size_db = 0x1000000,
-        }
-        assert!(rt; is_unrepresentable(rt.alloc(), &leaf)?, "{number}");
+        let leaf = past_its_bits(number);
+        check(&rt, number, is_unrepresentable(rt.alloc(), &leaf));
         let mut entry = Mp4aBox::default();
         entry.esds = Some(leaf);
-        assert!(rt; is_unrepresentable(rt.alloc(), &entry)?, "{number}");
-        assert_eq!(rt; entry.get_size(), 75);
+        check(&rt, number, is_not_written(rt.alloc(), &entry));
     }
-    Ok(())
 }
 
 #[test]
-fn an_audio_entry_has_36_bytes_and_its_esds(rt: HostRuntime) -> Result<()> {
+fn an_audio_entry_has_36_bytes_and_its_esds(rt: HostRuntime) {
     let default = Mp4aBox::default();
-    assert_eq!(rt; default.get_type(), BoxType::Mp4aBox);
-    assert_eq!(rt; default.get_size(), 36);
+    same(&rt, default.get_type(), BoxType::Mp4aBox);
+    same(&rt, default.get_size(), 36);
     let text = "00000024 6d703461 000000000000 0000 0000 000000000000 0000 0000 00000000 00000000";
-    assert!(rt; is_spelled(rt.alloc(), &default, text)?);
-    assert!(rt; needs::<Mp4aBox>(rt.alloc(), text, 36)?);
+    check(&rt, 1, is_spelled(rt.alloc(), &default, text));
+    check(&rt, 2, needs::<Mp4aBox>(rt.alloc(), text, 36));
     let entry = Mp4aBox {
         data_reference_index: 1,
         channelcount: 2,
@@ -322,15 +401,16 @@ fn an_audio_entry_has_36_bytes_and_its_esds(rt: HostRuntime) -> Result<()> {
         samplerate: FixedPointU16::new(48_000),
         esds: Some(aac()),
     };
-    assert_eq!(rt; entry.get_size(), 75);
-    assert!(rt;
+    same(&rt, entry.get_size(), 75);
+    check(
+        &rt,
+        3,
         is_spelled(
             rt.alloc(),
             &entry,
-            "0000004b 6d703461 000000000000 0001 0000 000000000000 0002 0010 00000000 bb800000 00000027 65736473 00 000000 03 19 0001 00 04 11 40 15 000000 0001f400 0001f400 05 02 1190 06 01 02"
-        )?
+            "0000004b 6d703461 000000000000 0001 0000 000000000000 0002 0010 00000000 bb800000 00000027 65736473 00 000000 03 19 0001 00 04 11 40 15 000000 0001f400 0001f400 05 02 1190 06 01 02",
+        ),
     );
-    Ok(())
 }
 
 const FIELDS_0: &str =
@@ -379,69 +459,77 @@ const EMPTY_WAVE: &str = "00000008 77617665";
 
 const FREE: &str = "00000008 66726565";
 
-/// The id of the stream in the esds of an entry with three children.
-fn read_id(alloc: Global, fields: &str, a: &str, b: &str, c: &str) -> Result<Option<u16>> {
-    let entry = entry(alloc, fields, &[a, b, c])?;
-    Ok(id(&entry))
+/// Whether the stream in the esds of an entry has this id, if any.
+fn has_id(alloc: Global, fields: &str, children: &[&str], expected: Option<u16>) -> Result<bool> {
+    let entry = entry(alloc, fields, children)?;
+    Ok(id(&entry) == expected)
 }
 
+const STREAMS: [(&str, [&str; 3], Option<u16>); 10] = [
+    (FIELDS_0, [FREE, FREE, FREE], None),
+    (FIELDS_0, [ESDS_1, FREE, ESDS_2], Some(2)),
+    (FIELDS_0, [ESDS_1, WAVE_3, FREE], Some(1)),
+    (FIELDS_0, [WAVE_3, ESDS_1, WAVE_4], Some(1)),
+    (FIELDS_0, [FREE, WAVE_3, FREE], Some(3)),
+    (FIELDS_0, [WAVE_3, FREE, WAVE_4], Some(4)),
+    (FIELDS_0, [WAVE_3, WAVE_4, EMPTY_WAVE], None),
+    (FIELDS_1, [FREE, WAVE_4, FREE], Some(4)),
+    (FIELDS_1, [FREE, ESDS_1, WAVE_3], Some(1)),
+    (FIELDS_2, [ESDS_1, WAVE_3, FREE], None),
+];
+
 #[test]
-fn the_esds_stands_among_the_children_or_in_a_wave(rt: HostRuntime) -> Result<()> {
-    let rows = [
-        (FIELDS_0, FREE, FREE, FREE, None),
-        (FIELDS_0, ESDS_1, FREE, ESDS_2, Some(2)),
-        (FIELDS_0, ESDS_1, WAVE_3, FREE, Some(1)),
-        (FIELDS_0, WAVE_3, ESDS_1, WAVE_4, Some(1)),
-        (FIELDS_0, FREE, WAVE_3, FREE, Some(3)),
-        (FIELDS_0, WAVE_3, FREE, WAVE_4, Some(4)),
-        (FIELDS_0, WAVE_3, WAVE_4, EMPTY_WAVE, None),
-        (FIELDS_1, FREE, WAVE_4, FREE, Some(4)),
-        (FIELDS_1, FREE, ESDS_1, WAVE_3, Some(1)),
-        (FIELDS_2, ESDS_1, WAVE_3, FREE, None),
-    ];
-    for (fields, a, b, c, expected) in rows {
-        assert_eq!(rt; read_id(rt.alloc(), fields, a, b, c)?, expected);
+fn the_esds_stands_among_the_children_or_in_a_wave(rt: HostRuntime) {
+    for (row, (fields, children, expected)) in STREAMS.iter().enumerate() {
+        check(&rt, row, has_id(rt.alloc(), fields, children, *expected));
     }
-    Ok(())
+}
+
+/// Whether an entry without children has the fields that all these have.
+fn has_fields(alloc: Global, fields: &str) -> Result<bool> {
+    let entry = entry(alloc, fields, &[FREE])?;
+    let there = Mp4aBox {
+        data_reference_index: 1,
+        channelcount: 2,
+        samplesize: 16,
+        samplerate: FixedPointU16::new(48_000),
+        esds: None,
+    };
+    Ok(entry == there && entry.samplerate.value() == 48_000)
 }
 
 #[test]
-fn the_fields_of_an_audio_entry_are_read(rt: HostRuntime) -> Result<()> {
+fn the_fields_of_an_audio_entry_are_read(rt: HostRuntime) {
     for fields in [FIELDS_0, FIELDS_1, FIELDS_2] {
-        let entry = entry(rt.alloc(), fields, &[FREE])?;
-        assert_eq!(rt; entry.data_reference_index, 1);
-        assert_eq!(rt; (entry.channelcount, entry.samplesize), (2, 16));
-        assert_eq!(rt; entry.samplerate.value(), 48_000);
+        check(&rt, fields, has_fields(rt.alloc(), fields));
     }
-    Ok(())
+}
+
+/// Whether an entry of sound version 1 is written as one of version 0.
+fn is_written_in_version_0(alloc: Global) -> Result<bool> {
+    let entry = entry(alloc, FIELDS_1, &[ESDS_1])?;
+    writes(
+        alloc,
+        &entry,
+        "0000004b 6d703461 000000000000 0001 0000 000000000000 0002 0010 00000000 bb800000 00000027 65736473 00 000000 03 19 0001 00 04 11 00 01 000000 00000000 00000000 05 02 0000 06 01 02",
+    )
 }
 
 #[test]
-fn sound_version_1_has_16_bytes_more(rt: HostRuntime) -> Result<()> {
-    assert!(rt; needs::<Mp4aBox>(rt.alloc(), FIELDS_1, 52)?);
-    let read = entry(rt.alloc(), FIELDS_1, &[ESDS_1])?;
-    // It is written in version 0.
-    assert!(rt;
-        writes(
-            rt.alloc(),
-            &read,
-            "0000004b 6d703461 000000000000 0001 0000 000000000000 0002 0010 00000000 bb800000 00000027 65736473 00 000000 03 19 0001 00 04 11 00 01 000000 00000000 00000000 05 02 0000 06 01 02"
-        )?
-    );
-    Ok(())
+fn sound_version_1_has_16_bytes_more(rt: HostRuntime) {
+    check(&rt, 1, needs::<Mp4aBox>(rt.alloc(), FIELDS_1, 52));
+    check(&rt, 2, is_written_in_version_0(rt.alloc()));
 }
 
 #[test]
-fn children_of_another_sound_version_are_not_looked_at(rt: HostRuntime) -> Result<()> {
+fn children_of_another_sound_version_are_not_looked_at(rt: HostRuntime) {
     for child in [SHORT_ESDS, "00000009 66726565", "00000000 00000000"] {
-        let entry = entry(rt.alloc(), FIELDS_2, &[child])?;
-        assert_eq!(rt; id(&entry), None, "{child}");
+        check(&rt, child, has_id(rt.alloc(), FIELDS_2, &[child], None));
     }
-    Ok(())
 }
 
 #[test]
-fn a_refused_child_of_an_audio_entry_refuses_it(rt: HostRuntime) -> Result<()> {
+fn a_refused_child_of_an_audio_entry_refuses_it(rt: HostRuntime) {
     for fields in [FIELDS_0, FIELDS_1] {
         for children in [
             [SHORT_ESDS, ESDS_1],
@@ -450,47 +538,63 @@ fn a_refused_child_of_an_audio_entry_refuses_it(rt: HostRuntime) -> Result<()> {
             [WAVE_3, "00000007 66726565"],
             [WAVE_3, "00000000 66726565"],
         ] {
-            assert!(rt; is_refused(rt.alloc(), fields, &children));
+            holds(&rt, 1, is_refused(rt.alloc(), fields, &children));
         }
     }
-    assert!(rt;
+    holds(
+        &rt,
+        2,
         is_unreadable::<Mp4aBox>(
             rt.alloc(),
-            "0000002c 6d703461 000000000000 0001 0000 000000000000 0002 0010 00000000 bb800000 00000009 66726565"
-        )
+            "0000002c 6d703461 000000000000 0001 0000 000000000000 0002 0010 00000000 bb800000 00000009 66726565",
+        ),
     );
-    Ok(())
+}
+
+const SHORT_FIRST: &str =
+    "00000024 77617665 0000000b 65736473 00 0000 00000011 65736473 00 000000 03 03 0006 00";
+
+const SHORT_LAST: &str =
+    "00000024 77617665 00000011 65736473 00 000000 03 03 0006 00 0000000b 65736473 00 0000";
+
+#[test]
+fn in_a_wave_the_last_esds_alone_is_read(rt: HostRuntime) {
+    check(
+        &rt,
+        1,
+        has_id(rt.alloc(), FIELDS_0, &[SHORT_FIRST], Some(6)),
+    );
+    holds(&rt, 2, is_refused(rt.alloc(), FIELDS_0, &[SHORT_LAST]));
+    // In an earlier wave nothing is read, and no wave is looked at beside an esds.
+    check(
+        &rt,
+        3,
+        has_id(rt.alloc(), FIELDS_0, &[SHORT_LAST, WAVE_3], Some(3)),
+    );
+    check(
+        &rt,
+        4,
+        has_id(rt.alloc(), FIELDS_0, &[SHORT_LAST, ESDS_1], Some(1)),
+    );
+    // A tail of less than 8 bytes is skipped.
+    let closed = "0000001d 77617665 00000011 65736473 00 000000 03 03 0003 00 00000000";
+    check(&rt, 5, has_id(rt.alloc(), FIELDS_0, &[closed], Some(3)));
 }
 
 #[test]
-fn in_a_wave_the_last_esds_alone_is_read(rt: HostRuntime) -> Result<()> {
-    // The first of two is too short, then the last.
-    let first =
-        "00000024 77617665 0000000b 65736473 00 0000 00000011 65736473 00 000000 03 03 0006 00";
-    let last =
-        "00000024 77617665 00000011 65736473 00 000000 03 03 0006 00 0000000b 65736473 00 0000";
-    assert_eq!(rt; id(&entry(rt.alloc(), FIELDS_0, &[first])?), Some(6));
-    assert!(rt; is_refused(rt.alloc(), FIELDS_0, &[last]));
-    // In an earlier wave nothing is read, and no wave is looked at beside an esds.
-    assert_eq!(rt; id(&entry(rt.alloc(), FIELDS_0, &[last, WAVE_3])?), Some(3));
-    assert_eq!(rt; id(&entry(rt.alloc(), FIELDS_0, &[last, ESDS_1])?), Some(1));
-    // Children that don't frame.
+fn in_a_wave_whose_children_do_not_frame_nothing_is_read(rt: HostRuntime) {
     for wave in [
         "00000019 77617665 00000012 65736473 00 000000 03 03 0003 00",
         "00000021 77617665 00000011 65736473 00 000000 03 03 0003 00 00000009 66726565",
         "00000021 77617665 00000011 65736473 00 000000 03 03 0003 00 00000000 66726565",
     ] {
-        assert_eq!(rt; id(&entry(rt.alloc(), FIELDS_0, &[wave])?), None, "{wave}");
-        assert_eq!(rt;
-            id(&entry(rt.alloc(), FIELDS_0, &[WAVE_3, wave])?),
-            None,
-            "{wave}"
+        check(&rt, wave, has_id(rt.alloc(), FIELDS_0, &[wave], None));
+        check(
+            &rt,
+            wave,
+            has_id(rt.alloc(), FIELDS_0, &[WAVE_3, wave], None),
         );
     }
-    // A tail of less than 8 bytes is skipped.
-    let closed = "0000001d 77617665 00000011 65736473 00 000000 03 03 0003 00 00000000";
-    assert_eq!(rt; id(&entry(rt.alloc(), FIELDS_0, &[closed])?), Some(3));
-    Ok(())
 }
 
 /// The entry of a copy of a configuration.
@@ -510,45 +614,50 @@ fn entry_of(
     Ok(Mp4aBox::new(&copy))
 }
 
-#[test]
-fn an_aac_configuration_gives_an_entry_of_75_bytes(rt: HostRuntime) -> Result<()> {
+const STEREO: &str =
+    "0000004b 6d703461 000000000000 0001 0000 000000000000 0002 0010 00000000 bb800000 00000027 65736473 00 000000 03 19 0001 00 04 11 40 15 000000 0001f400 0001f400 05 02 1190 06 01 02";
+
+const EIGHT_CHANNELS: &str =
+    "0000004b 6d703461 000000000000 0001 0000 000000000000 0007 0010 00000000 00000000 00000027 65736473 00 000000 03 19 0001 00 04 11 40 15 000000 ffffffff ffffffff 05 02 f038 06 01 02";
+
+/// Whether the entry of stereo sound has its spelling.
+fn is_stereo(alloc: Global) -> Result<bool> {
     let entry = entry_of(
         128_000,
         2,
         SampleFreqIndex::Freq48000,
         ChannelConfig::Stereo,
     )?;
-    assert!(rt;
-        is_spelled(
-            rt.alloc(),
-            &entry,
-            "0000004b 6d703461 000000000000 0001 0000 000000000000 0002 0010 00000000 bb800000 00000027 65736473 00 000000 03 19 0001 00 04 11 40 15 000000 0001f400 0001f400 05 02 1190 06 01 02"
-        )?
-    );
-    // A frequency that has no place in samplerate, seven for the number of eight channels, and the greatest object type
-    // that is written: 11110 0000 0111 000.
+    is_spelled(alloc, &entry, STEREO)
+}
+
+/// Whether an entry has its spelling whose frequency has no place in samplerate, with seven for the number of eight
+/// channels, and the greatest object type that is written: 11110 0000 0111 000.
+fn is_of_eight_channels(alloc: Global) -> Result<bool> {
     let entry = entry_of(
         u32::MAX,
         30,
         SampleFreqIndex::Freq96000,
         ChannelConfig::SevenOne,
     )?;
-    assert!(rt;
-        is_spelled(
-            rt.alloc(),
-            &entry,
-            "0000004b 6d703461 000000000000 0001 0000 000000000000 0007 0010 00000000 00000000 00000027 65736473 00 000000 03 19 0001 00 04 11 40 15 000000 ffffffff ffffffff 05 02 f038 06 01 02"
-        )?
-    );
-    Ok(())
+    is_spelled(alloc, &entry, EIGHT_CHANNELS)
 }
 
 #[test]
-fn the_entry_of_a_profile_over_30_is_not_written(rt: HostRuntime) -> Result<()> {
+fn an_aac_configuration_gives_an_entry_of_75_bytes(rt: HostRuntime) {
+    check(&rt, 1, is_stereo(rt.alloc()));
+    check(&rt, 2, is_of_eight_channels(rt.alloc()));
+}
+
+/// Whether the entry of sound of this profile is not written.
+fn has_no_spelling(alloc: Global, profile: u8) -> Result<bool> {
+    let entry = entry_of(0, profile, SampleFreqIndex::Freq7350, ChannelConfig::Mono)?;
+    is_not_written(alloc, &entry)
+}
+
+#[test]
+fn the_entry_of_a_profile_over_30_is_not_written(rt: HostRuntime) {
     for profile in [32u8, 95] {
-        let entry = entry_of(0, profile, SampleFreqIndex::Freq7350, ChannelConfig::Mono)?;
-        assert_eq!(rt; entry.get_size(), 75);
-        assert!(rt; is_unrepresentable(rt.alloc(), &entry)?, "{profile}");
+        check(&rt, profile, has_no_spelling(rt.alloc(), profile));
     }
-    Ok(())
 }

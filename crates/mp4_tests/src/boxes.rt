@@ -1,27 +1,35 @@
 //! Boxes that are read and written, alone and in one another.
 
 use crate::sample_boxes::Number;
+use crate::spelled::{check, holds, same};
 use mp4_codec::{
-    BoxType, ByteCursor, Error, Items, Mp4Box, ReadBox, WriteBox, all_children, all_size,
+    BoxType, ByteCursor, Error, Items, Mp4Box, ReadBox, Result, WriteBox, all_children, all_size,
     last_child, optional_size, put_all, put_optional,
 };
-use std::test::Fail;
+use std::alloc::Global;
 
 const TWO: [u8; 12] = [0, 0, 0, 12, b'f', b'r', b'e', b'e', 0, 0, 0, 2];
 
-#[test]
-fn a_box_is_read_as_it_was_written(rt: HostRuntime) -> Result<(), Fail> {
-    let mut out = vec![in rt.alloc(); 7u8]?;
-    assert_eq!(rt; Number { value: 2 }.write_box(&mut out)?, 12);
-    assert_eq!(rt; out.len(), 13);
-    assert!(rt; &out[1..] == TWO.as_slice());
+/// Whether a number is written behind a buffer of one byte as its twelve bytes.
+fn is_written(alloc: Global) -> Result<bool> {
+    let mut out = vec![in alloc; 7u8]?;
+    let count = Number { value: 2 }.write_box(&mut out)?;
+    Ok(count == 12 && out.len() == 13 && out.get(1..) == Some(TWO.as_slice()))
+}
+
+/// Whether a number is read from these bytes, and the cursor stands behind them.
+fn is_read(alloc: Global) -> Result<bool> {
     let mut cursor = ByteCursor::new(&TWO);
     cursor.set_position(8);
-    let read = Number::read_box(rt.alloc(), &mut cursor, 12)?;
-    assert_eq!(rt; read, Number { value: 2 });
-    assert_eq!(rt; cursor.position(), 12);
-    assert_eq!(rt; read.box_type(), BoxType::FreeBox);
-    Ok(())
+    let read = Number::read_box(alloc, &mut cursor, 12)?;
+    let number = Number { value: 2 };
+    Ok(read == number && read.box_type() == BoxType::FreeBox && cursor.position() == 12)
+}
+
+#[test]
+fn a_box_is_read_as_it_was_written(rt: HostRuntime) {
+    check(&rt, 1, is_written(rt.alloc()));
+    check(&rt, 2, is_read(rt.alloc()));
 }
 
 #[test]
@@ -30,58 +38,93 @@ fn a_box_of_another_size_is_refused(rt: HostRuntime) {
         let mut cursor = ByteCursor::new(&TWO);
         cursor.set_position(8);
         match Number::read_box(rt.alloc(), &mut cursor, size) {
-            Err(Error::EndOfData) => assert!(rt; end, "size {size}"),
-            Err(Error::InvalidData(_)) => assert!(rt; !end, "size {size}"),
-            _ => assert!(rt; false, "size {size}"),
+            Err(Error::EndOfData) => holds(&rt, size, end),
+            Err(Error::InvalidData(_)) => holds(&rt, size, !end),
+            _ => holds(&rt, size, false),
         }
     }
 }
 
-#[test]
-fn children_are_taken_as_they_were_put(rt: HostRuntime) -> Result<(), Fail> {
-    let alloc = rt.alloc();
+/// The numbers 3, 1 and 2.
+fn three(alloc: Global) -> Result<Items<Number>> {
     let mut list = Items::new(alloc);
     for value in [3, 1, 2] {
         list.push(Number { value })?;
     }
-    let last = Some(Number { value: 4 });
+    Ok(list)
+}
+
+/// The bytes of 3, 1, 2 and 4.
+fn four(alloc: Global) -> Result<Vec<u8>> {
+    let list = three(alloc)?;
     let none: Option<Number> = None;
-    assert_eq!(rt; all_size(&list), 36);
-    assert_eq!(rt; optional_size(&last), 12);
-    assert_eq!(rt; optional_size(&none), 0);
     let mut out = Vec::new(alloc);
     put_all(&mut out, &list)?;
-    put_optional(&mut out, &last)?;
+    put_optional(&mut out, &Some(Number { value: 4 }))?;
     put_optional(&mut out, &none)?;
-    assert_eq!(rt; out.len(), 48);
-    assert!(rt; &out[24..36] == TWO.as_slice());
+    Ok(out)
+}
+
+/// Whether a list of three has its size.
+fn has_size(alloc: Global) -> Result<bool> {
+    let list = three(alloc)?;
+    Ok(all_size(&list) == 36)
+}
+
+/// Whether the third of four is written as its bytes.
+fn third_is_two(alloc: Global) -> Result<bool> {
+    let out = four(alloc)?;
+    Ok(out.len() == 48 && out.get(24..36) == Some(TWO.as_slice()))
+}
+
+/// Whether the last of four is found.
+fn last_is_four(alloc: Global) -> Result<bool> {
+    let out = four(alloc)?;
     let found: Option<Number> = last_child(alloc, &out)?;
-    assert_eq!(rt; found, last);
+    Ok(found == Some(Number { value: 4 }))
+}
+
+/// Whether all of four are found.
+fn all_are_found(alloc: Global) -> Result<bool> {
+    let out = four(alloc)?;
     let all: Items<Number> = all_children(alloc, &out)?;
-    assert_eq!(rt; all.len(), 4);
-    assert_eq!(rt; all.get(2).map(|number| number.value), Some(2));
-    Ok(())
+    let third = all.get(2).map(|number| number.value);
+    Ok(all.len() == 4 && third == Some(2))
 }
 
 #[test]
-fn the_first_refused_child_is_the_answer(rt: HostRuntime) -> Result<(), Fail> {
-    // A wide that is skipped, a free without its number, a free with it, and a broken tail.
-    let payload = [
-        0, 0, 0, 8, b'w', b'i', b'd', b'e', 0, 0, 0, 8, b'f', b'r', b'e', b'e', 0, 0, 0, 12, b'f',
-        b'r', b'e', b'e', 0, 0, 0, 2, 0, 0, 0, 0, 0, 0, 0, 0,
-    ];
+fn children_are_taken_as_they_were_put(rt: HostRuntime) {
+    let none: Option<Number> = None;
+    same(&rt, optional_size(&Some(Number { value: 4 })), 12);
+    same(&rt, optional_size(&none), 0);
+    check(&rt, 1, has_size(rt.alloc()));
+    check(&rt, 2, third_is_two(rt.alloc()));
+    check(&rt, 3, last_is_four(rt.alloc()));
+    check(&rt, 4, all_are_found(rt.alloc()));
+}
+
+/// A wide that is skipped, a free without its number, a free with it, and a broken tail.
+const PAYLOAD: [u8; 36] = *b"\0\0\0\x08wide\0\0\0\x08free\0\0\0\x0cfree\0\0\0\x02\0\0\0\0\0\0\0\0";
+
+/// The number in the last child, if there is one.
+fn last_number(alloc: Global, payload: &[u8]) -> Result<Option<u32>> {
+    match last_child::<Number>(alloc, payload)? {
+        None => Ok(None),
+        Some(number) => Ok(Some(number.value)),
+    }
+}
+
+#[test]
+fn the_first_refused_child_is_the_answer(rt: HostRuntime) {
     let alloc = rt.alloc();
-    assert!(rt; last_child::<Number>(alloc, &payload[..8])?.is_none());
-    assert!(rt; last_child::<Number>(alloc, &payload[..28]).is_err());
-    assert_eq!(rt;
-        last_child::<Number>(alloc, &payload[16..28])?,
-        Some(Number { value: 2 })
+    same(&rt, last_number(alloc, &PAYLOAD[..8]), Ok(None));
+    holds(&rt, 1, last_number(alloc, &PAYLOAD[..28]).is_err());
+    same(&rt, last_number(alloc, &PAYLOAD[16..28]), Ok(Some(2)));
+    same(&rt, last_number(alloc, &PAYLOAD[16..35]), Ok(Some(2)));
+    holds(&rt, 2, last_number(alloc, &PAYLOAD[16..]).is_err());
+    holds(
+        &rt,
+        3,
+        all_children::<Number>(alloc, &PAYLOAD[8..28]).is_err(),
     );
-    assert_eq!(rt;
-        last_child::<Number>(alloc, &payload[16..35])?,
-        Some(Number { value: 2 })
-    );
-    assert!(rt; last_child::<Number>(alloc, &payload[16..]).is_err());
-    assert!(rt; all_children::<Number>(alloc, &payload[8..28]).is_err());
-    Ok(())
 }

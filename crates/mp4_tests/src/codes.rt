@@ -1,23 +1,22 @@
 //! Codes of four bytes, and the types of boxes.
 
+use crate::spelled::{check, holds, prints, same};
 use mp4_codec::{BoxType, FourCC};
-use std::test::Fail;
+
+const PRINTED: [(BoxType, &str); 5] = [
+    (BoxType::NameBox, ".nam"),
+    (BoxType::DayBox, ".day"),
+    (BoxType::UrlBox, "url "),
+    (BoxType::AvcCBox, "avcC"),
+    (BoxType::UnknownBox(0x201f7e7f), " .~."),
+];
 
 #[test]
-fn a_code_prints_a_full_stop_outside_ascii(rt: HostRuntime) -> Result<(), Fail> {
-    let rows = [
-        (BoxType::NameBox, ".nam"),
-        (BoxType::DayBox, ".day"),
-        (BoxType::UrlBox, "url "),
-        (BoxType::AvcCBox, "avcC"),
-        (BoxType::UnknownBox(0x201f7e7f), " .~."),
-    ];
-    for (name, text) in rows {
-        assert_eq!(rt; format!(in rt.alloc(); "{name}")?.as_str(), text);
-        let code = FourCC::from(name);
-        assert_eq!(rt; format!(in rt.alloc(); "{code}")?.as_str(), text);
+fn a_code_prints_a_full_stop_outside_ascii(rt: HostRuntime) {
+    for (name, text) in PRINTED {
+        check(&rt, text, prints(rt.alloc(), &name, text));
+        check(&rt, text, prints(rt.alloc(), &FourCC::from(name), text));
     }
-    Ok(())
 }
 
 #[test]
@@ -44,8 +43,8 @@ fn a_type_has_its_code(rt: HostRuntime) {
         (BoxType::UnknownBox(0x01020304), 0x01020304),
     ];
     for (name, code) in rows {
-        assert_eq!(rt; u32::from(name), code);
-        assert_eq!(rt; BoxType::from(code), name);
+        same(&rt, u32::from(name), code);
+        same(&rt, BoxType::from(code), name);
     }
 }
 
@@ -54,14 +53,14 @@ fn a_code_is_made_of_four_bytes(rt: HostRuntime) {
     let isom = FourCC {
         value: [b'i', b's', b'o', b'm'],
     };
-    assert_eq!(rt; FourCC::from([b'i', b's', b'o', b'm']), isom);
-    assert_eq!(rt; FourCC::from(0x69736f6d), isom);
-    assert_eq!(rt; u32::from(isom), 0x69736f6d);
-    assert_eq!(rt; "isom".parse::<FourCC>(), Ok(isom));
-    assert_eq!(rt; u32::from(FourCC::default()), 0);
+    same(&rt, FourCC::from([b'i', b's', b'o', b'm']), isom);
+    same(&rt, FourCC::from(0x69736f6d), isom);
+    same(&rt, u32::from(isom), 0x69736f6d);
+    same(&rt, "isom".parse::<FourCC>(), Ok(isom));
+    same(&rt, u32::from(FourCC::default()), 0);
     // Bytes are counted, not characters: this text has three of the latter.
-    assert!(rt; "\u{e9}am".parse::<FourCC>().is_ok());
+    holds(&rt, 1, "\u{e9}am".parse::<FourCC>().is_ok());
     for text in ["", "iso", "isomm", "\u{e9}isom"] {
-        assert!(rt; text.parse::<FourCC>().is_err(), "{text}");
+        holds(&rt, text, text.parse::<FourCC>().is_err());
     }
 }

@@ -1,6 +1,6 @@
 //! The sample descriptions that configurations make.
 
-use crate::spelled::is_spelled;
+use crate::spelled::{check, is_spelled};
 use mp4_codec::{Items, Result};
 use mp4_entry::{
     AacConfig, AudioObjectType, AvcConfig, ChannelConfig, HevcConfig, MediaConfig, SampleFreqIndex,
@@ -74,22 +74,30 @@ fn makes(alloc: Global, config: &MediaConfig, text: &str, place: usize) -> Resul
     Ok(there == Some(place) && is_spelled(alloc, &description, text)?)
 }
 
-#[test]
-fn a_configuration_of_video_makes_its_entry(rt: HostRuntime) -> Result<()> {
-    let avc = MediaConfig::AvcConfig(avc(rt.alloc())?);
-    assert!(rt; makes(rt.alloc(), &avc, AVC, 0)?);
-    let hevc = MediaConfig::HevcConfig(hevc());
-    assert!(rt; makes(rt.alloc(), &hevc, HEVC, 1)?);
-    let vp9 = MediaConfig::Vp9Config(vp9());
-    assert!(rt; makes(rt.alloc(), &vp9, VP9, 2)?);
-    Ok(())
+/// Whether the configuration of AVC makes its entry.
+fn avc_makes(alloc: Global, text: &str) -> Result<bool> {
+    let config = MediaConfig::AvcConfig(avc(alloc)?);
+    makes(alloc, &config, text, 0)
+}
+
+/// Whether the configuration of AAC makes its entry.
+fn aac_makes(alloc: Global, text: &str) -> Result<bool> {
+    let config = MediaConfig::AacConfig(aac()?);
+    makes(alloc, &config, text, 3)
 }
 
 #[test]
-fn a_configuration_of_sound_or_text_makes_its_entry(rt: HostRuntime) -> Result<()> {
-    let aac = MediaConfig::AacConfig(aac()?);
-    assert!(rt; makes(rt.alloc(), &aac, AAC, 3)?);
+fn a_configuration_of_video_makes_its_entry(rt: HostRuntime) {
+    check(&rt, 1, avc_makes(rt.alloc(), AVC));
+    let hevc = MediaConfig::HevcConfig(hevc());
+    check(&rt, 2, makes(rt.alloc(), &hevc, HEVC, 1));
+    let vp9 = MediaConfig::Vp9Config(vp9());
+    check(&rt, 3, makes(rt.alloc(), &vp9, VP9, 2));
+}
+
+#[test]
+fn a_configuration_of_sound_or_text_makes_its_entry(rt: HostRuntime) {
+    check(&rt, 1, aac_makes(rt.alloc(), AAC));
     let text = MediaConfig::TtxtConfig(TtxtConfig {});
-    assert!(rt; makes(rt.alloc(), &text, TEXT, 4)?);
-    Ok(())
+    check(&rt, 2, makes(rt.alloc(), &text, TEXT, 4));
 }

@@ -1,22 +1,34 @@
 //! Metadata values.
 
-use crate::spelled::{is_spelled, needs, read, writes};
+use crate::spelled::{check, is_spelled, is_whole, reads, writes};
 use mp4_codec::{BoxType, Items, Result};
 use mp4_leaf::{DataBox, DataType};
+use std::alloc::Global;
 
-#[test]
-fn the_default_has_16_bytes(rt: HostRuntime) -> Result<()> {
-    let text = "00000010 64617461 00000000 00000000";
-    let default = DataBox::default(rt.alloc())?;
-    assert_eq!(rt; default.get_type(), BoxType::DataBox);
-    assert_eq!(rt; default.get_size(), 16);
-    assert!(rt; is_spelled(rt.alloc(), &default, text)?);
-    assert!(rt; needs::<DataBox>(rt.alloc(), text, 16)?);
-    Ok(())
+/// Whether the default is known by its type and spelled by a text.
+fn default_is(alloc: Global, text: &str) -> Result<bool> {
+    let default = DataBox::default(alloc)?;
+    let known = default.get_type() == BoxType::DataBox && default.get_size() == 16;
+    Ok(known && is_whole(alloc, &default, text, 16)?)
 }
 
 #[test]
-fn each_type_of_data_has_its_number(rt: HostRuntime) -> Result<()> {
+fn the_default_has_16_bytes(rt: HostRuntime) {
+    let text = "00000010 64617461 00000000 00000000";
+    check(&rt, 1, default_is(rt.alloc(), text));
+}
+
+/// Whether three bytes of this type are spelled so.
+fn is_data(alloc: Global, data_type: DataType, text: &str) -> Result<bool> {
+    let leaf = DataBox {
+        data_type,
+        bytes: Items::from(vec![in alloc; 1, 2, 3]?),
+    };
+    is_spelled(alloc, &leaf, text)
+}
+
+#[test]
+fn each_type_of_data_has_its_number(rt: HostRuntime) {
     let rows = [
         (
             DataType::Binary,
@@ -41,24 +53,27 @@ fn each_type_of_data_has_its_number(rt: HostRuntime) -> Result<()> {
         ),
     ];
     for (data_type, text) in rows {
-        let leaf = DataBox {
-            data_type,
-            bytes: Items::from(vec![in rt.alloc(); 1, 2, 3]?),
-        };
-        assert!(rt; is_spelled(rt.alloc(), &leaf, text)?, "{text}");
+        check(&rt, text, is_data(rt.alloc(), data_type, text));
     }
-    Ok(())
+}
+
+/// Whether data of the type with the number 1 is written so.
+fn is_written(alloc: Global, text: &str) -> Result<bool> {
+    let mut leaf = DataBox::default(alloc)?;
+    leaf.data_type = DataType::Other(1);
+    writes(alloc, &leaf, text)
+}
+
+/// Whether data of this type and no bytes is read from a text.
+fn is_read(alloc: Global, data_type: DataType, text: &str) -> Result<bool> {
+    let mut leaf = DataBox::default(alloc)?;
+    leaf.data_type = data_type;
+    reads(alloc, text, &leaf)
 }
 
 #[test]
-fn another_name_for_a_known_number_is_read_as_that(rt: HostRuntime) -> Result<()> {
+fn another_name_for_a_known_number_is_read_as_that(rt: HostRuntime) {
     let text = "00000010 64617461 00000001 00000000";
-    let mut leaf = DataBox::default(rt.alloc())?;
-    leaf.data_type = DataType::Other(1);
-    assert!(rt; writes(rt.alloc(), &leaf, text)?);
-    assert_eq!(rt;
-        read::<DataBox>(rt.alloc(), text)?.data_type,
-        DataType::Text
-    );
-    Ok(())
+    check(&rt, 1, is_written(rt.alloc(), text));
+    check(&rt, 2, is_read(rt.alloc(), DataType::Text, text));
 }

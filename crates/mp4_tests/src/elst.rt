@@ -1,6 +1,6 @@
 //! Edit lists.
 
-use crate::spelled::{is_invalid, is_past_its_field, is_spelled, is_unreadable, needs};
+use crate::spelled::{check, holds, is_invalid, is_past_its_field, is_unreadable, is_whole};
 use mp4_codec::{BoxType, Items, Result};
 use mp4_leaf::{ElstBox, ElstEntry};
 use std::alloc::Global;
@@ -30,30 +30,43 @@ fn two_edits(alloc: Global, version: u8, duration: u64, time: u64) -> Result<Els
     })
 }
 
-#[test]
-fn the_default_has_no_edits(rt: HostRuntime) -> Result<()> {
-    let text = "00000010 656c7374 00 000000 00000000";
-    let default = ElstBox::default(rt.alloc())?;
-    assert_eq!(rt; default.get_type(), BoxType::ElstBox);
-    assert_eq!(rt; default.get_size(), 16);
-    assert!(rt; is_spelled(rt.alloc(), &default, text)?);
-    assert!(rt; needs::<ElstBox>(rt.alloc(), text, 16)?);
-    Ok(())
+/// Whether the default is known by its type and spelled by a text.
+fn default_is(alloc: Global, text: &str) -> Result<bool> {
+    let default = ElstBox::default(alloc)?;
+    let known = default.get_type() == BoxType::ElstBox && default.get_size() == 16;
+    Ok(known && is_whole(alloc, &default, text, 16)?)
 }
 
 #[test]
-fn an_edit_has_12_bytes_in_version_zero_and_20_in_version_one(rt: HostRuntime) -> Result<()> {
+fn the_default_has_no_edits(rt: HostRuntime) {
+    let text = "00000010 656c7374 00 000000 00000000";
+    check(&rt, 1, default_is(rt.alloc(), text));
+}
+
+/// Whether two edits are spelled so, in so many bytes.
+fn are_edits(
+    alloc: Global,
+    version: u8,
+    duration: u64,
+    time: u64,
+    text: &str,
+    size: u64,
+) -> Result<bool> {
+    let leaf = two_edits(alloc, version, duration, time)?;
+    Ok(leaf.get_size() == size && is_whole(alloc, &leaf, text, size as usize)?)
+}
+
+#[test]
+fn an_edit_has_12_bytes_in_version_zero_and_20_in_version_one(rt: HostRuntime) {
     let short =
         "00000028 656c7374 00 000000 00000002 00000002 00000004 0005 0006 00000007 ffffffff 0001 0000";
-    let leaf = two_edits(rt.alloc(), 0, 2, 4)?;
-    assert_eq!(rt; leaf.get_size(), 40);
-    assert!(rt; is_spelled(rt.alloc(), &leaf, short)?);
-    assert!(rt; needs::<ElstBox>(rt.alloc(), short, 40)?);
-    let leaf = two_edits(rt.alloc(), 1, 0x0000_0001_0000_0002, 0x0000_0003_0000_0004)?;
-    assert_eq!(rt; leaf.get_size(), 56);
-    assert!(rt; is_spelled(rt.alloc(), &leaf, VERSION_ONE)?);
-    assert!(rt; needs::<ElstBox>(rt.alloc(), VERSION_ONE, 56)?);
-    Ok(())
+    check(&rt, 0, are_edits(rt.alloc(), 0, 2, 4, short, 40));
+    let (duration, time) = (0x0000_0001_0000_0002, 0x0000_0003_0000_0004);
+    check(
+        &rt,
+        1,
+        are_edits(rt.alloc(), 1, duration, time, VERSION_ONE, 56),
+    );
 }
 
 #[test]
@@ -67,19 +80,30 @@ fn a_list_past_the_payload_or_of_an_unknown_version_is_invalid(rt: HostRuntime) 
         "00000010 656c7374 ff 000000 00000000",
     ];
     for text in rows {
-        assert!(rt; is_unreadable::<ElstBox>(rt.alloc(), text), "{text}");
+        holds(&rt, text, is_unreadable::<ElstBox>(rt.alloc(), text));
     }
 }
 
-#[test]
-fn a_number_past_32_bits_is_written_in_version_one_alone(rt: HostRuntime) -> Result<()> {
-    for (duration, time) in [(0x1_0000_0000, 0), (0, 0x1_0000_0000)] {
-        let mut leaf = two_edits(rt.alloc(), 0, duration, time)?;
-        assert!(rt; is_past_its_field(rt.alloc(), &leaf)?);
-        assert_eq!(rt; leaf.get_size(), 40);
-        leaf.version = 2;
-        assert!(rt; is_invalid(rt.alloc(), &leaf)?);
-        assert_eq!(rt; leaf.get_size(), 40);
+/// Whether edits are past their field, and invalid where their version is not known.
+fn are_past_their_field(alloc: Global, duration: u64, time: u64) -> Result<bool> {
+    let mut leaf = two_edits(alloc, 0, duration, time)?;
+    if leaf.get_size() != 40 || !is_past_its_field(alloc, &leaf)? {
+        return Ok(false);
     }
-    Ok(())
+    leaf.version = 2;
+    Ok(leaf.get_size() == 40 && is_invalid(alloc, &leaf)?)
+}
+
+#[test]
+fn a_number_past_32_bits_is_written_in_version_one_alone(rt: HostRuntime) {
+    check(
+        &rt,
+        "duration",
+        are_past_their_field(rt.alloc(), 0x1_0000_0000, 0),
+    );
+    check(
+        &rt,
+        "time",
+        are_past_their_field(rt.alloc(), 0, 0x1_0000_0000),
+    );
 }

@@ -1,6 +1,6 @@
 //! Event messages.
 
-use crate::spelled::{is_invalid, is_spelled, is_unreadable, needs, read};
+use crate::spelled::{check, holds, is_invalid, is_spelled, is_unreadable, is_whole, read, same};
 use mp4_codec::{BoxType, Error, Items, Result};
 use mp4_frag::EmsgBox;
 use std::alloc::Global;
@@ -31,46 +31,66 @@ const SHORT: &str = "0000001f 656d7367 00 000000 6100 00 00000001 00000002 00000
 const VERSION_ONE: &str =
     "00000029 656d7367 01 010203 00000001 0000000500000006 00000003 00000004 6100 626300 0d000e0f";
 
-#[test]
-fn the_default_has_neither_of_the_times_and_is_not_written(rt: HostRuntime) -> Result<()> {
-    let default = EmsgBox::default(rt.alloc())?;
-    assert_eq!(rt; default.get_type(), BoxType::EmsgBox);
-    assert_eq!(rt; default.get_size(), 30);
-    assert!(rt; is_invalid(rt.alloc(), &default)?);
-    Ok(())
+/// Whether a message is invalid, and its size counts all that it holds.
+fn is_invalid_of_size(alloc: Global, leaf: &EmsgBox, size: u64) -> Result<bool> {
+    Ok(leaf.get_size() == size && is_invalid(alloc, leaf)?)
+}
+
+/// Whether the default is known by its type, and is not written.
+fn default_is_invalid(alloc: Global) -> Result<bool> {
+    let default = EmsgBox::default(alloc)?;
+    Ok(default.get_type() == BoxType::EmsgBox && is_invalid_of_size(alloc, &default, 30)?)
 }
 
 #[test]
-fn version_zero_begins_with_the_texts(rt: HostRuntime) -> Result<()> {
-    let leaf = short(rt.alloc(), 0, Some(2), None)?;
-    assert_eq!(rt; leaf.get_size(), 31);
-    assert!(rt; is_spelled(rt.alloc(), &leaf, SHORT)?);
-    assert!(rt; needs::<EmsgBox>(rt.alloc(), SHORT, 31)?);
-    Ok(())
+fn the_default_has_neither_of_the_times_and_is_not_written(rt: HostRuntime) {
+    check(&rt, 1, default_is_invalid(rt.alloc()));
+}
+
+/// Whether a short message of version 0 is spelled so.
+fn is_short(alloc: Global, text: &str) -> Result<bool> {
+    let leaf = short(alloc, 0, Some(2), None)?;
+    Ok(leaf.get_size() == 31 && is_whole(alloc, &leaf, text, 31)?)
 }
 
 #[test]
-fn version_one_ends_with_the_texts_and_the_message(rt: HostRuntime) -> Result<()> {
-    let mut leaf = short(rt.alloc(), 1, None, Some(0x0000_0005_0000_0006))?;
+fn version_zero_begins_with_the_texts(rt: HostRuntime) {
+    check(&rt, 1, is_short(rt.alloc(), SHORT));
+}
+
+/// The same with the value `bc` and a body of four bytes.
+fn with_body(alloc: Global, message: EmsgBox) -> Result<EmsgBox> {
+    let mut message = message;
+    message.value = Items::from(b"bc".to_vec(alloc)?);
+    message.message_data = Items::from([0x0d, 0, 0x0e, 0x0f].as_slice().to_vec(alloc)?);
+    Ok(message)
+}
+
+/// Whether a message of version 1 is spelled so.
+fn is_of_version_1(alloc: Global, text: &str) -> Result<bool> {
+    let short = short(alloc, 1, None, Some(0x0000_0005_0000_0006))?;
+    let mut leaf = with_body(alloc, short)?;
     leaf.flags = 0x010203;
-    leaf.value = Items::from(b"bc".to_vec(rt.alloc())?);
-    leaf.message_data = Items::from([0x0d, 0, 0x0e, 0x0f].as_slice().to_vec(rt.alloc())?);
-    assert_eq!(rt; leaf.get_size(), 41);
-    assert!(rt; is_spelled(rt.alloc(), &leaf, VERSION_ONE)?);
-    assert!(rt; needs::<EmsgBox>(rt.alloc(), VERSION_ONE, 37)?);
-    Ok(())
+    Ok(leaf.get_size() == 41 && is_whole(alloc, &leaf, text, 37)?)
+}
+
+/// Whether a message of version 0 with a body is spelled so.
+fn is_of_version_0(alloc: Global, text: &str) -> Result<bool> {
+    let short = short(alloc, 0, Some(2), None)?;
+    let leaf = with_body(alloc, short)?;
+    Ok(leaf.get_size() == 37 && is_spelled(alloc, &leaf, text)?)
 }
 
 #[test]
-fn a_message_of_version_zero_goes_to_the_end(rt: HostRuntime) -> Result<()> {
+fn version_one_ends_with_the_texts_and_the_message(rt: HostRuntime) {
+    check(&rt, 1, is_of_version_1(rt.alloc(), VERSION_ONE));
+}
+
+#[test]
+fn a_message_of_version_zero_goes_to_the_end(rt: HostRuntime) {
     let text =
         "00000025 656d7367 00 000000 6100 626300 00000001 00000002 00000003 00000004 0d000e0f";
-    let mut leaf = short(rt.alloc(), 0, Some(2), None)?;
-    leaf.value = Items::from(b"bc".to_vec(rt.alloc())?);
-    leaf.message_data = Items::from([0x0d, 0, 0x0e, 0x0f].as_slice().to_vec(rt.alloc())?);
-    assert_eq!(rt; leaf.get_size(), 37);
-    assert!(rt; is_spelled(rt.alloc(), &leaf, text)?);
-    Ok(())
+    check(&rt, 1, is_of_version_0(rt.alloc(), text));
 }
 
 #[test]
@@ -82,7 +102,7 @@ fn a_text_without_its_zero_is_invalid(rt: HostRuntime) {
         "00000023 656d7367 01 000000 00000001 0000000500000006 00000003 00000004 610062",
     ];
     for text in rows {
-        assert!(rt; is_unreadable::<EmsgBox>(rt.alloc(), text), "{text}");
+        holds(&rt, text, is_unreadable::<EmsgBox>(rt.alloc(), text));
     }
 }
 
@@ -93,27 +113,63 @@ fn another_version_is_unsupported_where_four_bytes_are_there(rt: HostRuntime) {
         ("00000010 656d7367 ff 000000 00000000", 255),
     ] {
         let refused: Result<EmsgBox> = read(rt.alloc(), text);
-        assert_eq!(rt;
+        same(
+            &rt,
             refused.err(),
-            Some(Error::UnsupportedBoxVersion(BoxType::EmsgBox, version))
+            Some(Error::UnsupportedBoxVersion(BoxType::EmsgBox, version)),
         );
     }
-    assert!(rt; is_unreadable::<EmsgBox>(rt.alloc(), "0000000b 656d7367 02 0000"));
-    assert!(rt; is_unreadable::<EmsgBox>(rt.alloc(), "00000008 656d7367"));
+    holds(
+        &rt,
+        1,
+        is_unreadable::<EmsgBox>(rt.alloc(), "0000000b 656d7367 02 0000"),
+    );
+    holds(
+        &rt,
+        2,
+        is_unreadable::<EmsgBox>(rt.alloc(), "00000008 656d7367"),
+    );
+}
+
+/// Whether a short message of this version and these times is not written.
+fn has_another_time(
+    alloc: Global,
+    version: u8,
+    delta: Option<u32>,
+    time: Option<u64>,
+    size: u64,
+) -> Result<bool> {
+    let leaf = short(alloc, version, delta, time)?;
+    is_invalid_of_size(alloc, &leaf, size)
 }
 
 #[test]
-fn a_message_is_written_with_the_time_of_its_version_alone(rt: HostRuntime) -> Result<()> {
-    for (delta, time) in [(None, None), (Some(2), Some(5))] {
-        for (version, size) in [(0, 31), (1, 35), (2, 31)] {
-            let leaf = short(rt.alloc(), version, delta, time)?;
-            assert!(rt; is_invalid(rt.alloc(), &leaf)?, "version {version}");
-            assert_eq!(rt; leaf.get_size(), size);
-        }
+fn a_message_is_written_with_the_time_of_its_version_alone(rt: HostRuntime) {
+    for (version, size) in [(0, 31), (1, 35), (2, 31)] {
+        check(
+            &rt,
+            version,
+            has_another_time(rt.alloc(), version, None, None, size),
+        );
+        check(
+            &rt,
+            version,
+            has_another_time(rt.alloc(), version, Some(2), Some(5), size),
+        );
     }
-    for (version, delta, time) in [(0, None, Some(5)), (1, Some(2), None), (2, Some(2), None)] {
-        let leaf = short(rt.alloc(), version, delta, time)?;
-        assert!(rt; is_invalid(rt.alloc(), &leaf)?, "version {version}");
-    }
-    Ok(())
+    check(
+        &rt,
+        "time",
+        has_another_time(rt.alloc(), 0, None, Some(5), 31),
+    );
+    check(
+        &rt,
+        "delta",
+        has_another_time(rt.alloc(), 1, Some(2), None, 35),
+    );
+    check(
+        &rt,
+        "neither",
+        has_another_time(rt.alloc(), 2, Some(2), None, 31),
+    );
 }

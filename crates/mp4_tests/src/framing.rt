@@ -1,9 +1,10 @@
 //! Headers, the cursor and children: rows of bytes.
 
+use crate::spelled::{check, holds, same, same_at};
 use mp4_codec::{
     BoxHeader, BoxType, ByteCursor, Children, Error, HEADER_EXT_SIZE, HEADER_SIZE, Limit, Result,
 };
-use std::test::Fail;
+use std::alloc::Global;
 
 /// A header whose size is 1, of type 01020304, with this last byte of its largesize.
 fn large_header(last: u8) -> [u8; 16] {
@@ -14,91 +15,103 @@ fn read(bytes: &[u8]) -> Result<BoxHeader> {
     BoxHeader::read(&mut ByteCursor::new(bytes))
 }
 
+/// Whether a header is refused as invalid data.
+fn is_unreadable_header(bytes: &[u8]) -> bool {
+    matches!(read(bytes), Err(Error::InvalidData(_)))
+}
+
 #[test]
 fn a_largesize_counts_sixteen_bytes_of_header(rt: HostRuntime) {
     let name = BoxType::UnknownBox(0x01020304);
-    assert_eq!(rt; read(&large_header(0x10)), Ok(BoxHeader::new(name, 8)));
-    assert_eq!(rt; read(&large_header(0x11)), Ok(BoxHeader::new(name, 9)));
-    assert_eq!(rt; read(&large_header(0)), Ok(BoxHeader::new(name, 0)));
-    assert!(rt; matches!(&read(&large_header(0x0f)), Err(Error::InvalidData(_))));
-    assert!(rt; matches!(&read(&large_header(1)), Err(Error::InvalidData(_))));
-    assert_eq!(rt; read(&large_header(0x10)[..15]), Err(Error::EndOfData));
-    assert_eq!(rt; HEADER_SIZE, 8);
-    assert_eq!(rt; HEADER_EXT_SIZE, 4);
+    same(&rt, read(&large_header(0x10)), Ok(BoxHeader::new(name, 8)));
+    same(&rt, read(&large_header(0x11)), Ok(BoxHeader::new(name, 9)));
+    same(&rt, read(&large_header(0)), Ok(BoxHeader::new(name, 0)));
+    holds(&rt, 1, is_unreadable_header(&large_header(0x0f)));
+    holds(&rt, 2, is_unreadable_header(&large_header(1)));
+    same(&rt, read(&large_header(0x10)[..15]), Err(Error::EndOfData));
+    same(&rt, HEADER_SIZE, 8);
+    same(&rt, HEADER_EXT_SIZE, 4);
 }
 
 #[test]
 fn a_size_below_its_header_is_invalid(rt: HostRuntime) {
     for size in 2..8 {
         let header = [0, 0, 0, size, b'f', b'r', b'e', b'e'];
-        assert!(rt;
-            matches!(&read(&header), Err(Error::InvalidData(_))),
-            "size {size}"
-        );
+        holds(&rt, size, is_unreadable_header(&header));
     }
     let eight = [0, 0, 0, 8, b'f', b'r', b'e', b'e'];
-    assert_eq!(rt; read(&eight), Ok(BoxHeader::new(BoxType::FreeBox, 8)));
-    assert_eq!(rt; read(&eight[..7]), Err(Error::EndOfData));
+    same(&rt, read(&eight), Ok(BoxHeader::new(BoxType::FreeBox, 8)));
+    same(&rt, read(&eight[..7]), Err(Error::EndOfData));
     let open = [0, 0, 0, 0, b'm', b'd', b'a', b't'];
-    assert_eq!(rt; read(&open), Ok(BoxHeader::new(BoxType::MdatBox, 0)));
+    same(&rt, read(&open), Ok(BoxHeader::new(BoxType::MdatBox, 0)));
+}
+
+/// Whether a header is written as these bytes behind a buffer of one byte, 7.
+fn is_header(alloc: Global, size: u64, expected: &[u8]) -> Result<bool> {
+    let mut out = vec![in alloc; 7u8]?;
+    let written = BoxHeader::new(BoxType::MoovBox, size).write(&mut out)?;
+    Ok(written == 8 && out.as_slice() == expected)
 }
 
 #[test]
-fn a_header_is_written_in_eight_bytes(rt: HostRuntime) -> std::result::Result<(), Fail> {
+fn a_header_is_written_in_eight_bytes(rt: HostRuntime) {
     let rows = [
-        (0, [0, 0, 0, 0, b'm', b'o', b'o', b'v']),
-        (8, [0, 0, 0, 8, b'm', b'o', b'o', b'v']),
-        (4294967295, [0xff, 0xff, 0xff, 0xff, b'm', b'o', b'o', b'v']),
+        (0, [7, 0, 0, 0, 0, b'm', b'o', b'o', b'v']),
+        (8, [7, 0, 0, 0, 8, b'm', b'o', b'o', b'v']),
+        (
+            4294967295,
+            [7, 0xff, 0xff, 0xff, 0xff, b'm', b'o', b'o', b'v'],
+        ),
     ];
     for (size, bytes) in rows {
-        let mut out = vec![in rt.alloc(); 7u8]?;
-        assert_eq!(rt;
-            BoxHeader::new(BoxType::MoovBox, size).write(&mut out),
-            Ok(8)
-        );
-        assert_eq!(rt; out.len(), 9);
-        assert!(rt; out[0] == 7 && &out[1..] == bytes.as_slice());
+        check(&rt, size, is_header(rt.alloc(), size, &bytes));
     }
-    Ok(())
+}
+
+/// Why a header is not written, if a buffer of one byte is then as it was before.
+fn refused_header(alloc: Global, size: u64) -> Result<Option<Error>> {
+    let mut out = vec![in alloc; 7u8]?;
+    match BoxHeader::new(BoxType::MoovBox, size).write(&mut out) {
+        Err(error) if out.as_slice() == [7].as_slice() => Ok(Some(error)),
+        _ => Ok(None),
+    }
+}
+
+/// Whether a header is refused as invalid data.
+fn is_invalid_header(alloc: Global, size: u64) -> bool {
+    matches!(refused_header(alloc, size), Ok(Some(Error::InvalidData(_))))
 }
 
 #[test]
-fn a_header_that_cannot_be_written_leaves_the_buffer(
-    rt: HostRuntime,
-) -> std::result::Result<(), Fail> {
-    let mut out = vec![in rt.alloc(); 7u8]?;
+fn a_header_that_cannot_be_written_leaves_the_buffer(rt: HostRuntime) {
     for size in 1..8 {
-        let refused = BoxHeader::new(BoxType::MoovBox, size).write(&mut out);
-        assert!(rt;
-            matches!(&refused, Err(Error::InvalidData(_))),
-            "size {size}"
-        );
+        holds(&rt, size, is_invalid_header(rt.alloc(), size));
     }
-    let refused = BoxHeader::new(BoxType::MoovBox, 4294967296).write(&mut out);
-    assert_eq!(rt; refused, Err(Error::TooLarge(Limit::BoxSize)));
-    assert!(rt; out.as_slice() == [7].as_slice());
-    Ok(())
+    let refused = refused_header(rt.alloc(), 4294967296);
+    same(&rt, refused, Ok(Some(Error::TooLarge(Limit::BoxSize))));
 }
 
 #[test]
 fn a_cursor_takes_within_its_bytes(rt: HostRuntime) {
     let bytes = [1, 2, 3, 4];
     let mut cursor = ByteCursor::new(&bytes);
-    assert_eq!(rt; cursor.position(), 0);
-    assert!(rt;
+    same(&rt, cursor.position(), 0);
+    holds(
+        &rt,
+        1,
         cursor
             .take(3)
-            .is_ok_and(|part| part == [1, 2, 3].as_slice())
+            .is_ok_and(|part| part == [1, 2, 3].as_slice()),
     );
-    assert_eq!(rt; cursor.position(), 3);
-    assert!(rt; cursor.take(2).is_err());
-    assert_eq!(rt; cursor.position(), 3);
-    assert_eq!(rt; cursor.rest().len(), 1);
+    same(&rt, cursor.position(), 3);
+    holds(&rt, 2, cursor.take(2).is_err());
+    same(&rt, cursor.position(), 3);
+    same(&rt, cursor.rest().len(), 1);
     cursor.set_position(u64::MAX);
-    assert!(rt; cursor.take(1).is_err());
-    assert_eq!(rt; cursor.position(), u64::MAX);
-    assert_eq!(rt; cursor.rest().len(), 0);
-    assert_eq!(rt; cursor.bytes().len(), 4);
+    holds(&rt, 3, cursor.take(1).is_err());
+    same(&rt, cursor.position(), u64::MAX);
+    same(&rt, cursor.rest().len(), 0);
+    same(&rt, cursor.bytes().len(), 4);
 }
 
 /// How many children a payload has before the walk ends, and whether it ends at a closed tail.
@@ -129,38 +142,44 @@ fn a_nested_size_is_measured_against_the_rest(rt: HostRuntime) {
         let payload = [
             0, 0, 0, 9, b'f', b'r', b'e', b'e', 0, 0, 0, 0, size, b'f', b'r', b'e', b'e', 0,
         ];
-        assert_eq!(rt; count_children(&payload), (count, closed), "size {size}");
+        same_at(&rt, size, count_children(&payload), (count, closed));
     }
 }
 
 #[test]
 fn a_nested_largesize_has_sixteen_bytes_of_header(rt: HostRuntime) {
-    assert_eq!(rt; count_children(&large_header(0)), (0, false));
-    assert_eq!(rt; count_children(&large_header(15)), (0, false));
-    assert_eq!(rt; count_children(&large_header(16)), (1, true));
-    assert_eq!(rt; count_children(&large_header(17)), (0, false));
-    assert_eq!(rt; count_children(&large_header(16)[..15]), (0, false));
+    same(&rt, count_children(&large_header(0)), (0, false));
+    same(&rt, count_children(&large_header(15)), (0, false));
+    same(&rt, count_children(&large_header(16)), (1, true));
+    same(&rt, count_children(&large_header(17)), (0, false));
+    same(&rt, count_children(&large_header(16)[..15]), (0, false));
 }
 
 #[test]
 fn a_tail_of_less_than_eight_bytes_is_skipped(rt: HostRuntime) {
     let payload = [0, 0, 0, 8, b'f', b'r', b'e', b'e', 0, 0, 0, 0, 0, 0, 0, 0];
     for tail in 0..9 {
-        assert_eq!(rt;
+        same_at(
+            &rt,
+            tail,
             count_children(&payload[..8 + tail]),
             (1, tail < 8),
-            "tail {tail}"
         );
     }
 }
 
+/// Whether a payload is one child of this type with this payload.
+fn is_child(payload: &[u8], name: BoxType, expected: &[u8]) -> Result<bool> {
+    let mut children = Children::new(payload);
+    let is_first = match children.next_child()? {
+        None => false,
+        Some(child) => child.name == name && child.payload == expected,
+    };
+    Ok(is_first && children.next_child()?.is_none())
+}
+
 #[test]
-fn a_child_has_its_type_and_its_payload(rt: HostRuntime) -> std::result::Result<(), Fail> {
+fn a_child_has_its_type_and_its_payload(rt: HostRuntime) {
     let payload = [0, 0, 0, 10, b'd', b'a', b't', b'a', 1, 2];
-    let mut children = Children::new(&payload);
-    let child = children.next_child()?.ok_or("a child")?;
-    assert_eq!(rt; child.name, BoxType::DataBox);
-    assert!(rt; child.payload == [1, 2].as_slice());
-    assert!(rt; children.next_child()?.is_none());
-    Ok(())
+    check(&rt, 1, is_child(&payload, BoxType::DataBox, &[1, 2]));
 }

@@ -1,7 +1,8 @@
 //! Media headers, and their languages.
 
 use crate::spelled::{
-    is_invalid, is_past_its_field, is_spelled, is_unreadable, is_unrepresentable, needs, read,
+    check, holds, is_invalid, is_past_its_field, is_spelled, is_unreadable, is_unrepresentable,
+    is_whole, reads,
 };
 use mp4_codec::{BoxType, Result, Text};
 use mp4_leaf::MdhdBox;
@@ -12,18 +13,20 @@ const DEFAULT: &str = "00000020 6d646864 00 000000 00000000 00000000 000003e8 00
 const VERSION_ONE: &str =
     "0000002c 6d646864 01 000000 0000000100000002 0000000300000004 00000005 0000000600000007 15c7 0000";
 
-#[test]
-fn the_default_has_32_bytes(rt: HostRuntime) -> Result<()> {
-    let default = MdhdBox::default(rt.alloc())?;
-    assert_eq!(rt; default.get_type(), BoxType::MdhdBox);
-    assert_eq!(rt; default.get_size(), 32);
-    assert!(rt; is_spelled(rt.alloc(), &default, DEFAULT)?);
-    assert!(rt; needs::<MdhdBox>(rt.alloc(), DEFAULT, 32)?);
-    Ok(())
+/// Whether the default is known by its type and spelled by a text.
+fn default_is(alloc: Global, text: &str) -> Result<bool> {
+    let default = MdhdBox::default(alloc)?;
+    let known = default.get_type() == BoxType::MdhdBox && default.get_size() == 32;
+    Ok(known && is_whole(alloc, &default, text, 32)?)
 }
 
 #[test]
-fn version_one_has_44_bytes(rt: HostRuntime) -> Result<()> {
+fn the_default_has_32_bytes(rt: HostRuntime) {
+    check(&rt, 1, default_is(rt.alloc(), DEFAULT));
+}
+
+/// Whether a header of version 1 is spelled so.
+fn is_of_version_1(alloc: Global, text: &str) -> Result<bool> {
     let leaf = MdhdBox {
         version: 1,
         flags: 0,
@@ -31,16 +34,31 @@ fn version_one_has_44_bytes(rt: HostRuntime) -> Result<()> {
         modification_time: 0x0000_0003_0000_0004,
         timescale: 5,
         duration: 0x0000_0006_0000_0007,
-        language: Text::from_str(rt.alloc(), "eng")?,
+        language: Text::from_str(alloc, "eng")?,
     };
-    assert_eq!(rt; leaf.get_size(), 44);
-    assert!(rt; is_spelled(rt.alloc(), &leaf, VERSION_ONE)?);
-    assert!(rt; needs::<MdhdBox>(rt.alloc(), VERSION_ONE, 44)?);
-    Ok(())
+    Ok(leaf.get_size() == 44 && is_whole(alloc, &leaf, text, 44)?)
 }
 
 #[test]
-fn a_language_of_three_letters_has_15_bits(rt: HostRuntime) -> Result<()> {
+fn version_one_has_44_bytes(rt: HostRuntime) {
+    check(&rt, 1, is_of_version_1(rt.alloc(), VERSION_ONE));
+}
+
+/// The default with another language.
+fn of_language(alloc: Global, language: &str) -> Result<MdhdBox> {
+    let mut leaf = MdhdBox::default(alloc)?;
+    leaf.language = Text::from_str(alloc, language)?;
+    Ok(leaf)
+}
+
+/// Whether it is spelled so.
+fn is_language(alloc: Global, language: &str, text: &str) -> Result<bool> {
+    let leaf = of_language(alloc, language)?;
+    is_spelled(alloc, &leaf, text)
+}
+
+#[test]
+fn a_language_of_three_letters_has_15_bits(rt: HostRuntime) {
     let rows = [
         (
             "und",
@@ -60,37 +78,46 @@ fn a_language_of_three_letters_has_15_bits(rt: HostRuntime) -> Result<()> {
         ),
     ];
     for (language, text) in rows {
-        let mut leaf = MdhdBox::default(rt.alloc())?;
-        leaf.language = Text::from_str(rt.alloc(), language)?;
-        assert!(rt; is_spelled(rt.alloc(), &leaf, text)?, "{language}");
+        check(&rt, language, is_language(rt.alloc(), language, text));
     }
-    Ok(())
+}
+
+/// Whether a text spells the default.
+fn reads_as_default(alloc: Global, text: &str) -> Result<bool> {
+    let default = MdhdBox::default(alloc)?;
+    reads(alloc, text, &default)
 }
 
 #[test]
-fn the_highest_bit_of_a_language_is_skipped(rt: HostRuntime) -> Result<()> {
+fn the_highest_bit_of_a_language_is_skipped(rt: HostRuntime) {
     let text = "00000020 6d646864 00 000000 00000000 00000000 000003e8 00000000 d5c4 ffff";
-    assert!(rt; read::<MdhdBox>(rt.alloc(), text)? == MdhdBox::default(rt.alloc())?);
-    Ok(())
+    check(&rt, 1, reads_as_default(rt.alloc(), text));
+}
+
+/// Whether this language has no spelling, and other faults are answered before it: a number past its field, and
+/// before that a version that is not known.
+fn has_no_spelling(alloc: Global, language: &str) -> Result<bool> {
+    let mut leaf = of_language(alloc, language)?;
+    if leaf.get_size() != 32 || !is_unrepresentable(alloc, &leaf)? {
+        return Ok(false);
+    }
+    leaf.duration = 0x1_0000_0000;
+    if !is_past_its_field(alloc, &leaf)? {
+        return Ok(false);
+    }
+    leaf.version = 2;
+    is_invalid(alloc, &leaf)
 }
 
 #[test]
-fn another_language_is_not_written(rt: HostRuntime) -> Result<()> {
+fn another_language_is_not_written(rt: HostRuntime) {
     for language in ["", "en", "engl", "ENG", "en_", "e\u{e9}"] {
-        let mut leaf = MdhdBox::default(rt.alloc())?;
-        leaf.language = Text::from_str(rt.alloc(), language)?;
-        assert!(rt; is_unrepresentable(rt.alloc(), &leaf)?, "{language}");
-        assert_eq!(rt; leaf.get_size(), 32);
-        leaf.duration = 0x1_0000_0000;
-        assert!(rt; is_past_its_field(rt.alloc(), &leaf)?);
-        leaf.version = 2;
-        assert!(rt; is_invalid(rt.alloc(), &leaf)?);
+        check(&rt, language, has_no_spelling(rt.alloc(), language));
     }
-    Ok(())
 }
 
 #[test]
 fn an_unknown_version_is_invalid(rt: HostRuntime) {
     let text = "00000020 6d646864 02 000000 00000000 00000000 000003e8 00000000 55c4 0000";
-    assert!(rt; is_unreadable::<MdhdBox>(rt.alloc(), text));
+    holds(&rt, 1, is_unreadable::<MdhdBox>(rt.alloc(), text));
 }

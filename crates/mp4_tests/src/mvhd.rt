@@ -1,7 +1,8 @@
 //! Movie headers.
 
 use crate::spelled::{
-    is_invalid, is_past_its_field, is_spelled, is_unreadable, needs, read, writes,
+    check, holds, is_invalid, is_past_its_field, is_spelled, is_unreadable, needs, reads, same,
+    writes,
 };
 use mp4_codec::{BoxType, Result};
 use mp4_leaf::{FixedPointU8, FixedPointU16, Matrix, MvhdBox};
@@ -17,17 +18,16 @@ const VERSION_ONE: &str =
     000000000000000000000000000000000000000000000000 ffffffff";
 
 #[test]
-fn the_default_has_108_bytes(rt: HostRuntime) -> Result<()> {
+fn the_default_has_108_bytes(rt: HostRuntime) {
     let default = MvhdBox::default();
-    assert_eq!(rt; default.get_type(), BoxType::MvhdBox);
-    assert_eq!(rt; default.get_size(), 108);
-    assert!(rt; is_spelled(rt.alloc(), &default, DEFAULT)?);
-    assert!(rt; needs::<MvhdBox>(rt.alloc(), DEFAULT, 108)?);
-    Ok(())
+    same(&rt, default.get_type(), BoxType::MvhdBox);
+    same(&rt, default.get_size(), 108);
+    check(&rt, 1, is_spelled(rt.alloc(), &default, DEFAULT));
+    check(&rt, 2, needs::<MvhdBox>(rt.alloc(), DEFAULT, 108));
 }
 
 #[test]
-fn version_one_has_120_bytes(rt: HostRuntime) -> Result<()> {
+fn version_one_has_120_bytes(rt: HostRuntime) {
     let leaf = MvhdBox {
         version: 1,
         flags: 0xfedcba,
@@ -50,23 +50,21 @@ fn version_one_has_120_bytes(rt: HostRuntime) -> Result<()> {
         },
         next_track_id: 0xffff_ffff,
     };
-    assert_eq!(rt; leaf.get_size(), 120);
-    assert!(rt; is_spelled(rt.alloc(), &leaf, VERSION_ONE)?);
-    assert!(rt; needs::<MvhdBox>(rt.alloc(), VERSION_ONE, 120)?);
-    Ok(())
+    same(&rt, leaf.get_size(), 120);
+    check(&rt, 1, is_spelled(rt.alloc(), &leaf, VERSION_ONE));
+    check(&rt, 2, needs::<MvhdBox>(rt.alloc(), VERSION_ONE, 120));
 }
 
 #[test]
-fn reserved_bytes_and_bytes_behind_are_skipped(rt: HostRuntime) -> Result<()> {
+fn reserved_bytes_and_bytes_behind_are_skipped(rt: HostRuntime) {
     let text = "0000006d 6d766864 00 000000 00000000 00000000 000003e8 00000000 00010000 0100 \
         ffffffffffffffffffff 00010000 00000000 00000000 00000000 00010000 00000000 00000000 00000000 40000000 \
         ffffffffffffffffffffffffffffffffffffffffffffffff 00000001 ff";
-    assert!(rt; read::<MvhdBox>(rt.alloc(), text)? == MvhdBox::default());
-    Ok(())
+    check(&rt, 1, reads(rt.alloc(), text, &MvhdBox::default()));
 }
 
 #[test]
-fn flags_past_24_bits_write_their_low_ones(rt: HostRuntime) -> Result<()> {
+fn flags_past_24_bits_write_their_low_ones(rt: HostRuntime) {
     let leaf = MvhdBox {
         flags: 0xffab_cdef,
         next_track_id: 2,
@@ -75,12 +73,11 @@ fn flags_past_24_bits_write_their_low_ones(rt: HostRuntime) -> Result<()> {
     let text = "0000006c 6d766864 00 abcdef 00000000 00000000 000003e8 00000000 00010000 0100 \
         00000000000000000000 00010000 00000000 00000000 00000000 00010000 00000000 00000000 00000000 40000000 \
         000000000000000000000000000000000000000000000000 00000002";
-    assert!(rt; writes(rt.alloc(), &leaf, text)?);
-    Ok(())
+    check(&rt, 1, writes(rt.alloc(), &leaf, text));
 }
 
 #[test]
-fn a_number_past_32_bits_is_written_in_version_one_alone(rt: HostRuntime) -> Result<()> {
+fn a_number_past_32_bits_is_written_in_version_one_alone(rt: HostRuntime) {
     let past = 0x1_0000_0000;
     for (creation_time, modification_time, duration) in [(past, 0, 0), (0, past, 0), (0, 0, past)] {
         let mut leaf = MvhdBox {
@@ -89,13 +86,12 @@ fn a_number_past_32_bits_is_written_in_version_one_alone(rt: HostRuntime) -> Res
             duration,
             ..MvhdBox::default()
         };
-        assert!(rt; is_past_its_field(rt.alloc(), &leaf)?);
-        assert_eq!(rt; leaf.get_size(), 108);
+        check(&rt, 1, is_past_its_field(rt.alloc(), &leaf));
+        same(&rt, leaf.get_size(), 108);
         leaf.version = 2;
-        assert!(rt; is_invalid(rt.alloc(), &leaf)?);
-        assert_eq!(rt; leaf.get_size(), 108);
+        check(&rt, 2, is_invalid(rt.alloc(), &leaf));
+        same(&rt, leaf.get_size(), 108);
     }
-    Ok(())
 }
 
 #[test]
@@ -108,6 +104,6 @@ fn an_unknown_version_is_invalid(rt: HostRuntime) {
         00000000000000000000 ffffffff 00000001 00000002 00000003 00000004 00000005 00000006 80000000 7fffffff \
         000000000000000000000000000000000000000000000000 ffffffff",
     ] {
-        assert!(rt; is_unreadable::<MvhdBox>(rt.alloc(), text));
+        holds(&rt, 1, is_unreadable::<MvhdBox>(rt.alloc(), text));
     }
 }

@@ -1,10 +1,10 @@
 //! Movies that are opened: whole, cut, changed and lengthened.
 
 use crate::movies::EMPTY_MOVIE;
+use crate::spelled::{same, same_at};
 use mp4_codec::{BoxType, Error, Limit, Result};
 use mp4_media::read_mp4;
 use std::alloc::Global;
-use std::test::Fail;
 
 /// Where the movie box stands in the empty movie, and its header.
 const MOOV: usize = 48;
@@ -37,11 +37,7 @@ fn a_piece_of_the_empty_movie_is_refused(rt: HostRuntime) {
             164 => Ok(164),
             _ => Err(Error::EndOfData),
         };
-        assert_eq!(rt;
-            opened(rt.alloc(), &EMPTY_MOVIE[..end]),
-            expected,
-            "{end} bytes"
-        );
+        same_at(&rt, end, opened(rt.alloc(), &EMPTY_MOVIE[..end]), expected);
     }
 }
 
@@ -50,10 +46,11 @@ fn a_movie_header_of_another_size_is_invalid(rt: HostRuntime) {
     for size in [0, 1, 2, 7, 8, 100, 109] {
         let mut bytes = EMPTY_MOVIE;
         bytes[MVHD + 3] = size;
-        assert_eq!(rt;
+        same_at(
+            &rt,
+            size,
             opened(rt.alloc(), &bytes),
             Err(Error::InvalidData("")),
-            "size {size}"
         );
     }
     let mut bytes = EMPTY_MOVIE;
@@ -61,101 +58,119 @@ fn a_movie_header_of_another_size_is_invalid(rt: HostRuntime) {
     bytes[MVHD + 5] = b'r';
     bytes[MVHD + 6] = b'e';
     bytes[MVHD + 7] = b'e';
-    assert_eq!(rt;
+    same(
+        &rt,
         opened(rt.alloc(), &bytes),
-        Err(Error::BoxNotFound(BoxType::MvhdBox))
+        Err(Error::BoxNotFound(BoxType::MvhdBox)),
     );
 }
 
-#[test]
-fn a_tail_of_the_movie_box_is_closed_or_broken(rt: HostRuntime) -> std::result::Result<(), Fail> {
-    let alloc = rt.alloc();
-    for (tail, expected) in [(7, Ok(171)), (8, Err(Error::InvalidData("")))] {
-        let mut bytes = with_tail(alloc, &[0; 8][..tail])?;
-        assert!(rt; bytes.len() > MOOV + 3);
-        bytes[MOOV + 3] = if tail == 7 { 0x7b } else { 0x7c };
-        assert_eq!(rt; opened(alloc, &bytes), expected, "{tail} bytes");
+/// What the empty movie opens as whose movie box has so many zero bytes more, and this size.
+fn opened_with_zeros(alloc: Global, zeros: &[u8], size: u8) -> Result<u64> {
+    let mut bytes = with_tail(alloc, zeros)?;
+    if let Some(low) = bytes.get_mut(MOOV + 3) {
+        *low = size;
     }
-    Ok(())
+    opened(alloc, &bytes)
 }
 
 #[test]
-fn boxes_behind_the_movie_are_skipped(rt: HostRuntime) -> std::result::Result<(), Fail> {
-    let alloc = rt.alloc();
-    let free = [0, 0, 0, 0x10, b'f', b'r', b'e', b'e'];
-    let past = [0, 0, 0, 0xad, b'f', b'r', b'e', b'e'];
-    let cut = [0, 0, 0, 1, b'f', b'r', b'e', b'e'];
-    let far = [
-        0, 0, 0, 1, b'f', b'r', b'e', b'e', 0xff, 0xff, 0xff, 0xff, 0xff, 0xff, 0xff, 0xff,
-    ];
-    assert_eq!(rt;
-        opened(alloc, &with_tail(alloc, &[9; 7])?),
-        Err(Error::EndOfData)
-    );
-    assert_eq!(rt; opened(alloc, &with_tail(alloc, &[0; 8])?), Ok(164));
-    assert_eq!(rt; opened(alloc, &with_tail(alloc, &free)?), Ok(180));
-    assert_eq!(rt;
-        opened(alloc, &with_tail(alloc, &past)?),
-        Err(Error::InvalidData(""))
-    );
-    assert_eq!(rt;
-        opened(alloc, &with_tail(alloc, &cut)?),
-        Err(Error::EndOfData)
-    );
-    assert_eq!(rt;
-        opened(alloc, &with_tail(alloc, &far)?),
-        Err(Error::InvalidData(""))
-    );
-    assert_eq!(rt; opened(alloc, &with_tail(alloc, &EMPTY_MOVIE)?), Ok(328));
-    Ok(())
+fn a_tail_of_the_movie_box_is_closed_or_broken(rt: HostRuntime) {
+    same(&rt, opened_with_zeros(rt.alloc(), &[0; 7], 0x7b), Ok(171));
+    let broken = opened_with_zeros(rt.alloc(), &[0; 8], 0x7c);
+    same(&rt, broken, Err(Error::InvalidData("")));
+}
+
+/// What the empty movie with these bytes behind it opens as.
+fn opened_with(alloc: Global, tail: &[u8]) -> Result<u64> {
+    let bytes = with_tail(alloc, tail)?;
+    opened(alloc, &bytes)
 }
 
 #[test]
-fn an_open_end_within_a_box_is_refused(rt: HostRuntime) -> std::result::Result<(), Fail> {
+fn boxes_behind_the_movie_are_skipped(rt: HostRuntime) {
     let alloc = rt.alloc();
-    let nested = [
-        0, 0, 0, 0x10, b'm', b'o', b'o', b'v', 0, 0, 0, 0, b'f', b'r', b'e', b'e',
-    ];
+    same(&rt, opened_with(alloc, &[9; 7]), Err(Error::EndOfData));
+    same(&rt, opened_with(alloc, &[0; 8]), Ok(164));
+    same(&rt, opened_with(alloc, b"\0\0\0\x10free"), Ok(180));
+    same(&rt, opened_with(alloc, &EMPTY_MOVIE), Ok(328));
+}
+
+#[test]
+fn a_broken_box_behind_the_movie_is_refused(rt: HostRuntime) {
+    let alloc = rt.alloc();
+    let past = opened_with(alloc, b"\0\0\0\xadfree");
+    same(&rt, past, Err(Error::InvalidData("")));
+    let cut = opened_with(alloc, b"\0\0\0\x01free");
+    same(&rt, cut, Err(Error::EndOfData));
+    let far = opened_with(alloc, b"\0\0\0\x01free\xff\xff\xff\xff\xff\xff\xff\xff");
+    same(&rt, far, Err(Error::InvalidData("")));
+}
+
+/// What the file type of the empty movie with these bytes behind it opens as.
+fn opened_behind_ftyp(alloc: Global, movie: &[u8], tail: &[u8]) -> Result<u64> {
     let mut bytes = (&EMPTY_MOVIE[..32]).to_vec(alloc)?;
-    bytes.extend_from_slice(&nested)?;
-    assert_eq!(rt; opened(alloc, &bytes), Err(Error::InvalidData("")));
-    let mut bytes = (&EMPTY_MOVIE[..32]).to_vec(alloc)?;
-    bytes.extend_from_slice(&EMPTY_MOVIE[MOOV..])?;
-    bytes.extend_from_slice(&[0, 0, 0, 0, b'm', b'd', b'a', b't', 1, 2, 3])?;
-    assert_eq!(rt; opened(alloc, &bytes), Ok(148));
-    Ok(())
+    bytes.extend_from_slice(movie)?;
+    bytes.extend_from_slice(tail)?;
+    opened(alloc, &bytes)
 }
 
 #[test]
-fn the_last_file_type_and_the_last_movie_stand(rt: HostRuntime) -> std::result::Result<(), Fail> {
-    let alloc = rt.alloc();
+fn an_open_end_within_a_box_is_refused(rt: HostRuntime) {
+    let nested = opened_behind_ftyp(rt.alloc(), b"\0\0\0\x10moov", b"\0\0\0\0free");
+    same(&rt, nested, Err(Error::InvalidData("")));
+    let last = opened_behind_ftyp(
+        rt.alloc(),
+        &EMPTY_MOVIE[MOOV..],
+        b"\0\0\0\0mdat\x01\x02\x03",
+    );
+    same(&rt, last, Ok(148));
+}
+
+/// The last byte of the brand and the timescale of a movie.
+fn brand_and_timescale(alloc: Global, bytes: &[u8]) -> Result<(u8, u32)> {
+    let movie = read_mp4(alloc, bytes)?;
+    Ok((movie.major_brand().value[3], movie.timescale()))
+}
+
+/// The same of the empty movie with another behind it.
+fn of_two(alloc: Global, second: &[u8]) -> Result<(u8, u32)> {
+    let bytes = with_tail(alloc, second)?;
+    brand_and_timescale(alloc, &bytes)
+}
+
+#[test]
+fn the_last_file_type_and_the_last_movie_stand(rt: HostRuntime) {
     let mut second = EMPTY_MOVIE;
     second[11] = b'2';
     second[MVHD + 23] = 7;
-    let bytes = with_tail(alloc, &second)?;
-    let movie = read_mp4(alloc, &bytes)?;
-    assert_eq!(rt; movie.major_brand().value[3], b'2');
-    assert_eq!(rt; movie.timescale(), 0x307);
-    Ok(())
+    same(&rt, of_two(rt.alloc(), &second), Ok((b'2', 0x307)));
+}
+
+/// The duration of the empty movie with this duration and timescale, if its size and timescale are as they should be.
+fn milliseconds(alloc: Global, duration: u64, timescale: u32) -> Result<Option<u64>> {
+    let mut movie = read_mp4(alloc, &EMPTY_MOVIE)?;
+    movie.moov.mvhd.duration = duration;
+    movie.moov.mvhd.timescale = timescale;
+    if movie.timescale() != timescale || movie.size() != 164 {
+        return Ok(None);
+    }
+    Ok(Some(movie.duration()?))
 }
 
 #[test]
-fn a_duration_is_in_milliseconds(rt: HostRuntime) -> std::result::Result<(), Fail> {
-    let mut movie = read_mp4(rt.alloc(), &EMPTY_MOVIE)?;
-    let rows = [
-        (1500, 1000, Ok(1500)),
-        (1999, 2000, Ok(999)),
-        (5, 0, Err(Error::ZeroTimescale)),
-        (0, 0, Err(Error::ZeroTimescale)),
-        (u64::MAX, 1000, Ok(u64::MAX)),
-        (u64::MAX, 999, Err(Error::TooLarge(Limit::Value))),
-    ];
-    for (duration, timescale, expected) in rows {
-        movie.moov.mvhd.duration = duration;
-        movie.moov.mvhd.timescale = timescale;
-        assert_eq!(rt; movie.timescale(), timescale);
-        assert_eq!(rt; movie.duration(), expected);
+fn a_duration_is_in_milliseconds(rt: HostRuntime) {
+    let alloc = rt.alloc();
+    same(&rt, milliseconds(alloc, 1500, 1000), Ok(Some(1500)));
+    same(&rt, milliseconds(alloc, 1999, 2000), Ok(Some(999)));
+    same(&rt, milliseconds(alloc, u64::MAX, 1000), Ok(Some(u64::MAX)));
+    for duration in [0, 5] {
+        same(
+            &rt,
+            milliseconds(alloc, duration, 0),
+            Err(Error::ZeroTimescale),
+        );
     }
-    assert_eq!(rt; movie.size(), 164);
-    Ok(())
+    let past = milliseconds(alloc, u64::MAX, 999);
+    same(&rt, past, Err(Error::TooLarge(Limit::Value)));
 }

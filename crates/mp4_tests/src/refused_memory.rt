@@ -5,7 +5,7 @@
 use crate::movies::{EMPTY_MOVIE, config};
 use crate::sample_boxes::Number;
 use crate::sides::Side;
-use crate::spelled::read_bytes;
+use crate::spelled::{check, holds, read_bytes, same};
 use mp4_boxes::MoovBox;
 use mp4_codec::{
     BoxHeader, BoxType, Error, Fields, FourCC, Items, KeyedItems, Mp4Box, ReadBox, Result, Text,
@@ -121,121 +121,115 @@ const TX3G_DESCRIPTION: [u8; 62] =
 const FREE: [u8; 12] = *b"\0\0\0\x0cfree\0\0\0\x02";
 
 #[test]
-fn a_refused_call_of_a_header_box_is_made_again(rt: HostRuntime) -> Result<()> {
+fn a_refused_call_of_a_header_box_is_made_again(rt: HostRuntime) {
     let movie = &EMPTY_MOVIE[48..];
-    assert!(rt; is_kept::<MoovBox>(&rt, movie)?);
-    assert!(rt; is_kept::<MvhdBox>(&rt, &movie[8..])?);
-    Ok(())
+    check(&rt, 1, is_kept::<MoovBox>(&rt, movie));
+    check(&rt, 2, is_kept::<MvhdBox>(&rt, &movie[8..]));
+}
+
+/// Whether a box is copied, written and read as it is, each call made again after a refusal.
+fn is_kept_as_it_is<B: WriteBox + TryClone + PartialEq>(
+    rt: &HostRuntime,
+    value: &B,
+) -> Result<bool> {
+    let copy = copy_again(rt, value)?;
+    let bytes = write_again(rt, &copy)?;
+    Ok(read_again::<B>(rt, &bytes)? == *value)
 }
 
 #[test]
-fn a_refused_call_of_a_track_header_is_made_again(rt: HostRuntime) -> Result<()> {
-    let value = copy_again(&rt, &TkhdBox::default())?;
-    let bytes = write_again(&rt, &value)?;
-    assert!(rt; read_again::<TkhdBox>(&rt, &bytes)? == value);
-    Ok(())
+fn a_refused_call_of_a_track_header_is_made_again(rt: HostRuntime) {
+    check(&rt, 1, is_kept_as_it_is(&rt, &TkhdBox::default()));
 }
 
 #[test]
-fn a_refused_call_of_a_media_header_is_made_again(rt: HostRuntime) -> Result<()> {
-    assert!(rt; is_kept::<MdhdBox>(&rt, &MDHD)?);
-    assert!(rt; is_kept::<VmhdBox>(&rt, &VMHD)?);
-    assert!(rt; is_kept::<SmhdBox>(&rt, &SMHD)?);
-    Ok(())
+fn a_refused_call_of_a_media_header_is_made_again(rt: HostRuntime) {
+    check(&rt, 1, is_kept::<MdhdBox>(&rt, &MDHD));
+    check(&rt, 2, is_kept::<VmhdBox>(&rt, &VMHD));
+    check(&rt, 3, is_kept::<SmhdBox>(&rt, &SMHD));
 }
 
 #[test]
-fn a_refused_call_of_a_handler_is_made_again(rt: HostRuntime) -> Result<()> {
-    assert!(rt; is_kept::<HdlrBox>(&rt, &HDLR)?);
-    assert!(rt; is_kept::<ElstBox>(&rt, &ELST)?);
-    Ok(())
+fn a_refused_call_of_a_handler_is_made_again(rt: HostRuntime) {
+    check(&rt, 1, is_kept::<HdlrBox>(&rt, &HDLR));
+    check(&rt, 2, is_kept::<ElstBox>(&rt, &ELST));
 }
 
 #[test]
-fn a_refused_call_of_a_file_type_is_made_again(rt: HostRuntime) -> Result<()> {
-    assert!(rt; is_kept::<FtypBox>(&rt, &FTYP)?);
-    assert!(rt; is_kept::<DataBox>(&rt, &DATA)?);
-    Ok(())
+fn a_refused_call_of_a_file_type_is_made_again(rt: HostRuntime) {
+    check(&rt, 1, is_kept::<FtypBox>(&rt, &FTYP));
+    check(&rt, 2, is_kept::<DataBox>(&rt, &DATA));
 }
 
 #[test]
-fn a_refused_call_of_data_information_is_made_again(rt: HostRuntime) -> Result<()> {
-    assert!(rt; is_kept::<DinfBox>(&rt, &DINF)?);
-    Ok(())
+fn a_refused_call_of_data_information_is_made_again(rt: HostRuntime) {
+    check(&rt, 1, is_kept::<DinfBox>(&rt, &DINF));
 }
 
 #[test]
-fn a_refused_call_of_a_table_of_runs_is_made_again(rt: HostRuntime) -> Result<()> {
-    assert!(rt; is_kept::<SttsBox>(&rt, &STTS)?);
-    assert!(rt; is_kept::<CttsBox>(&rt, &CTTS)?);
-    assert!(rt; is_kept::<StscBox>(&rt, &STSC)?);
-    Ok(())
+fn a_refused_call_of_a_table_of_runs_is_made_again(rt: HostRuntime) {
+    check(&rt, 1, is_kept::<SttsBox>(&rt, &STTS));
+    check(&rt, 2, is_kept::<CttsBox>(&rt, &CTTS));
+    check(&rt, 3, is_kept::<StscBox>(&rt, &STSC));
 }
 
 #[test]
-fn a_refused_call_of_a_table_of_samples_is_made_again(rt: HostRuntime) -> Result<()> {
-    assert!(rt; is_kept::<StssBox>(&rt, &STSS)?);
-    assert!(rt; is_kept::<StszBox>(&rt, &STSZ)?);
-    Ok(())
+fn a_refused_call_of_a_table_of_samples_is_made_again(rt: HostRuntime) {
+    check(&rt, 1, is_kept::<StssBox>(&rt, &STSS));
+    check(&rt, 2, is_kept::<StszBox>(&rt, &STSZ));
 }
 
-#[test]
-fn a_refused_call_of_a_table_of_offsets_is_made_again(rt: HostRuntime) -> Result<()> {
-    assert!(rt; is_kept::<StcoBox>(&rt, &STCO)?);
-    assert!(rt; is_kept::<Co64Box>(&rt, &CO64)?);
-    let wide: Co64Box = read_again(&rt, &CO64)?;
+/// Whether wide offsets become narrow ones, each call made again after a refusal.
+fn is_narrowed(rt: &HostRuntime) -> Result<bool> {
+    let wide: Co64Box = read_again(rt, &CO64)?;
     let narrow = match StcoBox::try_from(rt.alloc(), &wide) {
-        Err(error) if is_refusal(&rt, &error) => StcoBox::try_from(rt.alloc(), &wide)?,
+        Err(error) if is_refusal(rt, &error) => StcoBox::try_from(rt.alloc(), &wide)?,
         answer => answer?,
     };
-    assert!(rt; narrow == read_again(&rt, &STCO)?);
-    Ok(())
+    Ok(narrow == read_again(rt, &STCO)?)
 }
 
 #[test]
-fn a_refused_call_of_a_fragments_header_is_made_again(rt: HostRuntime) -> Result<()> {
-    assert!(rt; is_kept::<TfhdBox>(&rt, &TFHD)?);
-    let header = copy_again(&rt, &MfhdBox::default())?;
-    assert!(rt; read_again::<MfhdBox>(&rt, &write_again(&rt, &header)?)? == header);
-    let defaults = copy_again(&rt, &TrexBox::default())?;
-    assert!(rt; read_again::<TrexBox>(&rt, &write_again(&rt, &defaults)?)? == defaults);
-    Ok(())
+fn a_refused_call_of_a_table_of_offsets_is_made_again(rt: HostRuntime) {
+    check(&rt, 1, is_kept::<StcoBox>(&rt, &STCO));
+    check(&rt, 2, is_kept::<Co64Box>(&rt, &CO64));
+    check(&rt, 3, is_narrowed(&rt));
 }
 
 #[test]
-fn a_refused_call_of_a_fragments_time_is_made_again(rt: HostRuntime) -> Result<()> {
-    let start = copy_again(&rt, &TfdtBox::default())?;
-    assert!(rt; read_again::<TfdtBox>(&rt, &write_again(&rt, &start)?)? == start);
-    let duration = copy_again(&rt, &MehdBox::default())?;
-    assert!(rt; read_again::<MehdBox>(&rt, &write_again(&rt, &duration)?)? == duration);
-    Ok(())
+fn a_refused_call_of_a_fragments_header_is_made_again(rt: HostRuntime) {
+    check(&rt, 1, is_kept::<TfhdBox>(&rt, &TFHD));
+    check(&rt, 2, is_kept_as_it_is(&rt, &MfhdBox::default()));
+    check(&rt, 3, is_kept_as_it_is(&rt, &TrexBox::default()));
 }
 
 #[test]
-fn a_refused_call_of_a_run_is_made_again(rt: HostRuntime) -> Result<()> {
-    assert!(rt; is_kept::<TrunBox>(&rt, &TRUN)?);
-    Ok(())
+fn a_refused_call_of_a_fragments_time_is_made_again(rt: HostRuntime) {
+    check(&rt, 1, is_kept_as_it_is(&rt, &TfdtBox::default()));
+    check(&rt, 2, is_kept_as_it_is(&rt, &MehdBox::default()));
 }
 
 #[test]
-fn a_refused_call_of_an_event_message_is_made_again(rt: HostRuntime) -> Result<()> {
-    assert!(rt; is_kept::<EmsgBox>(&rt, &EMSG)?);
-    Ok(())
+fn a_refused_call_of_a_run_is_made_again(rt: HostRuntime) {
+    check(&rt, 1, is_kept::<TrunBox>(&rt, &TRUN));
 }
 
 #[test]
-fn a_refused_call_of_a_description_of_video_is_made_again(rt: HostRuntime) -> Result<()> {
-    assert!(rt; is_kept::<StsdBox>(&rt, &AVC1_DESCRIPTION)?);
-    assert!(rt; is_kept::<StsdBox>(&rt, &HEV1_DESCRIPTION)?);
-    assert!(rt; is_kept::<StsdBox>(&rt, &VP09_DESCRIPTION)?);
-    Ok(())
+fn a_refused_call_of_an_event_message_is_made_again(rt: HostRuntime) {
+    check(&rt, 1, is_kept::<EmsgBox>(&rt, &EMSG));
 }
 
 #[test]
-fn a_refused_call_of_a_description_of_sound_or_text_is_made_again(rt: HostRuntime) -> Result<()> {
-    assert!(rt; is_kept::<StsdBox>(&rt, &MP4A_DESCRIPTION)?);
-    assert!(rt; is_kept::<StsdBox>(&rt, &TX3G_DESCRIPTION)?);
-    Ok(())
+fn a_refused_call_of_a_description_of_video_is_made_again(rt: HostRuntime) {
+    check(&rt, 1, is_kept::<StsdBox>(&rt, &AVC1_DESCRIPTION));
+    check(&rt, 2, is_kept::<StsdBox>(&rt, &HEV1_DESCRIPTION));
+    check(&rt, 3, is_kept::<StsdBox>(&rt, &VP09_DESCRIPTION));
+}
+
+#[test]
+fn a_refused_call_of_a_description_of_sound_or_text_is_made_again(rt: HostRuntime) {
+    check(&rt, 1, is_kept::<StsdBox>(&rt, &MP4A_DESCRIPTION));
+    check(&rt, 2, is_kept::<StsdBox>(&rt, &TX3G_DESCRIPTION));
 }
 
 /// The description of a configuration, which is made again after a refusal.
@@ -246,135 +240,206 @@ fn description_again(rt: &HostRuntime, config: &MediaConfig) -> Result<StsdBox> 
     }
 }
 
+/// Whether a configuration and its copy give a description of these bytes.
+fn is_description(rt: &HostRuntime, config: &MediaConfig, bytes: &[u8]) -> Result<bool> {
+    let copy = copy_again(rt, config)?;
+    let description = description_again(rt, &copy)?;
+    Ok(copy == *config && write_again(rt, &description)?.as_slice() == bytes)
+}
+
 #[test]
-fn a_refused_description_of_a_configuration_is_made_again(rt: HostRuntime) -> Result<()> {
+fn a_refused_description_of_a_configuration_is_made_again(rt: HostRuntime) {
     let config = MediaConfig::HevcConfig(HevcConfig {
         width: 320,
         height: 240,
     });
-    let copy = copy_again(&rt, &config)?;
-    assert!(rt; copy == config);
-    let description = description_again(&rt, &copy)?;
-    assert!(rt; write_again(&rt, &description)?.as_slice() == HEV1_DESCRIPTION.as_slice());
-    Ok(())
+    check(&rt, 1, is_description(&rt, &config, &HEV1_DESCRIPTION));
 }
 
-#[test]
-fn a_refused_default_is_made_again(rt: HostRuntime) -> Result<()> {
+/// Whether the default of a media header is the spelled one.
+fn is_default(rt: &HostRuntime) -> Result<bool> {
     let default = match MdhdBox::default(rt.alloc()) {
-        Err(error) if is_refusal(&rt, &error) => MdhdBox::default(rt.alloc())?,
+        Err(error) if is_refusal(rt, &error) => MdhdBox::default(rt.alloc())?,
         answer => answer?,
     };
-    assert!(rt; default == read_again(&rt, &MDHD)?);
-    Ok(())
+    Ok(default == read_again(rt, &MDHD)?)
 }
 
 #[test]
-fn a_refused_header_leaves_the_buffer(rt: HostRuntime) -> Result<()> {
+fn a_refused_default_is_made_again(rt: HostRuntime) {
+    check(&rt, 1, is_default(&rt));
+}
+
+/// Whether a refused header leaves the buffer, and made again it is written.
+fn header_is_written(rt: &HostRuntime) -> Result<bool> {
     let mut out = Vec::new(rt.alloc());
     let header = BoxHeader::new(BoxType::FreeBox, 12);
     if let Err(error) = header.write(&mut out) {
-        assert!(rt; is_refusal(&rt, &error) && out.is_empty());
-        assert_eq!(rt; header.write(&mut out)?, 8);
+        if !is_refusal(rt, &error) || !out.is_empty() || header.write(&mut out)? != 8 {
+            return Ok(false);
+        }
     }
-    assert!(rt; out.as_slice() == &FREE[..8]);
-    Ok(())
-}
-
-/// Puts each kind of field, each into a buffer of its own.
-fn put_fields(alloc: Global) -> Result<()> {
-    put_u8(&mut Vec::new(alloc), 1)?;
-    put_u16(&mut Vec::new(alloc), 1)?;
-    put_u24(&mut Vec::new(alloc), 1)?;
-    put_u32(&mut Vec::new(alloc), 1)?;
-    put_u64(&mut Vec::new(alloc), 1)?;
-    put_i16(&mut Vec::new(alloc), -1)?;
-    put_i32(&mut Vec::new(alloc), -1)?;
-    put_zeros(&mut Vec::new(alloc), 1)?;
-    put_versioned(&mut Vec::new(alloc), 1, 1)?;
-    put_bytes(&mut Vec::new(alloc), b"a")?;
-    put_four_cc(&mut Vec::new(alloc), FourCC::from(1))?;
-    Ok(())
-}
-
-/// Puts a list of entries, a list of children, one child and a box, each into a buffer of its own. Whether the sizes
-/// are as they should be.
-fn put_lists(alloc: Global) -> Result<bool> {
-    let number = Number { value: 2 };
-    let child = Some(Number { value: 2 });
-    let mut entries = Items::new(alloc);
-    entries.push(1u32)?;
-    let mut children = Items::new(alloc);
-    children.push(Number { value: 2 })?;
-    if all_size(&children) != 12 || optional_size(&child) != 12 || number.box_size() != 12 {
-        return Ok(false);
-    }
-    put_list(&mut Vec::new(alloc), 0, &entries)?;
-    put_all(&mut Vec::new(alloc), &children)?;
-    put_optional(&mut Vec::new(alloc), &child)?;
-    number.put_payload(&mut Vec::new(alloc))?;
-    number.put_box(&mut Vec::new(alloc))?;
-    Ok(true)
+    Ok(out.as_slice() == &FREE[..8])
 }
 
 #[test]
-fn a_refused_put_is_made_again(rt: HostRuntime) -> Result<()> {
+fn a_refused_header_leaves_the_buffer(rt: HostRuntime) {
+    check(&rt, 1, header_is_written(&rt));
+}
+
+/// Puts a field, by a number for its kind, into a buffer of its own.
+fn put_field(alloc: Global, kind: u8) -> Result<()> {
+    let mut out = Vec::new(alloc);
+    let put = match kind {
+        0 => put_u8(&mut out, 1),
+        1 => put_u16(&mut out, 1),
+        2 => put_u24(&mut out, 1),
+        3 => put_u32(&mut out, 1),
+        4 => put_u64(&mut out, 1),
+        5 => put_i16(&mut out, -1),
+        6 => put_i32(&mut out, -1),
+        7 => put_zeros(&mut out, 1),
+        8 => put_versioned(&mut out, 1, 1),
+        9 => put_bytes(&mut out, b"a"),
+        _ => put_four_cc(&mut out, FourCC::from(1)),
+    };
+    put?;
+    Ok(())
+}
+
+/// Puts each kind of field.
+fn put_fields(alloc: Global) -> Result<bool> {
+    for kind in 0..11 {
+        put_field(alloc, kind)?;
+    }
+    Ok(true)
+}
+
+/// Puts a list of one entry into a buffer of its own.
+fn put_entries(alloc: Global) -> Result<bool> {
+    let mut entries = Items::new(alloc);
+    entries.push(1u32)?;
+    put_list(&mut Vec::new(alloc), 0, &entries)?;
+    Ok(true)
+}
+
+/// Puts a list of one child into a buffer of its own. Whether its size is as it should be.
+fn put_children(alloc: Global) -> Result<bool> {
+    let mut children = Items::new(alloc);
+    children.push(Number { value: 2 })?;
+    put_all(&mut Vec::new(alloc), &children)?;
+    Ok(all_size(&children) == 12)
+}
+
+/// Puts one child into a buffer of its own. Whether its size is as it should be.
+fn put_child(alloc: Global) -> Result<bool> {
+    let child = Some(Number { value: 2 });
+    put_optional(&mut Vec::new(alloc), &child)?;
+    Ok(optional_size(&child) == 12)
+}
+
+/// Puts a box and its payload, each into a buffer of its own. Whether its size is as it should be.
+fn put_number(alloc: Global) -> Result<bool> {
+    let number = Number { value: 2 };
+    number.put_payload(&mut Vec::new(alloc))?;
+    number.put_box(&mut Vec::new(alloc))?;
+    Ok(number.box_size() == 12)
+}
+
+/// Puts a list of entries, a list of children, one child and a box. Whether the sizes are as they should be.
+fn put_lists(alloc: Global) -> Result<bool> {
+    Ok(put_entries(alloc)? && put_children(alloc)? && put_child(alloc)? && put_number(alloc)?)
+}
+
+/// Whether fields are put, and put again after a refusal.
+fn fields_are_put(rt: &HostRuntime) -> Result<bool> {
     match put_fields(rt.alloc()) {
-        Err(error) if is_refusal(&rt, &error) => put_fields(rt.alloc()),
+        Err(error) if is_refusal(rt, &error) => put_fields(rt.alloc()),
+        answer => answer,
+    }
+}
+
+/// Whether lists are put, and put again after a refusal.
+fn lists_are_put(rt: &HostRuntime) -> Result<bool> {
+    match put_lists(rt.alloc()) {
+        Err(error) if is_refusal(rt, &error) => put_lists(rt.alloc()),
         answer => answer,
     }
 }
 
 #[test]
-fn a_refused_put_of_a_list_is_made_again(rt: HostRuntime) -> Result<()> {
-    let are_put = match put_lists(rt.alloc()) {
-        Err(error) if is_refusal(&rt, &error) => put_lists(rt.alloc())?,
-        answer => answer?,
-    };
-    assert!(rt; are_put);
-    Ok(())
+fn a_refused_put_is_made_again(rt: HostRuntime) {
+    check(&rt, 1, fields_are_put(&rt));
+}
+
+#[test]
+fn a_refused_put_of_a_list_is_made_again(rt: HostRuntime) {
+    check(&rt, 1, lists_are_put(&rt));
+}
+
+/// Reads a list of three entries.
+fn read_entries(alloc: Global) -> Result<bool> {
+    let entries: Items<u32> = Fields::new(&FREE).list(alloc, 0, 3)?;
+    Ok(entries.len() == 3)
+}
+
+/// Reads a text in two ways.
+fn read_texts(alloc: Global) -> Result<bool> {
+    let name = Fields::new(b"text\0").until_zero(alloc)?;
+    let text = Fields::new(b"text\0").text(alloc)?;
+    Ok(name == text)
+}
+
+/// Reads children in two ways.
+fn read_children(alloc: Global) -> Result<bool> {
+    let children: Items<Number> = all_children(alloc, &FREE)?;
+    let child: Option<Number> = last_child(alloc, &FREE)?;
+    Ok(children.len() == 1 && child.is_some())
 }
 
 /// Reads a list of entries, a text in two ways, and children in two ways.
 fn read_parts(alloc: Global) -> Result<bool> {
-    let entries: Items<u32> = Fields::new(&FREE).list(alloc, 0, 3)?;
-    let name = Fields::new(b"text\0").until_zero(alloc)?;
-    let text = Fields::new(b"text\0").text(alloc)?;
-    let children: Items<Number> = all_children(alloc, &FREE)?;
-    let child: Option<Number> = last_child(alloc, &FREE)?;
-    Ok(entries.len() == 3 && name == text && children.len() == 1 && child.is_some())
+    Ok(read_entries(alloc)? && read_texts(alloc)? && read_children(alloc)?)
+}
+
+/// Whether parts are read, and read again after a refusal.
+fn parts_are_read(rt: &HostRuntime) -> Result<bool> {
+    match read_parts(rt.alloc()) {
+        Err(error) if is_refusal(rt, &error) => read_parts(rt.alloc()),
+        answer => answer,
+    }
 }
 
 #[test]
-fn a_refused_read_of_parts_is_made_again(rt: HostRuntime) -> Result<()> {
-    let are_read = match read_parts(rt.alloc()) {
-        Err(error) if is_refusal(&rt, &error) => read_parts(rt.alloc())?,
-        answer => answer?,
-    };
-    assert!(rt; are_read);
-    assert!(rt; is_kept::<Number>(&rt, &FREE)?);
-    Ok(())
+fn a_refused_read_of_parts_is_made_again(rt: HostRuntime) {
+    check(&rt, 1, parts_are_read(&rt));
+    check(&rt, 2, is_kept::<Number>(&rt, &FREE));
 }
 
-#[test]
-fn a_refused_push_leaves_the_list(rt: HostRuntime) -> Result<()> {
+/// Whether a refused push leaves the list, and made again it is Ok.
+fn is_pushed(rt: &HostRuntime) -> Result<bool> {
     let mut list: Items<u32> = Items::new(rt.alloc());
     for n in 0..5u32 {
         if list.push(n).is_err() {
-            assert!(rt; is_refusal(&rt, &Error::OutOfMemory) && list.len() == n as usize);
+            if !is_refusal(rt, &Error::OutOfMemory) || list.len() != n as usize {
+                return Ok(false);
+            }
             list.push(n)?;
         }
     }
-    assert!(rt; list.as_slice() == [0, 1, 2, 3, 4].as_slice());
-    assert!(rt; copy_again(&rt, &list)? == list);
-    Ok(())
+    Ok(list.as_slice() == [0, 1, 2, 3, 4].as_slice() && copy_again(rt, &list)? == list)
+}
+
+#[test]
+fn a_refused_push_leaves_the_list(rt: HostRuntime) {
+    check(&rt, 1, is_pushed(&rt));
 }
 
 #[test]
 fn a_refused_list_is_made_again(rt: HostRuntime) {
     if Items::<u32>::with_capacity(rt.alloc(), 3).is_err() {
-        assert!(rt; is_refusal(&rt, &Error::OutOfMemory));
-        assert!(rt; Items::<u32>::with_capacity(rt.alloc(), 3).is_ok());
+        holds(&rt, 1, is_refusal(&rt, &Error::OutOfMemory));
+        holds(&rt, 2, Items::<u32>::with_capacity(rt.alloc(), 3).is_ok());
     }
 }
 
@@ -389,32 +454,56 @@ fn text_again(rt: &HostRuntime, text: &str) -> Result<Text> {
     }
 }
 
-#[test]
-fn a_refused_addition_leaves_the_text(rt: HostRuntime) -> Result<()> {
-    let mut text = text_again(&rt, "u")?;
+/// Whether a refused addition leaves the text, and made again it is Ok.
+fn is_added(rt: &HostRuntime) -> Result<bool> {
+    let mut text = text_again(rt, "u")?;
     if text.push_str("nd, und, und").is_err() {
-        assert!(rt; is_refusal(&rt, &Error::OutOfMemory) && text.len() == 1);
+        if !is_refusal(rt, &Error::OutOfMemory) || text.len() != 1 {
+            return Ok(false);
+        }
         text.push_str("nd, und, und")?;
     }
-    assert!(rt; text == text_again(&rt, "und, und, und")?);
-    assert!(rt; copy_again(&rt, &text)? == text);
-    Ok(())
+    Ok(text.as_str() == "und, und, und" && copy_again(rt, &text)? == text)
 }
 
 #[test]
-fn a_refused_insert_leaves_the_map(rt: HostRuntime) -> Result<()> {
+fn a_refused_addition_leaves_the_text(rt: HostRuntime) {
+    check(&rt, 1, is_added(&rt));
+}
+
+/// Whether a key is inserted; a refused insert has to leave the map of so many keys, and made again it is Ok.
+fn is_inserted(
+    rt: &HostRuntime,
+    map: &mut KeyedItems<Side, u32>,
+    side: Side,
+    count: usize,
+) -> Result<bool> {
+    if map.insert(side, 7).is_err() {
+        if !is_refusal(rt, &Error::OutOfMemory) || map.len() != count || map.get(side).is_some() {
+            return Ok(false);
+        }
+        map.insert(side, 7)?;
+    }
+    Ok(true)
+}
+
+/// Whether four keys are inserted so, and the copy of the map is equal to it.
+fn are_inserted(rt: &HostRuntime) -> Result<bool> {
     let mut map: KeyedItems<Side, u32> = KeyedItems::new(rt.alloc());
-    let sides = [Side::North, Side::East, Side::South, Side::West];
-    for (count, side) in sides.iter().enumerate() {
-        if map.insert(*side, 7).is_err() {
-            assert!(rt; is_refusal(&rt, &Error::OutOfMemory));
-            assert!(rt; map.len() == count && map.get(*side).is_none());
-            map.insert(*side, 7)?;
+    for (count, side) in [Side::North, Side::East, Side::South, Side::West]
+        .iter()
+        .enumerate()
+    {
+        if !is_inserted(rt, &mut map, *side, count)? {
+            return Ok(false);
         }
     }
-    assert_eq!(rt; map.len(), 4);
-    assert!(rt; copy_again(&rt, &map)? == map);
-    Ok(())
+    Ok(map.len() == 4 && copy_again(rt, &map)? == map)
+}
+
+#[test]
+fn a_refused_insert_leaves_the_map(rt: HostRuntime) {
+    check(&rt, 1, are_inserted(&rt));
 }
 
 /// The configuration of the empty movie, which is made again after a refusal.
@@ -435,40 +524,69 @@ fn start_again(rt: &HostRuntime, config: &Mp4Config) -> Result<Mp4Writer> {
     }
 }
 
-#[test]
-fn a_refused_end_leaves_the_writer(rt: HostRuntime) -> Result<()> {
-    let config = config_again(&rt)?;
-    assert!(rt; copy_again(&rt, &config)? == config);
-    let mut writer = start_again(&rt, &config)?;
+/// Whether a configuration is equal to its copy.
+fn config_is_copied(rt: &HostRuntime) -> Result<bool> {
+    let config = config_again(rt)?;
+    Ok(copy_again(rt, &config)? == config)
+}
+
+/// A writer of the empty movie that was begun, which is begun again after a refusal.
+fn begun_again(rt: &HostRuntime) -> Result<Mp4Writer> {
+    let config = config_again(rt)?;
+    start_again(rt, &config)
+}
+
+/// Whether a refused end leaves the writer, and made again it ends the movie.
+fn is_ended(rt: &HostRuntime) -> Result<bool> {
+    let mut writer = begun_again(rt)?;
     if let Err(error) = writer.write_end() {
-        assert!(rt; is_refusal(&rt, &error));
+        if !is_refusal(rt, &error) {
+            return Ok(false);
+        }
         writer.write_end()?;
     }
-    assert_eq!(rt; writer.write_end(), Err(Error::Ended));
-    assert!(rt; writer.into_writer().as_slice() == EMPTY_MOVIE.as_slice());
-    Ok(())
+    let is_refused = writer.write_end() == Err(Error::Ended);
+    Ok(is_refused && writer.into_writer().as_slice() == EMPTY_MOVIE.as_slice())
 }
 
 #[test]
-fn a_refused_end_leaves_the_bytes(rt: HostRuntime) -> Result<()> {
-    let config = config_again(&rt)?;
-    let mut writer = start_again(&rt, &config)?;
+fn a_refused_end_leaves_the_writer(rt: HostRuntime) {
+    check(&rt, 1, config_is_copied(&rt));
+    check(&rt, 2, is_ended(&rt));
+}
+
+/// Whether bytes are those of a writer that was begun.
+fn are_begun(alloc: Global, begun: &[u8]) -> Result<bool> {
+    let mut expected = (&EMPTY_MOVIE[..32]).to_vec(alloc)?;
+    expected.extend_from_slice(b"\0\0\0\x08mdat\0\0\0\x08wide")?;
+    Ok(begun == expected.as_slice())
+}
+
+/// Whether a refused end leaves the bytes.
+fn bytes_are_left(rt: &HostRuntime) -> Result<bool> {
+    let mut writer = begun_again(rt)?;
     if let Err(error) = writer.write_end() {
-        assert!(rt; is_refusal(&rt, &error));
         let begun = writer.into_writer();
-        let mut expected = (&EMPTY_MOVIE[..32]).to_vec(rt.alloc())?;
-        expected.extend_from_slice(b"\0\0\0\x08mdat\0\0\0\x08wide")?;
-        assert!(rt; begun == expected);
+        return Ok(is_refusal(rt, &error) && are_begun(rt.alloc(), &begun)?);
     }
-    Ok(())
+    Ok(true)
 }
 
 #[test]
-fn a_refused_opening_is_made_again(rt: HostRuntime) -> Result<()> {
+fn a_refused_end_leaves_the_bytes(rt: HostRuntime) {
+    check(&rt, 1, bytes_are_left(&rt));
+}
+
+/// The size of the empty movie, which is opened again after a refusal.
+fn opened_again(rt: &HostRuntime) -> Result<u64> {
     let movie = match read_mp4(rt.alloc(), &EMPTY_MOVIE) {
-        Err(error) if is_refusal(&rt, &error) => read_mp4(rt.alloc(), &EMPTY_MOVIE)?,
+        Err(error) if is_refusal(rt, &error) => read_mp4(rt.alloc(), &EMPTY_MOVIE)?,
         answer => answer?,
     };
-    assert_eq!(rt; movie.size(), 164);
-    Ok(())
+    Ok(movie.size())
+}
+
+#[test]
+fn a_refused_opening_is_made_again(rt: HostRuntime) {
+    same(&rt, opened_again(&rt), Ok(164));
 }

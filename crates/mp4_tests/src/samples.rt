@@ -1,7 +1,7 @@
 //! Durations, composition offsets, sync samples and sizes of samples.
 
-use crate::spelled::{hex, is_spelled, keeps_to_its_end, read_bytes, refusal};
-use mp4_codec::{BoxType, Error, Result};
+use crate::spelled::{check, is_invalid, is_spelled, keeps_to_its_end, reads};
+use mp4_codec::{BoxType, Result};
 use mp4_table::{CttsBox, CttsEntry, StssBox, StszBox, SttsBox, SttsEntry};
 use std::alloc::Global;
 
@@ -22,13 +22,21 @@ fn durations(alloc: Global) -> Result<SttsBox> {
     Ok(table)
 }
 
+/// Whether these runs are spelled so.
+fn are_durations(alloc: Global, text: &str) -> Result<bool> {
+    let table = durations(alloc)?;
+    let known = table.get_type() == BoxType::SttsBox && table.get_size() == 32;
+    Ok(known && is_spelled(alloc, &table, text)?)
+}
+
 #[test]
-fn a_run_of_durations_has_8_bytes(rt: HostRuntime) -> Result<()> {
-    let table = durations(rt.alloc())?;
-    assert!(rt; table.get_type() == BoxType::SttsBox && table.get_size() == 32);
-    assert!(rt; is_spelled(rt.alloc(), &table, DURATIONS)?);
-    assert!(rt; keeps_to_its_end::<SttsBox>(rt.alloc(), DURATIONS, 15)?);
-    Ok(())
+fn a_run_of_durations_has_8_bytes(rt: HostRuntime) {
+    check(&rt, 1, are_durations(rt.alloc(), DURATIONS));
+    check(
+        &rt,
+        2,
+        keeps_to_its_end::<SttsBox>(rt.alloc(), DURATIONS, 15),
+    );
 }
 
 const OFFSETS: &str = "00000020 63747473 00000000 00000002 00000001 000000c8 00000002 ffffff9c";
@@ -50,14 +58,18 @@ fn offsets(alloc: Global, version: u8) -> Result<CttsBox> {
     Ok(table)
 }
 
+/// Whether these runs are spelled so.
+fn are_offsets(alloc: Global, version: u8, text: &str) -> Result<bool> {
+    let table = offsets(alloc, version)?;
+    let known = table.get_type() == BoxType::CttsBox && table.get_size() == 32;
+    Ok(known && is_spelled(alloc, &table, text)?)
+}
+
 #[test]
-fn runs_of_offsets_are_signed_in_either_version(rt: HostRuntime) -> Result<()> {
-    let table = offsets(rt.alloc(), 0)?;
-    assert!(rt; table.get_type() == BoxType::CttsBox && table.get_size() == 32);
-    assert!(rt; is_spelled(rt.alloc(), &table, OFFSETS)?);
-    assert!(rt; is_spelled(rt.alloc(), &offsets(rt.alloc(), 1)?, OFFSETS_OF_VERSION_1)?);
-    assert!(rt; keeps_to_its_end::<CttsBox>(rt.alloc(), OFFSETS, 15)?);
-    Ok(())
+fn runs_of_offsets_are_signed_in_either_version(rt: HostRuntime) {
+    check(&rt, 1, are_offsets(rt.alloc(), 0, OFFSETS));
+    check(&rt, 2, are_offsets(rt.alloc(), 1, OFFSETS_OF_VERSION_1));
+    check(&rt, 3, keeps_to_its_end::<CttsBox>(rt.alloc(), OFFSETS, 15));
 }
 
 const SYNC: &str = "00000018 73747373 00000000 00000002 00000001 0000000d";
@@ -69,13 +81,17 @@ fn sync(alloc: Global) -> Result<StssBox> {
     Ok(table)
 }
 
+/// Whether these samples are spelled so.
+fn are_sync(alloc: Global, text: &str) -> Result<bool> {
+    let table = sync(alloc)?;
+    let known = table.get_type() == BoxType::StssBox && table.get_size() == 24;
+    Ok(known && is_spelled(alloc, &table, text)?)
+}
+
 #[test]
-fn sync_samples_are_listed(rt: HostRuntime) -> Result<()> {
-    let table = sync(rt.alloc())?;
-    assert!(rt; table.get_type() == BoxType::StssBox && table.get_size() == 24);
-    assert!(rt; is_spelled(rt.alloc(), &table, SYNC)?);
-    assert!(rt; keeps_to_its_end::<StssBox>(rt.alloc(), SYNC, 15)?);
-    Ok(())
+fn sync_samples_are_listed(rt: HostRuntime) {
+    check(&rt, 1, are_sync(rt.alloc(), SYNC));
+    check(&rt, 2, keeps_to_its_end::<StssBox>(rt.alloc(), SYNC, 15));
 }
 
 /// A table that lists the sizes 1, 2 and so on, so many of them.
@@ -95,43 +111,43 @@ const ONE_SIZE: &str = "00000014 7374737a 00000000 00000200 00000003";
 
 const LISTED: &str = "0000001c 7374737a 00000000 00000000 00000002 00000001 00000002";
 
-#[test]
-fn sizes_are_one_for_all_or_listed(rt: HostRuntime) -> Result<()> {
-    for (sample_size, sample_count, listed, text) in [
-        (0, 0, 0, NO_SAMPLES),
-        (512, 3, 0, ONE_SIZE),
-        (0, 2, 2, LISTED),
-    ] {
-        let table = sizes(rt.alloc(), sample_size, sample_count, listed)?;
-        assert!(rt; is_spelled(rt.alloc(), &table, text)?, "{sample_count}");
-    }
-    assert!(rt; keeps_to_its_end::<StszBox>(rt.alloc(), LISTED, 19)?);
-    Ok(())
+/// Whether these sizes are spelled so.
+fn are_sizes(alloc: Global, size: u32, count: u32, listed: u32, text: &str) -> Result<bool> {
+    let table = sizes(alloc, size, count, listed)?;
+    is_spelled(alloc, &table, text)
 }
 
 #[test]
-fn a_table_of_one_size_lists_nothing(rt: HostRuntime) -> Result<()> {
-    let mut bytes = hex(rt.alloc(), ONE_SIZE)?;
-    bytes.extend_from_slice(&[0xff; 16])?;
-    let table: StszBox = read_bytes(rt.alloc(), &bytes)?;
-    assert!(rt; table == sizes(rt.alloc(), 512, 3, 0)?);
-    assert!(rt; table.get_type() == BoxType::StszBox);
-    Ok(())
+fn sizes_are_one_for_all_or_listed(rt: HostRuntime) {
+    check(&rt, 1, are_sizes(rt.alloc(), 0, 0, 0, NO_SAMPLES));
+    check(&rt, 2, are_sizes(rt.alloc(), 512, 3, 0, ONE_SIZE));
+    check(&rt, 3, are_sizes(rt.alloc(), 0, 2, 2, LISTED));
+    check(&rt, 4, keeps_to_its_end::<StszBox>(rt.alloc(), LISTED, 19));
+}
+
+/// Whether a text spells three samples of 512 bytes.
+fn reads_one_size(alloc: Global, text: &str) -> Result<bool> {
+    let table = sizes(alloc, 512, 3, 0)?;
+    Ok(table.get_type() == BoxType::StszBox && reads(alloc, text, &table)?)
 }
 
 #[test]
-fn a_list_that_is_not_as_long_as_it_says_is_refused(rt: HostRuntime) -> Result<()> {
-    for (sample_size, sample_count, listed, size) in [
-        (0, 1, 0, 20),
-        (0, 0, 1, 24),
-        (0, 2, 3, 32),
-        (4, 2, 2, 28),
-        (4, 0, 1, 24),
-    ] {
-        let table = sizes(rt.alloc(), sample_size, sample_count, listed)?;
-        let refused = refusal(rt.alloc(), &table)?;
-        assert!(rt; matches!(&refused, Some(Error::InvalidData(_))), "{size}");
-        assert!(rt; table.get_size() == size, "{size}");
-    }
-    Ok(())
+fn a_table_of_one_size_lists_nothing(rt: HostRuntime) {
+    let text = "00000024 7374737a 00000000 00000200 00000003 ffffffffffffffffffffffffffffffff";
+    check(&rt, 1, reads_one_size(rt.alloc(), text));
+}
+
+/// Whether a table is refused, and its size counts all that it lists.
+fn is_refused(alloc: Global, sample_size: u32, count: u32, listed: u32, size: u64) -> Result<bool> {
+    let table = sizes(alloc, sample_size, count, listed)?;
+    Ok(table.get_size() == size && is_invalid(alloc, &table)?)
+}
+
+#[test]
+fn a_list_that_is_not_as_long_as_it_says_is_refused(rt: HostRuntime) {
+    check(&rt, 1, is_refused(rt.alloc(), 0, 1, 0, 20));
+    check(&rt, 2, is_refused(rt.alloc(), 0, 0, 1, 24));
+    check(&rt, 3, is_refused(rt.alloc(), 0, 2, 3, 32));
+    check(&rt, 4, is_refused(rt.alloc(), 4, 2, 2, 28));
+    check(&rt, 5, is_refused(rt.alloc(), 4, 0, 1, 24));
 }

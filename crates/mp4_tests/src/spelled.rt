@@ -2,6 +2,40 @@
 
 use mp4_codec::{ByteCursor, Error, HEADER_SIZE, Limit, ReadBox, Result, TryClone, WriteBox};
 use std::alloc::Global;
+use std::fmt::{Debug, Display};
+use std::process::Abort;
+
+/// Ends the test and prints which case it is, unless the answer is `Ok(true)`. A case has a name of its own in
+/// its test: a text, or its number. The tests assert by these functions, since an assertion in the test itself is
+/// far dearer to prove.
+pub fn check(rt: &impl Abort, case: impl Display + Drop, answer: Result<bool>) {
+    assert!(rt; matches!(answer, Ok(true)), "case {case}");
+}
+
+/// Ends the test and prints which case it is, unless the statement holds.
+pub fn holds(rt: &impl Abort, case: impl Display + Drop, statement: bool) {
+    assert!(rt; statement, "case {case}");
+}
+
+/// Ends the test and prints both values, unless they are equal.
+pub fn same<T: PartialEq + Debug + Drop>(rt: &impl Abort, value: T, expected: T) {
+    assert_eq!(rt; value, expected);
+}
+
+/// Ends the test and prints which case it is and both values, unless they are equal.
+pub fn same_at<T: PartialEq + Debug + Drop>(
+    rt: &impl Abort,
+    case: impl Display + Drop,
+    value: T,
+    expected: T,
+) {
+    assert_eq!(rt; value, expected, "case {case}");
+}
+
+/// Whether a value prints as a text.
+pub fn prints(alloc: Global, value: &impl Display, text: &str) -> Result<bool> {
+    Ok(format!(in alloc; "{value}")?.as_str() == text)
+}
 
 /// The bytes that a text spells, two digits each; spaces are skipped.
 pub fn hex(alloc: Global, text: &str) -> Result<Vec<u8>> {
@@ -36,6 +70,11 @@ pub fn read<B: ReadBox>(alloc: Global, text: &str) -> Result<B> {
     read_bytes(alloc, &bytes)
 }
 
+/// Whether the box whose bytes a text spells is equal to a value.
+pub fn reads<B: ReadBox + PartialEq>(alloc: Global, text: &str, value: &B) -> Result<bool> {
+    Ok(read::<B>(alloc, text)? == *value)
+}
+
 /// The bytes of a box.
 pub fn written<B: WriteBox>(alloc: Global, value: &B) -> Result<Vec<u8>> {
     let mut bytes = Vec::new(alloc);
@@ -61,6 +100,16 @@ pub fn is_spelled<B: WriteBox + TryClone + PartialEq>(
             && read::<B>(alloc, text)? == *value
             && value.try_clone()? == *value,
     )
+}
+
+/// Whether a box is spelled by a text, read from it, and refused where the text is cut below `needed` bytes.
+pub fn is_whole<B: WriteBox + TryClone + PartialEq>(
+    alloc: Global,
+    value: &B,
+    text: &str,
+    needed: usize,
+) -> Result<bool> {
+    Ok(is_spelled(alloc, value, text)? && needs::<B>(alloc, text, needed)?)
 }
 
 /// Whether bytes are refused as invalid data.

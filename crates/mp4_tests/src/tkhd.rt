@@ -1,6 +1,8 @@
 //! Track headers.
 
-use crate::spelled::{is_invalid, is_past_its_field, is_spelled, is_unreadable, needs, read};
+use crate::spelled::{
+    check, holds, is_invalid, is_past_its_field, is_spelled, is_unreadable, needs, reads, same,
+};
 use mp4_codec::{BoxType, Result};
 use mp4_leaf::{FixedPointU8, FixedPointU16, Matrix, TkhdBox};
 
@@ -14,17 +16,16 @@ const VERSION_ONE: &str =
     00000000 00010000 00000000 ffff0000 00000000 00000000 00000001 00000002 40000000 01400000 00f08000";
 
 #[test]
-fn the_default_has_92_bytes(rt: HostRuntime) -> Result<()> {
+fn the_default_has_92_bytes(rt: HostRuntime) {
     let default = TkhdBox::default();
-    assert_eq!(rt; default.get_type(), BoxType::TkhdBox);
-    assert_eq!(rt; default.get_size(), 92);
-    assert!(rt; is_spelled(rt.alloc(), &default, DEFAULT)?);
-    assert!(rt; needs::<TkhdBox>(rt.alloc(), DEFAULT, 92)?);
-    Ok(())
+    same(&rt, default.get_type(), BoxType::TkhdBox);
+    same(&rt, default.get_size(), 92);
+    check(&rt, 1, is_spelled(rt.alloc(), &default, DEFAULT));
+    check(&rt, 2, needs::<TkhdBox>(rt.alloc(), DEFAULT, 92));
 }
 
 #[test]
-fn version_one_has_104_bytes(rt: HostRuntime) -> Result<()> {
+fn version_one_has_104_bytes(rt: HostRuntime) {
     let leaf = TkhdBox {
         version: 1,
         flags: 7,
@@ -49,19 +50,17 @@ fn version_one_has_104_bytes(rt: HostRuntime) -> Result<()> {
         width: FixedPointU16::new(320),
         height: FixedPointU16::new_raw(0x00f0_8000),
     };
-    assert_eq!(rt; leaf.get_size(), 104);
-    assert!(rt; is_spelled(rt.alloc(), &leaf, VERSION_ONE)?);
-    assert!(rt; needs::<TkhdBox>(rt.alloc(), VERSION_ONE, 104)?);
-    Ok(())
+    same(&rt, leaf.get_size(), 104);
+    check(&rt, 1, is_spelled(rt.alloc(), &leaf, VERSION_ONE));
+    check(&rt, 2, needs::<TkhdBox>(rt.alloc(), VERSION_ONE, 104));
 }
 
 #[test]
-fn reserved_bytes_are_skipped(rt: HostRuntime) -> Result<()> {
+fn reserved_bytes_are_skipped(rt: HostRuntime) {
     let text = "0000005c 746b6864 00 000001 00000000 00000000 00000000 ffffffff 00000000 \
         ffffffffffffffff 0000 0000 0100 ffff \
         00010000 00000000 00000000 00000000 00010000 00000000 00000000 00000000 40000000 00000000 00000000";
-    assert!(rt; read::<TkhdBox>(rt.alloc(), text)? == TkhdBox::default());
-    Ok(())
+    check(&rt, 1, reads(rt.alloc(), text, &TkhdBox::default()));
 }
 
 #[test]
@@ -69,14 +68,15 @@ fn a_width_in_whole_pixels_is_set_in_65536ths(rt: HostRuntime) {
     let mut leaf = TkhdBox::default();
     leaf.set_width(65535);
     leaf.set_height(1);
-    assert_eq!(rt;
+    same(
+        &rt,
         (leaf.width.raw_value(), leaf.height.raw_value()),
-        (0xffff_0000, 0x0001_0000)
+        (0xffff_0000, 0x0001_0000),
     );
 }
 
 #[test]
-fn a_number_past_32_bits_is_written_in_version_one_alone(rt: HostRuntime) -> Result<()> {
+fn a_number_past_32_bits_is_written_in_version_one_alone(rt: HostRuntime) {
     let past = 0x1_0000_0000;
     for (creation_time, modification_time, duration) in [(past, 0, 0), (0, past, 0), (0, 0, past)] {
         let mut leaf = TkhdBox {
@@ -85,13 +85,12 @@ fn a_number_past_32_bits_is_written_in_version_one_alone(rt: HostRuntime) -> Res
             duration,
             ..TkhdBox::default()
         };
-        assert!(rt; is_past_its_field(rt.alloc(), &leaf)?);
-        assert_eq!(rt; leaf.get_size(), 92);
+        check(&rt, 1, is_past_its_field(rt.alloc(), &leaf));
+        same(&rt, leaf.get_size(), 92);
         leaf.version = 2;
-        assert!(rt; is_invalid(rt.alloc(), &leaf)?);
-        assert_eq!(rt; leaf.get_size(), 92);
+        check(&rt, 2, is_invalid(rt.alloc(), &leaf));
+        same(&rt, leaf.get_size(), 92);
     }
-    Ok(())
 }
 
 #[test]
@@ -99,5 +98,5 @@ fn an_unknown_version_is_invalid(rt: HostRuntime) {
     let text = "0000005c 746b6864 02 000001 00000000 00000000 00000000 00000000 00000000 \
         0000000000000000 0000 0000 0100 0000 \
         00010000 00000000 00000000 00000000 00010000 00000000 00000000 00000000 40000000 00000000 00000000";
-    assert!(rt; is_unreadable::<TkhdBox>(rt.alloc(), text));
+    holds(&rt, 1, is_unreadable::<TkhdBox>(rt.alloc(), text));
 }

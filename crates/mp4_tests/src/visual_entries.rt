@@ -1,9 +1,10 @@
 //! Sample entries of video.
 
 use crate::spelled::{
-    hex, is_spelled, is_unreadable, is_unrepresentable, needs, read, read_bytes, writes, written,
+    check, hex, holds, is_spelled, is_unreadable, is_unrepresentable, is_whole, needs, read,
+    read_bytes, reads, writes, written,
 };
-use mp4_codec::{BoxType, Items, Result, TryClone, WriteBox};
+use mp4_codec::{BoxType, Items, ReadBox, Result, TryClone, WriteBox};
 use mp4_entry::{
     Avc1Box, AvcCBox, AvcConfig, Hev1Box, HevcConfig, HvcCBox, NalUnit, Vp09Box, Vp9Config, VpccBox,
 };
@@ -69,49 +70,99 @@ fn is_entry<B: WriteBox + TryClone + PartialEq>(
     Ok(is_spelled(alloc, value, &text)? && needs::<B>(alloc, &text, size)?)
 }
 
-#[test]
-fn the_default_avc1_has_101_bytes(rt: HostRuntime) -> Result<()> {
-    let avc1 = Avc1Box::default(rt.alloc())?;
-    assert_eq!(rt; (avc1.get_type(), avc1.get_size()), (BoxType::Avc1Box, 101));
-    assert!(rt; is_spelled(rt.alloc(), &avc1.avcc, DEFAULT_AVCC)?);
-    let header = "00000065 61766331";
-    assert!(rt; is_entry(rt.alloc(), &avc1, header, DEFAULT_VISUAL, DEFAULT_AVCC)?);
-    Ok(())
+/// Whether the default is known by its types and sizes, and spelled so.
+fn is_default_avc1(alloc: Global) -> Result<bool> {
+    let entry = Avc1Box::default(alloc)?;
+    let leaf = &entry.avcc;
+    let known = entry.get_type() == BoxType::Avc1Box && leaf.get_type() == BoxType::AvcCBox;
+    Ok(
+        known
+            && entry.get_size() == 101
+            && is_spelled(alloc, leaf, DEFAULT_AVCC)?
+            && is_entry(
+                alloc,
+                &entry,
+                "00000065 61766331",
+                DEFAULT_VISUAL,
+                DEFAULT_AVCC,
+            )?,
+    )
 }
 
 #[test]
-fn the_default_hev1_has_117_bytes(rt: HostRuntime) -> Result<()> {
-    let hev1 = Hev1Box::default(rt.alloc())?;
-    assert_eq!(rt; (hev1.get_type(), hev1.get_size()), (BoxType::Hev1Box, 117));
-    let hvcc = "0000001f 68766343 01 00000000000000000000000000000000000000000000";
-    assert!(rt; is_spelled(rt.alloc(), &hev1.hvcc, hvcc)?);
-    let header = "00000075 68657631";
-    assert!(rt; is_entry(rt.alloc(), &hev1, header, DEFAULT_VISUAL, hvcc)?);
-    Ok(())
+fn the_default_avc1_has_101_bytes(rt: HostRuntime) {
+    check(&rt, 1, is_default_avc1(rt.alloc()));
+}
+
+const DEFAULT_HVCC: &str = "0000001f 68766343 01 00000000000000000000000000000000000000000000";
+
+/// Whether the default is known by its types and sizes, and spelled so.
+fn is_default_hev1(alloc: Global) -> Result<bool> {
+    let entry = Hev1Box::default(alloc)?;
+    let leaf = &entry.hvcc;
+    let known = entry.get_type() == BoxType::Hev1Box && leaf.get_type() == BoxType::HvcCBox;
+    Ok(
+        known
+            && entry.get_size() == 117
+            && is_spelled(alloc, leaf, DEFAULT_HVCC)?
+            && is_entry(
+                alloc,
+                &entry,
+                "00000075 68657631",
+                DEFAULT_VISUAL,
+                DEFAULT_HVCC,
+            )?,
+    )
 }
 
 #[test]
-fn the_default_vp09_has_106_bytes(rt: HostRuntime) -> Result<()> {
-    let vp09 = Vp09Box::default(rt.alloc())?;
-    assert_eq!(rt; (vp09.get_type(), vp09.get_size()), (BoxType::Vp09Box, 106));
-    let vpcc = "00000014 76706343 01 000000 00 1f 80 00 00 00 0000";
-    assert!(rt; is_spelled(rt.alloc(), &vp09.vpcc, vpcc)?);
-    let header = "0000006a 76703039";
-    assert!(rt; is_entry(rt.alloc(), &vp09, header, DEFAULT_VISUAL, vpcc)?);
-    Ok(())
+fn the_default_hev1_has_117_bytes(rt: HostRuntime) {
+    check(&rt, 1, is_default_hev1(rt.alloc()));
+}
+
+const DEFAULT_VPCC: &str = "00000014 76706343 01 000000 00 1f 80 00 00 00 0000";
+
+/// Whether the default is known by its types and sizes, and spelled so.
+fn is_default_vp09(alloc: Global) -> Result<bool> {
+    let entry = Vp09Box::default(alloc)?;
+    let leaf = &entry.vpcc;
+    let known = entry.get_type() == BoxType::Vp09Box && leaf.get_type() == BoxType::VpccBox;
+    Ok(
+        known
+            && entry.get_size() == 106
+            && is_spelled(alloc, leaf, DEFAULT_VPCC)?
+            && is_entry(
+                alloc,
+                &entry,
+                "0000006a 76703039",
+                DEFAULT_VISUAL,
+                DEFAULT_VPCC,
+            )?,
+    )
 }
 
 #[test]
-fn each_box_in_an_entry_has_its_type(rt: HostRuntime) -> Result<()> {
-    assert_eq!(rt; AvcCBox::default(rt.alloc())?.get_type(), BoxType::AvcCBox);
-    assert_eq!(rt; HvcCBox::default(rt.alloc())?.get_type(), BoxType::HvcCBox);
-    assert_eq!(rt; VpccBox::default(rt.alloc())?.get_type(), BoxType::VpccBox);
-    Ok(())
+fn the_default_vp09_has_106_bytes(rt: HostRuntime) {
+    check(&rt, 1, is_default_vp09(rt.alloc()));
+}
+
+/// Whether each box in an entry has a default of its own.
+fn have_defaults(alloc: Global) -> Result<bool> {
+    Ok(
+        AvcCBox::default(alloc)?.get_type() == BoxType::AvcCBox
+            && HvcCBox::default(alloc)?.get_type() == BoxType::HvcCBox
+            && VpccBox::default(alloc)?.get_type() == BoxType::VpccBox,
+    )
 }
 
 #[test]
-fn each_field_of_avc1_stands_in_its_place(rt: HostRuntime) -> Result<()> {
-    let avc1 = Avc1Box {
+fn each_box_in_an_entry_has_its_type(rt: HostRuntime) {
+    check(&rt, 1, have_defaults(rt.alloc()));
+}
+
+/// An entry with a number of its own in each field.
+fn filled_avc1(alloc: Global) -> Result<Avc1Box> {
+    Ok(Avc1Box {
         data_reference_index: 0x0102,
         width: 0x0304,
         height: 0x0506,
@@ -119,18 +170,32 @@ fn each_field_of_avc1_stands_in_its_place(rt: HostRuntime) -> Result<()> {
         vertresolution: FixedPointU16::new_raw(0x0b0c_0d0e),
         frame_count: 0x0f10,
         depth: 0x1112,
-        avcc: AvcCBox::default(rt.alloc())?,
-    };
-    let header = "00000065 61766331";
-    assert!(rt; is_entry(rt.alloc(), &avc1, header, VISUAL, DEFAULT_AVCC)?);
-    let unseen = entry_text(rt.alloc(), header, VISUAL_UNSEEN, DEFAULT_AVCC)?;
-    assert!(rt; read::<Avc1Box>(rt.alloc(), &unseen)? == avc1);
-    Ok(())
+        avcc: AvcCBox::default(alloc)?,
+    })
+}
+
+/// Whether it is spelled so.
+fn is_filled_avc1(alloc: Global) -> Result<bool> {
+    let entry = filled_avc1(alloc)?;
+    is_entry(alloc, &entry, "00000065 61766331", VISUAL, DEFAULT_AVCC)
+}
+
+/// Whether it is read where other bytes stand where a reader doesn't look.
+fn is_read_with_unseen(alloc: Global) -> Result<bool> {
+    let entry = filled_avc1(alloc)?;
+    let text = entry_text(alloc, "00000065 61766331", VISUAL_UNSEEN, DEFAULT_AVCC)?;
+    reads(alloc, &text, &entry)
 }
 
 #[test]
-fn each_field_of_hev1_stands_in_its_place(rt: HostRuntime) -> Result<()> {
-    let hev1 = Hev1Box {
+fn each_field_of_avc1_stands_in_its_place(rt: HostRuntime) {
+    check(&rt, 1, is_filled_avc1(rt.alloc()));
+    check(&rt, 2, is_read_with_unseen(rt.alloc()));
+}
+
+/// An entry with a number of its own in each field.
+fn filled_hev1(alloc: Global) -> Result<Hev1Box> {
+    Ok(Hev1Box {
         data_reference_index: 0x0102,
         width: 0x0304,
         height: 0x0506,
@@ -139,17 +204,31 @@ fn each_field_of_hev1_stands_in_its_place(rt: HostRuntime) -> Result<()> {
         frame_count: 0x0f10,
         depth: 0x1112,
         hvcc: HvcCBox {
-            raw: Items::from(hex(rt.alloc(), "aabbcc")?),
+            raw: Items::from(hex(alloc, "aabbcc")?),
         },
-    };
-    let hvcc = "0000000b 68766343 aabbcc";
-    assert!(rt; is_entry(rt.alloc(), &hev1, "00000061 68657631", VISUAL, hvcc)?);
-    Ok(())
+    })
+}
+
+/// Whether it is spelled so.
+fn is_filled_hev1(alloc: Global) -> Result<bool> {
+    let entry = filled_hev1(alloc)?;
+    is_entry(
+        alloc,
+        &entry,
+        "00000061 68657631",
+        VISUAL,
+        "0000000b 68766343 aabbcc",
+    )
 }
 
 #[test]
-fn each_field_of_vp09_stands_in_its_place(rt: HostRuntime) -> Result<()> {
-    let vp09 = Vp09Box {
+fn each_field_of_hev1_stands_in_its_place(rt: HostRuntime) {
+    check(&rt, 1, is_filled_hev1(rt.alloc()));
+}
+
+/// An entry with a number of its own in each field.
+fn filled_vp09(alloc: Global) -> Result<Vp09Box> {
+    Ok(Vp09Box {
         data_reference_index: 0x0102,
         width: 0x0304,
         height: 0x0506,
@@ -158,39 +237,70 @@ fn each_field_of_vp09_stands_in_its_place(rt: HostRuntime) -> Result<()> {
         frame_count: 0x0f10,
         depth: 0x1112,
         vpcc: VpccBox {
-            raw: Items::from(hex(rt.alloc(), "dd")?),
+            raw: Items::from(hex(alloc, "dd")?),
         },
-    };
-    let vpcc = "00000009 76706343 dd";
-    assert!(rt; is_entry(rt.alloc(), &vp09, "0000005f 76703039", VISUAL, vpcc)?);
-    Ok(())
+    })
+}
+
+/// Whether it is spelled so.
+fn is_filled_vp09(alloc: Global) -> Result<bool> {
+    let entry = filled_vp09(alloc)?;
+    is_entry(
+        alloc,
+        &entry,
+        "0000005f 76703039",
+        VISUAL,
+        "00000009 76706343 dd",
+    )
 }
 
 #[test]
-fn the_last_avcc_of_an_entry_stands(rt: HostRuntime) -> Result<()> {
-    // Two of them, with a child of another type before, between and behind them.
-    let text = format!(in rt.alloc();
+fn each_field_of_vp09_stands_in_its_place(rt: HostRuntime) {
+    check(&rt, 1, is_filled_vp09(rt.alloc()));
+}
+
+const SECOND_AVCC: &str = "0000000f 61766343 02 0d0e0f fe e0 00";
+
+/// An entry with two configurations, and a child of another type before, between and behind them.
+fn of_two(alloc: Global) -> Result<Avc1Box> {
+    let text = format!(in alloc;
         "00000089 61766331 {VISUAL} 00000008 70617370 0000000f 61766343 01 0a0b0c fd e0 00 00000009 62747274 ee 0000000f 61766343 02 0d0e0f fe e0 00 00000007"
     )?;
-    let entry: Avc1Box = read(rt.alloc(), &text)?;
-    let avcc = "0000000f 61766343 02 0d0e0f fe e0 00";
-    assert!(rt; is_spelled(rt.alloc(), &entry.avcc, avcc)?);
-    let text = format!(in rt.alloc(); "00000065 61766331 {VISUAL} {avcc}")?;
-    assert!(rt; is_spelled(rt.alloc(), &entry, &text)?);
-    Ok(())
+    read(alloc, &text)
+}
+
+/// Whether the second alone is kept.
+fn second_is_kept(alloc: Global) -> Result<bool> {
+    let entry = of_two(alloc)?;
+    let text = entry_text(alloc, "00000065 61766331", VISUAL, SECOND_AVCC)?;
+    Ok(is_spelled(alloc, &entry.avcc, SECOND_AVCC)? && is_spelled(alloc, &entry, &text)?)
 }
 
 #[test]
-fn an_entry_that_ends_in_four_zero_bytes_is_read(rt: HostRuntime) -> Result<()> {
-    let text = format!(in rt.alloc();
-        "00000069 61766331 {DEFAULT_VISUAL} {DEFAULT_AVCC} 00000000"
-    )?;
-    assert!(rt; read::<Avc1Box>(rt.alloc(), &text)? == Avc1Box::default(rt.alloc())?);
-    Ok(())
+fn the_last_avcc_of_an_entry_stands(rt: HostRuntime) {
+    check(&rt, 1, second_is_kept(rt.alloc()));
+}
+
+/// Whether four zero bytes behind the default are skipped.
+fn reads_with_four_zero_bytes(alloc: Global) -> Result<bool> {
+    let default = Avc1Box::default(alloc)?;
+    let text = format!(in alloc; "00000069 61766331 {DEFAULT_VISUAL} {DEFAULT_AVCC} 00000000")?;
+    reads(alloc, &text, &default)
 }
 
 #[test]
-fn an_entry_without_its_configuration_is_invalid(rt: HostRuntime) -> Result<()> {
+fn an_entry_that_ends_in_four_zero_bytes_is_read(rt: HostRuntime) {
+    check(&rt, 1, reads_with_four_zero_bytes(rt.alloc()));
+}
+
+/// Whether an entry of these parts is refused as invalid data.
+fn is_refused<B: ReadBox>(alloc: Global, header: &str, child: &str) -> Result<bool> {
+    let text = entry_text(alloc, header, VISUAL, child)?;
+    Ok(is_unreadable::<B>(alloc, &text))
+}
+
+#[test]
+fn an_entry_without_its_configuration_is_invalid(rt: HostRuntime) {
     let children = [
         // No child, one of another type, one of another coding.
         "",
@@ -207,28 +317,46 @@ fn an_entry_without_its_configuration_is_invalid(rt: HostRuntime) -> Result<()> 
         "0000000f 61766343 01 000000 ff e0 00 0000000000000000",
     ];
     for child in children {
-        let text = format!(in rt.alloc(); "00000000 61766331 {VISUAL} {child}")?;
-        assert!(rt; is_unreadable::<Avc1Box>(rt.alloc(), &text), "{child}");
+        check(
+            &rt,
+            child,
+            is_refused::<Avc1Box>(rt.alloc(), "00000000 61766331", child),
+        );
     }
-    Ok(())
 }
 
 #[test]
-fn an_entry_with_the_configuration_of_another_coding_is_invalid(rt: HostRuntime) -> Result<()> {
-    let text = entry_text(rt.alloc(), "00000000 68657631", VISUAL, DEFAULT_AVCC)?;
-    assert!(rt; is_unreadable::<Hev1Box>(rt.alloc(), &text));
-    let text = entry_text(rt.alloc(), "00000000 76703039", VISUAL, DEFAULT_AVCC)?;
-    assert!(rt; is_unreadable::<Vp09Box>(rt.alloc(), &text));
-    Ok(())
+fn an_entry_with_the_configuration_of_another_coding_is_invalid(rt: HostRuntime) {
+    check(
+        &rt,
+        1,
+        is_refused::<Hev1Box>(rt.alloc(), "00000000 68657631", DEFAULT_AVCC),
+    );
+    check(
+        &rt,
+        2,
+        is_refused::<Vp09Box>(rt.alloc(), "00000000 76703039", DEFAULT_AVCC),
+    );
+}
+
+/// Whether the configuration of HEVC in an entry is empty.
+fn is_empty_hvcc(alloc: Global) -> Result<bool> {
+    let text = entry_text(alloc, "0000005e 68657631", VISUAL, "00000008 68766343")?;
+    let entry: Hev1Box = read(alloc, &text)?;
+    Ok(entry.hvcc.raw.is_empty())
+}
+
+/// Whether the configuration of VP9 in an entry is empty.
+fn is_empty_vpcc(alloc: Global) -> Result<bool> {
+    let text = entry_text(alloc, "0000005e 76703039", VISUAL, "00000008 76706343")?;
+    let entry: Vp09Box = read(alloc, &text)?;
+    Ok(entry.vpcc.raw.is_empty())
 }
 
 #[test]
-fn a_configuration_that_is_kept_as_it_stands_may_be_empty(rt: HostRuntime) -> Result<()> {
-    let text = entry_text(rt.alloc(), "0000005e 68657631", VISUAL, "00000008 68766343")?;
-    assert!(rt; read::<Hev1Box>(rt.alloc(), &text)?.hvcc.raw.is_empty());
-    let text = entry_text(rt.alloc(), "0000005e 76703039", VISUAL, "00000008 76706343")?;
-    assert!(rt; read::<Vp09Box>(rt.alloc(), &text)?.vpcc.raw.is_empty());
-    Ok(())
+fn a_configuration_that_is_kept_as_it_stands_may_be_empty(rt: HostRuntime) {
+    check(&rt, 1, is_empty_hvcc(rt.alloc()));
+    check(&rt, 2, is_empty_vpcc(rt.alloc()));
 }
 
 /// Two parameter sets of these bytes.
@@ -249,43 +377,68 @@ fn long_set(alloc: Global, count: usize) -> Result<AvcCBox> {
     Ok(leaf)
 }
 
+/// A configuration with two sets of each kind.
+fn of_four_sets(alloc: Global) -> Result<AvcCBox> {
+    let mut leaf = AvcCBox::default(alloc)?;
+    leaf.avc_profile_indication = 0x64;
+    leaf.profile_compatibility = 0x0a;
+    leaf.avc_level_indication = 0x1f;
+    leaf.length_size_minus_one = 0;
+    leaf.sequence_parameter_sets = two_sets(alloc, "67640a1f", "67")?;
+    leaf.picture_parameter_sets = two_sets(alloc, "68ee3c", "")?;
+    Ok(leaf)
+}
+
+/// Whether it is spelled so.
+fn are_four_sets(alloc: Global, text: &str) -> Result<bool> {
+    let leaf = of_four_sets(alloc)?;
+    Ok(leaf.get_size() == 31 && is_whole(alloc, &leaf, text, 31)?)
+}
+
 #[test]
-fn the_sets_of_avcc_have_lengths_of_two_bytes(rt: HostRuntime) -> Result<()> {
-    let leaf = AvcCBox {
-        configuration_version: 1,
-        avc_profile_indication: 0x64,
-        profile_compatibility: 0x0a,
-        avc_level_indication: 0x1f,
-        length_size_minus_one: 0,
-        sequence_parameter_sets: two_sets(rt.alloc(), "67640a1f", "67")?,
-        picture_parameter_sets: two_sets(rt.alloc(), "68ee3c", "")?,
-    };
+fn the_sets_of_avcc_have_lengths_of_two_bytes(rt: HostRuntime) {
     let text = "0000001f 61766343 01 64 0a 1f fc e2 0004 67640a1f 0001 67 02 0003 68ee3c 0000";
-    assert_eq!(rt; leaf.get_size(), 31);
-    assert!(rt; is_spelled(rt.alloc(), &leaf, text)?);
-    assert!(rt; needs::<AvcCBox>(rt.alloc(), text, 31)?);
-    Ok(())
+    check(&rt, 1, are_four_sets(rt.alloc(), text));
+}
+
+/// Whether a set of 258 bytes is written with its length.
+fn has_its_length(alloc: Global) -> Result<bool> {
+    let leaf = long_set(alloc, 258)?;
+    let bytes = written(alloc, &leaf)?;
+    Ok(bytes.len() == 275 && bytes.get(13..16) == Some(&[0xe1, 0x01, 0x02]))
 }
 
 #[test]
-fn the_high_byte_of_a_sets_length_comes_first(rt: HostRuntime) -> Result<()> {
-    let bytes = written(rt.alloc(), &long_set(rt.alloc(), 258)?)?;
-    assert_eq!(rt; bytes.len(), 275);
-    assert!(rt; bytes.get(13..16) == Some(&[0xe1, 0x01, 0x02]));
-    Ok(())
+fn the_high_byte_of_a_sets_length_comes_first(rt: HostRuntime) {
+    check(&rt, 1, has_its_length(rt.alloc()));
 }
 
-#[test]
-fn the_high_bits_of_two_bytes_of_avcc_are_not_looked_at(rt: HostRuntime) -> Result<()> {
-    let mut leaf = AvcCBox::default(rt.alloc())?;
+/// A configuration with a length size of two bytes and one sequence parameter set of one byte.
+fn of_one_set(alloc: Global) -> Result<AvcCBox> {
+    let mut leaf = AvcCBox::default(alloc)?;
     leaf.length_size_minus_one = 1;
-    leaf.sequence_parameter_sets = one_set(rt.alloc(), "67")?;
-    assert!(rt;
-        is_spelled(
-            rt.alloc(),
-            &leaf,
-            "00000012 61766343 01 000000 fd e1 0001 67 00"
-        )?
+    leaf.sequence_parameter_sets = one_set(alloc, "67")?;
+    Ok(leaf)
+}
+
+/// Whether it is spelled so.
+fn is_one_set(alloc: Global, text: &str) -> Result<bool> {
+    let leaf = of_one_set(alloc)?;
+    is_spelled(alloc, &leaf, text)
+}
+
+/// Whether a text is read as it.
+fn reads_one_set(alloc: Global, text: &str) -> Result<bool> {
+    let leaf = of_one_set(alloc)?;
+    reads(alloc, text, &leaf)
+}
+
+#[test]
+fn the_high_bits_of_two_bytes_of_avcc_are_not_looked_at(rt: HostRuntime) {
+    check(
+        &rt,
+        1,
+        is_one_set(rt.alloc(), "00000012 61766343 01 000000 fd e1 0001 67 00"),
     );
     let rows = [
         "00000012 61766343 01 000000 01 01 0001 67 00",
@@ -294,9 +447,8 @@ fn the_high_bits_of_two_bytes_of_avcc_are_not_looked_at(rt: HostRuntime) -> Resu
         "00000016 61766343 01 000000 fd e1 0001 67 00 fdf8f800",
     ];
     for text in rows {
-        assert!(rt; read::<AvcCBox>(rt.alloc(), text)? == leaf, "{text}");
+        check(&rt, text, reads_one_set(rt.alloc(), text));
     }
-    Ok(())
 }
 
 #[test]
@@ -311,7 +463,7 @@ fn sets_that_pass_the_end_are_invalid(rt: HostRuntime) {
         "00000012 61766343 01 000000 ff e0 01 0101 68",
     ];
     for text in rows {
-        assert!(rt; is_unreadable::<AvcCBox>(rt.alloc(), text), "{text}");
+        holds(&rt, text, is_unreadable::<AvcCBox>(rt.alloc(), text));
     }
 }
 
@@ -328,99 +480,156 @@ fn has_no_bits(alloc: Global, leaf: &AvcCBox, size: u64) -> Result<bool> {
     Ok(is_unrepresentable(alloc, leaf)? && leaf.get_size() == size)
 }
 
-#[test]
-fn a_length_size_over_3_is_unrepresentable(rt: HostRuntime) -> Result<()> {
-    let mut leaf = AvcCBox::default(rt.alloc())?;
-    leaf.length_size_minus_one = 4;
-    assert!(rt; has_no_bits(rt.alloc(), &leaf, 15)?);
-    Ok(())
+/// Whether a configuration with this length size less 1 is unrepresentable.
+fn has_no_length_size(alloc: Global, length_size_minus_one: u8) -> Result<bool> {
+    let mut leaf = AvcCBox::default(alloc)?;
+    leaf.length_size_minus_one = length_size_minus_one;
+    has_no_bits(alloc, &leaf, 15)
 }
 
 #[test]
-fn more_sets_than_avcc_counts_are_unrepresentable(rt: HostRuntime) -> Result<()> {
-    assert!(rt; has_no_bits(rt.alloc(), &with_sets(rt.alloc(), 32, 0)?, 79)?);
-    assert!(rt; has_no_bits(rt.alloc(), &with_sets(rt.alloc(), 31, 256)?, 589)?);
-    Ok(())
+fn a_length_size_over_3_is_unrepresentable(rt: HostRuntime) {
+    check(&rt, 1, has_no_length_size(rt.alloc(), 4));
+}
+
+/// Whether a configuration with so many sets is unrepresentable.
+fn has_too_many(alloc: Global, sequences: usize, pictures: usize, size: u64) -> Result<bool> {
+    let leaf = with_sets(alloc, sequences, pictures)?;
+    has_no_bits(alloc, &leaf, size)
 }
 
 #[test]
-fn as_many_sets_as_avcc_counts_are_written(rt: HostRuntime) -> Result<()> {
-    let leaf = with_sets(rt.alloc(), 31, 255)?;
-    let bytes = written(rt.alloc(), &leaf)?;
-    assert_eq!(rt; bytes.len(), 587);
-    assert!(rt; bytes.get(13) == Some(&0xff) && bytes.get(76) == Some(&0xff));
-    assert!(rt; read_bytes::<AvcCBox>(rt.alloc(), &bytes)? == leaf);
-    Ok(())
+fn more_sets_than_avcc_counts_are_unrepresentable(rt: HostRuntime) {
+    check(&rt, 1, has_too_many(rt.alloc(), 32, 0, 79));
+    check(&rt, 2, has_too_many(rt.alloc(), 31, 256, 589));
+}
+
+/// Whether a configuration is written as so many bytes, and read from them as it is.
+fn is_kept(alloc: Global, leaf: &AvcCBox, bytes: &[u8], count: usize) -> Result<bool> {
+    Ok(bytes.len() == count && read_bytes::<AvcCBox>(alloc, bytes)? == *leaf)
+}
+
+/// Whether as many sets as are counted are kept, with their counts.
+fn are_many_kept(alloc: Global) -> Result<bool> {
+    let leaf = with_sets(alloc, 31, 255)?;
+    let bytes = written(alloc, &leaf)?;
+    let counts = bytes.get(13) == Some(&0xff) && bytes.get(76) == Some(&0xff);
+    Ok(counts && is_kept(alloc, &leaf, &bytes, 587)?)
 }
 
 #[test]
-fn a_set_past_65535_bytes_is_unrepresentable(rt: HostRuntime) -> Result<()> {
-    let mut entry = Avc1Box::default(rt.alloc())?;
-    entry.avcc = long_set(rt.alloc(), 0x1_0000)?;
-    assert!(rt; has_no_bits(rt.alloc(), &entry.avcc, 15 + 2 + 0x1_0000)?);
-    assert!(rt; is_unrepresentable(rt.alloc(), &entry)?);
-    assert_eq!(rt; entry.get_size(), 86 + 15 + 2 + 0x1_0000);
-    Ok(())
+fn as_many_sets_as_avcc_counts_are_written(rt: HostRuntime) {
+    check(&rt, 1, are_many_kept(rt.alloc()));
+}
+
+/// Whether a set of 2^16 bytes is unrepresentable, also in an entry.
+fn is_too_long(alloc: Global) -> Result<bool> {
+    let mut entry = Avc1Box::default(alloc)?;
+    entry.avcc = long_set(alloc, 0x1_0000)?;
+    Ok(
+        entry.get_size() == 86 + 15 + 2 + 0x1_0000
+            && has_no_bits(alloc, &entry.avcc, 15 + 2 + 0x1_0000)?
+            && is_unrepresentable(alloc, &entry)?,
+    )
 }
 
 #[test]
-fn a_set_of_65535_bytes_is_written(rt: HostRuntime) -> Result<()> {
-    let leaf = long_set(rt.alloc(), 0xffff)?;
-    let bytes = written(rt.alloc(), &leaf)?;
-    assert_eq!(rt; bytes.len(), 15 + 2 + 0xffff);
-    assert!(rt; read_bytes::<AvcCBox>(rt.alloc(), &bytes)? == leaf);
-    Ok(())
+fn a_set_past_65535_bytes_is_unrepresentable(rt: HostRuntime) {
+    check(&rt, 1, is_too_long(rt.alloc()));
+}
+
+/// Whether a set of 65,535 bytes is kept.
+fn is_long_kept(alloc: Global) -> Result<bool> {
+    let leaf = long_set(alloc, 0xffff)?;
+    let bytes = written(alloc, &leaf)?;
+    is_kept(alloc, &leaf, &bytes, 15 + 2 + 0xffff)
 }
 
 #[test]
-fn a_configuration_of_avc_gives_the_default_entry_with_its_size_and_sets(
-    rt: HostRuntime,
-) -> Result<()> {
-    let config = AvcConfig {
-        width: 320,
-        height: 240,
-        seq_param_set: Items::from(hex(rt.alloc(), "6742c01e")?),
-        pic_param_set: Items::from(hex(rt.alloc(), "68ce3c80")?),
-    };
-    assert!(rt; config.try_clone()? == config);
-    let entry = Avc1Box::new(rt.alloc(), &config)?;
-    assert_eq!(rt; entry.get_size(), 113);
+fn a_set_of_65535_bytes_is_written(rt: HostRuntime) {
+    check(&rt, 1, is_long_kept(rt.alloc()));
+}
+
+/// A configuration with two parameter sets.
+fn avc_config(
+    alloc: Global,
+    width: u16,
+    height: u16,
+    sequence: &str,
+    picture: &str,
+) -> Result<AvcConfig> {
+    Ok(AvcConfig {
+        width,
+        height,
+        seq_param_set: Items::from(hex(alloc, sequence)?),
+        pic_param_set: Items::from(hex(alloc, picture)?),
+    })
+}
+
+/// Whether a configuration is equal to its copy.
+fn is_copied<T: TryClone + PartialEq>(value: &T) -> Result<bool> {
+    Ok(value.try_clone()? == *value)
+}
+
+/// Whether a configuration of AVC gives an entry of 113 bytes that is spelled so.
+fn avc_gives(alloc: Global, text: &str) -> Result<bool> {
+    let config = avc_config(alloc, 320, 240, "6742c01e", "68ce3c80")?;
+    let entry = Avc1Box::new(alloc, &config)?;
+    Ok(is_copied(&config)? && entry.get_size() == 113 && is_spelled(alloc, &entry, text)?)
+}
+
+#[test]
+fn a_configuration_of_avc_gives_the_default_entry_with_its_size_and_sets(rt: HostRuntime) {
     let text =
         "00000071 61766331 000000000000 0001 00000000000000000000000000000000 0140 00f0 00480000 00480000 00000000 0001 0000000000000000000000000000000000000000000000000000000000000000 0018 ffff 0000001b 61766343 01 42 c0 1e ff e1 0004 6742c01e 01 0004 68ce3c80";
-    assert!(rt; is_spelled(rt.alloc(), &entry, text)?);
-    Ok(())
+    check(&rt, 1, avc_gives(rt.alloc(), text));
+}
+
+/// Whether a configuration gives the default entry with its size.
+fn hevc_gives(alloc: Global, config: &HevcConfig) -> Result<bool> {
+    let mut entry = Hev1Box::default(alloc)?;
+    entry.width = 0x0304;
+    entry.height = 0x0506;
+    Ok(Hev1Box::new(alloc, config)? == entry)
 }
 
 #[test]
-fn a_configuration_of_hevc_gives_the_default_entry_with_its_size(rt: HostRuntime) -> Result<()> {
+fn a_configuration_of_hevc_gives_the_default_entry_with_its_size(rt: HostRuntime) {
     let config = HevcConfig {
         width: 0x0304,
         height: 0x0506,
     };
-    assert!(rt; config.try_clone()? == config);
-    let mut entry = Hev1Box::default(rt.alloc())?;
+    check(&rt, 1, is_copied(&config));
+    check(&rt, 2, hevc_gives(rt.alloc(), &config));
+}
+
+/// Whether a configuration gives the default entry with its size.
+fn vp9_gives(alloc: Global, config: &Vp9Config) -> Result<bool> {
+    let mut entry = Vp09Box::default(alloc)?;
     entry.width = 0x0304;
     entry.height = 0x0506;
-    assert!(rt; Hev1Box::new(rt.alloc(), &config)? == entry);
-    Ok(())
+    Ok(Vp09Box::new(alloc, config)? == entry)
 }
 
 #[test]
-fn a_configuration_of_vp9_gives_the_default_entry_with_its_size(rt: HostRuntime) -> Result<()> {
+fn a_configuration_of_vp9_gives_the_default_entry_with_its_size(rt: HostRuntime) {
     let config = Vp9Config {
         width: 0x0304,
         height: 0x0506,
     };
-    assert!(rt; config.try_clone()? == config);
-    let mut entry = Vp09Box::default(rt.alloc())?;
-    entry.width = 0x0304;
-    entry.height = 0x0506;
-    assert!(rt; Vp09Box::new(rt.alloc(), &config)? == entry);
-    Ok(())
+    check(&rt, 1, is_copied(&config));
+    check(&rt, 2, vp9_gives(rt.alloc(), &config));
+}
+
+/// Whether a configuration with this sequence parameter set alone is written so.
+fn gives_avcc(alloc: Global, set: &str, text: &str) -> Result<bool> {
+    let config = avc_config(alloc, 0, 0, set, "")?;
+    let entry = Avc1Box::new(alloc, &config)?;
+    writes(alloc, &entry.avcc, text)
 }
 
 #[test]
-fn a_byte_that_a_short_sequence_set_has_not_counts_as_zero(rt: HostRuntime) -> Result<()> {
+fn a_byte_that_a_short_sequence_set_has_not_counts_as_zero(rt: HostRuntime) {
     let rows = [
         ("", "00000013 61766343 01 00 00 00 ff e1 0000 01 0000"),
         ("67", "00000014 61766343 01 00 00 00 ff e1 0001 67 01 0000"),
@@ -434,14 +643,6 @@ fn a_byte_that_a_short_sequence_set_has_not_counts_as_zero(rt: HostRuntime) -> R
         ),
     ];
     for (set, text) in rows {
-        let config = AvcConfig {
-            width: 0,
-            height: 0,
-            seq_param_set: Items::from(hex(rt.alloc(), set)?),
-            pic_param_set: Items::new(rt.alloc()),
-        };
-        let entry = Avc1Box::new(rt.alloc(), &config)?;
-        assert!(rt; writes(rt.alloc(), &entry.avcc, text)?, "{text}");
+        check(&rt, text, gives_avcc(rt.alloc(), set, text));
     }
-    Ok(())
 }
