@@ -8,7 +8,11 @@ use std::alloc::Global;
 
 #[test]
 fn no_edits_have_8_bytes(rt: HostRuntime) {
-    check(&rt, 1, is_spelled(rt.alloc(), &EdtsBox::default(), "00000008 65647473"));
+    check(
+        &rt,
+        1,
+        is_spelled(rt.alloc(), &EdtsBox::default(), "00000008 65647473"),
+    );
 }
 
 fn an_empty_list_has_24_bytes(alloc: Global) -> Result<bool> {

@@ -53,7 +53,11 @@ fn a_movie_extends_box_without_defaults_is_refused(rt: HostRuntime) {
         "00000008 6d766578",
         "00000018 6d766578 00000010 6d656864 00000000 00000007",
     ] {
-        holds(&rt, text, lacks::<MvexBox>(rt.alloc(), text, BoxType::TrexBox));
+        holds(
+            &rt,
+            text,
+            lacks::<MvexBox>(rt.alloc(), text, BoxType::TrexBox),
+        );
     }
 }
 
@@ -146,7 +150,8 @@ fn a_default_movie_fragment_has_24_bytes(rt: HostRuntime) {
 
 fn two_tracks_are_read(alloc: Global) -> Result<bool> {
     // A fragment of track 2, a free box, the header and a fragment of track 1.
-    let text = "00000050 6d6f6f66 00000018 74726166 00000010 74666864 00000000 00000002 00000008 66726565 \
+    let text =
+        "00000050 6d6f6f66 00000018 74726166 00000010 74666864 00000000 00000002 00000008 66726565 \
         00000010 6d666864 00000000 00000007 00000018 74726166 00000010 74666864 00000000 00000001";
     let moof = read::<MoofBox>(alloc, text)?;
     let number = moof.mfhd.sequence_number == 7;
@@ -162,5 +167,9 @@ fn all_tracks_of_a_movie_fragment_are_kept_in_order(rt: HostRuntime) {
 
 #[test]
 fn a_movie_fragment_without_its_header_is_refused(rt: HostRuntime) {
-    holds(&rt, 1, lacks::<MoofBox>(rt.alloc(), "00000008 6d6f6f66", BoxType::MfhdBox));
+    holds(
+        &rt,
+        1,
+        lacks::<MoofBox>(rt.alloc(), "00000008 6d6f6f66", BoxType::MfhdBox),
+    );
 }

@@ -45,6 +45,8 @@ mod ftyp;
 #[cfg(test)]
 mod hdlr;
 #[cfg(test)]
+mod large_boxes;
+#[cfg(test)]
 mod large_tables;
 #[cfg(test)]
 mod laws;
@@ -63,9 +65,13 @@ mod movies;
 #[cfg(test)]
 mod mvhd;
 #[cfg(test)]
+mod nested;
+#[cfg(test)]
 mod offsets;
 #[cfg(test)]
 mod opening;
+#[cfg(test)]
+mod random_boxes;
 #[cfg(test)]
 mod refused_memory;
 #[cfg(test)]
@@ -86,6 +92,8 @@ mod taste;
 mod tfhd;
 #[cfg(test)]
 mod tkhd;
+#[cfg(test)]
+mod track_boxes;
 #[cfg(test)]
 mod trun;
 #[cfg(test)]

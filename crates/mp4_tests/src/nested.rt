@@ -56,10 +56,15 @@ pub const STCO: &str = "00000018 7374636f 00000000 00000002 00000030 00000036 ";
 
 pub const CO64: &str = "00000020 636f3634 00000000 00000002 0000000000000030 0000000000000036 ";
 
-/// A track of these tables.
-pub fn track_of(alloc: Global, tables: &[&str]) -> Result<String> {
+/// The media of a track of these tables.
+pub fn media_of(alloc: Global, tables: &[&str]) -> Result<String> {
     let stbl = nest(alloc, "7374626c", tables)?;
     let minf = nest(alloc, "6d696e66", &[DINF, stbl.as_str()])?;
-    let mdia = nest(alloc, "6d646961", &[MDHD, HDLR, minf.as_str()])?;
+    nest(alloc, "6d646961", &[MDHD, HDLR, minf.as_str()])
+}
+
+/// A track of these tables.
+pub fn track_of(alloc: Global, tables: &[&str]) -> Result<String> {
+    let mdia = media_of(alloc, tables)?;
     nest(alloc, "7472616b", &[TKHD, mdia.as_str()])
 }

@@ -1,7 +1,7 @@
 //! Boxes of boxes at random, from fixed seeds: each is read as it was written, and no cut and no changed byte stops a
 //! reader.
 
-use crate::spelled::{read_bytes, written};
+use crate::spelled::{check, read_bytes, written};
 use mp4_boxes::{
     EdtsBox, IlstBox, IlstItemBox, MdiaBox, MetaBox, MetadataKey, MinfBox, MoofBox, MoovBox,
     MvexBox, StblBox, TrafBox, TrakBox, UdtaBox,
@@ -10,12 +10,11 @@ use mp4_codec::{BoxType, FourCC, Items, Result, WriteBox};
 use mp4_entry::{StsdBox, Tx3gBox};
 use mp4_frag::{MehdBox, TfdtBox, TfhdBox, TrexBox, TrunBox};
 use mp4_leaf::{DataBox, DataType, ElstBox, ElstEntry, HdlrBox, SmhdBox, VmhdBox};
-use mp4_table::{
-    Co64Box, CttsBox, CttsEntry, StcoBox, StscEntry, StssBox, StszBox, SttsEntry,
-};
+use mp4_table::{Co64Box, CttsBox, CttsEntry, StcoBox, StscEntry, StssBox, StszBox, SttsEntry};
 use std::alloc::Global;
 
 /// Numbers in an order that a seed settles.
+#[derive(Drop)]
 struct Random {
     state: u64,
 }
@@ -158,7 +157,11 @@ fn edits(alloc: Global, random: &mut Random) -> Result<EdtsBox> {
 fn value(alloc: Global, random: &mut Random) -> Result<IlstItemBox> {
     let mut value = DataBox::default(alloc)?;
     value.bytes = letters(alloc, random)?;
-    value.data_type = if random.chance() { DataType::Text } else { DataType::Other(14) };
+    value.data_type = if random.chance() {
+        DataType::Text
+    } else {
+        DataType::Other(14)
+    };
     Ok(IlstItemBox { item: value })
 }
 
@@ -264,7 +267,9 @@ fn places(alloc: Global, random: &mut Random) -> Result<StcoBox> {
 fn far_places(alloc: Global, random: &mut Random) -> Result<Co64Box> {
     let mut places = Co64Box::default(alloc)?;
     for _ in 0..random.few() {
-        places.entries.push(u64::from(random.next()).wrapping_mul(9))?;
+        places
+            .entries
+            .push(u64::from(random.next()).wrapping_mul(9))?;
     }
     Ok(places)
 }
@@ -393,17 +398,15 @@ fn a_fragment_is_kept(alloc: Global, seed: u64) -> Result<bool> {
 }
 
 #[test]
-fn three_hundred_movies_are_kept(rt: HostRuntime) -> Result<()> {
+fn three_hundred_movies_are_kept(rt: HostRuntime) {
     for seed in 0..300 {
-        assert!(rt; a_movie_is_kept(rt.alloc(), seed)?, "seed {seed}");
+        check(&rt, seed, a_movie_is_kept(rt.alloc(), seed));
     }
-    Ok(())
 }
 
 #[test]
-fn three_hundred_fragments_are_kept(rt: HostRuntime) -> Result<()> {
+fn three_hundred_fragments_are_kept(rt: HostRuntime) {
     for seed in 0..300 {
-        assert!(rt; a_fragment_is_kept(rt.alloc(), seed)?, "seed {seed}");
+        check(&rt, seed, a_fragment_is_kept(rt.alloc(), seed));
     }
-    Ok(())
 }

@@ -1,6 +1,8 @@
 //! What the tests of all boxes do with bytes.
 
-use mp4_codec::{ByteCursor, Error, HEADER_SIZE, Limit, ReadBox, Result, TryClone, WriteBox};
+use mp4_codec::{
+    BoxType, ByteCursor, Error, HEADER_SIZE, Limit, ReadBox, Result, TryClone, WriteBox,
+};
 use std::alloc::Global;
 use std::fmt::{Debug, Display};
 use std::process::Abort;
@@ -120,6 +122,11 @@ pub fn refuses<B: ReadBox>(alloc: Global, bytes: &[u8]) -> bool {
 /// Whether the bytes that a text spells are refused as invalid data.
 pub fn is_unreadable<B: ReadBox>(alloc: Global, text: &str) -> bool {
     matches!(read::<B>(alloc, text), Err(Error::InvalidData(_)))
+}
+
+/// Whether the bytes that a text spells are refused since a box of this type is missing.
+pub fn lacks<B: ReadBox>(alloc: Global, text: &str, missing: BoxType) -> bool {
+    matches!(read::<B>(alloc, text), Err(Error::BoxNotFound(found)) if found == missing)
 }
 
 /// Whether a box cut to any length is refused as invalid data where that is below `needed` bytes,
