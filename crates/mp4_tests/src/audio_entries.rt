@@ -1,8 +1,8 @@
 //! The sample entry of MPEG-4 audio, and what its decoder is started with.
 
 use crate::spelled::{
-    check, hex, holds, is_spelled, is_unreadable, is_unrepresentable, needs, read, read_bytes,
-    reads, same, writes,
+    also, check, hex, holds, is_spelled, is_unreadable, is_unrepresentable, needs, read,
+    read_bytes, reads, same, writes,
 };
 use mp4_codec::{BoxType, Error, Result, TryClone};
 use mp4_entry::{
@@ -344,7 +344,7 @@ const EXTENDED: [(&str, [u32; 9]); 4] = [
 /// Whether an esds that a text spells has no spelling of its own, and its size is that of any.
 fn is_not_spelled(alloc: Global, text: &str) -> Result<bool> {
     let leaf: EsdsBox = read(alloc, text)?;
-    Ok(leaf.get_size() == 39 && is_unrepresentable(alloc, &leaf)?)
+    also(leaf.get_size() == 39, is_unrepresentable(alloc, &leaf))
 }
 
 #[test]
@@ -372,7 +372,7 @@ fn past_its_bits(number: u8) -> EsdsBox {
 
 /// Whether an entry is not written, and has its size.
 fn is_not_written(alloc: Global, entry: &Mp4aBox) -> Result<bool> {
-    Ok(entry.get_size() == 75 && is_unrepresentable(alloc, entry)?)
+    also(entry.get_size() == 75, is_unrepresentable(alloc, entry))
 }
 
 #[test]

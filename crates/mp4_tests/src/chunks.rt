@@ -1,6 +1,8 @@
 //! How many samples chunks have.
 
-use crate::spelled::{check, is_spelled, keeps_to_its_end, read_bytes, refuses, writes, written};
+use crate::spelled::{
+    also, check, is_spelled, keeps_to_its_end, read_bytes, refuses, writes, written,
+};
 use mp4_codec::{BoxType, Result};
 use mp4_table::{StscBox, StscEntry};
 use std::alloc::Global;
@@ -31,7 +33,10 @@ fn is_written(alloc: Global, rows: &[(u32, u32, u32)], text: &str) -> Result<boo
 /// Whether a table is spelled by a text and keeps to its end.
 fn is_table(alloc: Global, rows: &[(u32, u32, u32)], text: &str) -> Result<bool> {
     let table = table_of(alloc, rows)?;
-    Ok(table.get_type() == BoxType::StscBox && is_spelled(alloc, &table, text)?)
+    also(
+        table.get_type() == BoxType::StscBox,
+        is_spelled(alloc, &table, text),
+    )
 }
 
 #[test]

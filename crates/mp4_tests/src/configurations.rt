@@ -1,6 +1,6 @@
 //! The sample descriptions that configurations make.
 
-use crate::spelled::{check, is_spelled};
+use crate::spelled::{also, check, is_spelled};
 use mp4_codec::{Items, Result};
 use mp4_entry::{
     AacConfig, AudioObjectType, AvcConfig, ChannelConfig, HevcConfig, MediaConfig, SampleFreqIndex,
@@ -71,7 +71,7 @@ fn makes(alloc: Global, config: &MediaConfig, text: &str, place: usize) -> Resul
     let description = StsdBox::new(alloc, config)?;
     config.check()?;
     let there = entries(&description).iter().position(|there| *there);
-    Ok(there == Some(place) && is_spelled(alloc, &description, text)?)
+    also(there == Some(place), is_spelled(alloc, &description, text))
 }
 
 /// Whether the configuration of AVC makes its entry.

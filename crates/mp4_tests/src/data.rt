@@ -1,6 +1,6 @@
 //! Metadata values.
 
-use crate::spelled::{check, is_spelled, is_whole, reads, writes};
+use crate::spelled::{also, check, is_spelled, is_whole, reads, writes};
 use mp4_codec::{BoxType, Items, Result};
 use mp4_leaf::{DataBox, DataType};
 use std::alloc::Global;
@@ -9,7 +9,7 @@ use std::alloc::Global;
 fn default_is(alloc: Global, text: &str) -> Result<bool> {
     let default = DataBox::default(alloc)?;
     let known = default.get_type() == BoxType::DataBox && default.get_size() == 16;
-    Ok(known && is_whole(alloc, &default, text, 16)?)
+    also(known, is_whole(alloc, &default, text, 16))
 }
 
 #[test]

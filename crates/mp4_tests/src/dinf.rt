@@ -1,7 +1,7 @@
 //! Data information.
 
 use crate::spelled::{
-    check, hex, holds, is_spelled, is_unreadable, is_whole, read, read_bytes, reads, same_at,
+    also, check, hex, holds, is_spelled, is_unreadable, is_whole, read, read_bytes, reads, same_at,
     writes,
 };
 use mp4_codec::{BoxType, Error, Items, Result};
@@ -17,14 +17,17 @@ fn default_is(alloc: Global, text: &str) -> Result<bool> {
     let dref = &default.dref;
     let known = default.get_type() == BoxType::DinfBox && dref.get_type() == BoxType::DrefBox;
     let sizes = (default.get_size(), dref.get_size());
-    Ok(known && sizes == (36, 28) && is_spelled(alloc, &default, text)?)
+    also(
+        known && sizes == (36, 28),
+        is_spelled(alloc, &default, text),
+    )
 }
 
 /// Whether the default of a location is known by its type and spelled by a text.
 fn default_location_is(alloc: Global, text: &str) -> Result<bool> {
     let url = UrlBox::default(alloc)?;
     let known = url.get_type() == BoxType::UrlBox && url.get_size() == 12;
-    Ok(known && is_whole(alloc, &url, text, 12)?)
+    also(known, is_whole(alloc, &url, text, 12))
 }
 
 #[test]

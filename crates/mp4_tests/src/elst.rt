@@ -1,6 +1,6 @@
 //! Edit lists.
 
-use crate::spelled::{check, holds, is_invalid, is_past_its_field, is_unreadable, is_whole};
+use crate::spelled::{also, check, holds, is_invalid, is_past_its_field, is_unreadable, is_whole};
 use mp4_codec::{BoxType, Items, Result};
 use mp4_leaf::{ElstBox, ElstEntry};
 use std::alloc::Global;
@@ -34,7 +34,7 @@ fn two_edits(alloc: Global, version: u8, duration: u64, time: u64) -> Result<Els
 fn default_is(alloc: Global, text: &str) -> Result<bool> {
     let default = ElstBox::default(alloc)?;
     let known = default.get_type() == BoxType::ElstBox && default.get_size() == 16;
-    Ok(known && is_whole(alloc, &default, text, 16)?)
+    also(known, is_whole(alloc, &default, text, 16))
 }
 
 #[test]
@@ -53,7 +53,10 @@ fn are_edits(
     size: u64,
 ) -> Result<bool> {
     let leaf = two_edits(alloc, version, duration, time)?;
-    Ok(leaf.get_size() == size && is_whole(alloc, &leaf, text, size as usize)?)
+    also(
+        leaf.get_size() == size,
+        is_whole(alloc, &leaf, text, size as usize),
+    )
 }
 
 #[test]
@@ -91,7 +94,7 @@ fn are_past_their_field(alloc: Global, duration: u64, time: u64) -> Result<bool>
         return Ok(false);
     }
     leaf.version = 2;
-    Ok(leaf.get_size() == 40 && is_invalid(alloc, &leaf)?)
+    also(leaf.get_size() == 40, is_invalid(alloc, &leaf))
 }
 
 #[test]

@@ -1,6 +1,8 @@
 //! Event messages.
 
-use crate::spelled::{check, holds, is_invalid, is_spelled, is_unreadable, is_whole, read, same};
+use crate::spelled::{
+    also, check, holds, is_invalid, is_spelled, is_unreadable, is_whole, read, same,
+};
 use mp4_codec::{BoxType, Error, Items, Result};
 use mp4_frag::EmsgBox;
 use std::alloc::Global;
@@ -33,13 +35,16 @@ const VERSION_ONE: &str =
 
 /// Whether a message is invalid, and its size counts all that it holds.
 fn is_invalid_of_size(alloc: Global, leaf: &EmsgBox, size: u64) -> Result<bool> {
-    Ok(leaf.get_size() == size && is_invalid(alloc, leaf)?)
+    also(leaf.get_size() == size, is_invalid(alloc, leaf))
 }
 
 /// Whether the default is known by its type, and is not written.
 fn default_is_invalid(alloc: Global) -> Result<bool> {
     let default = EmsgBox::default(alloc)?;
-    Ok(default.get_type() == BoxType::EmsgBox && is_invalid_of_size(alloc, &default, 30)?)
+    also(
+        default.get_type() == BoxType::EmsgBox,
+        is_invalid_of_size(alloc, &default, 30),
+    )
 }
 
 #[test]
@@ -50,7 +55,7 @@ fn the_default_has_neither_of_the_times_and_is_not_written(rt: HostRuntime) {
 /// Whether a short message of version 0 is spelled so.
 fn is_short(alloc: Global, text: &str) -> Result<bool> {
     let leaf = short(alloc, 0, Some(2), None)?;
-    Ok(leaf.get_size() == 31 && is_whole(alloc, &leaf, text, 31)?)
+    also(leaf.get_size() == 31, is_whole(alloc, &leaf, text, 31))
 }
 
 #[test]
@@ -71,14 +76,14 @@ fn is_of_version_1(alloc: Global, text: &str) -> Result<bool> {
     let short = short(alloc, 1, None, Some(0x0000_0005_0000_0006))?;
     let mut leaf = with_body(alloc, short)?;
     leaf.flags = 0x010203;
-    Ok(leaf.get_size() == 41 && is_whole(alloc, &leaf, text, 37)?)
+    also(leaf.get_size() == 41, is_whole(alloc, &leaf, text, 37))
 }
 
 /// Whether a message of version 0 with a body is spelled so.
 fn is_of_version_0(alloc: Global, text: &str) -> Result<bool> {
     let short = short(alloc, 0, Some(2), None)?;
     let leaf = with_body(alloc, short)?;
-    Ok(leaf.get_size() == 37 && is_spelled(alloc, &leaf, text)?)
+    also(leaf.get_size() == 37, is_spelled(alloc, &leaf, text))
 }
 
 #[test]

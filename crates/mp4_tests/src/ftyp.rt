@@ -1,6 +1,6 @@
 //! File types.
 
-use crate::spelled::{check, is_spelled, is_whole, read, same_at};
+use crate::spelled::{also, check, is_spelled, is_whole, read, same_at};
 use mp4_codec::{BoxType, FourCC, Items, Result};
 use mp4_leaf::FtypBox;
 use std::alloc::Global;
@@ -9,7 +9,7 @@ use std::alloc::Global;
 fn default_is(alloc: Global, text: &str) -> Result<bool> {
     let default = FtypBox::default(alloc)?;
     let known = default.get_type() == BoxType::FtypBox && default.get_size() == 16;
-    Ok(known && is_spelled(alloc, &default, text)?)
+    also(known, is_spelled(alloc, &default, text))
 }
 
 #[test]

@@ -1,6 +1,6 @@
 //! Handlers.
 
-use crate::spelled::{check, hex, is_spelled, is_whole, read, reads, same, writes};
+use crate::spelled::{also, check, hex, is_spelled, is_whole, read, reads, same, writes};
 use mp4_codec::{BoxType, FourCC, Items, Result};
 use mp4_leaf::HdlrBox;
 use std::alloc::Global;
@@ -9,7 +9,7 @@ use std::alloc::Global;
 fn default_is(alloc: Global, text: &str) -> Result<bool> {
     let default = HdlrBox::default(alloc)?;
     let known = default.get_type() == BoxType::HdlrBox && default.get_size() == 33;
-    Ok(known && is_whole(alloc, &default, text, 32)?)
+    also(known, is_whole(alloc, &default, text, 32))
 }
 
 #[test]

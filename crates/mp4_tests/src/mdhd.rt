@@ -1,8 +1,8 @@
 //! Media headers, and their languages.
 
 use crate::spelled::{
-    check, holds, is_invalid, is_past_its_field, is_spelled, is_unreadable, is_unrepresentable,
-    is_whole, reads,
+    also, check, holds, is_invalid, is_past_its_field, is_spelled, is_unreadable,
+    is_unrepresentable, is_whole, reads,
 };
 use mp4_codec::{BoxType, Result, Text};
 use mp4_leaf::MdhdBox;
@@ -17,7 +17,7 @@ const VERSION_ONE: &str =
 fn default_is(alloc: Global, text: &str) -> Result<bool> {
     let default = MdhdBox::default(alloc)?;
     let known = default.get_type() == BoxType::MdhdBox && default.get_size() == 32;
-    Ok(known && is_whole(alloc, &default, text, 32)?)
+    also(known, is_whole(alloc, &default, text, 32))
 }
 
 #[test]
@@ -36,7 +36,7 @@ fn is_of_version_1(alloc: Global, text: &str) -> Result<bool> {
         duration: 0x0000_0006_0000_0007,
         language: Text::from_str(alloc, "eng")?,
     };
-    Ok(leaf.get_size() == 44 && is_whole(alloc, &leaf, text, 44)?)
+    also(leaf.get_size() == 44, is_whole(alloc, &leaf, text, 44))
 }
 
 #[test]

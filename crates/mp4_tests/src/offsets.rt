@@ -1,6 +1,6 @@
 //! Where chunks lie.
 
-use crate::spelled::{check, holds, is_spelled, keeps_to_its_end};
+use crate::spelled::{also, check, holds, is_spelled, keeps_to_its_end};
 use mp4_codec::{BoxType, Error, Result};
 use mp4_table::{Co64Box, StcoBox};
 use std::alloc::Global;
@@ -23,7 +23,7 @@ fn wide(alloc: Global, offset: u64) -> Result<Co64Box> {
 fn are_wide(alloc: Global, text: &str) -> Result<bool> {
     let table = wide(alloc, 0xffff_ffff)?;
     let known = table.get_type() == BoxType::Co64Box && table.get_size() == 32;
-    Ok(known && is_spelled(alloc, &table, text)?)
+    also(known, is_spelled(alloc, &table, text))
 }
 
 #[test]
@@ -42,7 +42,7 @@ fn narrow(alloc: Global, offset: u64) -> Result<StcoBox> {
 fn are_narrow(alloc: Global, text: &str) -> Result<bool> {
     let table = narrow(alloc, 0xffff_ffff)?;
     let known = table.get_type() == BoxType::StcoBox && table.get_size() == 24;
-    Ok(known && is_spelled(alloc, &table, text)?)
+    also(known, is_spelled(alloc, &table, text))
 }
 
 /// Whether the default has no offsets.

@@ -5,7 +5,7 @@
 use crate::movies::{EMPTY_MOVIE, config};
 use crate::sample_boxes::Number;
 use crate::sides::Side;
-use crate::spelled::{check, holds, read_bytes, same};
+use crate::spelled::{both, check, holds, read_bytes, same};
 use mp4_boxes::MoovBox;
 use mp4_codec::{
     BoxHeader, BoxType, Error, Fields, FourCC, Items, KeyedItems, Mp4Box, ReadBox, Result, Text,
@@ -348,7 +348,13 @@ fn put_number(alloc: Global) -> Result<bool> {
 
 /// Puts a list of entries, a list of children, one child and a box. Whether the sizes are as they should be.
 fn put_lists(alloc: Global) -> Result<bool> {
-    Ok(put_entries(alloc)? && put_children(alloc)? && put_child(alloc)? && put_number(alloc)?)
+    both(
+        put_entries(alloc),
+        both(
+            put_children(alloc),
+            both(put_child(alloc), put_number(alloc)),
+        ),
+    )
 }
 
 /// Whether fields are put, and put again after a refusal.
@@ -399,7 +405,10 @@ fn read_children(alloc: Global) -> Result<bool> {
 
 /// Reads a list of entries, a text in two ways, and children in two ways.
 fn read_parts(alloc: Global) -> Result<bool> {
-    Ok(read_entries(alloc)? && read_texts(alloc)? && read_children(alloc)?)
+    both(
+        read_entries(alloc),
+        both(read_texts(alloc), read_children(alloc)),
+    )
 }
 
 /// Whether parts are read, and read again after a refusal.

@@ -1,6 +1,6 @@
 //! Durations, composition offsets, sync samples and sizes of samples.
 
-use crate::spelled::{check, is_invalid, is_spelled, keeps_to_its_end, reads};
+use crate::spelled::{also, check, is_invalid, is_spelled, keeps_to_its_end, reads};
 use mp4_codec::{BoxType, Result};
 use mp4_table::{CttsBox, CttsEntry, StssBox, StszBox, SttsBox, SttsEntry};
 use std::alloc::Global;
@@ -26,7 +26,7 @@ fn durations(alloc: Global) -> Result<SttsBox> {
 fn are_durations(alloc: Global, text: &str) -> Result<bool> {
     let table = durations(alloc)?;
     let known = table.get_type() == BoxType::SttsBox && table.get_size() == 32;
-    Ok(known && is_spelled(alloc, &table, text)?)
+    also(known, is_spelled(alloc, &table, text))
 }
 
 #[test]
@@ -62,7 +62,7 @@ fn offsets(alloc: Global, version: u8) -> Result<CttsBox> {
 fn are_offsets(alloc: Global, version: u8, text: &str) -> Result<bool> {
     let table = offsets(alloc, version)?;
     let known = table.get_type() == BoxType::CttsBox && table.get_size() == 32;
-    Ok(known && is_spelled(alloc, &table, text)?)
+    also(known, is_spelled(alloc, &table, text))
 }
 
 #[test]
@@ -85,7 +85,7 @@ fn sync(alloc: Global) -> Result<StssBox> {
 fn are_sync(alloc: Global, text: &str) -> Result<bool> {
     let table = sync(alloc)?;
     let known = table.get_type() == BoxType::StssBox && table.get_size() == 24;
-    Ok(known && is_spelled(alloc, &table, text)?)
+    also(known, is_spelled(alloc, &table, text))
 }
 
 #[test]
@@ -128,7 +128,10 @@ fn sizes_are_one_for_all_or_listed(rt: HostRuntime) {
 /// Whether a text spells three samples of 512 bytes.
 fn reads_one_size(alloc: Global, text: &str) -> Result<bool> {
     let table = sizes(alloc, 512, 3, 0)?;
-    Ok(table.get_type() == BoxType::StszBox && reads(alloc, text, &table)?)
+    also(
+        table.get_type() == BoxType::StszBox,
+        reads(alloc, text, &table),
+    )
 }
 
 #[test]
@@ -140,7 +143,7 @@ fn a_table_of_one_size_lists_nothing(rt: HostRuntime) {
 /// Whether a table is refused, and its size counts all that it lists.
 fn is_refused(alloc: Global, sample_size: u32, count: u32, listed: u32, size: u64) -> Result<bool> {
     let table = sizes(alloc, sample_size, count, listed)?;
-    Ok(table.get_size() == size && is_invalid(alloc, &table)?)
+    also(table.get_size() == size, is_invalid(alloc, &table))
 }
 
 #[test]

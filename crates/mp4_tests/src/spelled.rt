@@ -34,6 +34,17 @@ pub fn same_at<T: PartialEq + Debug + Drop>(
     assert_eq!(rt; value, expected, "case {case}");
 }
 
+/// Whether a statement holds and a call answers `Ok(true)`. Both are made, so no way through a test ends early, which
+/// would be far dearer to prove.
+pub fn also(statement: bool, answer: Result<bool>) -> Result<bool> {
+    if statement { answer } else { Ok(false) }
+}
+
+/// Whether two calls answer `Ok(true)`, or the error of one.
+pub fn both(first: Result<bool>, second: Result<bool>) -> Result<bool> {
+    Ok(first? && second?)
+}
+
 /// Whether a value prints as a text.
 pub fn prints(alloc: Global, value: &impl Display, text: &str) -> Result<bool> {
     Ok(format!(in alloc; "{value}")?.as_str() == text)
@@ -111,7 +122,10 @@ pub fn is_whole<B: WriteBox + TryClone + PartialEq>(
     text: &str,
     needed: usize,
 ) -> Result<bool> {
-    Ok(is_spelled(alloc, value, text)? && needs::<B>(alloc, text, needed)?)
+    both(
+        is_spelled(alloc, value, text),
+        needs::<B>(alloc, text, needed),
+    )
 }
 
 /// Whether bytes are refused as invalid data.

@@ -1,6 +1,6 @@
 //! Sample descriptions.
 
-use crate::spelled::{check, holds, is_spelled, is_unreadable, read, reads, same, writes};
+use crate::spelled::{also, check, holds, is_spelled, is_unreadable, read, reads, same, writes};
 use mp4_codec::{BoxType, Result};
 use mp4_entry::{Hev1Box, MediaConfig, StsdBox, TtxtConfig, Tx3gBox};
 use std::alloc::Global;
@@ -22,7 +22,7 @@ fn is_text_track(alloc: Global, text: &str) -> Result<bool> {
     let config = MediaConfig::TtxtConfig(TtxtConfig {});
     let description = StsdBox::new(alloc, &config)?;
     let known = description.get_size() == 62 && description.tx3g == Some(Tx3gBox::default());
-    Ok(known && is_spelled(alloc, &description, text)?)
+    also(known, is_spelled(alloc, &description, text))
 }
 
 #[test]
@@ -92,7 +92,10 @@ fn of_two(alloc: Global) -> Result<StsdBox> {
 /// Whether it is written so.
 fn is_written(alloc: Global, text: &str) -> Result<bool> {
     let description = of_two(alloc)?;
-    Ok(description.get_size() == 133 && writes(alloc, &description, text)?)
+    also(
+        description.get_size() == 133,
+        writes(alloc, &description, text),
+    )
 }
 
 /// Whether the description that a text spells has the first of the two alone.

@@ -1,6 +1,6 @@
 //! Track fragment runs.
 
-use crate::spelled::{check, holds, is_invalid, is_spelled, is_unreadable, is_whole, read};
+use crate::spelled::{also, check, holds, is_invalid, is_spelled, is_unreadable, is_whole, read};
 use mp4_codec::{BoxType, Items, Result};
 use mp4_frag::TrunBox;
 use std::alloc::Global;
@@ -38,7 +38,7 @@ const FULL: &str = "00000038 7472756e 01 000f05 00000002 fffffffe 02000000 \
 fn default_is(alloc: Global, text: &str) -> Result<bool> {
     let default = TrunBox::default(alloc)?;
     let known = default.get_type() == BoxType::TrunBox && default.get_size() == 16;
-    Ok(known && is_whole(alloc, &default, text, 16)?)
+    also(known, is_whole(alloc, &default, text, 16))
 }
 
 #[test]
@@ -120,7 +120,7 @@ fn each_list_has_its_flag(rt: HostRuntime) {
 fn is_full(alloc: Global, text: &str) -> Result<bool> {
     let mut leaf = full(alloc, 0xf05)?;
     leaf.version = 1;
-    Ok(leaf.get_size() == 56 && is_whole(alloc, &leaf, text, 56)?)
+    also(leaf.get_size() == 56, is_whole(alloc, &leaf, text, 56))
 }
 
 #[test]
@@ -177,7 +177,7 @@ fn a_count_past_the_payload_is_invalid(rt: HostRuntime) {
 
 /// Whether a run is invalid, and its size counts all that it holds.
 fn is_invalid_of_size(alloc: Global, leaf: &TrunBox, size: u64) -> Result<bool> {
-    Ok(leaf.get_size() == size && is_invalid(alloc, leaf)?)
+    also(leaf.get_size() == size, is_invalid(alloc, leaf))
 }
 
 /// Whether a run of these flags without what they say is so.

@@ -1,8 +1,8 @@
 //! Sample entries of video.
 
 use crate::spelled::{
-    check, hex, holds, is_spelled, is_unreadable, is_unrepresentable, is_whole, needs, read,
-    read_bytes, reads, writes, written,
+    also, both, check, hex, holds, is_spelled, is_unreadable, is_unrepresentable, is_whole, needs,
+    read, read_bytes, reads, writes, written,
 };
 use mp4_codec::{BoxType, Items, ReadBox, Result, TryClone, WriteBox};
 use mp4_entry::{
@@ -67,7 +67,10 @@ fn is_entry<B: WriteBox + TryClone + PartialEq>(
 ) -> Result<bool> {
     let text = entry_text(alloc, header, visual, child)?;
     let size = value.box_size() as usize;
-    Ok(is_spelled(alloc, value, &text)? && needs::<B>(alloc, &text, size)?)
+    both(
+        is_spelled(alloc, value, &text),
+        needs::<B>(alloc, &text, size),
+    )
 }
 
 /// Whether the default is known by its types and sizes, and spelled so.
@@ -75,17 +78,18 @@ fn is_default_avc1(alloc: Global) -> Result<bool> {
     let entry = Avc1Box::default(alloc)?;
     let leaf = &entry.avcc;
     let known = entry.get_type() == BoxType::Avc1Box && leaf.get_type() == BoxType::AvcCBox;
-    Ok(
-        known
-            && entry.get_size() == 101
-            && is_spelled(alloc, leaf, DEFAULT_AVCC)?
-            && is_entry(
+    also(
+        known && entry.get_size() == 101,
+        both(
+            is_spelled(alloc, leaf, DEFAULT_AVCC),
+            is_entry(
                 alloc,
                 &entry,
                 "00000065 61766331",
                 DEFAULT_VISUAL,
                 DEFAULT_AVCC,
-            )?,
+            ),
+        ),
     )
 }
 
@@ -101,17 +105,18 @@ fn is_default_hev1(alloc: Global) -> Result<bool> {
     let entry = Hev1Box::default(alloc)?;
     let leaf = &entry.hvcc;
     let known = entry.get_type() == BoxType::Hev1Box && leaf.get_type() == BoxType::HvcCBox;
-    Ok(
-        known
-            && entry.get_size() == 117
-            && is_spelled(alloc, leaf, DEFAULT_HVCC)?
-            && is_entry(
+    also(
+        known && entry.get_size() == 117,
+        both(
+            is_spelled(alloc, leaf, DEFAULT_HVCC),
+            is_entry(
                 alloc,
                 &entry,
                 "00000075 68657631",
                 DEFAULT_VISUAL,
                 DEFAULT_HVCC,
-            )?,
+            ),
+        ),
     )
 }
 
@@ -127,17 +132,18 @@ fn is_default_vp09(alloc: Global) -> Result<bool> {
     let entry = Vp09Box::default(alloc)?;
     let leaf = &entry.vpcc;
     let known = entry.get_type() == BoxType::Vp09Box && leaf.get_type() == BoxType::VpccBox;
-    Ok(
-        known
-            && entry.get_size() == 106
-            && is_spelled(alloc, leaf, DEFAULT_VPCC)?
-            && is_entry(
+    also(
+        known && entry.get_size() == 106,
+        both(
+            is_spelled(alloc, leaf, DEFAULT_VPCC),
+            is_entry(
                 alloc,
                 &entry,
                 "0000006a 76703039",
                 DEFAULT_VISUAL,
                 DEFAULT_VPCC,
-            )?,
+            ),
+        ),
     )
 }
 
@@ -273,7 +279,10 @@ fn of_two(alloc: Global) -> Result<Avc1Box> {
 fn second_is_kept(alloc: Global) -> Result<bool> {
     let entry = of_two(alloc)?;
     let text = entry_text(alloc, "00000065 61766331", VISUAL, SECOND_AVCC)?;
-    Ok(is_spelled(alloc, &entry.avcc, SECOND_AVCC)? && is_spelled(alloc, &entry, &text)?)
+    both(
+        is_spelled(alloc, &entry.avcc, SECOND_AVCC),
+        is_spelled(alloc, &entry, &text),
+    )
 }
 
 #[test]
@@ -392,7 +401,7 @@ fn of_four_sets(alloc: Global) -> Result<AvcCBox> {
 /// Whether it is spelled so.
 fn are_four_sets(alloc: Global, text: &str) -> Result<bool> {
     let leaf = of_four_sets(alloc)?;
-    Ok(leaf.get_size() == 31 && is_whole(alloc, &leaf, text, 31)?)
+    also(leaf.get_size() == 31, is_whole(alloc, &leaf, text, 31))
 }
 
 #[test]
@@ -514,7 +523,7 @@ fn are_many_kept(alloc: Global) -> Result<bool> {
     let leaf = with_sets(alloc, 31, 255)?;
     let bytes = written(alloc, &leaf)?;
     let counts = bytes.get(13) == Some(&0xff) && bytes.get(76) == Some(&0xff);
-    Ok(counts && is_kept(alloc, &leaf, &bytes, 587)?)
+    also(counts, is_kept(alloc, &leaf, &bytes, 587))
 }
 
 #[test]
@@ -526,10 +535,12 @@ fn as_many_sets_as_avcc_counts_are_written(rt: HostRuntime) {
 fn is_too_long(alloc: Global) -> Result<bool> {
     let mut entry = Avc1Box::default(alloc)?;
     entry.avcc = long_set(alloc, 0x1_0000)?;
-    Ok(
-        entry.get_size() == 86 + 15 + 2 + 0x1_0000
-            && has_no_bits(alloc, &entry.avcc, 15 + 2 + 0x1_0000)?
-            && is_unrepresentable(alloc, &entry)?,
+    also(
+        entry.get_size() == 86 + 15 + 2 + 0x1_0000,
+        both(
+            has_no_bits(alloc, &entry.avcc, 15 + 2 + 0x1_0000),
+            is_unrepresentable(alloc, &entry),
+        ),
     )
 }
 
