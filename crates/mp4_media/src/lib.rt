@@ -11,10 +11,10 @@ pub use mp4_codec::{
     HEADER_EXT_SIZE, HEADER_SIZE, InRange, Items, Key, KeyedItems, Limit, Mp4Box, OPEN_END, Put,
     ReadBox, Result, Text, TryClone, WriteBox, all_children, all_size, check_all, check_optional,
     check_value, check_version, code_again, frame_has_its_head, gather_children,
-    header_says_its_box, insertion_changes_one_key, last_child, list_size, optional_size,
-    payload_has_its_children, put_all, put_bytes, put_four_cc, put_i16, put_i32, put_list,
-    put_optional, put_u8, put_u16, put_u24, put_u32, put_u64, put_versioned, put_zeros,
-    refused_head_says_why, what_is_written_reads_back,
+    header_says_its_box, insertion_changes_one_key, keep_each, keep_last, last_child, list_size,
+    optional_size, payload_has_its_children, put_all, put_bytes, put_four_cc, put_i16, put_i32,
+    put_list, put_optional, put_u8, put_u16, put_u24, put_u32, put_u64, put_versioned, put_zeros,
+    refused_head_says_why, required, some_required, what_is_written_reads_back,
 };
 
 // Leaf boxes, sample entries and sample tables.
@@ -36,8 +36,12 @@ pub use mp4_table::{
     entries_are_no_fewer_than_turns, entries_have_first_samples, runs_are_no_fewer_than_turns,
 };
 
-// Movies.
-pub use mp4_boxes::MoovBox;
+// Containers, and movies.
+pub use mp4_boxes::{
+    EdtsBox, IlstBox, IlstItemBox, MdiaBox, MetaBox, Metadata, MetadataKey, MinfBox, MoofBox,
+    MoovBox, MvexBox, StblBox, TrafBox, TrakBox, UdtaBox, equal_keys_hash_alike,
+    read_tables_have_first_samples,
+};
 pub use mp4_lookup::time_of;
 pub use mp4_mux::{Mp4Config, mdat_header};
 pub use reader::{Mp4Reader, read_mp4};

@@ -1,4 +1,4 @@
-//! Boxes of boxes at random, from fixed seeds: each is read as it was written, and no cut and no changed byte stops a
+//! Boxes of boxes at random, from fixed seeds: each is read as it was written, and no cut and no changed size stops a
 //! reader.
 
 use crate::spelled::{check, read_bytes, written};
@@ -360,41 +360,68 @@ fn movie(alloc: Global, random: &mut Random) -> Result<MoovBox> {
     Ok(movie)
 }
 
-/// Reads the box cut after each byte, and with each byte changed, one after the other; the answers don't matter.
-fn survives<B: WriteBox>(alloc: Global, bytes: &mut Vec<u8>) {
+/// Reads the box cut after each byte; the answers don't matter.
+fn survives_cuts<B: WriteBox>(alloc: Global, bytes: &[u8]) {
     for end in 8..bytes.len() {
         if let Some(cut) = bytes.get(..end) {
             let _answer = read_bytes::<B>(alloc, cut).is_ok();
         }
     }
-    for place in 8..bytes.len() {
-        change(bytes, place);
-        let _answer = read_bytes::<B>(alloc, bytes).is_ok();
-        change(bytes, place);
-    }
 }
 
-/// Turns the low bits of a byte; a second time turns them back.
+/// Whether the four bytes at the place may be the size of a box: it is below 65,536, and a letter begins its type.
+fn may_be_a_size(bytes: &[u8], place: usize) -> bool {
+    let size = bytes.get(place..).unwrap_or_default();
+    matches!(size, [0, 0, _, _, letter, ..] if *letter >= b'a')
+}
+
+/// Turns some bits of a byte; a second time turns them back.
 fn change(bytes: &mut Vec<u8>, place: usize) {
     if let Some(byte) = bytes.get_mut(place) {
         *byte ^= 0x15;
     }
 }
 
-/// Whether a value is read as it was written, in as many bytes as its size; its bytes, cut and changed, are read too.
+/// Reads the box with each of its sizes changed, one after the other; the answers don't matter.
+fn survives_changes<B: WriteBox>(alloc: Global, bytes: &mut Vec<u8>) {
+    for place in 8..bytes.len() {
+        if may_be_a_size(bytes, place) {
+            let low = place.saturating_add(3);
+            change(bytes, low);
+            let _answer = read_bytes::<B>(alloc, bytes).is_ok();
+            change(bytes, low);
+        }
+    }
+}
+
+/// Whether a value is read as it was written, in as many bytes as its size.
 fn is_kept<B: WriteBox + PartialEq>(alloc: Global, value: &B) -> Result<bool> {
+    let bytes = written(alloc, value)?;
+    Ok(read_bytes::<B>(alloc, &bytes)? == *value && bytes.len() as u64 == value.box_size())
+}
+
+/// Reads what is written of a value, cut and with other sizes; each call answers, whatever it answers.
+fn survives<B: WriteBox>(alloc: Global, value: &B) -> Result<bool> {
     let mut bytes = written(alloc, value)?;
-    let kept = read_bytes::<B>(alloc, &bytes)? == *value && bytes.len() as u64 == value.box_size();
-    survives::<B>(alloc, &mut bytes);
-    Ok(kept)
+    survives_cuts::<B>(alloc, &bytes);
+    survives_changes::<B>(alloc, &mut bytes);
+    Ok(true)
 }
 
 fn a_movie_is_kept(alloc: Global, seed: u64) -> Result<bool> {
     is_kept(alloc, &movie(alloc, &mut Random::new(seed))?)
 }
 
+fn a_movie_survives(alloc: Global, seed: u64) -> Result<bool> {
+    survives(alloc, &movie(alloc, &mut Random::new(seed))?)
+}
+
 fn a_fragment_is_kept(alloc: Global, seed: u64) -> Result<bool> {
     is_kept(alloc, &fragment(alloc, &mut Random::new(seed))?)
+}
+
+fn a_fragment_survives(alloc: Global, seed: u64) -> Result<bool> {
+    survives(alloc, &fragment(alloc, &mut Random::new(seed))?)
 }
 
 #[test]
@@ -405,8 +432,22 @@ fn three_hundred_movies_are_kept(rt: HostRuntime) {
 }
 
 #[test]
+fn ten_movies_are_read_cut_and_with_other_sizes(rt: HostRuntime) {
+    for seed in 0..10 {
+        check(&rt, seed, a_movie_survives(rt.alloc(), seed));
+    }
+}
+
+#[test]
 fn three_hundred_fragments_are_kept(rt: HostRuntime) {
     for seed in 0..300 {
         check(&rt, seed, a_fragment_is_kept(rt.alloc(), seed));
+    }
+}
+
+#[test]
+fn two_hundred_fragments_are_read_cut_and_with_other_sizes(rt: HostRuntime) {
+    for seed in 0..200 {
+        check(&rt, seed, a_fragment_survives(rt.alloc(), seed));
     }
 }
