@@ -54,14 +54,17 @@ fn three(alloc: Global) -> Result<Items<Number>> {
     Ok(list)
 }
 
-/// The bytes of 3, 1, 2 and 4.
+/// The bytes of 3, 1, 2 and 4, if their sizes are as they should be.
 fn four(alloc: Global) -> Result<Vec<u8>> {
     let list = three(alloc)?;
+    let last = Some(Number { value: 4 });
     let none: Option<Number> = None;
     let mut out = Vec::new(alloc);
-    put_all(&mut out, &list)?;
-    put_optional(&mut out, &Some(Number { value: 4 }))?;
-    put_optional(&mut out, &none)?;
+    if all_size(&list) == 36 && optional_size(&last) == 12 && optional_size(&none) == 0 {
+        put_all(&mut out, &list)?;
+        put_optional(&mut out, &last)?;
+        put_optional(&mut out, &none)?;
+    }
     Ok(out)
 }
 

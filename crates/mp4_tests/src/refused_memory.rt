@@ -327,23 +327,32 @@ fn put_entries(alloc: Global) -> Result<bool> {
 fn put_children(alloc: Global) -> Result<bool> {
     let mut children = Items::new(alloc);
     children.push(Number { value: 2 })?;
+    if all_size(&children) != 12 {
+        return Ok(false);
+    }
     put_all(&mut Vec::new(alloc), &children)?;
-    Ok(all_size(&children) == 12)
+    Ok(true)
 }
 
 /// Puts one child into a buffer of its own. Whether its size is as it should be.
 fn put_child(alloc: Global) -> Result<bool> {
     let child = Some(Number { value: 2 });
+    if optional_size(&child) != 12 {
+        return Ok(false);
+    }
     put_optional(&mut Vec::new(alloc), &child)?;
-    Ok(optional_size(&child) == 12)
+    Ok(true)
 }
 
 /// Puts a box and its payload, each into a buffer of its own. Whether its size is as it should be.
 fn put_number(alloc: Global) -> Result<bool> {
     let number = Number { value: 2 };
+    if number.box_size() != 12 {
+        return Ok(false);
+    }
     number.put_payload(&mut Vec::new(alloc))?;
     number.put_box(&mut Vec::new(alloc))?;
-    Ok(number.box_size() == 12)
+    Ok(true)
 }
 
 /// Puts a list of entries, a list of children, one child and a box. Whether the sizes are as they should be.
