@@ -81,7 +81,7 @@ fn header_of_a_fragment(random: &mut Random) -> TfhdBox {
 fn run(alloc: Global, random: &mut Random) -> Result<TrunBox> {
     let mut run = TrunBox::default(alloc)?;
     run.sample_sizes = numbers(alloc, random)?;
-    run.sample_count = run.sample_sizes.len() as u32;
+    run.sample_count = u32::try_from(run.sample_sizes.len()).unwrap_or(0);
     run.flags = 0x201;
     run.data_offset = Some(-7);
     Ok(run)
@@ -237,7 +237,7 @@ fn sizes(alloc: Global, random: &mut Random) -> Result<StszBox> {
         return Ok(sizes);
     }
     sizes.sample_sizes = numbers(alloc, random)?;
-    sizes.sample_count = sizes.sample_sizes.len() as u32;
+    sizes.sample_count = u32::try_from(sizes.sample_sizes.len()).unwrap_or(0);
     Ok(sizes)
 }
 
