@@ -1,67 +1,92 @@
 //! The sample table of a track, and the boxes around it.
 
-use crate::spelled::{hex, is_invalid, is_spelled, is_unrepresentable, read, writes};
+use crate::nested::{DINF, nest};
+use crate::spelled::{
+    also, check, is_invalid, is_spelled, is_unreadable, is_unrepresentable, lacks, read, same,
+    writes,
+};
 use mp4_boxes::{MdiaBox, MinfBox, StblBox};
 use mp4_codec::{BoxType, Error, Mp4Box, ReadBox, Result, Text};
-use mp4_leaf::{DinfBox, HdlrBox, MdhdBox, SmhdBox, VmhdBox};
-use mp4_table::{Co64Box, CttsBox, StcoBox, StscBox, StssBox, StszBox};
+use mp4_leaf::{SmhdBox, VmhdBox};
+use mp4_table::{Co64Box, CttsBox, StcoBox, StscBox, StssBox};
 use std::alloc::Global;
 
-const STSD: &str = "00000010 73747364 00 000000 00000000";
+/// The types of the boxes that are tested here.
+const TABLE: &str = "7374626c";
 
-const STTS: &str = "00000010 73747473 00 000000 00000000";
+const INFORMATION: &str = "6d696e66";
 
-const CTTS: &str = "00000010 63747473 00 000000 00000000";
+const MEDIA: &str = "6d646961";
 
-const STSS: &str = "00000010 73747373 00 000000 00000000";
+/// Tables without entries.
+const STSD: &str = "00000010 73747364 00 000000 00000000 ";
 
-const STSC: &str = "00000010 73747363 00 000000 00000000";
+const STTS: &str = "00000010 73747473 00 000000 00000000 ";
 
-const STSZ: &str = "00000014 7374737a 00 000000 00000000 00000000";
+const CTTS: &str = "00000010 63747473 00 000000 00000000 ";
 
-const STCO: &str = "00000010 7374636f 00 000000 00000000";
+const STSS: &str = "00000010 73747373 00 000000 00000000 ";
 
-const CO64: &str = "00000010 636f3634 00 000000 00000000";
+const STSC: &str = "00000010 73747363 00 000000 00000000 ";
+
+const STSZ: &str = "00000014 7374737a 00 000000 00000000 00000000 ";
+
+const STCO: &str = "00000010 7374636f 00 000000 00000000 ";
+
+const CO64: &str = "00000010 636f3634 00 000000 00000000 ";
 
 /// The least of a sample table that is read.
-const STBL: &str =
-    "0000005c 7374626c 00000010 73747364 00 000000 00000000 00000010 73747473 00 000000 00000000 00000010 73747363 00 000000 00000000 00000014 7374737a 00 000000 00000000 00000000 00000010 7374636f 00 000000 00000000";
+const STBL: &str = "0000005c 7374626c \
+    00000010 73747364 00 000000 00000000 00000010 73747473 00 000000 00000000 \
+    00000010 73747363 00 000000 00000000 00000014 7374737a 00 000000 00000000 00000000 \
+    00000010 7374636f 00 000000 00000000 ";
 
-const DINF: &str =
-    "00000024 64696e66 0000001c 64726566 00 000000 00000001 0000000c 75726c20 00 000001";
+const VMHD: &str = "00000014 766d6864 00 000001 0000 0000 0000 0000 ";
 
-const MDHD: &str = "00000020 6d646864 00 000000 00000000 00000000 000003e8 00000000 55c4 0000";
+const SMHD: &str = "00000010 736d6864 00 000000 0000 0000 ";
 
-const HDLR: &str = "00000021 68646c72 00 000000 00000000 00000000 00000000 00000000 00000000 00";
+const MDHD: &str = "00000020 6d646864 00 000000 00000000 00000000 000003e8 00000000 55c4 0000 ";
+
+const HDLR: &str = "00000021 68646c72 00 000000 00000000 00000000 00000000 00000000 00000000 00 ";
+
 /// DINF and STBL.
-const MINF: &str =
-    "00000088 6d696e66 00000024 64696e66 0000001c 64726566 00 000000 00000001 0000000c 75726c20 00 000001 0000005c 7374626c 00000010 73747364 00 000000 00000000 00000010 73747473 00 000000 00000000 00000010 73747363 00 000000 00000000 00000014 7374737a 00 000000 00000000 00000000 00000010 7374636f 00 000000 00000000";
+const MINF: &str = "00000088 6d696e66 \
+    00000024 64696e66 0000001c 64726566 00 000000 00000001 0000000c 75726c20 00 000001 \
+    0000005c 7374626c \
+    00000010 73747364 00 000000 00000000 00000010 73747473 00 000000 00000000 \
+    00000010 73747363 00 000000 00000000 00000014 7374737a 00 000000 00000000 00000000 \
+    00000010 7374636f 00 000000 00000000 ";
 
 /// A child that is skipped.
-const FREE: &str = "00000008 66726565";
+const FREE: &str = "00000008 66726565 ";
+
 /// Where no child begins.
-const BROKEN: &str = "00000009 66726565";
+const BROKEN: &str = "00000009 66726565 ";
+
 /// Too few bytes for a child.
-const CLOSED: &str = "00000009 667265";
+const CLOSED: &str = "00000009 667265 ";
 
-/// The box with these children.
-fn of_children<B: ReadBox>(alloc: Global, children: &[&str]) -> Result<B> {
-    let mut payload = Vec::new(alloc);
-    for child in children {
-        let bytes = hex(alloc, child)?;
-        payload.extend_from_slice(&bytes)?;
-    }
-    B::read_payload(alloc, &payload)
+/// The box of a type with these children.
+fn of_children<B: ReadBox>(alloc: Global, kind: &str, children: &[&str]) -> Result<B> {
+    let text = nest(alloc, kind, children)?;
+    read(alloc, &text)
 }
 
-/// Why there is no box with these children.
-fn fault<B: ReadBox>(alloc: Global, children: &[&str]) -> Option<Error> {
-    of_children::<B>(alloc, children).err()
+/// Whether the children of a box are refused as invalid data.
+fn is_broken<B: ReadBox>(alloc: Global, kind: &str, children: &[&str]) -> Result<bool> {
+    let text = nest(alloc, kind, children)?;
+    Ok(is_unreadable::<B>(alloc, &text))
 }
 
-/// Whether children are refused as invalid data.
-fn is_broken<B: ReadBox>(alloc: Global, children: &[&str]) -> bool {
-    matches!(&fault::<B>(alloc, children), Some(Error::InvalidData(_)))
+/// Whether the children of a box are refused since a box is missing.
+fn misses<B: ReadBox>(
+    alloc: Global,
+    kind: &str,
+    children: &[&str],
+    missing: BoxType,
+) -> Result<bool> {
+    let text = nest(alloc, kind, children)?;
+    Ok(lacks::<B>(alloc, &text, missing))
 }
 
 /// A default table with places of chunks in 32 bits.
@@ -71,296 +96,463 @@ fn with_places(alloc: Global) -> Result<StblBox> {
     Ok(table)
 }
 
-#[test]
-fn the_default_table_has_76_bytes(rt: HostRuntime) -> Result<()> {
-    let default = StblBox::default(rt.alloc())?;
-    assert_eq!(rt; default.get_type(), BoxType::StblBox);
-    assert_eq!(rt; (default.get_size(), default.box_size()), (76, 76));
-    let text =
-        "0000004c 7374626c 00000010 73747364 00 000000 00000000 00000010 73747473 00 000000 00000000 00000010 73747363 00 000000 00000000 00000014 7374737a 00 000000 00000000 00000000";
-    assert!(rt; writes(rt.alloc(), &default, text)?);
-    Ok(())
+/// Whether the default table is known by its type and has 76 bytes.
+fn default_table_is_known(alloc: Global) -> Result<bool> {
+    let default = StblBox::default(alloc)?;
+    let sizes = (default.get_size(), default.box_size());
+    Ok(default.get_type() == BoxType::StblBox && sizes == (76, 76))
+}
+
+/// Whether the default table is written as its tables.
+fn default_table_is_written(alloc: Global) -> Result<bool> {
+    let default = StblBox::default(alloc)?;
+    let text = nest(alloc, TABLE, &[STSD, STTS, STSC, STSZ])?;
+    writes(alloc, &default, &text)
 }
 
 #[test]
-fn a_default_table_with_places_is_read_as_it_was_written(rt: HostRuntime) -> Result<()> {
-    let table = with_places(rt.alloc())?;
-    assert_eq!(rt; table.get_size(), 92);
-    assert!(rt; is_spelled(rt.alloc(), &table, STBL)?);
-    Ok(())
+fn the_default_table_has_76_bytes(rt: HostRuntime) {
+    check(&rt, 1, default_table_is_known(rt.alloc()));
+    check(&rt, 2, default_table_is_written(rt.alloc()));
+}
+
+/// Whether a default table with places is spelled by a text.
+fn table_with_places_is(alloc: Global, text: &str) -> Result<bool> {
+    let table = with_places(alloc)?;
+    also(table.get_size() == 92, is_spelled(alloc, &table, text))
 }
 
 #[test]
-fn all_tables_are_written_in_order(rt: HostRuntime) -> Result<()> {
-    let mut table = with_places(rt.alloc())?;
-    table.ctts = Some(CttsBox::default(rt.alloc())?);
-    table.stss = Some(StssBox::default(rt.alloc())?);
-    table.co64 = Some(Co64Box::default(rt.alloc())?);
-    assert_eq!(rt; table.get_size(), 140);
-    let text =
-        "0000008c 7374626c 00000010 73747364 00 000000 00000000 00000010 73747473 00 000000 00000000 00000010 63747473 00 000000 00000000 00000010 73747373 00 000000 00000000 00000010 73747363 00 000000 00000000 00000014 7374737a 00 000000 00000000 00000000 00000010 7374636f 00 000000 00000000 00000010 636f3634 00 000000 00000000";
-    assert!(rt; is_spelled(rt.alloc(), &table, text)?);
-    Ok(())
+fn a_default_table_with_places_is_read_as_it_was_written(rt: HostRuntime) {
+    check(&rt, 1, table_with_places_is(rt.alloc(), STBL));
+}
+
+/// A default table of all tables.
+fn of_all_tables(alloc: Global) -> Result<StblBox> {
+    let mut table = with_places(alloc)?;
+    table.ctts = Some(CttsBox::default(alloc)?);
+    table.stss = Some(StssBox::default(alloc)?);
+    table.co64 = Some(Co64Box::default(alloc)?);
+    Ok(table)
+}
+
+/// Whether it is spelled by all tables in order.
+fn all_tables_are_in_order(alloc: Global) -> Result<bool> {
+    let table = of_all_tables(alloc)?;
+    let children = [STSD, STTS, CTTS, STSS, STSC, STSZ, STCO, CO64];
+    let text = nest(alloc, TABLE, &children)?;
+    also(table.get_size() == 140, is_spelled(alloc, &table, &text))
 }
 
 #[test]
-fn tables_are_read_in_any_order(rt: HostRuntime) -> Result<()> {
-    let written: StblBox = of_children(
-        rt.alloc(),
-        &[STSD, STTS, CTTS, STSS, STSC, STSZ, STCO, CO64],
-    )?;
-    let reversed: StblBox = of_children(
-        rt.alloc(),
-        &[CO64, STCO, STSZ, STSC, STSS, FREE, CTTS, STTS, STSD, CLOSED],
-    )?;
-    assert!(rt; written == reversed);
-    assert!(rt; written.stco.is_some() && written.co64.is_some());
-    assert!(rt; written.ctts.is_some() && written.stss.is_some());
-    Ok(())
+fn all_tables_are_written_in_order(rt: HostRuntime) {
+    check(&rt, 1, all_tables_are_in_order(rt.alloc()));
+}
+
+/// Whether all tables in order and in reverse order, with a child that is skipped and an end that is no child, are the
+/// same.
+fn order_of_tables_is_free(alloc: Global) -> Result<bool> {
+    let children = [STSD, STTS, CTTS, STSS, STSC, STSZ, STCO, CO64];
+    let written: StblBox = of_children(alloc, TABLE, &children)?;
+    let children = [CO64, STCO, STSZ, STSC, STSS, FREE, CTTS, STTS, STSD, CLOSED];
+    Ok(of_children::<StblBox>(alloc, TABLE, &children)? == written)
+}
+
+/// Whether a table of all tables has those that it may lack.
+fn all_tables_are_kept(alloc: Global) -> Result<bool> {
+    let children = [STSD, STTS, CTTS, STSS, STSC, STSZ, STCO, CO64];
+    let table: StblBox = of_children(alloc, TABLE, &children)?;
+    let places = table.stco.is_some() && table.co64.is_some();
+    Ok(places && table.ctts.is_some() && table.stss.is_some())
 }
 
 #[test]
-fn places_in_64_bits_are_enough(rt: HostRuntime) -> Result<()> {
-    let table: StblBox = of_children(rt.alloc(), &[STSD, STTS, STSC, STSZ, CO64])?;
-    assert!(rt; table.co64.is_some() && table.stco.is_none());
-    assert!(rt; table.ctts.is_none() && table.stss.is_none());
-    assert_eq!(rt; table.get_size(), 92);
-    Ok(())
+fn tables_are_read_in_any_order(rt: HostRuntime) {
+    check(&rt, 1, order_of_tables_is_free(rt.alloc()));
+    check(&rt, 2, all_tables_are_kept(rt.alloc()));
+}
+
+/// Whether a table of places in 64 bits has no table that it may lack.
+fn is_read_with_wide_places(alloc: Global) -> Result<bool> {
+    let table: StblBox = of_children(alloc, TABLE, &[STSD, STTS, STSC, STSZ, CO64])?;
+    let places = table.co64.is_some() && table.stco.is_none();
+    let others = table.ctts.is_none() && table.stss.is_none();
+    Ok(places && others && table.get_size() == 92)
+}
+
+#[test]
+fn places_in_64_bits_are_enough(rt: HostRuntime) {
+    check(&rt, 1, is_read_with_wide_places(rt.alloc()));
+}
+
+/// Why there is no table without places.
+fn refusal_without_places(alloc: Global) -> Option<Error> {
+    let children = [STSD, STTS, CTTS, STSS, STSC, STSZ];
+    of_children::<StblBox>(alloc, TABLE, &children).err()
 }
 
 #[test]
 fn a_table_without_places_is_refused(rt: HostRuntime) {
-    assert_eq!(rt;
-        fault::<StblBox>(rt.alloc(), &[STSD, STTS, CTTS, STSS, STSC, STSZ]),
-        Some(Error::Box2NotFound(BoxType::StcoBox, BoxType::Co64Box))
+    same(
+        &rt,
+        refusal_without_places(rt.alloc()),
+        Some(Error::Box2NotFound(BoxType::StcoBox, BoxType::Co64Box)),
     );
 }
+
+/// Whether a table of these children is refused since a box is missing.
+fn table_misses(alloc: Global, children: &[&str], missing: BoxType) -> Result<bool> {
+    misses::<StblBox>(alloc, TABLE, children, missing)
+}
+
+/// Children, and the first table that they miss.
+const MISSING_TABLES: [(&[&str], BoxType); 5] = [
+    (&[], BoxType::StsdBox),
+    (&[STSZ, STSC, STCO], BoxType::StsdBox),
+    (&[STSD, STSZ], BoxType::SttsBox),
+    (&[STSD, STTS], BoxType::StscBox),
+    (&[STSD, STTS, STSC], BoxType::StszBox),
+];
 
 #[test]
 fn the_first_missing_table_is_the_answer(rt: HostRuntime) {
-    assert_eq!(rt;
-        fault::<StblBox>(rt.alloc(), &[]),
-        Some(Error::BoxNotFound(BoxType::StsdBox))
-    );
-    assert_eq!(rt;
-        fault::<StblBox>(rt.alloc(), &[STSZ, STSC, STCO]),
-        Some(Error::BoxNotFound(BoxType::StsdBox))
-    );
-    assert_eq!(rt;
-        fault::<StblBox>(rt.alloc(), &[STSD, STSZ]),
-        Some(Error::BoxNotFound(BoxType::SttsBox))
-    );
-    assert_eq!(rt;
-        fault::<StblBox>(rt.alloc(), &[STSD, STTS]),
-        Some(Error::BoxNotFound(BoxType::StscBox))
-    );
-    assert_eq!(rt;
-        fault::<StblBox>(rt.alloc(), &[STSD, STTS, STSC]),
-        Some(Error::BoxNotFound(BoxType::StszBox))
-    );
+    for (row, (children, missing)) in MISSING_TABLES.iter().enumerate() {
+        check(&rt, row, table_misses(rt.alloc(), children, *missing));
+    }
+}
+
+/// Whether the second of two tables of durations stands, of version 2 and flags 4.
+fn last_durations_stand(alloc: Global) -> Result<bool> {
+    let first = "00000010 73747473 01 000003 00000000";
+    let last = "00000010 73747473 02 000004 00000000";
+    let children = [first, STSD, STTS, STSC, last, STSZ, STCO];
+    let table: StblBox = of_children(alloc, TABLE, &children)?;
+    Ok(table.stts.version == 2 && table.stts.flags == 4)
 }
 
 #[test]
-fn the_last_table_of_a_type_stands(rt: HostRuntime) -> Result<()> {
-    let first = "00000010 73747473 01 000003 00000000";
-    let last = "00000010 73747473 02 000004 00000000";
-    let table: StblBox = of_children(rt.alloc(), &[first, STSD, STTS, STSC, last, STSZ, STCO])?;
-    assert_eq!(rt; (table.stts.version, table.stts.flags), (2, 4));
-    Ok(())
+fn the_last_table_of_a_type_stands(rt: HostRuntime) {
+    check(&rt, 1, last_durations_stand(rt.alloc()));
 }
+
+/// Whether a table of these children is refused as invalid data.
+fn table_is_broken(alloc: Global, children: &[&str]) -> Result<bool> {
+    is_broken::<StblBox>(alloc, TABLE, children)
+}
+
+/// Children with a broken tail, of which tables are missing.
+const BROKEN_TAILS: [&[&str]; 3] = [
+    &[STSD, STTS, BROKEN],
+    &[STSD, STTS, STSC, STSZ, "00000000 66726565"],
+    &[BROKEN],
+];
 
 #[test]
 fn a_broken_tail_comes_before_a_missing_table(rt: HostRuntime) {
-    assert!(rt; is_broken::<StblBox>(rt.alloc(), &[STSD, STTS, BROKEN]));
-    assert!(rt; is_broken::<StblBox>(rt.alloc(), &[STSD, STTS, STSC, STSZ, "00000000 66726565"]));
-    assert!(rt; is_broken::<StblBox>(rt.alloc(), &[BROKEN]));
-    assert_eq!(rt;
-        fault::<StblBox>(rt.alloc(), &[STSD, STTS, CLOSED]),
-        Some(Error::BoxNotFound(BoxType::StscBox))
+    for (row, children) in BROKEN_TAILS.iter().enumerate() {
+        check(&rt, row, table_is_broken(rt.alloc(), children));
+    }
+    let closed = [STSD, STTS, CLOSED];
+    check(
+        &rt,
+        "closed",
+        table_misses(rt.alloc(), &closed, BoxType::StscBox),
     );
 }
+
+/// A table of chunks that is too short.
+const SHORT: &str = "0000000f 73747363 00 000000 000000 ";
+
+/// A table of chunks whose first chunks fall.
+const FALLS: &str = "00000028 73747363 00 000000 00000002 \
+    00000002 00000001 00000001 00000001 00000001 00000001 ";
+
+/// Children with a refused table: alone, where a later one would stand, and first.
+const REFUSED_TABLES: [&[&str]; 3] = [
+    &[SHORT],
+    &[STSD, STTS, SHORT, STSC, STSZ, STCO],
+    &[FALLS, STSD, STTS, STSC, STSZ, STCO],
+];
 
 #[test]
 fn a_refused_table_comes_before_a_missing_one(rt: HostRuntime) {
-    let short = "0000000f 73747363 00 000000 000000";
-    assert!(rt; is_broken::<StblBox>(rt.alloc(), &[short]));
-    // Also where a later one would stand.
-    assert!(rt; is_broken::<StblBox>(rt.alloc(), &[STSD, STTS, short, STSC, STSZ, STCO]));
-    // First chunks that fall.
-    let falls =
-        "00000028 73747363 00 000000 00000002 00000002 00000001 00000001 00000001 00000001 00000001";
-    assert!(rt; is_broken::<StblBox>(rt.alloc(), &[falls, STSD, STTS, STSC, STSZ, STCO]));
+    for (row, children) in REFUSED_TABLES.iter().enumerate() {
+        check(&rt, row, table_is_broken(rt.alloc(), children));
+    }
 }
 
-#[test]
-fn entries_have_their_first_samples(rt: HostRuntime) -> Result<()> {
+/// The first samples of the two entries of a table of chunks.
+fn first_samples(chunks: &StscBox) -> Option<(u32, u32)> {
+    let first = chunks.entries.get(0)?.first_sample;
+    let second = chunks.entries.get(1)?.first_sample;
+    Some((first, second))
+}
+
+/// Whether the samples of the second of two entries begin at 13.
+fn first_samples_are_found(alloc: Global) -> Result<bool> {
     let two =
         "00000028 73747363 00 000000 00000002 00000001 00000003 00000001 00000005 00000001 00000001";
-    let table: StblBox = of_children(rt.alloc(), &[STSD, STTS, two, STSZ, STCO])?;
-    let firsts = (
-        table.stsc.entries.get(0).map(|entry| entry.first_sample),
-        table.stsc.entries.get(1).map(|entry| entry.first_sample),
-    );
-    assert_eq!(rt; table.stsc.entries.len(), 2);
-    assert_eq!(rt; firsts, (Some(1), Some(13)));
-    Ok(())
+    let table: StblBox = of_children(alloc, TABLE, &[STSD, STTS, two, STSZ, STCO])?;
+    let firsts = first_samples(&table.stsc);
+    Ok(table.stsc.entries.len() == 2 && firsts == Some((1, 13)))
 }
 
 #[test]
-fn a_table_with_other_sizes_than_samples_is_not_written(rt: HostRuntime) -> Result<()> {
-    let mut table = with_places(rt.alloc())?;
+fn entries_have_their_first_samples(rt: HostRuntime) {
+    check(&rt, 1, first_samples_are_found(rt.alloc()));
+}
+
+/// A table of one sample without a size.
+fn without_size(alloc: Global) -> Result<StblBox> {
+    let mut table = with_places(alloc)?;
     table.stsz.sample_count = 1;
-    assert!(rt; is_invalid(rt.alloc(), &table)?);
-    let mut information = MinfBox::default(rt.alloc())?;
-    information.stbl = table;
-    assert!(rt; is_invalid(rt.alloc(), &information)?);
-    Ok(())
+    Ok(table)
+}
+
+fn table_without_size_is_invalid(alloc: Global) -> Result<bool> {
+    is_invalid(alloc, &without_size(alloc)?)
+}
+
+fn information_without_size_is_invalid(alloc: Global) -> Result<bool> {
+    let mut information = MinfBox::default(alloc)?;
+    information.stbl = without_size(alloc)?;
+    is_invalid(alloc, &information)
 }
 
 #[test]
-fn default_media_information_has_120_bytes(rt: HostRuntime) -> Result<()> {
-    let default = MinfBox::default(rt.alloc())?;
-    assert_eq!(rt; default.get_type(), BoxType::MinfBox);
-    assert_eq!(rt; (default.get_size(), default.box_size()), (120, 120));
-    assert!(rt; default.vmhd.is_none() && default.smhd.is_none());
-    assert_eq!(rt; default.dinf.get_size(), 36);
-    Ok(())
+fn a_table_with_other_sizes_than_samples_is_not_written(rt: HostRuntime) {
+    check(&rt, 1, table_without_size_is_invalid(rt.alloc()));
+    check(&rt, 2, information_without_size_is_invalid(rt.alloc()));
+}
+
+/// Whether default media information is known by its type and has 120 bytes.
+fn default_information_is_known(alloc: Global) -> Result<bool> {
+    let default = MinfBox::default(alloc)?;
+    let sizes = (default.get_size(), default.box_size());
+    Ok(default.get_type() == BoxType::MinfBox && sizes == (120, 120))
+}
+
+/// Whether its data information has 36 bytes, and it has no header.
+fn default_information_has_no_header(alloc: Global) -> Result<bool> {
+    let default = MinfBox::default(alloc)?;
+    let no_header = default.vmhd.is_none() && default.smhd.is_none();
+    Ok(no_header && default.dinf.get_size() == 36)
 }
 
 #[test]
-fn media_information_is_written_in_order(rt: HostRuntime) -> Result<()> {
-    let mut information = MinfBox::default(rt.alloc())?;
-    information.stbl = with_places(rt.alloc())?;
-    assert!(rt; is_spelled(rt.alloc(), &information, MINF)?);
+fn default_media_information_has_120_bytes(rt: HostRuntime) {
+    check(&rt, 1, default_information_is_known(rt.alloc()));
+    check(&rt, 2, default_information_has_no_header(rt.alloc()));
+}
+
+/// Default media information with places.
+fn information(alloc: Global) -> Result<MinfBox> {
+    let mut information = MinfBox::default(alloc)?;
+    information.stbl = with_places(alloc)?;
+    Ok(information)
+}
+
+/// Whether it is spelled by a text.
+fn information_is(alloc: Global, text: &str) -> Result<bool> {
+    let information = information(alloc)?;
+    is_spelled(alloc, &information, text)
+}
+
+/// Whether it is spelled by its parts in order where it has both headers.
+fn information_with_headers_is_in_order(alloc: Global) -> Result<bool> {
+    let mut information = information(alloc)?;
     information.vmhd = Some(VmhdBox::default());
     information.smhd = Some(SmhdBox::default());
-    assert_eq!(rt; information.get_size(), 172);
-    let text =
-        "000000ac 6d696e66 00000014 766d6864 00 000001 0000 0000 0000 0000 00000010 736d6864 00 000000 0000 0000 00000024 64696e66 0000001c 64726566 00 000000 00000001 0000000c 75726c20 00 000001 0000005c 7374626c 00000010 73747364 00 000000 00000000 00000010 73747473 00 000000 00000000 00000010 73747363 00 000000 00000000 00000014 7374737a 00 000000 00000000 00000000 00000010 7374636f 00 000000 00000000";
-    assert!(rt; is_spelled(rt.alloc(), &information, text)?);
-    Ok(())
+    let text = nest(alloc, INFORMATION, &[VMHD, SMHD, DINF, STBL])?;
+    also(
+        information.get_size() == 172,
+        is_spelled(alloc, &information, &text),
+    )
 }
 
 #[test]
-fn media_information_is_read_in_any_order(rt: HostRuntime) -> Result<()> {
-    let video = "00000014 766d6864 00 000001 0000 0000 0000 0000";
-    let sound = "00000010 736d6864 00 000000 0000 0000";
-    let written: MinfBox = of_children(rt.alloc(), &[video, sound, DINF, STBL])?;
-    let reversed: MinfBox = of_children(rt.alloc(), &[STBL, FREE, DINF, sound, video])?;
-    assert!(rt; written == reversed);
-    assert!(rt; written.vmhd.is_some() && written.smhd.is_some());
-    Ok(())
+fn media_information_is_written_in_order(rt: HostRuntime) {
+    check(&rt, 1, information_is(rt.alloc(), MINF));
+    check(&rt, 2, information_with_headers_is_in_order(rt.alloc()));
 }
+
+/// Whether the parts of media information in order and in reverse order, with a child that is skipped, are the same.
+fn order_of_information_is_free(alloc: Global) -> Result<bool> {
+    let written: MinfBox = of_children(alloc, INFORMATION, &[VMHD, SMHD, DINF, STBL])?;
+    let children = [STBL, FREE, DINF, SMHD, VMHD];
+    Ok(of_children::<MinfBox>(alloc, INFORMATION, &children)? == written)
+}
+
+/// Whether media information of both headers has them.
+fn both_headers_are_kept(alloc: Global) -> Result<bool> {
+    let read: MinfBox = of_children(alloc, INFORMATION, &[VMHD, SMHD, DINF, STBL])?;
+    Ok(read.vmhd.is_some() && read.smhd.is_some())
+}
+
+#[test]
+fn media_information_is_read_in_any_order(rt: HostRuntime) {
+    check(&rt, 1, order_of_information_is_free(rt.alloc()));
+    check(&rt, 2, both_headers_are_kept(rt.alloc()));
+}
+
+/// Whether media information of these children is refused since a box is missing.
+fn information_misses(alloc: Global, children: &[&str], missing: BoxType) -> Result<bool> {
+    misses::<MinfBox>(alloc, INFORMATION, children, missing)
+}
+
+/// Children, and the first part that they miss.
+const MISSING_PARTS: [(&[&str], BoxType); 3] = [
+    (&[FREE], BoxType::DinfBox),
+    (&[STBL], BoxType::DinfBox),
+    (&[DINF], BoxType::StblBox),
+];
 
 #[test]
 fn media_information_without_a_part_is_refused(rt: HostRuntime) {
-    assert_eq!(rt;
-        fault::<MinfBox>(rt.alloc(), &[FREE]),
-        Some(Error::BoxNotFound(BoxType::DinfBox))
+    for (row, (children, missing)) in MISSING_PARTS.iter().enumerate() {
+        check(&rt, row, information_misses(rt.alloc(), children, *missing));
+    }
+    check(
+        &rt,
+        "broken",
+        is_broken::<MinfBox>(rt.alloc(), INFORMATION, &[DINF, BROKEN]),
     );
-    assert_eq!(rt;
-        fault::<MinfBox>(rt.alloc(), &[STBL]),
-        Some(Error::BoxNotFound(BoxType::DinfBox))
-    );
-    assert_eq!(rt;
-        fault::<MinfBox>(rt.alloc(), &[DINF]),
-        Some(Error::BoxNotFound(BoxType::StblBox))
-    );
-    assert!(rt; is_broken::<MinfBox>(rt.alloc(), &[DINF, BROKEN]));
 }
+
+const WITHOUT_REFERENCES: &str = "00000008 64696e66 ";
+
+const WITHOUT_TABLES: &str = "00000008 7374626c ";
+
+/// Children with a refused part, and what the first of them misses.
+const REFUSED_PARTS: [(&[&str], BoxType); 3] = [
+    (&[WITHOUT_REFERENCES, BROKEN], BoxType::DrefBox),
+    (&[WITHOUT_TABLES, WITHOUT_REFERENCES], BoxType::StsdBox),
+    (
+        &[WITHOUT_REFERENCES, WITHOUT_TABLES, DINF, STBL],
+        BoxType::DrefBox,
+    ),
+];
 
 #[test]
 fn a_refused_part_comes_before_a_broken_tail(rt: HostRuntime) {
-    let without_references = "00000008 64696e66";
-    let without_tables = "00000008 7374626c";
-    assert_eq!(rt;
-        fault::<MinfBox>(rt.alloc(), &[without_references, BROKEN]),
-        Some(Error::BoxNotFound(BoxType::DrefBox))
-    );
-    assert_eq!(rt;
-        fault::<MinfBox>(rt.alloc(), &[without_tables, without_references]),
-        Some(Error::BoxNotFound(BoxType::StsdBox))
-    );
-    assert_eq!(rt;
-        fault::<MinfBox>(
-            rt.alloc(),
-            &[without_references, without_tables, DINF, STBL]
-        ),
-        Some(Error::BoxNotFound(BoxType::DrefBox))
-    );
+    for (row, (children, missing)) in REFUSED_PARTS.iter().enumerate() {
+        check(&rt, row, information_misses(rt.alloc(), children, *missing));
+    }
+}
+
+/// Whether default media are known by their type and have 193 bytes.
+fn default_media_are_known(alloc: Global) -> Result<bool> {
+    let default = MdiaBox::default(alloc)?;
+    let sizes = (default.get_size(), default.box_size());
+    Ok(default.get_type() == BoxType::MdiaBox && sizes == (193, 193))
+}
+
+/// Whether their parts have 32, 33 and 120 bytes.
+fn default_media_have_their_parts(alloc: Global) -> Result<bool> {
+    let default = MdiaBox::default(alloc)?;
+    let headers = (default.mdhd.get_size(), default.hdlr.get_size());
+    Ok(headers == (32, 33) && default.minf.get_size() == 120)
 }
 
 #[test]
-fn default_media_have_193_bytes(rt: HostRuntime) -> Result<()> {
-    let default = MdiaBox::default(rt.alloc())?;
-    assert_eq!(rt; default.get_type(), BoxType::MdiaBox);
-    assert_eq!(rt; (default.get_size(), default.box_size()), (193, 193));
-    assert_eq!(rt;
-        (default.mdhd.get_size(), default.hdlr.get_size()),
-        (32, 33)
-    );
-    assert_eq!(rt; default.minf.get_size(), 120);
-    Ok(())
+fn default_media_have_193_bytes(rt: HostRuntime) {
+    check(&rt, 1, default_media_are_known(rt.alloc()));
+    check(&rt, 2, default_media_have_their_parts(rt.alloc()));
+}
+
+/// Whether default media with places are spelled by their parts in order.
+fn media_are_in_order(alloc: Global) -> Result<bool> {
+    let mut media = MdiaBox::default(alloc)?;
+    media.minf.stbl = with_places(alloc)?;
+    let text = nest(alloc, MEDIA, &[MDHD, HDLR, MINF])?;
+    also(media.get_size() == 209, is_spelled(alloc, &media, &text))
 }
 
 #[test]
-fn media_are_written_in_order(rt: HostRuntime) -> Result<()> {
-    let mut media = MdiaBox::default(rt.alloc())?;
-    media.minf.stbl = with_places(rt.alloc())?;
-    assert_eq!(rt; media.get_size(), 209);
-    let text =
-        "000000d1 6d646961 00000020 6d646864 00 000000 00000000 00000000 000003e8 00000000 55c4 0000 00000021 68646c72 00 000000 00000000 00000000 00000000 00000000 00000000 00 00000088 6d696e66 00000024 64696e66 0000001c 64726566 00 000000 00000001 0000000c 75726c20 00 000001 0000005c 7374626c 00000010 73747364 00 000000 00000000 00000010 73747473 00 000000 00000000 00000010 73747363 00 000000 00000000 00000014 7374737a 00 000000 00000000 00000000 00000010 7374636f 00 000000 00000000";
-    assert!(rt; is_spelled(rt.alloc(), &media, text)?);
-    Ok(())
+fn media_are_written_in_order(rt: HostRuntime) {
+    check(&rt, 1, media_are_in_order(rt.alloc()));
+}
+
+/// Whether the parts of media in order and in reverse order, with a child that is skipped and an end that is no child,
+/// are the same.
+fn order_of_media_is_free(alloc: Global) -> Result<bool> {
+    let written: MdiaBox = of_children(alloc, MEDIA, &[MDHD, HDLR, MINF])?;
+    let children = [MINF, HDLR, FREE, MDHD, CLOSED];
+    Ok(of_children::<MdiaBox>(alloc, MEDIA, &children)? == written)
+}
+
+/// The ticks of a second in media that are read.
+fn timescale(alloc: Global) -> Result<u32> {
+    let media: MdiaBox = of_children(alloc, MEDIA, &[MDHD, HDLR, MINF])?;
+    Ok(media.mdhd.timescale)
 }
 
 #[test]
-fn media_are_read_in_any_order(rt: HostRuntime) -> Result<()> {
-    let written: MdiaBox = of_children(rt.alloc(), &[MDHD, HDLR, MINF])?;
-    let reversed: MdiaBox = of_children(rt.alloc(), &[MINF, HDLR, FREE, MDHD, CLOSED])?;
-    assert!(rt; written == reversed);
-    assert_eq!(rt; written.mdhd.timescale, 1000);
-    Ok(())
+fn media_are_read_in_any_order(rt: HostRuntime) {
+    check(&rt, 1, order_of_media_is_free(rt.alloc()));
+    same(&rt, timescale(rt.alloc()), Ok(1000));
 }
+
+/// Whether media of these children are refused since a box is missing.
+fn media_miss(alloc: Global, children: &[&str], missing: BoxType) -> Result<bool> {
+    misses::<MdiaBox>(alloc, MEDIA, children, missing)
+}
+
+/// Children, and the first part of media that they miss.
+const MISSING_MEDIA: [(&[&str], BoxType); 4] = [
+    (&[MINF, HDLR], BoxType::MdhdBox),
+    (&[MINF, MDHD], BoxType::HdlrBox),
+    (&[HDLR, MDHD], BoxType::MinfBox),
+    (&[], BoxType::MdhdBox),
+];
 
 #[test]
 fn media_without_a_part_are_refused(rt: HostRuntime) {
-    assert_eq!(rt;
-        fault::<MdiaBox>(rt.alloc(), &[MINF, HDLR]),
-        Some(Error::BoxNotFound(BoxType::MdhdBox))
-    );
-    assert_eq!(rt;
-        fault::<MdiaBox>(rt.alloc(), &[MINF, MDHD]),
-        Some(Error::BoxNotFound(BoxType::HdlrBox))
-    );
-    assert_eq!(rt;
-        fault::<MdiaBox>(rt.alloc(), &[HDLR, MDHD]),
-        Some(Error::BoxNotFound(BoxType::MinfBox))
-    );
-    assert_eq!(rt;
-        fault::<MdiaBox>(rt.alloc(), &[]),
-        Some(Error::BoxNotFound(BoxType::MdhdBox))
-    );
+    for (row, (children, missing)) in MISSING_MEDIA.iter().enumerate() {
+        check(&rt, row, media_miss(rt.alloc(), children, *missing));
+    }
+}
+
+/// Whether media of these children are refused as invalid data.
+fn media_are_broken(alloc: Global, children: &[&str]) -> Result<bool> {
+    is_broken::<MdiaBox>(alloc, MEDIA, children)
 }
 
 #[test]
 fn faults_of_media_come_in_file_order(rt: HostRuntime) {
     let without_parts = "00000008 6d696e66";
     let without_name = "0000001f 68646c72 00 000000 00000000 00000000 00000000 00000000 000000";
-    assert!(rt; is_broken::<MdiaBox>(rt.alloc(), &[MDHD, BROKEN]));
-    assert_eq!(rt;
-        fault::<MdiaBox>(rt.alloc(), &[without_parts, without_name, BROKEN]),
-        Some(Error::BoxNotFound(BoxType::DinfBox))
+    let parts_first = [without_parts, without_name, BROKEN];
+    let name_first = [without_name, without_parts];
+    check(&rt, 1, media_are_broken(rt.alloc(), &[MDHD, BROKEN]));
+    check(
+        &rt,
+        2,
+        media_miss(rt.alloc(), &parts_first, BoxType::DinfBox),
     );
-    assert!(rt; is_broken::<MdiaBox>(rt.alloc(), &[without_name, without_parts]));
+    check(&rt, 3, media_are_broken(rt.alloc(), &name_first));
+}
+
+/// Default media of one sample without a size.
+fn media_without_size(alloc: Global) -> Result<MdiaBox> {
+    let mut media = MdiaBox::default(alloc)?;
+    media.minf.stbl.stsz.sample_count = 1;
+    Ok(media)
+}
+
+fn media_without_size_are_invalid(alloc: Global) -> Result<bool> {
+    is_invalid(alloc, &media_without_size(alloc)?)
+}
+
+/// Whether a language of seven letters is why they are not written.
+fn long_language_comes_first(alloc: Global) -> Result<bool> {
+    let mut media = media_without_size(alloc)?;
+    media.mdhd.language = Text::from_str(alloc, "english")?;
+    is_unrepresentable(alloc, &media)
 }
 
 #[test]
-fn a_header_that_is_not_written_comes_before_the_sizes(rt: HostRuntime) -> Result<()> {
-    let mut media = MdiaBox::default(rt.alloc())?;
-    media.minf.stbl.stsz.sample_count = 1;
-    assert!(rt; is_invalid(rt.alloc(), &media)?);
-    media.mdhd.language = Text::from_str(rt.alloc(), "english")?;
-    assert!(rt; is_unrepresentable(rt.alloc(), &media)?);
-    Ok(())
+fn a_header_that_is_not_written_comes_before_the_sizes(rt: HostRuntime) {
+    check(&rt, 1, media_without_size_are_invalid(rt.alloc()));
+    check(&rt, 2, long_language_comes_first(rt.alloc()));
 }
