@@ -3,8 +3,9 @@
 use crate::sample_boxes::Number;
 use crate::spelled::{check, holds, same};
 use mp4_codec::{
-    BoxType, ByteCursor, Error, Items, Mp4Box, ReadBox, Result, WriteBox, all_children, all_size,
-    last_child, optional_size, put_all, put_optional,
+    BoxType, ByteCursor, Child, Error, Items, Mp4Box, ReadBox, Result, WriteBox, all_children,
+    all_size, keep_each, keep_last, last_child, optional_size, put_all, put_optional, required,
+    some_required,
 };
 use std::alloc::Global;
 
@@ -130,4 +131,43 @@ fn the_first_refused_child_is_the_answer(rt: HostRuntime) {
         3,
         all_children::<Number>(alloc, &PAYLOAD[8..28]).is_err(),
     );
+}
+
+fn a_child_is_kept(alloc: Global) -> Result<bool> {
+    let child = Child {
+        name: BoxType::FreeBox,
+        payload: &[0, 0, 0, 2],
+    };
+    let mut last = None;
+    keep_last(alloc, &child, &mut last)?;
+    Ok(required::<Number>(last)?.value == 2)
+}
+
+fn each_child_is_kept(alloc: Global) -> Result<bool> {
+    let child = Child {
+        name: BoxType::FreeBox,
+        payload: &[0, 0, 0, 2],
+    };
+    let mut all = Items::new(alloc);
+    keep_each(alloc, &child, &mut all)?;
+    keep_each(alloc, &child, &mut all)?;
+    Ok(some_required::<Number>(all)?.len() == 2)
+}
+
+#[test]
+fn a_child_of_the_type_is_kept(rt: HostRuntime) {
+    check(&rt, "last", a_child_is_kept(rt.alloc()));
+    check(&rt, "each", each_child_is_kept(rt.alloc()));
+}
+
+/// Whether an answer is that the box of numbers is missing.
+fn is_missing<T: Drop>(answer: Result<T>) -> bool {
+    matches!(answer, Err(Error::BoxNotFound(BoxType::FreeBox)))
+}
+
+#[test]
+fn a_missing_child_is_named(rt: HostRuntime) {
+    holds(&rt, "one", is_missing(required::<Number>(None)));
+    let none = Items::<Number>::new(rt.alloc());
+    holds(&rt, "some", is_missing(some_required(none)));
 }

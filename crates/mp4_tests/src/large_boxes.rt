@@ -68,12 +68,10 @@ fn the_last_title_is_read(alloc: Global, count: usize) -> Result<bool> {
     let bytes = titles(alloc, count)?;
     let payload = bytes.get(8..).unwrap_or_default();
     let list = IlstBox::read_payload(alloc, payload)?;
-    Ok(
-        list.poster().is_none()
-            && list
-                .title(alloc)?
-                .is_some_and(|title| title.as_str() == "b"),
-    )
+    let Some(title) = list.title(alloc)? else {
+        return Ok(false);
+    };
+    Ok(title.as_str() == "b")
 }
 
 #[test]

@@ -2,6 +2,7 @@
 
 use crate::sample_boxes::Number;
 use crate::sides::Side;
+use mp4_boxes::{MetadataKey, equal_keys_hash_alike, read_tables_have_first_samples};
 use mp4_codec::{
     code_again, frame_has_its_head, header_says_its_box, insertion_changes_one_key,
     payload_has_its_children, refused_head_says_why, what_is_written_reads_back,
@@ -22,4 +23,10 @@ fn a_law_can_be_called(rt: HostRuntime) {
     entries_are_no_fewer_than_turns();
     entries_have_first_samples();
     assert_eq!(rt; code_again(0x66726565), 0x66726565);
+}
+
+#[test]
+fn a_law_of_containers_can_be_called(_rt: HostRuntime) {
+    equal_keys_hash_alike::<MetadataKey>();
+    read_tables_have_first_samples();
 }

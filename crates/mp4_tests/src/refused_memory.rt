@@ -6,7 +6,7 @@ use crate::movies::{EMPTY_MOVIE, config};
 use crate::sample_boxes::Number;
 use crate::sides::Side;
 use crate::spelled::{both, check, holds, read_bytes, same};
-use mp4_boxes::MoovBox;
+use mp4_boxes::{IlstBox, Metadata, MoofBox, MoovBox};
 use mp4_codec::{
     BoxHeader, BoxType, Error, Fields, FourCC, Items, KeyedItems, Mp4Box, ReadBox, Result, Text,
     TryClone, WriteBox, all_children, all_size, last_child, optional_size, put_all, put_bytes,
@@ -125,6 +125,69 @@ fn a_refused_call_of_a_header_box_is_made_again(rt: HostRuntime) {
     let movie = &EMPTY_MOVIE[48..];
     check(&rt, 1, is_kept::<MoovBox>(&rt, movie));
     check(&rt, 2, is_kept::<MvhdBox>(&rt, &movie[8..]));
+}
+
+/// A movie of a text track, with edits, metadata of both kinds and defaults of fragments.
+const MOVIE: [u8; 855] = *b"\
+    \0\0\x03Wmoov\0\0\0lmvhd\0\0\0\0\0\0\0\0\0\0\0\0\0\0\x03\xe8\0\0\x05\xdc\0\x01\0\0\x01\0\
+    \0\0\0\0\0\0\0\0\0\0\0\x01\0\0\0\0\0\0\0\0\0\0\0\0\0\0\0\x01\0\0\0\0\0\0\0\0\0\0\0\0\0\0\
+    @\0\0\0\0\0\0\0\0\0\0\0\0\0\0\0\0\0\0\0\0\0\0\0\0\0\0\0\0\0\0\x01\0\0\x02\x0ftrak\0\0\0\
+    \x5ctkhd\0\0\0\x01\0\0\0\0\0\0\0\0\0\0\0\x01\0\0\0\0\0\0\x05\xdc\0\0\0\0\0\0\0\0\0\0\0\0\
+    \x01\0\0\0\0\x01\0\0\0\0\0\0\0\0\0\0\0\0\0\0\0\x01\0\0\0\0\0\0\0\0\0\0\0\0\0\0@\0\0\0\0\
+    \0\0\0\0\0\0\0\0\0\0$edts\0\0\0\x1celst\0\0\0\0\0\0\0\x01\0\0\0\x07\0\0\0\0\0\x01\0\0\0\
+    \0\08meta\0\0\0\0\0\0\0!hdlr\0\0\0\0\0\0\0\0test\0\0\0\0\0\0\0\0\0\0\0\0\0\0\0\0\x0bfree\
+    abc\0\0\x01Omdia\0\0\0 mdhd\0\0\0\0\0\0\0\0\0\0\0\0\0\0\x03\xe8\0\0\x05\xdcU\xc4\0\0\0\0\
+    \0!hdlr\0\0\0\0\0\0\0\0sbtl\0\0\0\0\0\0\0\0\0\0\0\0\0\0\0\x01\x06minf\0\0\0$dinf\0\0\0\
+    \x1cdref\0\0\0\0\0\0\0\x01\0\0\0\x0curl \0\0\0\x01\0\0\0\xdastbl\0\0\0>stsd\0\0\0\0\0\0\
+    \0\x01\0\0\0.tx3g\0\0\0\0\0\0\0\x01\0\0\0\0\x01\xff\0\0\0\xff\0\0\0\0\0\0\0\0\0\0\0\0\0\
+    \x01\0\x10\xff\xff\xff\xff\0\0\0\x18stts\0\0\0\0\0\0\0\x01\0\0\0\x03\0\0\x01\xf4\0\0\0\
+    \x1cstss\0\0\0\0\0\0\0\x03\0\0\0\x01\0\0\0\x02\0\0\0\x03\0\0\0(stsc\0\0\0\0\0\0\0\x02\0\
+    \0\0\x01\0\0\0\x02\0\0\0\x01\0\0\0\x02\0\0\0\x01\0\0\0\x01\0\0\0 stsz\0\0\0\0\0\0\0\0\0\
+    \0\0\x03\0\0\0\x03\0\0\0\x03\0\0\0\x02\0\0\0\x18stco\0\0\0\0\0\0\0\x02\0\0\00\0\0\06\0\0\
+    \0(mvex\0\0\0 trex\0\0\0\0\0\0\0\x01\0\0\0\x01\0\0\0(\0\0\0\0\0\0\0\0\0\0\08meta\0\0\0\0\
+    \0\0\0!hdlr\0\0\0\0\0\0\0\0test\0\0\0\0\0\0\0\0\0\0\0\0\0\0\0\0\x0bfreeabc\0\0\0tudta\0\
+    \0\0lmeta\0\0\0\0\0\0\0!hdlr\0\0\0\0\0\0\0\0mdir\0\0\0\0\0\0\0\0\0\0\0\0\0\0\0\0?ilst\0\
+    \0\0\x1a\xa9nam\0\0\0\x12data\0\0\0\x01\0\0\0\0\xffA\0\0\0\x1d\xa9day\0\0\0\x15data\0\0\
+    \0\x01\0\0\0\0+2024";
+
+/// A movie fragment of two runs in two fragments of a track.
+const FRAGMENT: [u8; 152] = *b"\
+    \0\0\0\x98moof\0\0\0\x10mfhd\0\0\0\0\0\0\0\x01\0\0\0@traf\0\0\0\x10tfhd\0\0\0\0\0\0\0\
+    \x01\0\0\0\x10tfdt\0\0\0\0\0\0\0\0\0\0\0\x18trun\0\0\x02\0\0\0\0\x02\0\0\0\x03\0\0\0\x04\
+    \0\0\0@traf\0\0\0\x10tfhd\0\0\0\0\0\0\0\x01\0\0\0\x10tfdt\0\0\0\0\0\0\0\0\0\0\0\x18trun\
+    \0\0\x02\0\0\0\0\x02\0\0\0\x03\0\0\0\x04";
+
+/// A title of a byte that begins no character and an A, and a year.
+const TITLES: [u8; 63] = *b"\
+    \0\0\0?ilst\0\0\0\x1a\xa9nam\0\0\0\x12data\0\0\0\x01\0\0\0\0\xffA\0\0\0\x1d\xa9day\0\0\0\
+    \x15data\0\0\0\x01\0\0\0\0+2024";
+
+#[test]
+fn a_refused_call_of_a_movie_with_tracks_is_made_again(rt: HostRuntime) {
+    check(&rt, 1, is_kept::<MoovBox>(&rt, &MOVIE));
+}
+
+#[test]
+fn a_refused_call_of_a_movie_fragment_is_made_again(rt: HostRuntime) {
+    check(&rt, 1, is_kept::<MoofBox>(&rt, &FRAGMENT));
+}
+
+/// Whether a title is read, the call made again after a refusal.
+fn is_titled(rt: &HostRuntime) -> Result<bool> {
+    let list: IlstBox = read_again(rt, &TITLES)?;
+    let answer = match list.title(rt.alloc()) {
+        Err(error) if is_refusal(rt, &error) => list.title(rt.alloc()),
+        answer => answer,
+    };
+    let Some(title) = answer? else {
+        return Ok(false);
+    };
+    Ok(title.as_str() == "\u{fffd}A")
+}
+
+#[test]
+fn a_refused_call_of_a_title_is_made_again(rt: HostRuntime) {
+    check(&rt, 1, is_titled(&rt));
 }
 
 /// Whether a box is copied, written and read as it is, each call made again after a refusal.
