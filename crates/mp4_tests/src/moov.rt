@@ -1,41 +1,46 @@
 //! Movie boxes.
 
-use crate::spelled::{check, holds, same};
+use crate::spelled::{check, holds, same, written};
 use mp4_boxes::MoovBox;
-use mp4_codec::{BoxType, ByteCursor, Error, Mp4Box, ReadBox, Result, TryClone, WriteBox};
+use mp4_codec::{BoxType, ByteCursor, Error, ReadBox, Result, TryClone, WriteBox};
 use std::alloc::Global;
 
-/// The bytes of the default movie, if its sizes and its type are as they should be.
-fn default_bytes(alloc: Global) -> Result<Vec<u8>> {
-    let movie = MoovBox::default(alloc)?;
+/// Whether a box is written in so many bytes, of which the first are these.
+fn is_written_in<B: WriteBox>(alloc: Global, value: &B, size: u64, first: &[u8]) -> Result<bool> {
     let mut bytes = Vec::new(alloc);
-    let count = movie.write_box(&mut bytes)?;
-    if count == 116 && movie.get_size() == 116 && movie.box_size() == 116 {
-        return Ok(bytes);
-    }
-    Ok(Vec::new(alloc))
+    let count = value.write_box(&mut bytes)?;
+    let whole = count == size && value.box_size() == size && bytes.len() as u64 == size;
+    Ok(whole && bytes.get(..first.len()) == Some(first))
 }
 
 /// Whether the default movie is written as its own header, that of its movie header, and 100 bytes.
 fn is_written(alloc: Global) -> Result<bool> {
-    let bytes = default_bytes(alloc)?;
     let header = b"\0\0\0\x74moov\0\0\0\x6cmvhd";
-    Ok(bytes.len() == 116 && bytes.get(..16) == Some(header.as_slice()))
+    is_written_in(alloc, &MoovBox::default(alloc)?, 116, header)
+}
+
+/// Whether a box and its copy are what is read of its bytes, of which there are so many.
+fn is_read_again<B: WriteBox + TryClone + PartialEq>(
+    alloc: Global,
+    value: &B,
+    size: u64,
+) -> Result<bool> {
+    let bytes = written(alloc, value)?;
+    let mut cursor = ByteCursor::new(&bytes);
+    cursor.set_position(8);
+    let read = B::read_box(alloc, &mut cursor, size)?;
+    Ok(read == *value && read.try_clone()? == *value && cursor.position() == size)
 }
 
 /// Whether the default movie and its copy are what is read of its bytes.
 fn is_read(alloc: Global) -> Result<bool> {
-    let movie = MoovBox::default(alloc)?;
-    let bytes = default_bytes(alloc)?;
-    let mut cursor = ByteCursor::new(&bytes);
-    cursor.set_position(8);
-    let read = MoovBox::read_box(alloc, &mut cursor, 116)?;
-    Ok(read == movie && read.try_clone()? == movie && cursor.position() == 116)
+    is_read_again(alloc, &MoovBox::default(alloc)?, 116)
 }
 
-/// Whether the default movie has its type.
+/// Whether the default movie has its type, and says its size.
 fn is_movie(alloc: Global) -> Result<bool> {
-    Ok(MoovBox::default(alloc)?.get_type() == BoxType::MoovBox)
+    let movie = MoovBox::default(alloc)?;
+    Ok(movie.get_type() == BoxType::MoovBox && movie.get_size() == 116)
 }
 
 #[test]

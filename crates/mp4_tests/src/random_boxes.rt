@@ -9,8 +9,13 @@ use mp4_boxes::{
 use mp4_codec::{BoxType, FourCC, Items, Result, WriteBox};
 use mp4_entry::{StsdBox, Tx3gBox};
 use mp4_frag::{MehdBox, TfdtBox, TfhdBox, TrexBox, TrunBox};
-use mp4_leaf::{DataBox, DataType, ElstBox, ElstEntry, HdlrBox, SmhdBox, VmhdBox};
-use mp4_table::{Co64Box, CttsBox, CttsEntry, StcoBox, StscEntry, StssBox, StszBox, SttsEntry};
+use mp4_leaf::{
+    DataBox, DataType, DinfBox, ElstBox, ElstEntry, HdlrBox, MdhdBox, MvhdBox, SmhdBox, TkhdBox,
+    VmhdBox,
+};
+use mp4_table::{
+    Co64Box, CttsBox, CttsEntry, StcoBox, StscBox, StscEntry, StssBox, StszBox, SttsBox, SttsEntry,
+};
 use std::alloc::Global;
 
 /// Numbers in an order that a seed settles.
@@ -274,68 +279,124 @@ fn far_places(alloc: Global, random: &mut Random) -> Result<Co64Box> {
     Ok(places)
 }
 
-/// The durations, and the chunks of which the first has some samples.
-fn runs_of_tables(alloc: Global, random: &mut Random, tables: &mut StblBox) -> Result<()> {
+fn durations(alloc: Global, random: &mut Random) -> Result<SttsBox> {
+    let mut durations = SttsBox::default(alloc)?;
     for _ in 0..random.few() {
-        tables.stts.entries.push(SttsEntry {
+        durations.entries.push(SttsEntry {
             sample_count: random.next(),
             sample_delta: random.next(),
         })?;
     }
+    Ok(durations)
+}
+
+/// No chunks, or chunks that all have as many samples.
+fn chunks(alloc: Global, random: &mut Random) -> Result<StscBox> {
+    let mut chunks = StscBox::default(alloc)?;
     if random.chance() {
-        tables.stsc.entries.push(StscEntry {
+        chunks.entries.push(StscEntry {
             first_chunk: random.next(),
             samples_per_chunk: random.next(),
             sample_description_index: 1,
             first_sample: 1,
         })?;
     }
-    Ok(())
+    Ok(chunks)
+}
+
+/// All four values, or the first error. Since nothing is known of their types, it is cheap to prove, and so are
+/// functions that make values of deep types by it.
+fn four<A: Drop, B: Drop, C: Drop, D: Drop>(
+    first: Result<A>,
+    second: Result<B>,
+    third: Result<C>,
+    fourth: Result<D>,
+) -> Result<(A, B, C, D)> {
+    let first = first?;
+    let second = second?;
+    let third = third?;
+    let fourth = fourth?;
+    Ok((first, second, third, fourth))
+}
+
+/// The value that a call makes, or none, by chance.
+fn perhaps<T: Drop>(random: &mut Random, value: Result<T>) -> Result<Option<T>> {
+    if random.chance() {
+        return Ok(None);
+    }
+    Ok(Some(value?))
 }
 
 fn sample_tables(alloc: Global, random: &mut Random) -> Result<StblBox> {
-    let mut tables = StblBox::default(alloc)?;
-    tables.stsd = description(random);
-    tables.stsz = sizes(alloc, random)?;
-    if random.chance() {
-        tables.ctts = Some(offsets(alloc, random)?);
-        tables.stss = Some(syncs(alloc, random)?);
-        tables.stco = Some(places(alloc, random)?);
-    } else {
-        tables.co64 = Some(far_places(alloc, random)?);
-    }
-    runs_of_tables(alloc, random, &mut tables)?;
-    Ok(tables)
+    let offsets = offsets(alloc, random);
+    let ctts = perhaps(random, offsets);
+    let syncs = syncs(alloc, random);
+    let stss = perhaps(random, syncs);
+    let places = places(alloc, random);
+    let stco = perhaps(random, places);
+    let (ctts, stss, stco, co64) = four(ctts, stss, stco, far_places(alloc, random))?;
+    let (stts, stsc, stsz, stsd) = four(
+        durations(alloc, random),
+        chunks(alloc, random),
+        sizes(alloc, random),
+        Ok(description(random)),
+    )?;
+    Ok(StblBox {
+        stsd,
+        stts,
+        ctts,
+        stss,
+        stsc,
+        stsz,
+        stco,
+        co64: Some(co64),
+    })
 }
 
 fn media_information(alloc: Global, random: &mut Random) -> Result<MinfBox> {
-    let mut information = MinfBox::default(alloc)?;
-    if random.chance() {
-        information.vmhd = Some(VmhdBox::default());
-    } else {
-        information.smhd = Some(SmhdBox::default());
-    }
-    information.stbl = sample_tables(alloc, random)?;
-    Ok(information)
+    let vmhd = perhaps(random, Ok(VmhdBox::default()));
+    let smhd = perhaps(random, Ok(SmhdBox::default()));
+    let stbl = sample_tables(alloc, random);
+    let (vmhd, smhd, dinf, stbl) = four(vmhd, smhd, DinfBox::default(alloc), stbl)?;
+    Ok(MinfBox {
+        vmhd,
+        smhd,
+        dinf,
+        stbl,
+    })
+}
+
+fn header_of_media(alloc: Global, random: &mut Random) -> Result<MdhdBox> {
+    let mut header = MdhdBox::default(alloc)?;
+    header.timescale = random.next();
+    Ok(header)
 }
 
 fn media(alloc: Global, random: &mut Random) -> Result<MdiaBox> {
-    let mut media = MdiaBox::default(alloc)?;
-    media.mdhd.timescale = random.next();
-    media.hdlr = handler(alloc, random)?;
-    media.minf = media_information(alloc, random)?;
-    Ok(media)
+    let (mdhd, hdlr, minf, ()) = four(
+        header_of_media(alloc, random),
+        handler(alloc, random),
+        media_information(alloc, random),
+        Ok(()),
+    )?;
+    Ok(MdiaBox { mdhd, hdlr, minf })
 }
 
 fn track(alloc: Global, random: &mut Random) -> Result<TrakBox> {
-    let mut track = TrakBox::default(alloc)?;
-    track.tkhd.track_id = random.next();
-    if random.chance() {
-        track.edts = Some(edits(alloc, random)?);
-    }
-    track.meta = perhaps_metadata(alloc, random)?;
-    track.mdia = media(alloc, random)?;
-    Ok(track)
+    let tkhd = TkhdBox {
+        track_id: random.next(),
+        ..TkhdBox::default()
+    };
+    let edits = edits(alloc, random);
+    let edts = perhaps(random, edits);
+    let meta = perhaps_metadata(alloc, random);
+    let (tkhd, edts, meta, mdia) = four(Ok(tkhd), edts, meta, media(alloc, random))?;
+    Ok(TrakBox {
+        tkhd,
+        edts,
+        meta,
+        mdia,
+    })
 }
 
 fn tracks(alloc: Global, random: &mut Random) -> Result<Items<TrakBox>> {
@@ -347,17 +408,24 @@ fn tracks(alloc: Global, random: &mut Random) -> Result<Items<TrakBox>> {
 }
 
 fn movie(alloc: Global, random: &mut Random) -> Result<MoovBox> {
-    let mut movie = MoovBox::default(alloc)?;
-    movie.mvhd.timescale = random.next();
-    movie.traks = tracks(alloc, random)?;
-    if random.chance() {
-        movie.mvex = Some(defaults(alloc, random)?);
-    }
-    movie.meta = perhaps_metadata(alloc, random)?;
-    if random.chance() {
-        movie.udta = Some(user_data(alloc, random)?);
-    }
-    Ok(movie)
+    let mvhd = MvhdBox {
+        timescale: random.next(),
+        ..MvhdBox::default()
+    };
+    let traks = tracks(alloc, random);
+    let defaults = defaults(alloc, random);
+    let mvex = perhaps(random, defaults);
+    let meta = perhaps_metadata(alloc, random);
+    let user_data = user_data(alloc, random);
+    let udta = perhaps(random, user_data);
+    let (traks, mvex, meta, udta) = four(traks, mvex, meta, udta)?;
+    Ok(MoovBox {
+        mvhd,
+        traks,
+        mvex,
+        meta,
+        udta,
+    })
 }
 
 /// Reads the box cut after each byte; the answers don't matter.

@@ -6,8 +6,9 @@ use crate::nested::{
 };
 use crate::spelled::{check, is_spelled, is_unreadable, lacks, read, same};
 use mp4_boxes::{MetaBox, MoovBox, MvexBox, TrakBox, UdtaBox};
-use mp4_codec::{BoxType, Result};
+use mp4_codec::{BoxType, Items, ReadBox, Result, TryClone, WriteBox};
 use mp4_frag::TrexBox;
+use mp4_leaf::MvhdBox;
 use std::alloc::Global;
 
 const TABLES: [&str; 5] = [STSD, STTS, STSC, STSZ, STCO];
@@ -18,11 +19,19 @@ fn text_movie(alloc: Global, offsets: &str) -> Result<String> {
     nest(alloc, "6d6f6f76", &[MVHD, track.as_str()])
 }
 
+/// Whether a box of this size is read of a text, and written as it was.
+fn is_kept<B: WriteBox + TryClone + PartialEq>(
+    alloc: Global,
+    text: &str,
+    size: u64,
+) -> Result<bool> {
+    let value = read::<B>(alloc, text)?;
+    Ok(value.box_size() == size && is_spelled(alloc, &value, text)?)
+}
+
 /// Whether that movie is read, has this size, and is written as it was.
 fn is_movie_of(alloc: Global, offsets: &str, size: u64) -> Result<bool> {
-    let text = text_movie(alloc, offsets)?;
-    let movie = read::<MoovBox>(alloc, &text)?;
-    Ok(movie.get_size() == size && is_spelled(alloc, &movie, &text)?)
+    is_kept::<MoovBox>(alloc, &text_movie(alloc, offsets)?, size)
 }
 
 #[test]
@@ -46,8 +55,11 @@ fn tables_of(movie: &MoovBox) -> Option<(usize, usize, usize, u32)> {
 }
 
 fn tables_are_read(alloc: Global) -> Result<bool> {
-    let movie = read::<MoovBox>(alloc, &text_movie(alloc, STCO)?)?;
-    Ok(tables_of(&movie) == Some((1, 3, 3, 3)))
+    let text = text_movie(alloc, STCO)?;
+    match read::<MoovBox>(alloc, &text) {
+        Ok(movie) => Ok(tables_of(&movie) == Some((1, 3, 3, 3))),
+        Err(error) => Err(error),
+    }
 }
 
 #[test]
@@ -64,9 +76,14 @@ fn reversed_movie(alloc: Global) -> Result<String> {
     nest(alloc, "6d6f6f76", &[trak.as_str(), MVHD])
 }
 
+/// Whether two texts are read as equal values.
+fn reads_alike<B: ReadBox + PartialEq>(alloc: Global, first: &str, second: &str) -> Result<bool> {
+    Ok(read::<B>(alloc, first)? == read::<B>(alloc, second)?)
+}
+
 fn reads_in_reverse(alloc: Global) -> Result<bool> {
-    let movie = read::<MoovBox>(alloc, &text_movie(alloc, STCO)?)?;
-    Ok(read::<MoovBox>(alloc, &reversed_movie(alloc)?)? == movie)
+    let movie = text_movie(alloc, STCO)?;
+    reads_alike::<MoovBox>(alloc, &movie, &reversed_movie(alloc)?)
 }
 
 #[test]
@@ -156,33 +173,72 @@ fn all_tracks_of_a_movie_are_kept(rt: HostRuntime) {
     check(&rt, 1, two_tracks_are_kept(rt.alloc()));
 }
 
-fn movie_with_metadata_has_169_bytes(alloc: Global) -> Result<bool> {
-    let mut movie = MoovBox::default(alloc)?;
-    movie.meta = Some(MetaBox::default(alloc)?);
-    movie.udta = Some(UdtaBox::default());
-    Ok(movie.get_size() == 169)
+/// A movie of defaults with these boxes.
+fn movie_of(
+    alloc: Global,
+    mvex: Option<MvexBox>,
+    meta: Option<MetaBox>,
+    udta: Option<UdtaBox>,
+) -> MoovBox {
+    MoovBox {
+        mvhd: MvhdBox::default(),
+        traks: Items::new(alloc),
+        mvex,
+        meta,
+        udta,
+    }
 }
 
-fn movie_with_defaults_has_156_bytes(alloc: Global) -> Result<bool> {
-    let mut movie = MoovBox::default(alloc)?;
+/// The bytes of a box.
+fn size_of<B: WriteBox>(value: B) -> u64 {
+    value.box_size()
+}
+
+fn size_with_metadata(alloc: Global) -> Result<u64> {
+    let meta = MetaBox::default(alloc)?;
+    Ok(size_of(movie_of(alloc, None, Some(meta), Some(UdtaBox::default()))))
+}
+
+fn size_with_defaults(alloc: Global) -> Result<u64> {
     let mut mvex = MvexBox::default(alloc)?;
     mvex.trexs.push(TrexBox::default())?;
-    movie.mvex = Some(mvex);
-    Ok(movie.get_size() == 156)
+    Ok(size_of(movie_of(alloc, Some(mvex), None, None)))
 }
 
 #[test]
 fn what_a_movie_has_beside_its_header_makes_it_longer(rt: HostRuntime) {
-    check(&rt, 169, movie_with_metadata_has_169_bytes(rt.alloc()));
-    check(&rt, 156, movie_with_defaults_has_156_bytes(rt.alloc()));
+    same(&rt, size_with_metadata(rt.alloc()), Ok(169));
+    same(&rt, size_with_defaults(rt.alloc()), Ok(156));
 }
 
-/// How many bytes longer a movie of a default track is where the track has default metadata.
+/// The size of a box that a call makes.
+fn size_made<B: WriteBox>(value: Result<B>) -> Result<u64> {
+    Ok(value?.box_size())
+}
+
+/// The track with this metadata.
+fn with_metadata(track: TrakBox, meta: MetaBox) -> TrakBox {
+    TrakBox {
+        tkhd: track.tkhd,
+        edts: track.edts,
+        meta: Some(meta),
+        mdia: track.mdia,
+    }
+}
+
+fn track_with_metadata(alloc: Global) -> Result<TrakBox> {
+    let meta = MetaBox::default(alloc)?;
+    match TrakBox::default(alloc) {
+        Ok(track) => Ok(with_metadata(track, meta)),
+        Err(error) => Err(error),
+    }
+}
+
+/// How many bytes longer a default track is with default metadata.
 fn growth_by_metadata(alloc: Global) -> Result<u64> {
-    let mut track = TrakBox::default(alloc)?;
-    let before = track.get_size();
-    track.meta = Some(MetaBox::default(alloc)?);
-    Ok(track.get_size().wrapping_sub(before))
+    let before = size_made(TrakBox::default(alloc))?;
+    let after = size_made(track_with_metadata(alloc))?;
+    Ok(after.wrapping_sub(before))
 }
 
 #[test]
