@@ -13,7 +13,7 @@ use Rattle.mp4_codec.specs.Children.{ChildBox, fault_in, last_of}
 use Rattle.mp4_codec.specs.GatherLaws.{unless-then, with_last-last_of, last_child-adds}
 use Rattle.mp4_codec.specs.WriteLaws.{is_written}
 use Rattle.mp4_codec.specs.WrittenParts.{Kind, Groups, Part, Written, payloads, required_part, optional_part}
-use Rattle.mp4_codec.specs.WrittenParts.{group, last_group, gathered-written, last_of-part, both_fit}
+use Rattle.mp4_codec.specs.WrittenParts.{group, last_group, gathered-written, last_of-part, both_fit, none_refuses}
 use Rattle.mp4_leaf.specs.Data.{data_of, data_payload}
 use Rattle.mp4_boxes.specs.declared.metadata_key.MetadataKey.TheVariants.{Title, Year, Poster, Summary}
 use Rattle.mp4_boxes.specs.declared.ilst.IlstItemBox.{IlstItemBox}
@@ -99,10 +99,6 @@ record Parts (b : IlstBox) : Type 0 where
   poster : Part poster_kind (item_frame Poster b.items) (option_to_list (item_at Poster b.items))
   summary : Part summary_kind (item_frame Summary b.items) (option_to_list (item_at Summary b.items))
 
-unrefused : (o : Option IlstItemBox) → Rattle.mp4_codec.specs.Boxes.optional_refusal no_refusal o ≡ None
-unrefused None = refl
-unrefused (Some i) = refl
-
 parts : (b : IlstBox) → IsCanonicalIlst b → Parts b
 unfolding ilst_payload
 parts b f =
@@ -114,10 +110,10 @@ parts b f =
     let second = both_fit (item_frame Year b.items) behind_year (2 ^ 32) first.1 in
     let third = both_fit (item_frame Poster b.items) behind_poster (2 ^ 32) second.1 in
     record {
-      title = optional_part title_kind (item_at Title b.items) f.in_range.title f.remarks.title (unrefused _) first.0;
-      year = optional_part year_kind (item_at Year b.items) f.in_range.year f.remarks.year (unrefused _) second.0;
-      poster = optional_part poster_kind (item_at Poster b.items) f.in_range.poster f.remarks.poster (unrefused _) third.0;
-      summary = optional_part summary_kind (item_at Summary b.items) f.in_range.summary f.remarks.summary (unrefused _) third.1;
+      title = optional_part title_kind (item_at Title b.items) f.in_range.title f.remarks.title (none_refuses _) first.0;
+      year = optional_part year_kind (item_at Year b.items) f.in_range.year f.remarks.year (none_refuses _) second.0;
+      poster = optional_part poster_kind (item_at Poster b.items) f.in_range.poster f.remarks.poster (none_refuses _) third.0;
+      summary = optional_part summary_kind (item_at Summary b.items) f.in_range.summary f.remarks.summary (none_refuses _) third.1;
     }
 
 pub ilst_again : (b : IlstBox) → IsCanonicalIlst b → ilst_of (ilst_payload b) ≡ Ok b

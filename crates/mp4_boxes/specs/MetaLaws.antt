@@ -11,7 +11,7 @@ use Rattle.mp4_codec.specs.BoxType.{box_type}
 use Rattle.mp4_codec.specs.Cause.{Cause, unless}
 use Rattle.mp4_codec.specs.Bytes.{number, number_at, zeros, ◌⧺◌}
 use Rattle.mp4_codec.specs.FieldLaws.{number_again}
-use Rattle.mp4_codec.specs.Boxes.{frame, optional, optional_refusal, no_refusal}
+use Rattle.mp4_codec.specs.Boxes.{frame, optional, no_refusal}
 use Rattle.mp4_codec.specs.Framing.{IsSpellable}
 use Rattle.mp4_codec.specs.FramingLaws.{length-frame}
 use Rattle.mp4_codec.specs.Children.{ChildBox, gathered, is_of, fault_in, all_of, last_of}
@@ -19,7 +19,7 @@ use Rattle.mp4_codec.specs.GatherLaws.{NoFault, first_fault-none}
 use Rattle.mp4_codec.specs.WriteLaws.{is_written}
 use Rattle.mp4_codec.specs.WrittenChildren.{Frames, Frames-none, Frames-one, Frames-then, children-frames}
 use Rattle.mp4_codec.specs.WrittenParts.{Kind, Groups, Part, Written, payloads, required_part, optional_part}
-use Rattle.mp4_codec.specs.WrittenParts.{group, last_group, gathered-written, last_of-part, both_fit}
+use Rattle.mp4_codec.specs.WrittenParts.{group, last_group, gathered-written, last_of-part, both_fit, none_refuses}
 use Rattle.mp4_leaf.specs.declared.hdlr.HdlrBox.{HdlrBox}
 use Rattle.mp4_leaf.specs.Hdlr.{hdlr_of, hdlr_payload, IsInRangeHdlr, RemarksHdlr}
 use Rattle.mp4_leaf.specs.HdlrLaws.{length-hdlr_payload}
@@ -127,10 +127,6 @@ abbrev mdir_groups : Option IlstBox → Groups
 mdir_groups list = (hdlr, payloads hdlr_payload (mdir_handler ∷ []))
     ∷ (ilst, payloads ilst_payload (option_to_list list)) ∷ []
 
-unrefused_list : (list : Option IlstBox) → optional_refusal no_refusal list ≡ None
-unrefused_list None = refl
-unrefused_list (Some b) = refl
-
 mdir_in_range : IsInRangeHdlr mdir_handler
 mdir_in_range = record { version = lit< tt; handler_type = (mdir, lit< tt, refl) }
 
@@ -148,7 +144,7 @@ meta_again (Mdir list) f =
     let first : Part hdlr_kind handler_bytes (mdir_handler ∷ []) =
     required_part hdlr_kind mdir_handler mdir_in_range mdir_remarks refl both.0 in
     let second : Part ilst_kind list_bytes (option_to_list list) =
-    optional_part ilst_kind list f.in_range f.remarks (unrefused_list list) both.1 in
+    optional_part ilst_kind list f.in_range f.remarks (none_refuses list) both.1 in
     let handlers : Written (fault_in hdlr hdlr_of) (handler_bytes ⧺ list_bytes) (mdir_groups list) =
     group hdlr_kind first (λ x e. rw e refl) (last_group ilst_kind second (λ x e. refl)) in
     let lists : Written (fault_in ilst ilst_of) (handler_bytes ⧺ list_bytes) (mdir_groups list) =

@@ -3,21 +3,17 @@ use Rattle.std.proofs.Common.{◌≡◌, [], ◌∷◌, Option, Some, None, Ok, 
 use Rattle.std.specs.Option.{option_to_list}
 use Rattle.mp4_codec.specs.declared.box_type.BoxType.TheVariants.{MetaBox as meta, UdtaBox as udta}
 use Rattle.mp4_codec.specs.BoxType.{box_type}
-use Rattle.mp4_codec.specs.Boxes.{optional, optional_refusal, no_refusal}
+use Rattle.mp4_codec.specs.Boxes.{optional, no_refusal}
 use Rattle.mp4_codec.specs.Framing.{IsSpellable}
 use Rattle.mp4_codec.specs.Children.{fault_in, last_of}
 use Rattle.mp4_codec.specs.WriteLaws.{is_written}
 use Rattle.mp4_codec.specs.WrittenParts.{Kind, Groups, Part, Written, payloads, optional_part, last_group}
-use Rattle.mp4_codec.specs.WrittenParts.{gathered-written, last_of-part}
+use Rattle.mp4_codec.specs.WrittenParts.{gathered-written, last_of-part, none_refuses}
 use Rattle.mp4_boxes.specs.declared.meta.MetaBox.{MetaBox}
 use Rattle.mp4_boxes.specs.declared.udta.UdtaBox.{UdtaBox}
 use Rattle.mp4_boxes.specs.Meta.{meta_of, meta_payload}
 use Rattle.mp4_boxes.specs.MetaLaws.{meta_kind}
 use Rattle.mp4_boxes.specs.Udta.{udta_of, udta_payload, IsInRangeUdta, RemarksUdta, IsCanonicalUdta}
-
-unrefused : (o : Option MetaBox) → optional_refusal no_refusal o ≡ None
-unrefused None = refl
-unrefused (Some b) = refl
 
 abbrev groups : UdtaBox → Groups
 groups b = (meta, payloads meta_payload (option_to_list b.meta)) ∷ []
@@ -27,7 +23,7 @@ unfolding udta_of udta_payload
 udta_again b f =
     let written = is_written (udta_payload b) None f.written in
     let part : Part meta_kind (optional meta meta_payload b.meta) (option_to_list b.meta) =
-    optional_part meta_kind b.meta f.in_range.meta f.remarks.meta (unrefused b.meta) (omega (arith, written.small)) in
+    optional_part meta_kind b.meta f.in_range.meta f.remarks.meta (none_refuses b.meta) (omega (arith, written.small)) in
     let child : Written (fault_in meta meta_of) (optional meta meta_payload b.meta) (groups b) =
     last_group meta_kind part (λ x e. rw e refl) in
     rw (
