@@ -2,11 +2,11 @@
 
 use crate::nested::{DINF, nest};
 use crate::spelled::{
-    also, check, is_invalid, is_spelled, is_unreadable, is_unrepresentable, lacks, read, same,
-    writes,
+    also, check, holds, is_invalid, is_spelled, is_unreadable, is_unrepresentable, lacks, read,
+    same, writes,
 };
 use mp4_boxes::{MdiaBox, MinfBox, StblBox};
-use mp4_codec::{BoxType, Error, Mp4Box, ReadBox, Result, Text};
+use mp4_codec::{BoxType, Error, Mp4Box, ReadBox, Result, Text, TryClone, WriteBox};
 use mp4_leaf::{SmhdBox, VmhdBox};
 use mp4_table::{Co64Box, CttsBox, StcoBox, StscBox, StssBox};
 use std::alloc::Global;
@@ -89,11 +89,75 @@ fn misses<B: ReadBox>(
     Ok(lacks::<B>(alloc, &text, missing))
 }
 
+/// Whether a box is read from its children in two orders as the same.
+fn order_is_free<B: ReadBox + PartialEq>(
+    alloc: Global,
+    kind: &str,
+    children: &[&str],
+    reordered: &[&str],
+) -> Result<bool> {
+    let first: B = of_children(alloc, kind, children)?;
+    Ok(of_children::<B>(alloc, kind, reordered)? == first)
+}
+
+/// Whether a box, if there is one, is written as these children.
+fn writes_children<B: WriteBox>(
+    alloc: Global,
+    value: Result<B>,
+    kind: &str,
+    children: &[&str],
+) -> Result<bool> {
+    let text = nest(alloc, kind, children)?;
+    writes(alloc, &value?, &text)
+}
+
+/// Whether a box, if there is one, is spelled by a text.
+///
+/// A box is made by one function and handed to another as it comes, as an answer of any type: a function that holds
+/// a box of many boxes where it may end early is far dearer to prove.
+fn spells<B: WriteBox + TryClone + PartialEq>(
+    alloc: Global,
+    value: Result<B>,
+    text: &str,
+) -> Result<bool> {
+    is_spelled(alloc, &value?, text)
+}
+
+/// Whether a box, if there is one, is spelled by these children.
+fn spells_children<B: WriteBox + TryClone + PartialEq>(
+    alloc: Global,
+    value: Result<B>,
+    kind: &str,
+    children: &[&str],
+) -> Result<bool> {
+    let text = nest(alloc, kind, children)?;
+    spells(alloc, value, &text)
+}
+
+/// Whether a box, if there is one, is refused as invalid data when it is written.
+fn makes_invalid<B: WriteBox>(alloc: Global, value: Result<B>) -> Result<bool> {
+    is_invalid(alloc, &value?)
+}
+
+/// Whether a box, if there is one, is refused since a value can't be spelled.
+fn makes_unrepresentable<B: WriteBox>(alloc: Global, value: Result<B>) -> Result<bool> {
+    is_unrepresentable(alloc, &value?)
+}
+
 /// A default table with places of chunks in 32 bits.
 fn with_places(alloc: Global) -> Result<StblBox> {
+    let places = StcoBox::default(alloc)?;
     let mut table = StblBox::default(alloc)?;
-    table.stco = Some(StcoBox::default(alloc)?);
+    table.stco = Some(places);
     Ok(table)
+}
+
+/// Whether a table, if there is one, has this size.
+fn table_has_size(table: Result<StblBox>, size: u64) -> bool {
+    match table {
+        Ok(table) => table.get_size() == size,
+        Err(_) => false,
+    }
 }
 
 /// Whether the default table is known by its type and has 76 bytes.
@@ -105,9 +169,8 @@ fn default_table_is_known(alloc: Global) -> Result<bool> {
 
 /// Whether the default table is written as its tables.
 fn default_table_is_written(alloc: Global) -> Result<bool> {
-    let default = StblBox::default(alloc)?;
-    let text = nest(alloc, TABLE, &[STSD, STTS, STSC, STSZ])?;
-    writes(alloc, &default, &text)
+    let children = [STSD, STTS, STSC, STSZ];
+    writes_children(alloc, StblBox::default(alloc), TABLE, &children)
 }
 
 #[test]
@@ -118,8 +181,8 @@ fn the_default_table_has_76_bytes(rt: HostRuntime) {
 
 /// Whether a default table with places is spelled by a text.
 fn table_with_places_is(alloc: Global, text: &str) -> Result<bool> {
-    let table = with_places(alloc)?;
-    also(table.get_size() == 92, is_spelled(alloc, &table, text))
+    let size = table_has_size(with_places(alloc), 92);
+    also(size, spells(alloc, with_places(alloc), text))
 }
 
 #[test]
@@ -129,19 +192,21 @@ fn a_default_table_with_places_is_read_as_it_was_written(rt: HostRuntime) {
 
 /// A default table of all tables.
 fn of_all_tables(alloc: Global) -> Result<StblBox> {
+    let offsets = CttsBox::default(alloc)?;
+    let syncs = StssBox::default(alloc)?;
+    let places = Co64Box::default(alloc)?;
     let mut table = with_places(alloc)?;
-    table.ctts = Some(CttsBox::default(alloc)?);
-    table.stss = Some(StssBox::default(alloc)?);
-    table.co64 = Some(Co64Box::default(alloc)?);
+    table.ctts = Some(offsets);
+    table.stss = Some(syncs);
+    table.co64 = Some(places);
     Ok(table)
 }
 
 /// Whether it is spelled by all tables in order.
 fn all_tables_are_in_order(alloc: Global) -> Result<bool> {
-    let table = of_all_tables(alloc)?;
     let children = [STSD, STTS, CTTS, STSS, STSC, STSZ, STCO, CO64];
-    let text = nest(alloc, TABLE, &children)?;
-    also(table.get_size() == 140, is_spelled(alloc, &table, &text))
+    let spelled = spells_children(alloc, of_all_tables(alloc), TABLE, &children);
+    also(table_has_size(of_all_tables(alloc), 140), spelled)
 }
 
 #[test]
@@ -153,36 +218,49 @@ fn all_tables_are_written_in_order(rt: HostRuntime) {
 /// same.
 fn order_of_tables_is_free(alloc: Global) -> Result<bool> {
     let children = [STSD, STTS, CTTS, STSS, STSC, STSZ, STCO, CO64];
-    let written: StblBox = of_children(alloc, TABLE, &children)?;
-    let children = [CO64, STCO, STSZ, STSC, STSS, FREE, CTTS, STTS, STSD, CLOSED];
-    Ok(of_children::<StblBox>(alloc, TABLE, &children)? == written)
+    let reordered = [CO64, STCO, STSZ, STSC, STSS, FREE, CTTS, STTS, STSD, CLOSED];
+    order_is_free::<StblBox>(alloc, TABLE, &children, &reordered)
+}
+
+/// Whether a table has all tables that it may lack.
+fn has_all_tables(table: &StblBox) -> bool {
+    let places = table.stco.is_some() && table.co64.is_some();
+    places && table.ctts.is_some() && table.stss.is_some()
 }
 
 /// Whether a table of all tables has those that it may lack.
-fn all_tables_are_kept(alloc: Global) -> Result<bool> {
+fn all_tables_are_kept(alloc: Global) -> bool {
     let children = [STSD, STTS, CTTS, STSS, STSC, STSZ, STCO, CO64];
-    let table: StblBox = of_children(alloc, TABLE, &children)?;
-    let places = table.stco.is_some() && table.co64.is_some();
-    Ok(places && table.ctts.is_some() && table.stss.is_some())
+    match of_children::<StblBox>(alloc, TABLE, &children) {
+        Ok(table) => has_all_tables(&table),
+        Err(_) => false,
+    }
 }
 
 #[test]
 fn tables_are_read_in_any_order(rt: HostRuntime) {
     check(&rt, 1, order_of_tables_is_free(rt.alloc()));
-    check(&rt, 2, all_tables_are_kept(rt.alloc()));
+    holds(&rt, 2, all_tables_are_kept(rt.alloc()));
+}
+
+/// Whether a table has places in 64 bits, no other table that it may lack, and 92 bytes.
+fn has_wide_places(table: &StblBox) -> bool {
+    let places = table.co64.is_some() && table.stco.is_none();
+    let others = table.ctts.is_none() && table.stss.is_none();
+    places && others && table.get_size() == 92
 }
 
 /// Whether a table of places in 64 bits has no table that it may lack.
-fn is_read_with_wide_places(alloc: Global) -> Result<bool> {
-    let table: StblBox = of_children(alloc, TABLE, &[STSD, STTS, STSC, STSZ, CO64])?;
-    let places = table.co64.is_some() && table.stco.is_none();
-    let others = table.ctts.is_none() && table.stss.is_none();
-    Ok(places && others && table.get_size() == 92)
+fn is_read_with_wide_places(alloc: Global) -> bool {
+    match of_children::<StblBox>(alloc, TABLE, &[STSD, STTS, STSC, STSZ, CO64]) {
+        Ok(table) => has_wide_places(&table),
+        Err(_) => false,
+    }
 }
 
 #[test]
 fn places_in_64_bits_are_enough(rt: HostRuntime) {
-    check(&rt, 1, is_read_with_wide_places(rt.alloc()));
+    holds(&rt, 1, is_read_with_wide_places(rt.alloc()));
 }
 
 /// Why there is no table without places.
@@ -222,17 +300,19 @@ fn the_first_missing_table_is_the_answer(rt: HostRuntime) {
 }
 
 /// Whether the second of two tables of durations stands, of version 2 and flags 4.
-fn last_durations_stand(alloc: Global) -> Result<bool> {
+fn last_durations_stand(alloc: Global) -> bool {
     let first = "00000010 73747473 01 000003 00000000";
     let last = "00000010 73747473 02 000004 00000000";
     let children = [first, STSD, STTS, STSC, last, STSZ, STCO];
-    let table: StblBox = of_children(alloc, TABLE, &children)?;
-    Ok(table.stts.version == 2 && table.stts.flags == 4)
+    match of_children::<StblBox>(alloc, TABLE, &children) {
+        Ok(table) => (table.stts.version, table.stts.flags) == (2, 4),
+        Err(_) => false,
+    }
 }
 
 #[test]
 fn the_last_table_of_a_type_stands(rt: HostRuntime) {
-    check(&rt, 1, last_durations_stand(rt.alloc()));
+    holds(&rt, 1, last_durations_stand(rt.alloc()));
 }
 
 /// Whether a table of these children is refused as invalid data.
@@ -288,18 +368,24 @@ fn first_samples(chunks: &StscBox) -> Option<(u32, u32)> {
     Some((first, second))
 }
 
+/// Whether a table of chunks has two entries, whose samples begin at 1 and 13.
+fn has_first_samples(chunks: &StscBox) -> bool {
+    chunks.entries.len() == 2 && first_samples(chunks) == Some((1, 13))
+}
+
 /// Whether the samples of the second of two entries begin at 13.
-fn first_samples_are_found(alloc: Global) -> Result<bool> {
+fn first_samples_are_found(alloc: Global) -> bool {
     let two =
         "00000028 73747363 00 000000 00000002 00000001 00000003 00000001 00000005 00000001 00000001";
-    let table: StblBox = of_children(alloc, TABLE, &[STSD, STTS, two, STSZ, STCO])?;
-    let firsts = first_samples(&table.stsc);
-    Ok(table.stsc.entries.len() == 2 && firsts == Some((1, 13)))
+    match of_children::<StblBox>(alloc, TABLE, &[STSD, STTS, two, STSZ, STCO]) {
+        Ok(table) => has_first_samples(&table.stsc),
+        Err(_) => false,
+    }
 }
 
 #[test]
 fn entries_have_their_first_samples(rt: HostRuntime) {
-    check(&rt, 1, first_samples_are_found(rt.alloc()));
+    holds(&rt, 1, first_samples_are_found(rt.alloc()));
 }
 
 /// A table of one sample without a size.
@@ -310,13 +396,26 @@ fn without_size(alloc: Global) -> Result<StblBox> {
 }
 
 fn table_without_size_is_invalid(alloc: Global) -> Result<bool> {
-    is_invalid(alloc, &without_size(alloc)?)
+    makes_invalid(alloc, without_size(alloc))
+}
+
+/// Default media information with places.
+fn information(alloc: Global) -> Result<MinfBox> {
+    let places = StcoBox::default(alloc)?;
+    let mut information = MinfBox::default(alloc)?;
+    information.stbl.stco = Some(places);
+    Ok(information)
+}
+
+/// Media information of one sample without a size.
+fn information_without_size(alloc: Global) -> Result<MinfBox> {
+    let mut information = information(alloc)?;
+    information.stbl.stsz.sample_count = 1;
+    Ok(information)
 }
 
 fn information_without_size_is_invalid(alloc: Global) -> Result<bool> {
-    let mut information = MinfBox::default(alloc)?;
-    information.stbl = without_size(alloc)?;
-    is_invalid(alloc, &information)
+    makes_invalid(alloc, information_without_size(alloc))
 }
 
 #[test]
@@ -345,29 +444,31 @@ fn default_media_information_has_120_bytes(rt: HostRuntime) {
     check(&rt, 2, default_information_has_no_header(rt.alloc()));
 }
 
-/// Default media information with places.
-fn information(alloc: Global) -> Result<MinfBox> {
-    let mut information = MinfBox::default(alloc)?;
-    information.stbl = with_places(alloc)?;
-    Ok(information)
-}
-
 /// Whether it is spelled by a text.
 fn information_is(alloc: Global, text: &str) -> Result<bool> {
-    let information = information(alloc)?;
-    is_spelled(alloc, &information, text)
+    spells(alloc, information(alloc), text)
 }
 
-/// Whether it is spelled by its parts in order where it has both headers.
-fn information_with_headers_is_in_order(alloc: Global) -> Result<bool> {
+/// Default media information with places and both headers.
+fn with_headers(alloc: Global) -> Result<MinfBox> {
     let mut information = information(alloc)?;
     information.vmhd = Some(VmhdBox::default());
     information.smhd = Some(SmhdBox::default());
-    let text = nest(alloc, INFORMATION, &[VMHD, SMHD, DINF, STBL])?;
-    also(
-        information.get_size() == 172,
-        is_spelled(alloc, &information, &text),
-    )
+    Ok(information)
+}
+
+fn with_headers_has_172_bytes(alloc: Global) -> bool {
+    match with_headers(alloc) {
+        Ok(information) => information.get_size() == 172,
+        Err(_) => false,
+    }
+}
+
+/// Whether it is spelled by its parts in order.
+fn information_with_headers_is_in_order(alloc: Global) -> Result<bool> {
+    let children = [VMHD, SMHD, DINF, STBL];
+    let spelled = spells_children(alloc, with_headers(alloc), INFORMATION, &children);
+    also(with_headers_has_172_bytes(alloc), spelled)
 }
 
 #[test]
@@ -378,21 +479,28 @@ fn media_information_is_written_in_order(rt: HostRuntime) {
 
 /// Whether the parts of media information in order and in reverse order, with a child that is skipped, are the same.
 fn order_of_information_is_free(alloc: Global) -> Result<bool> {
-    let written: MinfBox = of_children(alloc, INFORMATION, &[VMHD, SMHD, DINF, STBL])?;
-    let children = [STBL, FREE, DINF, SMHD, VMHD];
-    Ok(of_children::<MinfBox>(alloc, INFORMATION, &children)? == written)
+    let children = [VMHD, SMHD, DINF, STBL];
+    let reordered = [STBL, FREE, DINF, SMHD, VMHD];
+    order_is_free::<MinfBox>(alloc, INFORMATION, &children, &reordered)
+}
+
+/// Whether media information has both headers.
+fn has_both_headers(information: &MinfBox) -> bool {
+    information.vmhd.is_some() && information.smhd.is_some()
 }
 
 /// Whether media information of both headers has them.
-fn both_headers_are_kept(alloc: Global) -> Result<bool> {
-    let read: MinfBox = of_children(alloc, INFORMATION, &[VMHD, SMHD, DINF, STBL])?;
-    Ok(read.vmhd.is_some() && read.smhd.is_some())
+fn both_headers_are_kept(alloc: Global) -> bool {
+    match of_children::<MinfBox>(alloc, INFORMATION, &[VMHD, SMHD, DINF, STBL]) {
+        Ok(information) => has_both_headers(&information),
+        Err(_) => false,
+    }
 }
 
 #[test]
 fn media_information_is_read_in_any_order(rt: HostRuntime) {
     check(&rt, 1, order_of_information_is_free(rt.alloc()));
-    check(&rt, 2, both_headers_are_kept(rt.alloc()));
+    holds(&rt, 2, both_headers_are_kept(rt.alloc()));
 }
 
 /// Whether media information of these children is refused since a box is missing.
@@ -460,12 +568,25 @@ fn default_media_have_193_bytes(rt: HostRuntime) {
     check(&rt, 2, default_media_have_their_parts(rt.alloc()));
 }
 
-/// Whether default media with places are spelled by their parts in order.
-fn media_are_in_order(alloc: Global) -> Result<bool> {
+/// Default media with places.
+fn media(alloc: Global) -> Result<MdiaBox> {
+    let places = StcoBox::default(alloc)?;
     let mut media = MdiaBox::default(alloc)?;
-    media.minf.stbl = with_places(alloc)?;
-    let text = nest(alloc, MEDIA, &[MDHD, HDLR, MINF])?;
-    also(media.get_size() == 209, is_spelled(alloc, &media, &text))
+    media.minf.stbl.stco = Some(places);
+    Ok(media)
+}
+
+fn media_have_209_bytes(alloc: Global) -> bool {
+    match media(alloc) {
+        Ok(media) => media.get_size() == 209,
+        Err(_) => false,
+    }
+}
+
+/// Whether they are spelled by their parts in order.
+fn media_are_in_order(alloc: Global) -> Result<bool> {
+    let spelled = spells_children(alloc, media(alloc), MEDIA, &[MDHD, HDLR, MINF]);
+    also(media_have_209_bytes(alloc), spelled)
 }
 
 #[test]
@@ -476,15 +597,17 @@ fn media_are_written_in_order(rt: HostRuntime) {
 /// Whether the parts of media in order and in reverse order, with a child that is skipped and an end that is no child,
 /// are the same.
 fn order_of_media_is_free(alloc: Global) -> Result<bool> {
-    let written: MdiaBox = of_children(alloc, MEDIA, &[MDHD, HDLR, MINF])?;
-    let children = [MINF, HDLR, FREE, MDHD, CLOSED];
-    Ok(of_children::<MdiaBox>(alloc, MEDIA, &children)? == written)
+    let children = [MDHD, HDLR, MINF];
+    let reordered = [MINF, HDLR, FREE, MDHD, CLOSED];
+    order_is_free::<MdiaBox>(alloc, MEDIA, &children, &reordered)
 }
 
 /// The ticks of a second in media that are read.
 fn timescale(alloc: Global) -> Result<u32> {
-    let media: MdiaBox = of_children(alloc, MEDIA, &[MDHD, HDLR, MINF])?;
-    Ok(media.mdhd.timescale)
+    match of_children::<MdiaBox>(alloc, MEDIA, &[MDHD, HDLR, MINF]) {
+        Ok(media) => Ok(media.mdhd.timescale),
+        Err(error) => Err(error),
+    }
 }
 
 #[test]
@@ -541,14 +664,20 @@ fn media_without_size(alloc: Global) -> Result<MdiaBox> {
 }
 
 fn media_without_size_are_invalid(alloc: Global) -> Result<bool> {
-    is_invalid(alloc, &media_without_size(alloc)?)
+    makes_invalid(alloc, media_without_size(alloc))
 }
 
-/// Whether a language of seven letters is why they are not written.
-fn long_language_comes_first(alloc: Global) -> Result<bool> {
+/// Default media of one sample without a size, with a language of seven letters.
+fn with_long_language(alloc: Global) -> Result<MdiaBox> {
+    let language = Text::from_str(alloc, "english")?;
     let mut media = media_without_size(alloc)?;
-    media.mdhd.language = Text::from_str(alloc, "english")?;
-    is_unrepresentable(alloc, &media)
+    media.mdhd.language = language;
+    Ok(media)
+}
+
+/// Whether their language is why they are not written.
+fn long_language_comes_first(alloc: Global) -> Result<bool> {
+    makes_unrepresentable(alloc, with_long_language(alloc))
 }
 
 #[test]
