@@ -33,8 +33,8 @@ fn all_tracks_are_read(alloc: Global, count: usize) -> Result<bool> {
 }
 
 #[test]
-fn a_movie_of_20000_tracks_is_read(rt: HostRuntime) {
-    check(&rt, 1, all_tracks_are_read(rt.alloc(), 20_000));
+fn a_movie_of_5000_tracks_is_read(rt: HostRuntime) {
+    check(&rt, 1, all_tracks_are_read(rt.alloc(), 5_000));
 }
 
 /// Whether a track is read of a header, media, and so many free boxes.
