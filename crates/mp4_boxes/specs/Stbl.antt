@@ -123,7 +123,7 @@ pub record IsInRangeStbl (b : StblBox) : Type 0 where
   pub stco : IfSome b.stco IsInRangeStco
   pub co64 : IfSome b.co64 IsInRangeCo64
 
--- it is told where the chunks lie, in 32 bits or in 64
+-- one of the two tables says where the chunks lie, in 32 bits or in 64
 abbrev pub HasPlaces : Option StcoBox → Option Co64Box → Type 0
 HasPlaces None None = ⊥
 HasPlaces (Some places) far_places = Unit {0}
