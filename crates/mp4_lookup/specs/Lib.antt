@@ -1,2 +1,15 @@
 pub mod Samples
 pub mod Time
+pub mod Tables
+pub mod Places
+pub mod Plain
+pub mod Rule
+pub mod Search
+pub mod Sums
+pub mod Index
+pub mod Costs
+pub mod Tracks
+pub mod LastLaws
+pub mod RunLaws
+pub mod PlaceLaws
+pub mod ChunkLaws

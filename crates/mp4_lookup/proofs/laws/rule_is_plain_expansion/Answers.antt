@@ -1,0 +1,5 @@
+use Rattle.mp4_lookup.proofs.Rule.{rule_is_plain}
+use Rattle.mp4_lookup.proofs.laws.rule_is_plain_expansion.Goals as goal
+
+pub returns : goal.returns
+returns c = rule_is_plain

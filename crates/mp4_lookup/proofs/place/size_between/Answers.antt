@@ -1,0 +1,32 @@
+use Rattle.std.proofs.Common.{sym, arith}
+use Rattle.mp4_lookup.proofs.Rule.{sum-sizes_one, sizes_are_listed}
+use Rattle.mp4_lookup.proofs.Searches.{sums_between}
+use Rattle.mp4_lookup.proofs.place.size_between.Goals as goal
+
+pub returns-then-stsz-gt0-clause-sum : goal.returns-then-stsz-gt0-clause-sum
+returns-then-stsz-gt0-clause-sum c =
+    rw (c.from.ensures, c.from-then-stsz-gt0.ensures)
+    (sym (sum-sizes_one c.args.stsz.now c.args.first c.args.k c.requires.from c.requires.to c.if-stsz-gt0.true))
+
+pub overflow_sub-result : goal.overflow_sub-result
+overflow_sub-result c =
+    let z = c.args.stsz.now in
+    let there = rw (sizes_are_listed z c.args.k c.if-stsz-gt0.false) at c.requires.there in
+    omega (
+      arith,
+      c.read-from.ensures.number,
+      c.read-upto.ensures.number,
+      sums_between z.sample_sizes c.args.sums.now c.args.first c.args.k c.requires.sums c.requires.from c.requires.to there,
+    )
+
+pub returns-clause-sum : goal.returns-clause-sum
+returns-clause-sum c =
+    let z = c.args.stsz.now in
+    let listed = sizes_are_listed z c.args.k c.if-stsz-gt0.false in
+    let there = rw listed at c.requires.there in
+    rw listed (omega (
+      arith,
+      c.read-from.ensures.number,
+      c.read-upto.ensures.number,
+      sums_between z.sample_sizes c.args.sums.now c.args.first c.args.k c.requires.sums c.requires.from c.requires.to there,
+    ))

@@ -1,0 +1,10 @@
+use Rattle.std.proofs.Common.{◌≡◌, ◌-◌, ◌^◌, take, min}
+use Rattle.std.specs.List.{sum_by}
+use Rattle.mp4_lookup.specs.Sums.{CountsBefore}
+use Rattle.mp4_lookup.proofs.runs.counts_before.Given as goal
+
+abbrev pub invariant-loop-run : goal.invariant-loop-run
+invariant-loop-run g l = record {
+  so_far : CountsBefore g.R.Run.count (take l.run-index l.runs) l.counts.items;
+  count : l.count ≡ min (2 ^ 32 - 1) (sum_by g.R.Run.count (take l.run-index l.runs));
+}

@@ -1,0 +1,20 @@
+use Rattle.std.proofs.Common.{◌-◌, ◌≡◌, ℕ, ◌<◌, ◌≤◌, length, slice_index, ◌+◌}
+use Rattle.std.specs.Prelude.{MatchOption}
+use Rattle.mp4_table.specs.Digits.{digits}
+use Rattle.mp4_lookup.proofs.search.last_at_most.Given as goal
+
+-- What is found stands before low and is at most the key. What stands from high on is above it. The digits of what is
+-- left pay for what is to come.
+abbrev pub invariant-loop-low : goal.invariant-loop-low
+invariant-loop-low l = record {
+  ordered : l.low ≤ l.high;
+  inside : l.high ≤ length l.numbers;
+  found : MatchOption l.found (l.low ≡ 0) (λ f. (f.index + 1 ≡ l.low)
+      × (f.number ≡ slice_index l.numbers f.index) × (f.number ≤ l.key));
+  above : (j : ℕ) → l.high ≤ j → j < length l.numbers → l.key < slice_index l.numbers j;
+  paid : l.readings + digits (l.high - l.low) ≤ digits (length l.numbers);
+  untouched : l.readings ≡ 0 → l.high - l.low ≡ length l.numbers;
+}
+
+abbrev pub decreases-loop-low : goal.decreases-loop-low
+decreases-loop-low l = l.high - l.low

@@ -1,0 +1,122 @@
+//! What is kept beside the tables of a track, so that its samples are found fast.
+
+ghost use Rattle.std.specs.Prelude.{◌≡◌, ℕ, ◌*◌, ◌^◌, ◌<◌, ◌↔◌, IfOk, OnOk, IsTrue};
+ghost use Rattle.std.specs.List.{All};
+ghost use Rattle.std.specs.List.Sorted.{IsStrictlyIncreasing};
+ghost use Rattle.mp4_lookup.specs.Tables.{ctts_runs, sync_numbers};
+ghost use Rattle.mp4_lookup.specs.Sums.{SumsBefore};
+ghost use Rattle.mp4_lookup.specs.Index.{IsIndexOf};
+
+use crate::counted::{RunningSizes, SearchedNumbers};
+use crate::runs::counts_before;
+use mp4_boxes::StblBox;
+use mp4_table::{CttsBox, CttsEntry, StssBox, SttsEntry};
+use std::alloc::{AllocError, Global};
+
+/// Running sums beside the tables of a track: at most one for each entry of a table.
+///
+/// Counts of samples stop at 2^32 - 1, which no number of a sample passes.
+#[derive(Debug, Drop)]
+pub struct TrackIndex {
+    /// The first sample of each entry of stsc.
+    pub first_samples: SearchedNumbers,
+    /// How many samples come before each run of stts.
+    pub stts_counts: SearchedNumbers,
+    /// How many ticks come before each run of stts.
+    pub stts_times: Vec<u128>,
+    /// How many samples come before each run of ctts.
+    pub ctts_counts: SearchedNumbers,
+    /// Whether the numbers of stss strictly rise.
+    pub sync_rises: bool,
+    /// The numbers of stss.
+    pub sync_numbers: SearchedNumbers,
+    /// How many bytes come before each sample, where sizes are listed.
+    pub size_sums: RunningSizes,
+}
+
+/// Makes the index of the tables.
+pub fn index_of(alloc: Global, stbl: &StblBox) -> Result<TrackIndex, AllocError>
+    ensures { IfOk result (IsIndexOf stbl.now) }
+{
+    let first_samples = stbl
+        .stsc
+        .entries
+        .iter()
+        .map(|entry| entry.first_sample)
+        .collect(alloc)?;
+    let stts_counts = counts_before(alloc, stbl.stts.entries.as_slice())?;
+    let stts_times = times_before(alloc, stbl.stts.entries.as_slice())?;
+    let ctts_counts = counts_before(alloc, runs_of_ctts(&stbl.ctts))?;
+    let numbers = numbers_of_stss(&stbl.stss);
+    let sync_rises = rises(numbers);
+    let sync_numbers = Vec::from_slice(alloc, numbers)?;
+    let size_sums = sizes_before(alloc, stbl.stsz.sample_sizes.as_slice())?;
+    Ok(TrackIndex {
+        first_samples: SearchedNumbers::new(first_samples),
+        stts_counts: SearchedNumbers::new(stts_counts),
+        stts_times,
+        ctts_counts: SearchedNumbers::new(ctts_counts),
+        sync_rises,
+        sync_numbers: SearchedNumbers::new(sync_numbers),
+        size_sums: RunningSizes::new(size_sums),
+    })
+}
+
+/// The runs of ctts, and none without it.
+pub fn runs_of_ctts(ctts: &Option<CttsBox>) -> &[CttsEntry]
+    ensures { result.now ≡ ctts_runs ctts.now }
+{
+    match ctts {
+        None => &[],
+        Some(ctts) => ctts.entries.as_slice(),
+    }
+}
+
+/// The numbers of stss, and none without it.
+fn numbers_of_stss(stss: &Option<StssBox>) -> &[u32]
+    ensures { result.now ≡ sync_numbers stss.now }
+{
+    match stss {
+        None => &[],
+        Some(stss) => stss.entries.as_slice(),
+    }
+}
+
+/// How many ticks come before each run of stts.
+fn times_before(alloc: Global, runs: &[SttsEntry]) -> Result<Vec<u128>, AllocError>
+    ensures sums { IfOk result (λ times. SumsBefore (λ r. r.sample_count * r.sample_delta) runs.now times.items) }
+    ensures small { OnOk result (All (λ r. r.sample_delta < 2 ^ 32) runs.now) }
+{
+    let mut times = Vec::with_capacity(alloc, runs.len())?;
+    let mut time: u128 = 0;
+    for run in runs {
+        times.push(time)?;
+        time += u128::from(run.sample_count) * u128::from(run.sample_delta);
+    }
+    Ok(times)
+}
+
+/// How many bytes come before each sample of these sizes.
+fn sizes_before(alloc: Global, sizes: &[u32]) -> Result<Vec<u128>, AllocError>
+    ensures { IfOk result (λ sums. SumsBefore (λ s. s) sizes.now sums.items) }
+{
+    let mut sums = Vec::with_capacity(alloc, sizes.len())?;
+    let mut sum: u128 = 0;
+    for size in sizes {
+        sums.push(sum)?;
+        sum += u128::from(*size);
+    }
+    Ok(sums)
+}
+
+/// Whether each number is above the one before.
+fn rises(numbers: &[u32]) -> bool
+    ensures { IsTrue result ↔ IsStrictlyIncreasing numbers.now }
+{
+    for i in 1..numbers.len() {
+        if numbers[i] <= numbers[i - 1] {
+            return false;
+        }
+    }
+    true
+}

@@ -1,0 +1,152 @@
+//! Where a sample lies: its entry of stsc, its chunk, and the sizes before it in the chunk (ISO/IEC 14496-12,
+//! 8.7.3 to 8.7.5).
+
+ghost use Rattle.std.specs.Prelude.{◌≡◌, ℕ, ◌-◌, ◌<◌, ◌≤◌, map, length, sum, slice_get, slice_range, option_map, IfOk, IfSome, OnOk};
+ghost use Rattle.mp4_codec.specs.Cause.{Gives};
+ghost use Rattle.mp4_table.specs.Stsc.{HasFirstSamples};
+ghost use Rattle.mp4_lookup.specs.Search.{IsFew};
+ghost use Rattle.mp4_lookup.specs.Sums.{SumsBefore};
+ghost use Rattle.mp4_lookup.specs.Tables.{chunk_offsets, sizes};
+ghost use Rattle.mp4_lookup.specs.Index.{IsIndexOf};
+ghost use Rattle.mp4_lookup.specs.Costs.{AreFewSizeReads};
+ghost use Rattle.mp4_lookup.specs.Rule.{entry_for, chunk_for, spot_at};
+
+use crate::counted::{Readings, RunningSizes, SearchedNumbers};
+use crate::index::TrackIndex;
+use crate::search::last_at_most;
+use mp4_boxes::StblBox;
+use mp4_codec::{Error, Result};
+use mp4_table::{StscEntry, StszBox};
+
+/// Where a sample lies, and what it cost to find it.
+#[derive(Clone, Copy, Debug, PartialEq, Eq)]
+pub struct Spot {
+    pub offset: u64,
+    pub size: u32,
+    pub comparisons: u32,
+    pub size_reads: u32,
+}
+
+/// The last entry whose first sample is at most `k`, and how many comparisons found it.
+#[tactic(auto, unfolding(crate::specs::Rule::entry_for))]
+fn entry_at(
+    entries: &[StscEntry],
+    first_samples: &SearchedNumbers,
+    k: u32,
+) -> Result<(StscEntry, u32)>
+    requires firsts { HasFirstSamples entries.now }
+    requires index { first_samples.now ≡ map (λ e. e.first_sample) entries.now }
+    ensures entry { Gives (λ x. x.0) result (entry_for entries.now k) }
+    ensures counts { OnOk result (1 ≤ k) }
+    ensures usable { IfOk result (λ x. (1 ≤ x.0.first_sample) × (x.0.first_sample ≤ k) × (1 ≤ x.0.samples_per_chunk)) }
+    ensures few { IfOk result (λ x. IsFew x.1 (length entries.now)) }
+{
+    if k == 0 {
+        return Err(Error::InvalidData("samples are numbered from 1"));
+    }
+    let mut readings = Readings::new();
+    let Some(found) = last_at_most(first_samples, k, &mut readings) else {
+        return Err(Error::InvalidData("stsc has no entry for the sample"));
+    };
+    let entry = entries[found.index];
+    if entry.samples_per_chunk == 0 {
+        return Err(Error::InvalidData("stsc has a chunk of no samples"));
+    }
+    Ok((entry, readings.count()))
+}
+
+/// The chunk of sample `k`, which counts from 1.
+#[tactic(auto, unfolding(crate::specs::Rule::chunk_for))]
+fn chunk_of(entry: &StscEntry, k: u32) -> Result<u32>
+    requires from { entry.now.first_sample ≤ k }
+    requires some { 1 ≤ entry.now.samples_per_chunk }
+    ensures chunk { Gives (λ c. c) result (chunk_for entry.now k) }
+    ensures counts { IfOk result (λ c. 1 ≤ c) }
+{
+    let chunk = u64::from(entry.first_chunk)
+        + u64::from((k - entry.first_sample) / entry.samples_per_chunk);
+    if chunk == 0 {
+        return Err(Error::InvalidData("chunks are numbered from 1"));
+    }
+    if chunk > u64::from(u32::MAX) {
+        return Err(Error::InvalidData("a chunk's number passes 32 bits"));
+    }
+    Ok(chunk as u32)
+}
+
+/// Where a chunk begins, as stco says where it is there, else co64.
+fn chunk_offset_at(stbl: &StblBox, chunk: u32) -> Option<u64>
+    requires { 1 ≤ chunk }
+    ensures { result ≡ slice_get (chunk_offsets stbl.now) (chunk - 1) }
+{
+    let index = chunk as usize - 1;
+    match (&stbl.stco, &stbl.co64) {
+        (Some(stco), _) => stco.entries.get(index).map(|offset| u64::from(*offset)),
+        (None, Some(co64)) => co64.entries.get(index).copied(),
+        (None, None) => None,
+    }
+}
+
+/// The size of sample `k`.
+#[tactic(auto, unfolding(crate::specs::Tables::sizes))]
+fn size_at(stsz: &StszBox, k: u32) -> Option<u32>
+    requires { 1 ≤ k }
+    ensures { result ≡ slice_get (sizes stsz.now k) (k - 1) }
+{
+    if stsz.sample_size > 0 {
+        Some(stsz.sample_size)
+    } else {
+        stsz.sample_sizes.get(k as usize - 1).copied()
+    }
+}
+
+/// The sum of the sizes of the samples from `first` up to `k`, and how many running sums were read.
+#[tactic(auto, unfolding(crate::specs::Tables::sizes))]
+fn size_between(stsz: &StszBox, sums: &RunningSizes, first: u32, k: u32) -> (u128, u32)
+    requires from { 1 ≤ first }
+    requires to { first ≤ k }
+    requires there { k ≤ length (sizes stsz.now k) }
+    requires sums { SumsBefore (λ s. s) stsz.now.sample_sizes sums.now }
+    ensures sum { result.0 ≡ sum (slice_range (sizes stsz.now k) (first - 1) (k - 1)) }
+    ensures one_size { 0 < stsz.now.sample_size → result.1 ≡ 0 }
+    ensures listed { stsz.now.sample_size ≡ 0 → (1 ≤ result.1) × (result.1 ≤ 3) }
+{
+    if stsz.sample_size > 0 {
+        return (u128::from(k - first) * u128::from(stsz.sample_size), 0);
+    }
+    let mut readings = Readings::new();
+    let upto = sums.read(k as usize - 1, &mut readings);
+    let from = sums.read(first as usize - 1, &mut readings);
+    (upto - from, readings.count())
+}
+
+/// Where sample `k` lies, and its size.
+#[tactic(auto, unfolding(crate::specs::Rule::spot_at))]
+pub fn spot_at(stbl: &StblBox, index: &TrackIndex, k: u32) -> Result<Option<Spot>>
+    requires firsts { HasFirstSamples stbl.now.stsc.entries }
+    requires index { IsIndexOf stbl.now index.now }
+    ensures spot { Gives (λ s. option_map (λ s. (s.offset, s.size)) s) result (spot_at stbl.now k) }
+    ensures counts { OnOk result (1 ≤ k) }
+    ensures few { IfOk result (λ s. IfSome s (λ s. IsFew s.comparisons (length stbl.now.stsc.entries))) }
+    ensures size_reads { IfOk result (λ s. IfSome s (λ s. AreFewSizeReads stbl.now s.size_reads)) }
+{
+    let (entry, comparisons) = entry_at(stbl.stsc.entries.as_slice(), &index.first_samples, k)?;
+    let chunk = chunk_of(&entry, k)?;
+    let Some(chunk_offset) = chunk_offset_at(stbl, chunk) else {
+        return Ok(None);
+    };
+    let Some(size) = size_at(&stbl.stsz, k) else {
+        return Ok(None);
+    };
+    let first = k - (k - entry.first_sample) % entry.samples_per_chunk;
+    let (earlier, size_reads) = size_between(&stbl.stsz, &index.size_sums, first, k);
+    match u128::from(chunk_offset).checked_add(earlier) {
+        Some(offset) if offset <= u128::from(u64::MAX) => Ok(Some(Spot {
+            offset: offset as u64,
+            size,
+            comparisons,
+            size_reads,
+        })),
+        _ => Err(Error::InvalidData("a place passes 64 bits")),
+    }
+}

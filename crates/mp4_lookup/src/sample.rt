@@ -1,0 +1,75 @@
+//! Samples, and where they lie (ISO/IEC 14496-12, 8.6 and 8.7).
+
+use bytes::Bytes;
+
+/// A sample that holds its bytes.
+///
+/// Times are in ticks of the track's timescale.
+#[derive(Debug, PartialEq, Eq, Drop)]
+pub struct Mp4Sample {
+    /// When it is decoded: the sum of the durations before it.
+    pub start_time: u64,
+    /// How long it lasts, until the next is decoded.
+    pub duration: u32,
+    /// How much later than it is decoded it is shown.
+    pub rendering_offset: i32,
+    /// Whether it can be decoded without the samples before it.
+    pub is_sync: bool,
+    /// What it is made of.
+    pub bytes: Bytes,
+}
+
+/// A sample whose bytes are lent by the file that it was found in.
+///
+/// Times are in ticks of the track's timescale.
+#[derive(Debug, Clone, Copy, PartialEq, Eq)]
+pub struct SampleRef<'a> {
+    /// When it is decoded: the sum of the durations before it.
+    pub start_time: u64,
+    /// How long it lasts, until the next is decoded.
+    pub duration: u32,
+    /// How much later than it is decoded it is shown.
+    pub rendering_offset: i32,
+    /// Whether it can be decoded without the samples before it.
+    pub is_sync: bool,
+    /// What it is made of.
+    pub bytes: &'a [u8],
+}
+
+/// Where a sample lies in the file, when it is decoded and shown, and what it cost to find it.
+///
+/// Times are in ticks of the track's timescale.
+#[derive(Debug, Clone, Copy, PartialEq, Eq)]
+pub struct SamplePlace {
+    /// Where its first byte is, counted from the file's first byte.
+    pub offset: u64,
+    /// How many bytes it has.
+    pub size: u32,
+    /// When it is decoded: the sum of the durations before it.
+    pub start_time: u64,
+    /// How long it lasts, until the next is decoded.
+    pub duration: u32,
+    /// How much later than it is decoded it is shown.
+    pub rendering_offset: i32,
+    /// Whether it can be decoded without the samples before it.
+    pub is_sync: bool,
+    /// How many numbers were compared in each table.
+    pub comparisons: Comparisons,
+    /// How many running sums of sizes were read: none where all samples have one size.
+    pub size_reads: u32,
+}
+
+/// How many numbers each search compared with the sample's, 0 for a table that isn't there.
+#[derive(Debug, Clone, Copy, PartialEq, Eq)]
+pub struct Comparisons {
+    /// First samples of the entries of stsc.
+    pub stsc: u32,
+    /// Running counts of stts.
+    pub stts: u32,
+    /// Running counts of ctts.
+    pub ctts: u32,
+    /// Numbers of stss; 0 where they don't rise, since all are then looked at.
+    pub stss: u32,
+    /// Running counts of the runs of fragments, 0 for a sample of the movie box.
+    pub runs: u32,
+}
