@@ -1,7 +1,5 @@
 //! Laws: functions that do nothing, whose contracts say what holds.
 
-use crate::sample_boxes::Number;
-use crate::sides::Side;
 use mp4_boxes::{MetadataKey, equal_keys_hash_alike, read_tables_have_first_samples};
 use mp4_codec::{
     code_again, frame_has_its_head, header_says_its_box, insertion_changes_one_key,
@@ -10,6 +8,8 @@ use mp4_codec::{
 use mp4_table::{
     entries_are_no_fewer_than_turns, entries_have_first_samples, runs_are_no_fewer_than_turns,
 };
+use mp4_test_parts::sample_boxes::Number;
+use mp4_test_parts::sides::Side;
 
 #[test]
 fn a_law_can_be_called(rt: HostRuntime) {

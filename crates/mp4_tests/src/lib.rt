@@ -1,100 +1,44 @@
-//! The tests of the library crates: rows of bytes from outside, printed texts, and that each call succeeds with
-//! ample memory. What a contract says isn't tested again.
+//! The tests of containers, of the lookup of samples and of movies: rows of bytes from outside, printed texts, and that
+//! each call succeeds with ample memory. What a contract says isn't tested again.
 #![tactic(auto)]
 
 #[cfg(test)]
-mod audio_entries;
-#[cfg(test)]
-mod boxes;
-#[cfg(test)]
-mod checks;
-#[cfg(test)]
-mod chunks;
-#[cfg(test)]
-mod codec_types;
-#[cfg(test)]
-mod codes;
-#[cfg(test)]
-mod configurations;
-#[cfg(test)]
-mod copies;
-#[cfg(test)]
-mod data;
-#[cfg(test)]
-mod dinf;
-#[cfg(test)]
 mod edits;
-#[cfg(test)]
-mod elst;
-#[cfg(test)]
-mod emsg;
-#[cfg(test)]
-mod errors;
-#[cfg(test)]
-mod fields;
-#[cfg(test)]
-mod fixed_point;
 #[cfg(test)]
 mod fragment_boxes;
 #[cfg(test)]
-mod fragment_headers;
-#[cfg(test)]
-mod framing;
-#[cfg(test)]
-mod ftyp;
-#[cfg(test)]
-mod hdlr;
-#[cfg(test)]
 mod large_boxes;
-#[cfg(test)]
-mod large_tables;
 #[cfg(test)]
 mod laws;
 #[cfg(test)]
-mod lists;
-#[cfg(test)]
-mod mdhd;
-#[cfg(test)]
-mod media_headers;
+mod lookup;
 #[cfg(test)]
 mod metadata;
+#[cfg(test)]
+mod million_samples;
 #[cfg(test)]
 mod moov;
 #[cfg(test)]
 mod movies;
 #[cfg(test)]
-mod mvhd;
-#[cfg(test)]
 mod nested;
-#[cfg(test)]
-mod offsets;
 #[cfg(test)]
 mod opening;
 #[cfg(test)]
+mod random;
+#[cfg(test)]
 mod random_boxes;
+#[cfg(test)]
+mod random_tracks;
 #[cfg(test)]
 mod refused_memory;
 #[cfg(test)]
-mod sample_boxes;
-#[cfg(test)]
 mod sample_tables;
-#[cfg(test)]
-mod samples;
-#[cfg(test)]
-mod sides;
-#[cfg(test)]
-mod spelled;
-#[cfg(test)]
-mod stsd;
 #[cfg(test)]
 mod taste;
 #[cfg(test)]
-mod tfhd;
-#[cfg(test)]
-mod tkhd;
-#[cfg(test)]
 mod track_boxes;
 #[cfg(test)]
-mod trun;
+mod tracks;
 #[cfg(test)]
-mod visual_entries;
+mod walked_lookup;

@@ -1,8 +1,8 @@
 //! Movie boxes.
 
-use crate::spelled::{check, holds, same, written};
 use mp4_boxes::MoovBox;
 use mp4_codec::{BoxType, ByteCursor, Error, ReadBox, Result, TryClone, WriteBox};
+use mp4_test_parts::spelled::{check, holds, same, written};
 use std::alloc::Global;
 
 /// Whether a box is written in so many bytes, of which the first are these.

@@ -1,7 +1,7 @@
 //! Boxes of boxes at random, from fixed seeds: each is read as it was written, and no cut and no changed size stops a
 //! reader.
 
-use crate::spelled::{check, read_bytes, written};
+use crate::random::Random;
 use mp4_boxes::{
     EdtsBox, IlstBox, IlstItemBox, MdiaBox, MetaBox, MetadataKey, MinfBox, MoofBox, MoovBox,
     MvexBox, StblBox, TrafBox, TrakBox, UdtaBox,
@@ -16,41 +16,8 @@ use mp4_leaf::{
 use mp4_table::{
     Co64Box, CttsBox, CttsEntry, StcoBox, StscBox, StscEntry, StssBox, StszBox, SttsBox, SttsEntry,
 };
+use mp4_test_parts::spelled::{check, read_bytes, written};
 use std::alloc::Global;
-
-/// Numbers in an order that a seed settles.
-#[derive(Drop)]
-struct Random {
-    state: u64,
-}
-
-impl Random {
-    fn new(seed: u64) -> Self {
-        Random { state: seed }
-    }
-
-    /// The next number.
-    fn next(&mut self) -> u32 {
-        self.state = self
-            .state
-            .wrapping_mul(6_364_136_223_846_793_005)
-            .wrapping_add(1_442_695_040_888_963_407);
-        (self.state / 0x1_0000_0000) as u32
-    }
-
-    /// A number below 4.
-    fn few(&mut self) -> u32 {
-        self.next() / 0x4000_0000
-    }
-
-    fn byte(&mut self) -> u8 {
-        (self.next() / 0x100_0000) as u8
-    }
-
-    fn chance(&mut self) -> bool {
-        self.few() < 2
-    }
-}
 
 /// At most three numbers.
 fn numbers(alloc: Global, random: &mut Random) -> Result<Items<u32>> {

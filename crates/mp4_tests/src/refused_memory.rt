@@ -3,9 +3,6 @@
 //! must, and made again it is Ok. While a test prints that a request was refused, the next one is tried.
 
 use crate::movies::{EMPTY_MOVIE, config};
-use crate::sample_boxes::Number;
-use crate::sides::Side;
-use crate::spelled::{both, check, holds, read_bytes, same};
 use mp4_boxes::{IlstBox, Metadata, MoofBox, MoovBox};
 use mp4_codec::{
     BoxHeader, BoxType, Error, Fields, FourCC, Items, KeyedItems, Mp4Box, ReadBox, Result, Text,
@@ -20,6 +17,9 @@ use mp4_leaf::{
 };
 use mp4_media::{Mp4Config, Mp4Writer, read_mp4};
 use mp4_table::{Co64Box, CttsBox, StcoBox, StscBox, StssBox, StszBox, SttsBox};
+use mp4_test_parts::sample_boxes::Number;
+use mp4_test_parts::sides::Side;
+use mp4_test_parts::spelled::{both, check, holds, read_bytes, same};
 use std::alloc::Global;
 
 /// Prints that a request was refused, and answers whether the call said so.

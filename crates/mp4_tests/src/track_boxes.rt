@@ -4,11 +4,11 @@ use crate::nested::{
     CO64, DINF, HDLR, MDHD, MVHD, STCO, STSC, STSD, STSS, STSZ, STTS, TKHD, media_of, nest,
     track_of,
 };
-use crate::spelled::{check, is_spelled, is_unreadable, lacks, read, same};
 use mp4_boxes::{MetaBox, MoovBox, MvexBox, TrakBox, UdtaBox};
 use mp4_codec::{BoxType, Items, ReadBox, Result, TryClone, WriteBox};
 use mp4_frag::TrexBox;
 use mp4_leaf::MvhdBox;
+use mp4_test_parts::spelled::{check, is_spelled, is_unreadable, lacks, read, same};
 use std::alloc::Global;
 
 const TABLES: [&str; 5] = [STSD, STTS, STSC, STSZ, STCO];

@@ -1,0 +1,195 @@
+//! Tracks of tables that a test writes down: they are written as boxes and read as those of a file are.
+
+use crate::nested::{DINF, HDLR, MDHD, STSD, TKHD};
+use mp4_boxes::{TrakBox, read_tables_have_first_samples};
+use mp4_codec::{Error, Items, ReadBox, Result};
+use mp4_lookup::{Mp4Track, SamplePlace};
+use mp4_test_parts::spelled::hex;
+use std::alloc::Global;
+
+/// The tables of a track.
+#[derive(Clone, Copy)]
+pub struct Tables<'a> {
+    /// Runs of stts: how many samples, and how long each lasts.
+    pub durations: &'a [(u32, u32)],
+    /// Runs of ctts: how many samples, and how much later than it is decoded each is shown.
+    pub rendering_offsets: Option<&'a [(u32, i32)]>,
+    /// The numbers of stss.
+    pub sync_samples: Option<&'a [u32]>,
+    /// Entries of stsc: the first chunk, and how many samples each chunk has.
+    pub chunks: &'a [(u32, u32)],
+    /// The one size of stsz, 0 where sizes are listed.
+    pub size: u32,
+    /// How many samples stsz counts.
+    pub count: u32,
+    /// The sizes that are listed.
+    pub sizes: &'a [u32],
+    /// Where each chunk begins, in 64 bits.
+    pub offsets: &'a [u64],
+}
+
+/// Three samples of one byte each, in one chunk at 100.
+pub const THREE: Tables<'static> = Tables {
+    durations: &[(3, 1)],
+    rendering_offsets: None,
+    sync_samples: None,
+    chunks: &[(1, 3)],
+    size: 1,
+    count: 3,
+    sizes: &[],
+    offsets: &[100],
+};
+
+fn put(bytes: &mut Vec<u8>, number: u32) -> Result<()> {
+    bytes.extend_from_slice(&number.to_be_bytes())?;
+    Ok(())
+}
+
+fn put_pair(bytes: &mut Vec<u8>, first: u32, second: u32) -> Result<()> {
+    put(bytes, first)?;
+    put(bytes, second)
+}
+
+/// What stands before the entries of a table, of so many bytes each.
+fn put_head(bytes: &mut Vec<u8>, kind: &[u8], count: usize, each: u32) -> Result<()> {
+    let count = u32::try_from(count).unwrap_or(0);
+    put(bytes, count.wrapping_mul(each).wrapping_add(16))?;
+    bytes.extend_from_slice(kind)?;
+    put_pair(bytes, 0, count)
+}
+
+fn put_durations(bytes: &mut Vec<u8>, runs: &[(u32, u32)]) -> Result<()> {
+    put_head(bytes, b"stts", runs.len(), 8)?;
+    for run in runs {
+        put_pair(bytes, run.0, run.1)?;
+    }
+    Ok(())
+}
+
+fn put_rendering_offsets(bytes: &mut Vec<u8>, runs: &[(u32, i32)]) -> Result<()> {
+    put_head(bytes, b"ctts", runs.len(), 8)?;
+    for run in runs {
+        put(bytes, run.0)?;
+        bytes.extend_from_slice(&run.1.to_be_bytes())?;
+    }
+    Ok(())
+}
+
+fn put_sync_samples(bytes: &mut Vec<u8>, numbers: &[u32]) -> Result<()> {
+    put_head(bytes, b"stss", numbers.len(), 4)?;
+    for number in numbers {
+        put(bytes, *number)?;
+    }
+    Ok(())
+}
+
+fn put_chunks(bytes: &mut Vec<u8>, entries: &[(u32, u32)]) -> Result<()> {
+    put_head(bytes, b"stsc", entries.len(), 12)?;
+    for entry in entries {
+        put_pair(bytes, entry.0, entry.1)?;
+        put(bytes, 1)?;
+    }
+    Ok(())
+}
+
+fn put_sizes(bytes: &mut Vec<u8>, size: u32, count: u32, sizes: &[u32]) -> Result<()> {
+    let listed = u32::try_from(sizes.len()).unwrap_or(0);
+    put(bytes, listed.wrapping_mul(4).wrapping_add(20))?;
+    bytes.extend_from_slice(b"stsz\0\0\0\0")?;
+    put_pair(bytes, size, count)?;
+    for size in sizes {
+        put(bytes, *size)?;
+    }
+    Ok(())
+}
+
+fn put_offsets(bytes: &mut Vec<u8>, offsets: &[u64]) -> Result<()> {
+    put_head(bytes, b"co64", offsets.len(), 8)?;
+    for offset in offsets {
+        bytes.extend_from_slice(&offset.to_be_bytes())?;
+    }
+    Ok(())
+}
+
+/// The tables as the children of a stbl.
+fn written_tables(alloc: Global, tables: &Tables) -> Result<Vec<u8>> {
+    let mut bytes = hex(alloc, STSD)?;
+    put_durations(&mut bytes, tables.durations)?;
+    if let Some(runs) = tables.rendering_offsets {
+        put_rendering_offsets(&mut bytes, runs)?;
+    }
+    if let Some(numbers) = tables.sync_samples {
+        put_sync_samples(&mut bytes, numbers)?;
+    }
+    put_chunks(&mut bytes, tables.chunks)?;
+    put_sizes(&mut bytes, tables.size, tables.count, tables.sizes)?;
+    put_offsets(&mut bytes, tables.offsets)?;
+    Ok(bytes)
+}
+
+/// What these texts spell, and behind it a box of this type around a payload.
+fn with_box(alloc: Global, texts: &[&str], kind: &[u8], payload: &[u8]) -> Result<Vec<u8>> {
+    let mut bytes = Vec::new(alloc);
+    for text in texts {
+        bytes.extend_from_slice(&hex(alloc, text)?)?;
+    }
+    let size = u32::try_from(payload.len()).unwrap_or(0);
+    put(&mut bytes, size.wrapping_add(8))?;
+    bytes.extend_from_slice(kind)?;
+    bytes.extend_from_slice(payload)?;
+    Ok(bytes)
+}
+
+/// The payload of a track of these tables.
+fn written_track(alloc: Global, tables: &Tables) -> Result<Vec<u8>> {
+    let tables = written_tables(alloc, tables)?;
+    let information = with_box(alloc, &[DINF], b"stbl", &tables)?;
+    let media = with_box(alloc, &[MDHD, HDLR], b"minf", &information)?;
+    with_box(alloc, &[TKHD], b"mdia", &media)
+}
+
+/// The track of a payload of a trak.
+fn read_track(alloc: Global, payload: &[u8]) -> Result<Mp4Track> {
+    read_tables_have_first_samples();
+    let trak = TrakBox::read_payload(alloc, payload)?;
+    Ok(Mp4Track::new(alloc, trak, Items::new(alloc), 0)?)
+}
+
+/// The track of id 1 that has these tables.
+fn track_of(alloc: Global, tables: &Tables) -> Result<Mp4Track> {
+    let payload = written_track(alloc, tables)?;
+    read_track(alloc, &payload)
+}
+
+/// Whether a statement holds of the track of id 1 that has these tables.
+///
+/// The track lives in this one function, and tests say facts of a track that they are lent: a function that holds a
+/// track is dear to prove.
+pub fn holds_of<F: FnOnce(&Mp4Track) -> bool>(
+    alloc: Global,
+    tables: &Tables,
+    fact: F,
+) -> Result<bool>
+    requires { F.IsAlwaysCallable fact }
+{
+    let track = track_of(alloc, tables)?;
+    Ok(fact(&track))
+}
+
+/// The place of a sample that is there.
+pub fn found(track: &Mp4Track, k: u32) -> Option<SamplePlace> {
+    match track.locate(k) {
+        Ok(place) => place,
+        Err(_) => None,
+    }
+}
+
+/// Whether a number is answered by no sample.
+pub fn is_past(track: &Mp4Track, k: u32) -> bool {
+    matches!(track.locate(k), Ok(None))
+}
+
+/// Whether a number is refused as invalid data.
+pub fn is_invalid_number(track: &Mp4Track, k: u32) -> bool {
+    matches!(track.locate(k), Err(Error::InvalidData(_)))
+}
