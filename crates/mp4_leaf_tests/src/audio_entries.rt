@@ -1,5 +1,6 @@
 //! The sample entry of MPEG-4 audio, and what its decoder is started with.
 
+use crate::asserts::{check, holds, same};
 use mp4_codec::{BoxType, Error, Result, TryClone};
 use mp4_entry::{
     AacConfig, AudioObjectType, ChannelConfig, DecoderConfigDescriptor, DecoderSpecificDescriptor,
@@ -7,8 +8,8 @@ use mp4_entry::{
 };
 use mp4_leaf::FixedPointU16;
 use mp4_test_parts::spelled::{
-    also, check, hex, holds, is_spelled, is_unreadable, is_unrepresentable, needs, read,
-    read_bytes, reads, same, writes,
+    also, hex, is_spelled, is_unreadable, is_unrepresentable, needs, read, read_bytes, reads,
+    writes,
 };
 use std::alloc::Global;
 

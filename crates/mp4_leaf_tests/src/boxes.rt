@@ -1,12 +1,12 @@
 //! Boxes that are read and written, alone and in one another.
 
+use crate::asserts::{check, holds, same};
 use mp4_codec::{
     BoxType, ByteCursor, Child, Error, Items, Mp4Box, ReadBox, Result, WriteBox, all_children,
     all_size, keep_each, keep_last, last_child, optional_size, put_all, put_optional, required,
     some_required,
 };
 use mp4_test_parts::sample_boxes::Number;
-use mp4_test_parts::spelled::{check, holds, same};
 use std::alloc::Global;
 
 const TWO: [u8; 12] = [0, 0, 0, 12, b'f', b'r', b'e', b'e', 0, 0, 0, 2];

@@ -1,12 +1,12 @@
 //! Whether values can be written.
 
+use crate::asserts::{check, holds, same, same_at};
 use mp4_codec::{
     Error, Items, Limit, Result, Text, WriteBox, check_all, check_optional, check_value,
     check_version,
 };
 use mp4_leaf::{MvhdBox, check_language};
 use mp4_test_parts::sample_boxes::Number;
-use mp4_test_parts::spelled::{check, holds, same, same_at};
 use std::alloc::Global;
 
 #[test]

@@ -1,9 +1,10 @@
 //! How many samples chunks have.
 
+use crate::asserts::check;
 use mp4_codec::{BoxType, Result};
 use mp4_table::{StscBox, StscEntry};
 use mp4_test_parts::spelled::{
-    also, check, is_spelled, keeps_to_its_end, read_bytes, refuses, writes, written,
+    also, is_spelled, keeps_to_its_end, read_bytes, refuses, writes, written,
 };
 use std::alloc::Global;
 

@@ -1,11 +1,12 @@
 //! The types of tracks, of coded media and of sound, and the entry of timed text.
 
+use crate::asserts::{check, holds, same, same_at};
 use mp4_codec::{BoxType, Error, FourCC, Items, Result, TryClone};
 use mp4_entry::{
     AacConfig, AudioObjectType, AvcConfig, AvcProfile, ChannelConfig, HevcConfig, MediaConfig,
     MediaType, SampleFreqIndex, TrackType, TtxtConfig, Tx3gBox, Vp9Config,
 };
-use mp4_test_parts::spelled::{check, holds, is_spelled, needs, prints, reads, same, same_at};
+use mp4_test_parts::spelled::{is_spelled, needs, prints, reads};
 use std::alloc::Global;
 
 /// Whether a track type has this handler and this name.

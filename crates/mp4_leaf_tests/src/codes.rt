@@ -1,7 +1,8 @@
 //! Codes of four bytes, and the types of boxes.
 
+use crate::asserts::{check, holds, same};
 use mp4_codec::{BoxType, FourCC};
-use mp4_test_parts::spelled::{check, holds, prints, same};
+use mp4_test_parts::spelled::prints;
 
 const PRINTED: [(BoxType, &str); 5] = [
     (BoxType::NameBox, ".nam"),

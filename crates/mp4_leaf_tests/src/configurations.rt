@@ -1,11 +1,12 @@
 //! The sample descriptions that configurations make.
 
+use crate::asserts::check;
 use mp4_codec::{Items, Result};
 use mp4_entry::{
     AacConfig, AudioObjectType, AvcConfig, ChannelConfig, HevcConfig, MediaConfig, SampleFreqIndex,
     StsdBox, TtxtConfig, Vp9Config,
 };
-use mp4_test_parts::spelled::{also, check, is_spelled};
+use mp4_test_parts::spelled::{also, is_spelled};
 use std::alloc::Global;
 
 const AVC: &str =

@@ -1,9 +1,9 @@
 //! Copies of the parts of boxes.
 
+use crate::asserts::check;
 use mp4_codec::{BoxType, FourCC, Result, TryClone};
 use mp4_leaf::{DataType, ElstEntry, FixedPointI8, FixedPointU8, FixedPointU16, Matrix, RgbColor};
 use mp4_table::{CttsEntry, StscEntry, SttsEntry};
-use mp4_test_parts::spelled::check;
 
 /// Whether the copy of a value is equal to it.
 fn is_copied<T: TryClone + PartialEq>(value: &T) -> Result<bool> {

@@ -1,8 +1,9 @@
 //! Metadata values.
 
+use crate::asserts::check;
 use mp4_codec::{BoxType, Items, Result};
 use mp4_leaf::{DataBox, DataType};
-use mp4_test_parts::spelled::{also, check, is_spelled, is_whole, reads, writes};
+use mp4_test_parts::spelled::{also, is_spelled, is_whole, reads, writes};
 use std::alloc::Global;
 
 /// Whether the default is known by its type and spelled by a text.

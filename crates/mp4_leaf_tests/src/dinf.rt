@@ -1,10 +1,10 @@
 //! Data information.
 
+use crate::asserts::{check, holds, same_at};
 use mp4_codec::{BoxType, Error, Items, Result};
 use mp4_leaf::{DinfBox, DrefBox, UrlBox};
 use mp4_test_parts::spelled::{
-    also, check, hex, holds, is_spelled, is_unreadable, is_whole, read, read_bytes, reads, same_at,
-    writes,
+    also, hex, is_spelled, is_unreadable, is_whole, read, read_bytes, reads, writes,
 };
 use std::alloc::Global;
 

@@ -1,10 +1,9 @@
 //! Edit lists.
 
+use crate::asserts::{check, holds};
 use mp4_codec::{BoxType, Items, Result};
 use mp4_leaf::{ElstBox, ElstEntry};
-use mp4_test_parts::spelled::{
-    also, check, holds, is_invalid, is_past_its_field, is_unreadable, is_whole,
-};
+use mp4_test_parts::spelled::{also, is_invalid, is_past_its_field, is_unreadable, is_whole};
 use std::alloc::Global;
 
 const VERSION_ONE: &str =

@@ -1,10 +1,9 @@
 //! Event messages.
 
+use crate::asserts::{check, holds, same};
 use mp4_codec::{BoxType, Error, Items, Result};
 use mp4_frag::EmsgBox;
-use mp4_test_parts::spelled::{
-    also, check, holds, is_invalid, is_spelled, is_unreadable, is_whole, read, same,
-};
+use mp4_test_parts::spelled::{also, is_invalid, is_spelled, is_unreadable, is_whole, read};
 use std::alloc::Global;
 
 /// A message of these versions and times, of scheme `a`, without a value or a body.

@@ -1,7 +1,8 @@
 //! The messages of errors.
 
+use crate::asserts::check;
 use mp4_codec::{BoxType, Error, Limit};
-use mp4_test_parts::spelled::{check, prints};
+use mp4_test_parts::spelled::prints;
 
 const OF_MP4: [(Error, &str); 11] = [
     (Error::EndOfData, "end of data"),

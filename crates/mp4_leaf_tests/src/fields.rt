@@ -1,10 +1,10 @@
 //! Fields of payloads, read and written.
 
+use crate::asserts::{check, holds, same};
 use mp4_codec::{
     Error, Fields, FourCC, Items, Result, list_size, put_bytes, put_four_cc, put_i16, put_i32,
     put_list, put_u8, put_u16, put_u24, put_u32, put_u64, put_versioned, put_zeros,
 };
-use mp4_test_parts::spelled::{check, holds, same};
 use std::alloc::Global;
 
 /// What a field is spelled as, by a number for its kind.

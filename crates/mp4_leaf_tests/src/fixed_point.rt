@@ -1,7 +1,7 @@
 //! Numbers in fixed point.
 
+use crate::asserts::same;
 use mp4_leaf::{FixedPointI8, FixedPointU8, FixedPointU16};
-use mp4_test_parts::spelled::same;
 
 #[test]
 fn whole_numbers_stand_in_the_high_half(rt: HostRuntime) {

@@ -1,10 +1,9 @@
 //! What movie fragments say of themselves and of their tracks: mfhd, trex, tfdt and mehd.
 
+use crate::asserts::{check, holds, same};
 use mp4_codec::{BoxType, Result};
 use mp4_frag::{MehdBox, MfhdBox, TfdtBox, TrexBox};
-use mp4_test_parts::spelled::{
-    check, holds, is_invalid, is_past_its_field, is_spelled, is_unreadable, needs, same,
-};
+use mp4_test_parts::spelled::{is_invalid, is_past_its_field, is_spelled, is_unreadable, needs};
 
 #[test]
 fn the_first_fragment_has_number_1(rt: HostRuntime) {

@@ -1,9 +1,9 @@
 //! Headers, the cursor and children: rows of bytes.
 
+use crate::asserts::{check, holds, same, same_at};
 use mp4_codec::{
     BoxHeader, BoxType, ByteCursor, Children, Error, HEADER_EXT_SIZE, HEADER_SIZE, Limit, Result,
 };
-use mp4_test_parts::spelled::{check, holds, same, same_at};
 use std::alloc::Global;
 
 /// A header whose size is 1, of type 01020304, with this last byte of its largesize.

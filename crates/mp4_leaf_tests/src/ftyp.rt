@@ -1,8 +1,9 @@
 //! File types.
 
+use crate::asserts::{check, same_at};
 use mp4_codec::{BoxType, FourCC, Items, Result};
 use mp4_leaf::FtypBox;
-use mp4_test_parts::spelled::{also, check, is_spelled, is_whole, read, same_at};
+use mp4_test_parts::spelled::{also, is_spelled, is_whole, read};
 use std::alloc::Global;
 
 /// Whether the default is known by its type and spelled by a text.

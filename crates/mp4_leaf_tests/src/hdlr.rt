@@ -1,8 +1,9 @@
 //! Handlers.
 
+use crate::asserts::{check, same};
 use mp4_codec::{BoxType, FourCC, Items, Result};
 use mp4_leaf::HdlrBox;
-use mp4_test_parts::spelled::{also, check, hex, is_spelled, is_whole, read, reads, same, writes};
+use mp4_test_parts::spelled::{also, hex, is_spelled, is_whole, read, reads, writes};
 use std::alloc::Global;
 
 /// Whether the default is known by its type and spelled by a text.

@@ -1,8 +1,8 @@
 //! Lists, texts and maps: what boxes hold.
 
+use crate::asserts::{check, same};
 use mp4_codec::{Items, KeyedItems, Result, Text, TryClone};
 use mp4_test_parts::sides::Side;
-use mp4_test_parts::spelled::{check, same};
 use std::alloc::Global;
 use std::collections::HashMap;
 

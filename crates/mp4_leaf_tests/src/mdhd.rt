@@ -1,10 +1,11 @@
 //! Media headers, and their languages.
 
+use crate::asserts::{check, holds};
 use mp4_codec::{BoxType, Result, Text};
 use mp4_leaf::MdhdBox;
 use mp4_test_parts::spelled::{
-    also, check, holds, is_invalid, is_past_its_field, is_spelled, is_unreadable,
-    is_unrepresentable, is_whole, reads,
+    also, is_invalid, is_past_its_field, is_spelled, is_unreadable, is_unrepresentable, is_whole,
+    reads,
 };
 use std::alloc::Global;
 

@@ -1,8 +1,9 @@
 //! The headers of video and of sound.
 
+use crate::asserts::{check, same};
 use mp4_codec::{BoxType, Result};
 use mp4_leaf::{FixedPointI8, RgbColor, SmhdBox, VmhdBox};
-use mp4_test_parts::spelled::{check, is_spelled, needs, reads, same};
+use mp4_test_parts::spelled::{is_spelled, needs, reads};
 
 #[test]
 fn a_video_header_has_20_bytes(rt: HostRuntime) {

@@ -1,10 +1,10 @@
 //! Movie headers.
 
+use crate::asserts::{check, holds, same};
 use mp4_codec::{BoxType, Result};
 use mp4_leaf::{FixedPointU8, FixedPointU16, Matrix, MvhdBox};
 use mp4_test_parts::spelled::{
-    check, holds, is_invalid, is_past_its_field, is_spelled, is_unreadable, needs, reads, same,
-    writes,
+    is_invalid, is_past_its_field, is_spelled, is_unreadable, needs, reads, writes,
 };
 
 const DEFAULT: &str =

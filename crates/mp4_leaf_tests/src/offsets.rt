@@ -1,8 +1,9 @@
 //! Where chunks lie.
 
+use crate::asserts::{check, holds};
 use mp4_codec::{BoxType, Error, Result};
 use mp4_table::{Co64Box, StcoBox};
-use mp4_test_parts::spelled::{also, check, holds, is_spelled, keeps_to_its_end};
+use mp4_test_parts::spelled::{also, is_spelled, keeps_to_its_end};
 use std::alloc::Global;
 
 const NARROW: &str = "00000018 7374636f 01000002 00000002 00000001 ffffffff";

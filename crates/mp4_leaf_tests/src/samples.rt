@@ -1,8 +1,9 @@
 //! Durations, composition offsets, sync samples and sizes of samples.
 
+use crate::asserts::check;
 use mp4_codec::{BoxType, Result};
 use mp4_table::{CttsBox, CttsEntry, StssBox, StszBox, SttsBox, SttsEntry};
-use mp4_test_parts::spelled::{also, check, is_invalid, is_spelled, keeps_to_its_end, reads};
+use mp4_test_parts::spelled::{also, is_invalid, is_spelled, keeps_to_its_end, reads};
 use std::alloc::Global;
 
 const DURATIONS: &str = "00000020 73747473 fffedcba 00000002 00000003 00000200 ffffffff 80000000";

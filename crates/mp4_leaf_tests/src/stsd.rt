@@ -1,10 +1,9 @@
 //! Sample descriptions.
 
+use crate::asserts::{check, holds, same};
 use mp4_codec::{BoxType, Result};
 use mp4_entry::{Hev1Box, MediaConfig, StsdBox, TtxtConfig, Tx3gBox};
-use mp4_test_parts::spelled::{
-    also, check, holds, is_spelled, is_unreadable, read, reads, same, writes,
-};
+use mp4_test_parts::spelled::{also, is_spelled, is_unreadable, read, reads, writes};
 use std::alloc::Global;
 
 #[test]

@@ -1,8 +1,9 @@
 //! Track fragment headers.
 
+use crate::asserts::{check, same};
 use mp4_codec::{BoxType, Result};
 use mp4_frag::TfhdBox;
-use mp4_test_parts::spelled::{check, is_invalid, is_spelled, needs, same};
+use mp4_test_parts::spelled::{is_invalid, is_spelled, needs};
 
 /// A header of track 9 with these flags and no other field.
 fn of_flags(flags: u32) -> TfhdBox {

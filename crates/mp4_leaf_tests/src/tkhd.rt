@@ -1,9 +1,10 @@
 //! Track headers.
 
+use crate::asserts::{check, holds, same};
 use mp4_codec::{BoxType, Result};
 use mp4_leaf::{FixedPointU8, FixedPointU16, Matrix, TkhdBox};
 use mp4_test_parts::spelled::{
-    check, holds, is_invalid, is_past_its_field, is_spelled, is_unreadable, needs, reads, same,
+    is_invalid, is_past_its_field, is_spelled, is_unreadable, needs, reads,
 };
 
 const DEFAULT: &str = "0000005c 746b6864 00 000001 00000000 00000000 00000000 00000000 00000000 \

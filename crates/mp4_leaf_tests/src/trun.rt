@@ -1,10 +1,9 @@
 //! Track fragment runs.
 
+use crate::asserts::{check, holds};
 use mp4_codec::{BoxType, Items, Result};
 use mp4_frag::TrunBox;
-use mp4_test_parts::spelled::{
-    also, check, holds, is_invalid, is_spelled, is_unreadable, is_whole, read,
-};
+use mp4_test_parts::spelled::{also, is_invalid, is_spelled, is_unreadable, is_whole, read};
 use std::alloc::Global;
 
 /// Two samples whose run says nothing but these flags.

@@ -1,13 +1,14 @@
 //! Sample entries of video.
 
+use crate::asserts::{check, holds};
 use mp4_codec::{BoxType, Items, ReadBox, Result, TryClone, WriteBox};
 use mp4_entry::{
     Avc1Box, AvcCBox, AvcConfig, Hev1Box, HevcConfig, HvcCBox, NalUnit, Vp09Box, Vp9Config, VpccBox,
 };
 use mp4_leaf::FixedPointU16;
 use mp4_test_parts::spelled::{
-    also, both, check, hex, holds, is_spelled, is_unreadable, is_unrepresentable, is_whole, needs,
-    read, read_bytes, reads, writes, written,
+    also, both, hex, is_spelled, is_unreadable, is_unrepresentable, is_whole, needs, read,
+    read_bytes, reads, writes, written,
 };
 use std::alloc::Global;
 

@@ -1,9 +1,10 @@
 //! The edits of a track.
 
+use crate::asserts::{check, holds};
 use mp4_boxes::EdtsBox;
 use mp4_codec::Result;
 use mp4_leaf::ElstBox;
-use mp4_test_parts::spelled::{check, holds, is_spelled, is_unreadable, read};
+use mp4_test_parts::spelled::{is_spelled, is_unreadable, read};
 use std::alloc::Global;
 
 #[test]

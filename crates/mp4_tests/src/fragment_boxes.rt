@@ -1,11 +1,10 @@
 //! Movie fragments, and what a movie says of them: moof, traf and mvex.
 
+use crate::asserts::{check, holds};
 use mp4_boxes::{MoofBox, MvexBox, TrafBox};
 use mp4_codec::{BoxType, Result, WriteBox};
 use mp4_frag::{TfdtBox, TfhdBox, TrexBox, TrunBox};
-use mp4_test_parts::spelled::{
-    check, holds, is_invalid, is_spelled, is_unreadable, lacks, read, written,
-};
+use mp4_test_parts::spelled::{is_invalid, is_spelled, is_unreadable, lacks, read, written};
 use std::alloc::Global;
 
 /// The defaults of this track, all zero.

@@ -1,9 +1,10 @@
 //! Containers of very many children, which are read in one pass.
 
+use crate::asserts::check;
 use crate::nested::{MVHD, STCO, STSC, STSD, STSZ, STTS, TKHD, media_of, track_of};
 use mp4_boxes::{IlstBox, Metadata, MoovBox, TrakBox};
 use mp4_codec::{ReadBox, Result};
-use mp4_test_parts::spelled::{check, hex, read_bytes};
+use mp4_test_parts::spelled::{hex, read_bytes};
 use std::alloc::Global;
 
 /// A box around a first child and another one again and again.

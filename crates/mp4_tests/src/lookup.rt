@@ -1,10 +1,10 @@
 //! Where samples lie and when they begin, by tables that a test writes down.
 
+use crate::asserts::{check, holds};
 use crate::tracks::{THREE, Tables, found, holds_of, is_invalid_number, is_past};
 use bytes::Bytes;
 use mp4_codec::{BoxType, Error, Result};
 use mp4_lookup::{Comparisons, Mp4Sample, Mp4Track, SamplePlace, SampleRef};
-use mp4_test_parts::spelled::{check, holds};
 use std::alloc::Global;
 
 /// Offset and size, start and duration of a sample.

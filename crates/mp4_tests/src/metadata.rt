@@ -1,11 +1,12 @@
 //! Metadata.
 
+use crate::asserts::{check, holds, same, same_at};
 use mp4_boxes::{IlstBox, IlstItemBox, MetaBox, Metadata, MetadataKey, UdtaBox};
 use mp4_codec::{BoxType, Error, FourCC, Items, Result, TryClone};
 use mp4_leaf::{DataBox, DataType, HdlrBox};
 use mp4_test_parts::spelled::{
-    also, check, hex, holds, is_spelled, is_unreadable, is_whole, lacks, read, read_bytes, reads,
-    refuses, same, same_at, written,
+    also, hex, is_spelled, is_unreadable, is_whole, lacks, read, read_bytes, reads, refuses,
+    written,
 };
 use std::alloc::Global;
 

@@ -1,9 +1,9 @@
 //! A track of a million samples, of which each is looked up.
 
+use crate::asserts::check;
 use crate::tracks::{Tables, holds_of, is_past};
 use mp4_codec::Result;
 use mp4_lookup::{Comparisons, Mp4Track, SamplePlace};
-use mp4_test_parts::spelled::check;
 use std::alloc::Global;
 
 const SAMPLES: u32 = 1_000_000;

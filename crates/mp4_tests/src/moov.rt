@@ -1,8 +1,9 @@
 //! Movie boxes.
 
+use crate::asserts::{check, holds, same};
 use mp4_boxes::MoovBox;
 use mp4_codec::{BoxType, ByteCursor, Error, ReadBox, Result, TryClone, WriteBox};
-use mp4_test_parts::spelled::{check, holds, same, written};
+use mp4_test_parts::spelled::written;
 use std::alloc::Global;
 
 /// Whether a box is written in so many bytes, of which the first are these.

@@ -1,8 +1,8 @@
 //! Movies without tracks, as they are written.
 
+use crate::asserts::{check, holds, same};
 use mp4_codec::{ByteCursor, Error, FourCC, Items, Result, TryClone};
 use mp4_media::{Mp4Config, Mp4Reader, Mp4Writer, mdat_header, read_mp4};
-use mp4_test_parts::spelled::{check, holds, same};
 use std::alloc::Global;
 
 /// A movie of brand isom and timescale 1000, without tracks.

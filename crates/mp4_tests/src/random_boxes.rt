@@ -1,6 +1,7 @@
 //! Boxes of boxes at random, from fixed seeds: each is read as it was written, and no cut and no changed size stops a
 //! reader.
 
+use crate::asserts::check;
 use crate::random::Random;
 use mp4_boxes::{
     EdtsBox, IlstBox, IlstItemBox, MdiaBox, MetaBox, MetadataKey, MinfBox, MoofBox, MoovBox,
@@ -16,7 +17,7 @@ use mp4_leaf::{
 use mp4_table::{
     Co64Box, CttsBox, CttsEntry, StcoBox, StscBox, StscEntry, StssBox, StszBox, SttsBox, SttsEntry,
 };
-use mp4_test_parts::spelled::{check, read_bytes, written};
+use mp4_test_parts::spelled::{read_bytes, written};
 use std::alloc::Global;
 
 /// At most three numbers.

@@ -2,6 +2,7 @@
 //! these tests with one request refused, each in turn. A refused call then answers `OutOfMemory`, it leaves what it
 //! must, and made again it is Ok. While a test prints that a request was refused, the next one is tried.
 
+use crate::asserts::{check, holds, same};
 use crate::movies::{EMPTY_MOVIE, config};
 use mp4_boxes::{IlstBox, Metadata, MoofBox, MoovBox};
 use mp4_codec::{
@@ -19,7 +20,7 @@ use mp4_media::{Mp4Config, Mp4Writer, read_mp4};
 use mp4_table::{Co64Box, CttsBox, StcoBox, StscBox, StssBox, StszBox, SttsBox};
 use mp4_test_parts::sample_boxes::Number;
 use mp4_test_parts::sides::Side;
-use mp4_test_parts::spelled::{both, check, holds, read_bytes, same};
+use mp4_test_parts::spelled::{both, read_bytes};
 use std::alloc::Global;
 
 /// Prints that a request was refused, and answers whether the call said so.

@@ -1,7 +1,7 @@
 //! The functions that the README shows.
 
+use crate::asserts::check;
 use mp4_media::{FourCC, Items, Mp4Config, Mp4Writer, Result, read_mp4};
-use mp4_test_parts::spelled::check;
 use std::alloc::Global;
 
 /// The bytes of a movie without tracks, with 1000 ticks in a second.
