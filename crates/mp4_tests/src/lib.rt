@@ -1,45 +1,23 @@
-//! The tests of containers, of the lookup of samples and of movies: rows of bytes from outside, printed texts, and that
-//! each call succeeds with ample memory. What a contract says isn't tested again.
+//! The tests of the lookup of samples and of movies: rows of bytes from outside, printed texts, and that each call
+//! succeeds with ample memory. What a contract says isn't tested again.
 #![tactic(auto)]
 
 #[cfg(test)]
 mod asserts;
 #[cfg(test)]
-mod edits;
-#[cfg(test)]
-mod fragment_boxes;
-#[cfg(test)]
-mod large_boxes;
-#[cfg(test)]
-mod laws;
-#[cfg(test)]
 mod lookup;
-#[cfg(test)]
-mod metadata;
 #[cfg(test)]
 mod million_samples;
 #[cfg(test)]
-mod moov;
-#[cfg(test)]
 mod movies;
 #[cfg(test)]
-mod nested;
-#[cfg(test)]
 mod opening;
-#[cfg(test)]
-mod random;
-#[cfg(test)]
-mod random_boxes;
 #[cfg(test)]
 mod random_tracks;
 #[cfg(test)]
 mod refused_memory;
 #[cfg(test)]
-mod sample_tables;
-#[cfg(test)]
 mod taste;
-#[cfg(test)]
-mod track_boxes;
 #[cfg(test)]
 mod tracks;
 #[cfg(test)]

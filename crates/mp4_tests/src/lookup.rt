@@ -44,7 +44,7 @@ fn is_sync(track: &Mp4Track, k: u32) -> bool {
 }
 
 /// The tables of three text samples in two chunks.
-const TEXT: Tables<'static> = Tables {
+pub const TEXT: Tables<'static> = Tables {
     durations: &[(3, 500)],
     rendering_offsets: None,
     sync_samples: Some(&[1, 2, 3]),
@@ -55,7 +55,7 @@ const TEXT: Tables<'static> = Tables {
     offsets: &[48, 54],
 };
 
-fn text_samples_are_found(track: &Mp4Track) -> bool {
+pub fn text_samples_are_found(track: &Mp4Track) -> bool {
     bytes_and_times(track, 1) == Some((48, 3, 0, 500))
         && bytes_and_times(track, 2) == Some((51, 3, 500, 500))
         && bytes_and_times(track, 3) == Some((54, 2, 1000, 500))

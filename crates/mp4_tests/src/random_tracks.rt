@@ -1,11 +1,11 @@
 //! Tracks of random tables, from fixed seeds: at each number the lookup answers as a walk over the tables does.
 
 use crate::asserts::check;
-use crate::random::Random;
 use crate::tracks::{Tables, holds_of};
 use crate::walked_lookup::walk;
 use mp4_codec::{Error, Result};
 use mp4_lookup::Mp4Track;
+use mp4_test_parts::random::Random;
 use std::alloc::Global;
 
 /// Tables that a seed settles.

@@ -3,7 +3,9 @@
 //! must, and made again it is Ok. While a test prints that a request was refused, the next one is tried.
 
 use crate::asserts::{check, holds, same};
+use crate::lookup::{TEXT, text_samples_are_found};
 use crate::movies::{EMPTY_MOVIE, config};
+use crate::tracks::holds_of;
 use mp4_boxes::{IlstBox, Metadata, MoofBox, MoovBox};
 use mp4_codec::{
     BoxHeader, BoxType, Error, Fields, FourCC, Items, KeyedItems, Mp4Box, ReadBox, Result, Text,
@@ -671,4 +673,19 @@ fn opened_again(rt: &HostRuntime) -> Result<u64> {
 #[test]
 fn a_refused_opening_is_made_again(rt: HostRuntime) {
     same(&rt, opened_again(&rt), Ok(164));
+}
+
+/// Whether the samples of a track are found, which is made again with its index after a refusal.
+fn found_again(rt: &HostRuntime) -> Result<bool> {
+    match holds_of(rt.alloc(), &TEXT, text_samples_are_found) {
+        Err(error) if is_refusal(rt, &error) => {
+            holds_of(rt.alloc(), &TEXT, text_samples_are_found)
+        }
+        answer => answer,
+    }
+}
+
+#[test]
+fn a_refused_track_is_made_again(rt: HostRuntime) {
+    check(&rt, 1, found_again(&rt));
 }

@@ -1,9 +1,9 @@
 //! Tracks of tables that a test writes down: they are written as boxes and read as those of a file are.
 
-use crate::nested::{DINF, HDLR, MDHD, STSD, TKHD};
 use mp4_boxes::{TrakBox, read_tables_have_first_samples};
 use mp4_codec::{Error, Items, ReadBox, Result};
 use mp4_lookup::{Mp4Track, SamplePlace};
+use mp4_test_parts::nested::{DINF, HDLR, MDHD, STSD, TKHD};
 use mp4_test_parts::spelled::hex;
 use std::alloc::Global;
 

@@ -1,11 +1,11 @@
 //! The sample table of a track, and the boxes around it.
 
 use crate::asserts::{check, holds, same};
-use crate::nested::{DINF, nest};
 use mp4_boxes::{MdiaBox, MinfBox, StblBox};
 use mp4_codec::{BoxType, Error, Mp4Box, ReadBox, Result, Text, TryClone, WriteBox};
 use mp4_leaf::{SmhdBox, VmhdBox};
 use mp4_table::{Co64Box, CttsBox, StcoBox, StscBox, StssBox};
+use mp4_test_parts::nested::{DINF, nest};
 use mp4_test_parts::spelled::{
     also, is_invalid, is_spelled, is_unreadable, is_unrepresentable, lacks, read, writes,
 };

@@ -1,9 +1,9 @@
 //! Containers of very many children, which are read in one pass.
 
 use crate::asserts::check;
-use crate::nested::{MVHD, STCO, STSC, STSD, STSZ, STTS, TKHD, media_of, track_of};
 use mp4_boxes::{IlstBox, Metadata, MoovBox, TrakBox};
 use mp4_codec::{ReadBox, Result};
+use mp4_test_parts::nested::{MVHD, STCO, STSC, STSD, STSZ, STTS, TKHD, media_of, track_of};
 use mp4_test_parts::spelled::{hex, read_bytes};
 use std::alloc::Global;
 
@@ -34,8 +34,8 @@ fn all_tracks_are_read(alloc: Global, count: usize) -> Result<bool> {
 }
 
 #[test]
-fn a_movie_of_5000_tracks_is_read(rt: HostRuntime) {
-    check(&rt, 1, all_tracks_are_read(rt.alloc(), 5_000));
+fn a_movie_of_100000_tracks_is_read(rt: HostRuntime) {
+    check(&rt, 1, all_tracks_are_read(rt.alloc(), 100_000));
 }
 
 /// Whether a track is read of a header, media, and so many free boxes.

@@ -2,7 +2,6 @@
 //! reader.
 
 use crate::asserts::check;
-use crate::random::Random;
 use mp4_boxes::{
     EdtsBox, IlstBox, IlstItemBox, MdiaBox, MetaBox, MetadataKey, MinfBox, MoofBox, MoovBox,
     MvexBox, StblBox, TrafBox, TrakBox, UdtaBox,
@@ -17,6 +16,7 @@ use mp4_leaf::{
 use mp4_table::{
     Co64Box, CttsBox, CttsEntry, StcoBox, StscBox, StscEntry, StssBox, StszBox, SttsBox, SttsEntry,
 };
+use mp4_test_parts::random::Random;
 use mp4_test_parts::spelled::{read_bytes, written};
 use std::alloc::Global;
 
@@ -468,8 +468,8 @@ fn three_hundred_movies_are_kept(rt: HostRuntime) {
 }
 
 #[test]
-fn ten_movies_are_read_cut_and_with_other_sizes(rt: HostRuntime) {
-    for seed in 0..10 {
+fn three_hundred_movies_are_read_cut_and_with_other_sizes(rt: HostRuntime) {
+    for seed in 0..300 {
         check(&rt, seed, a_movie_survives(rt.alloc(), seed));
     }
 }
@@ -482,8 +482,8 @@ fn three_hundred_fragments_are_kept(rt: HostRuntime) {
 }
 
 #[test]
-fn two_hundred_fragments_are_read_cut_and_with_other_sizes(rt: HostRuntime) {
-    for seed in 0..200 {
+fn three_hundred_fragments_are_read_cut_and_with_other_sizes(rt: HostRuntime) {
+    for seed in 0..300 {
         check(&rt, seed, a_fragment_survives(rt.alloc(), seed));
     }
 }

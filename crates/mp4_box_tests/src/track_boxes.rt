@@ -1,14 +1,14 @@
 //! The movie with its tracks: moov and trak.
 
 use crate::asserts::{check, same};
-use crate::nested::{
-    CO64, DINF, HDLR, MDHD, MVHD, STCO, STSC, STSD, STSS, STSZ, STTS, TKHD, media_of, nest,
-    track_of,
-};
 use mp4_boxes::{MetaBox, MoovBox, MvexBox, TrakBox, UdtaBox};
 use mp4_codec::{BoxType, Items, ReadBox, Result, TryClone, WriteBox};
 use mp4_frag::TrexBox;
 use mp4_leaf::MvhdBox;
+use mp4_test_parts::nested::{
+    CO64, DINF, HDLR, MDHD, MVHD, STCO, STSC, STSD, STSS, STSZ, STTS, TKHD, media_of, nest,
+    track_of,
+};
 use mp4_test_parts::spelled::{is_spelled, is_unreadable, lacks, read};
 use std::alloc::Global;
 
