@@ -1,4 +1,4 @@
--- What a search in sums, first samples or sync numbers tells of the tables.
+-- What a search in sums, first samples or sync numbers says of the tables.
 use Rattle.std.proofs.Common.{◌≡◌, ℕ, zero, suc, ◌+◌, ◌-◌, ◌^◌, ◌<◌, ◌≤◌, false, List}
 use Rattle.std.proofs.Common.{length, get_or, take, map, sum, Some, None, sym, ap, ◌∙◌, arith, add-one}
 use Rattle.std.proofs.Common.{⊎_elim}

@@ -458,7 +458,7 @@ fn sample_of(alloc: Global, bytes: &[u8]) -> Result<Mp4Sample> {
     })
 }
 
-/// Whether samples of as many bytes are told apart by the bytes.
+/// Whether samples of as many bytes differ where their bytes do.
 fn bytes_are_compared(alloc: Global) -> Result<bool> {
     let sample = sample_of(alloc, b"ab")?;
     let same = sample_of(alloc, b"ab")?;
