@@ -24,10 +24,12 @@ use Rattle.mp4_boxes.specs.declared.moov.MoovBox.{MoovBox}
 use Rattle.mp4_boxes.specs.Moov.{moov_of, moov_payload, moov_refusal, IsCanonicalMoov}
 use Rattle.mp4_boxes.specs.MoovLaws.{moov_again}
 use Rattle.mp4_mux.specs.Mdat.{mdat_header_of}
-use Rattle.mp4_mux.specs.Writing.{WriterState, file_type_of, movie_with, movie_of, with_file_type, with_end, whole_of}
-use Rattle.mp4_mux.specs.WritingLaws.{movie-canonical, file_type-canonical}
-use Rattle.mp4_mux.specs.Parts.{Parts, state_of, IsWriting, parts_at_end, bytes_at_end}
-use Rattle.mp4_mux.specs.PartsLaws.{state_at_end, writing_at_end}
+use Rattle.mp4_mux.specs.Config.{IsInRangeConfig}
+use Rattle.mp4_mux.specs.MdatLaws.{length-mdat_header_of}
+use Rattle.mp4_mux.specs.Writing.{WriterState, file_type_of, movie_of, movie_bytes, data_of, with_file_type, whole_of, start_cause}
+use Rattle.mp4_mux.specs.StartLaws.{file_type-canonical}
+use Rattle.mp4_mux.specs.Parts.{Parts, state_of, IsWriting}
+use Rattle.mp4_mux.specs.PartsLaws.{state-ended, state-config}
 use Rattle.mp4_media.specs.declared.opening.FileBox.{FileBox}
 use Rattle.mp4_media.specs.declared.opening.BoxContent.{BoxContent}
 use Rattle.mp4_media.specs.declared.opening.BoxContent.TheVariants.{Ftyp, Moov, Skipped}
@@ -215,41 +217,34 @@ module _ (f : FtypBox) (m : MoovBox) (box : List ℕ) (canonical : IsCanonicalFt
       }
 
 -- the bytes of a writer that ended, behind nothing, are a file
-pub opens : (p : Parts) → IsWriting p → p.ended ≡ true → length p.buffer < 2 ^ 64 → Opens (state_of p)
-unfolding whole_of with_file_type
-opens p h over fits nothing =
+pub opens : (p : Parts) → IsWriting p → p.ended ≡ true → IsCanonicalMoov (movie_of (state_of p))
+    → length p.media.buffer < 2 ^ 64 → Opens (state_of p)
+unfolding whole_of with_file_type movie_bytes
+opens p h over canonical fits nothing =
     let st : WriterState = state_of p in
-    let media : IsMdat (mdat_header_of 16 ++ []) = mdat_header_of-data [] (omega arith) in
-    let file_type : List ℕ = frame ftyp (ftyp_payload (file_type_of p.config)) in
+    let held : List ℕ = data_of st in
+    let ended : st.ended ≡ true = state-ended p ∙ over in
+    let file_type : List ℕ = frame ftyp (ftyp_payload (file_type_of st.config)) in
     let movie : List ℕ = frame moov (moov_payload (movie_of st)) in
-    let bytes : List ℕ = (file_type ++ (mdat_header_of 16 ++ [])) ++ movie in
+    let header : List ℕ = mdat_header_of (16 + length held) in
+    let bytes : List ℕ = (file_type ++ (header ++ held)) ++ movie in
     let is : whole_of st ≡ bytes =
-    rw over (ap (λ (xs : List ℕ). ((xs ++ file_type) ++ (mdat_header_of 16 ++ [])) ++ movie) nothing) in
+    rw ended (ap (λ (xs : List ℕ). ((xs ++ file_type) ++ (header ++ held)) ++ movie) nothing) in
     let few : length bytes < 2 ^ 64 = rw (← is, ← h.whole) fits in
+    let room : 16 + length held < 2 ^ 64 =
+    omega (
+      arith,
+      few,
+      length-append (file_type ++ (header ++ held)) movie,
+      length-append file_type (header ++ held),
+      length-append header held,
+      length-mdat_header_of (16 + length held),
+    ) in
+    let media : IsMdat (header ++ held) = mdat_header_of-data held room in
+    let config : st.config ≡ p.config = state-config p in
     let opened =
-    finished-file (file_type_of p.config) (movie_of st) (mdat_header_of 16 ++ [])
-    (file_type-canonical p.config h.in_range h.begun)
-    (movie-canonical p.config.timescale h.in_range.timescale) media few in
+    finished-file (file_type_of st.config) (movie_of st) (header ++ held)
+    (file_type-canonical st.config (subst IsInRangeConfig (sym config) h.in_range) (ap start_cause config ∙ h.begun))
+    canonical media few in
     subst (λ (xs : List ℕ). IsFile (length xs) (here xs 0)
-    (record { ftyp = file_type_of p.config; moov = movie_of st; size = length xs })) (sym is) opened
-
--- a writer whose end was written, from what it kept before, the bytes after, and the movie behind them
-module _ (p : Parts) (h : IsWriting p) (goes_on : p.ended ≡ false) (movie : MoovBox)
-    (is_movie : movie ≡ movie_with p.config.timescale)
-    (new : List ℕ) (is : new ≡ bytes_at_end p.mdat movie p.buffer) where
-  abbrev after : Parts
-  after = record p { buffer = new; ended = true }
-
-  after_is : after ≡ parts_at_end p
-  after_is =
-      ap (λ (xs : List ℕ). record p { buffer = xs; ended = true })
-      (is ∙ ap (λ (m : MoovBox). bytes_at_end p.mdat m p.buffer) is_movie)
-
-  pub end-writing : IsWriting after
-  end-writing = subst IsWriting (sym after_is) (writing_at_end p h goes_on)
-
-  pub end-state : state_of after ≡ with_end (state_of p)
-  end-state = ap state_of after_is ∙ state_at_end p h goes_on
-
-  pub end-opens : length new < 2 ^ 64 → Opens (state_of after)
-  end-opens fits = opens after end-writing refl fits
+    (record { ftyp = file_type_of st.config; moov = movie_of st; size = length xs })) (sym is) opened

@@ -4,7 +4,14 @@ use Rattle.mp4_mux.specs.Parts.{Parts, state_of, IsWriting}
 use Rattle.mp4_media.specs.declared.writer.Mp4Writer.TheInside.{Inside}
 
 abbrev pub parts_of : Inside → Parts
-parts_of w = record { front = w.front; mdat = w.mdat; config = w.config; buffer = w.buffer.items; ended = w.ended }
+parts_of w =
+    record {
+      front = w.front;
+      mdat = w.mdat;
+      config = w.config;
+      media = record { buffer = w.buffer.items; tracks = w.tracks.items; written = w.written.items };
+      ended = w.ended;
+    }
 
 abbrev pub writer_state : Inside → WriterState
 writer_state w = state_of (parts_of w)

@@ -42,7 +42,7 @@ pub use mp4_boxes::{
     MoovBox, MvexBox, StblBox, TrafBox, TrakBox, UdtaBox, equal_keys_hash_alike,
     read_tables_have_first_samples,
 };
-pub use mp4_lookup::time_of;
-pub use mp4_mux::{Mp4Config, mdat_header};
+pub use mp4_lookup::{Mp4Sample, time_of};
+pub use mp4_mux::{Mp4Config, TrackConfig, mdat_header};
 pub use reader::{Mp4Reader, read_mp4};
 pub use writer::Mp4Writer;

@@ -1,13 +1,17 @@
 //! Movies that are written.
 
-ghost use Rattle.std.specs.Prelude.{◌≡◌, OnOk, OnErr, IfOk};
-ghost use Rattle.mp4_codec.specs.Cause.{AnswersCause};
-ghost use Rattle.mp4_mux.specs.Writing.{started, with_end, start_cause, end_cause, whole_of, WriterState};
+ghost use Rattle.std.specs.Prelude.{◌≡◌, None, OnOk, OnErr, IfOk};
+ghost use Rattle.mp4_codec.specs.Cause.{AnswersCause, Checks};
+ghost use Rattle.mp4_mux.specs.Writing.{sample_of, started, with_track, with_sample, with_end, start_cause, track_cause, sample_cause, end_cause, whole_of, WriterState};
 ghost use Rattle.mp4_media.specs.Finished.{Opens};
 ghost use Rattle.mp4_media.specs.WriterFields.{writer_state, IsWriter};
 
-use mp4_codec::{Error, InRange, Result, TryClone};
-use mp4_mux::{Mp4Config, begin, check_file_type, check_movie, finish, movie_box};
+use mp4_codec::{Error, InRange, Limit, Result, TryClone};
+use mp4_lookup::Mp4Sample;
+use mp4_mux::{
+    ChunkRef, Mp4Config, TrackConfig, TrackWriter, add_sample, begin, check_file_type, check_movie,
+    finish, pending_bytes, put_movie,
+};
 use std::alloc::Global;
 use std::marker::Model;
 
@@ -23,6 +27,9 @@ pub struct Mp4Writer {
     mdat: usize,
     config: Mp4Config,
     buffer: Vec<u8>,
+    tracks: Vec<TrackWriter>,
+    /// All chunks, in the order in which they were written.
+    written: Vec<ChunkRef>,
     ended: bool,
 }
 
@@ -39,7 +46,7 @@ impl Mp4Writer {
     /// and 8.1.1).
     ///
     /// `TooLarge(BoxSize)` where the file type passes 2^32 - 1 bytes. After a refusal the buffer is gone.
-    pub fn write_start(_alloc: Global, writer: Vec<u8>, config: &Mp4Config) -> Result<Self>
+    pub fn write_start(alloc: Global, writer: Vec<u8>, config: &Mp4Config) -> Result<Self>
         ensures cause { AnswersCause (start_cause config.now) result }
         ensures ok { IfOk result (λ w. w ≡ started writer.items config.now) }
     {
@@ -54,12 +61,109 @@ impl Mp4Writer {
             mdat,
             config,
             buffer,
+            tracks: Vec::new(alloc),
+            written: Vec::new(alloc),
             ended: false,
         })
     }
 
-    /// Ends the movie: the header of mdat says how many bytes it has, and the movie box follows (ISO/IEC 14496-12,
-    /// 8.1.1 and 8.2.1).
+    /// Whether a track can be added.
+    fn check_track(&self, config: &TrackConfig) -> Result<()>
+        ensures { Checks result (track_cause self.now config.now) }
+    {
+        if self.ended {
+            return Err(Error::Ended);
+        }
+        config.check()?;
+        if self.tracks.len() >= u32::MAX as usize {
+            return Err(Error::TooLarge(Limit::TrackCount));
+        }
+        Ok(())
+    }
+
+    /// Adds a track without samples (ISO/IEC 14496-12, 8.3.1). The first has id 1, and each next one the id after
+    /// the one before.
+    ///
+    /// `Ended` after an end that was Ok; then what `TrackConfig::check` refuses: `ZeroTimescale`, `Unrepresentable`;
+    /// then `TooLarge(TrackCount)` where there are 2^32 - 1 tracks.
+    pub fn add_track(&mut self, config: &TrackConfig) -> Result<()>
+        ensures cause { AnswersCause (track_cause self.old config.now) result }
+        ensures ok { OnOk result (self.new ≡ with_track self.old config.now) }
+        ensures err { OnErr result (self.new ≡ self.old) }
+    {
+        self.check_track(config)?;
+        config.in_range();
+        let config = config.try_clone()?;
+        let alloc = *self.buffer.allocator();
+        let track = TrackWriter::new(alloc, self.config.timescale, config);
+        self.tracks.push(track)?;
+        Ok(())
+    }
+
+    /// Whether a sample can be written.
+    fn check_sample(&self, id: u32, sample: &Mp4Sample) -> Result<()>
+        ensures { Checks result (sample_cause self.now id (sample_of sample.now)) }
+    {
+        if self.ended {
+            return Err(Error::Ended);
+        }
+        if id == 0 || id as usize > self.tracks.len() {
+            return Err(Error::TrakNotFound(id));
+        }
+        self.tracks[id as usize - 1].check_sample(sample)
+    }
+
+    /// Writes a sample of a track behind those that were written of it; its `start_time` isn't looked at, since it
+    /// follows from the durations (ISO/IEC 14496-12, 8.6.1.2).
+    ///
+    /// Samples wait until they last a second at least and have a byte; then they are added to the data as a chunk
+    /// (8.7.4).
+    ///
+    /// `Ended` after an end that was Ok; then `TrakNotFound(id)` for an id that no track has; then
+    /// `TooLarge(SampleBytes)` past 2^32 - 1 bytes, `TooLarge(SampleCount)` where the track has 2^32 - 1 samples, and
+    /// `TooLarge(TrackDuration)` where its durations, each converted to ticks of the movie and rounded down, have a sum
+    /// past 64 bits.
+    pub fn write_sample(&mut self, id: u32, sample: &Mp4Sample) -> Result<()>
+        ensures cause { AnswersCause (sample_cause self.old id (sample_of sample.now)) result }
+        ensures ok { OnOk result (self.new ≡ with_sample self.old id (sample_of sample.now)) }
+        ensures err { OnErr result (self.new ≡ self.old) }
+    {
+        self.check_sample(id, sample)?;
+        sample.duration.in_range();
+        sample.rendering_offset.in_range();
+        let track = id - 1;
+        add_sample(&mut self.buffer, &mut self.tracks, &mut self.written, track, sample)?;
+        Ok(())
+    }
+
+    /// Whether the end can be written.
+    fn check_end(&self) -> Result<()>
+        ensures { Checks result (end_cause self.now) }
+    {
+        if self.ended {
+            return Err(Error::Ended);
+        }
+        check_movie(self.config.timescale, &self.tracks, self.buffer.len() as u64)
+    }
+
+    /// Ends the movie, for `write_end`.
+    fn end(&mut self) -> Result<()>
+        ensures cause { AnswersCause (end_cause self.old) result }
+        ensures ok { OnOk result (self.new ≡ with_end self.old) }
+        ensures err { OnErr result (self.new ≡ self.old) }
+    {
+        self.check_end()?;
+        let end = self.buffer.len();
+        let mut tail = pending_bytes(*self.buffer.allocator(), &self.tracks)?;
+        let size = (end - self.mdat) as u64 + tail.len() as u64;
+        put_movie(&mut tail, self.config.timescale, &self.tracks, end as u64)?;
+        finish(&mut self.buffer, self.mdat, size, &tail)?;
+        self.ended = true;
+        Ok(())
+    }
+
+    /// Ends the movie: what waits of each track is added to the data as its last chunk, in the order of the tracks; the
+    /// header of mdat says how many bytes it has; and the movie box follows (ISO/IEC 14496-12, 8.1.1 and 8.2.1).
     ///
     /// `Ended` after an end that was Ok, then `TooLarge(BoxSize)` where the movie box passes 2^32 - 1 bytes.
     pub fn write_end(&mut self) -> Result<()>
@@ -68,14 +172,9 @@ impl Mp4Writer {
         ensures err { OnErr result (self.new ≡ self.old) }
         ensures opens { OnOk result (Opens self.new) }
     {
-        if self.ended {
-            return Err(Error::Ended);
-        }
-        let alloc = *self.buffer.allocator();
-        check_movie(alloc, self.config.timescale)?;
-        let movie = movie_box(alloc, self.config.timescale);
-        finish(&mut self.buffer, self.mdat, &movie)?;
-        self.ended = true;
+        let _ = &self.ended;
+        self.end()?;
+        let _ = &self.ended;
         Ok(())
     }
 

@@ -1,67 +1,139 @@
-//! The end of a movie: its movie box behind the data, and the header of the data, which says how many bytes it has.
+//! The end of a movie: what is pending of its tracks, its movie box behind the data, and the header of the data, which
+//! says how many bytes they have.
 
-ghost use Rattle.std.specs.Prelude.{◌≡◌, ◌≤◌, ◌+◌, None, length, OnOk, OnErr, IfErr};
-ghost use Rattle.mp4_codec.specs.Cause.{Checks};
+ghost use Rattle.std.specs.Prelude.{◌≡◌, ◌+◌, ◌^◌, ◌<◌, ◌≤◌, ◌++◌, Ok, None, length, map, fold, max, take, drop, OnOk, OnErr, IfOk, IfErr};
+ghost use Rattle.std.specs.List.{All};
+ghost use Rattle.mp4_codec.specs.Cause.{Answers, Checks};
 ghost use Rattle.mp4_codec.specs.Boxes.{size_around, size_cause, write_cause};
 ghost use Rattle.mp4_boxes.specs.Moov.{moov_payload, moov_refusal};
-ghost use Rattle.mp4_mux.specs.Writing.{movie_with};
-ghost use Rattle.mp4_mux.specs.Parts.{bytes_at_end};
+ghost use Rattle.mp4_mux.specs.Mdat.{mdat_header_of};
+ghost use Rattle.mp4_mux.specs.TrackHeaders.{movie_duration};
+ghost use Rattle.mp4_mux.specs.FinishedTrack.{trak_for, movie_for};
+ghost use Rattle.mp4_mux.specs.Writing.{movie_bytes};
+ghost use Rattle.mp4_mux.specs.Parts.{unwritten, finished_buildings};
 
 use crate::mdat::{MDAT_HEADER_SIZE, mdat_header};
-use mp4_boxes::MoovBox;
+use crate::track_headers::{mvhd_box, mvhd_size};
+use crate::track_writer::TrackWriter;
+use mp4_boxes::{MoovBox, TrakBox};
 use mp4_codec::{Error, Items, Limit, Result, WriteBox};
-use mp4_leaf::MvhdBox;
-use std::alloc::Global;
+use std::alloc::{AllocError, Global};
 
-/// The movie box of a movie of this timescale, in ticks a second, without tracks (ISO/IEC 14496-12, 8.2.1). It requests
-/// no memory.
-pub fn movie_box(alloc: Global, timescale: u32) -> MoovBox
-    ensures { result ≡ movie_with timescale }
+/// How long the longest of the tracks is, in ticks of the movie; 0 where there is none.
+fn longest(tracks: &[TrackWriter]) -> u64
+    ensures { result ≡ fold max 0 (map (λ b. movie_duration b.movie_timescale b.config.timescale b.samples) tracks.now) }
 {
-    MoovBox {
-        mvhd: MvhdBox {
-            timescale,
-            ..MvhdBox::default()
-        },
-        traks: Items::new(alloc),
-        mvex: None,
-        meta: None,
-        udta: None,
+    let mut longest: u64 = 0;
+    for i in 0..tracks.len() {
+        longest = longest.max(tracks[i].movie_duration());
     }
+    longest
 }
 
-/// How many bytes that box has, its header included; it stops at 2^64 - 1. It requests no memory.
-pub fn movie_size(alloc: Global, timescale: u32) -> u64
-    ensures { result ≡ size_around (moov_payload (movie_with timescale)) }
+/// How many bytes the movie box has, its header included, where what is pending of the tracks stands in chunks, the
+/// first of which begins there; it stops at 2^64 - 1. The timescale is in ticks a second. It requests no memory.
+pub fn movie_size(timescale: u32, tracks: &[TrackWriter], end: u64) -> u64
+    requires few { length tracks.now < 2 ^ 32 }
+    requires clocks { All (λ b. b.movie_timescale ≡ timescale) tracks.now }
+    ensures { result ≡ size_around (moov_payload (movie_for timescale (finished_buildings 1 end tracks.now))) }
 {
-    movie_box(alloc, timescale).get_size()
+    let mut size = 8 + mvhd_size(longest(tracks));
+    let mut place = end;
+    for i in 0..tracks.len() {
+        let track = &tracks[i];
+        size = size.saturating_add(track.finished_size(i as u32 + 1, place));
+        place = place.saturating_add(track.pending_bytes().len() as u64);
+    }
+    size
 }
 
 /// Whether that box can be written: `TooLarge(BoxSize)` where it passes 2^32 - 1 bytes (ISO/IEC 14496-12, 4.2). It
 /// requests no memory.
-pub fn check_movie(alloc: Global, timescale: u32) -> Result<()>
-    ensures { Checks result (size_cause (moov_payload (movie_with timescale))) }
+pub fn check_movie(timescale: u32, tracks: &[TrackWriter], end: u64) -> Result<()>
+    requires few { length tracks.now < 2 ^ 32 }
+    requires clocks { All (λ b. b.movie_timescale ≡ timescale) tracks.now }
+    ensures { Checks result (size_cause (moov_payload (movie_for timescale (finished_buildings 1 end tracks.now)))) }
 {
-    if movie_size(alloc, timescale) > u32::MAX as u64 {
+    if movie_size(timescale, tracks, end) > u32::MAX as u64 {
         return Err(Error::TooLarge(Limit::BoxSize));
     }
     Ok(())
 }
 
-/// Writes the header of mdat over the 16 bytes at its place, for all bytes from there to the end of the buffer,
-/// and adds the movie box behind them (ISO/IEC 14496-12, 8.1.1 and 8.2.1). The place is in bytes from the start of the
-/// buffer.
-///
-/// Refused by `OutOfMemory` alone, which leaves the buffer as it was.
-pub fn finish(buffer: &mut Vec<u8>, mdat: usize, movie: &MoovBox) -> Result<()>
-    requires room { mdat + 16 ≤ length buffer.old.items }
-    requires written { write_cause (moov_payload movie.now) (moov_refusal movie.now) ≡ None }
-    ensures ok { OnOk result (buffer.new.items ≡ bytes_at_end mdat movie.now buffer.old.items) }
-    ensures err { OnErr result (buffer.new.items ≡ buffer.old.items) }
+/// The bytes of what is pending, track after track.
+pub fn pending_bytes(alloc: Global, tracks: &[TrackWriter]) -> std::result::Result<Vec<u8>, AllocError>
+    ensures { IfOk result (λ bytes. bytes.items ≡ unwritten tracks.now) }
+{
+    let mut bytes = Vec::new(alloc);
+    for i in 0..tracks.len() {
+        bytes.extend_from_slice(tracks[i].pending_bytes())?;
+    }
+    Ok(bytes)
+}
+
+/// The boxes of the tracks, where what is pending of them stands in chunks, the first of which begins there. Refused by
+/// `OutOfMemory` alone.
+fn trak_boxes(alloc: Global, timescale: u32, tracks: &[TrackWriter], end: u64) -> Result<Vec<TrakBox>>
+    requires few { length tracks.now < 2 ^ 32 }
+    requires clocks { All (λ b. b.movie_timescale ≡ timescale) tracks.now }
+    requires room { end + length (unwritten tracks.now) < 2 ^ 64 }
+    ensures { Answers (λ boxes. boxes.items) result (Ok (map (trak_for timescale) (finished_buildings 1 end tracks.now))) }
+{
+    let mut boxes = Vec::with_capacity(alloc, tracks.len())?;
+    let mut place = end;
+    for i in 0..tracks.len() {
+        let track = &tracks[i];
+        boxes.push(track.finished_box(alloc, i as u32 + 1, place)?)?;
+        place += track.pending_bytes().len() as u64;
+    }
+    Ok(boxes)
+}
+
+/// The movie box of the tracks (ISO/IEC 14496-12, 8.2.1), where what is pending of them stands in chunks, the first of
+/// which begins there. Refused by `OutOfMemory` alone.
+#[tactic(auto, unfolding(crate::specs::FinishedTrack::movie_for))]
+fn movie_box(alloc: Global, timescale: u32, tracks: &[TrackWriter], end: u64) -> Result<MoovBox>
+    requires few { length tracks.now < 2 ^ 32 }
+    requires clocks { All (λ b. b.movie_timescale ≡ timescale) tracks.now }
+    requires room { end + length (unwritten tracks.now) < 2 ^ 64 }
+    ensures { Answers (λ movie. movie) result (Ok (movie_for timescale (finished_buildings 1 end tracks.now))) }
+{
+    let traks = trak_boxes(alloc, timescale, tracks, end)?;
+    Ok(MoovBox {
+        mvhd: mvhd_box(timescale, longest(tracks)),
+        traks: Items::from(traks),
+        mvex: None,
+        meta: None,
+        udta: None,
+    })
+}
+
+/// Adds the movie box at the end of a buffer. Refused by `OutOfMemory` alone; the buffer may then hold a part of it.
+#[tactic(auto, unfolding(crate::specs::Writing::movie_bytes))]
+pub fn put_movie(out: &mut Vec<u8>, timescale: u32, tracks: &[TrackWriter], end: u64) -> Result<()>
+    requires few { length tracks.now < 2 ^ 32 }
+    requires clocks { All (λ b. b.movie_timescale ≡ timescale) tracks.now }
+    requires room { end + length (unwritten tracks.now) < 2 ^ 64 }
+    requires written { write_cause (moov_payload (movie_for timescale (finished_buildings 1 end tracks.now))) (moov_refusal (movie_for timescale (finished_buildings 1 end tracks.now))) ≡ None }
+    ensures bytes { OnOk result (out.new.items ≡ out.old.items ++ movie_bytes timescale (finished_buildings 1 end tracks.now)) }
     ensures memory { IfErr result (λ e. e ≡ Error.OutOfMemory) }
 {
-    let header = mdat_header((buffer.len() - mdat) as u64);
-    movie.write_box(buffer)?;
+    let movie = movie_box(*out.allocator(), timescale, tracks, end)?;
+    movie.write_box(out)?;
+    Ok(())
+}
+
+/// Adds these bytes at the end of a buffer, and then writes the header of an mdat of this size over the 16 bytes at its
+/// place, which is in bytes from the start of the buffer (ISO/IEC 14496-12, 8.1.1).
+///
+/// An `Err` leaves the buffer as it was.
+pub fn finish(buffer: &mut Vec<u8>, mdat: usize, size: u64, tail: &[u8]) -> std::result::Result<(), AllocError>
+    requires { mdat + 16 ≤ length buffer.old.items }
+    ensures ok { OnOk result (buffer.new.items ≡ (take mdat buffer.old.items ++ (mdat_header_of size ++ drop (mdat + 16) buffer.old.items)) ++ tail.now) }
+    ensures err { OnErr result (buffer.new.items ≡ buffer.old.items) }
+{
+    let header = mdat_header(size);
+    buffer.extend_from_slice(tail)?;
     let bytes = buffer.as_mut_slice();
     bytes[mdat..mdat + MDAT_HEADER_SIZE].copy_from_slice(&header);
     Ok(())

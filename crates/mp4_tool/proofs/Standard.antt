@@ -8,7 +8,7 @@ use Rattle.mp4_codec.specs.Cause.{Cause, cause_of, Answers, AnswersCause}
 use Rattle.mp4_mux.specs.declared.config.Mp4Config.{Mp4Config}
 use Rattle.mp4_media.specs.Finished.{Opens}
 use Rattle.mp4_mux.specs.Writing.{WriterState, started, with_end, whole_of, start_cause, end_cause}
-use Rattle.mp4_mux.specs.WritingLaws.{start_cause-few}
+use Rattle.mp4_mux.specs.StartLaws.{start_cause-few}
 use Rattle.mp4_tool.specs.declared.script.ScriptFault.{ScriptFault}
 use Rattle.mp4_tool.specs.declared.script.ScriptFault.TheVariants.{End}
 use Rattle.mp4_tool.specs.Lines.{lines_of}

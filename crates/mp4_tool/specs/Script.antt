@@ -6,7 +6,7 @@ use Rattle.mp4_mux.specs.declared.config.Mp4Config.{Mp4Config}
 use Rattle.mp4_codec.specs.Cursor.{here}
 use Rattle.mp4_media.specs.FileBoxes.{OpenedFile}
 use Rattle.mp4_media.specs.FileGrammar.{IsFile}
-use Rattle.mp4_mux.specs.Writing.{WriterState, started, with_end, end_cause, whole_of, file_type_of, movie_with}
+use Rattle.mp4_mux.specs.Writing.{WriterState, started, with_end, end_cause, whole_of, file_type_of, movie_of}
 use Rattle.mp4_tool.specs.Lines.{lines_of}
 use Rattle.mp4_tool.specs.declared.script.ScriptFault.{ScriptFault}
 use Rattle.mp4_tool.specs.declared.script.ScriptFault.TheVariants.{NotACommand, Refused, End}
@@ -103,7 +103,7 @@ AnswersScript ran_out view (Err fault) answer = ran_out fault ⊎ (answer ≡ Er
 abbrev pub opened_script : ℕ → OpenedFile
 opened_script size = record {
   ftyp = file_type_of standard_config;
-  moov = movie_with standard_config.timescale;
+  moov = movie_of (with_end standard_writer);
   size = size;
 }
 

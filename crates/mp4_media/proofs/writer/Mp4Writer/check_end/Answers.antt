@@ -1,0 +1,32 @@
+use Rattle.std.proofs.Common.{◌≡◌, length, arith}
+use Rattle.mp4_mux.specs.StateLaws.{end_cause-ended}
+use Rattle.mp4_mux.specs.Parts.{state_of}
+use Rattle.mp4_mux.specs.PartsLaws.{state-ended, state-open}
+use Rattle.mp4_mux.specs.EndLaws.{end_cause-kept, few-kept, clocks-kept}
+use Rattle.mp4_media.specs.WriterFields.{parts_of}
+use Rattle.mp4_media.proofs.writer.Mp4Writer.check_end.Goals as goal
+
+pub returns-then-self : goal.returns-then-self
+returns-then-self c =
+    let p = parts_of c.self.inside in
+    rw (← c.self.view_is) (end_cause-ended (state_of p) (rw (state-ended p) c.if-self.true))
+
+pub check_movie-requires-clause-few : goal.check_movie-requires-clause-few
+check_movie-requires-clause-few c =
+    rw c.deref.ensures.value (few-kept (parts_of c.self.inside) c.self.invariant c.if-self.false)
+
+pub check_movie-requires-clause-clocks : goal.check_movie-requires-clause-clocks
+check_movie-requires-clause-clocks c =
+    rw c.deref.ensures.value (clocks-kept (parts_of c.self.inside) c.self.invariant c.if-self.false)
+
+pub returns : goal.returns
+returns c =
+    let p = parts_of c.self.inside in
+    let end : c.len.result ≡ length c.self.inside.buffer.items = omega (arith, c.self.inside.buffer.ok.0) in
+    rw (
+      ← c.self.view_is,
+      state-open p c.if-self.false,
+      end_cause-kept p c.self.invariant c.if-self.false,
+      ← end,
+      ← c.deref.ensures.value,
+    ) c.check_movie.ensures

@@ -1,0 +1,39 @@
+use Rattle.std.proofs.Common.{arith, ap}
+use Rattle.mp4_mux.specs.declared.sample_info.SampleInfo.{SampleInfo}
+use Rattle.mp4_mux.specs.Writing.{sample_of}
+use Rattle.mp4_mux.specs.TrackFields.{fields_of}
+use Rattle.mp4_mux.proofs.TrackLemmas.{pending_room, media_room, is_track-push, view-push}
+use Rattle.mp4_mux.proofs.track_writer.TrackWriter.push.Goals as goal
+
+pub overflow_add-self : goal.overflow_add-self
+overflow_add-self c =
+    omega (
+      arith,
+      pending_room (fields_of c.self.inside) c.self.invariant c.info_of-info.result c.in_range.ensures
+      (rw (← c.self.view_is) at c.requires.count),
+    )
+
+pub overflow_add-self-2 : goal.overflow_add-self-2
+overflow_add-self-2 c =
+    omega (
+      arith,
+      media_room (fields_of c.self.inside) c.self.invariant c.info_of-info.result c.in_range.ensures
+      (rw (← c.self.view_is) at c.requires.count),
+    )
+
+pub invariant_of-self-2 : goal.invariant_of-self-2
+invariant_of-self-2 c =
+    let i = c.info_of-info.result in
+    let room = rw (← c.self.view_is) at c.requires.room in
+    let lasts = ap (λ (j : SampleInfo). j.duration) c.info_of-info.ensures in
+    rw (c.in_ok-push.ensures.items, c.in_default.ensures.items, c.as_slice.ensures)
+    (is_track-push (fields_of c.self.inside) c.self.invariant i c.in_range.ensures
+    (rw (← c.self.view_is) at c.requires.count) c.args.sample.now.bytes c.movie_ticks-movie.result
+    (ap (λ (j : SampleInfo). j.size) c.info_of-info.ensures) c.movie_ticks-movie.ensures
+    (rw (c.movie_ticks-movie.ensures, lasts) room))
+
+pub returns-clause-ok : goal.returns-clause-ok
+returns-clause-ok c =
+    rw (← c.self.view_is, c.in_ok-push.ensures.items, c.in_default.ensures.items, c.as_slice.ensures)
+    (view-push (fields_of c.self.inside) c.self.invariant c.info_of-info.result (sample_of c.args.sample.now)
+    c.movie_ticks-movie.result c.info_of-info.ensures)

@@ -1,0 +1,139 @@
+-- The box of a fine track has its numbers within their types and the remarks of its layout, and is not refused.
+use Rattle.std.proofs.Common.{◌≡◌, ℕ, ◌-◌, ◌^◌, ◌≤◌, ◌<◌, List, length}
+use Rattle.std.proofs.Common.{None, arith, lit<}
+use Rattle.std.specs.List.{All, sum}
+use Rattle.std.proofs.lemmas.List.Elements.{All-map}
+use Rattle.std.proofs.lemmas.List.Sums.{sum_by-le, sum-map}
+use Rattle.mp4_leaf.specs.Dinf.{IsInRangeDinf, RemarksDinf, default_dinf}
+use Rattle.mp4_boxes.specs.Trak.{trak_refusal, IsInRangeTrak, RemarksTrak}
+use Rattle.mp4_boxes.specs.Mdia.{mdia_refusal, IsInRangeMdia, RemarksMdia}
+use Rattle.mp4_boxes.specs.Minf.{minf_refusal, IsInRangeMinf, RemarksMinf}
+use Rattle.mp4_boxes.specs.Stbl.{stbl_refusal, IsInRangeStbl, RemarksStbl}
+use Rattle.mp4_mux.specs.SampleInfos.{IsInRangeSampleInfo}
+use Rattle.mp4_mux.specs.declared.sample_info.SampleInfo.{SampleInfo}
+use Rattle.mp4_mux.specs.ConfigLaws.{is_accepted}
+use Rattle.mp4_mux.specs.SizeTableLaws.{stsz_for-is_not_refused}
+use Rattle.mp4_mux.specs.TableRangeLaws.{IsInRangeStts-stts_for, IsInRangeCtts-ctts_for}
+use Rattle.mp4_mux.specs.TableRangeLaws.{IsInRangeStss-stss_for, IsInRangeStsz-stsz_for, IsInRangeStsc-stsc_for}
+use Rattle.mp4_mux.specs.TableRangeLaws.{IsInRangeStco-stco_for, IsInRangeCo64-co64_for, RemarksStts-stts_for}
+use Rattle.mp4_mux.specs.TableRangeLaws.{RemarksCtts-ctts_for, RemarksStss-stss_for, RemarksStsz-stsz_for}
+use Rattle.mp4_mux.specs.TableRangeLaws.{RemarksStsc-stsc_for, RemarksStco-stco_for, RemarksCo64-co64_for}
+use Rattle.mp4_mux.specs.TableRangeLaws.{HasPlaces-stco_for-co64_for}
+use Rattle.mp4_mux.specs.TrackHeaders.{FinishedTrack, PlacedChunk, media_duration}
+use Rattle.mp4_mux.specs.TrackHeaderLaws.{tkhd_for-in_range, tkhd_for-sound, mdhd_for-in_range, mdhd_for-sound}
+use Rattle.mp4_mux.specs.TrackHeaderLaws.{hdlr_for-in_range, hdlr_for-remarks, vmhd_for-in_range, vmhd_for-remarks}
+use Rattle.mp4_mux.specs.TrackHeaderLaws.{smhd_for-in_range, smhd_for-remarks}
+use Rattle.mp4_mux.specs.DescriptionLaws.{stsd_for-in_range, stsd_for-remarks, stsd_for-sound}
+use Rattle.mp4_mux.specs.FinishedTrack.{counts_of, offsets_of, stbl_for, minf_for, mdia_for, trak_with, trak_for}
+use Rattle.mp4_mux.specs.FineTracks.{IsFineTrack}
+
+-- samples of 32 bits each, and fewer than 2^32, last for less than 2^64 ticks
+pub media_duration-small : (ss : List SampleInfo) → All IsInRangeSampleInfo ss → length ss < 2 ^ 32
+    → media_duration ss < 2 ^ 64
+unfolding media_duration
+media_duration-small ss h few =
+    let each : All (λ (s : SampleInfo). s.duration ≤ 2 ^ 32 - 1) ss =
+    λ k d lt. let short = (h k d lt).duration in omega arith in
+    omega (arith, sum_by-le (λ (s : SampleInfo). s.duration) (2 ^ 32 - 1) ss each)
+
+dinf-in_range : IsInRangeDinf default_dinf
+dinf-in_range = record { dref = record { version = lit< tt; url = record { version = lit< tt } } }
+
+dinf-remarks : RemarksDinf default_dinf
+dinf-remarks = record { flags = lit< tt; url = record { flags = lit< tt; location = tt } }
+
+module _ (m : ℕ) (t : FinishedTrack) (h : IsFineTrack m t) where
+  some : All (λ n. 1 ≤ n) (counts_of t.chunks)
+  some = All-map (λ n. 1 ≤ n) (λ (c : PlacedChunk). c.count) t.chunks h.some_per_chunk
+
+  few_counted : sum (counts_of t.chunks) < 2 ^ 32
+  few_counted =
+      let few = h.few_samples in
+      let all = h.all_in_chunks in
+      omega (arith, sum-map (λ (c : PlacedChunk). c.count) t.chunks)
+
+  stbl-in_range : IsInRangeStbl (stbl_for t)
+  stbl-in_range = record {
+    stsd = stsd_for-in_range t.config.media_conf t.samples h.config.media_conf;
+    stts = IsInRangeStts-stts_for t.samples h.samples h.few_samples;
+    ctts = IsInRangeCtts-ctts_for t.samples h.samples h.few_samples;
+    stss = IsInRangeStss-stss_for t.samples h.few_samples;
+    stsc = IsInRangeStsc-stsc_for (counts_of t.chunks) some few_counted;
+    stsz = IsInRangeStsz-stsz_for t.samples h.samples h.few_samples;
+    stco = IsInRangeStco-stco_for (offsets_of t.chunks);
+    co64 =
+        IsInRangeCo64-co64_for (offsets_of t.chunks)
+        (All-map (λ o. o < 2 ^ 64) (λ (c : PlacedChunk). c.offset) t.chunks h.offsets);
+  }
+
+  stbl-remarks : RemarksStbl (stbl_for t)
+  stbl-remarks = record {
+    stsd = stsd_for-remarks t.config.media_conf t.samples;
+    stts = RemarksStts-stts_for t.samples;
+    ctts = RemarksCtts-ctts_for t.samples;
+    stss = RemarksStss-stss_for t.samples;
+    stsc = RemarksStsc-stsc_for (counts_of t.chunks) some;
+    stsz = RemarksStsz-stsz_for t.samples;
+    stco = RemarksStco-stco_for (offsets_of t.chunks);
+    co64 = RemarksCo64-co64_for (offsets_of t.chunks);
+    places = HasPlaces-stco_for-co64_for (offsets_of t.chunks);
+  }
+
+  minf-in_range : IsInRangeMinf (minf_for t)
+  minf-in_range = record {
+    vmhd = vmhd_for-in_range t.config.media_conf;
+    smhd = smhd_for-in_range t.config.media_conf;
+    dinf = dinf-in_range;
+    stbl = stbl-in_range;
+  }
+
+  minf-remarks : RemarksMinf (minf_for t)
+  minf-remarks = record {
+    vmhd = vmhd_for-remarks t.config.media_conf;
+    smhd = smhd_for-remarks t.config.media_conf;
+    dinf = dinf-remarks;
+    stbl = stbl-remarks;
+  }
+
+  mdia-in_range : IsInRangeMdia (mdia_for (media_duration t.samples) t)
+  mdia-in_range = record {
+    mdhd =
+        mdhd_for-in_range (media_duration t.samples) t.config (media_duration-small t.samples h.samples h.few_samples)
+        h.config;
+    hdlr = hdlr_for-in_range t.config.track_type;
+    minf = minf-in_range;
+  }
+
+  mdia-remarks : RemarksMdia (mdia_for (media_duration t.samples) t)
+  mdia-remarks = record { mdhd = lit< tt; hdlr = hdlr_for-remarks t.config.track_type; minf = minf-remarks }
+
+  -- its numbers are within their types
+  pub trak_for-in_range : IsInRangeTrak (trak_for m t)
+  unfolding trak_with
+  trak_for-in_range = record {
+    tkhd = tkhd_for-in_range t.id _ t.config.media_conf h.id h.duration h.config.media_conf;
+    edts = tt;
+    meta = tt;
+    mdia = mdia-in_range;
+  }
+
+  -- it has the remarks of its layout
+  pub trak_for-remarks : RemarksTrak (trak_for m t)
+  unfolding trak_with
+  trak_for-remarks = record { tkhd = lit< tt; edts = tt; meta = tt; mdia = mdia-remarks }
+
+  minf-sound : minf_refusal (minf_for t) ≡ None
+  unfolding minf_refusal stbl_refusal
+  minf-sound =
+      rw (stsd_for-sound t.config.media_conf t.samples (is_accepted t.config h.accepted).media)
+      (stsz_for-is_not_refused t.samples)
+
+  mdia-sound : mdia_refusal (mdia_for (media_duration t.samples) t) ≡ None
+  unfolding mdia_refusal
+  mdia-sound =
+      rw (mdhd_for-sound (media_duration t.samples) t.config (is_accepted t.config h.accepted).language) minf-sound
+
+  -- and it is not refused
+  pub trak_for-sound : trak_refusal (trak_for m t) ≡ None
+  unfolding trak_refusal trak_with
+  trak_for-sound = rw (tkhd_for-sound t.id _ t.config.media_conf) mdia-sound

@@ -1,0 +1,19 @@
+//! Where a chunk of a track lies, and which chunk stands where among those of all tracks.
+
+/// Where a chunk of a track lies, and which samples of the track it has (ISO/IEC 14496-12, 8.7.4 and 8.7.5).
+#[derive(Clone, Copy, Debug, PartialEq, Eq)]
+pub struct ChunkPlace {
+    /// How many samples of the track stand in chunks before it.
+    pub first: u32,
+    /// How many samples it has.
+    pub count: u32,
+    /// Where it begins, in bytes from the start of the buffer.
+    pub offset: u64,
+}
+
+/// A chunk of the movie: which one it is of which track. Both count from 0.
+#[derive(Clone, Copy, Debug, PartialEq, Eq)]
+pub struct ChunkRef {
+    pub track: u32,
+    pub index: u32,
+}
