@@ -3,6 +3,7 @@
 ghost use Rattle.std.specs.Prelude.{◌≡◌, None, OnOk, OnErr, IfOk};
 ghost use Rattle.mp4_codec.specs.Cause.{AnswersCause, Checks};
 ghost use Rattle.mp4_mux.specs.Writing.{sample_of, started, with_track, with_sample, with_end, start_cause, track_cause, sample_cause, end_cause, whole_of, WriterState};
+ghost use Rattle.mp4_mux.specs.Written.{IsWrittenMovie};
 ghost use Rattle.mp4_media.specs.Finished.{Opens};
 ghost use Rattle.mp4_media.specs.WriterFields.{writer_state, IsWriter};
 
@@ -165,12 +166,16 @@ impl Mp4Writer {
     /// Ends the movie: what waits of each track is added to the data as its last chunk, in the order of the tracks; the
     /// header of mdat says how many bytes it has; and the movie box follows (ISO/IEC 14496-12, 8.1.1 and 8.2.1).
     ///
+    /// The tables of each track that has samples describe exactly the samples that were written of it, in order, each
+    /// starting at the sum of the durations before it (8.6.1.2); and each byte of the data is of one sample.
+    ///
     /// `Ended` after an end that was Ok, then `TooLarge(BoxSize)` where the movie box passes 2^32 - 1 bytes.
     pub fn write_end(&mut self) -> Result<()>
         ensures cause { AnswersCause (end_cause self.old) result }
         ensures ok { OnOk result (self.new ≡ with_end self.old) }
         ensures err { OnErr result (self.new ≡ self.old) }
         ensures opens { OnOk result (Opens self.new) }
+        ensures written { OnOk result (IsWrittenMovie self.new) }
     {
         let _ = &self.ended;
         self.end()?;

@@ -2,7 +2,7 @@
 use Rattle.std.proofs.Common.{◌≡◌, ℕ, suc, ◌+◌, ◌-◌, ◌^◌, ◌<◌, ◌≤◌, true, false, cond, eqb, List, [], ◌∷◌, ◌++◌}
 use Rattle.std.proofs.Common.{length, get_or, map, refl, sym, ap, ◌∙◌, arith, subst}
 use Rattle.std.specs.List.{All, AllByRecursion, sum_by}
-use Rattle.std.proofs.lemmas.List.{append-nil, length-append, length-map}
+use Rattle.std.proofs.lemmas.List.{length-append, length-map}
 use Rattle.std.proofs.lemmas.List.Elements.{All-from_recursion, All-map}
 use Rattle.std.proofs.lemmas.List.Sums.{sum_by-cons}
 use Rattle.mp4_lookup.specs.Samples.{Sample}
@@ -13,9 +13,10 @@ use Rattle.mp4_mux.specs.Chunks.{TrackState, Chunk, sample_bytes, chunk_bytes, s
 use Rattle.mp4_mux.specs.TrackHeaders.{PlacedChunk, FinishedTrack}
 use Rattle.mp4_mux.specs.FineTracks.{IsFineTrack}
 use Rattle.mp4_mux.specs.Writing.{WriterState, info_of, no_track, accepted_from, with_end}
-use Rattle.mp4_mux.specs.Writing.{before_data, data_of, data_place, finished_from, finished_tracks, movie_bytes, whole_of}
+use Rattle.mp4_mux.specs.Writing.{before_data, data_of, data_place, finished_from, finished_tracks, movie_bytes}
+use Rattle.mp4_mux.specs.Writing.{whole_of}
 use Rattle.mp4_mux.specs.Sound.{IsFine, IsKnownChunk, IsSound}
-use Rattle.mp4_mux.specs.EndedStates.{end-count, end-track, sound_end}
+use Rattle.mp4_mux.specs.EndedStates.{end-count, end-none_pending, sound_end}
 
 -- the chunks of a track have all of its samples
 pub counted : (id place : ℕ) (cs : List Chunk)
@@ -114,9 +115,7 @@ module _ (st : WriterState) (h : IsSound st) (room : data_place st + length (dat
       subst (λ v. IsFine st.config.timescale (get_or fin.tracks v no_track).config
       (samples_of (1 + u) fin.chunks ++ (get_or fin.tracks v no_track).pending)) back
       (sound.fine (1 + u) (record { first = omega arith; last = omega (arith, l) })) in
-      let none : ss ≡ samples_of (1 + u) fin.chunks =
-      ap (λ (t : TrackState). samples_of (1 + u) fin.chunks ++ t.pending) (end-track st u old)
-      ∙ append-nil (samples_of (1 + u) fin.chunks) in
+      let none : ss ≡ samples_of (1 + u) fin.chunks = end-none_pending st (1 + u) u old in
       let chunks = All-from_recursion _ (of_track (1 + u) placed)
       (within_data fin (1 + u) (data_place st) fin.chunks sound.known) in
       let count = fine.count in

@@ -40,4 +40,12 @@ pub mod EndLaws
 pub mod StartLaws
 pub mod EndedStates
 pub mod FineLaws
+pub mod Written
+pub mod TileLaws
+pub mod ReadLaws
+pub mod DescribesLaws
+pub mod WrittenTrackLaws
+pub mod WrittenLaws
+pub mod ByteLaws
+pub mod ReadBackLaws
 pub mod EndMovieLaws
