@@ -39,6 +39,12 @@ pub mod PartsLaws
 pub mod EndLaws
 pub mod StartLaws
 pub mod EndedStates
+pub mod Calls
+pub mod Layout
+pub mod LastChunkLaws
+pub mod CallLaws
+pub mod LayoutLaws
+pub mod SessionLaws
 pub mod FineLaws
 pub mod Written
 pub mod TileLaws
@@ -48,4 +54,5 @@ pub mod WrittenTrackLaws
 pub mod WrittenLaws
 pub mod ByteLaws
 pub mod ReadBackLaws
+pub mod EndedSessionLaws
 pub mod EndMovieLaws

@@ -148,3 +148,9 @@ pub record IsWrittenMovie (st : WriterState) : Type 0 where
   pub tracks : (k : ℕ) (a : AcceptedTrack) (trak : TrakBox) → slice_get (accepted st) k ≡ Some a
       → slice_get (movie_of st).traks k ≡ Some trak → IsWrittenTrack st (k + 1) a trak
   pub tiles : Tiles st
+
+-- Of each track of two finished movies the same samples are read.
+abbrev pub HaveSameSamples : WriterState → WriterState → Type 0
+HaveSameSamples st su =
+    (k : ℕ) (one two : TrakBox) → slice_get (movie_of st).traks k ≡ Some one → slice_get (movie_of su).traks k ≡ Some two
+    → map (read_at (whole_of st)) (plain (tables_of one)) ≡ map (read_at (whole_of su)) (plain (tables_of two))

@@ -7,6 +7,7 @@ mod config;
 mod description;
 mod durations;
 mod ending;
+mod laws;
 mod mdat;
 mod runs;
 mod sample_info;
@@ -21,6 +22,10 @@ pub use chunk_place::{ChunkPlace, ChunkRef};
 pub use config::{Mp4Config, TrackConfig};
 pub use durations::Durations;
 pub use ending::{check_movie, finish, movie_size, pending_bytes, put_movie};
+pub use laws::{
+    an_end_closes_one_chunk_a_track, an_end_writes_the_accepted_samples, calls_accept_their_samples,
+    chunks_are_just_full, described_samples_are_found, interleavings_accept_the_same,
+};
 pub use mdat::mdat_header;
 pub use sample_info::SampleInfo;
 pub use track_writer::{TrackWriter, add_sample};
