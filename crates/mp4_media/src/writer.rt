@@ -133,7 +133,13 @@ impl Mp4Writer {
         sample.duration.in_range();
         sample.rendering_offset.in_range();
         let track = id - 1;
-        add_sample(&mut self.buffer, &mut self.tracks, &mut self.written, track, sample)?;
+        add_sample(
+            &mut self.buffer,
+            &mut self.tracks,
+            &mut self.written,
+            track,
+            sample,
+        )?;
         Ok(())
     }
 
@@ -144,7 +150,11 @@ impl Mp4Writer {
         if self.ended {
             return Err(Error::Ended);
         }
-        check_movie(self.config.timescale, &self.tracks, self.buffer.len() as u64)
+        check_movie(
+            self.config.timescale,
+            &self.tracks,
+            self.buffer.len() as u64,
+        )
     }
 
     /// Ends the movie, for `write_end`.

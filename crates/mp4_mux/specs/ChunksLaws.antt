@@ -30,10 +30,11 @@ samples_of-append id [] ds = refl
 samples_of-append id (c ∷ cs) ds =
     elim (eqb c.track_id id) as
     (λ b. cond b (c.samples ++ samples_of id (cs ++ ds)) (samples_of id (cs ++ ds))
-    ≡ cond b (c.samples ++ samples_of id cs) (samples_of id cs) ++ samples_of id ds)
-    [ true ↦ ap (λ (ss : List Sample). c.samples ++ ss) (samples_of-append id cs ds)
-      ∙ sym (append_assoc c.samples (samples_of id cs) (samples_of id ds))
-    | false ↦ samples_of-append id cs ds ]
+    ≡ cond b (c.samples ++ samples_of id cs) (samples_of id cs) ++ samples_of id ds) [
+      | true ↦ ap (λ (ss : List Sample). c.samples ++ ss) (samples_of-append id cs ds)
+          ∙ sym (append_assoc c.samples (samples_of id cs) (samples_of id ds))
+      | false ↦ samples_of-append id cs ds
+    ]
 
 pub samples_of-one : (id : ℕ) (ss : List Sample) → samples_of id (record { track_id = id; samples = ss } ∷ []) ≡ ss
 unfolding samples_of

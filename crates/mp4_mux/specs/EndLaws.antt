@@ -233,8 +233,7 @@ module _ (p : Parts) (h : IsWriting p) (goes_on : p.ended ≡ false) where
       → AllByRecursion (IsChunkAt p.mdat (parts_at_end p).media) rs
   still-chunks [] a = tt
   still-chunks (r ∷ rs) a =
-      let bytes = a.0.bytes in
-      (
+      let bytes = a.0.bytes in (
         record {
           track = a.0.track;
           index = a.0.index;

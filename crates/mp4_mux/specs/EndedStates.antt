@@ -75,8 +75,7 @@ module _ (st : WriterState) where
   known_again [] a = tt
   known_again (c ∷ cs) a =
       let f = a.0.track.first in
-      let l = a.0.track.last in
-      (
+      let l = a.0.track.last in (
         record { track = record { first = f; last = omega (arith, end-count, l) }; some = a.0.some },
         known_again cs a.1,
       )

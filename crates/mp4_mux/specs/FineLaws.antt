@@ -30,14 +30,15 @@ counted id place (c ∷ cs) =
     let ind = counted id next cs in
     elim (eqb c.track_id id) as
     (λ b. sum_by (λ (c : PlacedChunk). c.count) (cond b (one ∷ rest) rest)
-    ≡ length (cond b (c.samples ++ samples_of id cs) (samples_of id cs)))
-    [ true ↦ omega (
+    ≡ length (cond b (c.samples ++ samples_of id cs) (samples_of id cs))) [
+      | true ↦ omega (
         arith,
         sum_by-cons (λ (c : PlacedChunk). c.count) one rest,
         ind,
         length-append c.samples (samples_of id cs),
       )
-    | false ↦ ind ]
+      | false ↦ ind
+    ]
 
 -- each of them has one at least, and lies within the data
 pub within_data : (st : WriterState) (id place : ℕ) (cs : List Chunk) → AllByRecursion (IsKnownChunk st) cs
@@ -73,8 +74,7 @@ each_finished : (P : FinishedTrack → Type 0) (id : ℕ) (ts : List TrackState)
 unfolding finished_from accepted_from
 each_finished P id [] cs placed h = tt
 each_finished P id (t ∷ ts) cs placed h =
-    let here : id + 0 ≡ id = omega arith in
-    (
+    let here : id + 0 ≡ id = omega arith in (
       subst (λ v. P (record {
         id = v;
         config = t.config;
@@ -82,13 +82,13 @@ each_finished P id (t ∷ ts) cs placed h =
         chunks = of_track v placed;
       })) here (h 0 (omega arith)),
       each_finished P (id + 1) ts cs placed (λ u l.
-      let further : id + suc u ≡ (id + 1) + u = omega arith in
-      subst (λ v. P (record {
-        id = v;
-        config = (get_or ts u no_track).config;
-        samples = map info_of (samples_of v cs ++ (get_or ts u no_track).pending);
-        chunks = of_track v placed;
-      })) further (h (suc u) (omega (arith, l)))),
+          let further : id + suc u ≡ (id + 1) + u = omega arith in
+          subst (λ v. P (record {
+            id = v;
+            config = (get_or ts u no_track).config;
+            samples = map info_of (samples_of v cs ++ (get_or ts u no_track).pending);
+            chunks = of_track v placed;
+          })) further (h (suc u) (omega (arith, l)))),
     )
 
 module _ (st : WriterState) (h : IsSound st) (room : data_place st + length (data_of (with_end st)) < 2 ^ 64) where

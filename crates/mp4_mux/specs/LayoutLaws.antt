@@ -68,11 +68,10 @@ laid_started front config = record {
 full_still : (st new : WriterState) → ((v : ℕ) → (track_at new v).config ≡ (track_at st v).config) → (cs : List Chunk)
     → AllByRecursion (IsJustFullChunk st) cs → AllByRecursion (IsJustFullChunk new) cs
 full_still st new e [] a = tt
-full_still st new e (c ∷ cs) a =
-    (
-      subst (λ (k : TrackConfig). IsJustFull k.timescale c.samples) (sym (e c.track_id)) a.0,
-      full_still st new e cs a.1,
-    )
+full_still st new e (c ∷ cs) a = (
+  subst (λ (k : TrackConfig). IsJustFull k.timescale c.samples) (sym (e c.track_id)) a.0,
+  full_still st new e cs a.1,
+)
 
 module _ (st : WriterState) (id : ℕ) (i : IsIdOf st id) (s : Sample) (h : IsLaidOut st) where
   abbrev track : TrackState
@@ -128,11 +127,10 @@ module _ (st : WriterState) (config : TrackConfig) (sound : IsSound st) (h : IsL
   full_with : (cs : List Chunk) → AllByRecursion (IsKnownChunk st) cs → AllByRecursion (IsJustFullChunk st) cs
       → AllByRecursion (IsJustFullChunk new) cs
   full_with [] k a = tt
-  full_with (c ∷ cs) k a =
-      (
-        subst (λ (t : TrackState). IsJustFull t.config.timescale c.samples) (sym (earlier c.track_id k.0.track)) a.0,
-        full_with cs k.1 a.1,
-      )
+  full_with (c ∷ cs) k a = (
+    subst (λ (t : TrackState). IsJustFull t.config.timescale c.samples) (sym (earlier c.track_id k.0.track)) a.0,
+    full_with cs k.1 a.1,
+  )
 
   pub laid_track : IsLaidOut new
   laid_track = record {

@@ -267,12 +267,11 @@ last_infos : (is : List SampleInfo) (before pending : List Sample) → is ≡ ma
     → (length pending ≤ length is) × (drop (length is - length pending) is ≡ map info_of pending)
 last_infos is before pending e =
     let n : length is ≡ length before + length pending =
-    omega (arith, ap length e, length-map (before ++ pending) info_of, length-append before pending) in
-    (
+    omega (arith, ap length e, length-map (before ++ pending) info_of, length-append before pending) in (
       omega (arith, n),
       ap (drop (length is - length pending)) (e ∙ map-append info_of before pending)
-      ∙ drop_at (map info_of before) (map info_of pending) (length is - length pending)
-      (omega (arith, n, length-map before info_of)),
+          ∙ drop_at (map info_of before) (map info_of pending) (length is - length pending)
+          (omega (arith, n, length-map before info_of)),
     )
 
 module _ (p : Parts) (h : IsWriting p) (goes_on : p.ended ≡ false) (id : ℕ) (i : IsIdOf (open_state p) id)

@@ -58,11 +58,12 @@ read_ranges before (c ∷ cs) more id =
     ∙ ap (λ (rs : List (ℕ × ℕ)). rs ++ later) (ranges_of-owned c.track_id id here))
     ∙ (elim (eqb c.track_id id) as
     (λ b. map (bytes_at file) (cond b here [] ++ later)
-    ≡ map (λ (s : Sample). s.bytes) (cond b (c.samples ++ samples_of id cs) (samples_of id cs)))
-    [ true ↦ map-append (bytes_at file) here later
-      ∙ ap₂ (λ (x y : List (List ℕ)). x ++ y) first rest
-      ∙ sym (map-append (λ (s : Sample). s.bytes) c.samples (samples_of id cs))
-    | false ↦ rest ])
+    ≡ map (λ (s : Sample). s.bytes) (cond b (c.samples ++ samples_of id cs) (samples_of id cs))) [
+      | true ↦ map-append (bytes_at file) here later
+          ∙ ap₂ (λ (x y : List (List ℕ)). x ++ y) first rest
+          ∙ sym (map-append (λ (s : Sample). s.bytes) c.samples (samples_of id cs))
+      | false ↦ rest
+    ])
 
 laid-within : (place : ℕ) (ss : List Sample)
     → AllByRecursion (λ (r : ℕ × ℕ). r.0 + r.1 ≤ place + length (sample_bytes ss)) (laid_from place (sizes_of ss))
@@ -71,11 +72,10 @@ laid-within place [] = tt
 laid-within place (s ∷ ss) =
     let all = length-append s.bytes (sample_bytes ss) in
     let same : (place + length s.bytes) + length (sample_bytes ss) ≡ place + length (sample_bytes (s ∷ ss)) =
-    omega (arith, all) in
-    (
+    omega (arith, all) in (
       omega (arith, all),
       subst (λ n. AllByRecursion (λ (r : ℕ × ℕ). r.0 + r.1 ≤ n) (laid_from (place + length s.bytes) (sizes_of ss))) same
-      (laid-within (place + length s.bytes) ss),
+          (laid-within (place + length s.bytes) ss),
     )
 
 weaker : (n m : ℕ) → n ≤ m → (rs : List (ℕ × ℕ)) → AllByRecursion (λ (r : ℕ × ℕ). r.0 + r.1 ≤ n) rs

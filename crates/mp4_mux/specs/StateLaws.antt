@@ -73,8 +73,7 @@ known_still : (st new : WriterState) → length new.tracks ≡ length st.tracks 
 known_still st new e [] a = tt
 known_still st new e (c ∷ cs) a =
     let f = a.0.track.first in
-    let l = a.0.track.last in
-    (
+    let l = a.0.track.last in (
       record { track = record { first = f; last = omega (arith, e, l) }; some = a.0.some },
       known_still st new e cs a.1,
     )
@@ -268,8 +267,7 @@ module _ (st : WriterState) (config : TrackConfig) (h : IsSound st) (e : track_c
   known_with [] a = tt
   known_with (c ∷ cs) a =
       let f = a.0.track.first in
-      let l = a.0.track.last in
-      (
+      let l = a.0.track.last in (
         record { track = record { first = f; last = omega (arith, added, l) }; some = a.0.some },
         known_with cs a.1,
       )

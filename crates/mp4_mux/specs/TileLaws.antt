@@ -107,10 +107,11 @@ ranges_of-table id place (c ∷ cs) =
     ∙ (elim (eqb c.track_id id) as
     (λ b. cond b here [] ++ places ns os (sizes_of (samples_of id cs))
     ≡ places (counts_of (cond b (one ∷ later) later)) (offsets_of (cond b (one ∷ later) later))
-    (sizes_of (cond b (c.samples ++ samples_of id cs) (samples_of id cs))))
-    [ true ↦ ap₂ (λ (x y : List ℕ). laid_from place x ++ places ns os y)
-      (sym (ap (take (length c.samples)) sizes
-      ∙ take_at (sizes_of c.samples) (sizes_of (samples_of id cs)) (length c.samples) n))
-      (sym (ap (drop (length c.samples)) sizes
-      ∙ drop_at (sizes_of c.samples) (sizes_of (samples_of id cs)) (length c.samples) n))
-    | false ↦ refl ])
+    (sizes_of (cond b (c.samples ++ samples_of id cs) (samples_of id cs)))) [
+      | true ↦ ap₂ (λ (x y : List ℕ). laid_from place x ++ places ns os y)
+          (sym (ap (take (length c.samples)) sizes
+          ∙ take_at (sizes_of c.samples) (sizes_of (samples_of id cs)) (length c.samples) n))
+          (sym (ap (drop (length c.samples)) sizes
+          ∙ drop_at (sizes_of c.samples) (sizes_of (samples_of id cs)) (length c.samples) n))
+      | false ↦ refl
+    ])

@@ -134,7 +134,7 @@ unfoldable pub whole_of : WriterState → List ℕ
 whole_of st =
     if st.ended
     then (before_data st ++ (mdat_header_of (16 + length (data_of st)) ++ data_of st))
-        ++ movie_bytes st.config.timescale (finished_tracks st)
+    ++ movie_bytes st.config.timescale (finished_tracks st)
     else before_data st ++ (mdat_header_of 8 ++ data_of st)
 
 -- a writer that was begun behind these bytes

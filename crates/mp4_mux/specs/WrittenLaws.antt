@@ -64,8 +64,7 @@ module _ (m : ℕ) (cs : List Chunk) (placed : List PlacedChunk) where
       let first = trak_for m (finished_as id t) in
       let same : first ≡ trak = ap (λ o. unwrap_or o first) e in
       let fact : R id (accepted_as id t) first =
-      subst (λ v. R v (accepted_as v t) (trak_for m (finished_as v t))) here (h 0 (omega arith)) in
-      (
+      subst (λ v. R v (accepted_as v t) (trak_for m (finished_as v t))) here (h 0 (omega arith)) in (
         accepted_as id t,
         refl,
         subst (λ v. R v (accepted_as id t) trak) (sym here) (subst (R id (accepted_as id t)) same fact),

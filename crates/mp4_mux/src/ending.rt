@@ -61,7 +61,10 @@ pub fn check_movie(timescale: u32, tracks: &[TrackWriter], end: u64) -> Result<(
 }
 
 /// The bytes of what is pending, track after track.
-pub fn pending_bytes(alloc: Global, tracks: &[TrackWriter]) -> std::result::Result<Vec<u8>, AllocError>
+pub fn pending_bytes(
+    alloc: Global,
+    tracks: &[TrackWriter],
+) -> std::result::Result<Vec<u8>, AllocError>
     ensures { IfOk result (λ bytes. bytes.items ≡ unwritten tracks.now) }
 {
     let mut bytes = Vec::new(alloc);
@@ -73,7 +76,12 @@ pub fn pending_bytes(alloc: Global, tracks: &[TrackWriter]) -> std::result::Resu
 
 /// The boxes of the tracks, where what is pending of them stands in chunks, the first of which begins there. Refused by
 /// `OutOfMemory` alone.
-fn trak_boxes(alloc: Global, timescale: u32, tracks: &[TrackWriter], end: u64) -> Result<Vec<TrakBox>>
+fn trak_boxes(
+    alloc: Global,
+    timescale: u32,
+    tracks: &[TrackWriter],
+    end: u64,
+) -> Result<Vec<TrakBox>>
     requires few { length tracks.now < 2 ^ 32 }
     requires clocks { All (λ b. b.movie_timescale ≡ timescale) tracks.now }
     requires room { end + length (unwritten tracks.now) < 2 ^ 64 }
@@ -127,7 +135,12 @@ pub fn put_movie(out: &mut Vec<u8>, timescale: u32, tracks: &[TrackWriter], end:
 /// place, which is in bytes from the start of the buffer (ISO/IEC 14496-12, 8.1.1).
 ///
 /// An `Err` leaves the buffer as it was.
-pub fn finish(buffer: &mut Vec<u8>, mdat: usize, size: u64, tail: &[u8]) -> std::result::Result<(), AllocError>
+pub fn finish(
+    buffer: &mut Vec<u8>,
+    mdat: usize,
+    size: u64,
+    tail: &[u8],
+) -> std::result::Result<(), AllocError>
     requires { mdat + 16 ≤ length buffer.old.items }
     ensures ok { OnOk result (buffer.new.items ≡ (take mdat buffer.old.items ++ (mdat_header_of size ++ drop (mdat + 16) buffer.old.items)) ++ tail.now) }
     ensures err { OnErr result (buffer.new.items ≡ buffer.old.items) }

@@ -23,8 +23,9 @@ pub use config::{Mp4Config, TrackConfig};
 pub use durations::Durations;
 pub use ending::{check_movie, finish, movie_size, pending_bytes, put_movie};
 pub use laws::{
-    an_end_closes_one_chunk_a_track, an_end_writes_the_accepted_samples, calls_accept_their_samples,
-    chunks_are_just_full, described_samples_are_found, interleavings_accept_the_same,
+    an_end_closes_one_chunk_a_track, an_end_writes_the_accepted_samples,
+    calls_accept_their_samples, chunks_are_just_full, described_samples_are_found,
+    interleavings_accept_the_same,
 };
 pub use mdat::mdat_header;
 pub use sample_info::SampleInfo;

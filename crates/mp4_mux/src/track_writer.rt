@@ -18,11 +18,11 @@ ghost use Rattle.mp4_mux.specs.TrackFields.{track_view, IsTrackWriter};
 use crate::chunk_place::{ChunkPlace, ChunkRef};
 use crate::config::TrackConfig;
 use crate::durations::Durations;
+use crate::sample_info::SampleInfo;
 use crate::trak::{TrackParts, trak_box, trak_size};
 use mp4_boxes::TrakBox;
-use mp4_lookup::Mp4Sample;
-use crate::sample_info::SampleInfo;
 use mp4_codec::{Error, InRange, Limit};
+use mp4_lookup::Mp4Sample;
 use std::alloc::{AllocError, Global};
 use std::marker::Model;
 
@@ -157,7 +157,8 @@ impl TrackWriter {
     {
         let info = self.samples.take_last();
         let movie = movie_ticks(info.duration, self.movie_timescale, self.config.timescale);
-        self.pending.truncate(self.pending.len() - info.size as usize);
+        self.pending
+            .truncate(self.pending.len() - info.size as usize);
         self.pending_duration -= info.duration as u64;
         self.durations.media -= info.duration as u64;
         self.durations.movie -= movie;
@@ -205,7 +206,12 @@ impl TrackWriter {
         let place = self.pending_place(buffer.len() as u64);
         let index = self.chunks.len() as u32;
         self.chunks.push(place)?;
-        if let Err(e) = append_chunk(buffer, written, ChunkRef { track, index }, self.pending.as_slice()) {
+        if let Err(e) = append_chunk(
+            buffer,
+            written,
+            ChunkRef { track, index },
+            self.pending.as_slice(),
+        ) {
             let _ = self.chunks.take_last();
             return Err(e);
         }

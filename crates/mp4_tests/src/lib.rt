@@ -5,6 +5,8 @@
 #[cfg(test)]
 mod asserts;
 #[cfg(test)]
+mod calls;
+#[cfg(test)]
 mod lookup;
 #[cfg(test)]
 mod million_samples;
@@ -12,6 +14,16 @@ mod million_samples;
 mod movies;
 #[cfg(test)]
 mod opening;
+#[cfg(test)]
+mod plain_bytes;
+#[cfg(test)]
+mod plain_entries;
+#[cfg(test)]
+mod plain_movie;
+#[cfg(test)]
+mod plain_tracks;
+#[cfg(test)]
+mod random_movies;
 #[cfg(test)]
 mod random_tracks;
 #[cfg(test)]
@@ -22,3 +34,7 @@ mod taste;
 mod tracks;
 #[cfg(test)]
 mod walked_lookup;
+#[cfg(test)]
+mod written;
+#[cfg(test)]
+mod written_rows;

@@ -1,7 +1,8 @@
 //! Movies without tracks, as they are written.
 
 use crate::asserts::{check, holds, same};
-use mp4_codec::{ByteCursor, Error, FourCC, Items, Result, TryClone};
+use crate::calls::{ISOM, config_of};
+use mp4_codec::{ByteCursor, Error, FourCC, Result, TryClone};
 use mp4_media::{Mp4Config, Mp4Reader, Mp4Writer, mdat_header, read_mp4};
 use std::alloc::Global;
 
@@ -18,16 +19,7 @@ pub const EMPTY_MOVIE: [u8; 164] = [
 
 /// The configuration of that movie.
 pub fn config(alloc: Global) -> Result<Mp4Config> {
-    let mut compatible_brands = Items::new(alloc);
-    for code in [0x69736f6d, 0x69736f32, 0x61766331, 0x6d703431] {
-        compatible_brands.push(FourCC::from(code))?;
-    }
-    Ok(Mp4Config {
-        major_brand: FourCC::from(0x69736f6d),
-        minor_version: 512,
-        compatible_brands,
-        timescale: 1000,
-    })
+    config_of(alloc, &ISOM)
 }
 
 /// The bytes of a movie without tracks, behind those of a buffer.

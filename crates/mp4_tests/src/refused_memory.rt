@@ -3,9 +3,12 @@
 //! must, and made again it is Ok. While a test prints that a request was refused, the next one is tried.
 
 use crate::asserts::{check, holds, same};
+use crate::calls::{Call, ISOM, Media, add_text, make, media_track, write_sync};
 use crate::lookup::{TEXT, text_samples_are_found};
 use crate::movies::{EMPTY_MOVIE, config};
 use crate::tracks::holds_of;
+use crate::written::{modelled, standing};
+use crate::written_rows::{TEXT_MOVIE, five_media, five_tracks, text_calls};
 use mp4_boxes::{IlstBox, Metadata, MoofBox, MoovBox};
 use mp4_codec::{
     BoxHeader, BoxType, Error, Fields, FourCC, Items, KeyedItems, Mp4Box, ReadBox, Result, Text,
@@ -13,16 +16,16 @@ use mp4_codec::{
     put_four_cc, put_i16, put_i32, put_list, put_optional, put_u8, put_u16, put_u24, put_u32,
     put_u64, put_versioned, put_zeros,
 };
-use mp4_entry::{HevcConfig, MediaConfig, StsdBox};
+use mp4_entry::{HevcConfig, MediaConfig, StsdBox, TtxtConfig};
 use mp4_frag::{EmsgBox, MehdBox, MfhdBox, TfdtBox, TfhdBox, TrexBox, TrunBox};
 use mp4_leaf::{
     DataBox, DinfBox, ElstBox, FtypBox, HdlrBox, MdhdBox, MvhdBox, SmhdBox, TkhdBox, VmhdBox,
 };
-use mp4_media::{Mp4Config, Mp4Writer, read_mp4};
+use mp4_media::{Mp4Config, Mp4Writer, TrackConfig, read_mp4};
 use mp4_table::{Co64Box, CttsBox, StcoBox, StscBox, StssBox, StszBox, SttsBox};
 use mp4_test_parts::sample_boxes::Number;
 use mp4_test_parts::sides::Side;
-use mp4_test_parts::spelled::{both, read_bytes};
+use mp4_test_parts::spelled::{both, hex, read_bytes};
 use std::alloc::Global;
 
 /// Prints that a request was refused, and answers whether the call said so.
@@ -688,4 +691,158 @@ fn found_again(rt: &HostRuntime) -> Result<bool> {
 #[test]
 fn a_refused_track_is_made_again(rt: HostRuntime) {
     check(&rt, 1, found_again(&rt));
+}
+
+/// What a track of these media is added with, which is made again after a refusal.
+fn media_track_again(rt: &HostRuntime, media: &Media) -> Result<TrackConfig> {
+    match media_track(rt.alloc(), media) {
+        Err(error) if is_refusal(rt, &error) => media_track(rt.alloc(), media),
+        answer => answer,
+    }
+}
+
+/// Whether what a track of these media is added with is equal to its copy, and has 1000 ticks a second and the
+/// language `und`.
+fn media_track_is_copied(rt: &HostRuntime, media: &Media) -> Result<bool> {
+    let config = media_track_again(rt, media)?;
+    let has_defaults = config.timescale == 1000 && config.language.as_str() == "und";
+    Ok(has_defaults && copy_again(rt, &config)? == config)
+}
+
+#[test]
+fn a_refused_configuration_of_a_track_is_made_again(rt: HostRuntime) {
+    for media in five_media() {
+        check(&rt, 1, media_track_is_copied(&rt, &media));
+    }
+}
+
+/// What a text track is added with, made of its media.
+fn text_of_media(alloc: Global) -> Result<TrackConfig> {
+    TrackConfig::from_media(alloc, MediaConfig::TtxtConfig(TtxtConfig {}))
+}
+
+/// Whether what a text track is added with is the same however it is made, and made again after a refusal.
+fn text_is_of_its_media(rt: &HostRuntime) -> Result<bool> {
+    let config = match text_of_media(rt.alloc()) {
+        Err(error) if is_refusal(rt, &error) => text_of_media(rt.alloc())?,
+        answer => answer?,
+    };
+    Ok(media_track_again(rt, &Media::Text)? == config)
+}
+
+#[test]
+fn a_refused_configuration_of_media_is_made_again(rt: HostRuntime) {
+    check(&rt, 1, text_is_of_its_media(&rt));
+}
+
+/// Makes a call, and makes it again where it was refused since memory was.
+fn make_again(rt: &HostRuntime, writer: &mut Mp4Writer, call: &Call) -> Result<()> {
+    match make(rt.alloc(), writer, call) {
+        Err(Error::OutOfMemory) if is_refusal(rt, &Error::OutOfMemory) => {
+            make(rt.alloc(), writer, call)
+        }
+        answer => answer,
+    }
+}
+
+/// A writer after these calls, each of which is made again after a refusal.
+fn called_again(rt: &HostRuntime, calls: &[Call]) -> Result<Mp4Writer> {
+    let mut writer = begun_again(rt)?;
+    for call in calls {
+        make_again(rt, &mut writer, call)?;
+    }
+    Ok(writer)
+}
+
+/// The bytes that a writer makes of these calls, each of which is made again after a refusal.
+fn written_again(rt: &HostRuntime, calls: &[Call]) -> Result<Vec<u8>> {
+    let writer = called_again(rt, calls)?;
+    Ok(writer.into_writer())
+}
+
+/// The bytes that a text spells, which are made again after a refusal.
+fn hex_again(rt: &HostRuntime, text: &str) -> Result<Vec<u8>> {
+    match hex(rt.alloc(), text) {
+        Err(error) if is_refusal(rt, &error) => hex(rt.alloc(), text),
+        answer => answer,
+    }
+}
+
+/// Whether a writer that ended refuses each call.
+fn has_ended(rt: &HostRuntime, writer: &mut Mp4Writer) -> bool {
+    let mut all = true;
+    for call in [add_text(1000), write_sync(1, 500, b"abc"), Call::WriteEnd] {
+        all = make_again(rt, writer, &call) == Err(Error::Ended) && all;
+    }
+    all
+}
+
+/// Whether three text samples are written as they are spelled, and calls behind the end leave them.
+fn text_movie_is_left(rt: &HostRuntime) -> Result<bool> {
+    let mut writer = called_again(rt, &text_calls())?;
+    let is_refused = has_ended(rt, &mut writer);
+    let bytes = hex_again(rt, TEXT_MOVIE)?;
+    Ok(is_refused && writer.into_writer() == bytes)
+}
+
+#[test]
+fn refused_calls_of_a_text_movie_are_made_again(rt: HostRuntime) {
+    check(&rt, 1, text_movie_is_left(&rt));
+}
+
+/// The calls that write a track of each kind of media with one sample, of which two are left to the end.
+fn five_calls() -> [Call<'static>; 11] {
+    let [avc, hevc, vp9, aac, text] = five_tracks();
+    [
+        avc,
+        hevc,
+        vp9,
+        aac,
+        text,
+        write_sync(1, 500, b"picture"),
+        write_sync(2, 1000, b"pictures"),
+        write_sync(3, 1000, b"more"),
+        write_sync(4, 1000, b"sound"),
+        write_sync(5, 1000, b""),
+        Call::WriteEnd,
+    ]
+}
+
+/// The bytes that the plain model makes of calls, which it makes again after a refusal.
+fn modelled_again(rt: &HostRuntime, calls: &[Call]) -> Result<Vec<u8>> {
+    match modelled(rt.alloc(), &[], &ISOM, calls) {
+        Err(error) if is_refusal(rt, &error) => modelled(rt.alloc(), &[], &ISOM, calls),
+        answer => answer,
+    }
+}
+
+/// Whether tracks of each kind of media are written as the plain model says.
+fn five_are_written(rt: &HostRuntime) -> Result<bool> {
+    let calls = five_calls();
+    Ok(written_again(rt, &calls)? == modelled_again(rt, &calls)?)
+}
+
+#[test]
+fn refused_calls_of_five_tracks_are_made_again(rt: HostRuntime) {
+    check(&rt, 1, five_are_written(&rt));
+}
+
+/// Whether a refused call leaves the bytes that the calls before it made.
+fn bytes_before_are_left(rt: &HostRuntime, calls: &[Call]) -> Result<bool> {
+    let mut writer = begun_again(rt)?;
+    let mut count = 0usize;
+    for call in calls {
+        if let Err(error) = make(rt.alloc(), &mut writer, call) {
+            let bytes = standing(rt.alloc(), &ISOM, calls.get(..count).unwrap_or(&[]))?;
+            return Ok(is_refusal(rt, &error) && writer.into_writer() == bytes);
+        }
+        count = count.wrapping_add(1);
+    }
+    Ok(true)
+}
+
+#[test]
+fn a_refused_call_of_a_movie_leaves_the_bytes(rt: HostRuntime) {
+    check(&rt, "text", bytes_before_are_left(&rt, &text_calls()));
+    check(&rt, "five", bytes_before_are_left(&rt, &five_calls()));
 }

@@ -1,5 +1,8 @@
 //! Tracks of tables that a test writes down: they are written as boxes and read as those of a file are.
 
+use crate::plain_bytes::{
+    put, put_chunks, put_durations, put_offsets, put_rendering_offsets, put_sizes, put_sync_samples,
+};
 use mp4_boxes::{TrakBox, read_tables_have_first_samples};
 use mp4_codec::{Error, Items, ReadBox, Result};
 use mp4_lookup::{Mp4Track, SamplePlace};
@@ -39,77 +42,6 @@ pub const THREE: Tables<'static> = Tables {
     sizes: &[],
     offsets: &[100],
 };
-
-fn put(bytes: &mut Vec<u8>, number: u32) -> Result<()> {
-    bytes.extend_from_slice(&number.to_be_bytes())?;
-    Ok(())
-}
-
-fn put_pair(bytes: &mut Vec<u8>, first: u32, second: u32) -> Result<()> {
-    put(bytes, first)?;
-    put(bytes, second)
-}
-
-/// What stands before the entries of a table, of so many bytes each.
-fn put_head(bytes: &mut Vec<u8>, kind: &[u8], count: usize, each: u32) -> Result<()> {
-    let count = u32::try_from(count).unwrap_or(0);
-    put(bytes, count.wrapping_mul(each).wrapping_add(16))?;
-    bytes.extend_from_slice(kind)?;
-    put_pair(bytes, 0, count)
-}
-
-fn put_durations(bytes: &mut Vec<u8>, runs: &[(u32, u32)]) -> Result<()> {
-    put_head(bytes, b"stts", runs.len(), 8)?;
-    for run in runs {
-        put_pair(bytes, run.0, run.1)?;
-    }
-    Ok(())
-}
-
-fn put_rendering_offsets(bytes: &mut Vec<u8>, runs: &[(u32, i32)]) -> Result<()> {
-    put_head(bytes, b"ctts", runs.len(), 8)?;
-    for run in runs {
-        put(bytes, run.0)?;
-        bytes.extend_from_slice(&run.1.to_be_bytes())?;
-    }
-    Ok(())
-}
-
-fn put_sync_samples(bytes: &mut Vec<u8>, numbers: &[u32]) -> Result<()> {
-    put_head(bytes, b"stss", numbers.len(), 4)?;
-    for number in numbers {
-        put(bytes, *number)?;
-    }
-    Ok(())
-}
-
-fn put_chunks(bytes: &mut Vec<u8>, entries: &[(u32, u32)]) -> Result<()> {
-    put_head(bytes, b"stsc", entries.len(), 12)?;
-    for entry in entries {
-        put_pair(bytes, entry.0, entry.1)?;
-        put(bytes, 1)?;
-    }
-    Ok(())
-}
-
-fn put_sizes(bytes: &mut Vec<u8>, size: u32, count: u32, sizes: &[u32]) -> Result<()> {
-    let listed = u32::try_from(sizes.len()).unwrap_or(0);
-    put(bytes, listed.wrapping_mul(4).wrapping_add(20))?;
-    bytes.extend_from_slice(b"stsz\0\0\0\0")?;
-    put_pair(bytes, size, count)?;
-    for size in sizes {
-        put(bytes, *size)?;
-    }
-    Ok(())
-}
-
-fn put_offsets(bytes: &mut Vec<u8>, offsets: &[u64]) -> Result<()> {
-    put_head(bytes, b"co64", offsets.len(), 8)?;
-    for offset in offsets {
-        bytes.extend_from_slice(&offset.to_be_bytes())?;
-    }
-    Ok(())
-}
 
 /// The tables as the children of a stbl.
 fn written_tables(alloc: Global, tables: &Tables) -> Result<Vec<u8>> {

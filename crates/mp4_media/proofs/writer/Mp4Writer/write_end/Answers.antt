@@ -21,8 +21,7 @@ ok_has_no_cause (Some c) x h = absurd h
 
 -- where an end is Ok, the movie went on before it, and its new state is the definition's
 module _ (p : Parts) (old new : WriterState) (view_is : state_of p ≡ old) (cause : end_cause old ≡ None)
-  (ok : new ≡ with_end old) where
-
+    (ok : new ≡ with_end old) where
   welcome : end_cause (state_of p) ≡ None
   welcome = ap end_cause view_is ∙ cause
 

@@ -33,7 +33,7 @@ overflow_sub-len c =
       arith,
       bytes (goal.at.overflow_sub-len c).After-len,
       last_size (fields_of c.self.inside) c.self.invariant c.take_last-info.new.self.items c.take_last-info.result
-      c.take_last-info.ensures.items (within b),
+          c.take_last-info.ensures.items (within b),
     )
 
 pub overflow_sub-self : goal.overflow_sub-self
@@ -42,7 +42,7 @@ overflow_sub-self c =
     omega (
       arith,
       last_duration (fields_of c.self.inside) c.self.invariant c.take_last-info.new.self.items c.take_last-info.result
-      c.take_last-info.ensures.items (within b),
+          c.take_last-info.ensures.items (within b),
     )
 
 pub overflow_sub-self-2 : goal.overflow_sub-self-2
@@ -51,7 +51,7 @@ overflow_sub-self-2 c =
     omega (
       arith,
       last_media (fields_of c.self.inside) c.self.invariant c.take_last-info.new.self.items c.take_last-info.result
-      c.take_last-info.ensures.items (within b),
+          c.take_last-info.ensures.items (within b),
     )
 
 pub overflow_sub-self-3 : goal.overflow_sub-self-3
@@ -61,7 +61,7 @@ overflow_sub-self-3 c =
       arith,
       c.movie_ticks-movie.ensures,
       last_movie (fields_of c.self.inside) c.self.invariant c.take_last-info.new.self.items c.take_last-info.result
-      c.take_last-info.ensures.items (within b),
+          c.take_last-info.ensures.items (within b),
     )
 
 pub invariant_of-self : goal.invariant_of-self

@@ -10,7 +10,7 @@ overflow_add-self c =
     omega (
       arith,
       pending_room (fields_of c.self.inside) c.self.invariant c.info_of-info.result c.in_range.ensures
-      (rw (← c.self.view_is) at c.requires.count),
+          (rw (← c.self.view_is) at c.requires.count),
     )
 
 pub overflow_add-self-2 : goal.overflow_add-self-2
@@ -18,7 +18,7 @@ overflow_add-self-2 c =
     omega (
       arith,
       media_room (fields_of c.self.inside) c.self.invariant c.info_of-info.result c.in_range.ensures
-      (rw (← c.self.view_is) at c.requires.count),
+          (rw (← c.self.view_is) at c.requires.count),
     )
 
 pub invariant_of-self-2 : goal.invariant_of-self-2

@@ -1,0 +1,228 @@
+//! Calls of a writer that a test writes down.
+
+use bytes::Bytes;
+use mp4_codec::{FourCC, Items, Result, Text};
+use mp4_entry::{
+    AacConfig, AudioObjectType, AvcConfig, ChannelConfig, HevcConfig, SampleFreqIndex, TrackType,
+    TtxtConfig, Vp9Config,
+};
+use mp4_lookup::Mp4Sample;
+use mp4_media::{Mp4Config, Mp4Writer, TrackConfig};
+use std::alloc::Global;
+
+/// What a movie is begun with: brands as the numbers of their four bytes.
+#[derive(Clone, Copy)]
+pub struct Beginning<'a> {
+    pub major_brand: u32,
+    pub minor_version: u32,
+    pub compatible_brands: &'a [u32],
+    pub timescale: u32,
+}
+
+/// Brand isom, and 1000 ticks a second.
+pub const ISOM: Beginning<'static> = Beginning {
+    major_brand: 0x69736f6d,
+    minor_version: 512,
+    compatible_brands: &[0x69736f6d, 0x69736f32, 0x61766331, 0x6d703431],
+    timescale: 1000,
+};
+
+/// Width and height in pixels.
+#[derive(Clone, Copy)]
+pub struct Picture {
+    pub width: u16,
+    pub height: u16,
+}
+
+/// Bits in a second, the type of the sound, and the numbers of its frequency and its channels.
+#[derive(Clone, Copy)]
+pub struct Sound {
+    pub bitrate: u32,
+    pub profile: u8,
+    pub frequency: u8,
+    pub channels: u8,
+}
+
+/// How samples are coded; of AVC also a sequence parameter set and a picture parameter set.
+#[derive(Clone, Copy)]
+pub enum Media<'a> {
+    Avc(Picture, &'a [u8], &'a [u8]),
+    Hevc(Picture),
+    Vp9(Picture),
+    Aac(Sound),
+    Text,
+}
+
+/// What a track is added with.
+#[derive(Clone, Copy)]
+pub struct Track<'a> {
+    pub track_type: TrackType,
+    pub timescale: u32,
+    pub language: &'a str,
+    pub media: Media<'a>,
+}
+
+/// A sample.
+#[derive(Clone, Copy)]
+pub struct Sample<'a> {
+    pub duration: u32,
+    pub rendering_offset: i32,
+    pub is_sync: bool,
+    pub bytes: &'a [u8],
+}
+
+/// A call of a writer that was begun.
+#[derive(Clone, Copy)]
+pub enum Call<'a> {
+    AddTrack(Track<'a>),
+    /// The id of the track, and the sample.
+    WriteSample(u32, Sample<'a>),
+    WriteEnd,
+}
+
+/// A track of text with so many ticks a second.
+fn text_track(timescale: u32) -> Track<'static> {
+    Track {
+        track_type: TrackType::Subtitle,
+        timescale,
+        language: "und",
+        media: Media::Text,
+    }
+}
+
+/// The call that adds such a track.
+pub fn add_text(timescale: u32) -> Call<'static> {
+    Call::AddTrack(text_track(timescale))
+}
+
+/// The call that writes a sync sample, which is shown when it is decoded.
+pub fn write_sync(id: u32, duration: u32, bytes: &[u8]) -> Call {
+    Call::WriteSample(
+        id,
+        Sample {
+            duration,
+            rendering_offset: 0,
+            is_sync: true,
+            bytes,
+        },
+    )
+}
+
+pub fn config_of(alloc: Global, beginning: &Beginning) -> Result<Mp4Config> {
+    let mut compatible_brands = Items::new(alloc);
+    for code in beginning.compatible_brands {
+        compatible_brands.push(FourCC::from(*code))?;
+    }
+    Ok(Mp4Config {
+        major_brand: FourCC::from(beginning.major_brand),
+        minor_version: beginning.minor_version,
+        compatible_brands,
+        timescale: beginning.timescale,
+    })
+}
+
+fn avc_config(
+    alloc: Global,
+    picture: Picture,
+    sequence: &[u8],
+    picture_set: &[u8],
+) -> Result<AvcConfig> {
+    let seq_param_set = Items::from(sequence.to_vec(alloc)?);
+    Ok(AvcConfig {
+        width: picture.width,
+        height: picture.height,
+        seq_param_set,
+        pic_param_set: Items::from(picture_set.to_vec(alloc)?),
+    })
+}
+
+fn hevc_config(picture: Picture) -> HevcConfig {
+    HevcConfig {
+        width: picture.width,
+        height: picture.height,
+    }
+}
+
+fn vp9_config(picture: Picture) -> Vp9Config {
+    Vp9Config {
+        width: picture.width,
+        height: picture.height,
+    }
+}
+
+fn aac_config(sound: Sound) -> Result<AacConfig> {
+    Ok(AacConfig {
+        bitrate: sound.bitrate,
+        profile: AudioObjectType::try_from(sound.profile)?,
+        freq_index: SampleFreqIndex::try_from(sound.frequency)?,
+        chan_conf: ChannelConfig::try_from(sound.channels)?,
+    })
+}
+
+fn avc_track(
+    alloc: Global,
+    picture: Picture,
+    sequence: &[u8],
+    picture_set: &[u8],
+) -> Result<TrackConfig> {
+    let config = avc_config(alloc, picture, sequence, picture_set)?;
+    TrackConfig::from_avc(alloc, config)
+}
+
+fn aac_track(alloc: Global, sound: Sound) -> Result<TrackConfig> {
+    let config = aac_config(sound)?;
+    TrackConfig::from_aac(alloc, config)
+}
+
+/// What a track of these media is added with, of 1000 ticks a second and of no language that is
+/// known.
+pub fn media_track(alloc: Global, media: &Media) -> Result<TrackConfig> {
+    match media {
+        Media::Avc(picture, sequence, picture_set) => {
+            avc_track(alloc, *picture, sequence, picture_set)
+        }
+        Media::Hevc(picture) => TrackConfig::from_hevc(alloc, hevc_config(*picture)),
+        Media::Vp9(picture) => TrackConfig::from_vp9(alloc, vp9_config(*picture)),
+        Media::Aac(sound) => aac_track(alloc, *sound),
+        Media::Text => TrackConfig::from_ttxt(alloc, TtxtConfig {}),
+    }
+}
+
+/// What such a track is added with.
+fn track_config(alloc: Global, track: &Track) -> Result<TrackConfig> {
+    let mut config = media_track(alloc, &track.media)?;
+    config.track_type = track.track_type;
+    config.timescale = track.timescale;
+    config.language = Text::from_str(alloc, track.language)?;
+    Ok(config)
+}
+
+/// A sample with a start time that the writer doesn't look at.
+fn sample_of(alloc: Global, sample: &Sample) -> Result<Mp4Sample> {
+    Ok(Mp4Sample {
+        start_time: 77,
+        duration: sample.duration,
+        rendering_offset: sample.rendering_offset,
+        is_sync: sample.is_sync,
+        bytes: Bytes::copy_from_slice(alloc, sample.bytes)?,
+    })
+}
+
+fn add_track(alloc: Global, writer: &mut Mp4Writer, track: &Track) -> Result<()> {
+    let config = track_config(alloc, track)?;
+    writer.add_track(&config)
+}
+
+fn write_sample(alloc: Global, writer: &mut Mp4Writer, id: u32, sample: &Sample) -> Result<()> {
+    let sample = sample_of(alloc, sample)?;
+    writer.write_sample(id, &sample)
+}
+
+/// Makes a call of a writer.
+pub fn make(alloc: Global, writer: &mut Mp4Writer, call: &Call) -> Result<()> {
+    match call {
+        Call::AddTrack(track) => add_track(alloc, writer, track),
+        Call::WriteSample(id, sample) => write_sample(alloc, writer, *id, sample),
+        Call::WriteEnd => writer.write_end(),
+    }
+}
