@@ -1,5 +1,5 @@
-//! The tests of the lookup of samples and of movies: rows of bytes from outside, printed texts, and that each call
-//! succeeds with ample memory. What a contract says isn't tested again.
+//! The tests of the lookup of samples, of movies and of their writer: rows of bytes from outside, printed texts, random
+//! calls beside a plain model, and that each call succeeds with ample memory. What a contract says isn't tested again.
 #![tactic(auto)]
 
 #[cfg(test)]
