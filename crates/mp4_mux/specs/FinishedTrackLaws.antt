@@ -1,4 +1,4 @@
--- The box of a track that is written has the length that is told of it, is written and reads back equal.
+-- The box of a track that is written has the length that is counted for it, is written and reads back equal.
 use Rattle.std.proofs.Common.{◌≡◌, ℕ, ◌+◌, List, [], ◌∷◌, length, map, refl, ap, arith}
 use Rattle.mp4_codec.specs.FieldLaws.{length-then}
 use Rattle.mp4_codec.specs.FramingLaws.{length-frame}
