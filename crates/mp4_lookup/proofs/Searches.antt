@@ -16,7 +16,7 @@ use Rattle.mp4_table.specs.Stsc.{HasFirstSamples}
 use Rattle.mp4_lookup.specs.Search.{IsLastAtMost}
 use Rattle.mp4_lookup.specs.Sums.{SumsBefore, CountsBefore}
 use Rattle.mp4_lookup.specs.LastLaws.{last_where_is, last_where_none}
-use Rattle.mp4_lookup.proofs.Entries.{first_samples_climb}
+use Rattle.mp4_lookup.specs.EntryLaws.{first_samples_climb}
 
 -- what rises
 

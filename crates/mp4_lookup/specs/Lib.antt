@@ -1,4 +1,3 @@
-pub mod Samples
 pub mod Time
 pub mod Tables
 pub mod Places
@@ -9,7 +8,15 @@ pub mod Sums
 pub mod Index
 pub mod Costs
 pub mod Tracks
+pub mod Samples
+pub mod Headers
+pub mod Kind
+pub mod Rates
+pub mod Codec
 pub mod LastLaws
 pub mod RunLaws
 pub mod PlaceLaws
 pub mod ChunkLaws
+pub mod EntryLaws
+pub mod RuleLaws
+pub mod TrackLaws

@@ -1,12 +1,17 @@
 //! The samples of a track by their numbers: where each lies, when it is decoded and shown, and whether it is
-//! a sync sample (ISO/IEC 14496-12, 8.6 and 8.7).
+//! a sync sample (ISO/IEC 14496-12, 8.6 and 8.7). And what else a track says: its headers, its kind, how its samples
+//! are coded, and how many there are in a second (8.3 to 8.5).
 #![tactic(auto)]
 
+mod codec;
 mod counted;
+mod headers;
 mod index;
+mod kind;
 mod laws;
 mod locate;
 mod place;
+mod rates;
 mod runs;
 mod sample;
 mod search;

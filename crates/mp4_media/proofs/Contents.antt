@@ -4,7 +4,8 @@ use Rattle.std.specs.List.{filter_map}
 use Rattle.std.proofs.lemmas.List.{append-nil}
 use Rattle.std.proofs.lemmas.List.Elements.{filter_map-append}
 use Rattle.mp4_codec.specs.declared.box_type.BoxType.{BoxType}
-use Rattle.mp4_codec.specs.declared.box_type.BoxType.TheVariants.{FtypBox as ftyp, MoovBox as moov}
+use Rattle.mp4_codec.specs.declared.box_type.BoxType.TheVariants.{FtypBox as ftyp, MoovBox as moov, MoofBox as moof}
+use Rattle.mp4_codec.specs.declared.box_type.BoxType.TheVariants.{EmsgBox as emsg}
 use Rattle.mp4_codec.specs.BoxType.{box_type, IsNamed}
 use Rattle.mp4_codec.specs.Cause.{Cause, ◌>>=◌}
 use Rattle.mp4_codec.specs.Cursor.{Cursor}
@@ -13,10 +14,12 @@ use Rattle.mp4_codec.specs.Children.{last}
 use Rattle.mp4_codec.specs.ChildrenLaws.{not_of}
 use Rattle.mp4_codec.specs.GatherLaws.{last-push}
 use Rattle.mp4_leaf.specs.Ftyp.{ftyp_of}
+use Rattle.mp4_frag.specs.Emsg.{emsg_of}
 use Rattle.mp4_boxes.specs.Moov.{moov_of}
+use Rattle.mp4_boxes.specs.Moof.{moof_of}
 use Rattle.mp4_media.specs.declared.opening.BoxContent.{BoxContent}
-use Rattle.mp4_media.specs.declared.opening.BoxContent.TheVariants.{Ftyp, Moov}
-use Rattle.mp4_media.specs.FileBoxes.{read_as, meaning_of, later}
+use Rattle.mp4_media.specs.declared.opening.BoxContent.TheVariants.{Ftyp, Moov, Moof, Emsg}
+use Rattle.mp4_media.specs.FileBoxes.{read_as, meaning_of, later, and_one}
 use Rattle.mp4_media.specs.Walk.{content_at}
 
 pub meaning-ftyp : (name : BoxType) → name ≡ ftyp → meaning_of name ≡ Some (read_as Ftyp ftyp_of)
@@ -27,11 +30,25 @@ pub meaning-moov : (name : BoxType) → name ≡ moov → meaning_of name ≡ So
 unfolding meaning_of
 meaning-moov name is = rw is refl
 
+pub meaning-moof : (name : BoxType) → name ≡ moof → meaning_of name ≡ Some (read_as Moof moof_of)
+unfolding meaning_of
+meaning-moof name is = rw is refl
+
+pub meaning-emsg : (name : BoxType) → name ≡ emsg → meaning_of name ≡ Some (read_as Emsg emsg_of)
+unfolding meaning_of
+meaning-emsg name is = rw is refl
+
 -- a box of another type is skipped
-pub meaning-none : (name : BoxType) → IsNamed name → (name ≡ ftyp → ⊥) → (name ≡ moov → ⊥) → meaning_of name ≡ None
+pub meaning-none : (name : BoxType) → IsNamed name → (name ≡ ftyp → ⊥) → (name ≡ moov → ⊥) → (name ≡ moof → ⊥)
+    → (name ≡ emsg → ⊥) → meaning_of name ≡ None
 unfolding meaning_of box_type
-meaning-none name named not_ftyp not_moov =
-    rw (not_of ftyp (name, []) refl named not_ftyp, not_of moov (name, []) refl named not_moov) refl
+meaning-none name named not_ftyp not_moov not_moof not_emsg =
+    rw (
+      not_of ftyp (name, []) refl named not_ftyp,
+      not_of moov (name, []) refl named not_moov,
+      not_of moof (name, []) refl named not_moof,
+      not_of emsg (name, []) refl named not_emsg,
+    ) refl
 
 module _ {A : Type 0} (kind : A → BoxContent) (value : List ℕ → Result A Cause) where
   abbrev with_place : {B : Type 0} → Cursor → B → Result (B × Cursor) Cause
@@ -80,3 +97,13 @@ last-later {A} {B} kind xs x =
         → last (filter_map kind xs ++ more) ≡ later o (last (filter_map kind xs))
     chosen (Some y) more e = rw e (last-push (filter_map kind xs) y)
     chosen None more e = rw e (ap last (append-nil (filter_map kind xs)))
+
+-- all of a kind, with one box more
+pub filter_map-and_one : {A B : Type 0} (kind : A → Option B) (xs : List A) (x : A)
+    → filter_map kind (xs ++ x ∷ []) ≡ and_one (filter_map kind xs) (kind x)
+filter_map-and_one {A} {B} kind xs x = filter_map-append kind xs (x ∷ []) ∙ chosen (kind x)
+  where
+    chosen : (o : Option B)
+        → filter_map kind xs ++ filter_map (λ (y : Option B). y) (o ∷ []) ≡ and_one (filter_map kind xs) o
+    chosen (Some y) = refl
+    chosen None = append-nil (filter_map kind xs)

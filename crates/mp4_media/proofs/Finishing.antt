@@ -1,8 +1,8 @@
 -- A finished movie is a file of the grammar.
 use Rattle.std.proofs.Common.{◌≡◌, ◌⊎◌, inl, inr, ℕ, ◌+◌, ◌-◌, ◌^◌, ◌≤◌, ◌<◌, List, [], ◌∷◌, ◌++◌, length, take, drop}
 use Rattle.std.proofs.Common.{Some, None, Result, Ok, refl, sym, ap, subst, ◌∙◌, append_assoc, zero-add, arith, lit<}
-use Rattle.std.proofs.Common.{true, false}
-use Rattle.std.proofs.lemmas.Bool.{lt-ltb, le-ltb, cases_lt}
+use Rattle.std.proofs.Common.{true, suc, map}
+use Rattle.std.proofs.lemmas.Bool.{ne_eqb, lt-ltb, le-ltb, cases_lt}
 use Rattle.std.proofs.lemmas.List.{append-nil, length-append}
 use Rattle.mp4_codec.specs.declared.box_type.BoxType.{BoxType}
 use Rattle.mp4_codec.specs.declared.box_type.BoxType.TheVariants.{FtypBox as ftyp, MoovBox as moov, MdatBox as mdat}
@@ -12,7 +12,7 @@ use Rattle.mp4_codec.specs.Cause.{Cause}
 use Rattle.mp4_codec.specs.Cursor.{Cursor, here}
 use Rattle.mp4_codec.specs.Bytes.{number, ◌⧺◌}
 use Rattle.mp4_codec.specs.FieldLaws.{length-number}
-use Rattle.mp4_codec.specs.Boxes.{frame}
+use Rattle.mp4_codec.specs.Boxes.{frame, all_refusal}
 use Rattle.mp4_codec.specs.Framing.{IsSpellable, IsFrame, short, long, long_frame, ReadsAsBox}
 use Rattle.mp4_codec.specs.FramingLaws.{reads_as_box, length-frame, length-long_frame}
 use Rattle.mp4_codec.specs.HeadLaws.{was_taken}
@@ -26,7 +26,11 @@ use Rattle.mp4_boxes.specs.MoovLaws.{moov_again}
 use Rattle.mp4_mux.specs.Mdat.{mdat_header_of}
 use Rattle.mp4_mux.specs.Config.{IsInRangeConfig}
 use Rattle.mp4_mux.specs.MdatLaws.{length-mdat_header_of}
-use Rattle.mp4_mux.specs.Writing.{WriterState, file_type_of, movie_of, movie_bytes, data_of, with_file_type, whole_of, start_cause}
+use Rattle.mp4_mux.specs.Chunks.{placed_from}
+use Rattle.mp4_mux.specs.TrackHeaders.{PlacedChunk}
+use Rattle.mp4_mux.specs.FinishedTrack.{trak_with, trak_for, movie_for}
+use Rattle.mp4_mux.specs.Writing.{WriterState, AcceptedTrack, accepted, file_type_of, finished_from, movie_of, movie_bytes}
+use Rattle.mp4_mux.specs.Writing.{data_of, data_place, with_file_type, whole_of, start_cause}
 use Rattle.mp4_mux.specs.StartLaws.{file_type-canonical}
 use Rattle.mp4_mux.specs.Parts.{Parts, state_of, IsWriting}
 use Rattle.mp4_mux.specs.PartsLaws.{state-ended, state-config}
@@ -35,6 +39,7 @@ use Rattle.mp4_media.specs.declared.opening.BoxContent.{BoxContent}
 use Rattle.mp4_media.specs.declared.opening.BoxContent.TheVariants.{Ftyp, Moov, Skipped}
 use Rattle.mp4_media.specs.FileBoxes.{read_as, meaning_of}
 use Rattle.mp4_media.specs.FileGrammar.{between, Holds, read, skipped, IsFileBox, no_more, AreFileBoxes, IsFile}
+use Rattle.mp4_media.specs.MovieTracks.{id_fault, zero_id}
 use Rattle.mp4_media.specs.Finished.{Opens}
 use Rattle.mp4_media.proofs.Contents.{meaning-ftyp, meaning-moov}
 
@@ -164,9 +169,27 @@ three : (size : ℕ) (bytes : List ℕ) (a b c : FileBox) (p q end : ℕ) → Is
 unfolding AreFileBoxes
 three size bytes a b c p q end first second third = (p, first, (q, second, (end, third, refl)))
 
+-- the tracks of a movie that is written count from 1
+ids_from : (timescale id : ℕ) (ts : List AcceptedTrack) (cs : List PlacedChunk)
+    → all_refusal zero_id (map (trak_for timescale) (finished_from (suc id) ts cs)) ≡ None
+unfolding finished_from trak_with
+ids_from timescale id [] cs = refl
+ids_from timescale id (t ∷ ts) cs =
+    let next : suc id + 1 ≡ suc (suc id) = omega arith in
+    rw (next, ne_eqb (suc id) 0 (λ e. omega arith)) (ids_from timescale (suc id) ts cs)
+
+numbered : (st : WriterState) → all_refusal zero_id (movie_of st).traks ≡ None
+unfolding movie_for
+numbered st = ids_from st.config.timescale 0 (accepted st) (placed_from (data_place st) st.chunks)
+
+-- so the ids of its tracks have no fault, where there are no fragments
+no_fault : (m : MoovBox) → all_refusal zero_id m.traks ≡ None → id_fault m [] ≡ None
+unfolding id_fault
+no_fault m none = rw none refl
+
 -- a file type, mdat and a movie, one behind the other, are a file
 module _ (f : FtypBox) (m : MoovBox) (box : List ℕ) (canonical : IsCanonicalFtyp f) (movie : IsCanonicalMoov m)
-    (media : IsMdat box) where
+    (media : IsMdat box) (ids : all_refusal zero_id m.traks ≡ None) where
   abbrev first : List ℕ
   first = frame ftyp (ftyp_payload f)
 
@@ -177,7 +200,8 @@ module _ (f : FtypBox) (m : MoovBox) (box : List ℕ) (canonical : IsCanonicalFt
   whole = (first ++ box) ++ third
 
   pub finished-file : length whole < 2 ^ 64
-      → IsFile (length whole) (here whole 0) (record { ftyp = f; moov = m; size = length whole })
+      → IsFile (length whole) (here whole 0)
+      (record { ftyp = f; moov = m; moofs = []; moof_places = []; emsgs = []; size = length whole })
   finished-file fits =
       let end : length whole ≡ length first + length box + length third =
       omega (arith, length-append (first ++ box) third, length-append first box) in
@@ -213,6 +237,10 @@ module _ (f : FtypBox) (m : MoovBox) (box : List ℕ) (canonical : IsCanonicalFt
         ends = no_more (omega arith);
         ftyp = refl;
         moov = refl;
+        moofs = refl;
+        moof_places = refl;
+        emsgs = refl;
+        ids = no_fault m ids;
         size_is = omega arith;
       }
 
@@ -245,6 +273,13 @@ opens p h over canonical fits nothing =
     let opened =
     finished-file (file_type_of st.config) (movie_of st) (header ++ held)
     (file_type-canonical st.config (subst IsInRangeConfig (sym config) h.in_range) (ap start_cause config ∙ h.begun))
-    canonical media few in
+    canonical media (numbered st) few in
     subst (λ (xs : List ℕ). IsFile (length xs) (here xs 0)
-    (record { ftyp = file_type_of st.config; moov = movie_of st; size = length xs })) (sym is) opened
+    (record {
+      ftyp = file_type_of st.config;
+      moov = movie_of st;
+      moofs = [];
+      moof_places = [];
+      emsgs = [];
+      size = length xs;
+    })) (sym is) opened

@@ -18,14 +18,15 @@ use Rattle.mp4_boxes.specs.declared.moov.MoovBox.{MoovBox}
 use Rattle.mp4_media.specs.declared.opening.FileBox.{FileBox}
 use Rattle.mp4_media.specs.declared.opening.BoxContent.{BoxContent}
 use Rattle.mp4_media.specs.declared.opening.BoxContent.TheVariants.{Skipped}
-use Rattle.mp4_media.specs.FileBoxes.{meaning_of, ftyps_in, moovs_in, OpenedFile}
+use Rattle.mp4_media.specs.FileBoxes.{meaning_of, ftyps_in, moovs_in, moofs_in, OpenedFile}
 use Rattle.mp4_media.specs.FileGrammar.{between, Begins, Holds, read, skipped, IsFileBox, EndsFile, no_more, open_end}
 use Rattle.mp4_media.specs.FileGrammar.{AreFileBoxes, IsFile, HoldsNothing, past_the_bytes, meaningless, past_64_bits}
 use Rattle.mp4_media.specs.FileGrammar.{IsFault, rest, no_header, larger, nothing, IsFaultyFile, faulty_box, no_ftyp}
-use Rattle.mp4_media.specs.FileGrammar.{no_moov}
-use Rattle.mp4_media.specs.Walk.{content_at, with_content, next_box_at, file_boxes_at, opened_at}
+use Rattle.mp4_media.specs.FileGrammar.{no_moov, wrong_ids}
+use Rattle.mp4_media.specs.MovieTracks.{id_fault}
+use Rattle.mp4_media.specs.Walk.{content_at, with_content, next_box_at, file_boxes_at, found_of, opened_with, opened_at}
 use Rattle.mp4_media.proofs.Walking.{after_boxes, starts_with, opened-refused, opened-no_ftyp, opened-no_moov}
-use Rattle.mp4_media.proofs.Walking.{opened-both}
+use Rattle.mp4_media.proofs.Walking.{opened-wrong_ids, opened-all}
 
 gt-leb : (m n : ℕ) → n < m → leb m n ≡ false
 gt-leb m n h = grind arith
@@ -230,7 +231,7 @@ further size bytes place next b w =
     omega (arith, r.long, w.begins.order)
 
 -- the boxes to the end of a file, or to a fault
-data Whole (size : ℕ) (bytes : List ℕ) (place : ℕ) : Type 0 where
+pub data Whole (size : ℕ) (bytes : List ℕ) (place : ℕ) : Type 0 where
   all : (boxes : List FileBox) (end : ℕ) → AreFileBoxes size bytes place boxes end → EndsFile size bytes end
       → Whole size bytes place
   broken : (boxes : List FileBox) (end : ℕ) (c : Cause) → AreFileBoxes size bytes place boxes end
@@ -246,7 +247,7 @@ unfolding AreFileBoxes
 one_more size bytes place next b w (all boxes end are closed) = all (b ∷ boxes) end (next, w, are) closed
 one_more size bytes place next b w (broken boxes end c are why) = broken (b ∷ boxes) end c (next, w, are) why
 
-whole : (n size : ℕ) (bytes : List ℕ) (place : ℕ) → size ≤ n + place → Whole size bytes place
+pub whole : (n size : ℕ) (bytes : List ℕ) (place : ℕ) → size ≤ n + place → Whole size bytes place
 whole zero size bytes place enough = all [] place (none_more size bytes place) (no_more (omega arith))
 whole (suc n) size bytes place enough =
     by (λ next onward. whole n size bytes next (omega arith)) (stands size bytes place)
@@ -265,7 +266,7 @@ one_first b bs (Ok x) = refl
 one_first b bs (Err c) = refl
 
 -- the boxes of the grammar are those that the walk finds, and then it goes on
-walked : (bs : List FileBox) (n size : ℕ) (bytes : List ℕ) (place end : ℕ)
+pub walked : (bs : List FileBox) (n size : ℕ) (bytes : List ℕ) (place end : ℕ)
     (others : Result (List FileBox × ℕ) Cause) → size ≤ n + place → AreFileBoxes size bytes place bs end
     → ((m : ℕ) → size ≤ m + end → file_boxes_at m size (here bytes end) ≡ others)
     → file_boxes_at n size (here bytes place) ≡ after_boxes bs others
@@ -292,14 +293,14 @@ below-size size bytes place c (no_header room why) = omega (arith, room)
 below-size size bytes place c (larger name from to w past e) = omega (arith, w.room)
 below-size size bytes place c (nothing name from to w fits why) = omega (arith, w.room)
 
-walked-fault : (size : ℕ) (bytes : List ℕ) (place : ℕ) (c : Cause) → IsFault size bytes place c → (m : ℕ)
+pub walked-fault : (size : ℕ) (bytes : List ℕ) (place : ℕ) (c : Cause) → IsFault size bytes place c → (m : ℕ)
     → size ≤ m + place → file_boxes_at m size (here bytes place) ≡ Err c
 unfolding file_boxes_at
 walked-fault size bytes place c why zero enough = let below = below-size size bytes place c why in absurd (omega arith)
 walked-fault size bytes place c why (suc m) enough = rw (is_refused size bytes place c why) refl
 
 module _ (size : ℕ) (start : Cursor) where
-  all-read : (boxes : List FileBox) (end : ℕ) → AreFileBoxes size start.bytes start.position boxes end
+  pub all-read : (boxes : List FileBox) (end : ℕ) → AreFileBoxes size start.bytes start.position boxes end
       → EndsFile size start.bytes end → file_boxes_at size size start ≡ Ok (boxes, end)
   all-read boxes end are closed =
       walked boxes size size start.bytes start.position end (Ok ([], end)) (omega arith) are
@@ -309,8 +310,13 @@ module _ (size : ℕ) (start : Cursor) where
   -- a file of the grammar opens
   pub file-opens : (o : OpenedFile) → IsFile size start o → opened_at size start ≡ Ok o
   file-opens o f =
-      opened-both size start f.boxes f.end (all-read f.boxes f.end f.are f.ends) o.ftyp o.moov f.ftyp f.moov
-      ∙ ap (λ (n : ℕ). Ok (record { ftyp = o.ftyp; moov = o.moov; size = n })) (sym f.size_is)
+      opened-all size start f.boxes f.end (all-read f.boxes f.end f.are f.ends) o.ftyp o.moov f.ftyp f.moov
+      (ap (id_fault o.moov) (sym f.moofs) ∙ f.ids)
+      ∙ ap Ok (same o f)
+    where
+      same : (o : OpenedFile) (f : IsFile size start o)
+          → opened_with (found_of f.boxes) o.ftyp o.moov (f.end - start.position) ≡ o
+      same o f = rw (← f.moofs, ← f.moof_places, ← f.emsgs, ← f.size_is) refl
 
   there : {A : Type 0} (xs : List A) → (xs ≡ [] → ⊥) → (x : A) × (last xs ≡ Some x)
   there [] some = absurd (some refl)
@@ -328,6 +334,9 @@ module _ (size : ℕ) (start : Cursor) where
   faulty-refused c (no_moov boxes end are closed some none e) =
       let f = there (ftyps_in boxes) some in
       rw e (opened-no_moov size start boxes end (all-read boxes end are closed) f.0 f.1 (rw none refl))
+  faulty-refused c (wrong_ids boxes end are closed some m is_m wrong) =
+      let f = there (ftyps_in boxes) some in
+      opened-wrong_ids size start boxes end (all-read boxes end are closed) f.0 m f.1 is_m c wrong
 
   -- each file is one of the grammar or has a first fault
   data File : Type 0 where
@@ -341,6 +350,28 @@ module _ (size : ℕ) (start : Cursor) where
       some_there x [] = (x, refl)
       some_there x (y ∷ ys) = some_there y ys
 
+      by_ids : (boxes : List FileBox) (end : ℕ) → AreFileBoxes size start.bytes start.position boxes end
+          → EndsFile size start.bytes end
+          → (f : FtypBox) → last (ftyps_in boxes) ≡ Some f → (ftyps_in boxes ≡ [] → ⊥)
+          → (m : MoovBox) → last (moovs_in boxes) ≡ Some m
+          → (o : Option Cause) → id_fault m (moofs_in boxes) ≡ o → File
+      by_ids boxes end are closed f is_f some m is_m (Some c) wrong =
+          refused c (wrong_ids boxes end are closed some m is_m wrong)
+      by_ids boxes end are closed f is_f some m is_m None none =
+          opens (opened_with (found_of boxes) f m (end - start.position)) (record {
+            boxes = boxes;
+            end = end;
+            are = are;
+            ends = closed;
+            ftyp = is_f;
+            moov = is_m;
+            moofs = refl;
+            moof_places = refl;
+            emsgs = refl;
+            ids = none;
+            size_is = refl;
+          })
+
       by_kinds : (boxes : List FileBox) (end : ℕ) → AreFileBoxes size start.bytes start.position boxes end
           → EndsFile size start.bytes end
           → (fs : List FtypBox) → ftyps_in boxes ≡ fs → (ms : List MoovBox) → moovs_in boxes ≡ ms → File
@@ -351,15 +382,8 @@ module _ (size : ℕ) (start : Cursor) where
       by_kinds boxes end are closed (f ∷ fs) is_f (m ∷ ms) is_m =
           let one = some_there f fs in
           let two = some_there m ms in
-          opens (record { ftyp = one.0; moov = two.0; size = end - start.position }) (record {
-            boxes = boxes;
-            end = end;
-            are = are;
-            ends = closed;
-            ftyp = rw is_f one.1;
-            moov = rw is_m two.1;
-            size_is = refl;
-          })
+          by_ids boxes end are closed one.0 (rw is_f one.1) (λ none. let no : f ∷ fs ≡ [] = sym is_f ∙ none in absurd cc) two.0 (rw is_m two.1)
+          (id_fault two.0 (moofs_in boxes)) refl
 
       by : Whole size start.bytes start.position → File
       by (broken boxes end c are why) = refused c (faulty_box boxes end are why)

@@ -11,42 +11,32 @@ use Rattle.mp4_leaf.specs.declared.ftyp.FtypBox.{FtypBox}
 use Rattle.mp4_boxes.specs.declared.moov.MoovBox.{MoovBox}
 use Rattle.mp4_media.specs.declared.opening.FileBox.{FileBox}
 use Rattle.mp4_media.specs.declared.opening.Found.{Found}
-use Rattle.mp4_media.specs.FileBoxes.{ftyp_from, moov_from, ftyps_in, moovs_in, later}
-use Rattle.mp4_media.specs.Walk.{box_behind, next_box_at, file_boxes_at, opened_at}
-use Rattle.mp4_media.proofs.Contents.{last-later}
+use Rattle.mp4_media.specs.FileBoxes.{ftyp_from, moov_from, moof_from, moof_place_from, emsg_from, ftyps_in, moovs_in}
+use Rattle.mp4_media.specs.FileBoxes.{moofs_in}
+use Rattle.mp4_media.specs.MovieTracks.{id_fault}
+use Rattle.mp4_media.specs.Walk.{box_behind, next_box_at, file_boxes_at, found_of, with_box, found_at, opened_with}
+use Rattle.mp4_media.specs.Walk.{opened_at}
+use Rattle.mp4_media.proofs.Contents.{last-later, filter_map-and_one}
 
 -- these boxes, and then those that are still read
 abbrev pub after_boxes : List FileBox → Result (List FileBox × ℕ) Cause → Result (List FileBox × ℕ) Cause
 after_boxes done r = ◌>>=◌ {B = List FileBox × ℕ} r (λ more. Ok (done ++ more.0, more.1))
 
--- what was found in these boxes
-pub record FoundIn (boxes : List FileBox) (found : Found) : Type 0 where
-  pub ftyp : found.ftyp ≡ last (ftyps_in boxes)
-  pub moov : found.moov ≡ last (moovs_in boxes)
-
--- a box more was found
-pub record Added (before after : Found) (b : FileBox) : Type 0 where
-  pub ftyp : after.ftyp ≡ later (ftyp_from b.content) before.ftyp
-  pub moov : after.moov ≡ later (moov_from b.content) before.moov
-
-found-push : (boxes : List FileBox) (b : FileBox) (before after : Found) → FoundIn boxes before
-    → Added before after b → FoundIn (boxes ++ b ∷ []) after
-found-push boxes b before after w a = record {
-  ftyp =
-      a.ftyp
-      ∙ ap (later (ftyp_from b.content)) w.ftyp
-      ∙ sym (last-later (λ (x : FileBox). ftyp_from x.content) boxes b);
-  moov =
-      a.moov
-      ∙ ap (later (moov_from b.content)) w.moov
-      ∙ sym (last-later (λ (x : FileBox). moov_from x.content) boxes b);
-}
+found-push : (boxes : List FileBox) (b : FileBox) → with_box (found_of boxes) b ≡ found_of (boxes ++ b ∷ [])
+found-push boxes b =
+    rw (
+      last-later (λ (x : FileBox). ftyp_from x.content) boxes b,
+      last-later (λ (x : FileBox). moov_from x.content) boxes b,
+      filter_map-and_one (λ (x : FileBox). moof_from x.content) boxes b,
+      filter_map-and_one moof_place_from boxes b,
+      filter_map-and_one (λ (x : FileBox). emsg_from x.content) boxes b,
+    ) refl
 
 -- The boxes of a file so far, what was found in them, and the place behind them, where the walk goes on with so many
 -- steps.
 pub record Scanning (size : ℕ) (start : Cursor) (found : Found) (place : Cursor) : Type 0 where
   pub done : List FileBox
-  pub given : FoundIn done found
+  pub given : found ≡ found_of done
   pub steps : ℕ
   pub enough : size ≤ steps + place.position
   pub is : file_boxes_at size size start ≡ after_boxes done (file_boxes_at steps size place)
@@ -55,11 +45,10 @@ pub starts_with : (r : Result (List FileBox × ℕ) Cause) → r ≡ after_boxes
 starts_with (Ok x) = refl
 starts_with (Err c) = refl
 
-pub scan-starts : (size : ℕ) (start : Cursor) (found : Found) → found.ftyp ≡ None → found.moov ≡ None
-    → Scanning size start found start
-scan-starts size start found no_ftyp no_moov = record {
+pub scan-starts : (size : ℕ) (start : Cursor) (found : Found) → found ≡ found_of [] → Scanning size start found start
+scan-starts size start found none = record {
   done = [];
-  given = record { ftyp = no_ftyp; moov = no_moov };
+  given = none;
   steps = size;
   enough = omega arith;
   is = starts_with (file_boxes_at size size start);
@@ -73,7 +62,7 @@ regrouped done b (Err c) = refl
 module _ (size : ℕ) (start place : Cursor) (found : Found) where
   stepped : (b : FileBox) (behind : Cursor) (after : Found) → next_box_at size place ≡ Ok (Some b, behind)
       → place.position < size → place.position < behind.position
-      → Added found after b → (done : List FileBox) → FoundIn done found
+      → after ≡ with_box found b → (done : List FileBox) → found ≡ found_of done
       → (steps : ℕ) → size ≤ steps + place.position
       → file_boxes_at size size start ≡ after_boxes done (file_boxes_at steps size place)
       → Scanning size start after behind
@@ -81,7 +70,7 @@ module _ (size : ℕ) (start place : Cursor) (found : Found) where
   stepped b behind after next below onward added done given zero enough is = absurd (omega arith)
   stepped b behind after next below onward added done given (suc n) enough is = record {
     done = done ++ b ∷ [];
-    given = found-push done b found after given added;
+    given = added ∙ ap (λ f. with_box f b) given ∙ found-push done b;
     steps = n;
     enough = omega arith;
     is = is ∙ rw next (regrouped done b (file_boxes_at n size behind));
@@ -90,7 +79,7 @@ module _ (size : ℕ) (start place : Cursor) (found : Found) where
   -- one box more
   pub scan-takes : (b : FileBox) (behind : Cursor) (after : Found) → next_box_at size place ≡ Ok (Some b, behind)
       → place.position < size → place.position < behind.position
-      → Added found after b → Scanning size start found place → Scanning size start after behind
+      → after ≡ with_box found b → Scanning size start found place → Scanning size start after behind
   scan-takes b behind after next below onward added w =
       stepped b behind after next below onward added w.done w.given w.steps w.enough w.is
 
@@ -135,23 +124,38 @@ module _ (size : ℕ) (start place : Cursor) (found : Found) where
   scan-ends behind next same w = ended behind next same w.done w.steps w.is
 
 -- a file whose boxes are not all read does not open
+pub found-refused : (size : ℕ) (start : Cursor) (c : Cause) → file_boxes_at size size start ≡ Err c
+    → found_at size start ≡ Err c
+unfolding found_at
+found-refused size start c e = rw e refl
+
 pub opened-refused : (size : ℕ) (start : Cursor) (c : Cause) → file_boxes_at size size start ≡ Err c
     → opened_at size start ≡ Err c
 unfolding opened_at
-opened-refused size start c e = rw e refl
+opened-refused size start c e = rw (found-refused size start c e) refl
 
 module _ (size : ℕ) (start : Cursor) (boxes : List FileBox) (end : ℕ)
     (read : file_boxes_at size size start ≡ Ok (boxes, end)) where
+  pub found-all : found_at size start ≡ Ok (found_of boxes, end)
+  unfolding found_at
+  found-all = rw read refl
+
   pub opened-no_ftyp : last (ftyps_in boxes) ≡ None → opened_at size start ≡ Err (box_not_found ftyp)
   unfolding opened_at
-  opened-no_ftyp none = rw (read, none) refl
+  opened-no_ftyp none = rw (found-all, none) refl
 
   pub opened-no_moov : (f : FtypBox) → last (ftyps_in boxes) ≡ Some f → last (moovs_in boxes) ≡ None
       → opened_at size start ≡ Err (box_not_found moov)
   unfolding opened_at
-  opened-no_moov f some none = rw (read, some, none) refl
+  opened-no_moov f some none = rw (found-all, some, none) refl
 
-  pub opened-both : (f : FtypBox) (m : MoovBox) → last (ftyps_in boxes) ≡ Some f → last (moovs_in boxes) ≡ Some m
-      → opened_at size start ≡ Ok (record { ftyp = f; moov = m; size = end - start.position })
-  unfolding opened_at
-  opened-both f m some some' = rw (read, some, some') refl
+  module _ (f : FtypBox) (m : MoovBox) (some : last (ftyps_in boxes) ≡ Some f) (some' : last (moovs_in boxes) ≡ Some m)
+    where
+      pub opened-wrong_ids : (c : Cause) → id_fault m (moofs_in boxes) ≡ Some c → opened_at size start ≡ Err c
+      unfolding opened_at
+      opened-wrong_ids c fault = rw (found-all, some, some', fault) refl
+
+      pub opened-all : id_fault m (moofs_in boxes) ≡ None
+          → opened_at size start ≡ Ok (opened_with (found_of boxes) f m (end - start.position))
+      unfolding opened_at
+      opened-all none = rw (found-all, some, some', none) refl

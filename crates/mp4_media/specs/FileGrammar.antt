@@ -8,10 +8,12 @@ use Rattle.mp4_codec.specs.Cause.{Cause, end_of_data, invalid_data, box_not_foun
 use Rattle.mp4_codec.specs.Cursor.{Cursor, header_at, here}
 use Rattle.mp4_codec.specs.Children.{last}
 use Rattle.mp4_codec.specs.Framing.{WhyNoHead}
+use Rattle.mp4_boxes.specs.declared.moov.MoovBox.{MoovBox}
 use Rattle.mp4_media.specs.declared.opening.FileBox.{FileBox}
 use Rattle.mp4_media.specs.declared.opening.BoxContent.{BoxContent}
 use Rattle.mp4_media.specs.declared.opening.BoxContent.TheVariants.{Skipped}
-use Rattle.mp4_media.specs.FileBoxes.{meaning_of, ftyps_in, moovs_in, OpenedFile}
+use Rattle.mp4_media.specs.FileBoxes.{meaning_of, ftyps_in, moovs_in, moofs_in, moof_places_in, emsgs_in, OpenedFile}
+use Rattle.mp4_media.specs.MovieTracks.{id_fault}
 
 -- the bytes from one place to another
 abbrev pub between : List ℕ → ℕ → ℕ → List ℕ
@@ -54,8 +56,9 @@ AreFileBoxes size bytes place [] next = next ≡ place
 AreFileBoxes size bytes place (b ∷ bs) next =
     (behind : ℕ) × IsFileBox size bytes place behind b × AreFileBoxes size bytes behind bs next
 
--- The bytes from this place on are a file of `size` bytes: boxes to its end, of which the last file type and the last
--- movie are what is opened.
+-- The bytes from this place on are a file of `size` bytes: boxes to its end, of which the last file type, the last
+-- movie, all fragments and all event messages are what is opened. The ids of the movie's tracks and of its fragments
+-- have no fault.
 pub record IsFile (size : ℕ) (start : Cursor) (opened : OpenedFile) : Type 0 where
   pub boxes : List FileBox
   pub end : ℕ
@@ -63,6 +66,10 @@ pub record IsFile (size : ℕ) (start : Cursor) (opened : OpenedFile) : Type 0 w
   pub ends : EndsFile size start.bytes end
   pub ftyp : last (ftyps_in boxes) ≡ Some opened.ftyp
   pub moov : last (moovs_in boxes) ≡ Some opened.moov
+  pub moofs : opened.moofs ≡ moofs_in boxes
+  pub moof_places : opened.moof_places ≡ moof_places_in boxes
+  pub emsgs : opened.emsgs ≡ emsgs_in boxes
+  pub ids : id_fault opened.moov opened.moofs ≡ None
   pub size_is : opened.size ≡ end - start.position
 
 -- why a box of this type, whose payload stands between two places, holds nothing
@@ -87,8 +94,8 @@ pub data IsFault (size : ℕ) (bytes : List ℕ) (place : ℕ) (c : Cause) : Typ
       → to - from + 8 ≤ size → HoldsNothing bytes name from to c → IsFault size bytes place c
 
 -- The bytes from this place on are no file of `size` bytes, and this is the first fault: that of a box with only
--- faultless boxes before it; or, where no box up to the end has a fault, the missing file type, and then the missing
--- movie.
+-- faultless boxes before it; or, where no box up to the end has a fault, the missing file type, then the missing
+-- movie, and then the fault of the ids of the last movie and of all fragments.
 pub data IsFaultyFile (size : ℕ) (start : Cursor) (c : Cause) : Type 0 where
   faulty_box : (boxes : List FileBox) (place : ℕ) → AreFileBoxes size start.bytes start.position boxes place
       → IsFault size start.bytes place c → IsFaultyFile size start c
@@ -98,3 +105,7 @@ pub data IsFaultyFile (size : ℕ) (start : Cursor) (c : Cause) : Type 0 where
   no_moov : (boxes : List FileBox) (end : ℕ) → AreFileBoxes size start.bytes start.position boxes end
       → EndsFile size start.bytes end
       → (ftyps_in boxes ≡ [] → ⊥) → moovs_in boxes ≡ [] → c ≡ box_not_found moov → IsFaultyFile size start c
+  wrong_ids : (boxes : List FileBox) (end : ℕ) → AreFileBoxes size start.bytes start.position boxes end
+      → EndsFile size start.bytes end
+      → (ftyps_in boxes ≡ [] → ⊥) → (m : MoovBox) → last (moovs_in boxes) ≡ Some m
+      → id_fault m (moofs_in boxes) ≡ Some c → IsFaultyFile size start c

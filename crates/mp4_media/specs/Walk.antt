@@ -3,14 +3,19 @@ use Rattle.std.specs.Prelude.{ℕ, zero, suc, ◌+◌, ◌-◌, ◌^◌, List, [
 use Rattle.std.specs.Prelude.{nat_le, ◌==◌, if◌then◌else◌}
 use Rattle.mp4_codec.specs.declared.box_type.BoxType.TheVariants.{FtypBox as ftyp, MoovBox as moov}
 use Rattle.mp4_codec.specs.declared.header.BoxHeader.{BoxHeader}
-use Rattle.mp4_codec.specs.Cause.{Cause, end_of_data, invalid_data, ◌>>=◌}
+use Rattle.mp4_codec.specs.Cause.{Cause, end_of_data, invalid_data, ◌>>=◌, unless}
 use Rattle.mp4_codec.specs.Cursor.{Cursor, moved, header_at}
 use Rattle.mp4_codec.specs.Boxes.{box_at}
 use Rattle.mp4_codec.specs.Children.{last, needed}
 use Rattle.mp4_media.specs.declared.opening.FileBox.{FileBox}
 use Rattle.mp4_media.specs.declared.opening.BoxContent.{BoxContent}
 use Rattle.mp4_media.specs.declared.opening.BoxContent.TheVariants.{Skipped}
-use Rattle.mp4_media.specs.FileBoxes.{meaning_of, ftyps_in, moovs_in, OpenedFile}
+use Rattle.mp4_leaf.specs.declared.ftyp.FtypBox.{FtypBox}
+use Rattle.mp4_boxes.specs.declared.moov.MoovBox.{MoovBox}
+use Rattle.mp4_media.specs.declared.opening.Found.{Found}
+use Rattle.mp4_media.specs.FileBoxes.{meaning_of, ftyp_from, moov_from, moof_from, moof_place_from, emsg_from, ftyps_in}
+use Rattle.mp4_media.specs.FileBoxes.{moovs_in, moofs_in, moof_places_in, emsgs_in, later, and_one, OpenedFile}
+use Rattle.mp4_media.specs.MovieTracks.{id_fault}
 
 -- so many bytes are skipped, also past the end of the bytes, but not past 64 bits
 abbrev pub skip_at : ℕ → Cursor → Result Cursor Cause
@@ -51,10 +56,45 @@ unfoldable pub file_boxes_at : ℕ → ℕ → Cursor → Result (List FileBox �
 file_boxes_at zero size place = Ok ([], place.position)
 file_boxes_at (suc n) size place = next_box_at size place >>= and_boxes (file_boxes_at n size)
 
+-- what counts of these boxes: the last file type and the last movie, all fragments and all event messages
+abbrev pub found_of : List FileBox → Found
+found_of boxes = record {
+  ftyp = last (ftyps_in boxes);
+  moov = last (moovs_in boxes);
+  moofs = moofs_in boxes;
+  moof_places = moof_places_in boxes;
+  emsgs = emsgs_in boxes;
+}
+
+-- the same with one box more
+abbrev pub with_box : Found → FileBox → Found
+with_box found b = record {
+  ftyp = later (ftyp_from b.content) found.ftyp;
+  moov = later (moov_from b.content) found.moov;
+  moofs = and_one found.moofs (moof_from b.content);
+  moof_places = and_one found.moof_places (moof_place_from b);
+  emsgs = and_one found.emsgs (emsg_from b.content);
+}
+
+-- what counts of the boxes of a file from a place on, and the last place
+unfoldable pub found_at : ℕ → Cursor → Result (Found × ℕ) Cause
+found_at size place = file_boxes_at size size place >>= λ boxes. Ok (found_of boxes.0, boxes.1)
+
+-- what was found, as a file with this file type and this movie, of so many bytes
+abbrev pub opened_with : Found → FtypBox → MoovBox → ℕ → OpenedFile
+opened_with found file_type movie size = record {
+  ftyp = file_type;
+  moov = movie;
+  moofs = found.moofs;
+  moof_places = found.moof_places;
+  emsgs = found.emsgs;
+  size = size;
+}
+
 -- the file that is opened from a place on
 unfoldable pub opened_at : ℕ → Cursor → Result OpenedFile Cause
 opened_at size place = do
-  boxes ← file_boxes_at size size place
-  file_type ← needed ftyp (last (ftyps_in boxes.0))
-  movie ← needed moov (last (moovs_in boxes.0))
-  Ok (record { ftyp = file_type; moov = movie; size = boxes.1 - place.position })
+  found ← found_at size place
+  file_type ← needed ftyp found.0.ftyp
+  movie ← needed moov found.0.moov
+  unless (id_fault movie found.0.moofs) (Ok (opened_with found.0 file_type movie (found.1 - place.position)))

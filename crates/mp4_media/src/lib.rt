@@ -3,6 +3,7 @@
 
 mod opening;
 mod reader;
+mod tracks;
 mod writer;
 
 // Framing, and what boxes are made with.
@@ -42,7 +43,9 @@ pub use mp4_boxes::{
     MoovBox, MvexBox, StblBox, TrafBox, TrakBox, UdtaBox, equal_keys_hash_alike,
     read_tables_have_first_samples,
 };
-pub use mp4_lookup::{Mp4Sample, time_of};
+pub use mp4_lookup::{
+    Comparisons, Mp4Sample, Mp4Track, SamplePlace, SampleRef, rule_is_plain_expansion, time_of,
+};
 pub use mp4_mux::{Mp4Config, TrackConfig, mdat_header};
 pub use reader::{Mp4Reader, read_mp4};
 pub use writer::Mp4Writer;

@@ -1,21 +1,26 @@
 //! Opening a file: its boxes, one after the other.
 
-ghost use Rattle.std.specs.Prelude.{◌≡◌, ◌<◌, ◌≤◌, ◌-◌, ◌+◌, None, OnSome, IfNone, OnOk, IfOk};
+ghost use Rattle.std.specs.Prelude.{◌≡◌, ◌<◌, ◌≤◌, ◌-◌, ◌+◌, [], OnSome, IfNone, OnOk, IfOk};
 ghost use Rattle.mp4_codec.specs.BoxType.{IsNamed};
 ghost use Rattle.mp4_codec.specs.Cause.{Gives, Answers};
-ghost use Rattle.mp4_media.specs.FileBoxes.{meaning_of, ftyp_from, moov_from, later};
-ghost use Rattle.mp4_media.specs.Walk.{skip_at, content_at, next_box_at};
+ghost use Rattle.mp4_media.specs.FileBoxes.{meaning_of};
+ghost use Rattle.mp4_media.specs.Walk.{skip_at, content_at, next_box_at, found_of, with_box, found_at};
 
-use mp4_boxes::MoovBox;
-use mp4_codec::{BoxHeader, BoxType, ByteCursor, Error, HEADER_SIZE, OPEN_END, ReadBox, Result};
+use mp4_boxes::{MoofBox, MoovBox};
+use mp4_codec::{
+    BoxHeader, BoxType, ByteCursor, Error, HEADER_SIZE, Items, OPEN_END, ReadBox, Result,
+};
+use mp4_frag::EmsgBox;
 use mp4_leaf::FtypBox;
-use std::alloc::Global;
+use std::alloc::{AllocError, Global};
 
 /// What a box of a file holds.
 #[derive(Drop)]
 pub(crate) enum BoxContent {
     Ftyp(FtypBox),
     Moov(MoovBox),
+    Moof(MoofBox),
+    Emsg(EmsgBox),
     /// A box that isn't read.
     Skipped,
 }
@@ -28,34 +33,55 @@ pub(crate) struct FileBox {
     pub content: BoxContent,
 }
 
-/// What counts of a file's boxes: the last of each type.
+/// What counts of a file's boxes: the last file type and the last movie, all fragments and all event messages.
 #[derive(Drop)]
 pub(crate) struct Found {
     pub ftyp: Option<FtypBox>,
     pub moov: Option<MoovBox>,
+    pub moofs: Items<MoofBox>,
+    /// The place of each fragment's first byte.
+    pub moof_places: Items<u64>,
+    pub emsgs: Items<EmsgBox>,
 }
 
 impl Found {
     /// No box at all.
-    pub fn none() -> Self
-        ensures ftyp { result.ftyp ≡ None }
-        ensures moov { result.moov ≡ None }
+    pub fn none(alloc: Global) -> Self
+        ensures { result ≡ found_of [] }
     {
         Found {
             ftyp: None,
             moov: None,
+            moofs: Items::new(alloc),
+            moof_places: Items::new(alloc),
+            emsgs: Items::new(alloc),
         }
     }
 
     /// One box more.
-    pub fn add(&mut self, file_box: FileBox)
-        ensures ftyp { self.new.ftyp ≡ later (ftyp_from file_box.content) self.old.ftyp }
-        ensures moov { self.new.moov ≡ later (moov_from file_box.content) self.old.moov }
+    pub fn add(&mut self, file_box: FileBox) -> std::result::Result<(), AllocError>
+        ensures { OnOk result (self.new ≡ with_box self.old file_box) }
     {
-        match file_box.content {
-            BoxContent::Ftyp(ftyp) => self.ftyp = Some(ftyp),
-            BoxContent::Moov(moov) => self.moov = Some(moov),
-            BoxContent::Skipped => {}
+        let FileBox { place, content } = file_box;
+        match content {
+            BoxContent::Ftyp(ftyp) => {
+                self.ftyp = Some(ftyp);
+                Ok(())
+            }
+            BoxContent::Moov(moov) => {
+                self.moov = Some(moov);
+                Ok(())
+            }
+            BoxContent::Moof(moof) => {
+                self.moofs.push(moof)?;
+                self.moof_places.push(place)?;
+                Ok(())
+            }
+            BoxContent::Emsg(emsg) => {
+                self.emsgs.push(emsg)?;
+                Ok(())
+            }
+            BoxContent::Skipped => Ok(()),
         }
     }
 }
@@ -87,6 +113,14 @@ fn read_content(alloc: Global, reader: &mut ByteCursor, header: BoxHeader) -> Re
         BoxType::MoovBox => {
             let moov = MoovBox::read_box(alloc, reader, header.size)?;
             Ok(BoxContent::Moov(moov))
+        }
+        BoxType::MoofBox => {
+            let moof = MoofBox::read_box(alloc, reader, header.size)?;
+            Ok(BoxContent::Moof(moof))
+        }
+        BoxType::EmsgBox => {
+            let emsg = EmsgBox::read_box(alloc, reader, header.size)?;
+            Ok(BoxContent::Emsg(emsg))
         }
         _ => {
             skip(reader, header.size - HEADER_SIZE)?;
@@ -125,4 +159,18 @@ pub(crate) fn next_box(alloc: Global, reader: &mut ByteCursor, size: u64) -> Res
     }
     let content = read_content(alloc, reader, header)?;
     Ok(Some(FileBox { place, content }))
+}
+
+/// What counts of the boxes of a file of `size` bytes from the cursor on, which then stands at its end; or the first
+/// fault of a box.
+pub(crate) fn find_boxes(alloc: Global, reader: &mut ByteCursor, size: u64) -> Result<Found>
+    ensures answer { Answers (λ found. (found, reader.new.position)) result (found_at size reader.old) }
+    ensures onward { OnOk result (reader.old.position ≤ reader.new.position) }
+    ensures same { OnOk result (reader.new.bytes ≡ reader.old.bytes) }
+{
+    let mut found = Found::none(alloc);
+    while let Some(file_box) = next_box(alloc, reader, size)? {
+        found.add(file_box)?;
+    }
+    Ok(found)
 }

@@ -1,26 +1,37 @@
-//! Opened movies.
+//! Opened movies, and their samples.
 
-ghost use Rattle.std.specs.Prelude.{◌≡◌, ◌⊎◌, false, length, Ok, Err, IfOk, IfErr};
+ghost use Rattle.std.specs.Prelude.{◌≡◌, ◌⊎◌, ◌<◌, length, Some, Ok, Err, option_map, option_copied, IfOk, IfErr, ◌↔◌, IsTrue};
 ghost use Rattle.mp4_codec.specs.Cause.{Cause, cause_of, Gives, Answers};
 ghost use Rattle.mp4_codec.specs.Cursor.{here};
+ghost use Rattle.mp4_lookup.specs.declared.track.Mp4Track.{Mp4Track};
+ghost use Rattle.mp4_lookup.specs.Plain.{Consistent};
+ghost use Rattle.mp4_lookup.specs.Samples.{TimedSample, lent_sample, plain_sample_at, timed_sample};
 ghost use Rattle.mp4_lookup.specs.Time.{time_of};
+ghost use Rattle.mp4_lookup.specs.Tracks.{tables_of};
 ghost use Rattle.mp4_media.specs.FileBoxes.{OpenedFile, opened_file};
 ghost use Rattle.mp4_media.specs.FileGrammar.{IsFile, IsFaultyFile};
+ghost use Rattle.mp4_media.specs.MovieTracks.{AreTracks, at_id};
+ghost use Rattle.mp4_media.specs.Reading.{IsSample, ilst_of_movie, needed_track, sample_count_in, sample_in};
 ghost use Rattle.mp4_media.specs.Walk.{opened_at};
 
-use crate::opening::{Found, next_box};
-use mp4_boxes::MoovBox;
-use mp4_codec::{BoxType, ByteCursor, Error, FourCC, Result};
+use crate::opening::{Found, find_boxes};
+use crate::tracks::tracks_of;
+use bytes::Bytes;
+use mp4_boxes::{IlstBox, MetaBox, MoofBox, MoovBox};
+use mp4_codec::{ByteCursor, Error, FourCC, Items, Result, required};
+use mp4_frag::EmsgBox;
 use mp4_leaf::FtypBox;
-use mp4_lookup::time_of;
+use mp4_lookup::{Mp4Sample, Mp4Track, SampleRef, time_of};
 use std::alloc::Global;
+use std::collections::HashMap;
 
 /// Milliseconds in a second.
 const MILLISECONDS: u32 = 1000;
 
-/// A movie that was opened: its boxes, and the bytes that they were read from.
+/// A movie that was opened: its boxes, its tracks, and the bytes that they were read from.
 ///
-/// The accessors follow the public fields as they stand; [`Mp4Reader::size`] is that of the opening.
+/// The accessors follow the public fields as they stand; [`Mp4Reader::size`], the tracks and their samples are those
+/// of the opening.
 #[derive(Debug, Drop)]
 pub struct Mp4Reader<'a> {
     bytes: &'a [u8],
@@ -28,32 +39,43 @@ pub struct Mp4Reader<'a> {
     pub ftyp: FtypBox,
     /// The last moov of the file.
     pub moov: MoovBox,
+    /// All moofs of the file, in file order.
+    pub moofs: Items<MoofBox>,
+    /// All emsgs of the file, in file order.
+    pub emsgs: Items<EmsgBox>,
+    moof_places: Items<u64>,
     size: u64,
+    tracks: HashMap<u32, Mp4Track>,
 }
 
-/// Opens a file box by box: the answer is that of the walk over its boxes.
+/// Opens a file: the answer is that of the walk over its boxes, and then of the ids of its tracks.
+#[tactic(auto, unfolding(crate::specs::Walk::opened_at))]
 fn open<'a>(alloc: Global, reader: ByteCursor<'a>, size: u64) -> Result<Mp4Reader<'a>>
     ensures answer { Answers opened_file result (opened_at size reader.entry) }
     ensures bytes { IfOk result (λ r. r.bytes.now ≡ reader.entry.bytes) }
+    ensures tracks { IfOk result (λ r. AreTracks r.moov r.moofs r.tracks) }
 {
     let mut reader = reader;
     let start = reader.position();
-    let mut found = Found::none();
-    while let Some(file_box) = next_box(alloc, &mut reader, size)? {
-        found.add(file_box);
-    }
-    let Found { ftyp, moov } = found;
-    let Some(ftyp) = ftyp else {
-        return Err(Error::BoxNotFound(BoxType::FtypBox));
-    };
-    let Some(moov) = moov else {
-        return Err(Error::BoxNotFound(BoxType::MoovBox));
-    };
+    let Found {
+        ftyp,
+        moov,
+        moofs,
+        moof_places,
+        emsgs,
+    } = find_boxes(alloc, &mut reader, size)?;
+    let ftyp = required(ftyp)?;
+    let moov = required(moov)?;
+    let tracks = tracks_of(alloc, &moov, moofs.as_slice())?;
     Ok(Mp4Reader {
         bytes: reader.bytes(),
         ftyp,
         moov,
+        moofs,
+        emsgs,
+        moof_places,
         size: reader.position() - start,
+        tracks,
     })
 }
 
@@ -61,23 +83,27 @@ impl<'a> Mp4Reader<'a> {
     /// Opens the file that begins at the cursor and has `size` bytes, counted from the first byte that the cursor
     /// goes over (ISO/IEC 14496-12, 4.2 and 6.2).
     ///
-    /// While the position is below `size`, a box stands there. ftyp and moov are read and have to be
+    /// While the position is below `size`, a box stands there. ftyp, moov, moof and emsg are read and have to be
     /// within the bytes; all others are skipped to their end, which may lie past the bytes. A size of 0
     /// ends the file. The first fault in file order is the answer:
     ///
-    /// - `EndOfData` where fewer than 8 bytes are left before `size`, a header is cut, or an ftyp or moov
+    /// - `EndOfData` where fewer than 8 bytes are left before `size`, a header is cut, or a box that is read
     ///   passes the bytes;
-    /// - `InvalidData` for a size below its header, a size past `size`, an end past 64 bits, or an ftyp or moov
+    /// - `InvalidData` for a size below its header, a size past `size`, an end past 64 bits, or a box that is read
     ///   without a meaning;
-    /// - whatever else refuses an ftyp or a moov.
+    /// - whatever else refuses a box that is read.
     ///
-    /// Then `BoxNotFound` for a missing ftyp, and for a missing moov.
+    /// Then `BoxNotFound` for a missing ftyp, and for a missing moov; `InvalidData` where a track of the last moov has
+    /// the id 0; and `TrakNotFound` for the first fragment in file order whose track the last moov doesn't have.
+    ///
+    /// Of tracks with equal ids the last is opened. The fragments of a track are its trafs in file order (8.8.6).
     pub fn read_header(alloc: Global, reader: ByteCursor<'a>, size: u64) -> Result<Self>
         ensures file { IfOk result (λ r. IsFile size reader.entry (opened_file r)) }
         ensures opens { (opened : OpenedFile) → IsFile size reader.entry opened → Answers opened_file result (Ok opened) }
         ensures fault { IfErr result (λ e. (e ≡ Error.OutOfMemory) ⊎ IsFaultyFile size reader.entry (cause_of e)) }
         ensures refused { (c : Cause) → IsFaultyFile size reader.entry c → Answers opened_file result (Err c) }
         ensures bytes { IfOk result (λ r. r.bytes.now ≡ reader.entry.bytes) }
+        ensures tracks { IfOk result (λ r. AreTracks r.moov r.moofs r.tracks) }
     {
         open(alloc, reader, size)
     }
@@ -131,11 +157,101 @@ impl<'a> Mp4Reader<'a> {
         self.moov.mvhd.timescale
     }
 
-    /// Whether the file has fragments. They aren't read yet: a moof is skipped.
+    /// Whether the file has fragments (ISO/IEC 14496-12, 8.8.4).
     pub fn is_fragmented(&self) -> bool
-        ensures { result ≡ false }
+        ensures { IsTrue result ↔ (0 < length self.now.moofs) }
     {
-        false
+        !self.moofs.is_empty()
+    }
+
+    /// The items of the movie's metadata: those of its user data (ISO/IEC 14496-12, 8.10.1 and 8.11.1), where their
+    /// handler is `mdir`.
+    pub fn metadata(&self) -> Option<&IlstBox>
+        ensures { option_copied result ≡ ilst_of_movie self.now.moov }
+    {
+        match &self.moov.udta.as_ref()?.meta.as_ref()? {
+            MetaBox::Mdir { ilst } => ilst.as_ref(),
+            MetaBox::Unknown { .. } => None,
+        }
+    }
+
+    /// The tracks of the movie by their ids, as they were opened: of equal ids the last. Their samples are numbered
+    /// from 1.
+    pub fn tracks(&self) -> &HashMap<u32, Mp4Track>
+        ensures { result.now ≡ self.now.tracks }
+    {
+        &self.tracks
+    }
+
+    /// The track with this id; `TrakNotFound` where there is none.
+    fn track(&self, track_id: u32) -> Result<&Mp4Track>
+        ensures { Gives (λ t. t.now) result (needed_track self.now.tracks track_id) }
+    {
+        self.tracks
+            .get(&track_id)
+            .ok_or(Error::TrakNotFound(track_id))
+    }
+
+    /// How many samples the track with this id has, as [`Mp4Track::sample_count`] answers; `TrakNotFound` where there
+    /// is no such track.
+    #[tactic(auto, unfolding(crate::specs::Reading::sample_count_in))]
+    pub fn sample_count(&self, track_id: u32) -> Result<u32>
+        ensures { Gives (λ n. n) result (sample_count_in self.now.tracks track_id) }
+    {
+        self.track(track_id)?.sample_count()
+    }
+
+    /// Sample `k` of the track with this id, its bytes copied; samples are numbered from 1. Times are in ticks of the
+    /// track's timescale.
+    ///
+    /// `TrakNotFound` where there is no such track; else what [`Mp4Track::locate`] answers, `Ok(None)` among it; then
+    /// `EndOfData` where the sample doesn't lie whole in the bytes. Where memory runs out, there is such a sample.
+    pub fn read_sample(&mut self, track_id: u32, k: u32) -> Result<Option<Mp4Sample>>
+        ensures rule { Answers (λ s. option_map timed_sample s) result (sample_in self.old.bytes.now self.old.tracks track_id k) }
+        ensures plain { (t : Mp4Track) → at_id self.old.tracks track_id ≡ Some t → length t.trafs ≡ 0 → Consistent (tables_of t.trak) → Answers (λ s. option_map timed_sample s) result (plain_sample_at self.old.bytes.now (tables_of t.trak) k) }
+        ensures memory { IfErr result (λ e. e ≡ Error.OutOfMemory → IsSample (sample_in self.old.bytes.now self.old.tracks track_id k)) }
+        ensures same { self.new ≡ self.old }
+    {
+        let Some(sample) = self.read_sample_ref(track_id, k)? else {
+            return Ok(None);
+        };
+        let bytes = Bytes::copy_from_slice(self.moofs.allocator(), sample.bytes)?;
+        Ok(Some(Mp4Sample {
+            start_time: sample.start_time,
+            duration: sample.duration,
+            rendering_offset: sample.rendering_offset,
+            is_sync: sample.is_sync,
+            bytes,
+        }))
+    }
+
+    /// Sample `k` of the track with this id, its bytes lent by those that were opened, so that it may be kept when the
+    /// reader is gone. It takes no memory; all else is as in [`Mp4Reader::read_sample`].
+    pub fn read_sample_ref(&self, track_id: u32, k: u32) -> Result<Option<SampleRef<'a>>>
+        ensures rule { Gives (λ s. option_map lent_sample s) result (sample_in self.now.bytes.now self.now.tracks track_id k) }
+        ensures plain { (t : Mp4Track) → at_id self.now.tracks track_id ≡ Some t → length t.trafs ≡ 0 → Consistent (tables_of t.trak) → Gives (λ s. option_map lent_sample s) result (plain_sample_at self.now.bytes.now (tables_of t.trak) k) }
+    {
+        self.lent(track_id, k)
+    }
+
+    /// The answer of `read_sample_ref`.
+    #[tactic(auto, unfolding(crate::specs::Reading::sample_in, mp4_lookup::specs::Samples::sample_at))]
+    fn lent(&self, track_id: u32, k: u32) -> Result<Option<SampleRef<'a>>>
+        ensures { Gives (λ s. option_map lent_sample s) result (sample_in self.now.bytes.now self.now.tracks track_id k) }
+    {
+        let Some(place) = self.track(track_id)?.locate(k)? else {
+            return Ok(None);
+        };
+        let mut cursor = ByteCursor::new(self.bytes);
+        cursor.set_position(place.offset);
+        let bytes = cursor.take(u64::from(place.size))?;
+        Ok(Some(SampleRef {
+            start_time: place.start_time,
+            duration: place.duration,
+            rendering_offset: place.rendering_offset,
+            is_sync: place.is_sync,
+            bytes,
+        }))
     }
 }
 
@@ -146,6 +262,7 @@ pub fn read_mp4(alloc: Global, bytes: &[u8]) -> Result<Mp4Reader<'_>>
     ensures fault { IfErr result (λ e. (e ≡ Error.OutOfMemory) ⊎ IsFaultyFile (length bytes.now) (here bytes.now 0) (cause_of e)) }
     ensures refused { (c : Cause) → IsFaultyFile (length bytes.now) (here bytes.now 0) c → Answers opened_file result (Err c) }
     ensures bytes { IfOk result (λ r. r.bytes.now ≡ bytes.now) }
+    ensures tracks { IfOk result (λ r. AreTracks r.moov r.moofs r.tracks) }
 {
     Mp4Reader::read_header(alloc, ByteCursor::new(bytes), bytes.len() as u64)
 }

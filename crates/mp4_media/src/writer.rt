@@ -2,7 +2,8 @@
 
 ghost use Rattle.std.specs.Prelude.{◌≡◌, None, OnOk, OnErr, IfOk};
 ghost use Rattle.mp4_codec.specs.Cause.{AnswersCause, Checks};
-ghost use Rattle.mp4_mux.specs.Writing.{sample_of, started, with_track, with_sample, with_end, start_cause, track_cause, sample_cause, end_cause, whole_of, WriterState};
+ghost use Rattle.mp4_lookup.specs.Samples.{sample_of};
+ghost use Rattle.mp4_mux.specs.Writing.{started, with_track, with_sample, with_end, start_cause, track_cause, sample_cause, end_cause, whole_of, WriterState};
 ghost use Rattle.mp4_mux.specs.Written.{IsWrittenMovie};
 ghost use Rattle.mp4_media.specs.Finished.{Opens};
 ghost use Rattle.mp4_media.specs.WriterFields.{writer_state, IsWriter};

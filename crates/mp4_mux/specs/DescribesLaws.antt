@@ -10,7 +10,7 @@ use Rattle.std.proofs.lemmas.Simd.{map-map}
 use Rattle.mp4_table.specs.Chunks.{places}
 use Rattle.mp4_table.specs.Starts.{start_of}
 use Rattle.mp4_boxes.specs.declared.stbl.StblBox.{StblBox}
-use Rattle.mp4_lookup.specs.Samples.{Sample}
+use Rattle.mp4_lookup.specs.Samples.{Sample, TimedSample, timed_from, timed, read_at}
 use Rattle.mp4_lookup.specs.Places.{Place}
 use Rattle.mp4_mux.specs.declared.sample_info.SampleInfo.{SampleInfo}
 use Rattle.mp4_mux.specs.Chunks.{Chunk, chunk_bytes, samples_of, placed_from, of_track}
@@ -19,7 +19,7 @@ use Rattle.mp4_mux.specs.TrackHeaders.{PlacedChunk}
 use Rattle.mp4_mux.specs.TrackTables.{HasTables, FillsChunks, sample_at}
 use Rattle.mp4_mux.specs.TrackTableLaws.{Consistent-tables, plain-tables, get_or-sizes-places}
 use Rattle.mp4_mux.specs.Writing.{info_of}
-use Rattle.mp4_mux.specs.Written.{TimedSample, timed_from, timed, read_at, Describes, sizes_of}
+use Rattle.mp4_mux.specs.Written.{Describes, sizes_of}
 use Rattle.mp4_mux.specs.TileLaws.{table_places, ranges_of-table}
 use Rattle.mp4_mux.specs.ReadLaws.{bytes_at, read_ranges, ranges-within}
 

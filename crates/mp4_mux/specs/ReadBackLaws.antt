@@ -7,13 +7,13 @@ use Rattle.std.proofs.lemmas.List.{get_or-map, length-map}
 use Rattle.std.proofs.lemmas.Option.{same_Some, slice_get-get_or, slice_get_past, slice_get_within}
 use Rattle.mp4_boxes.specs.declared.stbl.StblBox.{StblBox}
 use Rattle.mp4_boxes.specs.declared.trak.TrakBox.{TrakBox}
-use Rattle.mp4_lookup.specs.Samples.{Sample}
+use Rattle.mp4_lookup.specs.Samples.{Sample, TimedSample, timed_from, timed, read_at}
 use Rattle.mp4_lookup.specs.Plain.{member, plain, plain_at, within_file}
 use Rattle.mp4_lookup.specs.Tracks.{tables_of}
 use Rattle.mp4_mux.specs.Writing.{WriterState, AcceptedTrack, accepted, no_track, movie_of, whole_of, with_end}
 use Rattle.mp4_mux.specs.Sound.{IsSound}
 use Rattle.mp4_mux.specs.EndedStates.{accepted-end}
-use Rattle.mp4_mux.specs.Written.{TimedSample, timed_from, timed, read_at, Describes, Finds, IsWrittenTrack}
+use Rattle.mp4_mux.specs.Written.{Describes, Finds, IsWrittenTrack}
 use Rattle.mp4_mux.specs.DescribesLaws.{length-timed_from}
 use Rattle.mp4_mux.specs.WrittenLaws.{written_movie}
 

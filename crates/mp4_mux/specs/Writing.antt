@@ -11,7 +11,6 @@ use Rattle.mp4_entry.specs.declared.config.MediaConfig.TheVariants.{TtxtConfig a
 use Rattle.mp4_entry.specs.declared.track_type.TrackType.TheVariants.{Subtitle}
 use Rattle.mp4_boxes.specs.declared.moov.MoovBox.{MoovBox}
 use Rattle.mp4_boxes.specs.Moov.{moov_payload}
-use Rattle.mp4_lookup.specs.declared.sample.Mp4Sample.{Mp4Sample}
 use Rattle.mp4_lookup.specs.Samples.{Sample}
 use Rattle.mp4_mux.specs.declared.config.Mp4Config.{Mp4Config}
 use Rattle.mp4_mux.specs.declared.config.TrackConfig.{TrackConfig}
@@ -33,16 +32,6 @@ pub record WriterState : Type 0 where
   -- the chunks in the order in which they stand in mdat
   pub chunks : List Chunk
   pub ended : Bool
-
--- a sample that was handed in, without the start that came with it
-abbrev pub sample_of : Mp4Sample → Sample
-sample_of s =
-    record {
-      bytes = s.bytes;
-      duration = s.duration;
-      rendering_offset = s.rendering_offset;
-      is_sync = s.is_sync;
-    }
 
 -- what the tables say of a sample
 abbrev pub info_of : Sample → SampleInfo

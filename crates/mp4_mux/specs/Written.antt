@@ -1,52 +1,25 @@
 -- What the bytes of a finished movie mean: the samples to which its tables lead, and how its data are shared out
 -- (ISO/IEC 14496-12, 8.1.1 and 8.3 to 8.7).
 use Rattle.std.specs.Prelude.{◌≡◌, ℕ, ◌+◌, ◌<◌, ◌≤◌, nat_eq, List, [], ◌∷◌, ◌++◌, length, map, take, drop, sum}
-use Rattle.std.specs.Prelude.{slice_get, Option, Some, None, Result, Ok, IfSome, ◌==◌}
+use Rattle.std.specs.Prelude.{slice_get, Option, Some, Result, Ok, IfSome, ◌==◌}
 use Rattle.std.specs.List.{All, filter, flat_map}
 use Rattle.std.specs.Ordering.{int_eq}
 use Rattle.mp4_codec.specs.Cause.{Cause}
 use Rattle.mp4_table.specs.Chunks.{counts, laid_from}
 use Rattle.mp4_table.specs.Runs.{turns}
-use Rattle.mp4_entry.specs.declared.media_type.MediaType.{MediaType}
-use Rattle.mp4_entry.specs.declared.media_type.MediaType.TheVariants.{H264, H265, VP9, AAC, TTXT}
 use Rattle.mp4_entry.specs.Config.{media_type_in}
-use Rattle.mp4_entry.specs.Stsd.{SampleEntry, avc_video, hevc_video, vp9_video, aac_sound, text, no_known, first_entry}
+use Rattle.mp4_entry.specs.Stsd.{first_entry}
 use Rattle.mp4_entry.specs.TrackType.{track_type_of}
 use Rattle.mp4_boxes.specs.declared.stbl.StblBox.{StblBox}
 use Rattle.mp4_boxes.specs.declared.trak.TrakBox.{TrakBox}
-use Rattle.mp4_lookup.specs.Samples.{Sample}
+use Rattle.mp4_lookup.specs.Samples.{Sample, TimedSample, timed, read_at}
 use Rattle.mp4_lookup.specs.Places.{Place}
 use Rattle.mp4_lookup.specs.Plain.{Consistent, sample_places, plain}
 use Rattle.mp4_lookup.specs.Tables.{chunk_offsets}
 use Rattle.mp4_lookup.specs.Tracks.{tables_of}
+use Rattle.mp4_lookup.specs.Kind.{coding_of}
 use Rattle.mp4_mux.specs.Chunks.{Chunk, sample_bytes}
 use Rattle.mp4_mux.specs.Writing.{WriterState, AcceptedTrack, accepted, data_of, data_place, movie_of, whole_of}
-
--- a sample, and the time at which it is decoded, in ticks of its track (8.6.1.2)
-pub record TimedSample : Type 0 where
-  pub start_time : ℕ
-  pub sample : Sample
-
--- the first sample is decoded at this time, and each of the others when the one before it has lasted
-unfoldable pub timed_from : ℕ → List Sample → List TimedSample
-timed_from time [] = []
-timed_from time (s ∷ ss) = record { start_time = time; sample = s } ∷ timed_from (time + s.duration) ss
-
--- the samples of a track with their times: the first is decoded at 0
-abbrev pub timed : List Sample → List TimedSample
-timed ss = timed_from 0 ss
-
--- the sample that lies at a place of a file: its bytes are as many as it has, from its offset on
-abbrev pub read_at : List ℕ → Place → TimedSample
-read_at file p = record {
-  start_time = p.start_time;
-  sample = record {
-    bytes = take p.size (drop p.offset file);
-    duration = p.duration;
-    rendering_offset = p.rendering_offset;
-    is_sync = p.is_sync;
-  };
-}
 
 -- The tables of a track describe these samples: they agree with each other, each place to which they lead lies in the
 -- file, and the samples that lie there are these, in order (8.6 and 8.7).
@@ -69,15 +42,6 @@ pub record HasFewestEntries (t : StblBox) (ss : List Sample) : Type 0 where
   pub stts : length t.stts.entries ≡ turns nat_eq (map (λ s. s.duration) ss)
   pub ctts : IfSome t.ctts (λ ctts. length ctts.entries ≡ turns int_eq (map (λ s. s.rendering_offset) ss))
   pub stsc : length t.stsc.entries ≡ turns nat_eq (counts t.stsc.entries (length (chunk_offsets t)))
-
--- how samples are coded, by their sample entry (8.5.2)
-abbrev pub coding_of : SampleEntry → Option MediaType
-coding_of (avc_video e) = Some H264
-coding_of (hevc_video e) = Some H265
-coding_of (vp9_video e) = Some VP9
-coding_of (aac_sound e) = Some AAC
-coding_of (text e) = Some TTXT
-coding_of no_known = None
 
 -- The box of an accepted track: its id (8.3.2), the ticks in a second and the language of the configuration (8.4.2),
 -- its kind of track (8.4.3) and of coding (8.5.2), as many samples as were accepted, and where there are any, tables

@@ -22,6 +22,7 @@ use Rattle.mp4_entry.specs.TrackType.{track_type_of}
 use Rattle.mp4_lookup.specs.Samples.{Sample}
 use Rattle.mp4_lookup.specs.Plain.{sample_places}
 use Rattle.mp4_lookup.specs.Tables.{chunk_offsets, sizes}
+use Rattle.mp4_lookup.specs.Kind.{coding_of}
 use Rattle.mp4_mux.specs.declared.config.TrackConfig.{TrackConfig}
 use Rattle.mp4_mux.specs.declared.sample_info.SampleInfo.{SampleInfo}
 use Rattle.mp4_mux.specs.Description.{stsd_for}
@@ -36,7 +37,7 @@ use Rattle.mp4_mux.specs.FinishedTrack.{counts_of, offsets_of, stbl_for, trak_wi
 use Rattle.mp4_mux.specs.Chunks.{Chunk, chunk_bytes, samples_of, placed_from, of_track}
 use Rattle.mp4_mux.specs.Writing.{WriterState, info_of, whole_of}
 use Rattle.mp4_mux.specs.FineLaws.{counted}
-use Rattle.mp4_mux.specs.Written.{Describes, HasFewestEntries, IsWrittenTrack, coding_of}
+use Rattle.mp4_mux.specs.Written.{Describes, HasFewestEntries, IsWrittenTrack}
 use Rattle.mp4_mux.specs.TileLaws.{table_places}
 use Rattle.mp4_mux.specs.DescribesLaws.{describes}
 

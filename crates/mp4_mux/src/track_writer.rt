@@ -4,12 +4,13 @@ ghost use Rattle.std.specs.Prelude.{ℕ, min, None, Ok, IfOk, ◌≡◌, ◌++�
 ghost use Rattle.std.specs.Option.{option_to_list};
 ghost use Rattle.mp4_codec.specs.Cause.{Answers, Checks};
 ghost use Rattle.mp4_boxes.specs.Trak.{trak_payload};
+ghost use Rattle.mp4_lookup.specs.Samples.{sample_of};
 ghost use Rattle.mp4_mux.specs.Config.{config_cause};
 ghost use Rattle.mp4_mux.specs.TrackHeaders.{movie_duration, durations_of};
 ghost use Rattle.mp4_mux.specs.FinishedTrack.{trak_for};
 ghost use Rattle.mp4_mux.specs.TrackParts.{finished};
 ghost use Rattle.mp4_mux.specs.Chunks.{sample_bytes, is_full};
-ghost use Rattle.mp4_mux.specs.Writing.{sample_of, info_of};
+ghost use Rattle.mp4_mux.specs.Writing.{info_of};
 ghost use Rattle.mp4_mux.specs.Building.{Building, new_building, pushed, popped, pending_place, closed, ticks, room_cause};
 ghost use Rattle.mp4_mux.specs.Media.{Media, building_at, media_with};
 ghost use Rattle.mp4_mux.specs.Parts.{last_place, track_with, finished_building};

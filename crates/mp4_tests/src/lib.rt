@@ -3,9 +3,19 @@
 #![tactic(auto)]
 
 #[cfg(test)]
+mod accessors;
+#[cfg(test)]
+mod asked;
+#[cfg(test)]
 mod asserts;
 #[cfg(test)]
 mod calls;
+#[cfg(test)]
+mod cut_files;
+#[cfg(test)]
+mod hostile_files;
+#[cfg(test)]
+mod large_files;
 #[cfg(test)]
 mod lookup;
 #[cfg(test)]
@@ -23,11 +33,19 @@ mod plain_movie;
 #[cfg(test)]
 mod plain_tracks;
 #[cfg(test)]
+mod random_files;
+#[cfg(test)]
 mod random_movies;
 #[cfg(test)]
 mod random_tracks;
 #[cfg(test)]
+mod reader;
+#[cfg(test)]
+mod reader_files;
+#[cfg(test)]
 mod refused_memory;
+#[cfg(test)]
+mod round_trip;
 #[cfg(test)]
 mod taste;
 #[cfg(test)]

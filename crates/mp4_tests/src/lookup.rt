@@ -1,14 +1,15 @@
 //! Where samples lie and when they begin, by tables that a test writes down.
 
 use crate::asserts::{check, holds};
-use crate::tracks::{THREE, Tables, found, holds_of, is_invalid_number, is_past};
+use crate::hostile_files::file_holds;
+use crate::tracks::{THREE, Tables, found, is_invalid_number, is_past};
 use bytes::Bytes;
 use mp4_codec::{BoxType, Error, Result};
 use mp4_lookup::{Comparisons, Mp4Sample, Mp4Track, SamplePlace, SampleRef};
 use std::alloc::Global;
 
 /// Offset and size, start and duration of a sample.
-fn bytes_and_times(track: &Mp4Track, k: u32) -> Option<(u64, u32, u64, u32)> {
+pub fn bytes_and_times(track: &Mp4Track, k: u32) -> Option<(u64, u32, u64, u32)> {
     match found(track, k) {
         None => None,
         Some(place) => Some((place.offset, place.size, place.start_time, place.duration)),
@@ -66,7 +67,7 @@ fn no_sample_is_found_past_the_last(track: &Mp4Track) -> bool {
     is_invalid_number(track, 0) && is_past(track, 4) && is_past(track, u32::MAX)
 }
 
-fn few_sizes_are_read(track: &Mp4Track) -> bool {
+pub fn few_sizes_are_read(track: &Mp4Track) -> bool {
     match found(track, 2) {
         None => false,
         Some(place) => 1 <= place.size_reads && place.size_reads <= 3,
@@ -78,17 +79,17 @@ fn three_text_samples(rt: HostRuntime) {
     check(
         &rt,
         "places and times",
-        holds_of(rt.alloc(), &TEXT, text_samples_are_found),
+        file_holds(rt.alloc(), &TEXT, text_samples_are_found),
     );
     check(
         &rt,
         "other numbers",
-        holds_of(rt.alloc(), &TEXT, no_sample_is_found_past_the_last),
+        file_holds(rt.alloc(), &TEXT, no_sample_is_found_past_the_last),
     );
     check(
         &rt,
         "running sizes",
-        holds_of(rt.alloc(), &TEXT, few_sizes_are_read),
+        file_holds(rt.alloc(), &TEXT, few_sizes_are_read),
     );
 }
 
@@ -101,7 +102,7 @@ fn runs_without_samples_take_no_time(rt: HostRuntime) {
     check(
         &rt,
         1,
-        holds_of(
+        file_holds(
             rt.alloc(),
             &Tables {
                 durations: &[(0, 9), (2, 5), (0, 7), (1, 3)],
@@ -121,7 +122,7 @@ fn chunks_without_samples_are_invalid(rt: HostRuntime) {
     check(
         &rt,
         1,
-        holds_of(
+        file_holds(
             rt.alloc(),
             &Tables {
                 chunks: &[(1, 0)],
@@ -142,7 +143,7 @@ fn a_sample_past_the_durations_is_refused_by_its_number(rt: HostRuntime) {
     check(
         &rt,
         1,
-        holds_of(
+        file_holds(
             rt.alloc(),
             &Tables {
                 durations: &[(1, 1)],
@@ -162,7 +163,7 @@ fn a_chunk_of_number_zero_is_invalid(rt: HostRuntime) {
     check(
         &rt,
         1,
-        holds_of(
+        file_holds(
             rt.alloc(),
             &Tables {
                 durations: &[(2, 1)],
@@ -184,7 +185,7 @@ fn a_place_past_64_bits_is_invalid(rt: HostRuntime) {
     check(
         &rt,
         1,
-        holds_of(
+        file_holds(
             rt.alloc(),
             &Tables {
                 durations: &[(2, 1)],
@@ -207,7 +208,7 @@ fn the_largest_durations_are_added(rt: HostRuntime) {
     check(
         &rt,
         1,
-        holds_of(
+        file_holds(
             rt.alloc(),
             &Tables {
                 durations: &[(u32::MAX, u32::MAX), (u32::MAX, u32::MAX)],
@@ -233,7 +234,7 @@ fn sync_samples_may_stand_in_any_order(rt: HostRuntime) {
     check(
         &rt,
         1,
-        holds_of(
+        file_holds(
             rt.alloc(),
             &Tables {
                 durations: &[(5, 1)],
@@ -256,7 +257,7 @@ fn an_empty_table_of_sync_samples_names_none(rt: HostRuntime) {
     check(
         &rt,
         1,
-        holds_of(
+        file_holds(
             rt.alloc(),
             &Tables {
                 sync_samples: Some(&[]),
@@ -276,7 +277,7 @@ fn one_size_for_all_needs_no_count(rt: HostRuntime) {
     check(
         &rt,
         1,
-        holds_of(
+        file_holds(
             rt.alloc(),
             &Tables {
                 durations: &[(1, 1)],
@@ -307,7 +308,7 @@ fn rendering_offsets(rt: HostRuntime) {
     check(
         &rt,
         "past the table's end",
-        holds_of(
+        file_holds(
             rt.alloc(),
             &Tables {
                 durations: &[(2, 1)],
@@ -322,7 +323,7 @@ fn rendering_offsets(rt: HostRuntime) {
     check(
         &rt,
         "runs of them",
-        holds_of(
+        file_holds(
             rt.alloc(),
             &Tables {
                 durations: &[(5, 1)],
@@ -345,7 +346,7 @@ fn without_an_entry_of_chunks_every_number_is_invalid(rt: HostRuntime) {
     check(
         &rt,
         1,
-        holds_of(
+        file_holds(
             rt.alloc(),
             &Tables {
                 chunks: &[],
@@ -375,7 +376,7 @@ fn later_chunks_have_more_samples(track: &Mp4Track) -> bool {
 
 fn samples_follow_each_other(alloc: Global) -> Result<bool> {
     let offsets = offsets_of(alloc, 19026)?;
-    holds_of(
+    file_holds(
         alloc,
         &Tables {
             durations: &[(19039, 1)],
@@ -429,7 +430,7 @@ fn the_last_is_found(track: &Mp4Track) -> bool {
 
 #[test]
 fn the_last_of_4294967295_samples_is_found_at_once(rt: HostRuntime) {
-    check(&rt, 1, holds_of(rt.alloc(), &ALL, the_last_is_found));
+    check(&rt, 1, file_holds(rt.alloc(), &ALL, the_last_is_found));
 }
 
 /// Whether a place prints its fields.

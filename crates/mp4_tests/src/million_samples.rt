@@ -1,9 +1,13 @@
-//! A track of a million samples, of which each is looked up.
+//! The file of a track of a million samples, of which each is looked up and read.
 
+use crate::asked::reads;
 use crate::asserts::check;
-use crate::tracks::{Tables, holds_of, is_past};
+use crate::movies::EMPTY_MOVIE;
+use crate::plain_bytes::{begin_box, end_box};
+use crate::tracks::{Tables, put_movie};
 use mp4_codec::Result;
-use mp4_lookup::{Comparisons, Mp4Track, SamplePlace};
+use mp4_lookup::{Comparisons, SamplePlace, SampleRef};
+use mp4_media::{Mp4Reader, read_mp4};
 use std::alloc::Global;
 
 const SAMPLES: u32 = 1_000_000;
@@ -56,11 +60,11 @@ fn chunks(alloc: Global) -> Result<Vec<(u32, u32)>> {
     Ok(entries)
 }
 
-/// The chunks follow each other.
+/// The chunks follow each other, the first behind the header of the media data.
 fn offsets(alloc: Global) -> Result<Vec<u64>> {
     let mut offsets = Vec::new(alloc);
-    offsets.push(0)?;
-    for offset in 500_000..1_000_000 {
+    offsets.push(40)?;
+    for offset in 500_040..1_000_040 {
         offsets.push(offset)?;
     }
     Ok(offsets)
@@ -77,7 +81,7 @@ fn are_few(comparisons: &Comparisons) -> bool {
 
 /// Whether a place is that of sample `k`, which begins at this time.
 fn is_place_of(place: &SamplePlace, k: u32, start_time: u64) -> bool {
-    place.offset == u64::from(k).wrapping_sub(1)
+    place.offset == u64::from(k).wrapping_add(39)
         && place.size == 1
         && place.start_time == start_time
         && place.duration == 2 - k % 2
@@ -88,35 +92,74 @@ fn is_place_of(place: &SamplePlace, k: u32, start_time: u64) -> bool {
 }
 
 /// Whether sample `k` is found, which begins at this time.
-fn is_found(track: &Mp4Track, k: u32, start_time: u64) -> bool {
+fn is_found(reader: &Mp4Reader, k: u32, start_time: u64) -> bool {
+    let Some(track) = reader.tracks().get(&1) else {
+        return false;
+    };
     match track.locate(k) {
         Ok(Some(place)) => is_place_of(&place, k, start_time),
         _ => false,
     }
 }
 
-/// Whether each sample is found, the last at 1499998, and none behind it.
-fn each_is_found(track: &Mp4Track) -> bool {
+/// The byte that sample `k` is made of.
+fn byte_of(k: u32) -> u8 {
+    (k % 251) as u8
+}
+
+/// Whether sample `k` is read, which begins at this time.
+fn is_read(reader: &mut Mp4Reader, k: u32, start_time: u64) -> bool {
+    let sample = SampleRef {
+        start_time,
+        duration: 2 - k % 2,
+        rendering_offset: if k % 2 == 0 { 8 } else { 7 },
+        is_sync: true,
+        bytes: &[byte_of(k)],
+    };
+    reads(reader, 1, k, &Ok(Some(sample)))
+}
+
+/// Whether each sample is found and read, the last at 1499998, and none behind it.
+fn each_is_read(reader: &mut Mp4Reader) -> bool {
     let mut start_time = 0u64;
     let mut all = true;
     for k in 1..=SAMPLES {
-        all = all && is_found(track, k, start_time);
+        all = all && is_found(reader, k, start_time) && is_read(reader, k, start_time);
         start_time = start_time.wrapping_add(u64::from(2 - k % 2));
     }
     all && start_time == 1_500_000
-        && is_found(track, SAMPLES, 1_499_998)
-        && is_past(track, SAMPLES + 1)
+        && is_read(reader, SAMPLES, 1_499_998)
+        && reads(reader, 1, SAMPLES + 1, &Ok(None))
 }
 
-/// Whether each sample of a track is found, of which all but the first half have chunks of their own.
-fn all_are_found(alloc: Global) -> Result<bool> {
+/// File type and media data: a byte for each sample.
+fn media_data(alloc: Global) -> Result<Vec<u8>> {
+    let mut bytes = (&EMPTY_MOVIE[..32]).to_vec(alloc)?;
+    let start = begin_box(&mut bytes, b"mdat")?;
+    for k in 1..=SAMPLES {
+        bytes.push(byte_of(k))?;
+    }
+    end_box(&mut bytes, start);
+    Ok(bytes)
+}
+
+/// Whether each sample is read of the file with these tables.
+fn file_is_read(alloc: Global, tables: &Tables) -> Result<bool> {
+    let mut bytes = media_data(alloc)?;
+    put_movie(alloc, &mut bytes, tables)?;
+    let mut reader = read_mp4(alloc, &bytes)?;
+    Ok(each_is_read(&mut reader))
+}
+
+/// Whether each sample of a track is read, of which all but the first half have chunks of their own.
+fn all_are_read(alloc: Global) -> Result<bool> {
     let durations = durations(alloc)?;
     let rendering_offsets = rendering_offsets(alloc)?;
     let sync_samples = sync_samples(alloc)?;
     let chunks = chunks(alloc)?;
     let sizes = sizes(alloc)?;
     let offsets = offsets(alloc)?;
-    holds_of(
+    file_is_read(
         alloc,
         &Tables {
             durations: &durations,
@@ -128,11 +171,10 @@ fn all_are_found(alloc: Global) -> Result<bool> {
             sizes: &sizes,
             offsets: &offsets,
         },
-        each_is_found,
     )
 }
 
 #[test]
-fn a_million_samples_are_found(rt: HostRuntime) {
-    check(&rt, 1, all_are_found(rt.alloc()));
+fn a_million_samples_are_read(rt: HostRuntime) {
+    check(&rt, 1, all_are_read(rt.alloc()));
 }

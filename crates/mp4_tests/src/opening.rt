@@ -12,7 +12,7 @@ const MOOV: usize = 48;
 const MVHD: usize = 56;
 
 /// The size of what opens, or the refusal, without its text.
-fn opened(alloc: Global, bytes: &[u8]) -> Result<u64> {
+pub fn opened(alloc: Global, bytes: &[u8]) -> Result<u64> {
     match read_mp4(alloc, bytes) {
         Ok(movie) => Ok(movie.size()),
         Err(Error::InvalidData(_)) => Err(Error::InvalidData("")),

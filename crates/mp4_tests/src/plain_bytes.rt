@@ -34,16 +34,21 @@ pub fn begin_box(bytes: &mut Vec<u8>, kind: &[u8]) -> Result<usize> {
     Ok(start)
 }
 
-/// Ends the box that begins there: its size goes up to here.
-pub fn end_box(bytes: &mut Vec<u8>, start: usize) {
-    let size = u32::try_from(bytes.len().saturating_sub(start)).unwrap_or(0);
+/// Writes a number over the bytes from a place on.
+pub fn put_over(bytes: &mut Vec<u8>, start: usize, number: u32) {
     let mut place = start;
-    for digit in size.to_be_bytes() {
+    for digit in number.to_be_bytes() {
         if let Some(byte) = bytes.get_mut(place) {
             *byte = digit;
         }
         place = place.wrapping_add(1);
     }
+}
+
+/// Ends the box that begins there: its size goes up to here.
+pub fn end_box(bytes: &mut Vec<u8>, start: usize) {
+    let size = u32::try_from(bytes.len().saturating_sub(start)).unwrap_or(0);
+    put_over(bytes, start, size);
 }
 
 /// What stands before the entries of a table, of so many bytes each.

@@ -230,9 +230,25 @@ fn list_is_alike(alloc: Global, pool: &[u8], seed: u64) -> Result<bool> {
     Ok(alike && writer.into_writer() == movie.bytes)
 }
 
+/// The bytes that a writer makes of the calls of a list and an end, and the model's movie.
+pub fn random_movie<'a>(
+    alloc: Global,
+    pool: &'a [u8],
+    seed: u64,
+) -> Result<(Vec<u8>, PlainMovie<'a>)> {
+    let mut random = Random::new(seed);
+    let habits = Habits::new(pool, &mut random);
+    let beginning = random_beginning(&mut random);
+    let mut movie = PlainMovie::begin(alloc, &[], &beginning)?;
+    let mut writer = begun(alloc, &[], &beginning)?;
+    let _ = all_answer_alike(alloc, &mut writer, &mut movie, &habits, &mut random)?;
+    let _ = answers_alike(alloc, &mut writer, &mut movie, &Call::WriteEnd)?;
+    Ok((writer.into_writer(), movie))
+}
+
 /// As many bytes as a parameter set that is too long has, and as many more as the place where one
 /// may begin.
-fn random_bytes(alloc: Global) -> Result<Vec<u8>> {
+pub fn random_bytes(alloc: Global) -> Result<Vec<u8>> {
     let mut random = Random::new(14496);
     let mut bytes = Vec::new(alloc);
     for _ in 0..65536 + 256 {

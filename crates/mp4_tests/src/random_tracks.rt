@@ -1,7 +1,7 @@
 //! Tracks of random tables, from fixed seeds: at each number the lookup answers as a walk over the tables does.
 
 use crate::asserts::check;
-use crate::tracks::{Tables, holds_of};
+use crate::tracks::{Tables, holds_of, written_track};
 use crate::walked_lookup::walk;
 use mp4_codec::{Error, Result};
 use mp4_lookup::Mp4Track;
@@ -112,8 +112,24 @@ fn break_one(tables: &mut RandomTables, random: &mut Random, count: u32) -> Resu
     Ok(())
 }
 
+/// The payload of a track of random tables, of which one in four has a broken one; most chunks lie in the first
+/// thousand bytes.
+pub fn random_track(alloc: Global, random: &mut Random) -> Result<Vec<u8>> {
+    let mut tables = RandomTables::new(alloc);
+    let count = put_all(&mut tables, random)?;
+    if random.few() == 0 {
+        break_one(&mut tables, random, count)?;
+    }
+    for offset in tables.offsets.iter_mut() {
+        if random.few() > 0 {
+            *offset %= 1000;
+        }
+    }
+    written_track(alloc, &tables.with(random, count))
+}
+
 /// Whether both answers are refusals for the same reason.
-fn are_same_refusal(one: &Error, other: &Error) -> bool {
+pub fn are_same_refusal(one: &Error, other: &Error) -> bool {
     match (one, other) {
         (Error::InvalidData(_), Error::InvalidData(_)) => true,
         _ => one == other,

@@ -2,6 +2,7 @@
 //! these tests with one request refused, each in turn. A refused call then answers `OutOfMemory`, it leaves what it
 //! must, and made again it is Ok. While a test prints that a request was refused, the next one is tried.
 
+use crate::asked::{is_held, lends};
 use crate::asserts::{check, holds, same};
 use crate::calls::{Call, ISOM, Media, add_text, make, media_track, write_sync};
 use crate::lookup::{TEXT, text_samples_are_found};
@@ -21,7 +22,8 @@ use mp4_frag::{EmsgBox, MehdBox, MfhdBox, TfdtBox, TfhdBox, TrexBox, TrunBox};
 use mp4_leaf::{
     DataBox, DinfBox, ElstBox, FtypBox, HdlrBox, MdhdBox, MvhdBox, SmhdBox, TkhdBox, VmhdBox,
 };
-use mp4_media::{Mp4Config, Mp4Writer, TrackConfig, read_mp4};
+use mp4_lookup::{Mp4Sample, SampleRef};
+use mp4_media::{Mp4Config, Mp4Reader, Mp4Writer, TrackConfig, read_mp4};
 use mp4_table::{Co64Box, CttsBox, StcoBox, StscBox, StssBox, StszBox, SttsBox};
 use mp4_test_parts::sample_boxes::Number;
 use mp4_test_parts::sides::Side;
@@ -664,18 +666,145 @@ fn a_refused_end_leaves_the_bytes(rt: HostRuntime) {
     check(&rt, 1, bytes_are_left(&rt));
 }
 
+/// A movie that is opened, again after a refusal.
+fn opened_again<'a>(rt: &HostRuntime, bytes: &'a [u8]) -> Result<Mp4Reader<'a>> {
+    match read_mp4(rt.alloc(), bytes) {
+        Err(error) if is_refusal(rt, &error) => read_mp4(rt.alloc(), bytes),
+        answer => answer,
+    }
+}
+
 /// The size of the empty movie, which is opened again after a refusal.
-fn opened_again(rt: &HostRuntime) -> Result<u64> {
-    let movie = match read_mp4(rt.alloc(), &EMPTY_MOVIE) {
-        Err(error) if is_refusal(rt, &error) => read_mp4(rt.alloc(), &EMPTY_MOVIE)?,
-        answer => answer?,
-    };
+fn size_again(rt: &HostRuntime) -> Result<u64> {
+    let movie = opened_again(rt, &EMPTY_MOVIE)?;
     Ok(movie.size())
 }
 
 #[test]
 fn a_refused_opening_is_made_again(rt: HostRuntime) {
-    same(&rt, opened_again(&rt), Ok(164));
+    same(&rt, size_again(&rt), Ok(164));
+}
+
+/// A sample that is read, again after a refusal.
+fn sample_again(
+    rt: &HostRuntime,
+    reader: &mut Mp4Reader,
+    id: u32,
+    k: u32,
+) -> Result<Option<Mp4Sample>> {
+    match reader.read_sample(id, k) {
+        Err(error) if is_refusal(rt, &error) => reader.read_sample(id, k),
+        answer => answer,
+    }
+}
+
+/// A sync sample of a track of 1000 ticks a second.
+fn sync(start_time: u64, duration: u32, bytes: &[u8]) -> SampleRef<'_> {
+    SampleRef {
+        start_time,
+        duration,
+        rendering_offset: 0,
+        is_sync: true,
+        bytes,
+    }
+}
+
+/// Whether these are the samples of a track, as they are lent; that takes no memory.
+fn are_lent(reader: &Mp4Reader, id: u32, samples: &[SampleRef]) -> bool {
+    let mut k = 0u32;
+    let mut all = reader.sample_count(id) == Ok(u32::try_from(samples.len()).unwrap_or(0));
+    for sample in samples {
+        k = k.wrapping_add(1);
+        all = all && lends(reader, id, k, &Ok(Some(*sample)));
+    }
+    all
+}
+
+/// Whether these are the samples of a track, each read again after a refusal, which leaves them all.
+fn are_read_again(
+    rt: &HostRuntime,
+    reader: &mut Mp4Reader,
+    id: u32,
+    samples: &[SampleRef],
+) -> bool {
+    let mut k = 0u32;
+    let mut all = are_lent(reader, id, samples);
+    for sample in samples {
+        k = k.wrapping_add(1);
+        let answer = sample_again(rt, reader, id, k);
+        all = all && is_held(&answer, &Ok(Some(*sample))) && are_lent(reader, id, samples);
+    }
+    all
+}
+
+/// Whether the samples of the text movie are read, each call made again after a refusal.
+fn text_movie_is_read(rt: &HostRuntime) -> Result<bool> {
+    let bytes = hex_again(rt, TEXT_MOVIE)?;
+    let mut reader = opened_again(rt, &bytes)?;
+    let samples = [
+        sync(0, 500, b"abc"),
+        sync(500, 500, b"def"),
+        sync(1000, 500, b"gh"),
+    ];
+    Ok(are_read_again(rt, &mut reader, 1, &samples))
+}
+
+#[test]
+fn a_refused_sample_of_a_text_movie_is_read_again(rt: HostRuntime) {
+    check(&rt, 1, text_movie_is_read(&rt));
+}
+
+/// Whether the one sample of each of five tracks is read, again after a refusal.
+fn each_has_one(rt: &HostRuntime, reader: &mut Mp4Reader) -> bool {
+    are_read_again(rt, reader, 1, &[sync(0, 500, b"picture")])
+        && are_read_again(rt, reader, 2, &[sync(0, 1000, b"pictures")])
+        && are_read_again(rt, reader, 3, &[sync(0, 1000, b"more")])
+        && are_read_again(rt, reader, 4, &[sync(0, 1000, b"sound")])
+        && are_read_again(rt, reader, 5, &[sync(0, 1000, b"")])
+}
+
+/// Whether tracks of each kind of media are read, each call made again after a refusal.
+fn five_are_read(rt: &HostRuntime) -> Result<bool> {
+    let bytes = modelled_again(rt, &five_calls())?;
+    let mut reader = opened_again(rt, &bytes)?;
+    Ok(reader.tracks().len() == 5 && each_has_one(rt, &mut reader))
+}
+
+#[test]
+fn a_refused_sample_of_five_tracks_is_read_again(rt: HostRuntime) {
+    check(&rt, 1, five_are_read(&rt));
+}
+
+/// A file of a text track with defaults of fragments, and a fragment of two parts of it.
+fn fragmented(alloc: Global) -> Result<Vec<u8>> {
+    let mut bytes = (&EMPTY_MOVIE[..32]).to_vec(alloc)?;
+    bytes.extend_from_slice(&MOVIE)?;
+    bytes.extend_from_slice(&FRAGMENT)?;
+    Ok(bytes)
+}
+
+/// The bytes of that file, which are made again after a refusal.
+fn fragmented_again(rt: &HostRuntime) -> Result<Vec<u8>> {
+    match fragmented(rt.alloc()) {
+        Err(error) if is_refusal(rt, &error) => fragmented(rt.alloc()),
+        answer => answer,
+    }
+}
+
+/// Whether a track with fragments has them, each call made again after a refusal.
+fn fragments_are_read(rt: &HostRuntime) -> Result<bool> {
+    let bytes = fragmented_again(rt)?;
+    let reader = opened_again(rt, &bytes)?;
+    let Some(track) = reader.tracks().get(&1) else {
+        return Ok(false);
+    };
+    let copy = copy_again(rt, &track.trafs)?;
+    Ok(copy.len() == 2 && copy == track.trafs && track.default_sample_duration == 40)
+}
+
+#[test]
+fn a_refused_opening_of_a_fragmented_file_is_made_again(rt: HostRuntime) {
+    check(&rt, 1, fragments_are_read(&rt));
 }
 
 /// Whether the samples of a track are found, which is made again with its index after a refusal.
@@ -791,7 +920,7 @@ fn refused_calls_of_a_text_movie_are_made_again(rt: HostRuntime) {
 }
 
 /// The calls that write a track of each kind of media with one sample, of which two are left to the end.
-fn five_calls() -> [Call<'static>; 11] {
+pub fn five_calls() -> [Call<'static>; 11] {
     let [avc, hevc, vp9, aac, text] = five_tracks();
     [
         avc,

@@ -1,11 +1,14 @@
 //! The functions that the README shows.
 
 use crate::asserts::check;
-use mp4_media::{FourCC, Items, Mp4Config, Mp4Writer, Result, read_mp4};
+use bytes::Bytes;
+use mp4_media::{
+    FourCC, Items, Mp4Config, Mp4Sample, Mp4Writer, Result, TrackConfig, TtxtConfig, read_mp4,
+};
 use std::alloc::Global;
 
-/// The bytes of a movie without tracks, with 1000 ticks in a second.
-fn empty_movie(alloc: Global) -> Result<Vec<u8>> {
+/// The bytes of a movie of one text track, in which each line lasts for a second.
+fn subtitles(alloc: Global, lines: &[&[u8]]) -> Result<Vec<u8>> {
     let brands = vec![in alloc; FourCC::from(*b"isom"), FourCC::from(*b"mp41")]?;
     let config = Mp4Config {
         major_brand: FourCC::from(*b"isom"),
@@ -14,6 +17,17 @@ fn empty_movie(alloc: Global) -> Result<Vec<u8>> {
         timescale: 1000,
     };
     let mut writer = Mp4Writer::write_start(alloc, Vec::new(alloc), &config)?;
+    writer.add_track(&TrackConfig::from_ttxt(alloc, TtxtConfig {})?)?;
+    for line in lines {
+        let sample = Mp4Sample {
+            start_time: 0,
+            duration: 1000,
+            rendering_offset: 0,
+            is_sync: true,
+            bytes: Bytes::copy_from_slice(alloc, line)?,
+        };
+        writer.write_sample(1, &sample)?;
+    }
     writer.write_end()?;
     Ok(writer.into_writer())
 }
@@ -27,13 +41,30 @@ fn header_text(alloc: Global, file: &[u8]) -> Result<String> {
     Ok(format!(in alloc; "{brand}: {size} bytes, {milliseconds} ms")?)
 }
 
-/// Whether an empty movie is described so.
-fn is_described(alloc: Global, expected: &str) -> Result<bool> {
-    let file = empty_movie(alloc)?;
-    Ok(header_text(alloc, &file)?.as_str() == expected)
+/// The bytes of all samples of a track, one behind the other.
+fn track_bytes(alloc: Global, file: &[u8], track_id: u32) -> Result<Vec<u8>> {
+    let movie = read_mp4(alloc, file)?;
+    let mut bytes = Vec::new(alloc);
+    for number in 1..=movie.sample_count(track_id)? {
+        if let Some(sample) = movie.read_sample_ref(track_id, number)? {
+            bytes.extend_from_slice(sample.bytes)?;
+        }
+    }
+    Ok(bytes)
+}
+
+/// Whether a movie of two lines is described so, and holds them.
+fn holds_two_lines(alloc: Global, expected: &str) -> Result<bool> {
+    let file = subtitles(alloc, &[b"Hello, ", b"world"])?;
+    let is_described = header_text(alloc, &file)?.as_str() == expected;
+    Ok(is_described && track_bytes(alloc, &file, 1)?.as_slice() == b"Hello, world".as_slice())
 }
 
 #[test]
-fn the_header_of_an_empty_movie_is_described(rt: HostRuntime) {
-    check(&rt, 1, is_described(rt.alloc(), "isom: 156 bytes, 0 ms"));
+fn a_movie_of_two_lines_is_described_and_read(rt: HostRuntime) {
+    check(
+        &rt,
+        1,
+        holds_two_lines(rt.alloc(), "isom: 583 bytes, 2000 ms"),
+    );
 }

@@ -1,7 +1,9 @@
 //! Tracks of tables that a test writes down: they are written as boxes and read as those of a file are.
 
+use crate::movies::EMPTY_MOVIE;
 use crate::plain_bytes::{
-    put, put_chunks, put_durations, put_offsets, put_rendering_offsets, put_sizes, put_sync_samples,
+    begin_box, end_box, put, put_chunks, put_durations, put_offsets, put_rendering_offsets,
+    put_sizes, put_sync_samples,
 };
 use mp4_boxes::{TrakBox, read_tables_have_first_samples};
 use mp4_codec::{Error, Items, ReadBox, Result};
@@ -73,11 +75,23 @@ fn with_box(alloc: Global, texts: &[&str], kind: &[u8], payload: &[u8]) -> Resul
 }
 
 /// The payload of a track of these tables.
-fn written_track(alloc: Global, tables: &Tables) -> Result<Vec<u8>> {
+pub fn written_track(alloc: Global, tables: &Tables) -> Result<Vec<u8>> {
     let tables = written_tables(alloc, tables)?;
     let information = with_box(alloc, &[DINF], b"stbl", &tables)?;
     let media = with_box(alloc, &[MDHD, HDLR], b"minf", &information)?;
     with_box(alloc, &[TKHD], b"mdia", &media)
+}
+
+/// Puts the movie of a track of id 1 that has these tables.
+pub fn put_movie(alloc: Global, bytes: &mut Vec<u8>, tables: &Tables) -> Result<()> {
+    let payload = written_track(alloc, tables)?;
+    let movie = begin_box(bytes, b"moov")?;
+    bytes.extend_from_slice(&EMPTY_MOVIE[56..])?;
+    let track = begin_box(bytes, b"trak")?;
+    bytes.extend_from_slice(&payload)?;
+    end_box(bytes, track);
+    end_box(bytes, movie);
+    Ok(())
 }
 
 /// The track of a payload of a trak.

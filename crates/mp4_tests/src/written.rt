@@ -2,6 +2,7 @@
 
 use crate::calls::{Beginning, Call, config_of, make};
 use crate::plain_movie::PlainMovie;
+use crate::round_trip::is_read_back;
 use mp4_codec::{Error, Result};
 use mp4_media::Mp4Writer;
 use mp4_test_parts::spelled::hex;
@@ -56,7 +57,7 @@ pub fn written(
 }
 
 /// The model's movie after these calls, of which some may be refused.
-fn movie_of<'a>(
+pub fn movie_of<'a>(
     alloc: Global,
     buffer: &[u8],
     beginning: &Beginning,
@@ -117,7 +118,7 @@ pub fn have_code(bytes: &[u8], code: &[u8]) -> bool {
 }
 
 /// Whether the model and the writer make a movie of this many bytes, which has all that these texts
-/// spell.
+/// spell, and is read back.
 pub fn is_written(
     alloc: Global,
     beginning: &Beginning,
@@ -125,9 +126,11 @@ pub fn is_written(
     size: usize,
     texts: &[&str],
 ) -> Result<bool> {
-    let expected = modelled(alloc, &[], beginning, calls)?;
+    let mut movie = movie_of(alloc, &[], beginning, calls)?;
+    let _ = movie.make(&Call::WriteEnd)?;
     let bytes = written(alloc, &[], beginning, calls)?;
-    Ok(bytes == expected && bytes.len() == size && have_in_order(alloc, &bytes, texts)?)
+    let is_spelled = bytes == movie.bytes && bytes.len() == size;
+    Ok(is_spelled && have_in_order(alloc, &bytes, texts)? && is_read_back(alloc, &bytes, &movie)?)
 }
 
 /// What a writer answers to the last of these calls.

@@ -104,6 +104,9 @@ abbrev pub opened_script : ℕ → OpenedFile
 opened_script size = record {
   ftyp = file_type_of standard_config;
   moov = movie_of (with_end standard_writer);
+  moofs = [];
+  moof_places = [];
+  emsgs = [];
   size = size;
 }
 

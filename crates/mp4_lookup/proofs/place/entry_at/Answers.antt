@@ -2,7 +2,7 @@ use Rattle.std.proofs.Common.{refl, arith}
 use Rattle.std.proofs.lemmas.Bool.{ne_eqb, eq-eqb}
 use Rattle.mp4_table.specs.declared.stsc.StscEntry.{StscEntry}
 use Rattle.mp4_lookup.specs.Rule.{entry_for}
-use Rattle.mp4_lookup.proofs.Entries.{first_samples_positive}
+use Rattle.mp4_lookup.specs.EntryLaws.{first_samples_positive}
 use Rattle.mp4_lookup.proofs.Searches.{first_samples_rise, last_where-searched, last_where-searched_none}
 use Rattle.mp4_lookup.proofs.Searches.{first_sample_found}
 use Rattle.mp4_lookup.proofs.place.entry_at.Goals as goal

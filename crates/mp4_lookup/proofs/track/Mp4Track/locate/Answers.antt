@@ -1,5 +1,5 @@
 use Rattle.std.proofs.Common.{arith}
-use Rattle.mp4_lookup.proofs.Tracks.{answer_is_plain}
+use Rattle.mp4_lookup.specs.TrackLaws.{answer_is_plain}
 use Rattle.mp4_lookup.proofs.track.Mp4Track.locate.Goals as goal
 
 pub returns-clause-plain : goal.returns-clause-plain

@@ -1,0 +1,114 @@
+-- The tracks of an opened movie by their ids, each with its fragments (ISO/IEC 14496-12, 8.3.2, 8.8.3 and 8.8.7).
+use Rattle.std.specs.Prelude.{◌≡◌, ◌⊎◌, ℕ, nat_eq, Bool, List, [], Option, Some, None, is_some, unwrap_or, length}
+use Rattle.std.specs.Prelude.{option_map, Result, Ok, Err, ◌==◌, if◌then◌else◌}
+use Rattle.std.specs.List.{AllByRecursion, filter, flat_map}
+use Rattle.std.specs.HashMap.{HashMap, get}
+use Rattle.mp4_codec.specs.declared.error.Error.{Error}
+use Rattle.mp4_codec.specs.declared.error.Error.TheVariants.{OutOfMemory}
+use Rattle.mp4_codec.specs.Cause.{Cause, invalid_data, trak_not_found, cause_of, ◌or◌}
+use Rattle.mp4_codec.specs.Boxes.{all_refusal}
+use Rattle.mp4_codec.specs.Children.{last}
+use Rattle.mp4_table.specs.Stsc.{HasFirstSamples}
+use Rattle.mp4_frag.specs.declared.trex.TrexBox.{TrexBox}
+use Rattle.mp4_boxes.specs.declared.moov.MoovBox.{MoovBox}
+use Rattle.mp4_boxes.specs.declared.trak.TrakBox.{TrakBox}
+use Rattle.mp4_boxes.specs.declared.mvex.MvexBox.{MvexBox}
+use Rattle.mp4_boxes.specs.declared.moof.MoofBox.{MoofBox}
+use Rattle.mp4_boxes.specs.declared.traf.TrafBox.{TrafBox}
+use Rattle.mp4_lookup.specs.declared.track.Mp4Track.{Mp4Track}
+use Rattle.mp4_lookup.specs.Tracks.{tables_of}
+
+-- the box of the track with this id: of equal ids the last
+abbrev pub trak_with_id : List TrakBox → ℕ → Option TrakBox
+trak_with_id traks id = last (filter (λ (t : TrakBox). t.tkhd.track_id == id) traks)
+
+-- the parts of all fragments, in file order: each adds samples to one track
+abbrev pub trafs_in : List MoofBox → List TrafBox
+trafs_in moofs = flat_map (λ (m : MoofBox). m.trafs) moofs
+
+-- those that add samples to this track
+abbrev pub trafs_of : List TrafBox → ℕ → List TrafBox
+trafs_of trafs id = filter (λ (f : TrafBox). f.tfhd.track_id == id) trafs
+
+-- the defaults of each track's fragments
+abbrev pub trexs_in : Option MvexBox → List TrexBox
+trexs_in None = []
+trexs_in (Some mvex) = mvex.trexs
+
+-- how long a fragment's sample lasts that says nothing of it: by the last defaults of this track, if there are any
+abbrev pub duration_with_id : List TrexBox → ℕ → Option ℕ
+duration_with_id trexs id =
+    option_map (λ (x : TrexBox). x.default_sample_duration)
+    (last (filter (λ (x : TrexBox). x.track_id == id) trexs))
+
+-- the same of a track with these fragments: 0 where there are no defaults, and without fragments
+abbrev pub default_duration : List TrafBox → Option ℕ → ℕ
+default_duration trafs duration = if length trafs == 0 then 0 else unwrap_or duration 0
+
+-- a track of an opened movie: what the movie says of it, and its fragments
+pub record OpenedTrack : Type 0 where
+  pub trak : TrakBox
+  pub trafs : List TrafBox
+  pub default_sample_duration : ℕ
+
+abbrev pub with_fragments : MoovBox → List MoofBox → TrakBox → OpenedTrack
+with_fragments moov moofs trak = record {
+  trak = trak;
+  trafs = trafs_of (trafs_in moofs) trak.tkhd.track_id;
+  default_sample_duration =
+      default_duration (trafs_of (trafs_in moofs) trak.tkhd.track_id)
+      (duration_with_id (trexs_in moov.mvex) trak.tkhd.track_id);
+}
+
+-- the track with this id in an opened movie with these fragments
+unfoldable pub track_at : MoovBox → List MoofBox → ℕ → Option OpenedTrack
+track_at moov moofs id = option_map (with_fragments moov moofs) (trak_with_id moov.traks id)
+
+-- ids of tracks count from 1
+abbrev pub zero_id : TrakBox → Option Cause
+zero_id t = if t.tkhd.track_id == 0 then Some invalid_data else None
+
+-- a fragment of a track that isn't known
+abbrev pub unknown_id : (ℕ → Bool) → TrafBox → Option Cause
+unknown_id known f = if known f.tfhd.track_id then None else Some (trak_not_found f.tfhd.track_id)
+
+-- the first such part of the fragments
+abbrev pub unknown_ids : (ℕ → Bool) → List MoofBox → Option Cause
+unknown_ids known moofs = all_refusal (λ (m : MoofBox). all_refusal (unknown_id known) m.trafs) moofs
+
+-- each track has the first samples of the entries of its sample-to-chunk table (8.7.4)
+abbrev pub HaveFirstSamples : List TrakBox → Type 0
+HaveFirstSamples traks = AllByRecursion (λ (t : TrakBox). HasFirstSamples (tables_of t).stsc.entries) traks
+
+-- why the ids of a movie are refused: those of its tracks first, and then, in file order, those of its fragments
+unfoldable pub id_fault : MoovBox → List MoofBox → Option Cause
+id_fault moov moofs =
+    all_refusal zero_id moov.traks or unknown_ids (λ id. is_some (trak_with_id moov.traks id)) moofs
+
+-- A call is refused for this cause and no other, or memory ran out; where there is no cause it is Ok, or memory ran out.
+abbrev pub RefusedBy : {X : Type 0} → Option Cause → Result X Error → Type 0
+RefusedBy cause (Ok x) = cause ≡ None
+RefusedBy cause (Err e) = (e ≡ OutOfMemory) ⊎ (cause ≡ Some (cause_of e))
+
+-- a track that was made, as the opened movie has it
+abbrev pub opened_track : Mp4Track → OpenedTrack
+opened_track t = record { trak = t.trak; trafs = t.trafs; default_sample_duration = t.default_sample_duration }
+
+module _ {X S : Type 0} where
+  -- what is kept for an id
+  abbrev pub at_id : HashMap ℕ X S → ℕ → Option X
+  at_id m id = get nat_eq m id
+
+  -- whether anything is
+  abbrev pub has_id : HashMap ℕ X S → ℕ → Bool
+  has_id m id = is_some (at_id m id)
+
+module _ {S : Type 0} where
+  -- the fragments that are kept for an id
+  abbrev pub fragments_at : HashMap ℕ (List TrafBox) S → ℕ → List TrafBox
+  fragments_at m id = unwrap_or (at_id m id) []
+
+module _ {S : Type 0} where
+  -- at each id there is the opened movie's track
+  abbrev pub AreTracks : MoovBox → List MoofBox → HashMap ℕ Mp4Track S → Type 0
+  AreTracks moov moofs tracks = (id : ℕ) → option_map opened_track (at_id tracks id) ≡ track_at moov moofs id

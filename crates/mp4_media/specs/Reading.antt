@@ -1,0 +1,47 @@
+-- What an opened movie answers of its metadata and of its samples (ISO/IEC 14496-12, 8.3.2, 8.6, 8.7 and 8.11).
+use Rattle.std.specs.Prelude.{◌≡◌, ℕ, List, Option, Some, None, Result, Ok, Err}
+use Rattle.std.specs.HashMap.{HashMap}
+use Rattle.mp4_codec.specs.Cause.{Cause, trak_not_found, ◌>>=◌}
+use Rattle.mp4_boxes.specs.declared.ilst.IlstBox.{IlstBox}
+use Rattle.mp4_boxes.specs.declared.meta.MetaBox.{MetaBox}
+use Rattle.mp4_boxes.specs.declared.meta.MetaBox.TheVariants.{Mdir, Unknown}
+use Rattle.mp4_boxes.specs.declared.udta.UdtaBox.{UdtaBox}
+use Rattle.mp4_boxes.specs.declared.moov.MoovBox.{MoovBox}
+use Rattle.mp4_lookup.specs.declared.track.Mp4Track.{Mp4Track}
+use Rattle.mp4_lookup.specs.Rates.{sample_count_of}
+use Rattle.mp4_lookup.specs.Samples.{TimedSample, sample_at}
+use Rattle.mp4_media.specs.MovieTracks.{at_id}
+
+abbrev pub ilst_of_meta : Option MetaBox → Option IlstBox
+ilst_of_meta None = None
+ilst_of_meta (Some (Mdir ilst)) = ilst
+ilst_of_meta (Some (Unknown hdlr children)) = None
+
+abbrev pub ilst_of_udta : Option UdtaBox → Option IlstBox
+ilst_of_udta None = None
+ilst_of_udta (Some udta) = ilst_of_meta udta.meta
+
+-- the items of a movie: those of the metadata in its user data, where the handler is `mdir`
+abbrev pub ilst_of_movie : MoovBox → Option IlstBox
+ilst_of_movie moov = ilst_of_udta moov.udta
+
+-- there is a sample
+abbrev pub IsSample : Result (Option TimedSample) Cause → Type 0
+IsSample answer = (s : TimedSample) × (answer ≡ Ok (Some s))
+
+abbrev pub track_or : ℕ → Option Mp4Track → Result Mp4Track Cause
+track_or id None = Err (trak_not_found id)
+track_or id (Some t) = Ok t
+
+module _ {S : Type 0} where
+  -- the track with this id, which has to be there
+  abbrev pub needed_track : HashMap ℕ Mp4Track S → ℕ → Result Mp4Track Cause
+  needed_track tracks id = track_or id (at_id tracks id)
+
+  -- what is read at number k of the track with this id
+  unfoldable pub sample_in : List ℕ → HashMap ℕ Mp4Track S → ℕ → ℕ → Result (Option TimedSample) Cause
+  sample_in file tracks id k = needed_track tracks id >>= λ t. sample_at file t.trak t.trafs k
+
+  -- how many samples the track with this id has
+  unfoldable pub sample_count_in : HashMap ℕ Mp4Track S → ℕ → Result ℕ Cause
+  sample_count_in tracks id = needed_track tracks id >>= λ t. sample_count_of t.trak t.trafs
