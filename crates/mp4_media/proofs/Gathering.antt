@@ -107,7 +107,7 @@ box_before traks i t some within is =
     ∙ ap₂ (λ (x : TrakBox) (j : ℕ). x ∷ drop j traks) (sym is) (omega arith)
 
 -- the track with an id, with one box more at the beginning
-with_first : (t : TrakBox) (traks : List TrakBox) (id : ℕ)
+pub with_first : (t : TrakBox) (traks : List TrakBox) (id : ℕ)
     → trak_with_id (t ∷ traks) id ≡ later (trak_with_id traks id) (cond (eqb t.tkhd.track_id id) (Some t) None)
 with_first t traks id = last-first (eqb t.tkhd.track_id id) t (filter (λ (x : TrakBox). eqb x.tkhd.track_id id) traks)
 

@@ -6,3 +6,5 @@ pub mod Finishing
 pub mod FirstSamples
 pub mod Gathering
 pub mod Reading
+pub mod ReadBack
+pub mod Performing

@@ -5,3 +5,5 @@ pub mod Reading
 pub mod Walk
 pub mod WriterFields
 pub mod Finished
+pub mod WriterCalls
+pub mod RoundTrip

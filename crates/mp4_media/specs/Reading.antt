@@ -29,7 +29,8 @@ ilst_of_movie moov = ilst_of_udta moov.udta
 abbrev pub IsSample : Result (Option TimedSample) Cause → Type 0
 IsSample answer = (s : TimedSample) × (answer ≡ Ok (Some s))
 
-abbrev pub track_or : ℕ → Option Mp4Track → Result Mp4Track Cause
+-- a track, which has to be there
+abbrev pub track_or : {T : Type 0} → ℕ → Option T → Result T Cause
 track_or id None = Err (trak_not_found id)
 track_or id (Some t) = Ok t
 

@@ -1,8 +1,11 @@
 //! MP4 files (ISO/IEC 14496-12), read and written.
 #![tactic(auto)]
 
+mod calls;
+mod laws;
 mod opening;
 mod reader;
+mod round_trip;
 mod tracks;
 mod writer;
 
@@ -38,6 +41,8 @@ pub use mp4_table::{
 };
 
 // Containers, and movies.
+pub use calls::WriterCall;
+pub use laws::{interleavings_are_read_alike, samples_follow_one_another};
 pub use mp4_boxes::{
     EdtsBox, IlstBox, IlstItemBox, MdiaBox, MetaBox, Metadata, MetadataKey, MinfBox, MoofBox,
     MoovBox, MvexBox, StblBox, TrafBox, TrakBox, UdtaBox, equal_keys_hash_alike,
@@ -46,6 +51,11 @@ pub use mp4_boxes::{
 pub use mp4_lookup::{
     Comparisons, Mp4Sample, Mp4Track, SamplePlace, SampleRef, rule_is_plain_expansion, time_of,
 };
-pub use mp4_mux::{Mp4Config, TrackConfig, mdat_header};
+pub use mp4_mux::{
+    Mp4Config, TrackConfig, an_end_closes_one_chunk_a_track, an_end_writes_the_accepted_samples,
+    calls_accept_their_samples, chunks_are_just_full, described_samples_are_found,
+    interleavings_accept_the_same, mdat_header,
+};
 pub use reader::{Mp4Reader, read_mp4};
+pub use round_trip::{FoundSample, RoundTrip, SampleQuery, find_sample, write_and_read};
 pub use writer::Mp4Writer;

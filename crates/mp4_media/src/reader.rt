@@ -184,7 +184,7 @@ impl<'a> Mp4Reader<'a> {
     }
 
     /// The track with this id; `TrakNotFound` where there is none.
-    fn track(&self, track_id: u32) -> Result<&Mp4Track>
+    pub(crate) fn track(&self, track_id: u32) -> Result<&Mp4Track>
         ensures { Gives (λ t. t.now) result (needed_track self.now.tracks track_id) }
     {
         self.tracks

@@ -96,7 +96,7 @@ impl Mp4Writer {
         self.check_track(config)?;
         config.in_range();
         let config = config.try_clone()?;
-        let alloc = *self.buffer.allocator();
+        let alloc = self.allocator();
         let track = TrackWriter::new(alloc, self.config.timescale, config);
         self.tracks.push(track)?;
         Ok(())
@@ -166,7 +166,7 @@ impl Mp4Writer {
     {
         self.check_end()?;
         let end = self.buffer.len();
-        let mut tail = pending_bytes(*self.buffer.allocator(), &self.tracks)?;
+        let mut tail = pending_bytes(self.allocator(), &self.tracks)?;
         let size = (end - self.mdat) as u64 + tail.len() as u64;
         put_movie(&mut tail, self.config.timescale, &self.tracks, end as u64)?;
         finish(&mut self.buffer, self.mdat, size, &tail)?;
@@ -192,6 +192,11 @@ impl Mp4Writer {
         self.end()?;
         let _ = &self.ended;
         Ok(())
+    }
+
+    /// Where the writer takes its memory from.
+    pub fn allocator(&self) -> Global {
+        *self.buffer.allocator()
     }
 
     /// The bytes as they stand.

@@ -1,6 +1,6 @@
 -- Calls of a writer with their replies: what they make of it, and what they accept.
 use Rattle.std.specs.Prelude.{◌≡◌, ℕ, ◌-◌, ◌^◌, ◌<◌, List, [], ◌∷◌, ◌++◌, Option, Result, FitsSigned, ⊤}
-use Rattle.std.specs.Prelude.{true, is_ok, if◌then◌else◌, slice_index_or, slice_set}
+use Rattle.std.specs.Prelude.{Bool, true, false, ◌&&◌, ◌||◌, is_ok, if◌then◌else◌, slice_index_or, slice_set}
 use Rattle.std.specs.Int.{w32}
 use Rattle.std.specs.List.{AllByRecursion}
 use Rattle.mp4_codec.specs.declared.error.Error.{Error}
@@ -62,6 +62,18 @@ Answered [] (reply ∷ replies) st = ⊥
 Answered (call ∷ calls) [] st = ⊥
 Answered (call ∷ calls) (reply ∷ replies) st =
     AnswersCause (call_cause st call) reply × Answered calls replies (after_reply st call reply)
+
+-- a call that ends the movie
+abbrev pub is_end : Call → Bool
+is_end (add_track config) = false
+is_end (write_sample id s) = false
+is_end write_end = true
+
+-- an end was answered with Ok
+unfoldable pub has_end : List Call → List Reply → Bool
+has_end [] replies = false
+has_end (call ∷ calls) [] = false
+has_end (call ∷ calls) (reply ∷ replies) = (is_end call && is_ok reply) || has_end calls replies
 
 -- one writer has the front and the configuration of another
 pub record HasSameFront (st new : WriterState) : Type 0 where

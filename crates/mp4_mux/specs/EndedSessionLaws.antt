@@ -6,7 +6,8 @@ use Rattle.mp4_mux.specs.Writing.{WriterState, accepted, started, with_end}
 use Rattle.mp4_mux.specs.Sound.{IsSound}
 use Rattle.mp4_mux.specs.StateLaws.{sound_started, sample_welcome, one_more}
 use Rattle.mp4_mux.specs.EndedStates.{accepted-end}
-use Rattle.mp4_mux.specs.Calls.{Call, Reply, step, call_cause, after, Answered, IsInRangeCall, Session, IsEnded}
+use Rattle.mp4_mux.specs.Calls.{Call, Reply, step, call_cause, after_reply, after, Answered, has_end, IsInRangeCall}
+use Rattle.mp4_mux.specs.Calls.{Session, IsEnded}
 use Rattle.mp4_mux.specs.Calls.{writer_of, accepted_by}
 use Rattle.mp4_mux.specs.Calls.Call.{add_track, write_sample, write_end}
 use Rattle.mp4_mux.specs.CallLaws.{step_goes_on, answered_ok, sound_step}
@@ -41,6 +42,29 @@ end_after (call ∷ calls) (Ok x ∷ replies) st a fits sound h =
     let e = answered_ok (call_cause st call) a.0 in
     end_after calls replies (step st call) a.1 fits.1 (sound_step st call sound e fits.0) (end_step st call sound e)
 end_after (call ∷ calls) (Err e ∷ replies) st a fits sound h = end_after calls replies st a.1 fits.1 sound h
+
+-- a writer that has ended stays so
+stays_ended : (calls : List Call) (replies : List Reply) (st : WriterState) → Answered calls replies st
+    → st.ended ≡ true → (after calls replies st).ended ≡ true
+unfolding after Answered
+stays_ended [] replies st a over = over
+stays_ended (call ∷ calls) [] st a over = absurd a
+stays_ended (call ∷ calls) (Ok x ∷ replies) st a over =
+    absurd (true≢false (sym over ∙ step_goes_on st call (answered_ok (call_cause st call) a.0)))
+stays_ended (call ∷ calls) (Err e ∷ replies) st a over = stays_ended calls replies st a.1 over
+
+-- where an end was answered with Ok, the writer has ended
+pub ended_after : (calls : List Call) (replies : List Reply) (st : WriterState) → Answered calls replies st
+    → has_end calls replies ≡ true → (after calls replies st).ended ≡ true
+unfolding after Answered has_end
+ended_after [] replies st a e = absurd (true≢false (sym e))
+ended_after (call ∷ calls) [] st a e = absurd a
+ended_after (add_track config ∷ calls) (reply ∷ replies) st a e =
+    ended_after calls replies (after_reply st (add_track config) reply) a.1 e
+ended_after (write_sample id s ∷ calls) (reply ∷ replies) st a e =
+    ended_after calls replies (after_reply st (write_sample id s) reply) a.1 e
+ended_after (write_end ∷ calls) (Ok x ∷ replies) st a e = stays_ended calls replies (with_end st) a.1 refl
+ended_after (write_end ∷ calls) (Err c ∷ replies) st a e = ended_after calls replies st a.1 e
 
 came_to_end : (session : Session) → IsEnded session → IsEndOfSound (writer_of session)
 came_to_end session e =

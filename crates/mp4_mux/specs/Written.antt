@@ -1,6 +1,6 @@
 -- What the bytes of a finished movie mean: the samples to which its tables lead, and how its data are shared out
 -- (ISO/IEC 14496-12, 8.1.1 and 8.3 to 8.7).
-use Rattle.std.specs.Prelude.{◌≡◌, ℕ, ◌+◌, ◌<◌, ◌≤◌, nat_eq, List, [], ◌∷◌, ◌++◌, length, map, take, drop, sum}
+use Rattle.std.specs.Prelude.{◌≡◌, ℕ, ◌+◌, ◌<◌, ◌≤◌, nat_eq, List, [], ◌∷◌, ◌++◌, length, map, sum}
 use Rattle.std.specs.Prelude.{slice_get, Option, Some, Result, Ok, IfSome, ◌==◌}
 use Rattle.std.specs.List.{All, filter, flat_map}
 use Rattle.std.specs.Ordering.{int_eq}
@@ -45,7 +45,7 @@ pub record HasFewestEntries (t : StblBox) (ss : List Sample) : Type 0 where
 
 -- The box of an accepted track: its id (8.3.2), the ticks in a second and the language of the configuration (8.4.2),
 -- its kind of track (8.4.3) and of coding (8.5.2), as many samples as were accepted, and where there are any, tables
--- that lead to them.
+-- that lead to them. Where there is none, no entry of a chunk is there (8.7.4).
 pub record IsWrittenTrack (st : WriterState) (id : ℕ) (a : AcceptedTrack) (trak : TrakBox) : Type 0 where
   pub id_is : trak.tkhd.track_id ≡ id
   pub timescale : trak.mdia.mdhd.timescale ≡ a.config.timescale
@@ -54,6 +54,7 @@ pub record IsWrittenTrack (st : WriterState) (id : ℕ) (a : AcceptedTrack) (tra
   pub coding : coding_of (first_entry (tables_of trak).stsd) ≡ Some (media_type_in a.config.media_conf)
   pub count : (tables_of trak).stsz.sample_count ≡ length a.samples
   pub described : 0 < length a.samples → Describes (whole_of st) (tables_of trak) a.samples
+  pub empty : length a.samples ≡ 0 → (tables_of trak).stsc.entries ≡ []
   pub fewest : HasFewestEntries (tables_of trak) a.samples
 
 -- how many bytes each of these samples has

@@ -1,12 +1,12 @@
 -- The box of a finished track: what it says of its configuration, and the samples to which its tables lead.
-use Rattle.std.proofs.Common.{◌≡◌, ℕ, ◌<◌, ◌≤◌, nat_eq, List, ◌++◌, length, map}
+use Rattle.std.proofs.Common.{◌≡◌, ℕ, ◌<◌, ◌≤◌, nat_eq, List, [], ◌∷◌, ◌++◌, length, map}
 use Rattle.std.proofs.Common.{Some, Ok, refl, sym, ap, ap₂, subst, ◌∙◌, arith}
 use Rattle.std.specs.Prelude.{IfSome}
 use Rattle.std.specs.Ordering.{int_eq}
-use Rattle.std.specs.List.{All}
+use Rattle.std.specs.List.{All, sum_by}
 use Rattle.std.proofs.lemmas.List.{length-map}
 use Rattle.std.proofs.lemmas.List.Elements.{All-map}
-use Rattle.std.proofs.lemmas.List.Sums.{sum-map}
+use Rattle.std.proofs.lemmas.List.Sums.{sum-map, sum_by-cons}
 use Rattle.std.proofs.lemmas.Simd.{map-map}
 use Rattle.mp4_table.specs.Chunks.{counts, places}
 use Rattle.mp4_table.specs.Runs.{turns}
@@ -26,7 +26,7 @@ use Rattle.mp4_lookup.specs.Kind.{coding_of}
 use Rattle.mp4_mux.specs.declared.config.TrackConfig.{TrackConfig}
 use Rattle.mp4_mux.specs.declared.sample_info.SampleInfo.{SampleInfo}
 use Rattle.mp4_mux.specs.Description.{stsd_for}
-use Rattle.mp4_mux.specs.SampleTables.{ctts_for, stsz_for, stsc_for}
+use Rattle.mp4_mux.specs.SampleTables.{ctts_for, stsz_for, chunk_entries_from, stsc_for}
 use Rattle.mp4_mux.specs.SampleTableLaws.{length-stts_for, length-ctts_for}
 use Rattle.mp4_mux.specs.SizeTableLaws.{sizes-stsz_for}
 use Rattle.mp4_mux.specs.OffsetTableLaws.{offsets_of-stco_for-co64_for}
@@ -57,6 +57,15 @@ coding-stsd_for (Ttxt c) infos = refl
 count-stsz_for : (infos : List SampleInfo) → (stsz_for infos).sample_count ≡ length infos
 unfolding stsz_for
 count-stsz_for infos = refl
+
+-- chunks without samples are none, and no entry says how many samples they have
+none-listed : (chunks : List PlacedChunk) → All (λ (c : PlacedChunk). 1 ≤ c.count) chunks
+    → sum_by (λ (c : PlacedChunk). c.count) chunks ≡ 0 → (stsc_for (counts_of chunks)).entries ≡ []
+unfolding stsc_for chunk_entries_from
+none-listed [] some e = refl
+none-listed (c ∷ cs) some e =
+    let one = some 0 c (omega arith) in
+    absurd (omega (arith, one, e, sum_by-cons (λ (c : PlacedChunk). c.count) c cs))
 
 -- A track of this id and configuration, whose samples stand in these chunks from a place of the file on.
 module _ (m : ℕ) (id : ℕ) (config : TrackConfig) (front : List ℕ) (cs : List Chunk) (more : List ℕ) where
@@ -139,5 +148,6 @@ module _ (m : ℕ) (id : ℕ) (config : TrackConfig) (front : List ℕ) (cs : Li
             stco = refl;
             co64 = refl;
           }));
+      empty = λ e. none-listed chunks some (counted id (length front) cs ∙ e);
       fewest = fewest;
     }

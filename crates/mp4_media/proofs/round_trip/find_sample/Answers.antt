@@ -1,0 +1,45 @@
+use Rattle.std.proofs.Common.{◌≡◌, List, ℕ, sym, subst}
+use Rattle.std.specs.Prelude.{option_map}
+use Rattle.std.proofs.lemmas.Result.{err_from_is_err_and}
+use Rattle.mp4_codec.specs.Cause.{Answers}
+use Rattle.mp4_codec.specs.Steps.{ok_is}
+use Rattle.mp4_boxes.specs.declared.trak.TrakBox.{TrakBox}
+use Rattle.mp4_lookup.specs.Plain.{Consistent}
+use Rattle.mp4_lookup.specs.Samples.{timed_sample, plain_sample_at}
+use Rattle.mp4_lookup.specs.Tracks.{tables_of}
+use Rattle.mp4_media.specs.FileBoxes.{opened_file}
+use Rattle.mp4_media.specs.RoundTrip.{IsPlace}
+use Rattle.mp4_media.proofs.ReadBack.{wanted_memory, found_track}
+use Rattle.mp4_media.proofs.round_trip.find_sample.Goals as goal
+
+pub returns-in_err-movie : goal.returns-in_err-movie
+returns-in_err-movie c = record {
+  found = λ opened trak is plain.
+      let p = err_from_is_err_and c.from_residual.result c.from_residual.ensures.1 in
+      rw (p.1, p.2) (wanted_memory opened c.in_err-movie.field-0.0
+      (c.in_err-movie.ensures.opens opened (rw (c.set_position.ensures, c.new-file.ensures) is)));
+}
+
+pub returns : goal.returns
+returns c = record {
+  found = λ opened trak is plain.
+      let movie = c.in_ok-movie.movie in
+      let query = c.args.query.now in
+      let same : opened ≡ opened_file movie =
+      ok_is opened (opened_file movie)
+      (c.in_ok-movie.ensures.opens opened (rw (c.set_position.ensures, c.new-file.ensures) is)) in
+      let t = found_track movie c.in_ok-movie.ensures.tracks opened same query.track_id trak plain in
+      let fits : Consistent (tables_of t.track.trak) =
+      subst (λ (b : TrakBox). Consistent (tables_of b)) (sym t.box) plain.consistent in
+      let bytes : movie.bytes.now ≡ query.bytes.now =
+      rw (c.set_position.ensures, c.new-file.ensures) at c.in_ok-movie.ensures.bytes in
+      record {
+        place = subst (λ (b : TrakBox). IsPlace (tables_of b) query.number c.place_in-place.result) t.box
+            (c.place_in-place.ensures.plain t.track t.is_there t.unfragmented fits);
+        sample = subst (λ (file : List ℕ). Answers (λ s. option_map timed_sample s) c.read_sample-sample.result
+            (plain_sample_at file (tables_of trak) query.number)) bytes
+            (subst (λ (b : TrakBox). Answers (λ s. option_map timed_sample s) c.read_sample-sample.result
+            (plain_sample_at movie.bytes.now (tables_of b) query.number)) t.box
+            (c.read_sample-sample.ensures.plain t.track t.is_there t.unfragmented fits));
+      };
+}

@@ -1,0 +1,75 @@
+//! Calls of a writer as data, and lists of them.
+
+ghost use Rattle.std.specs.Prelude.{◌≡◌, true, IfErr, IfOk, OnErr};
+ghost use Rattle.std.specs.List.{AllByRecursion};
+ghost use Rattle.mp4_codec.specs.Cause.{AnswersCause};
+ghost use Rattle.mp4_mux.specs.Calls.{Answered, IsInRangeCall, after, after_reply, call_cause};
+ghost use Rattle.mp4_media.specs.Finished.{Opens};
+ghost use Rattle.mp4_media.specs.WriterCalls.{call_of, calls_of};
+
+use crate::writer::Mp4Writer;
+use mp4_codec::{Error, InRange, Result};
+use mp4_lookup::Mp4Sample;
+use mp4_mux::TrackConfig;
+
+/// A call of a writer of movies.
+#[derive(Debug, PartialEq, Eq, Drop)]
+pub enum WriterCall {
+    /// [`Mp4Writer::add_track`] with this configuration.
+    AddTrack(TrackConfig),
+    /// [`Mp4Writer::write_sample`] with this track's id and this sample, whose `start_time` isn't looked at.
+    WriteSample(u32, Mp4Sample),
+    /// [`Mp4Writer::write_end`].
+    WriteEnd,
+}
+
+impl InRange for WriterCall {
+    ghost IsInRange = { λ call. IsInRangeCall (call_of call) };
+
+    fn in_range(&self) {
+        match self {
+            WriterCall::AddTrack(config) => config.in_range(),
+            WriterCall::WriteSample(_, sample) => {
+                sample.duration.in_range();
+                sample.rendering_offset.in_range();
+            }
+            WriterCall::WriteEnd => {}
+        }
+    }
+}
+
+impl Mp4Writer {
+    /// Makes a call, and answers what it answers. A refused call leaves the writer and its bytes as they were.
+    pub fn perform(&mut self, call: &WriterCall) -> Result<()>
+        ensures cause { AnswersCause (call_cause self.old (call_of call.now)) result }
+        ensures after { self.new ≡ after_reply self.old (call_of call.now) result }
+        ensures opens { (self.old.ended ≡ true → Opens self.old) → self.new.ended ≡ true → Opens self.new }
+    {
+        match call {
+            WriterCall::AddTrack(config) => self.add_track(config),
+            WriterCall::WriteSample(id, sample) => self.write_sample(*id, sample),
+            WriterCall::WriteEnd => self.write_end(),
+        }
+    }
+
+    /// Makes calls one after the other, and answers their replies, refusals among them: a refused call changes nothing,
+    /// and the next one is made.
+    ///
+    /// `OutOfMemory` where there is no room for the replies; then no call was made.
+    pub fn run(&mut self, calls: &[WriterCall]) -> Result<Vec<Result<()>>>
+        ensures replies { IfOk result (λ replies. Answered (calls_of calls.now) replies.items self.old) }
+        ensures after { IfOk result (λ replies. self.new ≡ after (calls_of calls.now) replies.items self.old) }
+        ensures fits { IfOk result (λ replies. AllByRecursion IsInRangeCall (calls_of calls.now)) }
+        ensures opens { (self.old.ended ≡ true → Opens self.old) → self.new.ended ≡ true → Opens self.new }
+        ensures memory { IfErr result (λ e. e ≡ Error.OutOfMemory) }
+        ensures err { OnErr result (self.new ≡ self.old) }
+    {
+        let mut replies = Vec::with_capacity(self.allocator(), calls.len())?;
+        for call in calls {
+            call.in_range();
+            let reply = self.perform(call);
+            replies.push(reply).unwrap();
+        }
+        Ok(replies)
+    }
+}

@@ -1,0 +1,19 @@
+//! What follows for movies that were written and opened again. Each function here does nothing; its contract is a law.
+
+ghost use Rattle.std.specs.Prelude.{◌≡◌, ◌<◌, ◌+◌, ◌^◌, ℕ, List, Ok, Some};
+ghost use Rattle.mp4_lookup.specs.Samples.{TimedSample};
+ghost use Rattle.mp4_mux.specs.Writing.{AcceptedTrack};
+ghost use Rattle.mp4_media.specs.declared.reader.Mp4Reader.{Mp4Reader};
+ghost use Rattle.mp4_media.specs.RoundTrip.{HasExactly, sample_read, samples_counted};
+
+/// A sample's start and its duration are the start of the next one of its track (ISO/IEC 14496-12, 8.6.1.2).
+pub fn samples_follow_one_another()
+    ensures { (movie : Mp4Reader) (accepted : List AcceptedTrack) → HasExactly movie accepted → (id k : ℕ) → k + 1 < 2 ^ 32 → (s next : TimedSample) → sample_read movie id k ≡ Ok (Some s) → sample_read movie id (k + 1) ≡ Ok (Some next) → next.start_time ≡ s.start_time + s.sample.duration }
+{}
+
+/// Two movies whose calls accepted the same tracks, with the same samples, answer the same, however the calls of
+/// different tracks were ordered.
+pub fn interleavings_are_read_alike()
+    ensures samples { (one other : Mp4Reader) (accepted : List AcceptedTrack) → HasExactly one accepted → HasExactly other accepted → (id k : ℕ) → k < 2 ^ 32 → sample_read one id k ≡ sample_read other id k }
+    ensures counts { (one other : Mp4Reader) (accepted : List AcceptedTrack) → HasExactly one accepted → HasExactly other accepted → (id : ℕ) → samples_counted one id ≡ samples_counted other id }
+{}
