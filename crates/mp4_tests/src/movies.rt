@@ -1,23 +1,13 @@
 //! Movies without tracks, as they are written.
 
 use crate::asserts::{check, holds, same};
-use crate::calls::{ISOM, config_of};
 use mp4_codec::{ByteCursor, Error, FourCC, Result, TryClone};
 use mp4_media::{Mp4Config, Mp4Reader, Mp4Writer, mdat_header, read_mp4};
+use mp4_movie_parts::calls::{ISOM, config_of};
+use mp4_movie_parts::movie_bytes::EMPTY_MOVIE;
 use std::alloc::Global;
 
-/// A movie of brand isom and timescale 1000, without tracks.
-pub const EMPTY_MOVIE: [u8; 164] = [
-    0, 0, 0, 0x20, b'f', b't', b'y', b'p', b'i', b's', b'o', b'm', 0, 0, 2, 0, b'i', b's', b'o',
-    b'm', b'i', b's', b'o', b'2', b'a', b'v', b'c', b'1', b'm', b'p', b'4', b'1', 0, 0, 0, 0x10,
-    b'm', b'd', b'a', b't', 0, 0, 0, 8, b'w', b'i', b'd', b'e', 0, 0, 0, 0x74, b'm', b'o', b'o',
-    b'v', 0, 0, 0, 0x6c, b'm', b'v', b'h', b'd', 0, 0, 0, 0, 0, 0, 0, 0, 0, 0, 0, 0, 0, 0, 3, 0xe8,
-    0, 0, 0, 0, 0, 1, 0, 0, 1, 0, 0, 0, 0, 0, 0, 0, 0, 0, 0, 0, 0, 1, 0, 0, 0, 0, 0, 0, 0, 0, 0, 0,
-    0, 0, 0, 0, 0, 1, 0, 0, 0, 0, 0, 0, 0, 0, 0, 0, 0, 0, 0, 0, 0x40, 0, 0, 0, 0, 0, 0, 0, 0, 0, 0,
-    0, 0, 0, 0, 0, 0, 0, 0, 0, 0, 0, 0, 0, 0, 0, 0, 0, 0, 0, 0, 1,
-];
-
-/// The configuration of that movie.
+/// The configuration of the empty movie.
 pub fn config(alloc: Global) -> Result<Mp4Config> {
     config_of(alloc, &ISOM)
 }

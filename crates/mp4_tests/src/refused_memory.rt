@@ -2,14 +2,8 @@
 //! these tests with one request refused, each in turn. A refused call then answers `OutOfMemory`, it leaves what it
 //! must, and made again it is Ok. While a test prints that a request was refused, the next one is tried.
 
-use crate::asked::{is_held, lends};
 use crate::asserts::{check, holds, same};
-use crate::calls::{Call, ISOM, Media, add_text, make, media_track, write_sync};
-use crate::lookup::{TEXT, text_samples_are_found};
-use crate::movies::{EMPTY_MOVIE, config};
-use crate::tracks::holds_of;
-use crate::written::{modelled, standing};
-use crate::written_rows::{TEXT_MOVIE, five_media, five_tracks, text_calls};
+use crate::movies::config;
 use mp4_boxes::{IlstBox, Metadata, MoofBox, MoovBox};
 use mp4_codec::{
     BoxHeader, BoxType, Error, Fields, FourCC, Items, KeyedItems, Mp4Box, ReadBox, Result, Text,
@@ -24,6 +18,12 @@ use mp4_leaf::{
 };
 use mp4_lookup::{Mp4Sample, SampleRef};
 use mp4_media::{Mp4Config, Mp4Reader, Mp4Writer, TrackConfig, read_mp4};
+use mp4_movie_parts::asked::{is_held, lends};
+use mp4_movie_parts::calls::{Call, ISOM, Media, add_text, make, media_track, write_sync};
+use mp4_movie_parts::listed_calls::{five_calls, five_media, text_calls};
+use mp4_movie_parts::movie_bytes::{EMPTY_MOVIE, TEXT_MOVIE};
+use mp4_movie_parts::tracks::{TEXT, holds_of, text_samples_are_found};
+use mp4_movie_parts::written::{modelled, standing};
 use mp4_table::{Co64Box, CttsBox, StcoBox, StscBox, StssBox, StszBox, SttsBox};
 use mp4_test_parts::sample_boxes::Number;
 use mp4_test_parts::sides::Side;
@@ -917,24 +917,6 @@ fn text_movie_is_left(rt: &HostRuntime) -> Result<bool> {
 #[test]
 fn refused_calls_of_a_text_movie_are_made_again(rt: HostRuntime) {
     check(&rt, 1, text_movie_is_left(&rt));
-}
-
-/// The calls that write a track of each kind of media with one sample, of which two are left to the end.
-pub fn five_calls() -> [Call<'static>; 11] {
-    let [avc, hevc, vp9, aac, text] = five_tracks();
-    [
-        avc,
-        hevc,
-        vp9,
-        aac,
-        text,
-        write_sync(1, 500, b"picture"),
-        write_sync(2, 1000, b"pictures"),
-        write_sync(3, 1000, b"more"),
-        write_sync(4, 1000, b"sound"),
-        write_sync(5, 1000, b""),
-        Call::WriteEnd,
-    ]
 }
 
 /// The bytes that the plain model makes of calls, which it makes again after a refusal.

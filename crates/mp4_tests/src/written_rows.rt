@@ -1,54 +1,19 @@
 //! Movies whose bytes are known from outside: each is made by a writer and by the plain model.
 
 use crate::asserts::{check, holds, same, same_at};
-use crate::calls::{
-    Beginning, Call, ISOM, Media, Picture, Sample, Sound, Track, add_text, write_sync,
-};
-use crate::written::{have_code, have_in_order, is_written, last_answer, modelled, written};
 use mp4_codec::{ByteCursor, Error, Limit, Result};
 use mp4_entry::TrackType;
 use mp4_media::Mp4Reader;
+use mp4_movie_parts::calls::{
+    Beginning, Call, ISOM, Media, Sample, Sound, Track, add_text, write_sync,
+};
+use mp4_movie_parts::listed_calls::{SMALL, STEREO, add_media, five_tracks, text_calls};
+use mp4_movie_parts::movie_bytes::TEXT_MOVIE;
+use mp4_movie_parts::written::{
+    have_code, have_in_order, is_written, last_answer, modelled, written,
+};
 use mp4_test_parts::spelled::hex;
 use std::alloc::Global;
-
-/// The movie of a text track whose samples are "abc", "def" and "gh", of 500 ticks each.
-pub const TEXT_MOVIE: &str = "\
-    00000020 66747970 69736f6d 00000200 69736f6d 69736f32 61766331 6d703431 \
-    00000018 6d646174 00000008 77696465 616263 646566 6768 \
-    00000227 6d6f6f76 \
-    0000006c 6d766864 00000000 00000000 00000000 000003e8 000005dc \
-    00010000 0100 0000 00000000 00000000 \
-    00010000 00000000 00000000 00000000 00010000 00000000 00000000 00000000 40000000 \
-    00000000 00000000 00000000 00000000 00000000 00000000 00000001 \
-    000001b3 7472616b \
-    0000005c 746b6864 00000001 00000000 00000000 00000001 00000000 000005dc \
-    00000000 00000000 0000 0000 0100 0000 \
-    00010000 00000000 00000000 00000000 00010000 00000000 00000000 00000000 40000000 \
-    00000000 00000000 \
-    0000014f 6d646961 \
-    00000020 6d646864 00000000 00000000 00000000 000003e8 000005dc 55c4 0000 \
-    00000021 68646c72 00000000 00000000 7362746c 00000000 00000000 00000000 00 \
-    00000106 6d696e66 \
-    00000024 64696e66 0000001c 64726566 00000000 00000001 0000000c 75726c20 00000001 \
-    000000da 7374626c \
-    0000003e 73747364 00000000 00000001 0000002e 74783367 00000000 0000 0001 \
-    00000000 01ff 000000ff 00000000 00000000 00000000 00010010 ffffffff \
-    00000018 73747473 00000000 00000001 00000003 000001f4 \
-    0000001c 73747373 00000000 00000003 00000001 00000002 00000003 \
-    00000028 73747363 00000000 00000002 00000001 00000002 00000001 00000002 00000001 00000001 \
-    00000020 7374737a 00000000 00000000 00000003 00000003 00000003 00000002 \
-    00000018 7374636f 00000000 00000002 00000030 00000036";
-
-/// The calls that make it.
-pub fn text_calls() -> [Call<'static>; 5] {
-    [
-        add_text(1000),
-        write_sync(1, 500, b"abc"),
-        write_sync(1, 500, b"def"),
-        write_sync(1, 500, b"gh"),
-        Call::WriteEnd,
-    ]
-}
 
 /// Whether a writer and the model make these bytes of the three text samples.
 fn are_text_movie(alloc: Global, buffer: &[u8], bytes: &[u8]) -> Result<bool> {
@@ -486,56 +451,6 @@ fn pending_are_in_order(alloc: Global) -> Result<bool> {
 #[test]
 fn pending_samples_are_in_the_order_of_tracks(rt: HostRuntime) {
     check(&rt, 1, pending_are_in_order(rt.alloc()));
-}
-
-/// 320 by 240 pixels.
-const SMALL: Picture = Picture {
-    width: 320,
-    height: 240,
-};
-
-const SEQUENCE: [u8; 4] = [0x67, 0x42, 0xc0, 0x1e];
-
-const PICTURE_SET: [u8; 4] = [0x68, 0xce, 0x3c, 0x80];
-
-/// Two channels of 48,000 hertz, AAC of low complexity.
-const STEREO: Sound = Sound {
-    bitrate: 128000,
-    profile: 2,
-    frequency: 3,
-    channels: 2,
-};
-
-fn add_media(track_type: TrackType, media: Media) -> Call {
-    Call::AddTrack(Track {
-        track_type,
-        timescale: 1000,
-        language: "und",
-        media,
-    })
-}
-
-/// Media of each kind.
-pub fn five_media() -> [Media<'static>; 5] {
-    [
-        Media::Avc(SMALL, &SEQUENCE, &PICTURE_SET),
-        Media::Hevc(SMALL),
-        Media::Vp9(SMALL),
-        Media::Aac(STEREO),
-        Media::Text,
-    ]
-}
-
-/// A track of each kind of media.
-pub fn five_tracks() -> [Call<'static>; 5] {
-    let [avc, hevc, vp9, aac, _] = five_media();
-    [
-        add_media(TrackType::Video, avc),
-        add_media(TrackType::Video, hevc),
-        add_media(TrackType::Video, vp9),
-        add_media(TrackType::Audio, aac),
-        add_text(1000),
-    ]
 }
 
 /// Whether the tracks of each kind have these sizes, without samples.

@@ -1,6 +1,6 @@
 //! Tracks of tables that a test writes down: they are written as boxes and read as those of a file are.
 
-use crate::movies::EMPTY_MOVIE;
+use crate::movie_bytes::EMPTY_MOVIE;
 use crate::plain_bytes::{
     begin_box, end_box, put, put_chunks, put_durations, put_offsets, put_rendering_offsets,
     put_sizes, put_sync_samples,
@@ -43,6 +43,18 @@ pub const THREE: Tables<'static> = Tables {
     count: 3,
     sizes: &[],
     offsets: &[100],
+};
+
+/// The tables of three text samples in two chunks.
+pub const TEXT: Tables<'static> = Tables {
+    durations: &[(3, 500)],
+    rendering_offsets: None,
+    sync_samples: Some(&[1, 2, 3]),
+    chunks: &[(1, 2), (2, 1)],
+    size: 0,
+    count: 3,
+    sizes: &[3, 3, 2],
+    offsets: &[48, 54],
 };
 
 /// The tables as the children of a stbl.
@@ -138,4 +150,28 @@ pub fn is_past(track: &Mp4Track, k: u32) -> bool {
 /// Whether a number is refused as invalid data.
 pub fn is_invalid_number(track: &Mp4Track, k: u32) -> bool {
     matches!(track.locate(k), Err(Error::InvalidData(_)))
+}
+
+/// Offset and size, start and duration of a sample.
+pub fn bytes_and_times(track: &Mp4Track, k: u32) -> Option<(u64, u32, u64, u32)> {
+    match found(track, k) {
+        None => None,
+        Some(place) => Some((place.offset, place.size, place.start_time, place.duration)),
+    }
+}
+
+/// Whether a sample is found, and is a sync sample.
+pub fn is_sync(track: &Mp4Track, k: u32) -> bool {
+    match found(track, k) {
+        None => false,
+        Some(place) => place.is_sync,
+    }
+}
+
+/// Whether the samples of `TEXT` are found where they lie.
+pub fn text_samples_are_found(track: &Mp4Track) -> bool {
+    bytes_and_times(track, 1) == Some((48, 3, 0, 500))
+        && bytes_and_times(track, 2) == Some((51, 3, 500, 500))
+        && bytes_and_times(track, 3) == Some((54, 2, 1000, 500))
+        && is_sync(track, 3)
 }

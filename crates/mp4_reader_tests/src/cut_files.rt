@@ -1,15 +1,14 @@
 //! Files that are cut after each byte: they are opened or refused, and one that opens answers each call.
 
 use crate::asserts::same;
-use crate::calls::ISOM;
 use crate::hostile_files::file_of;
-use crate::lookup::TEXT;
-use crate::refused_memory::five_calls;
-use crate::written::written;
-use crate::written_rows::text_calls;
 use mp4_codec::Result;
 use mp4_lookup::Mp4Track;
 use mp4_media::{Mp4Reader, read_mp4};
+use mp4_movie_parts::calls::ISOM;
+use mp4_movie_parts::listed_calls::five_calls;
+use mp4_movie_parts::tracks::TEXT;
+use mp4_movie_parts::written::written;
 use std::alloc::Global;
 
 /// Asks for the numbers 0 to 4 of a track.
@@ -57,18 +56,13 @@ fn opened(alloc: Global, bytes: &[u8]) -> usize {
 }
 
 /// The same of a movie that a writer makes, and of one whose movie box stands before the media data.
-fn opened_of_three(alloc: Global) -> Result<(usize, usize, usize)> {
-    let text = written(alloc, &[], &ISOM, &text_calls())?;
+fn opened_of_two(alloc: Global) -> Result<(usize, usize)> {
     let five = written(alloc, &[], &ISOM, &five_calls())?;
     let early = file_of(alloc, &TEXT)?;
-    Ok((
-        opened(alloc, &text),
-        opened(alloc, &five),
-        opened(alloc, &early),
-    ))
+    Ok((opened(alloc, &five), opened(alloc, &early)))
 }
 
 #[test]
 fn a_cut_file_is_opened_where_its_movie_is_whole(rt: HostRuntime) {
-    same(&rt, opened_of_three(rt.alloc()), Ok((1, 1, 10)));
+    same(&rt, opened_of_two(rt.alloc()), Ok((1, 10)));
 }

@@ -1,9 +1,9 @@
 //! Movies that are opened: whole, cut, changed and lengthened.
 
 use crate::asserts::{same, same_at};
-use crate::movies::EMPTY_MOVIE;
 use mp4_codec::{BoxType, Error, Limit, Result};
 use mp4_media::read_mp4;
+use mp4_movie_parts::movie_bytes::EMPTY_MOVIE;
 use std::alloc::Global;
 
 /// Where the movie box stands in the empty movie, and its header.

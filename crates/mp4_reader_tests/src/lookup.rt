@@ -2,19 +2,14 @@
 
 use crate::asserts::{check, holds};
 use crate::hostile_files::file_holds;
-use crate::tracks::{THREE, Tables, found, is_invalid_number, is_past};
 use bytes::Bytes;
 use mp4_codec::{BoxType, Error, Result};
 use mp4_lookup::{Comparisons, Mp4Sample, Mp4Track, SamplePlace, SampleRef};
+use mp4_movie_parts::tracks::{
+    TEXT, THREE, Tables, bytes_and_times, found, is_invalid_number, is_past, is_sync,
+    text_samples_are_found,
+};
 use std::alloc::Global;
-
-/// Offset and size, start and duration of a sample.
-pub fn bytes_and_times(track: &Mp4Track, k: u32) -> Option<(u64, u32, u64, u32)> {
-    match found(track, k) {
-        None => None,
-        Some(place) => Some((place.offset, place.size, place.start_time, place.duration)),
-    }
-}
 
 fn starts_at(track: &Mp4Track, k: u32, start: u64, duration: u32) -> bool {
     match found(track, k) {
@@ -35,32 +30,6 @@ fn is_shown_late(track: &Mp4Track, k: u32, ticks: i32) -> bool {
         None => false,
         Some(place) => place.rendering_offset == ticks,
     }
-}
-
-fn is_sync(track: &Mp4Track, k: u32) -> bool {
-    match found(track, k) {
-        None => false,
-        Some(place) => place.is_sync,
-    }
-}
-
-/// The tables of three text samples in two chunks.
-pub const TEXT: Tables<'static> = Tables {
-    durations: &[(3, 500)],
-    rendering_offsets: None,
-    sync_samples: Some(&[1, 2, 3]),
-    chunks: &[(1, 2), (2, 1)],
-    size: 0,
-    count: 3,
-    sizes: &[3, 3, 2],
-    offsets: &[48, 54],
-};
-
-pub fn text_samples_are_found(track: &Mp4Track) -> bool {
-    bytes_and_times(track, 1) == Some((48, 3, 0, 500))
-        && bytes_and_times(track, 2) == Some((51, 3, 500, 500))
-        && bytes_and_times(track, 3) == Some((54, 2, 1000, 500))
-        && is_sync(track, 3)
 }
 
 fn no_sample_is_found_past_the_last(track: &Mp4Track) -> bool {

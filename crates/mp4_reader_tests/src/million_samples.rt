@@ -1,13 +1,13 @@
 //! The file of a track of a million samples, of which each is looked up and read.
 
-use crate::asked::reads;
 use crate::asserts::check;
-use crate::movies::EMPTY_MOVIE;
-use crate::plain_bytes::{begin_box, end_box};
-use crate::tracks::{Tables, put_movie};
 use mp4_codec::Result;
 use mp4_lookup::{Comparisons, SamplePlace, SampleRef};
 use mp4_media::{Mp4Reader, read_mp4};
+use mp4_movie_parts::asked::reads;
+use mp4_movie_parts::movie_bytes::EMPTY_MOVIE;
+use mp4_movie_parts::plain_bytes::{begin_box, end_box};
+use mp4_movie_parts::tracks::{Tables, put_movie};
 use std::alloc::Global;
 
 const SAMPLES: u32 = 1_000_000;

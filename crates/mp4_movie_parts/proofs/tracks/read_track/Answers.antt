@@ -1,4 +1,4 @@
-use Rattle.mp4_tests.proofs.tracks.read_track.Goals as goal
+use Rattle.mp4_movie_parts.proofs.tracks.read_track.Goals as goal
 
 pub new-requires-2 : goal.new-requires-2
 new-requires-2 c =

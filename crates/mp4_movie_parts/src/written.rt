@@ -2,7 +2,7 @@
 
 use crate::calls::{Beginning, Call, config_of, make};
 use crate::plain_movie::PlainMovie;
-use crate::round_trip::is_read_back;
+use crate::read_back::is_read_back;
 use mp4_codec::{Error, Result};
 use mp4_media::Mp4Writer;
 use mp4_test_parts::spelled::hex;

@@ -1,19 +1,20 @@
 //! Movies that are opened, and their samples.
 
 use crate::asserts::{check, same, same_at};
-use crate::calls::{ISOM, add_text, write_sync};
-use crate::lookup::{bytes_and_times, few_sizes_are_read};
+use crate::lookup::few_sizes_are_read;
 use crate::opening::opened;
 use crate::reader_files::{
     Answer, EMPTY_MOOV, FRAGMENTED, FTYP, MOOF, MVEX, THREE_SAMPLES, TextFile, all_spelled,
     changed, file_of, fragmented, of_reader, of_track, samples_are, sync_sample, three_samples,
 };
-use crate::written::written;
-use crate::written_rows::TEXT_MOVIE;
 use mp4_boxes::Metadata;
 use mp4_codec::{BoxType, Error, Result};
 use mp4_lookup::{Mp4Track, SampleRef};
 use mp4_media::{Mp4Reader, read_mp4};
+use mp4_movie_parts::calls::{ISOM, add_text, write_sync};
+use mp4_movie_parts::movie_bytes::TEXT_MOVIE;
+use mp4_movie_parts::tracks::bytes_and_times;
+use mp4_movie_parts::written::written;
 use mp4_test_parts::nested::{CO64, STSC, STSD, STSS, STSZ, STTS, nest};
 use mp4_test_parts::spelled::hex;
 use std::alloc::Global;

@@ -1,9 +1,10 @@
 //! Files that a test writes down, and how their readers and tracks are asked.
 
-use crate::plain_bytes::put_over;
 use mp4_codec::{Error, Result};
 use mp4_lookup::{Mp4Track, SampleRef};
 use mp4_media::{Mp4Reader, read_mp4};
+use mp4_movie_parts::asked::reads;
+use mp4_movie_parts::plain_bytes::put_over;
 use mp4_test_parts::nested::{
     DINF, HDLR, MDHD, MVHD, STCO, STSC, STSD, STSS, STSZ, STTS, TKHD, nest,
 };
@@ -154,39 +155,6 @@ pub fn sync_sample(start_time: u64, duration: u32, bytes: &[u8]) -> Answer<'_> {
     }))
 }
 
-/// Whether refusals are the same, the texts of invalid data left out.
-fn is_same_refusal(error: &Error, expected: &Error) -> bool {
-    match (error, expected) {
-        (Error::InvalidData(_), Error::InvalidData(_)) => true,
-        _ => error == expected,
-    }
-}
-
-/// Whether a sample is lent so.
-fn is_lent(reader: &Mp4Reader, id: u32, k: u32, expected: &Answer) -> bool {
-    match (&reader.read_sample_ref(id, k), expected) {
-        (Ok(sample), Ok(expected)) => sample == expected,
-        (Err(error), Err(expected)) => is_same_refusal(error, expected),
-        _ => false,
-    }
-}
-
-/// Whether a sample is copied so.
-fn is_copied(reader: &mut Mp4Reader, id: u32, k: u32, expected: &Answer) -> bool {
-    match (&reader.read_sample(id, k), expected) {
-        (Ok(Some(sample)), Ok(Some(expected))) => {
-            sample.start_time == expected.start_time
-                && sample.duration == expected.duration
-                && sample.rendering_offset == expected.rendering_offset
-                && sample.is_sync == expected.is_sync
-                && sample.bytes.as_slice() == expected.bytes
-        }
-        (Ok(None), Ok(None)) => true,
-        (Err(error), Err(expected)) => is_same_refusal(error, expected),
-        _ => false,
-    }
-}
-
 /// Whether both calls answer so to the numbers of samples of a track.
 pub fn samples_are(
     alloc: Global,
@@ -198,9 +166,7 @@ pub fn samples_are(
     let mut reader = read_mp4(alloc, &file)?;
     let mut all = true;
     for answer in answers {
-        let lent = is_lent(&reader, id, answer.0, &answer.1);
-        let copied = is_copied(&mut reader, id, answer.0, &answer.1);
-        all = all && lent && copied;
+        all = all && reads(&mut reader, id, answer.0, &answer.1);
     }
     Ok(all)
 }

@@ -1,13 +1,13 @@
 //! Files of random boxes in a random order, from fixed seeds, some of them cut: each is opened as a plain program says.
 
-use crate::asked::{locates, reads_there};
 use crate::asserts::check;
-use crate::movies::EMPTY_MOVIE;
-use crate::plain_bytes::{begin_box, end_box, put, put_over, put_pair};
-use crate::random_tracks::{are_same_refusal, random_track};
-use crate::walked_lookup::{WalkedPlace, walk};
 use mp4_codec::{BoxType, Error, Result};
 use mp4_media::{Mp4Reader, read_mp4};
+use mp4_movie_parts::asked::{are_same_refusal, locates, reads_there};
+use mp4_movie_parts::movie_bytes::EMPTY_MOVIE;
+use mp4_movie_parts::plain_bytes::{begin_box, end_box, put, put_over, put_pair};
+use mp4_movie_parts::random_tables::random_track;
+use mp4_movie_parts::walked_lookup::{WalkedPlace, walk};
 use mp4_test_parts::random::Random;
 use std::alloc::Global;
 
