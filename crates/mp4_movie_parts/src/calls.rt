@@ -7,7 +7,7 @@ use mp4_entry::{
     TtxtConfig, Vp9Config,
 };
 use mp4_lookup::Mp4Sample;
-use mp4_media::{Mp4Config, Mp4Writer, TrackConfig};
+use mp4_media::{Mp4Config, Mp4Writer, TrackConfig, WriterCall};
 use std::alloc::Global;
 
 /// What a movie is begun with: brands as the numbers of their four bytes.
@@ -224,5 +224,17 @@ pub fn make(alloc: Global, writer: &mut Mp4Writer, call: &Call) -> Result<()> {
         Call::AddTrack(track) => add_track(alloc, writer, track),
         Call::WriteSample(id, sample) => write_sample(alloc, writer, *id, sample),
         Call::WriteEnd => writer.write_end(),
+    }
+}
+
+/// A call as data. A sample has a start time that the writer doesn't look at.
+pub fn writer_call(alloc: Global, call: &Call) -> Result<WriterCall> {
+    match call {
+        Call::AddTrack(track) => Ok(WriterCall::AddTrack(track_config(alloc, track)?)),
+        Call::WriteSample(id, sample) => Ok(WriterCall::WriteSample(
+            *id,
+            sample_of(alloc, sample)?,
+        )),
+        Call::WriteEnd => Ok(WriterCall::WriteEnd),
     }
 }

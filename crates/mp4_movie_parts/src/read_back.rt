@@ -72,7 +72,7 @@ fn is_unknown(reader: &Mp4Reader, id: u32) -> bool {
 }
 
 /// Whether each track is read that was added, and no other.
-fn tracks_are_read(reader: &mut Mp4Reader, tracks: &[PlainTrack]) -> bool {
+pub fn tracks_are_read(reader: &mut Mp4Reader, tracks: &[PlainTrack]) -> bool {
     let mut all = is_unknown(reader, 0);
     let mut id = 0u32;
     for track in tracks {

@@ -9,7 +9,7 @@ use mp4_test_parts::spelled::hex;
 use std::alloc::Global;
 
 /// Whether an answer is the one that the model gives, the texts of refusals left out.
-fn is_expected(answer: &Result<()>, expected: &Option<Error>) -> bool {
+pub fn is_expected(answer: &Result<()>, expected: &Option<Error>) -> bool {
     match (answer, expected) {
         (Ok(()), None) => true,
         (Err(Error::Unrepresentable(_)), Some(Error::Unrepresentable(_))) => true,

@@ -6,6 +6,8 @@
 #[cfg(test)]
 mod asserts;
 #[cfg(test)]
+mod long_lists;
+#[cfg(test)]
 mod movies;
 #[cfg(test)]
 mod random_movies;

@@ -13,7 +13,7 @@ use std::alloc::Global;
 
 /// What the samples of a list have in common.
 #[derive(Clone, Copy)]
-struct Habits<'a> {
+pub struct Habits<'a> {
     /// The bytes that samples and parameter sets are parts of.
     pool: &'a [u8],
     has_one_size: bool,
@@ -23,7 +23,7 @@ struct Habits<'a> {
 }
 
 impl<'a> Habits<'a> {
-    fn new(pool: &'a [u8], random: &mut Random) -> Self {
+    pub fn new(pool: &'a [u8], random: &mut Random) -> Self {
         Habits {
             pool,
             has_one_size: random.few() == 0,
@@ -181,7 +181,7 @@ fn random_sample<'a>(habits: &Habits<'a>, random: &mut Random) -> Sample<'a> {
 }
 
 /// A call; the id of a sample's track is seldom one that no track has.
-fn random_call<'a>(habits: &Habits<'a>, random: &mut Random, tracks: u32) -> Call<'a> {
+pub fn random_call<'a>(habits: &Habits<'a>, random: &mut Random, tracks: u32) -> Call<'a> {
     match random.below(512) {
         0 => return Call::WriteEnd,
         1..=30 => return Call::AddTrack(random_track(habits, random)),

@@ -2,32 +2,109 @@
 //! these tests with one request refused, each in turn. A refused call then answers `OutOfMemory`, it leaves what it
 //! must, and made again it is Ok. While a test prints that a request was refused, the next one is tried.
 
-use crate::asserts::{check, holds, same};
+use crate::asserts::check;
+use crate::asserts::holds;
+use crate::asserts::same;
 use crate::movies::config;
-use mp4_boxes::{IlstBox, Metadata, MoofBox, MoovBox};
-use mp4_codec::{
-    BoxHeader, BoxType, Error, Fields, FourCC, Items, KeyedItems, Mp4Box, ReadBox, Result, Text,
-    TryClone, WriteBox, all_children, all_size, last_child, optional_size, put_all, put_bytes,
-    put_four_cc, put_i16, put_i32, put_list, put_optional, put_u8, put_u16, put_u24, put_u32,
-    put_u64, put_versioned, put_zeros,
-};
-use mp4_entry::{HevcConfig, MediaConfig, StsdBox, TtxtConfig};
-use mp4_frag::{EmsgBox, MehdBox, MfhdBox, TfdtBox, TfhdBox, TrexBox, TrunBox};
-use mp4_leaf::{
-    DataBox, DinfBox, ElstBox, FtypBox, HdlrBox, MdhdBox, MvhdBox, SmhdBox, TkhdBox, VmhdBox,
-};
-use mp4_lookup::{Mp4Sample, SampleRef};
-use mp4_media::{Mp4Config, Mp4Reader, Mp4Writer, TrackConfig, read_mp4};
-use mp4_movie_parts::asked::{is_held, lends};
-use mp4_movie_parts::calls::{Call, ISOM, Media, add_text, make, media_track, write_sync};
-use mp4_movie_parts::listed_calls::{five_calls, five_media, text_calls};
-use mp4_movie_parts::movie_bytes::{EMPTY_MOVIE, TEXT_MOVIE};
-use mp4_movie_parts::tracks::{TEXT, holds_of, text_samples_are_found};
-use mp4_movie_parts::written::{modelled, standing};
-use mp4_table::{Co64Box, CttsBox, StcoBox, StscBox, StssBox, StszBox, SttsBox};
+use mp4_boxes::IlstBox;
+use mp4_boxes::Metadata;
+use mp4_boxes::MoofBox;
+use mp4_boxes::MoovBox;
+use mp4_codec::BoxHeader;
+use mp4_codec::BoxType;
+use mp4_codec::Error;
+use mp4_codec::Fields;
+use mp4_codec::FourCC;
+use mp4_codec::Items;
+use mp4_codec::KeyedItems;
+use mp4_codec::Mp4Box;
+use mp4_codec::ReadBox;
+use mp4_codec::Result;
+use mp4_codec::Text;
+use mp4_codec::TryClone;
+use mp4_codec::WriteBox;
+use mp4_codec::all_children;
+use mp4_codec::all_size;
+use mp4_codec::last_child;
+use mp4_codec::optional_size;
+use mp4_codec::put_all;
+use mp4_codec::put_bytes;
+use mp4_codec::put_four_cc;
+use mp4_codec::put_i16;
+use mp4_codec::put_i32;
+use mp4_codec::put_list;
+use mp4_codec::put_optional;
+use mp4_codec::put_u8;
+use mp4_codec::put_u16;
+use mp4_codec::put_u24;
+use mp4_codec::put_u32;
+use mp4_codec::put_u64;
+use mp4_codec::put_versioned;
+use mp4_codec::put_zeros;
+use mp4_entry::HevcConfig;
+use mp4_entry::MediaConfig;
+use mp4_entry::StsdBox;
+use mp4_entry::TtxtConfig;
+use mp4_frag::EmsgBox;
+use mp4_frag::MehdBox;
+use mp4_frag::MfhdBox;
+use mp4_frag::TfdtBox;
+use mp4_frag::TfhdBox;
+use mp4_frag::TrexBox;
+use mp4_frag::TrunBox;
+use mp4_leaf::DataBox;
+use mp4_leaf::DinfBox;
+use mp4_leaf::ElstBox;
+use mp4_leaf::FtypBox;
+use mp4_leaf::HdlrBox;
+use mp4_leaf::MdhdBox;
+use mp4_leaf::MvhdBox;
+use mp4_leaf::SmhdBox;
+use mp4_leaf::TkhdBox;
+use mp4_leaf::VmhdBox;
+use mp4_lookup::Mp4Sample;
+use mp4_lookup::SampleRef;
+use mp4_media::Mp4Config;
+use mp4_media::Mp4Reader;
+use mp4_media::Mp4Writer;
+use mp4_media::RoundTrip;
+use mp4_media::SampleQuery;
+use mp4_media::TrackConfig;
+use mp4_media::WriterCall;
+use mp4_media::read_mp4;
+use mp4_media::write_and_read;
+use mp4_movie_parts::asked::is_held;
+use mp4_movie_parts::asked::lends;
+use mp4_movie_parts::calls::Call;
+use mp4_movie_parts::calls::ISOM;
+use mp4_movie_parts::calls::Media;
+use mp4_movie_parts::calls::add_text;
+use mp4_movie_parts::calls::make;
+use mp4_movie_parts::calls::media_track;
+use mp4_movie_parts::calls::write_sync;
+use mp4_movie_parts::calls::writer_call;
+use mp4_movie_parts::listed_calls::five_calls;
+use mp4_movie_parts::listed_calls::five_media;
+use mp4_movie_parts::listed_calls::text_calls;
+use mp4_movie_parts::movie_bytes::EMPTY_MOVIE;
+use mp4_movie_parts::movie_bytes::TEXT_MOVIE;
+use mp4_movie_parts::tracks::TEXT;
+use mp4_movie_parts::tracks::holds_of;
+use mp4_movie_parts::tracks::text_samples_are_found;
+use mp4_movie_parts::written::modelled;
+use mp4_movie_parts::written::standing;
+use mp4_table::Co64Box;
+use mp4_table::CttsBox;
+use mp4_table::StcoBox;
+use mp4_table::StscBox;
+use mp4_table::StssBox;
+use mp4_table::StszBox;
+use mp4_table::SttsBox;
 use mp4_test_parts::sample_boxes::Number;
 use mp4_test_parts::sides::Side;
-use mp4_test_parts::spelled::{both, hex, read_bytes};
+use mp4_test_parts::spelled::both;
+use mp4_test_parts::spelled::hex;
+use mp4_test_parts::spelled::read_bytes;
 use std::alloc::Global;
 
 /// Prints that a request was refused, and answers whether the call said so.
@@ -956,4 +1033,88 @@ fn bytes_before_are_left(rt: &HostRuntime, calls: &[Call]) -> Result<bool> {
 fn a_refused_call_of_a_movie_leaves_the_bytes(rt: HostRuntime) {
     check(&rt, "text", bytes_before_are_left(&rt, &text_calls()));
     check(&rt, "five", bytes_before_are_left(&rt, &five_calls()));
+}
+
+/// A round trip of calls and a look at the second sample of a file.
+fn round_trip<'w, 'f>(
+    rt: &HostRuntime,
+    config: &Mp4Config,
+    calls: &[WriterCall],
+    buffer: &'w mut Vec<u8>,
+    file: &'f [u8],
+) -> Result<RoundTrip<'w, 'f>> {
+    let query = SampleQuery {
+        bytes: file,
+        start: 0,
+        size: 607,
+        track_id: 1,
+        number: 2,
+    };
+    write_and_read(rt.alloc(), config, calls, buffer, &query)
+}
+
+/// Whether no part of a round trip was refused.
+fn is_whole(trip: &RoundTrip) -> bool {
+    trip.movie.is_ok()
+        && trip.replies.iter().all(|reply| reply.is_ok())
+        && matches!(&trip.found, Ok(found) if found.place.is_ok() && found.sample.is_ok())
+}
+
+/// Whether a part of a round trip was refused for want of memory.
+fn lacks_memory(rt: &HostRuntime, trip: &RoundTrip) -> bool {
+    let refused = |reply: &Result<()>| *reply == Err(Error::OutOfMemory);
+    let opening = matches!(&trip.movie, Err(Error::OutOfMemory));
+    let finding = match &trip.found {
+        Err(error) => *error == Error::OutOfMemory,
+        Ok(found) => matches!(&found.sample, Err(Error::OutOfMemory)),
+    };
+    is_refusal(rt, &Error::OutOfMemory) && (opening || finding || trip.replies.iter().any(refused))
+}
+
+/// Whether a round trip is whole, at once or when it is made again after a part of it was refused.
+fn is_whole_again(
+    rt: &HostRuntime,
+    config: &Mp4Config,
+    calls: &[WriterCall],
+    file: &[u8],
+) -> Result<bool> {
+    let mut buffer = Vec::new(rt.alloc());
+    match round_trip(rt, config, calls, &mut buffer, file) {
+        Ok(trip) if is_whole(&trip) => return Ok(true),
+        Ok(trip) if lacks_memory(rt, &trip) => {}
+        Err(error) if is_refusal(rt, &error) => {}
+        _ => return Ok(false),
+    }
+    let mut other = Vec::new(rt.alloc());
+    Ok(is_whole(&round_trip(rt, config, calls, &mut other, file)?))
+}
+
+/// The calls of the text movie as data.
+fn text_as_data(alloc: Global) -> Result<Vec<WriterCall>> {
+    let mut calls = Vec::new(alloc);
+    for call in text_calls() {
+        calls.push(writer_call(alloc, &call)?)?;
+    }
+    Ok(calls)
+}
+
+/// These calls, which are made again after a refusal.
+fn text_as_data_again(rt: &HostRuntime) -> Result<Vec<WriterCall>> {
+    match text_as_data(rt.alloc()) {
+        Err(error) if is_refusal(rt, &error) => text_as_data(rt.alloc()),
+        answer => answer,
+    }
+}
+
+/// Whether the text movie makes a round trip, each part of it made again after a refusal.
+fn text_makes_a_round_trip(rt: &HostRuntime) -> Result<bool> {
+    let config = config_again(rt)?;
+    let calls = text_as_data_again(rt)?;
+    let file = hex_again(rt, TEXT_MOVIE)?;
+    is_whole_again(rt, &config, &calls, &file)
+}
+
+#[test]
+fn a_refused_round_trip_is_made_again(rt: HostRuntime) {
+    check(&rt, 1, text_makes_a_round_trip(&rt));
 }

@@ -1,0 +1,122 @@
+//! Long lists of calls, refused ones among them, by the one call that makes them all, opens what was written and looks for
+//! a sample in another file: replies, bytes and samples are those of the plain model.
+
+use crate::asserts::check;
+use crate::random_movies::{Habits, random_bytes, random_call};
+use mp4_codec::{Error, Result};
+use mp4_media::{FoundSample, RoundTrip, SampleQuery, WriterCall, write_and_read};
+use mp4_movie_parts::calls::{Call, ISOM, config_of, writer_call};
+use mp4_movie_parts::movie_bytes::TEXT_MOVIE;
+use mp4_movie_parts::plain_movie::PlainMovie;
+use mp4_movie_parts::read_back::tracks_are_read;
+use mp4_movie_parts::written::is_expected;
+use mp4_test_parts::random::Random;
+use mp4_test_parts::spelled::hex;
+use std::alloc::Global;
+
+/// Calls as data, and what the model answers them.
+#[derive(Drop)]
+struct Listed {
+    calls: Vec<WriterCall>,
+    answers: Vec<Option<Error>>,
+}
+
+/// One call more, of the list and of the model.
+fn put_call<'a>(
+    alloc: Global,
+    listed: &mut Listed,
+    movie: &mut PlainMovie<'a>,
+    call: &Call<'a>,
+) -> Result<()> {
+    let answer = movie.make(call)?;
+    listed.answers.push(answer)?;
+    listed.calls.push(writer_call(alloc, call)?)?;
+    Ok(())
+}
+
+/// So many random calls, none of them an end, then an end, and three calls more, which are refused.
+fn put_calls<'a>(
+    alloc: Global,
+    listed: &mut Listed,
+    movie: &mut PlainMovie<'a>,
+    pool: &'a [u8],
+    count: u32,
+) -> Result<()> {
+    let mut random = Random::new(count.into());
+    let habits = Habits::new(pool, &mut random);
+    for _ in 0..count {
+        let tracks = u32::try_from(movie.tracks.len()).unwrap_or(0);
+        let call = random_call(&habits, &mut random, tracks);
+        if !matches!(call, Call::WriteEnd) {
+            put_call(alloc, listed, movie, &call)?;
+        }
+    }
+    for _ in 0..4 {
+        put_call(alloc, listed, movie, &Call::WriteEnd)?;
+    }
+    Ok(())
+}
+
+/// Whether each reply is the one that the model gives.
+fn replies_are_expected(replies: &[Result<()>], answers: &[Option<Error>]) -> bool {
+    let mut all = replies.len() == answers.len();
+    for (reply, answer) in replies.iter().zip(answers) {
+        all = all && is_expected(reply, answer);
+    }
+    all
+}
+
+/// How many of the model's answers are refusals.
+fn refused(answers: &[Option<Error>]) -> usize {
+    answers.iter().filter(|answer| answer.is_some()).count()
+}
+
+/// Whether the second sample of the text movie was found: "def", of three bytes at 51, decoded at 500.
+fn second_text_is_found(found: Result<FoundSample>) -> Result<bool> {
+    let FoundSample { place, sample, .. } = found?;
+    let (Some(place), Some(sample)) = (place?, sample?) else {
+        return Ok(false);
+    };
+    Ok(
+        place.offset == 51
+            && place.size == 3
+            && place.start_time == 500
+            && sample.bytes.as_slice() == b"def".as_slice(),
+    )
+}
+
+/// Whether what was written and read is the model's movie, with its replies.
+fn is_as_modelled(trip: RoundTrip, listed: &Listed, movie: &PlainMovie) -> Result<bool> {
+    let alike = replies_are_expected(&trip.replies, &listed.answers)
+        && trip.bytes == movie.bytes.as_slice();
+    let mut reader = trip.movie?;
+    Ok(alike && tracks_are_read(&mut reader, &movie.tracks) && second_text_is_found(trip.found)?)
+}
+
+/// Makes the calls of a list, and looks for the second sample of the text movie.
+fn list_is_read_back(alloc: Global, count: u32) -> Result<bool> {
+    let pool = random_bytes(alloc)?;
+    let mut movie = PlainMovie::begin(alloc, &[], &ISOM)?;
+    let mut listed = Listed {
+        calls: Vec::new(alloc),
+        answers: Vec::new(alloc),
+    };
+    put_calls(alloc, &mut listed, &mut movie, &pool, count)?;
+    let config = config_of(alloc, &ISOM)?;
+    let file = hex(alloc, TEXT_MOVIE)?;
+    let query = SampleQuery {
+        bytes: &file,
+        start: 0,
+        size: 607,
+        track_id: 1,
+        number: 2,
+    };
+    let mut buffer = Vec::new(alloc);
+    let trip = write_and_read(alloc, &config, &listed.calls, &mut buffer, &query)?;
+    Ok(refused(&listed.answers) > 300 && is_as_modelled(trip, &listed, &movie)?)
+}
+
+#[test]
+fn a_list_of_ten_thousand_calls_is_read_back(rt: HostRuntime) {
+    check(&rt, 10_000, list_is_read_back(rt.alloc(), 10_000));
+}
