@@ -3,7 +3,7 @@
 use Rattle.std.proofs.Common.{◌≡◌, inl, inr, ⊎_elim, ℕ, zero, suc, ◌+◌, ◌^◌, ◌<◌, ◌≤◌, Bool, true, false, cond, eqb}
 use Rattle.std.proofs.Common.{List, [], ◌∷◌, length, get_or, slice_get, Option, Some, None, Result, Ok, Err}
 use Rattle.std.proofs.Common.{pos, refl, sym, ap, subst, ◌∙◌, arith}
-use Rattle.std.specs.Prelude.{option_map, IfOk, IsSomeAnd, ok_or}
+use Rattle.std.specs.Prelude.{option_map, IsSomeAnd, ok_or}
 use Rattle.std.specs.HashMap.{HashMap}
 use Rattle.std.proofs.lemmas.Bool.{eqb-true, eq-eqb, ne_eqb, le-ltb, cases_lt}
 use Rattle.std.proofs.lemmas.Option.{none-some, same_Some, slice_get-get_or, slice_get_past, slice_get_within}
@@ -41,7 +41,7 @@ use Rattle.mp4_media.specs.Finished.{Opens}
 use Rattle.mp4_media.specs.MovieTracks.{trak_with_id, trafs_in, trafs_of, with_fragments, opened_track, track_at, at_id}
 use Rattle.mp4_media.specs.MovieTracks.{AreTracks}
 use Rattle.mp4_media.specs.Reading.{track_or, sample_in, sample_count_in}
-use Rattle.mp4_media.specs.RoundTrip.{sample_number, accepted_with_id, accepted_sample, IsDescribed, HasExactly, OpensAs, IsPlainTrack}
+use Rattle.mp4_media.specs.RoundTrip.{sample_number, accepted_with_id, accepted_sample, IsDescribed, HasExactly, IsOpening, OpensAs, IsPlainTrack}
 use Rattle.mp4_media.proofs.Gathering.{with_first}
 
 -- The box of a track by its id.
@@ -343,18 +343,16 @@ module _ (session : Session) (empty : session.front ≡ []) (e : IsEnded session
       subst (λ (bytes : List ℕ). IsFile (length bytes) (here bytes 0) finished) (sym is)
       (opens ((session_keeps session).front ∙ empty))
 
-  pub read_back : (result : Result Mp4Reader Error)
-      → ((opened : OpenedFile) → IsFile (length file) (here file 0) opened → Answers opened_file result (Ok opened))
-      → IfOk result (λ r. r.bytes.now ≡ file) → IfOk result (λ r. AreTracks r.moov r.moofs r.tracks)
+  pub read_back : (result : Result Mp4Reader Error) → IsOpening file result
       → OpensAs (λ movie. HasExactly movie (accepted_by session)) result
-  read_back (Ok r) opened bytes are =
-      let same : finished ≡ opened_file r = ok_is finished (opened_file r) (opened finished is_file) in
+  read_back (Ok r) o =
+      let same : finished ≡ opened_file r = ok_is finished (opened_file r) (o.opens finished is_file) in
       let tracks : AreTracks (movie_of st) [] r.tracks =
-      subst (λ (o : OpenedFile). AreTracks o.moov o.moofs r.tracks) (sym same) are in
+      subst (λ (f : OpenedFile). AreTracks f.moov f.moofs r.tracks) (sym same) o.tracks in
       subst (HasExactly r) (session_accepts session e.answered)
       (exactly st (session_written session e) (subst (λ (bytes : List ℕ). length bytes < 2 ^ 64) is fits) r
-      (bytes ∙ is) tracks)
-  read_back (Err error) opened bytes are = wanted_memory finished error (opened finished is_file)
+      (o.holds ∙ is) tracks)
+  read_back (Err error) o = wanted_memory finished error (o.opens finished is_file)
 
 -- A track of an opened file that no fragment names.
 module _ (r : Mp4Reader) (are : AreTracks r.moov r.moofs r.tracks) (opened : OpenedFile) (same : opened ≡ opened_file r)

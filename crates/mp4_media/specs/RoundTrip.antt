@@ -5,7 +5,7 @@ use Rattle.std.specs.Prelude.{Result, Ok, Err, IfOk, IfSome, IsSomeAnd}
 use Rattle.mp4_codec.specs.declared.error.Error.{Error}
 use Rattle.mp4_codec.specs.declared.error.Error.TheVariants.{OutOfMemory}
 use Rattle.mp4_codec.specs.Cause.{Cause, invalid_data, trak_not_found, Gives, Answers, ◌>>=◌}
-use Rattle.mp4_codec.specs.Cursor.{Cursor}
+use Rattle.mp4_codec.specs.Cursor.{Cursor, here}
 use Rattle.mp4_entry.specs.Config.{media_type_in}
 use Rattle.mp4_entry.specs.TrackType.{track_type_of}
 use Rattle.mp4_boxes.specs.declared.stbl.StblBox.{StblBox}
@@ -21,9 +21,9 @@ use Rattle.mp4_mux.specs.declared.config.TrackConfig.{TrackConfig}
 use Rattle.mp4_mux.specs.Writing.{AcceptedTrack}
 use Rattle.mp4_media.specs.declared.reader.Mp4Reader.{Mp4Reader}
 use Rattle.mp4_media.specs.declared.round_trip.FoundSample.{FoundSample}
-use Rattle.mp4_media.specs.FileBoxes.{OpenedFile}
+use Rattle.mp4_media.specs.FileBoxes.{OpenedFile, opened_file}
 use Rattle.mp4_media.specs.FileGrammar.{IsFile}
-use Rattle.mp4_media.specs.MovieTracks.{trak_with_id, trafs_in, trafs_of, at_id}
+use Rattle.mp4_media.specs.MovieTracks.{trak_with_id, trafs_in, trafs_of, at_id, AreTracks}
 use Rattle.mp4_media.specs.Reading.{track_or, sample_in, sample_count_in}
 
 -- The first half: what is written is read back.
@@ -69,6 +69,12 @@ pub record HasExactly (movie : Mp4Reader) (accepted : List AcceptedTrack) : Type
       → IsSomeAnd (at_id movie.tracks id) (λ t. IsDescribed t.trak a.config)
   pub samples : (id k : ℕ) → k < 2 ^ 32 → sample_read movie id k ≡ accepted_sample accepted id k
   pub counts : (id : ℕ) → samples_counted movie id ≡ accepted_count accepted id
+
+-- what `read_mp4` answers of these bytes, as its contract says
+pub record IsOpening (bytes : List ℕ) (result : Result Mp4Reader Error) : Type 0 where
+  pub opens : (opened : OpenedFile) → IsFile (length bytes) (here bytes 0) opened → Answers opened_file result (Ok opened)
+  pub holds : IfOk result (λ movie. movie.bytes.now ≡ bytes)
+  pub tracks : IfOk result (λ movie. AreTracks movie.moov movie.moofs movie.tracks)
 
 -- bytes open, or memory ran out; where they open, this holds of the movie
 abbrev pub OpensAs : (Mp4Reader → Type 0) → Result Mp4Reader Error → Type 0

@@ -1,10 +1,19 @@
 //! What follows for movies that were written and opened again. Each function here does nothing; its contract is a law.
 
-ghost use Rattle.std.specs.Prelude.{◌≡◌, ◌<◌, ◌+◌, ◌^◌, ℕ, List, Ok, Some};
+ghost use Rattle.std.specs.Prelude.{◌≡◌, ◌<◌, ◌+◌, ◌^◌, ℕ, List, [], Ok, Result, Some, length};
+ghost use Rattle.mp4_codec.specs.declared.error.Error.{Error};
 ghost use Rattle.mp4_lookup.specs.Samples.{TimedSample};
-ghost use Rattle.mp4_mux.specs.Writing.{AcceptedTrack};
+ghost use Rattle.mp4_mux.specs.Calls.{IsEnded, Session, accepted_by, writer_of};
+ghost use Rattle.mp4_mux.specs.Writing.{AcceptedTrack, whole_of};
+ghost use Rattle.mp4_media.specs.Finished.{Opens};
 ghost use Rattle.mp4_media.specs.declared.reader.Mp4Reader.{Mp4Reader};
-ghost use Rattle.mp4_media.specs.RoundTrip.{HasExactly, sample_read, samples_counted};
+ghost use Rattle.mp4_media.specs.RoundTrip.{HasExactly, IsOpening, OpensAs, sample_read, samples_counted};
+
+/// The bytes of a writer that was begun in an empty buffer, and whose end was Ok, open as a movie that has exactly the
+/// tracks and samples that its calls accepted, or memory runs out.
+pub fn written_movies_are_read_back()
+    ensures { (session : Session) → session.front ≡ [] → IsEnded session → Opens (writer_of session) → (file : List ℕ) → file ≡ whole_of (writer_of session) → length file < 2 ^ 64 → (result : Result Mp4Reader Error) → IsOpening file result → OpensAs (λ movie. HasExactly movie (accepted_by session)) result }
+{}
 
 /// A sample's start and its duration are the start of the next one of its track (ISO/IEC 14496-12, 8.6.1.2).
 pub fn samples_follow_one_another()

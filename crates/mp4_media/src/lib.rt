@@ -42,7 +42,9 @@ pub use mp4_table::{
 
 // Containers, and movies.
 pub use calls::WriterCall;
-pub use laws::{interleavings_are_read_alike, samples_follow_one_another};
+pub use laws::{
+    interleavings_are_read_alike, samples_follow_one_another, written_movies_are_read_back,
+};
 pub use mp4_boxes::{
     EdtsBox, IlstBox, IlstItemBox, MdiaBox, MetaBox, Metadata, MetadataKey, MinfBox, MoofBox,
     MoovBox, MvexBox, StblBox, TrafBox, TrakBox, UdtaBox, equal_keys_hash_alike,

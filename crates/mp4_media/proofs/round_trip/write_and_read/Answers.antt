@@ -30,4 +30,8 @@ returns-clause-read_back c = λ over.
     let bytes : c.as_slice-bytes.result.now ≡ whole_of (writer_of session) =
     c.as_slice-bytes.ensures.value ∙ c.into_writer.ensures ∙ ap whole_of final in
     read_back session refl (record { answered = answered; ended = ended }) c.as_slice-bytes.result.now bytes
-    (omega arith) opens c.read_mp4.result c.read_mp4.ensures.opens c.read_mp4.ensures.bytes c.read_mp4.ensures.tracks
+    (omega arith) opens c.read_mp4.result (record {
+      opens = c.read_mp4.ensures.opens;
+      holds = c.read_mp4.ensures.bytes;
+      tracks = c.read_mp4.ensures.tracks;
+    })
