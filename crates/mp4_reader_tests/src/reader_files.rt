@@ -124,6 +124,16 @@ pub fn of_reader<T: Drop, F: FnOnce(&Mp4Reader) -> T>(
     Ok(say(&reader))
 }
 
+/// What is said of the track of an id.
+fn said_of<T, F: FnOnce(&Mp4Track) -> T>(reader: &Mp4Reader, id: u32, say: F) -> Result<T>
+    requires { F.IsAlwaysCallable say }
+{
+    match reader.tracks().get(&id) {
+        Some(track) => Ok(say(track)),
+        None => Err(Error::TrakNotFound(id)),
+    }
+}
+
 /// What is said of a track of a file.
 pub fn of_track<T: Drop, F: FnOnce(&Mp4Track) -> T>(
     alloc: Global,
@@ -135,10 +145,7 @@ pub fn of_track<T: Drop, F: FnOnce(&Mp4Track) -> T>(
 {
     let file = file?;
     let reader = read_mp4(alloc, &file)?;
-    match reader.tracks().get(&id) {
-        Some(track) => Ok(say(track)),
-        None => Err(Error::TrakNotFound(id)),
-    }
+    said_of(&reader, id, say)
 }
 
 /// What the number of a sample is answered with. The text of a refusal isn't looked at.
