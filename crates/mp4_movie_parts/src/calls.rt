@@ -108,6 +108,7 @@ pub fn write_sync(id: u32, duration: u32, bytes: &[u8]) -> Call {
     )
 }
 
+/// The configuration that such a movie is begun with.
 pub fn config_of(alloc: Global, beginning: &Beginning) -> Result<Mp4Config> {
     let mut compatible_brands = Items::new(alloc);
     for code in beginning.compatible_brands {

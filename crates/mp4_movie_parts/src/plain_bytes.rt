@@ -2,11 +2,13 @@
 
 use mp4_codec::Result;
 
+/// A number of 32 bits.
 pub fn put(bytes: &mut Vec<u8>, number: u32) -> Result<()> {
     bytes.extend_from_slice(&number.to_be_bytes())?;
     Ok(())
 }
 
+/// Two numbers of 32 bits.
 pub fn put_pair(bytes: &mut Vec<u8>, first: u32, second: u32) -> Result<()> {
     put(bytes, first)?;
     put(bytes, second)
@@ -19,6 +21,7 @@ pub fn put_short_pair(bytes: &mut Vec<u8>, first: u16, second: u16) -> Result<()
     Ok(())
 }
 
+/// So many zero bytes.
 pub fn put_zeros(bytes: &mut Vec<u8>, count: usize) -> Result<()> {
     for _ in 0..count {
         bytes.push(0)?;

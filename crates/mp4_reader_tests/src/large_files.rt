@@ -1,8 +1,9 @@
 //! Files of many boxes: they are opened in a time that grows with their size.
 
 use crate::asserts::check;
+use crate::reader_files::of_reader;
 use mp4_codec::Result;
-use mp4_media::read_mp4;
+use mp4_media::Mp4Reader;
 use mp4_movie_parts::movie_bytes::EMPTY_MOVIE;
 use mp4_movie_parts::plain_bytes::{begin_box, end_box};
 use mp4_movie_parts::tracks::{THREE, written_track};
@@ -45,17 +46,17 @@ fn large_file(alloc: Global) -> Result<Vec<u8>> {
     Ok(bytes)
 }
 
-/// Whether such a file has one track, and all fragments.
-fn all_fragments_are_of_one_track(alloc: Global) -> Result<bool> {
-    let bytes = large_file(alloc)?;
-    let reader = read_mp4(alloc, &bytes)?;
-    let Some(track) = reader.tracks().get(&1) else {
-        return Ok(false);
-    };
-    Ok(reader.tracks().len() == 1 && track.trafs.len() == MANY)
+/// Whether a movie has one track, and all fragments.
+fn all_fragments_are_of_one_track(reader: &Mp4Reader) -> bool {
+    match reader.tracks().get(&1) {
+        None => false,
+        Some(track) => reader.tracks().len() == 1 && track.trafs.len() == MANY,
+    }
 }
 
 #[test]
 fn twenty_thousand_tracks_and_fragments_of_one_id(rt: HostRuntime) {
-    check(&rt, 1, all_fragments_are_of_one_track(rt.alloc()));
+    let alloc = rt.alloc();
+    let answer = of_reader(alloc, large_file(alloc), all_fragments_are_of_one_track);
+    check(&rt, 1, answer);
 }

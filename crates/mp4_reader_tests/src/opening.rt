@@ -2,7 +2,7 @@
 
 use crate::asserts::{same, same_at};
 use mp4_codec::{BoxType, Error, Limit, Result};
-use mp4_media::read_mp4;
+use mp4_media::{Mp4Reader, read_mp4};
 use mp4_movie_parts::movie_bytes::EMPTY_MOVIE;
 use std::alloc::Global;
 
@@ -147,15 +147,20 @@ fn the_last_file_type_and_the_last_movie_stand(rt: HostRuntime) {
     same(&rt, of_two(rt.alloc(), &second), Ok((b'2', 0x307)));
 }
 
-/// The duration of the empty movie with this duration and timescale, if its size and timescale are as they should be.
-fn milliseconds(alloc: Global, duration: u64, timescale: u32) -> Result<Option<u64>> {
-    let mut movie = read_mp4(alloc, &EMPTY_MOVIE)?;
+/// The duration of a movie whose header says these, if its size and timescale are as they should be.
+fn duration_by(movie: &mut Mp4Reader, duration: u64, timescale: u32) -> Result<Option<u64>> {
     movie.moov.mvhd.duration = duration;
     movie.moov.mvhd.timescale = timescale;
     if movie.timescale() != timescale || movie.size() != 164 {
         return Ok(None);
     }
     Ok(Some(movie.duration()?))
+}
+
+/// The same of the empty movie.
+fn milliseconds(alloc: Global, duration: u64, timescale: u32) -> Result<Option<u64>> {
+    let mut movie = read_mp4(alloc, &EMPTY_MOVIE)?;
+    duration_by(&mut movie, duration, timescale)
 }
 
 #[test]

@@ -294,16 +294,21 @@ fn ids_are_answered(file: &PlainFile, reader: &mut Mp4Reader) -> bool {
     all
 }
 
+/// Whether a file is refused so, or opened and answered where it has no fault.
+fn is_answered(alloc: Global, file: &PlainFile, fault: &Option<Error>) -> bool {
+    match (read_mp4(alloc, &file.bytes), fault) {
+        (Ok(mut reader), None) => ids_are_answered(file, &mut reader),
+        (Err(one), Some(other)) => are_same_refusal(&one, other),
+        _ => false,
+    }
+}
+
 /// Whether the file of a seed is opened as a plain program says.
 fn is_opened_so(alloc: Global, seed: u64) -> Result<bool> {
     let mut random = Random::new(seed);
     let mut file = PlainFile::new(alloc);
     let cut = put_boxes(alloc, &mut file, &mut random)?;
-    match (read_mp4(alloc, &file.bytes), cut.or(fault(&file))) {
-        (Ok(mut reader), None) => Ok(ids_are_answered(&file, &mut reader)),
-        (Err(one), Some(other)) => Ok(are_same_refusal(&one, &other)),
-        _ => Ok(false),
-    }
+    Ok(is_answered(alloc, &file, &cut.or(fault(&file))))
 }
 
 #[test]

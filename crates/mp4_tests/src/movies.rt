@@ -36,11 +36,16 @@ fn is_described(alloc: Global) -> Result<bool> {
     Ok(brands && version && *movie.major_brand() == FourCC::from(0x69736f6d))
 }
 
-/// Whether the empty movie has its size, timescale and duration, and no fragments.
+/// Whether a movie has the size, timescale and duration of the empty one, and no fragments.
+fn lasts_for_nothing(movie: &Mp4Reader) -> bool {
+    let numbers = movie.size() == 164 && movie.timescale() == 1000;
+    numbers && !movie.is_fragmented() && movie.duration() == Ok(0)
+}
+
+/// Whether the empty movie is read so.
 fn has_no_duration(alloc: Global) -> Result<bool> {
     let movie = read_mp4(alloc, &EMPTY_MOVIE)?;
-    let numbers = movie.size() == 164 && movie.timescale() == 1000;
-    Ok(numbers && !movie.is_fragmented() && movie.duration()? == 0)
+    Ok(lasts_for_nothing(&movie))
 }
 
 #[test]
@@ -118,16 +123,26 @@ fn the_header_of_mdat_has_sixteen_bytes(rt: HostRuntime) {
     );
 }
 
-/// The duration of the empty movie written with a timescale of zero, if it is read with that.
-fn duration_of_zero_timescale(alloc: Global) -> Result<Option<u64>> {
+/// The bytes of the empty movie with a timescale of zero.
+fn without_timescale(alloc: Global) -> Result<Vec<u8>> {
     let mut config = config(alloc)?;
     config.timescale = 0;
-    let bytes = written(alloc, Vec::new(alloc), &config)?;
-    let movie = read_mp4(alloc, &bytes)?;
+    written(alloc, Vec::new(alloc), &config)
+}
+
+/// The duration of a movie, if its timescale is zero.
+fn duration_by_zero(movie: &Mp4Reader) -> Result<Option<u64>> {
     if movie.timescale() != 0 {
         return Ok(None);
     }
     Ok(Some(movie.duration()?))
+}
+
+/// The duration of the empty movie written with a timescale of zero, if it is read with that.
+fn duration_of_zero_timescale(alloc: Global) -> Result<Option<u64>> {
+    let bytes = without_timescale(alloc)?;
+    let movie = read_mp4(alloc, &bytes)?;
+    duration_by_zero(&movie)
 }
 
 #[test]

@@ -868,15 +868,20 @@ fn fragmented_again(rt: &HostRuntime) -> Result<Vec<u8>> {
     }
 }
 
-/// Whether a track with fragments has them, each call made again after a refusal.
-fn fragments_are_read(rt: &HostRuntime) -> Result<bool> {
-    let bytes = fragmented_again(rt)?;
-    let reader = opened_again(rt, &bytes)?;
+/// Whether track 1 has two fragments, which are copied, again after a refusal.
+fn has_fragments(rt: &HostRuntime, reader: &Mp4Reader) -> Result<bool> {
     let Some(track) = reader.tracks().get(&1) else {
         return Ok(false);
     };
     let copy = copy_again(rt, &track.trafs)?;
     Ok(copy.len() == 2 && copy == track.trafs && track.default_sample_duration == 40)
+}
+
+/// Whether a track with fragments has them, each call made again after a refusal.
+fn fragments_are_read(rt: &HostRuntime) -> Result<bool> {
+    let bytes = fragmented_again(rt)?;
+    let reader = opened_again(rt, &bytes)?;
+    has_fragments(rt, &reader)
 }
 
 #[test]
