@@ -1066,14 +1066,34 @@ fn is_whole(trip: &RoundTrip) -> bool {
 }
 
 /// Whether a part of a round trip was refused for want of memory.
-fn lacks_memory(rt: &HostRuntime, trip: &RoundTrip) -> bool {
+fn lacks_memory(trip: &RoundTrip) -> bool {
     let refused = |reply: &Result<()>| *reply == Err(Error::OutOfMemory);
     let opening = matches!(&trip.movie, Err(Error::OutOfMemory));
     let finding = match &trip.found {
         Err(error) => *error == Error::OutOfMemory,
         Ok(found) => matches!(&found.sample, Err(Error::OutOfMemory)),
     };
-    is_refusal(rt, &Error::OutOfMemory) && (opening || finding || trip.replies.iter().any(refused))
+    opening || finding || trip.replies.iter().any(refused)
+}
+
+/// Whether a round trip is whole; `OutOfMemory` where a part of it was refused for want of memory.
+fn wholeness(trip: &RoundTrip) -> Result<bool> {
+    if lacks_memory(trip) {
+        return Err(Error::OutOfMemory);
+    }
+    Ok(is_whole(trip))
+}
+
+/// The same of the round trip of these calls, which lives in this one function.
+fn trip_is_whole(
+    rt: &HostRuntime,
+    config: &Mp4Config,
+    calls: &[WriterCall],
+    file: &[u8],
+) -> Result<bool> {
+    let mut buffer = Vec::new(rt.alloc());
+    let trip = round_trip(rt, config, calls, &mut buffer, file)?;
+    wholeness(&trip)
 }
 
 /// Whether a round trip is whole, at once or when it is made again after a part of it was refused.
@@ -1083,15 +1103,10 @@ fn is_whole_again(
     calls: &[WriterCall],
     file: &[u8],
 ) -> Result<bool> {
-    let mut buffer = Vec::new(rt.alloc());
-    match round_trip(rt, config, calls, &mut buffer, file) {
-        Ok(trip) if is_whole(&trip) => return Ok(true),
-        Ok(trip) if lacks_memory(rt, &trip) => {}
-        Err(error) if is_refusal(rt, &error) => {}
-        _ => return Ok(false),
+    match trip_is_whole(rt, config, calls, file) {
+        Err(error) if is_refusal(rt, &error) => trip_is_whole(rt, config, calls, file),
+        answer => answer,
     }
-    let mut other = Vec::new(rt.alloc());
-    Ok(is_whole(&round_trip(rt, config, calls, &mut other, file)?))
 }
 
 /// The calls of the text movie as data.
