@@ -294,12 +294,19 @@ fn ids_are_answered(file: &PlainFile, reader: &mut Mp4Reader) -> bool {
     all
 }
 
+/// Whether there is a fault, and a file is refused for it.
+fn is_fault(fault: &Option<Error>, error: &Error) -> bool {
+    match fault {
+        None => false,
+        Some(expected) => are_same_refusal(error, expected),
+    }
+}
+
 /// Whether a file is refused so, or opened and answered where it has no fault.
 fn is_answered(alloc: Global, file: &PlainFile, fault: &Option<Error>) -> bool {
-    match (read_mp4(alloc, &file.bytes), fault) {
-        (Ok(mut reader), None) => ids_are_answered(file, &mut reader),
-        (Err(one), Some(other)) => are_same_refusal(&one, other),
-        _ => false,
+    match read_mp4(alloc, &file.bytes) {
+        Ok(mut reader) => fault.is_none() && ids_are_answered(file, &mut reader),
+        Err(error) => is_fault(fault, &error),
     }
 }
 
