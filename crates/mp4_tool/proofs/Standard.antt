@@ -6,15 +6,12 @@ use Rattle.mp4_codec.specs.declared.error.Error.{Error}
 use Rattle.mp4_codec.specs.declared.error.Error.TheVariants.{OutOfMemory}
 use Rattle.mp4_codec.specs.Cause.{Cause, cause_of, Answers, AnswersCause}
 use Rattle.mp4_mux.specs.declared.config.Mp4Config.{Mp4Config}
-use Rattle.mp4_media.specs.Finished.{Opens}
 use Rattle.mp4_mux.specs.Writing.{WriterState, started, with_end, whole_of, start_cause, end_cause}
 use Rattle.mp4_mux.specs.StartLaws.{start_cause-few}
 use Rattle.mp4_tool.specs.declared.script.ScriptFault.{ScriptFault}
 use Rattle.mp4_tool.specs.declared.script.ScriptFault.TheVariants.{End}
-use Rattle.mp4_tool.specs.Lines.{lines_of}
 use Rattle.mp4_tool.specs.Script.{ScriptCause, script_cause_of, at_end, standard_config, standard_writer, run_all}
-use Rattle.mp4_tool.specs.Script.{ended_movie, movie_made_by, RanOutIn, RanOut, AnswersScript, OpensAsScripted, ◌>>=◌}
-use Rattle.mp4_tool.proofs.Steps.{run_from-unchanged}
+use Rattle.mp4_tool.specs.Script.{ended_movie, movie_made_by, RanOutIn, RanOut, AnswersScript, ◌>>=◌}
 
 begins : start_cause standard_config ≡ None
 begins = start_cause-few standard_config (omega arith)
@@ -105,11 +102,7 @@ end_is_ok script writer next ended bytes begun-is run answers end-is bytes-are =
     ∙ ended_ok next (end_cause next) refl answers
     ∙ ap Ok (sym (bytes-are ∙ ap whole_of end-is))
 
--- the bytes of a script's movie open
-pub script_opens : (script : List ℕ) (writer next ended : WriterState) (bytes : List ℕ)
-    → writer ≡ standard_writer → run_all script writer ≡ Ok next → ended ≡ with_end next → bytes ≡ whole_of ended
-    → Opens ended → OpensAsScripted bytes
-script_opens script writer next ended bytes begun-is run end-is bytes-are opens =
-    let same : next ≡ standard_writer = run_from-unchanged 1 (lines_of script) writer next run ∙ begun-is in
-    let is : ended ≡ with_end standard_writer = end-is ∙ ap with_end same in
-    subst OpensAsScripted (sym (bytes-are ∙ ap whole_of is)) ((subst Opens is opens) refl)
+-- and there is no cause to refuse it
+pub no_cause : (cause : Option Cause) → AnswersCause {X = Unit {0}} cause (Ok tt) → cause ≡ None
+no_cause None answers = refl
+no_cause (Some c) answers = absurd answers

@@ -1,12 +1,15 @@
 -- What a script makes: its lines are run one after the other, each as one step of a writer.
-use Rattle.std.specs.Prelude.{◌≡◌, ◌⊎◌, ℕ, ◌+◌, List, [], ◌∷◌, ◌++◌, length, Some, None, Result, Ok, Err, codes}
+use Rattle.std.specs.Prelude.{◌≡◌, ◌⊎◌, ℕ, ◌+◌, List, [], ◌∷◌, ◌++◌, length, Option, Some, None, Result, Ok, Err, codes}
+use Rattle.std.specs.List.{fold}
+use Rattle.mp4_codec.specs.declared.error.Error.{Error}
 use Rattle.mp4_codec.specs.declared.error.Error.TheVariants.{OutOfMemory}
 use Rattle.mp4_codec.specs.Cause.{Cause, cause_of}
 use Rattle.mp4_mux.specs.declared.config.Mp4Config.{Mp4Config}
-use Rattle.mp4_codec.specs.Cursor.{here}
-use Rattle.mp4_media.specs.FileBoxes.{OpenedFile}
-use Rattle.mp4_media.specs.FileGrammar.{IsFile}
-use Rattle.mp4_mux.specs.Writing.{WriterState, started, with_end, end_cause, whole_of, file_type_of, movie_of}
+use Rattle.mp4_mux.specs.Writing.{WriterState, AcceptedTrack, started, with_end, end_cause, whole_of}
+use Rattle.mp4_mux.specs.Calls.{Call, step, call_cause, accept}
+use Rattle.mp4_media.specs.declared.reader.Mp4Reader.{Mp4Reader}
+use Rattle.mp4_media.specs.RoundTrip.{HasExactly, IsOpening, OpensAs}
+use Rattle.mp4_tool.specs.Commands.{command_in}
 use Rattle.mp4_tool.specs.Lines.{lines_of}
 use Rattle.mp4_tool.specs.declared.script.ScriptFault.{ScriptFault}
 use Rattle.mp4_tool.specs.declared.script.ScriptFault.TheVariants.{NotACommand, Refused, End}
@@ -40,10 +43,18 @@ standard_config = record {
 abbrev pub standard_writer : WriterState
 standard_writer = started [] standard_config
 
--- the line of this number: an empty one changes nothing, and any other is not a command
-abbrev pub step : ℕ → List ℕ → WriterState → Result WriterState ScriptCause
-step number [] writer = Ok writer
-step number (byte ∷ bytes) writer = Err (not_a_command number)
+-- the call of the line of this number: it is made, or refused for its cause; no other line is a command
+abbrev pub called : ℕ → WriterState → Option Call → Result WriterState ScriptCause
+called number writer None = Err (not_a_command number)
+called number writer (Some call) = elim (call_cause writer call) [
+  | None ↦ Ok (step writer call)
+  | Some cause ↦ Err (refused number cause)
+]
+
+-- the line of this number: an empty one changes nothing, and any other makes its call
+abbrev pub line_step : ℕ → List ℕ → WriterState → Result WriterState ScriptCause
+line_step number [] writer = Ok writer
+line_step number (byte ∷ bytes) writer = called number writer (command_in (byte ∷ bytes))
 
 -- a step, and where it is not at fault, the next
 infixl 10 ◌>>=◌
@@ -54,7 +65,7 @@ abbrev pub ◌>>=◌ : {A B : Type 0} → Result A ScriptCause → (A → Result
 -- lines, one after the other; the first of them has this number
 unfoldable pub run_from : ℕ → List (List ℕ) → WriterState → Result WriterState ScriptCause
 run_from number [] writer = Ok writer
-run_from number (line ∷ lines) writer = step number line writer >>= run_from (number + 1) lines
+run_from number (line ∷ lines) writer = line_step number line writer >>= run_from (number + 1) lines
 
 -- the lines of a script, from the first to the last; the first has number 1
 abbrev pub run_all : List ℕ → WriterState → Result WriterState ScriptCause
@@ -71,9 +82,9 @@ ended_movie writer = elim (end_cause writer) [
 abbrev pub movie_made_by : List ℕ → Result (List ℕ) ScriptCause
 movie_made_by script = run_all script standard_writer >>= ended_movie
 
--- a line that calls the writer: there is no such command yet
+-- a line that calls the writer
 abbrev pub CallsWriter : List ℕ → Type 0
-CallsWriter line = ⊥
+CallsWriter line = (call : Call) × (command_in line ≡ Some call)
 
 -- memory ran out in the call of a line, which has this number
 abbrev pub RanOutAt : ℕ → List ℕ → ScriptFault → Type 0
@@ -99,17 +110,17 @@ abbrev pub AnswersScript : {X Y : Type 0} → (ScriptFault → Type 0) → (X �
 AnswersScript ran_out view (Ok x) answer = answer ≡ Ok (view x)
 AnswersScript ran_out view (Err fault) answer = ran_out fault ⊎ (answer ≡ Err (script_cause_of fault))
 
--- the movie of a script, opened from so many bytes
-abbrev pub opened_script : ℕ → OpenedFile
-opened_script size = record {
-  ftyp = file_type_of standard_config;
-  moov = movie_of (with_end standard_writer);
-  moofs = [];
-  moof_places = [];
-  emsgs = [];
-  size = size;
-}
+-- the calls that lines name, in their order
+unfoldable pub calls_in : List (List ℕ) → List Call
+calls_in [] = []
+calls_in (line ∷ lines) = elim (command_in line) [ None ↦ calls_in lines | Some call ↦ call ∷ calls_in lines ]
 
--- these bytes are a file, from the first to the last: the movie of a script
-abbrev pub OpensAsScripted : List ℕ → Type 0
-OpensAsScripted bytes = IsFile (length bytes) (here bytes 0) (opened_script (length bytes))
+-- what a script's calls accept, where none is refused: its tracks, and their samples
+abbrev pub accepted_by_script : List ℕ → List AcceptedTrack
+accepted_by_script script = fold accept [] (calls_in (lines_of script))
+
+-- the bytes of a script's movie open, or memory runs out, and the movie has exactly the script's tracks and samples
+abbrev pub OpensAsScripted : List ℕ → List ℕ → Type 0
+OpensAsScripted script bytes =
+    (read : Result Mp4Reader Error) → IsOpening bytes read
+    → OpensAs (λ movie. HasExactly movie (accepted_by_script script)) read

@@ -11,6 +11,9 @@ pub enum Fault<'a> {
     /// The file or input of this name can't be read to its end.
     #[error("cannot read {0}")]
     CannotRead(&'a str),
+    /// The file of this name can't be written whole.
+    #[error("cannot write {0}")]
+    CannotWrite(&'a str),
     /// A file doesn't open, or memory ran out.
     #[error("{0}")]
     Movie(#[from] Error),

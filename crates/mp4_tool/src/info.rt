@@ -1,6 +1,6 @@
 //! The text that describes a movie.
 
-use mp4_media::{Mp4Reader, Result, read_mp4};
+use mp4_media::{FourCC, Mp4Reader, Mp4Track, Result, read_mp4};
 use std::alloc::{AllocError, Global};
 use std::fmt::Write;
 
@@ -21,22 +21,85 @@ fn write_duration(text: &mut String, movie: &Mp4Reader) -> std::result::Result<(
     }
 }
 
-/// The lines that describe a movie: its brands, its size in bytes, its timescale in ticks a second, its
-/// duration in milliseconds, and whether it has fragments. A duration that can't be computed is shown as `-`.
-///
-/// Refused as the movie's opening is, and for want of memory.
-pub fn info_text(alloc: Global, file: &[u8]) -> Result<Vec<u8>> {
-    let movie = read_mp4(alloc, file)?;
+/// Writes a part of a line behind a space: what a track answers, or `-` where that is refused.
+fn write_part<T: std::fmt::Display + Drop>(
+    text: &mut String,
+    part: Result<T>,
+) -> std::result::Result<(), AllocError> {
+    match part {
+        Ok(value) => write!(text, " {value}"),
+        Err(_) => text.push_str(" -"),
+    }
+}
+
+/// Writes a language behind a space; bytes that don't print are shown as full stops.
+fn write_language(text: &mut String, language: &str) -> std::result::Result<(), AllocError> {
+    text.push_str(" ")?;
+    for byte in language.bytes() {
+        let printed = matches!(byte, b' '..=b'~');
+        text.push(if printed { char::from(byte) } else { '.' })?;
+    }
+    Ok(())
+}
+
+/// Writes the line of a track.
+fn write_track(text: &mut String, id: u32, track: &Mp4Track) -> Result<()> {
+    write!(text, "track {id}")?;
+    write_part(text, track.track_type().map(FourCC::from))?;
+    write_part(text, track.box_type())?;
+    write!(text, " {}", track.timescale())?;
+    write_part(text, track.duration())?;
+    write_part(text, track.sample_count())?;
+    write_language(text, track.language())?;
+    text.push_str("\n")?;
+    Ok(())
+}
+
+/// The ids of a movie's tracks, rising.
+pub(crate) fn track_ids(alloc: Global, movie: &Mp4Reader) -> Result<Vec<u32>> {
+    let mut ids = Vec::new(alloc);
+    for id in movie.tracks().keys() {
+        ids.push(*id)?;
+    }
+    ids.sort()?;
+    Ok(ids)
+}
+
+/// Writes the lines of all tracks, by their ids.
+fn write_tracks(alloc: Global, text: &mut String, movie: &Mp4Reader) -> Result<()> {
+    for id in track_ids(alloc, movie)?.iter() {
+        if let Some(track) = movie.tracks().get(id) {
+            write_track(text, *id, track)?;
+        }
+    }
+    Ok(())
+}
+
+/// Writes the lines that describe an opened movie.
+pub(crate) fn write_info(alloc: Global, text: &mut String, movie: &Mp4Reader) -> Result<()> {
     let brand = movie.major_brand();
     let version = movie.minor_version();
     let size = movie.size();
     let timescale = movie.timescale();
     let fragmented = if movie.is_fragmented() { "yes" } else { "no" };
-    let mut text = format!(in alloc; "brand {brand} {version}\n")?;
-    write_brands(&mut text, &movie)?;
+    writeln!(text, "brand {brand} {version}")?;
+    write_brands(text, movie)?;
     writeln!(text, "size {size}")?;
     writeln!(text, "timescale {timescale}")?;
-    write_duration(&mut text, &movie)?;
+    write_duration(text, movie)?;
     writeln!(text, "fragmented {fragmented}")?;
+    write_tracks(alloc, text, movie)
+}
+
+/// The lines that describe a movie: its brands, its size in bytes, its timescale in ticks a second, its duration in
+/// milliseconds, and whether it has fragments; then for each track, by rising id: its id, its handler, the type of its
+/// sample entry, its timescale, its duration in microseconds, how many samples it has, and its language. What can't be
+/// computed is shown as `-`.
+///
+/// Refused as the movie's opening is, and for want of memory.
+pub fn info_text(alloc: Global, file: &[u8]) -> Result<Vec<u8>> {
+    let movie = read_mp4(alloc, file)?;
+    let mut text = String::new(alloc);
+    write_info(alloc, &mut text, &movie)?;
     Ok(text.into_bytes())
 }

@@ -14,11 +14,11 @@ pub(crate) struct Lines<'a> {
     rest: Option<&'a [u8]>,
 }
 
-/// The bytes before the first line feed, or all of them.
-fn line_length(text: &[u8]) -> usize
-    ensures { result ≡ position_or_len (λ byte. byte == 10) text.now }
+/// How many bytes stand before the first one that is this, or how many there are.
+pub(crate) fn length_before(text: &[u8], end: u8) -> usize
+    ensures { result ≡ position_or_len (λ byte. byte == end) text.now }
 {
-    text.iter().take_while(|byte| **byte != LINE_FEED).count()
+    text.iter().take_while(|byte| **byte != end).count()
 }
 
 impl<'a> Lines<'a> {
@@ -34,7 +34,7 @@ impl<'a> Lines<'a> {
         ensures end { IfNone result (lines_left self.new ≡ []) }
     {
         let text = self.rest?;
-        let end = line_length(text);
+        let end = length_before(text, LINE_FEED);
         if end < text.len() {
             self.rest = Some(&text[end + 1..]);
             Some(&text[..end])

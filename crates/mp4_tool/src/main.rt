@@ -1,10 +1,12 @@
 //! Looks into MP4 files, and makes them of scripts.
 #![tactic(auto)]
 
+mod commands;
 mod faults;
 mod info;
 mod lines;
 mod run;
+mod samples;
 mod script;
 mod show;
 

@@ -1,7 +1,10 @@
 //! A run of the program.
 
+use crate::commands::decimal_in;
 use crate::faults::Fault;
 use crate::info::info_text;
+use crate::samples::samples_text;
+use crate::script::run_script;
 use crate::show::show_text;
 use mp4_media::Error;
 use std::alloc::Global;
@@ -45,12 +48,46 @@ fn read_all<'a, R: Read>(
     Err(Fault::CannotRead(name))
 }
 
-fn info<'a>(rt: &impl Files, alloc: Global, name: &'a str) -> Result<Vec<u8>, Fault<'a>> {
+/// All bytes of a file.
+fn read_file<'a>(rt: &impl Files, alloc: Global, name: &'a str) -> Result<Vec<u8>, Fault<'a>> {
     let Ok(mut file) = fs::open(rt, name) else {
         return Err(Fault::CannotRead(name));
     };
-    let bytes = read_all(alloc, &mut file, name)?;
+    read_all(alloc, &mut file, name)
+}
+
+/// The lines that describe a file.
+fn info<'a>(rt: &impl Files, alloc: Global, name: &'a str) -> Result<Vec<u8>, Fault<'a>> {
+    let bytes = read_file(rt, alloc, name)?;
     Ok(info_text(alloc, bytes.as_slice())?)
+}
+
+/// The lines of the samples of a track of a file.
+fn samples<'a>(
+    rt: &impl Files,
+    alloc: Global,
+    name: &'a str,
+    track_id: u32,
+) -> Result<Vec<u8>, Fault<'a>> {
+    let bytes = read_file(rt, alloc, name)?;
+    Ok(samples_text(alloc, bytes.as_slice(), track_id)?)
+}
+
+/// Makes the movie of a script and writes it to a file, which is made anew. Where the script is at fault the file isn't
+/// touched.
+fn make<'a, R: Read>(
+    rt: &impl Files,
+    alloc: Global,
+    input: &mut R,
+    name: &'a str,
+) -> Result<Vec<u8>, Fault<'a>> {
+    let script = read_all(alloc, input, STANDARD_INPUT)?;
+    let movie = run_script(alloc, script.as_slice())?;
+    let text = format!(in alloc; "wrote {} bytes\n", movie.len()).map_err(Error::from)?;
+    if fs::write(rt, name, movie.as_slice()).is_err() {
+        return Err(Fault::CannotWrite(name));
+    }
+    Ok(text.into_bytes())
 }
 
 fn show<R: Read>(alloc: Global, input: &mut R) -> Result<Vec<u8>, Fault<'static>> {
@@ -78,6 +115,12 @@ fn report(
     }
 }
 
+/// Adds the usage to `err`, and answers the status of wrong arguments.
+fn report_usage(err: &mut Vec<u8>) -> mp4_media::Result<u8> {
+    err.extend_from_slice(USAGE.as_bytes())?;
+    Ok(WRONG_ARGUMENTS)
+}
+
 /// A whole run with these arguments behind the program's name. The answer is the status: 0, 1 after a fault, or 2
 /// where the arguments are no command. What a run prints is added to `out` and to `err`.
 ///
@@ -95,9 +138,15 @@ pub fn run<R: Read>(
         [command, file] if command.as_str() == "info" => {
             report(alloc, info(rt, alloc, file.as_str()), out, err)
         }
-        _ => {
-            err.extend_from_slice(USAGE.as_bytes())?;
-            Ok(WRONG_ARGUMENTS)
+        [command, file] if command.as_str() == "make" => {
+            report(alloc, make(rt, alloc, input, file.as_str()), out, err)
         }
+        [command, file, track] if command.as_str() == "samples" => {
+            match decimal_in(track.as_bytes()) {
+                Some(id) => report(alloc, samples(rt, alloc, file.as_str(), id), out, err),
+                None => report_usage(err),
+            }
+        }
+        _ => report_usage(err),
     }
 }

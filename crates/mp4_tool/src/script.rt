@@ -1,11 +1,19 @@
 //! Scripts: lines that say what a movie is made of.
 
-ghost use Rattle.std.specs.Prelude.{Ok, IfOk};
+ghost use Rattle.std.specs.Prelude.{◌≡◌, [], ◌∷◌, Ok, IfOk, Some};
+ghost use Rattle.std.specs.List.{AllByRecursion};
 ghost use Rattle.mp4_codec.specs.Cause.{Answers};
-ghost use Rattle.mp4_tool.specs.Script.{standard_config, standard_writer, step, run_all, movie_made_by, RanOutAt, RanOutIn, RanOut, AnswersScript, OpensAsScripted};
+ghost use Rattle.mp4_mux.specs.Calls.{IsInRangeCall};
+ghost use Rattle.mp4_media.specs.WriterCalls.{call_of};
+ghost use Rattle.mp4_tool.specs.declared.script.ScriptFault.TheVariants.{Refused};
+ghost use Rattle.mp4_tool.specs.Lines.{lines_of};
+ghost use Rattle.mp4_tool.specs.Script.{called, calls_in, standard_config, standard_writer, line_step, run_all, movie_made_by, RanOutAt, RanOutIn, RanOut, AnswersScript, OpensAsScripted};
 
+use crate::commands::{call_of, command_in};
 use crate::lines::Lines;
-use mp4_media::{Error, FourCC, Items, Mp4Config, Mp4Writer};
+use mp4_media::{
+    Error, FourCC, InRange, Items, Mp4Config, Mp4Writer, WriterCall, written_movies_are_read_back,
+};
 use std::alloc::Global;
 use thiserror::Error as ThisError;
 
@@ -58,19 +66,40 @@ fn begin(alloc: Global) -> mp4_media::Result<Mp4Writer>
     Mp4Writer::write_start(alloc, Vec::new(alloc), &config)
 }
 
-/// Runs the line of this number. There is no command yet: each line that isn't empty is at fault.
-fn run_line(_writer: &mut Mp4Writer, number: u64, line: &[u8]) -> Result<(), ScriptFault>
-    ensures { AnswersScript (RanOutAt number line.now) (λ _. _writer.new) result (step number line.now _writer.old) }
+/// Makes the call of the line of this number.
+fn make_call(writer: &mut Mp4Writer, number: u64, call: &WriterCall) -> Result<(), ScriptFault>
+    ensures { AnswersScript (λ fault. fault ≡ Refused number Error.OutOfMemory) (λ _. writer.new) result (called number writer.old (Some (call_of call.now))) }
 {
-    if !line.is_empty() {
-        return Err(ScriptFault::NotACommand(number));
+    match writer.perform(call) {
+        Ok(()) => Ok(()),
+        Err(error) => Err(ScriptFault::Refused(number, error)),
     }
-    Ok(())
+}
+
+/// Runs the line of this number: an empty one changes nothing, and any other makes its call.
+fn run_line(writer: &mut Mp4Writer, number: u64, line: &[u8]) -> Result<(), ScriptFault>
+    ensures answer { AnswersScript (RanOutAt number line.now) (λ _. writer.new) result (line_step number line.now writer.old) }
+    ensures fits { IfOk result (λ _. AllByRecursion IsInRangeCall (calls_in (line.now ∷ []))) }
+{
+    if line.is_empty() {
+        return Ok(());
+    }
+    let Some(command) = command_in(line) else {
+        return Err(ScriptFault::NotACommand(number));
+    };
+    match call_of(writer.allocator(), &command) {
+        Ok(call) => {
+            call.in_range();
+            make_call(writer, number, &call)
+        }
+        Err(error) => Err(ScriptFault::Refused(number, error)),
+    }
 }
 
 /// Runs the lines of a script, up to the first that is at fault.
 fn run_lines(writer: &mut Mp4Writer, script: &[u8]) -> Result<(), ScriptFault>
-    ensures { AnswersScript (RanOutIn script.now writer.old) (λ _. writer.new) result (run_all script.now writer.old) }
+    ensures answer { AnswersScript (RanOutIn script.now writer.old) (λ _. writer.new) result (run_all script.now writer.old) }
+    ensures fits { IfOk result (λ _. AllByRecursion IsInRangeCall (calls_in (lines_of script.now))) }
 {
     let mut lines = Lines::new(script);
     let mut number = 0;
@@ -83,14 +112,20 @@ fn run_lines(writer: &mut Mp4Writer, script: &[u8]) -> Result<(), ScriptFault>
 
 /// The bytes of the movie that a script makes.
 ///
-/// Lines end with a line feed, the last one may lack it, and empty lines are skipped. The movie is of brand
-/// isom, version 512, compatible with isom, iso2, avc1 and mp41, and has 1000 ticks in a second. The first
-/// line at fault is the answer; `End` where the movie isn't begun or isn't ended. Where memory runs out, the
-/// answer is `End` with `OutOfMemory`: no line calls the writer yet.
+/// Lines end with a line feed, the last one may lack it, and empty lines are skipped; fields are parted by one space.
+/// `track text TIMESCALE` adds a track of text with so many ticks in a second, the first of id 1.
+/// `sample TRACK DURATION OFFSET SYNC TEXT` writes a sample of a track: its duration and its rendering offset in ticks,
+/// 1 for a sync sample or 0, and its bytes, which are all the rest of the line. Numbers have one to ten decimal digits and
+/// 32 bits; an offset may have a minus. The movie is of brand isom, version 512, compatible with isom, iso2, avc1 and mp41,
+/// and has 1000 ticks in a second.
+///
+/// The first line at fault is the answer: `NotACommand` where it is no command, `Refused` where its call is refused, for
+/// want of memory too; `End` where the movie isn't begun or isn't ended.
 pub fn run_script(alloc: Global, script: &[u8]) -> Result<Vec<u8>, ScriptFault>
     ensures answer { AnswersScript (RanOut script.now) (λ bytes. bytes.items) result (movie_made_by script.now) }
-    ensures opens { IfOk result (λ bytes. OpensAsScripted bytes.items) }
+    ensures opens { IfOk result (λ bytes. OpensAsScripted script.now bytes.items) }
 {
+    written_movies_are_read_back();
     let mut writer = begin(alloc).map_err(ScriptFault::End)?;
     run_lines(&mut writer, script)?;
     match writer.write_end() {

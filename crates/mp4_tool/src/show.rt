@@ -1,11 +1,33 @@
 //! The text that describes the movie of a script.
 
-use crate::info::info_text;
+use crate::info::{track_ids, write_info};
+use crate::samples::write_samples;
 use crate::script::{ScriptFault, run_script};
+use mp4_media::{Mp4Reader, Result, read_mp4};
 use std::alloc::Global;
+use std::fmt::Write;
 
-/// The lines that describe the movie that a script makes, without a file. A fault of opening it again is `End`.
-pub fn show_text(alloc: Global, script: &[u8]) -> Result<Vec<u8>, ScriptFault> {
+/// Writes the lines of the samples of all tracks, by their ids.
+fn write_all_samples(alloc: Global, text: &mut String, movie: &Mp4Reader) -> Result<()> {
+    for id in track_ids(alloc, movie)?.iter() {
+        writeln!(text, "samples {id}")?;
+        write_samples(text, movie, *id)?;
+    }
+    Ok(())
+}
+
+/// The lines that describe a file and all its samples.
+fn described(alloc: Global, file: &[u8]) -> Result<Vec<u8>> {
+    let movie = read_mp4(alloc, file)?;
+    let mut text = String::new(alloc);
+    write_info(alloc, &mut text, &movie)?;
+    write_all_samples(alloc, &mut text, &movie)?;
+    Ok(text.into_bytes())
+}
+
+/// The lines that describe the movie that a script makes, without a file, and then those of the samples of each track, by
+/// rising id, behind a line with the id. A fault of opening it again is `End`.
+pub fn show_text(alloc: Global, script: &[u8]) -> std::result::Result<Vec<u8>, ScriptFault> {
     let movie = run_script(alloc, script)?;
-    info_text(alloc, movie.as_slice()).map_err(ScriptFault::End)
+    described(alloc, movie.as_slice()).map_err(ScriptFault::End)
 }

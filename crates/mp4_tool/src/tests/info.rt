@@ -1,8 +1,10 @@
 //! The texts that describe files.
 
-use super::scripts::EMPTY_MOVIE;
+use super::scripts::{EMPTY_MOVIE, TEXT_SCRIPT};
 use crate::faults::fault_text;
 use crate::info::info_text;
+use crate::samples::samples_text;
+use crate::script::run_script;
 use crate::show::show_text;
 use mp4_media::{BoxType, Error};
 use std::test::Fail;
@@ -61,5 +63,92 @@ fn an_error_has_its_message(rt: HostRuntime) -> Result<(), Fail> {
         let text = fault_text(rt.alloc(), &error)?;
         assert!(rt; text.as_slice() == message.as_bytes(), "of {message}");
     }
+    Ok(())
+}
+
+/// The lines that describe the movie of three texts.
+pub const TEXT_INFO: &str =
+    "brand isom 512\nbrands isom iso2 avc1 mp41\nsize 607\ntimescale 1000\nduration 1500\n\
+    fragmented no\ntrack 1 sbtl tx3g 1000 1500000 3 und\n";
+
+/// The lines of its samples.
+pub const TEXT_SAMPLES: &str = "1 48 3 0 500 0 1\n2 51 3 500 500 0 1\n3 54 2 1000 500 0 1\n";
+
+/// Puts a byte in the place of another.
+fn put(movie: &mut Vec<u8>, place: usize, byte: u8) {
+    if let Some(old) = movie.get_mut(place) {
+        *old = byte;
+    }
+}
+
+/// Two tracks whose samples take turns, one later than it is decoded and not sync, and one without bytes.
+const TWO_TRACKS: &str =
+    "track text 10\ntrack text 4294967295\nsample 2 7 0 1 x y\nsample 1 0000000010 -3 0 \nsample 1 10 2147483647 1  z";
+
+#[test]
+fn the_samples_of_a_script_are_shown(rt: HostRuntime) -> Result<(), Fail> {
+    let shown = show_text(rt.alloc(), TEXT_SCRIPT.as_bytes())?;
+    let lines = format!(in rt.alloc(); "{TEXT_INFO}samples 1\n{TEXT_SAMPLES}")?;
+    assert!(rt; shown.as_slice() == lines.as_bytes());
+    Ok(())
+}
+
+#[test]
+fn tracks_are_shown_by_their_ids(rt: HostRuntime) -> Result<(), Fail> {
+    let shown = show_text(rt.alloc(), TWO_TRACKS.as_bytes())?;
+    let lines = "track 1 sbtl tx3g 10 2000000 2 und\ntrack 2 sbtl tx3g 4294967295 0 1 und\n\
+        samples 1\n1 48 0 0 10 -3 0\n2 48 2 10 10 2147483647 1\nsamples 2\n1 50 3 0 7 0 1\n";
+    let text = shown.as_slice();
+    assert!(rt; text.ends_with(lines.as_bytes()), "{}", text.escape_ascii());
+    Ok(())
+}
+
+#[test]
+fn a_sample_outside_the_file_ends_the_lines(rt: HostRuntime) -> Result<(), Fail> {
+    let mut movie = run_script(rt.alloc(), TEXT_SCRIPT.as_bytes())?;
+    put(&mut movie, 605, 255);
+    let text = samples_text(rt.alloc(), movie.as_slice(), 1)?;
+    let lines = b"1 48 3 0 500 0 1\n2 51 3 500 500 0 1\n3 end of data\n";
+    assert!(rt;
+        text.as_slice() == lines.as_slice(),
+        "{}",
+        text.escape_ascii()
+    );
+    let unknown = samples_text(rt.alloc(), movie.as_slice(), 2).err();
+    assert_eq!(rt; unknown, Some(Error::TrakNotFound(2)));
+    Ok(())
+}
+
+#[test]
+fn durations_past_32_bits_are_shown(rt: HostRuntime) -> Result<(), Fail> {
+    let script = b"track text 1000\nsample 1 4294967295 0 1 a\nsample 1 4294967295 0 1 a";
+    let shown = show_text(rt.alloc(), script)?;
+    let lines = "size 609\ntimescale 1000\nduration 8589934590\nfragmented no\n\
+        track 1 sbtl tx3g 1000 8589934590000 2 und\nsamples 1\n\
+        1 48 1 0 4294967295 0 1\n2 49 1 4294967295 4294967295 0 1\n";
+    let text = shown.as_slice();
+    assert!(rt; text.ends_with(lines.as_bytes()), "{}", text.escape_ascii());
+    Ok(())
+}
+
+#[test]
+fn a_track_without_a_timescale_lasts_a_dash(rt: HostRuntime) -> Result<(), Fail> {
+    let mut movie = run_script(rt.alloc(), TEXT_SCRIPT.as_bytes())?;
+    put(&mut movie, 302, 0);
+    put(&mut movie, 303, 0);
+    let text = info_text(rt.alloc(), movie.as_slice())?;
+    let line = b"fragmented no\ntrack 1 sbtl tx3g 0 - 3 und\n";
+    assert!(rt; text.ends_with(line), "{}", text.escape_ascii());
+    Ok(())
+}
+
+#[test]
+fn a_language_is_shown_byte_for_byte(rt: HostRuntime) -> Result<(), Fail> {
+    let mut movie = run_script(rt.alloc(), TEXT_SCRIPT.as_bytes())?;
+    put(&mut movie, 308, 0x7f);
+    put(&mut movie, 309, 0xff);
+    let text = info_text(rt.alloc(), movie.as_slice())?;
+    let line = b" 1000 1500000 3 ...\n";
+    assert!(rt; text.ends_with(line), "{}", text.escape_ascii());
     Ok(())
 }

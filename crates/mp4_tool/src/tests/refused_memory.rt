@@ -2,9 +2,9 @@
 //! these tests with one request refused, each in turn. A refused call then says so, and made again it is Ok. While a
 //! test prints that a request was refused, the next one is tried.
 
-use super::info::EMPTY_INFO;
+use super::info::{EMPTY_INFO, TEXT_INFO, TEXT_SAMPLES};
 use super::runs::{Printed, ran};
-use super::scripts::EMPTY_MOVIE;
+use super::scripts::{EMPTY_MOVIE, TEXT_SCRIPT};
 use crate::faults::fault_text;
 use crate::info::info_text;
 use crate::script::{ScriptFault, run_script};
@@ -17,9 +17,12 @@ fn is_refusal(rt: &HostRuntime, error: &Error) -> bool {
     *error == Error::OutOfMemory
 }
 
-/// Whether a script is at fault for want of memory, where no line calls the writer.
+/// Whether a script is at fault for want of memory, at its beginning, at its end or at a line.
 fn is_refused_script(rt: &HostRuntime, fault: &ScriptFault) -> bool {
-    matches!(fault, ScriptFault::End(error) if is_refusal(rt, error))
+    match fault {
+        ScriptFault::NotACommand(_) => false,
+        ScriptFault::Refused(_, error) | ScriptFault::End(error) => is_refusal(rt, error),
+    }
 }
 
 /// Whether a run ended for want of memory.
@@ -39,6 +42,33 @@ fn a_refused_script_is_run_again(rt: HostRuntime) -> std::result::Result<(), Scr
         answer => answer?,
     };
     assert!(rt; movie.as_slice() == EMPTY_MOVIE.as_slice());
+    Ok(())
+}
+
+#[test]
+fn a_refused_script_of_samples_is_run_again(
+    rt: HostRuntime,
+) -> std::result::Result<(), ScriptFault> {
+    let script = TEXT_SCRIPT.as_bytes();
+    let movie = match run_script(rt.alloc(), script) {
+        Err(fault) if is_refused_script(&rt, &fault) => run_script(rt.alloc(), script)?,
+        answer => answer?,
+    };
+    assert_eq!(rt; movie.len(), 607);
+    Ok(())
+}
+
+#[test]
+fn refused_lines_of_samples_are_shown_again(
+    rt: HostRuntime,
+) -> std::result::Result<(), ScriptFault> {
+    let script = TEXT_SCRIPT.as_bytes();
+    let text = match show_text(rt.alloc(), script) {
+        Err(fault) if is_refused_script(&rt, &fault) => show_text(rt.alloc(), script)?,
+        answer => answer?,
+    };
+    assert!(rt; text.as_slice().starts_with(TEXT_INFO.as_bytes()));
+    assert!(rt; text.as_slice().ends_with(TEXT_SAMPLES.as_bytes()));
     Ok(())
 }
 

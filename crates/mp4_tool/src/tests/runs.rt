@@ -1,8 +1,8 @@
 //! Whole runs of the program.
 
-use super::info::EMPTY_INFO;
+use super::info::{EMPTY_INFO, TEXT_INFO, TEXT_SAMPLES};
 use super::readers::{FailsBehind, Slow};
-use super::scripts::EMPTY_MOVIE;
+use super::scripts::{EMPTY_MOVIE, TEXT_SCRIPT};
 use crate::run::run;
 use mp4_media::Result;
 use std::alloc::{AllocError, Global};
@@ -65,11 +65,13 @@ fn wrong_arguments_are_answered_by_the_usage(rt: HostRuntime) -> std::result::Re
         "info",
         "info a b",
         "make",
-        "make a",
+        "make a b",
         "samples",
         "samples a",
-        "samples a 1",
+        "samples a 1 2",
         "samples a x",
+        "samples a 4294967296",
+        "samples a -1",
         "Show",
         "help",
     ];
@@ -146,5 +148,43 @@ fn a_whole_file_is_described_and_a_piece_refused(rt: HostRuntime) -> std::result
             "of {length} bytes: {printed:?}"
         );
     }
+    Ok(())
+}
+
+#[test]
+fn a_movie_is_made_described_and_its_samples_listed(
+    rt: HostRuntime,
+) -> std::result::Result<(), Fail> {
+    let made = ran(&rt, "make made.mp4", &mut TEXT_SCRIPT.as_bytes())?;
+    let described = ran(&rt, "info made.mp4", &mut b"".as_slice())?;
+    let listed = ran(&rt, "samples made.mp4 1", &mut b"".as_slice())?;
+    let unknown = ran(&rt, "samples made.mp4 2", &mut b"".as_slice())?;
+    fs::remove_file(&rt, "made.mp4")?;
+    assert!(rt; made.is(0, "wrote 607 bytes\n", ""), "{made:?}");
+    assert!(rt; described.is(0, TEXT_INFO, ""), "{described:?}");
+    assert!(rt; listed.is(0, TEXT_SAMPLES, ""), "{listed:?}");
+    assert!(rt;
+        unknown.is(1, "", "mp4_tool: trak[2] not found\n"),
+        "{unknown:?}"
+    );
+    Ok(())
+}
+
+#[test]
+fn a_file_is_left_where_its_script_is_at_fault(rt: HostRuntime) -> std::result::Result<(), Fail> {
+    fs::write(&rt, "left.mp4", b"old".as_slice())?;
+    let printed = ran(&rt, "make left.mp4", &mut b"track text 0".as_slice())?;
+    let left = fs::read(&rt, "left.mp4")?;
+    fs::remove_file(&rt, "left.mp4")?;
+    assert!(rt;
+        printed.is(1, "", "mp4_tool: line 1: timescale is zero\n"),
+        "{printed:?}"
+    );
+    assert!(rt; left.as_slice() == b"old".as_slice());
+    let printed = ran(&rt, "make /", &mut b"".as_slice())?;
+    assert!(rt;
+        printed.is(1, "", "mp4_tool: cannot write /\n"),
+        "{printed:?}"
+    );
     Ok(())
 }

@@ -47,6 +47,76 @@ fn the_first_line_that_is_not_empty_is_at_fault(rt: HostRuntime) {
     }
 }
 
+/// The script of the movie of three texts.
+pub const TEXT_SCRIPT: &str =
+    "track text 1000\nsample 1 500 0 1 abc\nsample 1 500 0 1 def\n\nsample 1 500 0 1 gh";
+
+#[test]
+fn three_texts_are_607_bytes(rt: HostRuntime) -> Result<(), Fail> {
+    let movie = run_script(rt.alloc(), TEXT_SCRIPT.as_bytes())?;
+    assert_eq!(rt; movie.len(), 607);
+    assert!(rt; &movie[48..56] == b"abcdefgh".as_slice());
+    Ok(())
+}
+
+#[test]
+fn a_refused_call_is_the_fault_of_its_line(rt: HostRuntime) {
+    let rows = [
+        (
+            "track text 0",
+            ScriptFault::Refused(1, Error::ZeroTimescale),
+        ),
+        (
+            "sample 1 1 0 1 a",
+            ScriptFault::Refused(1, Error::TrakNotFound(1)),
+        ),
+        (
+            "track text 1\n\nsample 2 1 0 1 a",
+            ScriptFault::Refused(3, Error::TrakNotFound(2)),
+        ),
+        (
+            "track text 1\nsample 0 1 0 1 a\nx",
+            ScriptFault::Refused(2, Error::TrakNotFound(0)),
+        ),
+    ];
+    for (script, fault) in rows {
+        let answer = run_script(rt.alloc(), script.as_bytes()).err();
+        assert_eq!(rt; answer, Some(fault), "of {script:?}");
+    }
+}
+
+#[test]
+fn a_line_that_is_no_command_is_at_fault(rt: HostRuntime) {
+    let rows = [
+        "track text 4294967296",
+        "track text 00000001000",
+        "track text +5",
+        "track text -5",
+        "track text ",
+        "track text",
+        "track text 1 ",
+        "track  text 1",
+        "track text 1000\r",
+        "Track text 1",
+        "sample 1 1 0 1",
+        "sample 1 1 0 2 a",
+        "sample 1 1 0 01 a",
+        "sample 1 1 0  a",
+        "sample 1 1 2147483648 1 a",
+        "sample 1 1 -2147483649 1 a",
+        "sample 1 1 +1 1 a",
+        "sample 1 1 - 1 a",
+        "sample 1 -1 0 1 a",
+        "sample  1 1 0 1 a",
+        "sample 9 1 0 2 a",
+        " sample 1 1 0 1 a",
+    ];
+    for script in rows {
+        let answer = run_script(rt.alloc(), script.as_bytes()).err();
+        assert_eq!(rt; answer, Some(ScriptFault::NotACommand(1)), "of {script:?}");
+    }
+}
+
 #[test]
 fn a_fault_has_its_message(rt: HostRuntime) -> Result<(), Fail> {
     let rows = [
