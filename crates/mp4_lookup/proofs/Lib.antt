@@ -1,4 +1,3 @@
-pub mod Digits
 pub mod Times
 pub mod Searches
 pub mod Sums

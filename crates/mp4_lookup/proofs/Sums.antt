@@ -8,7 +8,7 @@ use Rattle.std.proofs.lemmas.List.{length-take, length_push, take-take, get_or_a
 use Rattle.std.proofs.lemmas.List.Elements.{All-take}
 use Rattle.std.proofs.lemmas.List.Sums.{sum_by-cons}
 use Rattle.mp4_table.specs.declared.stts.SttsEntry.{SttsEntry}
-use Rattle.mp4_lookup.specs.Sums.{RunningSums}
+use Rattle.mp4_search.specs.Sums.{RunningSums}
 
 pub RunningSums-push : {X : Type 0} (kept : ℕ → ℕ) (f : X → ℕ) (xs : List X) (sums : List ℕ) (i total : ℕ)
     → i < length xs → RunningSums kept f (take i xs) sums → total ≡ kept (sum_by f (take i xs))

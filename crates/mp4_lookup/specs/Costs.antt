@@ -4,7 +4,7 @@ use Rattle.std.specs.List.Sorted.{IsStrictlyIncreasing}
 use Rattle.mp4_boxes.specs.declared.stbl.StblBox.{StblBox}
 use Rattle.mp4_lookup.specs.declared.sample.Comparisons.{Comparisons}
 use Rattle.mp4_lookup.specs.Tables.{ctts_runs, sync_numbers}
-use Rattle.mp4_lookup.specs.Search.{IsFew}
+use Rattle.mp4_search.specs.Search.{IsFew}
 
 -- In each table at most as many comparisons as the number of its entries has binary digits, in stss where it rises;
 -- no run of a fragment is looked at.

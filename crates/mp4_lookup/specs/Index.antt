@@ -4,7 +4,8 @@ use Rattle.std.specs.List.Sorted.{IsStrictlyIncreasing}
 use Rattle.mp4_boxes.specs.declared.stbl.StblBox.{StblBox}
 use Rattle.mp4_lookup.specs.declared.index.TrackIndex.{TrackIndex}
 use Rattle.mp4_lookup.specs.Tables.{ctts_runs, sync_numbers}
-use Rattle.mp4_lookup.specs.Sums.{SumsBefore, CountsBefore, TimesBefore}
+use Rattle.mp4_search.specs.Sums.{SumsBefore, CountsBefore}
+use Rattle.mp4_lookup.specs.Sums.{TimesBefore}
 
 -- the index of these tables
 pub record IsIndexOf (t : StblBox) (index : TrackIndex) : Type 0 where

@@ -3,7 +3,6 @@ pub mod Tables
 pub mod Places
 pub mod Plain
 pub mod Rule
-pub mod Search
 pub mod Sums
 pub mod Index
 pub mod Costs

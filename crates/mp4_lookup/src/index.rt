@@ -4,12 +4,12 @@ ghost use Rattle.std.specs.Prelude.{◌≡◌, ℕ, ◌*◌, ◌^◌, ◌<◌, �
 ghost use Rattle.std.specs.List.{All};
 ghost use Rattle.std.specs.List.Sorted.{IsStrictlyIncreasing};
 ghost use Rattle.mp4_lookup.specs.Tables.{ctts_runs, sync_numbers};
-ghost use Rattle.mp4_lookup.specs.Sums.{SumsBefore};
+ghost use Rattle.mp4_search.specs.Sums.{SumsBefore};
 ghost use Rattle.mp4_lookup.specs.Index.{IsIndexOf};
 
-use crate::counted::{RunningSizes, SearchedNumbers};
 use crate::runs::counts_before;
 use mp4_boxes::StblBox;
+use mp4_search::{RunningSizes, SearchedNumbers};
 use mp4_table::{CttsBox, CttsEntry, StssBox, SttsEntry};
 use std::alloc::{AllocError, Global};
 

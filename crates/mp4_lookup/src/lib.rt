@@ -4,7 +4,6 @@
 #![tactic(auto)]
 
 mod codec;
-mod counted;
 mod headers;
 mod index;
 mod kind;
@@ -14,7 +13,6 @@ mod place;
 mod rates;
 mod runs;
 mod sample;
-mod search;
 mod time;
 mod timing;
 mod track;

@@ -4,18 +4,17 @@
 ghost use Rattle.std.specs.Prelude.{◌≡◌, ℕ, ◌-◌, ◌<◌, ◌≤◌, map, length, sum, slice_get, slice_range, option_map, IfOk, IfSome, OnOk};
 ghost use Rattle.mp4_codec.specs.Cause.{Gives};
 ghost use Rattle.mp4_table.specs.Stsc.{HasFirstSamples};
-ghost use Rattle.mp4_lookup.specs.Search.{IsFew};
-ghost use Rattle.mp4_lookup.specs.Sums.{SumsBefore};
+ghost use Rattle.mp4_search.specs.Search.{IsFew};
+ghost use Rattle.mp4_search.specs.Sums.{SumsBefore};
 ghost use Rattle.mp4_lookup.specs.Tables.{chunk_offsets, sizes};
 ghost use Rattle.mp4_lookup.specs.Index.{IsIndexOf};
 ghost use Rattle.mp4_lookup.specs.Costs.{AreFewSizeReads};
 ghost use Rattle.mp4_lookup.specs.Rule.{entry_for, chunk_for, spot_at};
 
-use crate::counted::{Readings, RunningSizes, SearchedNumbers};
 use crate::index::TrackIndex;
-use crate::search::last_at_most;
 use mp4_boxes::StblBox;
 use mp4_codec::{Error, Result};
+use mp4_search::{Readings, RunningSizes, SearchedNumbers, last_at_most};
 use mp4_table::{StscEntry, StszBox};
 
 /// Where a sample lies, and what it cost to find it.

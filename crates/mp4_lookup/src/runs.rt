@@ -1,7 +1,7 @@
 //! Runs of samples, and how many samples come before each.
 
 ghost use Rattle.std.specs.Prelude.{◌≡◌, ℕ, IfOk};
-ghost use Rattle.mp4_lookup.specs.Sums.{CountsBefore};
+ghost use Rattle.mp4_search.specs.Sums.{CountsBefore};
 
 use mp4_table::{CttsEntry, SttsEntry};
 use std::alloc::{AllocError, Global};

@@ -5,15 +5,15 @@ ghost use Rattle.std.specs.List.{list_any};
 ghost use Rattle.std.specs.List.Sorted.{IsStrictlyIncreasing};
 ghost use Rattle.mp4_codec.specs.Cause.{Gives};
 ghost use Rattle.mp4_table.specs.Runs.{rendering_offsets};
-ghost use Rattle.mp4_lookup.specs.Search.{IsFew};
-ghost use Rattle.mp4_lookup.specs.Sums.{CountsBefore, TimesBefore};
+ghost use Rattle.mp4_search.specs.Search.{IsFew};
+ghost use Rattle.mp4_search.specs.Sums.{CountsBefore};
+ghost use Rattle.mp4_lookup.specs.Sums.{TimesBefore};
 ghost use Rattle.mp4_lookup.specs.Tables.{is_sync_at, sync_numbers};
 ghost use Rattle.mp4_lookup.specs.Rule.{time_at};
 
-use crate::counted::{Readings, SearchedNumbers};
 use crate::index::TrackIndex;
-use crate::search::last_at_most;
 use mp4_codec::{BoxType, Error, Result};
+use mp4_search::{Readings, SearchedNumbers, last_at_most};
 use mp4_table::{CttsEntry, StssBox, SttsEntry};
 
 /// Duration and start of sample `k`, and how many comparisons found them.

@@ -17,4 +17,3 @@ pub mod StszLaws
 pub mod Runs
 pub mod Chunks
 pub mod Starts
-pub mod Digits

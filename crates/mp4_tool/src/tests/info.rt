@@ -7,6 +7,7 @@ use crate::samples::samples_text;
 use crate::script::run_script;
 use crate::show::show_text;
 use mp4_media::{BoxType, Error};
+use std::alloc::Global;
 use std::test::Fail;
 
 pub const EMPTY_INFO: &str =
@@ -116,6 +117,58 @@ fn a_sample_outside_the_file_ends_the_lines(rt: HostRuntime) -> Result<(), Fail>
     );
     let unknown = samples_text(rt.alloc(), movie.as_slice(), 2).err();
     assert_eq!(rt; unknown, Some(Error::TrakNotFound(2)));
+    Ok(())
+}
+
+/// The bytes of a `co64` that has the places of the two chunks of the movie of three texts.
+const CO64: &[u8] = b"\0\0\0\x20co64\0\0\0\0\0\0\0\x02\0\0\0\0\0\0\0\x30\0\0\0\0\0\0\0\x36";
+
+/// The movie of three texts with places of 64 bits: its last box is another, and the boxes around it have eight bytes more.
+fn movie_with_co64(alloc: Global) -> Result<Vec<u8>, Fail> {
+    let mut movie = run_script(alloc, TEXT_SCRIPT.as_bytes())?;
+    movie.truncate(583);
+    movie.extend_from_slice(CO64)?;
+    let sizes = [
+        (59, 0x2f),
+        (175, 0xbb),
+        (275, 0x57),
+        (348, 0x0e),
+        (392, 0xe2),
+    ];
+    for (place, byte) in sizes {
+        put(&mut movie, place, byte);
+    }
+    Ok(movie)
+}
+
+#[test]
+fn places_of_64_bits_are_shown(rt: HostRuntime) -> Result<(), Fail> {
+    let movie = movie_with_co64(rt.alloc())?;
+    let text = info_text(rt.alloc(), movie.as_slice())?;
+    let lines =
+        b"size 615\ntimescale 1000\nduration 1500\nfragmented no\ntrack 1 sbtl tx3g 1000 1500000 3 und\n";
+    assert!(rt; text.ends_with(lines.as_slice()), "{}", text.escape_ascii());
+    let text = samples_text(rt.alloc(), movie.as_slice(), 1)?;
+    assert!(rt;
+        text.as_slice() == TEXT_SAMPLES.as_bytes(),
+        "{}",
+        text.escape_ascii()
+    );
+    Ok(())
+}
+
+/// Two tracks of two ticks in a second: the chunk of the second is full first, and lies first.
+const TURNS: &str =
+    "track text 2\ntrack text 2\nsample 1 1 0 1 aa\nsample 2 2 0 1 b\nsample 1 1 0 1 c\n";
+
+#[test]
+fn samples_of_tracks_that_take_turns_are_shown(rt: HostRuntime) -> Result<(), Fail> {
+    let shown = show_text(rt.alloc(), TURNS.as_bytes())?;
+    let lines = "timescale 1000\nduration 1000\nfragmented no\n\
+        track 1 sbtl tx3g 2 1000000 2 und\ntrack 2 sbtl tx3g 2 1000000 1 und\n\
+        samples 1\n1 49 2 0 1 0 1\n2 51 1 1 1 0 1\nsamples 2\n1 48 1 0 2 0 1\n";
+    let text = shown.as_slice();
+    assert!(rt; text.ends_with(lines.as_bytes()), "{}", text.escape_ascii());
     Ok(())
 }
 

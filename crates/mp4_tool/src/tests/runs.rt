@@ -4,6 +4,7 @@ use super::info::{EMPTY_INFO, TEXT_INFO, TEXT_SAMPLES};
 use super::readers::{FailsBehind, Slow};
 use super::scripts::{EMPTY_MOVIE, TEXT_SCRIPT};
 use crate::run::run;
+use crate::script::run_script;
 use mp4_media::Result;
 use std::alloc::{AllocError, Global};
 use std::fs;
@@ -167,6 +168,24 @@ fn a_movie_is_made_described_and_its_samples_listed(
         unknown.is(1, "", "mp4_tool: trak[2] not found\n"),
         "{unknown:?}"
     );
+    Ok(())
+}
+
+#[test]
+fn a_file_cut_in_its_middle_is_refused(rt: HostRuntime) -> std::result::Result<(), Fail> {
+    let mut movie = run_script(rt.alloc(), TEXT_SCRIPT.as_bytes())?;
+    for (length, message) in [
+        (600, "mp4_tool: end of data\n"),
+        (300, "mp4_tool: invalid data\n"),
+    ] {
+        movie.truncate(length);
+        fs::write(&rt, "cut.mp4", movie.as_slice())?;
+        let described = ran(&rt, "info cut.mp4", &mut b"".as_slice())?;
+        let listed = ran(&rt, "samples cut.mp4 1", &mut b"".as_slice())?;
+        fs::remove_file(&rt, "cut.mp4")?;
+        assert!(rt; described.is(1, "", message), "{described:?}");
+        assert!(rt; listed.is(1, "", message), "{listed:?}");
+    }
     Ok(())
 }
 

@@ -1,6 +1,6 @@
 use Rattle.std.proofs.Common.{◌≡◌, ◌≤◌, ◌*◌, ◌-◌, ◌^◌, take}
 use Rattle.std.specs.List.{sum_by}
-use Rattle.mp4_lookup.specs.Sums.{SumsBefore}
+use Rattle.mp4_search.specs.Sums.{SumsBefore}
 use Rattle.mp4_lookup.proofs.index.sizes_before.Given as goal
 
 abbrev pub invariant-loop-size : goal.invariant-loop-size

@@ -1,6 +1,6 @@
 use Rattle.std.proofs.Common.{◌≡◌, ◌-◌, ◌^◌, take, min}
 use Rattle.std.specs.List.{sum_by}
-use Rattle.mp4_lookup.specs.Sums.{CountsBefore}
+use Rattle.mp4_search.specs.Sums.{CountsBefore}
 use Rattle.mp4_lookup.proofs.runs.counts_before.Given as goal
 
 abbrev pub invariant-loop-run : goal.invariant-loop-run

@@ -2,7 +2,7 @@ use Rattle.std.proofs.Common.{◌+◌, ◌-◌, get_or, sym, refl, arith, rules,
 use Rattle.std.specs.Prelude.{FitsSigned}
 use Rattle.std.proofs.lemmas.Int.{to_z-of_z}
 use Rattle.mp4_table.specs.declared.ctts.CttsEntry.{CttsEntry}
-use Rattle.mp4_lookup.proofs.Searches.{counts_rise, before_found, past_found, none_found}
+use Rattle.mp4_search.specs.SumLaws.{counts_rise, before_found, past_found, none_found}
 use Rattle.mp4_lookup.proofs.Times.{value_in, value_past}
 use Rattle.mp4_lookup.proofs.timing.rendering_offset_at.Goals as goal
 

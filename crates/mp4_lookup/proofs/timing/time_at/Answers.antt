@@ -1,6 +1,6 @@
 use Rattle.std.proofs.Common.{◌+◌, ◌-◌, ◌*◌, ◌^◌, ◌<◌, get_or, refl, arith, ◌∙◌}
 use Rattle.mp4_table.specs.declared.stts.SttsEntry.{SttsEntry}
-use Rattle.mp4_lookup.proofs.Searches.{counts_rise, before_found, past_found, none_found}
+use Rattle.mp4_search.specs.SumLaws.{counts_rise, before_found, past_found, none_found}
 use Rattle.mp4_lookup.proofs.Times.{time_at_in, time_at_past}
 use Rattle.mp4_lookup.proofs.Sums.{ticks_before, start_fits}
 use Rattle.mp4_lookup.proofs.timing.time_at.Goals as goal

@@ -1,7 +1,7 @@
 use Rattle.std.proofs.Common.{◌-◌, ◌≡◌, ℕ, ◌<◌, ◌≤◌, length, slice_index, ◌+◌}
 use Rattle.std.specs.Prelude.{MatchOption}
-use Rattle.mp4_table.specs.Digits.{digits}
-use Rattle.mp4_lookup.proofs.search.last_at_most.Given as goal
+use Rattle.mp4_search.specs.Digits.{digits}
+use Rattle.mp4_search.proofs.search.last_at_most.Given as goal
 
 -- What is found stands before low and is at most the key. What stands from high on is above it. The digits of what is
 -- left pay for what is to come.

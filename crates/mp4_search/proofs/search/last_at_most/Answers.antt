@@ -1,6 +1,6 @@
 use Rattle.std.proofs.Common.{◌+◌, ◌-◌, ◌/◌, length, arith, rules}
-use Rattle.mp4_lookup.proofs.Digits.{digits_half, digits_64}
-use Rattle.mp4_lookup.proofs.search.last_at_most.Goals as goal
+use Rattle.mp4_search.proofs.Digits.{digits_half, digits_64}
+use Rattle.mp4_search.proofs.search.last_at_most.Goals as goal
 
 pub read-number-requires-clause-room : goal.read-number-requires-clause-room
 read-number-requires-clause-room c =

@@ -1,7 +1,8 @@
 //! Numbers of which each reading is counted.
 
-ghost use Rattle.std.specs.Prelude.{◌≡◌, ℕ, ◌+◌, ◌-◌, ◌^◌, ◌<◌, length, slice_index};
+ghost use Rattle.std.specs.Prelude.{◌≡◌, ℕ, ◌+◌, ◌-◌, ◌^◌, ◌<◌, [], ◌∷◌, ◌++◌, length, slice_index, OnOk};
 
+use std::alloc::AllocError;
 use std::marker::Model;
 
 /// How many readings were made.
@@ -55,6 +56,14 @@ impl SearchedNumbers {
         ensures { result ≡ length self.now }
     {
         self.numbers.len()
+    }
+
+    /// Adds a number at the end.
+    pub fn push(&mut self, number: u32) -> Result<(), AllocError>
+        ensures { OnOk result (self.new ≡ self.old ++ number ∷ []) }
+    {
+        self.numbers.push(number)?;
+        Ok(())
     }
 
     /// The number at an index, which counts from 0. This counts as one reading.

@@ -2,7 +2,7 @@
 
 ghost use Rattle.std.specs.Prelude.{◌≡◌, ℕ, ◌<◌, ◌≤◌, length, slice_index, IfSome, IfNone};
 ghost use Rattle.std.specs.List.Sorted.{IsNonDecreasing};
-ghost use Rattle.mp4_lookup.specs.Search.{IsLastAtMost, IsFew};
+ghost use Rattle.mp4_search.specs.Search.{IsLastAtMost, IsFew};
 
 use crate::counted::{Readings, SearchedNumbers};
 

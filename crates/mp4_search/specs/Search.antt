@@ -1,6 +1,6 @@
 -- Search in numbers that rise.
 use Rattle.std.specs.Prelude.{ℕ, ◌<◌, ◌≤◌, List, length, slice_index}
-use Rattle.mp4_table.specs.Digits.{digits}
+use Rattle.mp4_search.specs.Digits.{digits}
 
 -- the number at i is the last that is at most the key
 pub record IsLastAtMost (numbers : List ℕ) (key i : ℕ) : Type 0 where

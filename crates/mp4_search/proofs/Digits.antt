@@ -1,7 +1,7 @@
 -- How many binary digits a number has.
 use Rattle.std.proofs.Common.{◌≡◌, ℕ, zero, suc, ◌+◌, ◌/◌, ◌^◌, ◌<◌, ◌≤◌, arith}
 use Rattle.std.proofs.lemmas.Int.Digits.{length-digits_of_step, length-digits_of-le}
-use Rattle.mp4_table.specs.Digits.{digits}
+use Rattle.mp4_search.specs.Digits.{digits}
 
 pub digits_step : (n : ℕ) → 0 < n → digits n ≡ digits (n / 2) + 1
 unfolding digits

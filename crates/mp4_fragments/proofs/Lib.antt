@@ -1,0 +1,5 @@
+pub mod ListedValues
+pub mod Places
+pub mod Indexing
+pub mod Walking
+pub mod Finding

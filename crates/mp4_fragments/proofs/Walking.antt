@@ -1,0 +1,132 @@
+-- The runs of a track's fragments, placed one after the other.
+use Rattle.std.proofs.Common.{◌≡◌, ℕ, ◌+◌, ◌<◌, List, length, get_or, take, fold, Option, Some, refl, sym, ap, subst}
+use Rattle.std.proofs.Common.{◌∙◌, arith}
+use Rattle.std.specs.Prelude.{zip, if◌then◌else◌}
+use Rattle.std.proofs.lemmas.List.Sums.{fold_more}
+use Rattle.std.proofs.lemmas.List.{take_all, get_or_default}
+use Rattle.std.proofs.lemmas.Option.{slice_get-get_or}
+use Rattle.std.proofs.lemmas.Slice.Zip.{get_or-zip}
+use Rattle.mp4_frag.specs.declared.trun.TrunBox.{TrunBox}
+use Rattle.mp4_boxes.specs.declared.traf.TrafBox.{TrafBox}
+use Rattle.mp4_fragments.specs.Members.{PlacedRun, at_member}
+use Rattle.mp4_fragments.specs.Defaults.{defaults_in}
+use Rattle.mp4_fragments.specs.Fragments.{Walk, begins, first_time, has_members, with_run, with_traf}
+use Rattle.mp4_fragments.specs.Checkpoints.{AreCheckpoints}
+use Rattle.mp4_fragments.specs.Index.{Find, placed_at, IsRight, Indexes, Pushed, Walks, KnowsRuns, KnowsTrafs, run_at}
+use Rattle.mp4_fragments.specs.Index.{run_of_traf}
+use Rattle.mp4_fragments.specs.declared.index.RunIndex.{RunIndex}
+use Rattle.mp4_fragments.specs.declared.index.RunEntry.{RunEntry}
+use Rattle.mp4_fragments.specs.declared.members.Beginning.{Beginning}
+use Rattle.mp4_fragments.specs.declared.defaults.SampleDefaults.{SampleDefaults}
+use Rattle.mp4_fragments.proofs.Indexing.{Indexes-push}
+
+-- a loop begins
+pub Walks-start : {X : Type 0} (knows : Find → Type 0) (f : Walk → X → Walk) (xs : List X) (at : Beginning)
+    (index : RunIndex) → Walks knows (λ walk. fold f walk (take 0 xs)) at at index index
+Walks-start knows f xs at index = record { at = λ runs. refl; index = λ find runs k h. h }
+
+-- and takes one step more
+pub Walks-more : {X : Type 0} (knows here : Find → Type 0) (f : Walk → X → Walk) (xs : List X) (i : ℕ) (x : X)
+    (a b c : Beginning) (j k l : RunIndex) → i < length xs → x ≡ get_or xs i x → ((find : Find) → knows find
+    → here find) →
+    Walks knows (λ walk. fold f walk (take i xs)) a b j k → Walks here (λ walk. f walk x) b c k l
+    → Walks knows (λ walk. fold f walk (take (i + 1) xs)) a c j l
+Walks-more {X} knows here f xs i x a b c j k l h is to walks step =
+    let begin : List PlacedRun → Walk = λ runs. record { at = a; runs = runs } in
+    let before : List PlacedRun → Walk = λ runs. fold f (begin runs) (take i xs) in
+    let one : (runs : List PlacedRun) → f (record { at = b; runs = (before runs).runs }) x ≡ fold f (begin runs)
+    (take (i + 1) xs) =
+    λ runs. ap (λ (at : Beginning). f (record { at = at; runs = (before runs).runs }) x) (walks.at runs)
+    ∙ ap (f (before runs)) is ∙ sym (fold_more f (begin runs) xs i x h) in
+    record {
+      at = λ runs. step.at (before runs).runs ∙ ap (λ (w : Walk). w.at) (one runs);
+      index = λ find runs known s.
+          subst (λ (w : Walk). Indexes find w.runs l) (one runs) (step.index find (before runs).runs (to find known)
+          (walks.index find runs known s));
+    }
+
+-- a loop over the whole list
+pub Walks-whole : {X : Type 0} (knows : Find → Type 0) (f : Walk → X → Walk) (xs : List X) (i : ℕ) (a b : Beginning)
+    (j k : RunIndex) → length xs ≡ i → Walks knows (λ walk. fold f walk (take i xs)) a b j k
+    → Walks knows (λ walk. fold f walk xs) a b j k
+Walks-whole {X} knows f xs i a b j k e walks =
+    let P : List X → Type 0 = λ ys. Walks knows (λ walk. fold f walk ys) a b j k in
+    subst P (take_all i xs (omega arith)) walks
+
+right_at : (find : Find) (e : RunEntry) (p : PlacedRun) → placed_at find e ≡ Some p
+    → AreCheckpoints p.run p.defaults p.at e.checks → IsRight find e
+right_at find e p there checks = record {
+  checks = λ q other.
+      let same : p ≡ q = cc (there, other) in
+      subst (λ (q : PlacedRun). AreCheckpoints q.run q.defaults q.at e.checks) same checks;
+}
+
+-- a run
+pub Walks-run : (knows : Find → Type 0) (base : Option ℕ) (defaults : SampleDefaults) (run : TrunBox)
+    (a at after : Beginning) (checks : List Beginning) (old new : RunIndex) (t i : ℕ) →
+    ((find : Find) → knows find → find t i ≡ Some (run, defaults)) →
+    at ≡ begins base run a → after ≡ at_member run defaults at run.sample_count
+    → AreCheckpoints run defaults at checks →
+    Pushed old new (record { at = at; checks = checks; traf = t; run = i }) run.sample_count →
+    Walks knows (λ walk. with_run base defaults walk run) a after old new
+unfolding with_run placed_at
+Walks-run knows base defaults run a at after checks old new t i there e1 e2 right pushed =
+    let placed : Beginning → PlacedRun = λ a. record { at = a; run = run; defaults = defaults } in
+    let begin : Beginning = begins base run a in
+    let entry : RunEntry = record { at = at; checks = checks; traf = t; run = i } in
+    record {
+      at = λ runs. e2 ∙ ap (λ (a : Beginning). at_member run defaults a run.sample_count) e1;
+      index = λ find runs known s.
+          let found : placed_at find entry ≡ Some (placed at) = rw (there find known) refl in
+          Indexes-push find runs old new entry (placed begin) pushed (found ∙ ap (λ (a : Beginning). Some
+          (placed a)) e1) (right_at find entry (placed at) found right) s;
+    }
+
+-- a track's part of a fragment
+own : (track : SampleDefaults) (traf : TrafBox) (base : Option ℕ) (t : ℕ) (at last after : Beginning)
+    (old new : RunIndex) →
+    after ≡ record { place = last.place; time = if has_members traf then last.time else at.time } →
+    Walks (KnowsRuns t traf.truns (defaults_in traf track)) (λ walk. fold (with_run base
+    (defaults_in traf track)) walk traf.truns) (record { place = base; time =
+    first_time traf.tfdt at.time }) last old new →
+    Walks (KnowsRuns t traf.truns (defaults_in traf track)) (λ walk. with_traf track walk (traf, base)) at after old new
+unfolding with_traf
+own track traf base t at last after old new e walks = record {
+  at = λ runs. e ∙ ap (λ (l : Beginning). record { place = l.place; time =
+    if has_members traf then l.time else at.time }) (walks.at runs);
+  index = walks.index;
+}
+
+pub Walks-traf : (track : SampleDefaults) (traf : TrafBox) (base : Option ℕ) (t : ℕ) (at last after : Beginning)
+    (old new : RunIndex) (time : Option ℕ) (defaults : SampleDefaults) (runs : List TrunBox) →
+    time ≡ first_time traf.tfdt at.time → defaults ≡ defaults_in traf track → runs ≡ traf.truns →
+    after ≡ record { place = last.place; time = if has_members traf then last.time else at.time } →
+    Walks (KnowsRuns t runs defaults) (λ walk. fold (with_run base defaults) walk runs) (record { place =
+    base; time = time }) last old new →
+    Walks (KnowsRuns t traf.truns (defaults_in traf track)) (λ walk. with_traf track walk (traf, base)) at after old new
+Walks-traf track traf base t at last after old new time defaults runs e1 e2 e3 e walks =
+    let P : Option ℕ → SampleDefaults → List TrunBox → Type 0 = λ time defaults runs. Walks
+    (KnowsRuns t runs defaults) (λ walk. fold (with_run base defaults) walk runs) (record { place = base; time =
+    time }) last old new in
+    own track traf base t at last after old new e
+    (subst (P (first_time traf.tfdt at.time) (defaults_in traf track)) e3 (subst (λ d. P
+    (first_time traf.tfdt at.time) d runs) e2 (subst (λ b. P b defaults runs) e1 walks)))
+
+-- the part with a number, and its base
+pub in_zip : (trafs : List TrafBox) (bases : List (Option ℕ)) (t : ℕ) (traf : TrafBox) (base d : Option ℕ)
+    → length bases ≡ length trafs → t < length trafs →
+    traf ≡ get_or trafs t traf → base ≡ get_or bases t d → (traf, base) ≡ get_or (zip trafs bases) t (traf, base)
+in_zip trafs bases t traf base d so_many h is has =
+    let same : get_or bases t base ≡ get_or bases t d = get_or_default bases t base d (omega arith) in
+    let there : base ≡ get_or bases t base = has ∙ sym same in
+    sym (get_or-zip trafs bases t (traf, base) h (omega arith) ∙ ap (λ (f : TrafBox). (f, get_or bases t base))
+    (sym is) ∙ ap (λ b. (traf, b)) (sym there))
+
+-- what is found by the numbers of fragments and runs
+pub knows_all : (trafs : List TrafBox) (track : SampleDefaults) → KnowsTrafs track trafs (run_at trafs track)
+unfolding run_at run_of_traf
+knows_all trafs track = record {
+  traf = λ t d h. record {
+    run = λ i r l. rw (slice_get-get_or trafs t d h, slice_get-get_or (get_or trafs t d).truns i r l) refl;
+  };
+}

@@ -1,0 +1,65 @@
+//! Where the data of fragments lies: the base of each track's part of a fragment.
+
+ghost use Rattle.std.specs.Prelude.{◌≡◌, fold};
+ghost use Rattle.mp4_frag.specs.Optional.{is_set};
+ghost use Rattle.mp4_fragments.specs.Bases.{base_of, data_ends, traf_ends};
+
+use crate::beginnings::{add, data_begin};
+use crate::defaults::SampleDefaults;
+use crate::values::sum_of;
+use mp4_boxes::TrafBox;
+use mp4_frag::TrunBox;
+
+/// The flag of a header whose base is the first byte of its fragment.
+const DEFAULT_BASE_IS_MOOF: u32 = 0x20000;
+
+/// Where the places of a track's part of a fragment count from (ISO/IEC 14496-12, 8.8.7): its own base where it says
+/// one; else `moof`, the first byte of the fragment, where it says so; else `before`, where the data before it ended.
+#[tactic(auto, unfolding(mp4_frag::specs::Optional::is_set))]
+pub fn traf_base(traf: &TrafBox, moof: u64, before: Option<u64>) -> Option<u64>
+    ensures { result ≡ base_of traf.now moof before }
+{
+    match traf.tfhd.base_data_offset {
+        Some(base) => Some(base),
+        None => {
+            if traf.tfhd.flags & DEFAULT_BASE_IS_MOOF != 0 {
+                Some(moof)
+            } else {
+                before
+            }
+        }
+    }
+}
+
+/// Where the data of a run ends.
+fn data_end(
+    base: Option<u64>,
+    defaults: SampleDefaults,
+    before: Option<u64>,
+    run: &TrunBox,
+) -> Option<u64>
+    ensures { result ≡ data_ends base defaults before run.now }
+{
+    let bytes = sum_of(run.sample_sizes.as_slice(), defaults.size, run.sample_count);
+    add(data_begin(base, run.data_offset, before), bytes)
+}
+
+/// Where the data of a track's part of a fragment ends: behind its last run, at its base where it has none. `track` is what
+/// the movie says of the track's samples.
+#[tactic(auto, unfolding(crate::specs::Bases::traf_ends))]
+pub fn traf_end(traf: &TrafBox, track: SampleDefaults, base: Option<u64>) -> Option<u64>
+    ensures { result ≡ traf_ends track base traf.now }
+{
+    runs_end(traf.truns.as_slice(), track.in_traf(traf), base)
+}
+
+/// Where the data of these runs ends.
+fn runs_end(runs: &[TrunBox], defaults: SampleDefaults, base: Option<u64>) -> Option<u64>
+    ensures { result ≡ fold (data_ends base defaults) base runs.now }
+{
+    let mut end = base;
+    for run in runs {
+        end = data_end(base, defaults, end, run);
+    }
+    end
+}

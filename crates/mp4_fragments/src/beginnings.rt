@@ -1,0 +1,127 @@
+//! Where and when members of a run begin.
+
+ghost use Rattle.std.specs.Prelude.{◌≡◌, ℕ, ℤ, ◌+◌, ◌*◌, ◌/◌, ◌<◌, ◌≤◌, length, IfOk};
+ghost use Rattle.mp4_fragments.specs.Numbers.{plus, moved};
+ghost use Rattle.mp4_fragments.specs.Bases.{data_begins};
+ghost use Rattle.mp4_fragments.specs.Members.{at_member};
+ghost use Rattle.mp4_fragments.specs.Checkpoints.{AreCheckpoints};
+
+use crate::defaults::SampleDefaults;
+use crate::members::Beginning;
+use crate::values::{sum_between, sum_of};
+use mp4_codec::Items;
+use mp4_frag::TrunBox;
+use std::alloc::{AllocError, Global};
+
+/// How many members lie between two checkpoints of a run.
+const BETWEEN_CHECKPOINTS: u32 = 64;
+
+/// So far on.
+pub(crate) fn add(from: Option<u64>, n: u64) -> Option<u64>
+    ensures { result ≡ plus from n }
+{
+    from?.checked_add(n)
+}
+
+/// So far on or back.
+fn shift(from: Option<u64>, offset: i32) -> Option<u64>
+    ensures { result ≡ moved from offset }
+{
+    from?.checked_add_signed(i64::from(offset))
+}
+
+/// Where the data of a run begins: so far from the base as it says, else where the data before it ended.
+pub(crate) fn data_begin(base: Option<u64>, offset: Option<i32>, before: Option<u64>) -> Option<u64>
+    ensures { result ≡ data_begins base offset before }
+{
+    match offset {
+        None => before,
+        Some(offset) => shift(base, offset),
+    }
+}
+
+/// Where member `j` of a run begins, by its index, which counts from 0, if the first begins at `first`.
+#[tactic(auto, unfolding(crate::specs::Members::at_member))]
+pub(crate) fn at_member(
+    run: &TrunBox,
+    defaults: SampleDefaults,
+    first: Beginning,
+    j: u32,
+) -> Beginning
+    ensures { result ≡ at_member run.now defaults first j }
+{
+    let durations = run.sample_durations.as_slice();
+    Beginning {
+        place: add(
+            first.place,
+            sum_of(run.sample_sizes.as_slice(), defaults.size, j),
+        ),
+        time: add(first.time, sum_of(durations, defaults.duration, j)),
+    }
+}
+
+/// Where member `to` of a run begins, from where member `from` does.
+pub(crate) fn at_later_member(
+    run: &TrunBox,
+    defaults: SampleDefaults,
+    at: Beginning,
+    from: u32,
+    to: u32,
+) -> Beginning
+    requires { from ≤ to }
+    ensures { (first : Beginning) → at ≡ at_member run.now defaults first from → result ≡ at_member run.now defaults first to }
+{
+    let sizes = run.sample_sizes.as_slice();
+    let durations = run.sample_durations.as_slice();
+    Beginning {
+        place: add(at.place, sum_between(sizes, defaults.size, from, to)),
+        time: add(at.time, sum_between(durations, defaults.duration, from, to)),
+    }
+}
+
+/// Where every 64th member of a run with listed sizes or durations begins, from the 64th on.
+pub(crate) fn checkpoints(
+    alloc: Global,
+    run: &TrunBox,
+    defaults: SampleDefaults,
+    first: Beginning,
+) -> Result<Items<Beginning>, AllocError>
+    ensures right { IfOk result (λ checks. AreCheckpoints run.now defaults first checks) }
+    ensures every { IfOk result (λ checks. 0 < length run.now.sample_sizes + length run.now.sample_durations → length checks ≡ run.now.sample_count / 64) }
+{
+    let mut checks = Items::new(alloc);
+    if run.sample_sizes.is_empty() && run.sample_durations.is_empty() {
+        return Ok(checks);
+    }
+    if run.sample_count < BETWEEN_CHECKPOINTS {
+        return Ok(checks);
+    }
+    let mut at = at_member(run, defaults, first, BETWEEN_CHECKPOINTS);
+    checks.push(at)?;
+    for q in 1..run.sample_count / BETWEEN_CHECKPOINTS {
+        let from = BETWEEN_CHECKPOINTS * q;
+        at = at_later_member(run, defaults, at, from, from + BETWEEN_CHECKPOINTS);
+        checks.push(at)?;
+    }
+    Ok(checks)
+}
+
+/// Where member `j` of a run begins, from the last checkpoint that isn't behind it; the first begins at `first`.
+pub(crate) fn at_by_checkpoints(
+    run: &TrunBox,
+    defaults: SampleDefaults,
+    first: Beginning,
+    checks: &[Beginning],
+    j: u32,
+) -> Beginning
+    requires { AreCheckpoints run.now defaults first checks.now }
+    ensures { result ≡ at_member run.now defaults first j }
+{
+    let q = j / BETWEEN_CHECKPOINTS;
+    if 0 < q && q as usize <= checks.len() {
+        let at = checks[q as usize - 1];
+        at_later_member(run, defaults, at, BETWEEN_CHECKPOINTS * q, j)
+    } else {
+        at_member(run, defaults, first, j)
+    }
+}

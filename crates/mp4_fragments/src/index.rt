@@ -1,0 +1,62 @@
+//! What is kept of the runs of a track, so that their members are found fast.
+
+ghost use Rattle.std.specs.Prelude.{◌≡◌, ℕ, ◌+◌, ◌-◌, ◌^◌, min, [], ◌∷◌, ◌++◌, IfOk};
+ghost use Rattle.mp4_fragments.specs.Index.{Pushed};
+
+use crate::members::Beginning;
+use mp4_codec::Items;
+use mp4_search::SearchedNumbers;
+use std::alloc::{AllocError, Global};
+
+/// A run: where it stands, and where its members begin.
+#[derive(Debug, Drop)]
+pub(crate) struct RunEntry {
+    /// Where and when its first member begins.
+    pub at: Beginning,
+    /// Where every 64th member begins, from the 64th on, if the run lists sizes or durations.
+    pub checks: Items<Beginning>,
+    /// The number of its fragment among those of the track, counted from 0.
+    pub traf: usize,
+    /// Its number in the fragment, counted from 0.
+    pub run: usize,
+}
+
+/// The runs of a track's fragments, one entry each: however many members a run has, none is written out.
+#[derive(Debug, Drop)]
+pub struct RunIndex {
+    /// How many members come before each run; the counts stop at 2^32 - 1.
+    pub(crate) counts: SearchedNumbers,
+    pub(crate) entries: Items<RunEntry>,
+    /// How many members all runs have; it stops at 2^32 - 1.
+    pub(crate) before: u32,
+    /// The same; it stops at 2^64 - 1.
+    pub(crate) total: u64,
+}
+
+impl RunIndex {
+    /// No runs.
+    pub(crate) fn new(alloc: Global) -> Self
+        ensures counts { result.counts ≡ [] }
+        ensures entries { result.entries ≡ [] }
+        ensures before { result.before ≡ 0 }
+        ensures total { result.total ≡ 0 }
+    {
+        RunIndex {
+            counts: SearchedNumbers::new(Vec::new(alloc)),
+            entries: Items::new(alloc),
+            before: 0,
+            total: 0,
+        }
+    }
+
+    /// One more run, of `count` members.
+    pub(crate) fn push(&mut self, entry: RunEntry, count: u32) -> Result<(), AllocError>
+        ensures { IfOk result (λ u. Pushed self.old self.new entry count) }
+    {
+        self.counts.push(self.before)?;
+        self.entries.push(entry)?;
+        self.before = self.before.saturating_add(count);
+        self.total = self.total.saturating_add(u64::from(count));
+        Ok(())
+    }
+}

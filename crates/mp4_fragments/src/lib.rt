@@ -1,0 +1,18 @@
+//! The samples that movie fragments add to a track: where each lies and when it is decoded (ISO/IEC 14496-12, 8.8).
+#![tactic(auto)]
+
+mod bases;
+mod beginnings;
+mod defaults;
+mod index;
+mod lookup;
+mod members;
+mod placing;
+mod values;
+
+pub use bases::{traf_base, traf_end};
+pub use defaults::SampleDefaults;
+pub use index::RunIndex;
+pub use lookup::FoundMember;
+pub use members::{Beginning, Member};
+pub use placing::index_of;

@@ -1,0 +1,69 @@
+//! The members of a run.
+
+ghost use Rattle.std.specs.Prelude.{◌≡◌};
+ghost use Rattle.mp4_fragments.specs.Members.{member_of, flags_of};
+ghost use Rattle.mp4_fragments.specs.Checkpoints.{AreCheckpoints};
+
+use crate::beginnings::at_by_checkpoints;
+use crate::defaults::SampleDefaults;
+use crate::values::value_at;
+use mp4_frag::TrunBox;
+
+/// The flag of a sample that can't be decoded without those before it (ISO/IEC 14496-12, 8.8.3.1).
+const IS_NO_SYNC_SAMPLE: u32 = 0x10000;
+
+/// Where a member of a run begins: the place of its first byte in the file, and its decoding time in ticks of the track's
+/// timescale. None is a number below 0 or past 64 bits, or one that rests on such a number.
+#[derive(Clone, Copy, Debug, PartialEq, Eq)]
+pub struct Beginning {
+    pub place: Option<u64>,
+    pub time: Option<u64>,
+}
+
+/// A member of a run: a sample that a fragment adds to a track.
+#[derive(Clone, Copy, Debug, PartialEq, Eq)]
+pub struct Member {
+    /// Where and when it begins.
+    pub at: Beginning,
+    /// How many bytes it has.
+    pub size: u32,
+    /// How long it lasts, in ticks of the track's timescale.
+    pub duration: u32,
+    /// How much later than it is decoded it is shown, in ticks of the track's timescale.
+    pub rendering_offset: i32,
+    /// Whether it can be decoded without the samples before it.
+    pub is_sync: bool,
+}
+
+/// The sample flags of member `j`.
+fn flags(run: &TrunBox, defaults: SampleDefaults, j: u32) -> u32
+    ensures { result ≡ flags_of run.now defaults j }
+{
+    let own = value_at(run.sample_flags.as_slice(), defaults.flags, j);
+    if j == 0 {
+        run.first_sample_flags.unwrap_or(own)
+    } else {
+        own
+    }
+}
+
+/// Member `j` of a run that begins at `first`, by its index, which counts from 0.
+#[tactic(auto, unfolding(crate::specs::Members::member_of))]
+pub(crate) fn nth_member(
+    run: &TrunBox,
+    defaults: SampleDefaults,
+    first: Beginning,
+    checks: &[Beginning],
+    j: u32,
+) -> Member
+    requires { AreCheckpoints run.now defaults first checks.now }
+    ensures { result ≡ member_of (record { at = first; run = run.now; defaults = defaults }) j }
+{
+    Member {
+        at: at_by_checkpoints(run, defaults, first, checks, j),
+        size: value_at(run.sample_sizes.as_slice(), defaults.size, j),
+        duration: value_at(run.sample_durations.as_slice(), defaults.duration, j),
+        rendering_offset: value_at(run.sample_cts.as_slice(), 0, j).cast_signed(),
+        is_sync: flags(run, defaults, j) & IS_NO_SYNC_SAMPLE == 0,
+    }
+}

@@ -1,0 +1,161 @@
+//! One pass over the fragments of a track, which places its runs.
+
+ghost use Rattle.std.specs.Prelude.{◌≡◌, ℕ, ◌<◌, List, length, IfOk, Some, fold, zip};
+ghost use Rattle.mp4_fragments.specs.Bases.{data_begins};
+ghost use Rattle.mp4_fragments.specs.Defaults.{defaults_in};
+ghost use Rattle.mp4_fragments.specs.Fragments.{begins, first_time, has_members, with_run, with_traf, placed_runs};
+ghost use Rattle.mp4_fragments.specs.Index.{Indexes, Walks, KnowsRuns, KnowsTrafs, run_at};
+
+use crate::beginnings::{at_by_checkpoints, checkpoints, data_begin};
+use crate::defaults::SampleDefaults;
+use crate::index::{RunEntry, RunIndex};
+use crate::members::Beginning;
+use mp4_boxes::TrafBox;
+use mp4_frag::{TfdtBox, TrunBox};
+use std::alloc::{AllocError, Global};
+
+/// Where and when a run begins, if the member before it ends at `at`.
+fn run_begin(base: Option<u64>, run: &TrunBox, at: Beginning) -> Beginning
+    ensures { result ≡ begins base run.now at }
+{
+    Beginning {
+        place: data_begin(base, run.data_offset, at.place),
+        time: at.time,
+    }
+}
+
+/// When the first member of a fragment begins: when it says so itself, else when the track's members before it have lasted.
+fn traf_time(tfdt: &Option<TfdtBox>, end: Option<u64>) -> Option<u64>
+    ensures { result ≡ first_time tfdt.now end }
+{
+    match tfdt {
+        Some(tfdt) => Some(tfdt.base_media_decode_time),
+        None => end,
+    }
+}
+
+/// Whether a fragment has members.
+fn any_members(traf: &TrafBox) -> bool
+    ensures { result ≡ has_members traf.now }
+{
+    traf.truns.as_slice().iter().any(|run| 0 < run.sample_count)
+}
+
+/// Places run `i` of fragment `t` behind `end`, and adds it to the index. The answer is its end.
+fn add_run(
+    alloc: Global,
+    index: &mut RunIndex,
+    t: usize,
+    i: usize,
+    run: &TrunBox,
+    base: Option<u64>,
+    defaults: SampleDefaults,
+    end: Beginning,
+) -> Result<Beginning, AllocError>
+    ensures { IfOk result (λ after. Walks (λ find. find t i ≡ Some (run.now, defaults)) (λ walk. with_run base defaults walk run.now) end after index.old index.new) }
+{
+    let at = run_begin(base, run, end);
+    let checks = checkpoints(alloc, run, defaults, at)?;
+    let after = at_by_checkpoints(run, defaults, at, checks.as_slice(), run.sample_count);
+    index.push(
+        RunEntry {
+            at,
+            checks,
+            traf: t,
+            run: i,
+        },
+        run.sample_count,
+    )?;
+    Ok(after)
+}
+
+/// Places the runs of fragment `t` one behind the other, and adds them to the index. The answer is their end.
+fn add_runs(
+    alloc: Global,
+    index: &mut RunIndex,
+    t: usize,
+    runs: &[TrunBox],
+    base: Option<u64>,
+    defaults: SampleDefaults,
+    first: Beginning,
+) -> Result<Beginning, AllocError>
+    ensures { IfOk result (λ after. Walks (KnowsRuns t runs.now defaults) (λ walk. fold (with_run base defaults) walk runs.now) first after index.old index.new) }
+{
+    let mut at = first;
+    for (i, run) in runs.iter().enumerate() {
+        at = add_run(alloc, index, t, i, run, base, defaults, at)?;
+    }
+    Ok(at)
+}
+
+/// Places the runs of fragment `t`, and adds them to the index. The answer is their end; the time is as it was where they
+/// have no members.
+fn add_traf(
+    alloc: Global,
+    index: &mut RunIndex,
+    track: SampleDefaults,
+    t: usize,
+    traf: &TrafBox,
+    base: Option<u64>,
+    at: Beginning,
+) -> Result<Beginning, AllocError>
+    ensures { IfOk result (λ after. Walks (KnowsRuns t traf.now.truns (defaults_in traf.now track)) (λ walk. with_traf track walk (traf.now, base)) at after index.old index.new) }
+{
+    let defaults = track.in_traf(traf);
+    let first = Beginning {
+        place: base,
+        time: traf_time(&traf.tfdt, at.time),
+    };
+    let runs = traf.truns.as_slice();
+    let last = add_runs(alloc, index, t, runs, base, defaults, first)?;
+    if any_members(traf) {
+        Ok(last)
+    } else {
+        Ok(Beginning {
+            place: last.place,
+            time: at.time,
+        })
+    }
+}
+
+/// Places the runs of all fragments of a track, and adds them to the index.
+fn add_trafs(
+    alloc: Global,
+    index: &mut RunIndex,
+    track: SampleDefaults,
+    trafs: &[TrafBox],
+    bases: &[Option<u64>],
+    first: Beginning,
+) -> Result<Beginning, AllocError>
+    requires { length bases.now ≡ length trafs.now }
+    ensures { IfOk result (λ after. Walks (KnowsTrafs track trafs.now) (λ walk. fold (with_traf track) walk (zip trafs.now bases.now)) first after index.old index.new) }
+{
+    let mut at = first;
+    for (t, traf) in trafs.iter().enumerate() {
+        let base = bases[t];
+        at = add_traf(alloc, index, track, t, traf, base, at)?;
+    }
+    Ok(at)
+}
+
+/// The index of a track's runs: those of its fragments, which have these bases. Its samples before the fragments end at
+/// `end`, in ticks of its timescale. No member is written out, and only want of memory refuses.
+#[tactic(auto, unfolding(crate::specs::Fragments::placed_runs))]
+pub fn index_of(
+    alloc: Global,
+    trafs: &[TrafBox],
+    bases: &[Option<u64>],
+    track: SampleDefaults,
+    end: u64,
+) -> Result<RunIndex, AllocError>
+    requires { length bases.now ≡ length trafs.now }
+    ensures { IfOk result (λ index. Indexes (run_at trafs.now track) (placed_runs track end trafs.now bases.now) index) }
+{
+    let mut index = RunIndex::new(alloc);
+    let first = Beginning {
+        place: None,
+        time: Some(end),
+    };
+    add_trafs(alloc, &mut index, track, trafs, bases, first)?;
+    Ok(index)
+}

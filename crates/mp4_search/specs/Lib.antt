@@ -1,0 +1,4 @@
+pub mod Digits
+pub mod Search
+pub mod Sums
+pub mod SumLaws
