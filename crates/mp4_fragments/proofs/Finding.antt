@@ -37,8 +37,12 @@ slice_get-all_members runs number i before d h e reached inside =
     let m = member_of run 0 in
     let j = number - before in
     let at : number ≡ length (all_members (take i runs)) + j = omega (arith, length-all_members (take i runs), e) in
-    let whole : number < length (all_members runs) = omega (arith, length-all_members runs,
-    sum_by_more_le run_count runs i d h, e) in
+    let whole : number < length (all_members runs) = omega (
+      arith,
+      length-all_members runs,
+      sum_by_more_le run_count runs i d h,
+      e,
+    ) in
     let fits : j < length (members_of run) = rw (length-members_of run) inside in
     slice_get-get_or (all_members runs) number m whole
     ∙ ap Some (ap (λ n. get_or (all_members runs) n m) at ∙ get_or-flat_map members_of runs i j d m h fits

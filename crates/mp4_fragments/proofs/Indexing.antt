@@ -38,20 +38,29 @@ pub Indexes-push : (find : Find) (runs : List PlacedRun) (old new : RunIndex) (e
 Indexes-push find runs old new entry p pushed there right s =
     let all : sum_by run_count (runs ++ p ∷ []) ≡ sum_by run_count runs + run_count p = sum_by_push run_count runs p in
     record {
-      entries = rw (pushed.entries, map_push (placed_at find) old.entries entry, map_push {Y =
-      Option PlacedRun} Some runs p, s.entries, there) refl;
+      entries = rw (
+        pushed.entries,
+        map_push (placed_at find) old.entries entry,
+        map_push {Y =
+            Option PlacedRun} Some runs p,
+        s.entries,
+        there,
+      ) refl;
       right = rw pushed.entries (λ i d h.
           ⊎_elim
           (λ (early : i < length old.entries). rw (get_or_append_left old.entries (entry ∷ []) d i early)
           (s.right i d early))
-          (λ (late : length old.entries ≤ i). rw (get_or_push old.entries entry d i (omega (arith, h,
-          length_push old.entries entry))) right)
+          (λ (late : length old.entries ≤ i). rw (get_or_push old.entries entry d i (omega (
+            arith,
+            h,
+            length_push old.entries entry,
+          ))) right)
           (cases_lt i (length old.entries)));
       counts = rw pushed.counts (CountsBefore-push runs old.counts old.before p s.counts s.before);
       before = pushed.before ∙ capped (2 ^ 32 - 1) old.before (sum_by run_count runs) (run_count p) s.before
-      ∙ ap (λ n. min (2 ^ 32 - 1) n) (sym all);
+          ∙ ap (λ n. min (2 ^ 32 - 1) n) (sym all);
       total = pushed.total ∙ capped (2 ^ 64 - 1) old.total (sum_by run_count runs) (run_count p) s.total
-      ∙ ap (λ n. min (2 ^ 64 - 1) n) (sym all);
+          ∙ ap (λ n. min (2 ^ 64 - 1) n) (sym all);
     }
 
 pub Indexes-none : (find : Find) (index : RunIndex) → index.counts ≡ [] → index.entries ≡ [] → index.before ≡ 0

@@ -24,8 +24,11 @@ pub at_member-on : (run : TrunBox) (defaults : SampleDefaults) (first at : Begin
     sum_of_first from run.sample_sizes defaults.size + size ≡ sum_of_first to run.sample_sizes defaults.size →
     sum_of_first from run.sample_durations defaults.duration + duration
     ≡ sum_of_first to run.sample_durations defaults.duration →
-    at ≡ at_member run defaults first from → record { place = plus at.place size; time =
-    plus at.time duration } ≡ at_member run defaults first to
+    at ≡ at_member run defaults first from → record {
+      place = plus at.place size;
+      time =
+          plus at.time duration;
+    } ≡ at_member run defaults first to
 unfolding at_member
 at_member-on run defaults first at from to size duration e1 e2 e =
     let on : Beginning → Beginning = λ a. record { place = plus a.place size; time = plus a.time duration } in

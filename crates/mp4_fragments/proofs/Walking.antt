@@ -87,13 +87,19 @@ own : (track : SampleDefaults) (traf : TrafBox) (base : Option ℕ) (t : ℕ) (a
     (old new : RunIndex) →
     after ≡ record { place = last.place; time = if has_members traf then last.time else at.time } →
     Walks (KnowsRuns t traf.truns (defaults_in traf track)) (λ walk. fold (with_run base
-    (defaults_in traf track)) walk traf.truns) (record { place = base; time =
-    first_time traf.tfdt at.time }) last old new →
+    (defaults_in traf track)) walk traf.truns) (record {
+      place = base;
+      time =
+          first_time traf.tfdt at.time;
+    }) last old new →
     Walks (KnowsRuns t traf.truns (defaults_in traf track)) (λ walk. with_traf track walk (traf, base)) at after old new
 unfolding with_traf
 own track traf base t at last after old new e walks = record {
-  at = λ runs. e ∙ ap (λ (l : Beginning). record { place = l.place; time =
-    if has_members traf then l.time else at.time }) (walks.at runs);
+  at = λ runs. e ∙ ap (λ (l : Beginning). record {
+    place = l.place;
+    time =
+        if has_members traf then l.time else at.time;
+  }) (walks.at runs);
   index = walks.index;
 }
 
@@ -101,13 +107,19 @@ pub Walks-traf : (track : SampleDefaults) (traf : TrafBox) (base : Option ℕ) (
     (old new : RunIndex) (time : Option ℕ) (defaults : SampleDefaults) (runs : List TrunBox) →
     time ≡ first_time traf.tfdt at.time → defaults ≡ defaults_in traf track → runs ≡ traf.truns →
     after ≡ record { place = last.place; time = if has_members traf then last.time else at.time } →
-    Walks (KnowsRuns t runs defaults) (λ walk. fold (with_run base defaults) walk runs) (record { place =
-    base; time = time }) last old new →
+    Walks (KnowsRuns t runs defaults) (λ walk. fold (with_run base defaults) walk runs) (record {
+      place =
+          base;
+      time = time;
+    }) last old new →
     Walks (KnowsRuns t traf.truns (defaults_in traf track)) (λ walk. with_traf track walk (traf, base)) at after old new
 Walks-traf track traf base t at last after old new time defaults runs e1 e2 e3 e walks =
     let P : Option ℕ → SampleDefaults → List TrunBox → Type 0 = λ time defaults runs. Walks
-    (KnowsRuns t runs defaults) (λ walk. fold (with_run base defaults) walk runs) (record { place = base; time =
-    time }) last old new in
+    (KnowsRuns t runs defaults) (λ walk. fold (with_run base defaults) walk runs) (record {
+      place = base;
+      time =
+          time;
+    }) last old new in
     own track traf base t at last after old new e
     (subst (P (first_time traf.tfdt at.time) (defaults_in traf track)) e3 (subst (λ d. P
     (first_time traf.tfdt at.time) d runs) e2 (subst (λ b. P b defaults runs) e1 walks)))

@@ -9,4 +9,4 @@ use Rattle.mp4_fragments.specs.declared.members.Beginning.{Beginning}
 pub record AreCheckpoints (run : TrunBox) (defaults : SampleDefaults) (first : Beginning)
     (checks : List Beginning) : Type 0 where
   pub each : (q : ℕ) (d : Beginning) → q < length checks → get_or checks q d ≡ at_member run defaults first (64 *
-    (q + 1))
+      (q + 1))

@@ -39,8 +39,11 @@ has_members traf = list_any (λ run. nat_lt 0 run.sample_count) traf.truns
 -- a part of a fragment, and its base: one without members doesn't move the time
 unfoldable pub with_traf : SampleDefaults → Walk → TrafBox × Option ℕ → Walk
 with_traf track walk (traf, base) =
-    let first : Walk = record { at = record { place = base; time = first_time traf.tfdt walk.at.time }; runs =
-    walk.runs } in
+    let first : Walk = record {
+      at = record { place = base; time = first_time traf.tfdt walk.at.time };
+      runs =
+          walk.runs;
+    } in
     let last : Walk = fold (with_run base (defaults_in traf track)) first traf.truns in
     record {
       at = record { place = last.at.place; time = if has_members traf then last.at.time else walk.at.time };

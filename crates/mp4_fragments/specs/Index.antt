@@ -51,7 +51,7 @@ pub record Walks (knows : Find → Type 0) (step : Walk → Walk) (first after :
     (old new : RunIndex) : Type 0 where
   pub at : (runs : List PlacedRun) → after ≡ (step (record { at = first; runs = runs })).at
   pub index : (find : Find) (runs : List PlacedRun) → knows find → Indexes find runs old
-    → Indexes find (step (record { at = first; runs = runs })).runs new
+      → Indexes find (step (record { at = first; runs = runs })).runs new
 
 -- one more run
 pub record Pushed (old new : RunIndex) (entry : RunEntry) (count : ℕ) : Type 0 where
@@ -66,7 +66,7 @@ pub record KnowsRuns (t : ℕ) (runs : List TrunBox) (defaults : SampleDefaults)
 
 pub record KnowsTrafs (track : SampleDefaults) (trafs : List TrafBox) (find : Find) : Type 0 where
   pub traf : (t : ℕ) (d : TrafBox) → t < length trafs → KnowsRuns t (get_or trafs t d).truns (defaults_in
-    (get_or trafs t d) track) find
+      (get_or trafs t d) track) find
 
 -- member j of a run, if it has so many
 abbrev pub member_in : ℕ → PlacedRun → Option Member

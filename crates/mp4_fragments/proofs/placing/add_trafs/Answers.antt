@@ -17,8 +17,10 @@ loop-t-preserved c =
     let trafs = c.args.trafs.now in
     let bases = c.args.bases.now in
     let base : Option ℕ = get_or bases t None in
-    Walks-more _ (KnowsRuns t traf.truns (defaults_in traf track)) (with_traf track) (zip trafs bases) t (traf,
-    base) _ _ _ _ _ _ (omega (arith, c.requires, length-zip trafs bases))
+    Walks-more _ (KnowsRuns t traf.truns (defaults_in traf track)) (with_traf track) (zip trafs bases) t (
+      traf,
+      base,
+    ) _ _ _ _ _ _ (omega (arith, c.requires, length-zip trafs bases))
     (in_zip trafs bases t traf base None c.requires (omega arith) is refl)
     (λ find k. subst (λ (r : TrafBox). KnowsRuns t r.truns (defaults_in r track) find) (sym is) (k.traf t traf
     (omega arith)))
@@ -26,5 +28,8 @@ loop-t-preserved c =
     c.in_ok-at.ensures
 
 pub returns : goal.returns
-returns c = Walks-whole _ _ (zip c.args.trafs.now c.args.bases.now) c.loop-t.t _ _ _ _ (omega (arith, c.requires,
-    length-zip c.args.trafs.now c.args.bases.now)) c.loop-t.invariant
+returns c = Walks-whole _ _ (zip c.args.trafs.now c.args.bases.now) c.loop-t.t _ _ _ _ (omega (
+  arith,
+  c.requires,
+  length-zip c.args.trafs.now c.args.bases.now,
+)) c.loop-t.invariant

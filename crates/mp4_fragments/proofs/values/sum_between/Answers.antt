@@ -5,8 +5,12 @@ use Rattle.mp4_fragments.proofs.values.sum_between.Goals as goal
 
 pub loop-j-preserved : goal.loop-j-preserved
 loop-j-preserved c = record {
-  sum = omega (arith, c.from-sum.ensures, c.value_at.ensures,
-    sum_of_first-more c.loop-j.j c.args.values.now c.args.default_value);
+  sum = omega (
+    arith,
+    c.from-sum.ensures,
+    c.value_at.ensures,
+    sum_of_first-more c.loop-j.j c.args.values.now c.args.default_value,
+  );
   few = omega arith;
 }
 
