@@ -41,8 +41,7 @@ Indexes-push find runs old new entry p pushed there right s =
       entries = rw (
         pushed.entries,
         map_push (placed_at find) old.entries entry,
-        map_push {Y =
-            Option PlacedRun} Some runs p,
+        map_push {Y = Option PlacedRun} Some runs p,
         s.entries,
         there,
       ) refl;

@@ -26,8 +26,7 @@ pub at_member-on : (run : TrunBox) (defaults : SampleDefaults) (first at : Begin
     ≡ sum_of_first to run.sample_durations defaults.duration →
     at ≡ at_member run defaults first from → record {
       place = plus at.place size;
-      time =
-          plus at.time duration;
+      time = plus at.time duration;
     } ≡ at_member run defaults first to
 unfolding at_member
 at_member-on run defaults first at from to size duration e1 e2 e =
