@@ -5,3 +5,4 @@ pub mod Bases
 pub mod Fragments
 pub mod Checkpoints
 pub mod Index
+pub mod IndexLaws

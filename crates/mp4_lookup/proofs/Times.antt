@@ -11,12 +11,41 @@ use Rattle.mp4_table.specs.Runs.{expand, durations}
 use Rattle.mp4_table.specs.Starts.{start_of}
 use Rattle.mp4_codec.specs.Cause.{entry_in_stbl_not_found}
 use Rattle.mp4_lookup.specs.Rule.{time_at}
-use Rattle.mp4_lookup.specs.RunLaws.{length-expand, get_or-expand, sum-take-expand, end_of_run}
+use Rattle.mp4_lookup.specs.RunLaws.{length-expand, get_or-expand, sum-expand, sum-take-expand, end_of_run}
 
 start_is : (xs : List ℕ) (k : ℕ) → 1 ≤ k → start_of xs k ≡ sum (take (k - 1) xs)
 unfolding start_of
 start_is xs zero h = absurd (omega arith)
 start_is xs (suc k) h = let e : suc k - 1 ≡ k = omega arith in rw e refl
+
+-- so many samples end in run i
+pub lasted_in : (runs : List SttsEntry) (count i left end : ℕ) (d : SttsEntry) → i < length runs
+    → left + sum_by (λ r. r.sample_count) (take i runs) ≡ count
+    → end ≡ sum_by (λ r. r.sample_count * r.sample_delta) (take i runs) → left ≤ (get_or runs i d).sample_count
+    → end + left * (get_or runs i d).sample_delta ≡ start_of (durations runs) (count + 1)
+lasted_in runs count i left end d h counted lasted inside =
+    let samples = λ (r : SttsEntry). r.sample_count in
+    let delta = λ (r : SttsEntry). r.sample_delta in
+    let at : count + 1 - 1 ≡ sum_by samples (take i runs) + left = omega (arith, counted) in
+    ap (λ n. n + left * (get_or runs i d).sample_delta) lasted
+    ∙ sym (sum-take-expand samples delta runs i left d h inside)
+    ∙ ap (λ n. sum (take n (durations runs))) (sym at)
+    ∙ sym (start_is (durations runs) (count + 1) (omega arith))
+
+-- so many samples are all, or more
+pub lasted_all : (runs : List SttsEntry) (count i left end : ℕ) → length runs ≤ i
+    → left + sum_by (λ r. r.sample_count) (take i runs) ≡ count
+    → end ≡ sum_by (λ r. r.sample_count * r.sample_delta) (take i runs) → end ≡ start_of (durations runs) (count + 1)
+lasted_all runs count i left end all counted lasted =
+    let samples = λ (r : SttsEntry). r.sample_count in
+    let delta = λ (r : SttsEntry). r.sample_delta in
+    let ticks = λ (r : SttsEntry). r.sample_count * r.sample_delta in
+    let whole : sum_by samples (take i runs) ≡ sum_by samples runs = ap (sum_by samples) (take_all i runs all) in
+    let past : length (durations runs) ≤ count + 1 - 1 =
+    omega (arith, whole, counted, length-expand samples delta runs) in
+    lasted ∙ ap (sum_by ticks) (take_all i runs all) ∙ sym (sum-expand samples delta runs)
+    ∙ ap sum (sym (take_all (count + 1 - 1) (durations runs) past))
+    ∙ sym (start_is (durations runs) (count + 1) (omega arith))
 
 -- number k falls in run i
 pub time_at_in : (runs : List SttsEntry) (track k i before begin : ℕ) (d : SttsEntry) → 1 ≤ k → i < length runs

@@ -7,6 +7,7 @@ pub mod Sums
 pub mod Index
 pub mod Costs
 pub mod Tracks
+pub mod TrackRuns
 pub mod Samples
 pub mod Headers
 pub mod Kind

@@ -5,6 +5,7 @@ use Rattle.mp4_codec.specs.Cause.{Cause, end_of_data, ◌>>=◌}
 use Rattle.mp4_boxes.specs.declared.stbl.StblBox.{StblBox}
 use Rattle.mp4_boxes.specs.declared.trak.TrakBox.{TrakBox}
 use Rattle.mp4_boxes.specs.declared.traf.TrafBox.{TrafBox}
+use Rattle.mp4_fragments.specs.Members.{PlacedRun}
 use Rattle.mp4_lookup.specs.declared.sample.Mp4Sample.{Mp4Sample}
 use Rattle.mp4_lookup.specs.declared.sample.SampleRef.{SampleRef}
 use Rattle.mp4_lookup.specs.Places.{Place}
@@ -50,9 +51,9 @@ abbrev pub read_in : List ℕ → Option Place → Result (Option TimedSample) C
 read_in file None = Ok None
 read_in file (Some p) = if nat_lt (length file) (p.offset + p.size) then Err end_of_data else Ok (Some (read_at file p))
 
--- what is read at number k of a track of a file, of which these fragments speak
-unfoldable pub sample_at : List ℕ → TrakBox → List TrafBox → ℕ → Result (Option TimedSample) Cause
-sample_at file trak trafs k = answer_at trak trafs k >>= read_in file
+-- what is read at number k of a track of a file, to which fragments add these runs
+unfoldable pub sample_at : List ℕ → TrakBox → List TrafBox → List PlacedRun → ℕ → Result (Option TimedSample) Cause
+sample_at file trak trafs runs k = answer_at trak trafs runs k >>= read_in file
 
 -- what is read at number k where the tables written out lead
 unfoldable pub plain_sample_at : List ℕ → StblBox → ℕ → Result (Option TimedSample) Cause

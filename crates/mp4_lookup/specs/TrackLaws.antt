@@ -1,26 +1,36 @@
--- In a track that no fragment names, with tables that agree, the answers are the tables written out.
-use Rattle.std.proofs.Common.{◌≡◌, ℕ, ◌^◌, ◌<◌, List, length, ap}
+-- At a number of the movie box, with tables that agree, the answers are the tables written out.
+use Rattle.std.proofs.Common.{◌≡◌, ℕ, ◌^◌, ◌<◌, List, length, true, ap}
+use Rattle.std.specs.Prelude.{nat_le, ◌||◌}
 use Rattle.std.proofs.lemmas.Bool.{eq-eqb}
 use Rattle.mp4_codec.specs.Cause.{◌>>=◌}
 use Rattle.mp4_table.specs.Stsc.{HasFirstSamples}
 use Rattle.mp4_boxes.specs.declared.trak.TrakBox.{TrakBox}
 use Rattle.mp4_boxes.specs.declared.traf.TrafBox.{TrafBox}
+use Rattle.mp4_fragments.specs.Members.{PlacedRun}
 use Rattle.mp4_lookup.specs.Plain.{Consistent, plain_at}
 use Rattle.mp4_lookup.specs.Samples.{read_in, sample_at, plain_sample_at}
-use Rattle.mp4_lookup.specs.Tracks.{tables_of, answer_at}
+use Rattle.mp4_lookup.specs.Tracks.{tables_of, is_of_movie, answer_at}
 use Rattle.mp4_lookup.specs.RuleLaws.{rule_is_plain}
 
-pub answer_is_plain : (trak : TrakBox) (trafs : List TrafBox) (k : ℕ) → length trafs ≡ 0 → Consistent (tables_of trak)
+-- in a track that no fragment names, all numbers are the movie box's
+pub unfragmented_is_of_movie : (trak : TrakBox) (trafs : List TrafBox) (k : ℕ) → length trafs ≡ 0
+    → is_of_movie trak trafs k ≡ true
+unfragmented_is_of_movie trak trafs k none =
+    ap (λ b. b || nat_le k (tables_of trak).stsz.sample_count) (eq-eqb (length trafs) 0 none)
+
+pub answer_is_plain : (trak : TrakBox) (trafs : List TrafBox) (runs : List PlacedRun) (k : ℕ)
+    → is_of_movie trak trafs k ≡ true → Consistent (tables_of trak)
     → HasFirstSamples (tables_of trak).stsc.entries → k < 2 ^ 32
-    → answer_at trak trafs k ≡ plain_at (tables_of trak) k
+    → answer_at trak trafs runs k ≡ plain_at (tables_of trak) k
 unfolding answer_at
-answer_is_plain trak trafs k none fits firsts small =
-    rw (eq-eqb _ _ none) (rule_is_plain (tables_of trak) trak.tkhd.track_id k fits firsts small)
+answer_is_plain trak trafs runs k of_movie fits firsts small =
+    rw of_movie (rule_is_plain (tables_of trak) trak.tkhd.track_id k fits firsts small)
 
 -- and what is read is what lies where they lead
-pub sample_is_plain : (file : List ℕ) (trak : TrakBox) (trafs : List TrafBox) (k : ℕ) → length trafs ≡ 0
-    → Consistent (tables_of trak) → HasFirstSamples (tables_of trak).stsc.entries → k < 2 ^ 32
-    → sample_at file trak trafs k ≡ plain_sample_at file (tables_of trak) k
+pub sample_is_plain : (file : List ℕ) (trak : TrakBox) (trafs : List TrafBox) (runs : List PlacedRun) (k : ℕ)
+    → is_of_movie trak trafs k ≡ true → Consistent (tables_of trak)
+    → HasFirstSamples (tables_of trak).stsc.entries → k < 2 ^ 32
+    → sample_at file trak trafs runs k ≡ plain_sample_at file (tables_of trak) k
 unfolding sample_at plain_sample_at
-sample_is_plain file trak trafs k none fits firsts small =
-    ap (λ answer. answer >>= read_in file) (answer_is_plain trak trafs k none fits firsts small)
+sample_is_plain file trak trafs runs k of_movie fits firsts small =
+    ap (λ answer. answer >>= read_in file) (answer_is_plain trak trafs runs k of_movie fits firsts small)

@@ -1,9 +1,15 @@
--- The samples of a track by their numbers.
-use Rattle.std.specs.Prelude.{ℕ, Bool, List, length, Option, None, Result, Ok, nat_le, ◌==◌, ◌||◌, if◌then◌else◌}
-use Rattle.mp4_codec.specs.Cause.{Cause}
+-- The samples of a track by their numbers: those of its movie box first, then those that fragments add
+-- (ISO/IEC 14496-12, 8.6.1.2, 8.7.3 and 8.8).
+use Rattle.std.specs.Prelude.{ℕ, ◌+◌, ◌-◌, Bool, List, length, slice_get, Option, Some, None, Result, Ok, Err, nat_le}
+use Rattle.std.specs.Prelude.{◌==◌, ◌||◌, if◌then◌else◌}
+use Rattle.mp4_codec.specs.Cause.{Cause, invalid_data}
+use Rattle.mp4_table.specs.Runs.{durations}
+use Rattle.mp4_table.specs.Starts.{start_of}
 use Rattle.mp4_boxes.specs.declared.stbl.StblBox.{StblBox}
 use Rattle.mp4_boxes.specs.declared.trak.TrakBox.{TrakBox}
 use Rattle.mp4_boxes.specs.declared.traf.TrafBox.{TrafBox}
+use Rattle.mp4_fragments.specs.Members.{PlacedRun, all_members}
+use Rattle.mp4_fragments.specs.declared.members.Member.{Member}
 use Rattle.mp4_lookup.specs.Places.{Place}
 use Rattle.mp4_lookup.specs.Rule.{rule}
 
@@ -11,10 +17,35 @@ use Rattle.mp4_lookup.specs.Rule.{rule}
 abbrev pub tables_of : TrakBox → StblBox
 tables_of trak = trak.mdia.minf.stbl
 
+-- when the samples of the movie box have lasted, as far as stts says it
+abbrev pub movie_end : TrakBox → ℕ
+movie_end trak = start_of (durations (tables_of trak).stts.entries) ((tables_of trak).stsz.sample_count + 1)
+
 -- Number k is one of the movie box's samples. In a track that a fragment names, numbers past its count are not.
 abbrev pub is_of_movie : TrakBox → List TrafBox → ℕ → Bool
 is_of_movie trak trafs k = (length trafs == 0) || nat_le k (tables_of trak).stsz.sample_count
 
--- what is answered at number k of a track, of which these fragments speak
-unfoldable pub answer_at : TrakBox → List TrafBox → ℕ → Result (Option Place) Cause
-answer_at trak trafs k = if is_of_movie trak trafs k then rule (tables_of trak) trak.tkhd.track_id k else Ok None
+-- a place or a time that is broken is refused
+abbrev pub begins_at : Option ℕ → Option ℕ → Member → Result (Option Place) Cause
+begins_at (Some place) (Some time) m = Ok (Some (record {
+  offset = place;
+  size = m.size;
+  start_time = time;
+  duration = m.duration;
+  rendering_offset = m.rendering_offset;
+  is_sync = m.is_sync;
+}))
+begins_at None time m = Err invalid_data
+begins_at (Some place) None m = Err invalid_data
+
+-- where a sample that a fragment adds lies; past all there is none
+abbrev pub member_place : Option Member → Result (Option Place) Cause
+member_place None = Ok None
+member_place (Some m) = begins_at m.at.place m.at.time m
+
+-- What is answered at number k of a track, to which fragments add these runs: the samples of the movie box first, then
+-- the members of the runs.
+unfoldable pub answer_at : TrakBox → List TrafBox → List PlacedRun → ℕ → Result (Option Place) Cause
+answer_at trak trafs runs k =
+    if is_of_movie trak trafs k then rule (tables_of trak) trak.tkhd.track_id k else
+    member_place (slice_get (all_members runs) (k - (tables_of trak).stsz.sample_count - 1))

@@ -9,6 +9,7 @@ mod index;
 mod kind;
 mod laws;
 mod locate;
+mod lookup;
 mod place;
 mod rates;
 mod runs;

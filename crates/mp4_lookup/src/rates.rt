@@ -3,6 +3,7 @@
 ghost use Rattle.std.specs.Prelude.{◌≡◌, ◌<◌, ◌^◌, sum, IfOk};
 ghost use Rattle.mp4_codec.specs.Cause.{Gives};
 ghost use Rattle.mp4_lookup.specs.Rates.{sample_count_of, frame_rate_of, total_size_of, measured_bitrate_of, declared_bitrate, bitrate_of};
+ghost use Rattle.mp4_lookup.specs.TrackRuns.{track_runs};
 
 use crate::headers::MICROSECONDS;
 use crate::track::Mp4Track;
@@ -19,15 +20,17 @@ const MICROSECONDS_OF_A_MILLISECOND: u64 = 1000;
 const BITS: u128 = 8;
 
 impl Mp4Track {
-    /// How many samples the track has: those of stsz (ISO/IEC 14496-12, 8.7.3). Samples of fragments aren't counted,
-    /// since they aren't read yet.
+    /// How many samples the track has: those of stsz (ISO/IEC 14496-12, 8.7.3), and those that fragments add (8.8.8).
     ///
-    /// `TooLarge(Value)` where they pass 32 bits, which those of stsz never do.
+    /// `TooLarge(Value)` where they pass 32 bits, which those of stsz alone never do.
     #[tactic(auto, unfolding(crate::specs::Rates::sample_count_of))]
     pub fn sample_count(&self) -> Result<u32>
-        ensures { Gives (λ count. count) result (sample_count_of self.now.trak self.now.trafs) }
+        ensures { Gives (λ count. count) result (sample_count_of self.now.trak (track_runs self.now)) }
     {
-        Ok(self.trak.mdia.minf.stbl.stsz.sample_count)
+        let count = u64::from(self.trak.mdia.minf.stbl.stsz.sample_count);
+        u32::try_from(count.saturating_add(self.added_samples())).map_err(|_| Error::TooLarge(
+            Limit::Value,
+        ))
     }
 
     /// Samples in a second, rounded down: the count of samples over the duration in whole milliseconds.
@@ -36,7 +39,7 @@ impl Mp4Track {
     /// the refusals of `sample_count`.
     #[tactic(auto, unfolding(crate::specs::Rates::frame_rate_of))]
     pub fn frame_rate(&self) -> Result<u64>
-        ensures { Gives (λ rate. rate) result (frame_rate_of self.now.trak self.now.trafs) }
+        ensures { Gives (λ rate. rate) result (frame_rate_of self.now.trak (track_runs self.now)) }
     {
         let milliseconds = self.duration()? / MICROSECONDS_OF_A_MILLISECOND;
         if milliseconds == 0 {
@@ -55,7 +58,7 @@ impl Mp4Track {
     /// answer passes 32 bits.
     #[tactic(auto, unfolding(crate::specs::Rates::bitrate_of))]
     pub fn bitrate(&self) -> Result<u32>
-        ensures { Gives (λ bits. bits) result (bitrate_of self.now.trak self.now.trafs) }
+        ensures { Gives (λ bits. bits) result (bitrate_of self.now.trak (track_runs self.now)) }
     {
         match &self.trak.mdia.minf.stbl.stsd.mp4a {
             Some(entry) => Ok(average_of(entry)),
@@ -66,7 +69,7 @@ impl Mp4Track {
     /// The bits of all samples in a second of the track.
     #[tactic(auto, unfolding(crate::specs::Rates::measured_bitrate_of))]
     fn measured_bitrate(&self) -> Result<u32>
-        ensures { Gives (λ bits. bits) result (measured_bitrate_of self.now.trak self.now.trafs) }
+        ensures { Gives (λ bits. bits) result (measured_bitrate_of self.now.trak (track_runs self.now)) }
     {
         let seconds = self.duration()? / u64::from(MICROSECONDS);
         if seconds == 0 {
@@ -82,7 +85,7 @@ impl Mp4Track {
     /// The bytes of all samples.
     #[tactic(auto, unfolding(crate::specs::Rates::total_size_of))]
     fn total_size(&self) -> Result<u128>
-        ensures size { Gives (λ bytes. bytes) result (total_size_of self.now.trak self.now.trafs) }
+        ensures size { Gives (λ bytes. bytes) result (total_size_of self.now.trak (track_runs self.now)) }
         ensures small { IfOk result (λ bytes. bytes < 2 ^ 95) }
     {
         let stsz = &self.trak.mdia.minf.stbl.stsz;

@@ -1,10 +1,11 @@
 //! When a sample is decoded and shown, and whether it is a sync sample (ISO/IEC 14496-12, 8.6.1 and 8.6.2).
 
-ghost use Rattle.std.specs.Prelude.{◌≡◌, ℕ, ◌-◌, ◌<◌, ◌≤◌, pos, length, get_or, IfOk, IsTrue, ◌==◌, ◌↔◌};
+ghost use Rattle.std.specs.Prelude.{◌≡◌, ℕ, ◌+◌, ◌-◌, ◌<◌, ◌≤◌, pos, length, get_or, IfOk, IsTrue, ◌==◌, ◌↔◌};
 ghost use Rattle.std.specs.List.{list_any};
 ghost use Rattle.std.specs.List.Sorted.{IsStrictlyIncreasing};
 ghost use Rattle.mp4_codec.specs.Cause.{Gives};
-ghost use Rattle.mp4_table.specs.Runs.{rendering_offsets};
+ghost use Rattle.mp4_table.specs.Runs.{durations, rendering_offsets};
+ghost use Rattle.mp4_table.specs.Starts.{start_of};
 ghost use Rattle.mp4_search.specs.Search.{IsFew};
 ghost use Rattle.mp4_search.specs.Sums.{CountsBefore};
 ghost use Rattle.mp4_lookup.specs.Sums.{TimesBefore};
@@ -15,6 +16,22 @@ use crate::index::TrackIndex;
 use mp4_codec::{BoxType, Error, Result};
 use mp4_search::{Readings, SearchedNumbers, last_at_most};
 use mp4_table::{CttsEntry, StssBox, SttsEntry};
+
+/// When so many samples of these runs have lasted, or all, where there are fewer.
+pub fn end_after(runs: &[SttsEntry], count: u32) -> u64
+    ensures { result ≡ start_of (durations runs.now) (count + 1) }
+{
+    let mut left = count;
+    let mut end: u64 = 0;
+    for run in runs {
+        if left <= run.sample_count {
+            return end + u64::from(left) * u64::from(run.sample_delta);
+        }
+        left -= run.sample_count;
+        end += u64::from(run.sample_count) * u64::from(run.sample_delta);
+    }
+    end
+}
 
 /// Duration and start of sample `k`, and how many comparisons found them.
 pub fn time_at(

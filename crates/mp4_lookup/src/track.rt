@@ -1,20 +1,18 @@
 //! A track whose samples are found by their numbers.
 
-ghost use Rattle.std.specs.Prelude.{◌≡◌, length, option_map, IfOk, IfSome};
+ghost use Rattle.std.specs.Prelude.{◌≡◌, ◌^◌, ◌<◌, length, ◌==◌, if◌then◌else◌, IfOk};
 ghost use Rattle.std.proofs.Props.{props};
-ghost use Rattle.mp4_codec.specs.Cause.{Gives};
 ghost use Rattle.mp4_table.specs.Stsc.{HasFirstSamples};
-ghost use Rattle.mp4_lookup.specs.Places.{place_of};
-ghost use Rattle.mp4_lookup.specs.Plain.{Consistent, plain_at};
+ghost use Rattle.mp4_fragments.specs.Fragments.{placed_runs};
+ghost use Rattle.mp4_fragments.specs.Index.{Indexes, run_at, runs_of};
 ghost use Rattle.mp4_lookup.specs.Index.{IsIndexOf};
-ghost use Rattle.mp4_lookup.specs.Costs.{AreFew, AreFewSizeReads};
-ghost use Rattle.mp4_lookup.specs.Tracks.{tables_of, answer_at};
+ghost use Rattle.mp4_lookup.specs.Tracks.{tables_of, movie_end};
 
 use crate::index::{TrackIndex, index_of};
-use crate::locate::place_at;
-use crate::sample::SamplePlace;
+use crate::timing::end_after;
 use mp4_boxes::{TrafBox, TrakBox};
-use mp4_codec::{Items, Result};
+use mp4_codec::Items;
+use mp4_fragments::{RunIndex, SampleDefaults, index_of as index_of_runs};
 use std::alloc::{AllocError, Global};
 
 /// A track of a movie that was opened (ISO/IEC 14496-12, 8.3.1).
@@ -24,63 +22,52 @@ pub struct Mp4Track {
     pub trak: TrakBox,
     /// The fragments of the track, in file order.
     pub trafs: Items<TrafBox>,
-    /// How long a fragment's sample lasts that says nothing of it, in ticks of the track's timescale; 0 for a
-    /// track without fragments.
+    /// How long a fragment's sample lasts where neither its run nor its fragment says so, in ticks of the track's
+    /// timescale; 0 for a track without fragments.
     pub default_sample_duration: u32,
-    index: TrackIndex,
+    pub(crate) index: TrackIndex,
+    pub(crate) defaults: SampleDefaults,
+    pub(crate) runs: RunIndex,
     ghost numbered: { HasFirstSamples trak.mdia.minf.stbl.stsc.entries } by { Prim.hlevel props },
     ghost indexed: { IsIndexOf trak.mdia.minf.stbl index } by { Prim.hlevel props },
+    ghost placed: { Indexes (run_at trafs defaults) (runs_of trafs defaults runs) runs } by { Prim.hlevel props },
+    ghost counted: { trak.mdia.minf.stbl.stsz.sample_count < 2 ^ 32 } by { Prim.hlevel props },
 }
 
 impl Mp4Track {
-    /// Makes the index of a track, once, so that its samples are found fast. Every box that was read has the
-    /// first samples that are asked for.
+    /// Makes the indexes of a track, once, so that its samples are found fast: one of its tables, and one of the runs of
+    /// its fragments, whose places count from these bases, one for each. `defaults` is what the movie says of the samples
+    /// of its fragments. Every box that was read has the first samples that are asked for.
     pub fn new(
         alloc: Global,
         trak: TrakBox,
         trafs: Items<TrafBox>,
-        default_sample_duration: u32,
+        bases: &[Option<u64>],
+        defaults: SampleDefaults,
     ) -> std::result::Result<Self, AllocError>
-        requires { HasFirstSamples (tables_of trak).stsc.entries }
+        requires first_samples { HasFirstSamples (tables_of trak).stsc.entries }
+        requires bases { length bases.now ≡ length trafs }
         ensures trak { IfOk result (λ t. t.trak ≡ trak) }
         ensures trafs { IfOk result (λ t. t.trafs ≡ trafs) }
-        ensures duration { IfOk result (λ t. t.default_sample_duration ≡ default_sample_duration) }
+        ensures runs { IfOk result (λ t. runs_of t.trafs t.defaults t.runs ≡ placed_runs defaults (movie_end trak) trafs bases.now) }
+        ensures duration { IfOk result (λ t. t.default_sample_duration ≡ (if length trafs == 0 then 0 else defaults.duration)) }
     {
-        let index = index_of(alloc, &trak.mdia.minf.stbl)?;
+        let stbl = &trak.mdia.minf.stbl;
+        let index = index_of(alloc, stbl)?;
+        let end = end_after(stbl.stts.entries.as_slice(), stbl.stsz.sample_count);
+        let runs = index_of_runs(alloc, trafs.as_slice(), bases, defaults, end)?;
+        let default_sample_duration = if trafs.is_empty() {
+            0
+        } else {
+            defaults.duration
+        };
         Ok(Mp4Track {
             trak,
             trafs,
             default_sample_duration,
             index,
+            defaults,
+            runs,
         })
-    }
-
-    /// Where sample `k` of the track lies, and when it is decoded and shown; samples are numbered from 1.
-    ///
-    /// `Ok(None)` where its chunk or its size isn't there, as past the last sample. `InvalidData` for number 0,
-    /// where stsc has no entry for it or one without samples, where its chunk's number is 0 or passes 32 bits,
-    /// and where its place passes 64 bits; then `EntryInStblNotFound` where stts ends before it.
-    pub fn locate(&self, k: u32) -> Result<Option<SamplePlace>>
-        ensures rule { Gives (λ p. option_map place_of p) result (answer_at self.now.trak self.now.trafs k) }
-        ensures plain { length self.now.trafs ≡ 0 → Consistent (tables_of self.now.trak) → Gives (λ p. option_map place_of p) result (plain_at (tables_of self.now.trak) k) }
-        ensures comparisons { IfOk result (λ p. IfSome p (λ p. AreFew (tables_of self.now.trak) p.comparisons)) }
-        ensures size_reads { IfOk result (λ p. IfSome p (λ p. AreFewSizeReads (tables_of self.now.trak) p.size_reads)) }
-    {
-        self.answer(k)
-    }
-
-    /// The answer of `locate`.
-    #[tactic(auto, unfolding(crate::specs::Tracks::answer_at))]
-    fn answer(&self, k: u32) -> Result<Option<SamplePlace>>
-        ensures rule { Gives (λ p. option_map place_of p) result (answer_at self.now.trak self.now.trafs k) }
-        ensures comparisons { IfOk result (λ p. IfSome p (λ p. AreFew (tables_of self.now.trak) p.comparisons)) }
-        ensures size_reads { IfOk result (λ p. IfSome p (λ p. AreFewSizeReads (tables_of self.now.trak) p.size_reads)) }
-    {
-        let stbl = &self.trak.mdia.minf.stbl;
-        if self.trafs.is_empty() || k <= stbl.stsz.sample_count {
-            place_at(stbl, &self.index, self.trak.tkhd.track_id, k)
-        } else {
-            Ok(None)
-        }
     }
 }
