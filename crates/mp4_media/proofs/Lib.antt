@@ -4,7 +4,9 @@ pub mod Grammar
 pub mod OpenAnswers
 pub mod Finishing
 pub mod FirstSamples
+pub mod FragmentPlaces
 pub mod Gathering
+pub mod BasesByTrack
 pub mod Reading
 pub mod ReadBack
 pub mod Performing

@@ -1,6 +1,6 @@
 -- What is read of an opened movie that was written: exactly what the calls of its writer have accepted. And what is found
 -- in a track that no fragment names.
-use Rattle.std.proofs.Common.{◌≡◌, inl, inr, ⊎_elim, ℕ, zero, suc, ◌+◌, ◌^◌, ◌<◌, ◌≤◌, Bool, true, false, cond, eqb}
+use Rattle.std.proofs.Common.{◌≡◌, inl, inr, ⊎_elim, ℕ, zero, suc, ◌+◌, ◌-◌, ◌^◌, ◌<◌, ◌≤◌, Bool, true, false, cond, eqb}
 use Rattle.std.proofs.Common.{List, [], ◌∷◌, length, get_or, slice_get, Option, Some, None, Result, Ok, Err}
 use Rattle.std.proofs.Common.{pos, refl, sym, ap, subst, ◌∙◌, arith}
 use Rattle.std.specs.Prelude.{option_map, IsSomeAnd, ok_or}
@@ -17,6 +17,8 @@ use Rattle.mp4_boxes.specs.declared.trak.TrakBox.{TrakBox}
 use Rattle.mp4_boxes.specs.declared.traf.TrafBox.{TrafBox}
 use Rattle.mp4_boxes.specs.declared.moov.MoovBox.{MoovBox}
 use Rattle.mp4_boxes.specs.declared.moof.MoofBox.{MoofBox}
+use Rattle.mp4_fragments.specs.Fragments.{placed_runs}
+use Rattle.mp4_fragments.specs.Members.{PlacedRun}
 use Rattle.mp4_lookup.specs.declared.track.Mp4Track.{Mp4Track}
 use Rattle.mp4_lookup.specs.Kind.{media_type_of}
 use Rattle.mp4_lookup.specs.Places.{Place}
@@ -25,7 +27,8 @@ use Rattle.mp4_lookup.specs.Rates.{sample_count_of}
 use Rattle.mp4_lookup.specs.Rule.{usable, entry_for, spot_at, rule}
 use Rattle.mp4_lookup.specs.Samples.{Sample, TimedSample, timed_from, timed, read_in, sample_at, plain_sample_at}
 use Rattle.mp4_lookup.specs.Tracks.{tables_of, answer_at}
-use Rattle.mp4_lookup.specs.TrackLaws.{sample_is_plain}
+use Rattle.mp4_lookup.specs.TrackLaws.{sample_is_plain, unfragmented_is_of_movie}
+use Rattle.mp4_lookup.specs.TrackRuns.{track_runs}
 use Rattle.mp4_mux.specs.FinishedTrack.{trak_for}
 use Rattle.mp4_mux.specs.Writing.{WriterState, AcceptedTrack, accepted, file_type_of, movie_of, whole_of}
 use Rattle.mp4_mux.specs.Calls.{none_accepted, Session, IsEnded, writer_of, accepted_by}
@@ -102,12 +105,12 @@ found_at_place base (suc k) (t ∷ ts) h =
     alone None = refl
 
 -- The tracks of an opened movie, by their boxes.
-module _ {S : Type 0} (moov : MoovBox) (moofs : List MoofBox) (tracks : HashMap ℕ Mp4Track S)
-    (are : AreTracks moov moofs tracks) (id : ℕ) where
+module _ {S : Type 0} (moov : MoovBox) (moofs : List MoofBox) (places : List ℕ) (tracks : HashMap ℕ Mp4Track S)
+    (are : AreTracks moov moofs places tracks) (id : ℕ) where
   -- where no box has the id, there is no track
   unknown : trak_with_id moov.traks id ≡ None → at_id tracks id ≡ None
   unfolding track_at
-  unknown e = by (at_id tracks id) (are id ∙ ap (option_map (with_fragments moov moofs)) e)
+  unknown e = by (at_id tracks id) (are id ∙ ap (option_map (with_fragments moov moofs places)) e)
     where
       by : (o : Option Mp4Track) → option_map opened_track o ≡ None → o ≡ None
       by (Some t) f = absurd cc
@@ -119,20 +122,22 @@ module _ {S : Type 0} (moov : MoovBox) (moofs : List MoofBox) (tracks : HashMap 
     is_there : at_id tracks id ≡ Some track
     box : track.trak ≡ trak
     trafs : track.trafs ≡ trafs_of (trafs_in moofs) trak.tkhd.track_id
+    runs : track_runs track ≡ (with_fragments moov moofs places trak).runs
 
   known : (trak : TrakBox) → trak_with_id moov.traks id ≡ Some trak → IsTrackOf trak
   unfolding track_at
-  known trak e = by (at_id tracks id) refl (are id ∙ ap (option_map (with_fragments moov moofs)) e)
+  known trak e = by (at_id tracks id) refl (are id ∙ ap (option_map (with_fragments moov moofs places)) e)
     where
       by : (o : Option Mp4Track) → at_id tracks id ≡ o
-          → option_map opened_track o ≡ Some (with_fragments moov moofs trak) → IsTrackOf trak
+          → option_map opened_track o ≡ Some (with_fragments moov moofs places trak) → IsTrackOf trak
       by (Some t) is f =
-          let same = same_Some (opened_track t) (with_fragments moov moofs trak) f in
+          let same = same_Some (opened_track t) (with_fragments moov moofs places trak) f in
           record {
             track = t;
             is_there = is;
             box = ap (λ o. o.trak) same;
             trafs = ap (λ o. o.trafs) same;
+            runs = ap (λ o. o.runs) same;
           }
       by None is f = absurd cc
 
@@ -146,10 +151,10 @@ no_entry k = elim (eqb k 0) as (λ b. cond b (Err invalid_data) (usable None) �
   | false ↦ refl
 ]
 
-no_numbers : (file : List ℕ) (trak : TrakBox) (trafs : List TrafBox) (k : ℕ) → length trafs ≡ 0
-    → (tables_of trak).stsc.entries ≡ [] → sample_at file trak trafs k ≡ Err invalid_data
+no_numbers : (file : List ℕ) (trak : TrakBox) (trafs : List TrafBox) (runs : List PlacedRun) (k : ℕ)
+    → length trafs ≡ 0 → (tables_of trak).stsc.entries ≡ [] → sample_at file trak trafs runs k ≡ Err invalid_data
 unfolding sample_at answer_at rule spot_at
-no_numbers file trak trafs k whole none = rw (eq-eqb (length trafs) 0 whole, none, no_entry k) refl
+no_numbers file trak trafs runs k whole none = rw (eq-eqb (length trafs) 0 whole, none, no_entry k) refl
 
 -- a sample that is found is read
 found_is_read : (file : List ℕ) (answer : Result (Option Place) Cause) (s : TimedSample) → Finds file answer s
@@ -200,23 +205,32 @@ module _ (st : WriterState) (id : ℕ) (a : AcceptedTrack) (trak : TrakBox) (w :
 
   -- a track has the numbers of its accepted samples
   pub read_at_number : (t : Mp4Track) → t.trak ≡ trak → t.trafs ≡ [] → (k : ℕ) → k < 2 ^ 32
-      → sample_at (whole_of st) t.trak t.trafs k ≡ sample_number a.samples k
+      → sample_at (whole_of st) t.trak t.trafs (track_runs t) k ≡ sample_number a.samples k
   read_at_number t box trafs k small = go a.samples refl
     where
       go : (ss : List Sample) → a.samples ≡ ss
-          → sample_at (whole_of st) t.trak t.trafs k ≡ sample_number ss k
+          → sample_at (whole_of st) t.trak t.trafs (track_runs t) k ≡ sample_number ss k
       go [] e =
-          no_numbers (whole_of st) t.trak t.trafs k (ap length trafs)
+          no_numbers (whole_of st) t.trak t.trafs (track_runs t) k (ap length trafs)
           (ap (λ (b : TrakBox). (tables_of b).stsc.entries) box ∙ w.empty (ap length e))
       go (s ∷ ss) e =
-          sample_is_plain (whole_of st) t.trak t.trafs k (ap length trafs)
+          sample_is_plain (whole_of st) t.trak t.trafs (track_runs t) k
+          (unfragmented_is_of_movie t.trak t.trafs k (ap length trafs))
           (subst (λ (b : TrakBox). Consistent (tables_of b)) (sym box) (described s ss e).consistent) t.numbered small
           ∙ ap (λ (b : TrakBox). plain_sample_at (whole_of st) (tables_of b) k) box
           ∙ plain_number s ss e k
 
+-- where fragments add no run, the samples of the movie box are counted alone
+counted_alone : (t : Mp4Track) → track_runs t ≡ []
+    → sample_count_of t.trak (track_runs t) ≡ Ok (tables_of t.trak).stsz.sample_count
+unfolding sample_count_of
+counted_alone t none =
+    let n = (tables_of t.trak).stsz.sample_count in
+    rw (none, le-ltb (2 ^ 32 - 1) (n + 0) (omega (arith, t.counted))) (ap Ok (omega arith))
+
 -- A finished movie that was opened again.
 module _ (st : WriterState) (w : IsWrittenMovie st) (fits : length (whole_of st) < 2 ^ 64) (movie : Mp4Reader)
-    (bytes : movie.bytes.now ≡ whole_of st) (are : AreTracks (movie_of st) [] movie.tracks) where
+    (bytes : movie.bytes.now ≡ whole_of st) (are : AreTracks (movie_of st) [] [] movie.tracks) where
   abbrev boxes : List TrakBox
   boxes = (movie_of st).traks
 
@@ -253,14 +267,15 @@ module _ (st : WriterState) (w : IsWrittenMovie st) (fits : length (whole_of st)
   -- Where that is the same of each track, it is the same at each id.
   module _ {X : Type 0} (f : Mp4Track → Result X Cause) (g : AcceptedTrack → Result X Cause)
       (same : (u : ℕ) (a : AcceptedTrack) (trak : TrakBox) → IsWrittenTrack st (u + 1) a trak → (t : Mp4Track)
-      → t.trak ≡ trak → t.trafs ≡ [] → f t ≡ g a) where
+      → t.trak ≡ trak → t.trafs ≡ [] → track_runs t ≡ [] → f t ≡ g a) where
     here_or_not : (u : ℕ) (o : Option TrakBox) → slice_get boxes u ≡ o → IsSame f g (suc u)
+    unfolding placed_runs
     here_or_not u (Some trak) box =
         let a = accepted_at u trak box in
-        let t = known (movie_of st) [] movie.tracks are (suc u) trak (box_at u ∙ box) in
-        rw (t.is_there, a.is_there) (same u a.track trak a.written t.track t.box t.trafs)
+        let t = known (movie_of st) [] [] movie.tracks are (suc u) trak (box_at u ∙ box) in
+        rw (t.is_there, a.is_there) (same u a.track trak a.written t.track t.box t.trafs t.runs)
     here_or_not u None box =
-        let none = unknown (movie_of st) [] movie.tracks are (suc u) (box_at u ∙ box) in
+        let none = unknown (movie_of st) [] [] movie.tracks are (suc u) (box_at u ∙ box) in
         let past : slice_get (accepted st) u ≡ None =
         slice_get_past (accepted st) u
         (⊎_elim
@@ -273,7 +288,7 @@ module _ (st : WriterState) (w : IsWrittenMovie st) (fits : length (whole_of st)
 
     at_each_id : (id : ℕ) → IsSame f g id
     at_each_id zero =
-        rw (unknown (movie_of st) [] movie.tracks are 0 (none_below 1 0 boxes counted (omega arith))) refl
+        rw (unknown (movie_of st) [] [] movie.tracks are 0 (none_below 1 0 boxes counted (omega arith))) refl
     at_each_id (suc u) = here_or_not u (slice_get boxes u) refl
 
   abbrev IsThere : ℕ → AcceptedTrack → Type 0
@@ -294,7 +309,7 @@ module _ (st : WriterState) (w : IsWrittenMovie st) (fits : length (whole_of st)
           let box : slice_get boxes u ≡ Some trak =
           slice_get-get_or boxes u no_box (omega (arith, there, w.count)) in
           let one = w.tracks u a trak (is ∙ ap Some same) box in
-          let t = known (movie_of st) [] movie.tracks are (suc u) trak (box_at u ∙ box) in
+          let t = known (movie_of st) [] [] movie.tracks are (suc u) trak (box_at u ∙ box) in
           rw t.is_there
           (subst (λ (b : TrakBox). IsDescribed b a.config) (sym t.box)
           (record {
@@ -305,16 +320,16 @@ module _ (st : WriterState) (w : IsWrittenMovie st) (fits : length (whole_of st)
           }))
 
   pub exactly : HasExactly movie (accepted st)
-  unfolding sample_in sample_count_in sample_count_of
+  unfolding sample_in sample_count_in
   exactly = record {
     tracks = described_at;
     samples = λ id k small.
-        ap (λ file. track_or id (at_id movie.tracks id) >>= λ t. sample_at file t.trak t.trafs k) bytes
-        ∙ at_each_id (λ t. sample_at (whole_of st) t.trak t.trafs k) (λ a. sample_number a.samples k)
-        (λ u a trak one t box trafs. read_at_number st (u + 1) a trak one fits t box trafs k small) id;
-    counts = at_each_id (λ t. sample_count_of t.trak t.trafs) (λ a. Ok (length a.samples))
-        (λ u a trak one t box trafs.
-        ap Ok (ap (λ (b : TrakBox). (tables_of b).stsz.sample_count) box ∙ one.count));
+        ap (λ file. track_or id (at_id movie.tracks id) >>= λ t. sample_at file t.trak t.trafs (track_runs t) k) bytes
+        ∙ at_each_id (λ t. sample_at (whole_of st) t.trak t.trafs (track_runs t) k) (λ a. sample_number a.samples k)
+        (λ u a trak one t box trafs runs. read_at_number st (u + 1) a trak one fits t box trafs k small) id;
+    counts = at_each_id (λ t. sample_count_of t.trak (track_runs t)) (λ a. Ok (length a.samples))
+        (λ u a trak one t box trafs runs.
+        counted_alone t runs ∙ ap Ok (ap (λ (b : TrakBox). (tables_of b).stsz.sample_count) box ∙ one.count));
   }
 
 -- bytes that are a file aren't opened only where memory ran out
@@ -347,16 +362,16 @@ module _ (session : Session) (empty : session.front ≡ []) (e : IsEnded session
       → OpensAs (λ movie. HasExactly movie (accepted_by session)) result
   read_back (Ok r) o =
       let same : finished ≡ opened_file r = ok_is finished (opened_file r) (o.opens finished is_file) in
-      let tracks : AreTracks (movie_of st) [] r.tracks =
-      subst (λ (f : OpenedFile). AreTracks f.moov f.moofs r.tracks) (sym same) o.tracks in
+      let tracks : AreTracks (movie_of st) [] [] r.tracks =
+      subst (λ (f : OpenedFile). AreTracks f.moov f.moofs f.moof_places r.tracks) (sym same) o.tracks in
       subst (HasExactly r) (session_accepts session e.answered)
       (exactly st (session_written session e) (subst (λ (bytes : List ℕ). length bytes < 2 ^ 64) is fits) r
       (o.holds ∙ is) tracks)
   read_back (Err error) o = wanted_memory finished error (o.opens finished is_file)
 
 -- A track of an opened file that no fragment names.
-module _ (r : Mp4Reader) (are : AreTracks r.moov r.moofs r.tracks) (opened : OpenedFile) (same : opened ≡ opened_file r)
-    (id : ℕ) (trak : TrakBox) (plain : IsPlainTrack opened id trak) where
+module _ (r : Mp4Reader) (are : AreTracks r.moov r.moofs r.moof_places r.tracks) (opened : OpenedFile)
+    (same : opened ≡ opened_file r) (id : ℕ) (trak : TrakBox) (plain : IsPlainTrack opened id trak) where
   pub record IsFoundTrack : Type 0 where
     pub track : Mp4Track
     pub is_there : at_id r.tracks id ≡ Some track
@@ -367,7 +382,7 @@ module _ (r : Mp4Reader) (are : AreTracks r.moov r.moofs r.tracks) (opened : Ope
   found_track =
       let there : trak_with_id r.moov.traks id ≡ Some trak =
       ap (λ (o : OpenedFile). trak_with_id o.moov.traks id) (sym same) ∙ plain.is_there in
-      let t = known r.moov r.moofs r.tracks are id trak there in
+      let t = known r.moov r.moofs r.moof_places r.tracks are id trak there in
       record {
         track = t.track;
         is_there = t.is_there;

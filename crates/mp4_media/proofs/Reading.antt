@@ -1,4 +1,5 @@
--- What is read of a sample: no step of a lookup wants memory, and without fragments the tables written out lead to it.
+-- What is read of a sample: no step of a lookup wants memory, and at the movie box's numbers the tables written out lead
+-- to it.
 use Rattle.std.proofs.Common.{◌≡◌, ℕ, ◌+◌, ◌-◌, ◌/◌, ◌^◌, ◌<◌, Bool, true, false, cond, eqb, leb, ltb, List, length, sum}
 use Rattle.std.proofs.Common.{Option, Some, None, Result, Ok, Err, subst}
 use Rattle.std.specs.Prelude.{slice_get, slice_range}
@@ -12,6 +13,8 @@ use Rattle.mp4_table.specs.Starts.{start_of}
 use Rattle.mp4_boxes.specs.declared.stbl.StblBox.{StblBox}
 use Rattle.mp4_boxes.specs.declared.trak.TrakBox.{TrakBox}
 use Rattle.mp4_boxes.specs.declared.traf.TrafBox.{TrafBox}
+use Rattle.mp4_fragments.specs.declared.members.Member.{Member}
+use Rattle.mp4_fragments.specs.Members.{PlacedRun, all_members}
 use Rattle.mp4_lookup.specs.declared.track.Mp4Track.{Mp4Track}
 use Rattle.mp4_lookup.specs.Places.{Place}
 use Rattle.mp4_lookup.specs.Plain.{Consistent}
@@ -19,7 +22,8 @@ use Rattle.mp4_lookup.specs.Rule.{if_there, usable, entry_for, chunk_number, chu
 use Rattle.mp4_lookup.specs.Rule.{first_in_chunk, spot_at, rule}
 use Rattle.mp4_lookup.specs.Samples.{read_in, sample_at, plain_sample_at}
 use Rattle.mp4_lookup.specs.Tables.{chunk_offsets, sizes}
-use Rattle.mp4_lookup.specs.Tracks.{tables_of, is_of_movie, answer_at}
+use Rattle.mp4_lookup.specs.Tracks.{tables_of, is_of_movie, begins_at, member_place, answer_at}
+use Rattle.mp4_lookup.specs.TrackRuns.{track_runs}
 use Rattle.mp4_lookup.specs.TrackLaws.{sample_is_plain}
 use Rattle.mp4_media.specs.MovieTracks.{at_id}
 use Rattle.mp4_media.specs.Reading.{track_or, needed_track, sample_in}
@@ -107,11 +111,22 @@ rule-none t track k =
     (λ spot. there spot _ (λ found. next (time_at t.stts.entries track k) _ (time-none t.stts.entries track k)
     (λ time. tt)))
 
-answer-none : (trak : TrakBox) (trafs : List TrafBox) (k : ℕ) → WantsNone (answer_at trak trafs k)
+member-none : (o : Option Member) → WantsNone (member_place o)
+member-none None = tt
+member-none (Some m) = by m.at.place m.at.time
+  where
+    by : (place time : Option ℕ) → WantsNone (begins_at place time m)
+    by (Some place) (Some time) = tt
+    by None time = invalid
+    by (Some place) None = invalid
+
+answer-none : (trak : TrakBox) (trafs : List TrafBox) (runs : List PlacedRun) (k : ℕ)
+    → WantsNone (answer_at trak trafs runs k)
 unfolding answer_at
-answer-none trak trafs k =
-    either (is_of_movie trak trafs k) (rule (tables_of trak) trak.tkhd.track_id k) (Ok None)
-    (rule-none (tables_of trak) trak.tkhd.track_id k) tt
+answer-none trak trafs runs k =
+    let member : Option Member = slice_get (all_members runs) (k - (tables_of trak).stsz.sample_count - 1) in
+    either (is_of_movie trak trafs k) (rule (tables_of trak) trak.tkhd.track_id k) (member_place member)
+    (rule-none (tables_of trak) trak.tkhd.track_id k) (member-none member)
 
 read-none : (file : List ℕ) (p : Option Place) → WantsNone (read_in file p)
 read-none file None = tt
@@ -126,14 +141,16 @@ module _ {S : Type 0} (file : List ℕ) (tracks : HashMap ℕ Mp4Track S) (id k 
   unfolding sample_in sample_at
   sample-none =
       next (needed_track tracks id) _ (known (at_id tracks id))
-      (λ t. next (answer_at t.trak t.trafs k) (read_in file) (answer-none t.trak t.trafs k) (read-none file))
+      (λ t. next (answer_at t.trak t.trafs (track_runs t) k) (read_in file) (answer-none t.trak t.trafs (track_runs t) k)
+      (read-none file))
 
   -- no sample is refused for want of memory
   pub sample_wants_none : (c : Cause) → sample_in file tracks id k ≡ Err c → c ≡ out_of_memory → ⊥
   sample_wants_none c e = subst WantsNone e sample-none
 
-  -- a track that no fragment names, of tables that agree
-  pub sample_in-plain : (t : Mp4Track) → at_id tracks id ≡ Some t → length t.trafs ≡ 0 → Consistent (tables_of t.trak)
-      → k < 2 ^ 32 → sample_in file tracks id k ≡ plain_sample_at file (tables_of t.trak) k
+  -- a number of the movie box, whose tables agree
+  pub sample_in-plain : (t : Mp4Track) → at_id tracks id ≡ Some t → is_of_movie t.trak t.trafs k ≡ true
+      → Consistent (tables_of t.trak) → k < 2 ^ 32 → sample_in file tracks id k ≡ plain_sample_at file (tables_of t.trak) k
   unfolding sample_in
-  sample_in-plain t is whole fits small = rw is (sample_is_plain file t.trak t.trafs k whole fits t.numbered small)
+  sample_in-plain t is whole fits small =
+      rw is (sample_is_plain file t.trak t.trafs (track_runs t) k whole fits t.numbered small)

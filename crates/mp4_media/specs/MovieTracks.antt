@@ -1,6 +1,6 @@
 -- The tracks of an opened movie by their ids, each with its fragments (ISO/IEC 14496-12, 8.3.2, 8.8.3 and 8.8.7).
 use Rattle.std.specs.Prelude.{◌≡◌, ◌⊎◌, ℕ, nat_eq, Bool, List, [], Option, Some, None, is_some, unwrap_or, length}
-use Rattle.std.specs.Prelude.{option_map, Result, Ok, Err, ◌==◌, if◌then◌else◌}
+use Rattle.std.specs.Prelude.{option_map, Result, Ok, Err, ◌==◌, map, zip, if◌then◌else◌}
 use Rattle.std.specs.List.{AllByRecursion, filter, flat_map}
 use Rattle.std.specs.HashMap.{HashMap, get}
 use Rattle.mp4_codec.specs.declared.error.Error.{Error}
@@ -15,8 +15,14 @@ use Rattle.mp4_boxes.specs.declared.trak.TrakBox.{TrakBox}
 use Rattle.mp4_boxes.specs.declared.mvex.MvexBox.{MvexBox}
 use Rattle.mp4_boxes.specs.declared.moof.MoofBox.{MoofBox}
 use Rattle.mp4_boxes.specs.declared.traf.TrafBox.{TrafBox}
+use Rattle.mp4_fragments.specs.declared.defaults.SampleDefaults.{SampleDefaults}
+use Rattle.mp4_fragments.specs.Bases.{bases_of}
+use Rattle.mp4_fragments.specs.Defaults.{defaults_of_trex, no_defaults}
+use Rattle.mp4_fragments.specs.Fragments.{placed_runs}
+use Rattle.mp4_fragments.specs.Members.{PlacedRun}
 use Rattle.mp4_lookup.specs.declared.track.Mp4Track.{Mp4Track}
-use Rattle.mp4_lookup.specs.Tracks.{tables_of}
+use Rattle.mp4_lookup.specs.TrackRuns.{track_runs}
+use Rattle.mp4_lookup.specs.Tracks.{tables_of, movie_end}
 
 -- the box of the track with this id: of equal ids the last
 abbrev pub trak_with_id : List TrakBox → ℕ → Option TrakBox
@@ -35,34 +41,54 @@ abbrev pub trexs_in : Option MvexBox → List TrexBox
 trexs_in None = []
 trexs_in (Some mvex) = mvex.trexs
 
--- how long a fragment's sample lasts that says nothing of it: by the last defaults of this track, if there are any
-abbrev pub duration_with_id : List TrexBox → ℕ → Option ℕ
-duration_with_id trexs id =
-    option_map (λ (x : TrexBox). x.default_sample_duration)
-    (last (filter (λ (x : TrexBox). x.track_id == id) trexs))
+-- what the movie says of the samples of this track's fragments: its last defaults count, if there are any
+abbrev pub defaults_with_id : List TrexBox → ℕ → Option SampleDefaults
+defaults_with_id trexs id =
+    option_map defaults_of_trex (last (filter (λ (x : TrexBox). x.track_id == id) trexs))
 
--- the same of a track with these fragments: 0 where there are no defaults, and without fragments
-abbrev pub default_duration : List TrafBox → Option ℕ → ℕ
-default_duration trafs duration = if length trafs == 0 then 0 else unwrap_or duration 0
+-- and 0 for all where it says nothing
+abbrev pub movie_defaults : MoovBox → ℕ → SampleDefaults
+movie_defaults moov id = unwrap_or (defaults_with_id (trexs_in moov.mvex) id) no_defaults
 
--- a track of an opened movie: what the movie says of it, and its fragments
+-- How long a sample of these fragments lasts where neither its run nor its fragment says so; 0 without fragments.
+abbrev pub default_duration : List TrafBox → SampleDefaults → ℕ
+default_duration trafs defaults = if length trafs == 0 then 0 else defaults.duration
+
+-- of the bases of these parts of a fragment, those of this track's
+unfoldable pub own_bases : ℕ → List TrafBox → List (Option ℕ) → List (Option ℕ)
+own_bases id trafs bases =
+    map (λ (x : TrafBox × Option ℕ). x.1) (filter (λ (x : TrafBox × Option ℕ). x.0.tfhd.track_id == id) (zip trafs bases))
+
+-- The bases of this track's parts of the fragments, which begin at these places: a part may rest on the data of another
+-- track's.
+unfoldable pub track_bases : (ℕ → SampleDefaults) → List MoofBox → List ℕ → ℕ → List (Option ℕ)
+track_bases defaults moofs places id =
+    flat_map (λ (x : MoofBox × ℕ). own_bases id x.0.trafs (bases_of defaults x.1 x.0.trafs)) (zip moofs places)
+
+-- a track of an opened movie: what the movie says of it, its fragments, and the runs that they add
 pub record OpenedTrack : Type 0 where
   pub trak : TrakBox
   pub trafs : List TrafBox
   pub default_sample_duration : ℕ
+  pub runs : List PlacedRun
 
-abbrev pub with_fragments : MoovBox → List MoofBox → TrakBox → OpenedTrack
-with_fragments moov moofs trak = record {
-  trak = trak;
-  trafs = trafs_of (trafs_in moofs) trak.tkhd.track_id;
-  default_sample_duration =
-      default_duration (trafs_of (trafs_in moofs) trak.tkhd.track_id)
-      (duration_with_id (trexs_in moov.mvex) trak.tkhd.track_id);
-}
+-- The track with this box, to which these fragments add samples: they begin at these places, and its first run at the
+-- end of the samples of its box.
+abbrev pub with_fragments : MoovBox → List MoofBox → List ℕ → TrakBox → OpenedTrack
+with_fragments moov moofs places trak =
+    let id = trak.tkhd.track_id in
+    let trafs = trafs_of (trafs_in moofs) id in
+    record {
+      trak = trak;
+      trafs = trafs;
+      default_sample_duration = default_duration trafs (movie_defaults moov id);
+      runs =
+          placed_runs (movie_defaults moov id) (movie_end trak) trafs (track_bases (movie_defaults moov) moofs places id);
+    }
 
--- the track with this id in an opened movie with these fragments
-unfoldable pub track_at : MoovBox → List MoofBox → ℕ → Option OpenedTrack
-track_at moov moofs id = option_map (with_fragments moov moofs) (trak_with_id moov.traks id)
+-- the track with this id in an opened movie with these fragments, which begin at these places
+unfoldable pub track_at : MoovBox → List MoofBox → List ℕ → ℕ → Option OpenedTrack
+track_at moov moofs places id = option_map (with_fragments moov moofs places) (trak_with_id moov.traks id)
 
 -- ids of tracks count from 1
 abbrev pub zero_id : TrakBox → Option Cause
@@ -92,7 +118,12 @@ RefusedBy cause (Err e) = (e ≡ OutOfMemory) ⊎ (cause ≡ Some (cause_of e))
 
 -- a track that was made, as the opened movie has it
 abbrev pub opened_track : Mp4Track → OpenedTrack
-opened_track t = record { trak = t.trak; trafs = t.trafs; default_sample_duration = t.default_sample_duration }
+opened_track t = record {
+  trak = t.trak;
+  trafs = t.trafs;
+  default_sample_duration = t.default_sample_duration;
+  runs = track_runs t;
+}
 
 module _ {X S : Type 0} where
   -- what is kept for an id
@@ -109,6 +140,17 @@ module _ {S : Type 0} where
   fragments_at m id = unwrap_or (at_id m id) []
 
 module _ {S : Type 0} where
-  -- at each id there is the opened movie's track
-  abbrev pub AreTracks : MoovBox → List MoofBox → HashMap ℕ Mp4Track S → Type 0
-  AreTracks moov moofs tracks = (id : ℕ) → option_map opened_track (at_id tracks id) ≡ track_at moov moofs id
+  -- the bases that are kept for an id
+  abbrev pub bases_at : HashMap ℕ (List (Option ℕ)) S → ℕ → List (Option ℕ)
+  bases_at m id = unwrap_or (at_id m id) []
+
+module _ {S : Type 0} where
+  -- the defaults that are kept for an id: 0 for all where there are none
+  abbrev pub defaults_at : HashMap ℕ SampleDefaults S → ℕ → SampleDefaults
+  defaults_at m id = unwrap_or (at_id m id) no_defaults
+
+module _ {S : Type 0} where
+  -- at each id there is the opened movie's track, with the samples of fragments that begin at these places
+  abbrev pub AreTracks : MoovBox → List MoofBox → List ℕ → HashMap ℕ Mp4Track S → Type 0
+  AreTracks moov moofs places tracks =
+      (id : ℕ) → option_map opened_track (at_id tracks id) ≡ track_at moov moofs places id

@@ -10,6 +10,7 @@ use Rattle.mp4_boxes.specs.declared.moov.MoovBox.{MoovBox}
 use Rattle.mp4_lookup.specs.declared.track.Mp4Track.{Mp4Track}
 use Rattle.mp4_lookup.specs.Rates.{sample_count_of}
 use Rattle.mp4_lookup.specs.Samples.{TimedSample, sample_at}
+use Rattle.mp4_lookup.specs.TrackRuns.{track_runs}
 use Rattle.mp4_media.specs.MovieTracks.{at_id}
 
 abbrev pub ilst_of_meta : Option MetaBox → Option IlstBox
@@ -41,8 +42,8 @@ module _ {S : Type 0} where
 
   -- what is read at number k of the track with this id
   unfoldable pub sample_in : List ℕ → HashMap ℕ Mp4Track S → ℕ → ℕ → Result (Option TimedSample) Cause
-  sample_in file tracks id k = needed_track tracks id >>= λ t. sample_at file t.trak t.trafs k
+  sample_in file tracks id k = needed_track tracks id >>= λ t. sample_at file t.trak t.trafs (track_runs t) k
 
   -- how many samples the track with this id has
   unfoldable pub sample_count_in : HashMap ℕ Mp4Track S → ℕ → Result ℕ Cause
-  sample_count_in tracks id = needed_track tracks id >>= λ t. sample_count_of t.trak t.trafs
+  sample_count_in tracks id = needed_track tracks id >>= λ t. sample_count_of t.trak (track_runs t)

@@ -74,7 +74,7 @@ pub record HasExactly (movie : Mp4Reader) (accepted : List AcceptedTrack) : Type
 pub record IsOpening (bytes : List ℕ) (result : Result Mp4Reader Error) : Type 0 where
   pub opens : (opened : OpenedFile) → IsFile (length bytes) (here bytes 0) opened → Answers opened_file result (Ok opened)
   pub holds : IfOk result (λ movie. movie.bytes.now ≡ bytes)
-  pub tracks : IfOk result (λ movie. AreTracks movie.moov movie.moofs movie.tracks)
+  pub tracks : IfOk result (λ movie. AreTracks movie.moov movie.moofs movie.moof_places movie.tracks)
 
 -- bytes open, or memory ran out; where they open, this holds of the movie
 abbrev pub OpensAs : (Mp4Reader → Type 0) → Result Mp4Reader Error → Type 0

@@ -2,6 +2,7 @@
 #![tactic(auto)]
 
 mod calls;
+mod fragments;
 mod laws;
 mod opening;
 mod reader;
@@ -50,14 +51,20 @@ pub use mp4_boxes::{
     MoovBox, MvexBox, StblBox, TrafBox, TrakBox, UdtaBox, equal_keys_hash_alike,
     read_tables_have_first_samples,
 };
+pub use mp4_fragments::{
+    Beginning, FoundMember, Member, RunIndex, SampleDefaults, index_of, traf_base, traf_end,
+};
 pub use mp4_lookup::{
     Comparisons, Mp4Sample, Mp4Track, SamplePlace, SampleRef, rule_is_plain_expansion, time_of,
 };
 pub use mp4_mux::{
-    Mp4Config, TrackConfig, an_end_closes_one_chunk_a_track, an_end_writes_the_accepted_samples,
-    calls_accept_their_samples, chunks_are_just_full, described_samples_are_found,
-    interleavings_accept_the_same, mdat_header,
+    ChunkPlace, ChunkRef, Durations, Mp4Config, SampleInfo, TrackConfig, TrackWriter, add_sample,
+    an_end_closes_one_chunk_a_track, an_end_writes_the_accepted_samples, begin,
+    calls_accept_their_samples, check_file_type, check_movie, chunks_are_just_full,
+    described_samples_are_found, file_type, file_type_size, finish, interleavings_accept_the_same,
+    mdat_header, movie_size, pending_bytes, put_movie,
 };
+pub use mp4_search::{Found, Readings, RunningSizes, SearchedNumbers, last_at_most};
 pub use reader::{Mp4Reader, read_mp4};
 pub use round_trip::{FoundSample, RoundTrip, SampleQuery, find_sample, write_and_read};
 pub use writer::Mp4Writer;

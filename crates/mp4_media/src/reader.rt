@@ -7,7 +7,7 @@ ghost use Rattle.mp4_lookup.specs.declared.track.Mp4Track.{Mp4Track};
 ghost use Rattle.mp4_lookup.specs.Plain.{Consistent};
 ghost use Rattle.mp4_lookup.specs.Samples.{TimedSample, lent_sample, plain_sample_at, timed_sample};
 ghost use Rattle.mp4_lookup.specs.Time.{time_of};
-ghost use Rattle.mp4_lookup.specs.Tracks.{tables_of};
+ghost use Rattle.mp4_lookup.specs.Tracks.{tables_of, is_of_movie};
 ghost use Rattle.mp4_media.specs.FileBoxes.{OpenedFile, opened_file};
 ghost use Rattle.mp4_media.specs.FileGrammar.{IsFile, IsFaultyFile};
 ghost use Rattle.mp4_media.specs.MovieTracks.{AreTracks, at_id};
@@ -53,7 +53,7 @@ pub struct Mp4Reader<'a> {
 fn open<'a>(alloc: Global, reader: ByteCursor<'a>, size: u64) -> Result<Mp4Reader<'a>>
     ensures answer { Answers opened_file result (opened_at size reader.entry) }
     ensures bytes { IfOk result (λ r. r.bytes.now ≡ reader.entry.bytes) }
-    ensures tracks { IfOk result (λ r. AreTracks r.moov r.moofs r.tracks) }
+    ensures tracks { IfOk result (λ r. AreTracks r.moov r.moofs r.moof_places r.tracks) }
 {
     let mut reader = reader;
     let start = reader.position();
@@ -66,7 +66,7 @@ fn open<'a>(alloc: Global, reader: ByteCursor<'a>, size: u64) -> Result<Mp4Reade
     } = find_boxes(alloc, &mut reader, size)?;
     let ftyp = required(ftyp)?;
     let moov = required(moov)?;
-    let tracks = tracks_of(alloc, &moov, moofs.as_slice())?;
+    let tracks = tracks_of(alloc, &moov, moofs.as_slice(), moof_places.as_slice())?;
     Ok(Mp4Reader {
         bytes: reader.bytes(),
         ftyp,
@@ -96,14 +96,15 @@ impl<'a> Mp4Reader<'a> {
     /// Then `BoxNotFound` for a missing ftyp, and for a missing moov; `InvalidData` where a track of the last moov has
     /// the id 0; and `TrakNotFound` for the first fragment in file order whose track the last moov doesn't have.
     ///
-    /// Of tracks with equal ids the last is opened. The fragments of a track are its trafs in file order (8.8.6).
+    /// Of tracks with equal ids the last is opened. The fragments of a track are its trafs in file order (8.8.6). Their
+    /// runs are placed by one pass over all fragments, and then one over those of each track; no sample is written out.
     pub fn read_header(alloc: Global, reader: ByteCursor<'a>, size: u64) -> Result<Self>
         ensures file { IfOk result (λ r. IsFile size reader.entry (opened_file r)) }
         ensures opens { (opened : OpenedFile) → IsFile size reader.entry opened → Answers opened_file result (Ok opened) }
         ensures fault { IfErr result (λ e. (e ≡ Error.OutOfMemory) ⊎ IsFaultyFile size reader.entry (cause_of e)) }
         ensures refused { (c : Cause) → IsFaultyFile size reader.entry c → Answers opened_file result (Err c) }
         ensures bytes { IfOk result (λ r. r.bytes.now ≡ reader.entry.bytes) }
-        ensures tracks { IfOk result (λ r. AreTracks r.moov r.moofs r.tracks) }
+        ensures tracks { IfOk result (λ r. AreTracks r.moov r.moofs r.moof_places r.tracks) }
     {
         open(alloc, reader, size)
     }
@@ -208,7 +209,7 @@ impl<'a> Mp4Reader<'a> {
     /// `EndOfData` where the sample doesn't lie whole in the bytes. Where memory runs out, there is such a sample.
     pub fn read_sample(&mut self, track_id: u32, k: u32) -> Result<Option<Mp4Sample>>
         ensures rule { Answers (λ s. option_map timed_sample s) result (sample_in self.old.bytes.now self.old.tracks track_id k) }
-        ensures plain { (t : Mp4Track) → at_id self.old.tracks track_id ≡ Some t → length t.trafs ≡ 0 → Consistent (tables_of t.trak) → Answers (λ s. option_map timed_sample s) result (plain_sample_at self.old.bytes.now (tables_of t.trak) k) }
+        ensures plain { (t : Mp4Track) → at_id self.old.tracks track_id ≡ Some t → IsTrue (is_of_movie t.trak t.trafs k) → Consistent (tables_of t.trak) → Answers (λ s. option_map timed_sample s) result (plain_sample_at self.old.bytes.now (tables_of t.trak) k) }
         ensures memory { IfErr result (λ e. e ≡ Error.OutOfMemory → IsSample (sample_in self.old.bytes.now self.old.tracks track_id k)) }
         ensures same { self.new ≡ self.old }
     {
@@ -229,7 +230,7 @@ impl<'a> Mp4Reader<'a> {
     /// reader is gone. It takes no memory; all else is as in [`Mp4Reader::read_sample`].
     pub fn read_sample_ref(&self, track_id: u32, k: u32) -> Result<Option<SampleRef<'a>>>
         ensures rule { Gives (λ s. option_map lent_sample s) result (sample_in self.now.bytes.now self.now.tracks track_id k) }
-        ensures plain { (t : Mp4Track) → at_id self.now.tracks track_id ≡ Some t → length t.trafs ≡ 0 → Consistent (tables_of t.trak) → Gives (λ s. option_map lent_sample s) result (plain_sample_at self.now.bytes.now (tables_of t.trak) k) }
+        ensures plain { (t : Mp4Track) → at_id self.now.tracks track_id ≡ Some t → IsTrue (is_of_movie t.trak t.trafs k) → Consistent (tables_of t.trak) → Gives (λ s. option_map lent_sample s) result (plain_sample_at self.now.bytes.now (tables_of t.trak) k) }
     {
         self.lent(track_id, k)
     }
@@ -262,7 +263,7 @@ pub fn read_mp4(alloc: Global, bytes: &[u8]) -> Result<Mp4Reader<'_>>
     ensures fault { IfErr result (λ e. (e ≡ Error.OutOfMemory) ⊎ IsFaultyFile (length bytes.now) (here bytes.now 0) (cause_of e)) }
     ensures refused { (c : Cause) → IsFaultyFile (length bytes.now) (here bytes.now 0) c → Answers opened_file result (Err c) }
     ensures bytes { IfOk result (λ r. r.bytes.now ≡ bytes.now) }
-    ensures tracks { IfOk result (λ r. AreTracks r.moov r.moofs r.tracks) }
+    ensures tracks { IfOk result (λ r. AreTracks r.moov r.moofs r.moof_places r.tracks) }
 {
     Mp4Reader::read_header(alloc, ByteCursor::new(bytes), bytes.len() as u64)
 }

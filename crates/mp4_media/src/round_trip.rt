@@ -1,12 +1,12 @@
 //! What the library promises above all, as the contract of one call: what is written is read back, and what is found in
 //! any file is what its tables say.
 
-ghost use Rattle.std.specs.Prelude.{◌≡◌, ◌⊎◌, true, [], IfErr, IfOk, Some, length};
+ghost use Rattle.std.specs.Prelude.{◌≡◌, ◌⊎◌, true, [], IfErr, IfOk, IsTrue, Some, length};
 ghost use Rattle.mp4_codec.specs.Cause.{cause_of};
 ghost use Rattle.mp4_codec.specs.Cursor.{here};
 ghost use Rattle.mp4_lookup.specs.declared.track.Mp4Track.{Mp4Track};
 ghost use Rattle.mp4_lookup.specs.Plain.{Consistent};
-ghost use Rattle.mp4_lookup.specs.Tracks.{tables_of};
+ghost use Rattle.mp4_lookup.specs.Tracks.{tables_of, is_of_movie};
 ghost use Rattle.mp4_mux.specs.Calls.{Answered, accepted_after, after, has_end};
 ghost use Rattle.mp4_mux.specs.Writing.{start_cause, started, whole_of};
 ghost use Rattle.mp4_media.specs.MovieTracks.{at_id};
@@ -62,7 +62,7 @@ pub struct RoundTrip<'w, 'f> {
 
 /// Where a sample of an opened movie lies.
 fn place_in(movie: &Mp4Reader, track_id: u32, number: u32) -> Result<Option<SamplePlace>>
-    ensures plain { (t : Mp4Track) → at_id movie.now.tracks track_id ≡ Some t → length t.trafs ≡ 0 → Consistent (tables_of t.trak) → IsPlace (tables_of t.trak) number result }
+    ensures plain { (t : Mp4Track) → at_id movie.now.tracks track_id ≡ Some t → IsTrue (is_of_movie t.trak t.trafs number) → Consistent (tables_of t.trak) → IsPlace (tables_of t.trak) number result }
 {
     movie.track(track_id)?.locate(number)
 }

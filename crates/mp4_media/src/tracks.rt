@@ -1,17 +1,22 @@
 //! The tracks of a movie that is opened, by their ids.
 
-ghost use Rattle.std.specs.Prelude.{◌≡◌, ℕ, ◌++◌, IfOk, IfErr, OnOk};
+ghost use Rattle.std.specs.Prelude.{◌≡◌, length, IfOk, IfErr};
 ghost use Rattle.mp4_codec.specs.Cause.{Checks};
 ghost use Rattle.mp4_codec.specs.Boxes.{all_refusal};
 ghost use Rattle.mp4_table.specs.Stsc.{HasFirstSamples};
-ghost use Rattle.mp4_lookup.specs.Tracks.{tables_of};
-ghost use Rattle.mp4_media.specs.MovieTracks.{AreTracks, HaveFirstSamples, RefusedBy, at_id, default_duration, duration_with_id, fragments_at, has_id, id_fault, trafs_in, trafs_of, trexs_in, unknown_id, unknown_ids, zero_id};
+ghost use Rattle.mp4_fragments.specs.Fragments.{placed_runs};
+ghost use Rattle.mp4_lookup.specs.TrackRuns.{track_runs};
+ghost use Rattle.mp4_lookup.specs.Tracks.{tables_of, movie_end};
+ghost use Rattle.mp4_media.specs.MovieTracks.{AreTracks, HaveFirstSamples, RefusedBy, default_duration, has_id, id_fault, unknown_id, unknown_ids, zero_id};
 
-use mp4_boxes::{MoofBox, MoovBox, MvexBox, TrafBox, TrakBox};
+use crate::fragments::{
+    bases_by_id, bases_with_id, defaults_by_id, fragments_by_id, track_defaults, trexs_of,
+};
+use mp4_boxes::{MoofBox, MoovBox, TrafBox, TrakBox};
 use mp4_codec::{Error, Items, Result, TryClone};
-use mp4_frag::TrexBox;
+use mp4_fragments::SampleDefaults;
 use mp4_lookup::Mp4Track;
-use std::alloc::{AllocError, Global};
+use std::alloc::Global;
 use std::collections::HashMap;
 
 /// `InvalidData` where the id of a track is 0.
@@ -56,97 +61,41 @@ fn check_fragments(tracks: &HashMap<u32, Mp4Track>, moofs: &[MoofBox]) -> Result
     Ok(())
 }
 
-/// Adds a copy of each of these fragments to those of its track.
-fn add_trafs(
-    alloc: Global,
-    fragments: &mut HashMap<u32, Items<TrafBox>>,
-    trafs: &[TrafBox],
-) -> Result<()>
-    ensures memory { IfErr result (λ e. e ≡ Error.OutOfMemory) }
-    ensures added { OnOk result ((id : ℕ) → fragments_at fragments.new id ≡ fragments_at fragments.old id ++ trafs_of trafs.now id) }
-{
-    for traf in trafs {
-        let copy = traf.try_clone()?;
-        fragments
-            .entry(traf.tfhd.track_id)?
-            .or_insert(Items::new(alloc))
-            .push(copy)?;
-    }
-    Ok(())
-}
-
-/// Copies of all fragments, for each track in file order.
-fn fragments_by_id(alloc: Global, moofs: &[MoofBox]) -> Result<HashMap<u32, Items<TrafBox>>>
-    ensures memory { IfErr result (λ e. e ≡ Error.OutOfMemory) }
-    ensures all { IfOk result (λ m. (id : ℕ) → fragments_at m id ≡ trafs_of (trafs_in moofs.now) id) }
-{
-    let mut fragments = HashMap::new(alloc);
-    for moof in moofs {
-        add_trafs(alloc, &mut fragments, moof.trafs.as_slice())?;
-    }
-    Ok(fragments)
-}
-
-/// What the movie says of the fragments of each track.
-fn trexs_of(mvex: &Option<MvexBox>) -> &[TrexBox]
-    ensures { result.now ≡ trexs_in mvex.now }
-{
-    match mvex {
-        Some(mvex) => mvex.trexs.as_slice(),
-        None => &[],
-    }
-}
-
-/// How long a fragment's sample lasts that says nothing of it, by the last defaults of each track.
-fn durations_by_id(
-    alloc: Global,
-    trexs: &[TrexBox],
-) -> std::result::Result<HashMap<u32, u32>, AllocError>
-    ensures { IfOk result (λ m. (id : ℕ) → at_id m id ≡ duration_with_id trexs.now id) }
-{
-    let mut durations = HashMap::new(alloc);
-    for trex in trexs {
-        durations.insert(trex.track_id, trex.default_sample_duration)?;
-    }
-    Ok(durations)
-}
-
-/// How long a sample of these fragments of a track lasts that says nothing of it.
-fn default_duration(trafs: &Items<TrafBox>, durations: &HashMap<u32, u32>, id: u32) -> u32
-    ensures { result ≡ default_duration trafs.now (at_id durations.now id) }
-{
-    if trafs.is_empty() {
-        return 0;
-    }
-    durations.get(&id).copied().unwrap_or(0)
-}
-
-/// A track with a copy of its box, its fragments, and the duration of those of its samples that say none.
+/// A track with a copy of its box, and its fragments, whose places count from these bases.
 fn track_with(
     alloc: Global,
     trak: &TrakBox,
     trafs: Items<TrafBox>,
-    durations: &HashMap<u32, u32>,
+    bases: &[Option<u64>],
+    defaults: SampleDefaults,
 ) -> Result<Mp4Track>
-    requires { HasFirstSamples (tables_of trak.now).stsc.entries }
+    requires first_samples { HasFirstSamples (tables_of trak.now).stsc.entries }
+    requires bases { length bases.now ≡ length trafs }
     ensures memory { IfErr result (λ e. e ≡ Error.OutOfMemory) }
     ensures trak { IfOk result (λ t. t.trak ≡ trak.now) }
     ensures trafs { IfOk result (λ t. t.trafs ≡ trafs) }
-    ensures duration { IfOk result (λ t. t.default_sample_duration ≡ default_duration trafs (at_id durations.now trak.now.tkhd.track_id)) }
+    ensures runs { IfOk result (λ t. track_runs t ≡ placed_runs defaults (movie_end trak.now) trafs bases.now) }
+    ensures duration { IfOk result (λ t. t.default_sample_duration ≡ default_duration trafs defaults) }
 {
-    let duration = default_duration(&trafs, durations, trak.tkhd.track_id);
-    let track = Mp4Track::new(alloc, trak.try_clone()?, trafs, duration)?;
+    let track = Mp4Track::new(alloc, trak.try_clone()?, trafs, bases, defaults)?;
     Ok(track)
 }
 
-/// The tracks of a movie by their ids, each with its fragments; of equal ids the last.
-fn made_tracks(alloc: Global, moov: &MoovBox, moofs: &[MoofBox]) -> Result<HashMap<u32, Mp4Track>>
-    requires { HaveFirstSamples moov.now.traks }
+/// The tracks of a movie by their ids, each with its fragments, which begin at these places; of equal ids the last.
+fn made_tracks(
+    alloc: Global,
+    moov: &MoovBox,
+    moofs: &[MoofBox],
+    places: &[u64],
+) -> Result<HashMap<u32, Mp4Track>>
+    requires first_samples { HaveFirstSamples moov.now.traks }
+    requires places { length places.now ≡ length moofs.now }
     ensures memory { IfErr result (λ e. e ≡ Error.OutOfMemory) }
-    ensures tracks { IfOk result (λ m. AreTracks moov.now moofs.now m) }
+    ensures tracks { IfOk result (λ m. AreTracks moov.now moofs.now places.now m) }
 {
     let mut fragments = fragments_by_id(alloc, moofs)?;
-    let durations = durations_by_id(alloc, trexs_of(&moov.mvex))?;
+    let defaults = defaults_by_id(alloc, trexs_of(&moov.mvex))?;
+    let bases = bases_by_id(alloc, moofs, places, &defaults)?;
     let traks = moov.traks.as_slice();
     let mut tracks = HashMap::new(alloc);
     for index in (0..traks.len()).rev() {
@@ -154,13 +103,16 @@ fn made_tracks(alloc: Global, moov: &MoovBox, moofs: &[MoofBox]) -> Result<HashM
         let id = trak.tkhd.track_id;
         if !has_track(&tracks, id) {
             let trafs = fragments.remove(&id).unwrap_or(Items::new(alloc));
-            tracks.insert(id, track_with(alloc, trak, trafs, &durations)?)?;
+            let of_movie = track_defaults(&defaults, id);
+            let track = track_with(alloc, trak, trafs, bases_with_id(&bases, id), of_movie)?;
+            tracks.insert(id, track)?;
         }
     }
     Ok(tracks)
 }
 
-/// The tracks of a movie by their ids, each with its fragments; of equal ids the last. An index of each is made, once.
+/// The tracks of a movie by their ids, each with its fragments, which begin at these places; of equal ids the last. The
+/// indexes of each are made, once.
 ///
 /// `InvalidData` where the id of a track is 0, then `TrakNotFound` for the first fragment in file order whose track
 /// isn't there.
@@ -169,13 +121,15 @@ pub(crate) fn tracks_of(
     alloc: Global,
     moov: &MoovBox,
     moofs: &[MoofBox],
+    places: &[u64],
 ) -> Result<HashMap<u32, Mp4Track>>
-    requires { HaveFirstSamples moov.now.traks }
+    requires first_samples { HaveFirstSamples moov.now.traks }
+    requires places { length places.now ≡ length moofs.now }
     ensures fault { RefusedBy (id_fault moov.now moofs.now) result }
-    ensures tracks { IfOk result (λ m. AreTracks moov.now moofs.now m) }
+    ensures tracks { IfOk result (λ m. AreTracks moov.now moofs.now places.now m) }
 {
     check_track_ids(moov.traks.as_slice())?;
-    let tracks = made_tracks(alloc, moov, moofs)?;
+    let tracks = made_tracks(alloc, moov, moofs, places)?;
     check_fragments(&tracks, moofs)?;
     Ok(tracks)
 }

@@ -7,6 +7,7 @@ use Rattle.mp4_boxes.specs.declared.trak.TrakBox.{TrakBox}
 use Rattle.mp4_lookup.specs.Plain.{Consistent}
 use Rattle.mp4_lookup.specs.Samples.{timed_sample, plain_sample_at}
 use Rattle.mp4_lookup.specs.Tracks.{tables_of}
+use Rattle.mp4_lookup.specs.TrackLaws.{unfragmented_is_of_movie}
 use Rattle.mp4_media.specs.FileBoxes.{opened_file}
 use Rattle.mp4_media.specs.RoundTrip.{IsPlace}
 use Rattle.mp4_media.proofs.ReadBack.{wanted_memory, found_track}
@@ -31,15 +32,16 @@ returns c = record {
       let t = found_track movie c.in_ok-movie.ensures.tracks opened same query.track_id trak plain in
       let fits : Consistent (tables_of t.track.trak) =
       subst (λ (b : TrakBox). Consistent (tables_of b)) (sym t.box) plain.consistent in
+      let of_movie = unfragmented_is_of_movie t.track.trak t.track.trafs query.number t.unfragmented in
       let bytes : movie.bytes.now ≡ query.bytes.now =
       rw (c.set_position.ensures, c.new-file.ensures) at c.in_ok-movie.ensures.bytes in
       record {
         place = subst (λ (b : TrakBox). IsPlace (tables_of b) query.number c.place_in-place.result) t.box
-            (c.place_in-place.ensures.plain t.track t.is_there t.unfragmented fits);
+            (c.place_in-place.ensures.plain t.track t.is_there of_movie fits);
         sample = subst (λ (file : List ℕ). Answers (λ s. option_map timed_sample s) c.read_sample-sample.result
             (plain_sample_at file (tables_of trak) query.number)) bytes
             (subst (λ (b : TrakBox). Answers (λ s. option_map timed_sample s) c.read_sample-sample.result
             (plain_sample_at movie.bytes.now (tables_of b) query.number)) t.box
-            (c.read_sample-sample.ensures.plain t.track t.is_there t.unfragmented fits));
+            (c.read_sample-sample.ensures.plain t.track t.is_there of_movie fits));
       };
 }

@@ -3,4 +3,4 @@ use Rattle.mp4_media.proofs.Gathering.{Made}
 use Rattle.mp4_media.proofs.tracks.made_tracks.Given as goal
 
 abbrev pub invariant-loop-index : goal.invariant-loop-index
-invariant-loop-index l = Made l.moov l.moofs (drop l.index l.traks) l.tracks l.fragments
+invariant-loop-index l = Made l.moov l.moofs l.places (drop l.index l.traks) l.tracks l.fragments

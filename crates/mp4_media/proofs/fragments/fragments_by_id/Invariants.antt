@@ -1,6 +1,6 @@
 use Rattle.std.proofs.Common.{◌≡◌, ℕ, take}
 use Rattle.mp4_media.specs.MovieTracks.{fragments_at, trafs_in, trafs_of}
-use Rattle.mp4_media.proofs.tracks.fragments_by_id.Given as goal
+use Rattle.mp4_media.proofs.fragments.fragments_by_id.Given as goal
 
 abbrev pub invariant-loop-moof : goal.invariant-loop-moof
 invariant-loop-moof l =

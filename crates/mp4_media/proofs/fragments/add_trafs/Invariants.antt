@@ -1,6 +1,6 @@
 use Rattle.std.proofs.Common.{◌≡◌, ℕ, take, ◌++◌}
 use Rattle.mp4_media.specs.MovieTracks.{fragments_at, trafs_of}
-use Rattle.mp4_media.proofs.tracks.add_trafs.Given as goal
+use Rattle.mp4_media.proofs.fragments.add_trafs.Given as goal
 
 abbrev pub invariant-loop-traf : goal.invariant-loop-traf
 invariant-loop-traf l =

@@ -1,0 +1,10 @@
+use Rattle.std.proofs.Common.{◌≡◌, ℕ, drop, Some}
+use Rattle.mp4_media.specs.MovieTracks.{defaults_at}
+use Rattle.mp4_media.proofs.BasesByTrack.{and_to_come}
+use Rattle.mp4_media.proofs.fragments.add_bases.Given as goal
+
+-- what is kept and what is still to come are all bases
+abbrev pub invariant-loop-traf : goal.invariant-loop-traf
+invariant-loop-traf l =
+    let all = and_to_come (defaults_at l.defaults) l.moof in
+    (id : ℕ) → all l.bases l.before (drop l.traf-index l.trafs) id ≡ all l.fn.bases (Some l.moof) l.trafs id

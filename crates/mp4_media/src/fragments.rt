@@ -1,0 +1,140 @@
+//! What the fragments of a movie add to its tracks: the parts of each track, where the places of each part count from, and
+//! what the movie says of their samples (ISO/IEC 14496-12, 8.8).
+
+ghost use Rattle.std.specs.Prelude.{◌≡◌, ℕ, [], ◌∷◌, ◌++◌, length, ◌==◌, if◌then◌else◌, IfOk, IfErr, OnOk};
+ghost use Rattle.mp4_fragments.specs.Bases.{bases_of};
+ghost use Rattle.mp4_media.specs.MovieTracks.{at_id, bases_at, defaults_at, defaults_with_id, fragments_at, own_bases, track_bases, trafs_in, trafs_of, trexs_in};
+
+use mp4_boxes::{MoofBox, MvexBox, TrafBox};
+use mp4_codec::{Error, Items, Result, TryClone};
+use mp4_frag::TrexBox;
+use mp4_fragments::{SampleDefaults, traf_base, traf_end};
+use std::alloc::{AllocError, Global};
+use std::collections::HashMap;
+
+/// Adds a copy of each of these fragments to those of its track.
+fn add_trafs(
+    alloc: Global,
+    fragments: &mut HashMap<u32, Items<TrafBox>>,
+    trafs: &[TrafBox],
+) -> Result<()>
+    ensures memory { IfErr result (λ e. e ≡ Error.OutOfMemory) }
+    ensures added { OnOk result ((id : ℕ) → fragments_at fragments.new id ≡ fragments_at fragments.old id ++ trafs_of trafs.now id) }
+{
+    for traf in trafs {
+        let copy = traf.try_clone()?;
+        fragments
+            .entry(traf.tfhd.track_id)?
+            .or_insert(Items::new(alloc))
+            .push(copy)?;
+    }
+    Ok(())
+}
+
+/// Copies of all fragments, for each track in file order.
+pub(crate) fn fragments_by_id(
+    alloc: Global,
+    moofs: &[MoofBox],
+) -> Result<HashMap<u32, Items<TrafBox>>>
+    ensures memory { IfErr result (λ e. e ≡ Error.OutOfMemory) }
+    ensures all { IfOk result (λ m. (id : ℕ) → fragments_at m id ≡ trafs_of (trafs_in moofs.now) id) }
+{
+    let mut fragments = HashMap::new(alloc);
+    for moof in moofs {
+        add_trafs(alloc, &mut fragments, moof.trafs.as_slice())?;
+    }
+    Ok(fragments)
+}
+
+/// What the movie says of the fragments of each track.
+pub(crate) fn trexs_of(mvex: &Option<MvexBox>) -> &[TrexBox]
+    ensures { result.now ≡ trexs_in mvex.now }
+{
+    match mvex {
+        Some(mvex) => mvex.trexs.as_slice(),
+        None => &[],
+    }
+}
+
+/// What the movie says of the samples of fragments: the last defaults of each track.
+pub(crate) fn defaults_by_id(
+    alloc: Global,
+    trexs: &[TrexBox],
+) -> std::result::Result<HashMap<u32, SampleDefaults>, AllocError>
+    ensures { IfOk result (λ m. (id : ℕ) → at_id m id ≡ defaults_with_id trexs.now id) }
+{
+    let mut defaults = HashMap::new(alloc);
+    for trex in trexs {
+        defaults.insert(trex.track_id, SampleDefaults::of_trex(trex))?;
+    }
+    Ok(defaults)
+}
+
+/// What is kept of these for the track with this id: 0 for all where there is nothing.
+pub(crate) fn track_defaults(defaults: &HashMap<u32, SampleDefaults>, id: u32) -> SampleDefaults
+    ensures { result ≡ defaults_at defaults.now id }
+{
+    defaults.get(&id).copied().unwrap_or(SampleDefaults::none())
+}
+
+/// Adds the base of a part of a fragment to those of its track.
+fn add_base(
+    alloc: Global,
+    bases: &mut HashMap<u32, Items<Option<u64>>>,
+    id: u32,
+    base: Option<u64>,
+) -> std::result::Result<(), AllocError>
+    ensures { OnOk result ((other : ℕ) → bases_at bases.new other ≡ (if id == other then bases_at bases.old id ++ base ∷ [] else bases_at bases.old other)) }
+{
+    bases.entry(id)?.or_insert(Items::new(alloc)).push(base)?;
+    Ok(())
+}
+
+/// Adds the base of each of these parts of a fragment, which begins at `moof`, to those of its track.
+fn add_bases(
+    alloc: Global,
+    bases: &mut HashMap<u32, Items<Option<u64>>>,
+    defaults: &HashMap<u32, SampleDefaults>,
+    moof: u64,
+    trafs: &[TrafBox],
+) -> std::result::Result<(), AllocError>
+    ensures { OnOk result ((id : ℕ) → bases_at bases.new id ≡ bases_at bases.old id ++ own_bases id trafs.now (bases_of (defaults_at defaults.now) moof trafs.now)) }
+{
+    let mut before = Some(moof);
+    for traf in trafs {
+        let id = traf.tfhd.track_id;
+        let base = traf_base(traf, moof, before);
+        add_base(alloc, bases, id, base)?;
+        before = traf_end(traf, track_defaults(defaults, id), base);
+    }
+    Ok(())
+}
+
+/// Where the places of all parts of the fragments count from, for each track in file order, by one pass over all
+/// fragments. Each fragment begins at its place.
+pub(crate) fn bases_by_id(
+    alloc: Global,
+    moofs: &[MoofBox],
+    places: &[u64],
+    defaults: &HashMap<u32, SampleDefaults>,
+) -> std::result::Result<HashMap<u32, Items<Option<u64>>>, AllocError>
+    requires { length places.now ≡ length moofs.now }
+    ensures { IfOk result (λ m. (id : ℕ) → bases_at m id ≡ track_bases (defaults_at defaults.now) moofs.now places.now id) }
+{
+    let mut bases = HashMap::new(alloc);
+    for (i, moof) in moofs.iter().enumerate() {
+        let place = places[i];
+        add_bases(alloc, &mut bases, defaults, place, moof.trafs.as_slice())?;
+    }
+    Ok(bases)
+}
+
+/// The bases of the track with this id.
+pub(crate) fn bases_with_id(bases: &HashMap<u32, Items<Option<u64>>>, id: u32) -> &[Option<u64>]
+    ensures { result.now ≡ bases_at bases.now id }
+{
+    match bases.get(&id) {
+        Some(bases) => bases.as_slice(),
+        None => &[],
+    }
+}
