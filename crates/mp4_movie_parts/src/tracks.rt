@@ -7,6 +7,7 @@ use crate::plain_bytes::{
 };
 use mp4_boxes::{TrakBox, read_tables_have_first_samples};
 use mp4_codec::{Error, Items, ReadBox, Result};
+use mp4_fragments::SampleDefaults;
 use mp4_lookup::{Mp4Track, SamplePlace};
 use mp4_test_parts::nested::{DINF, HDLR, MDHD, STSD, TKHD};
 use mp4_test_parts::spelled::hex;
@@ -110,7 +111,7 @@ pub fn put_movie(alloc: Global, bytes: &mut Vec<u8>, tables: &Tables) -> Result<
 fn read_track(alloc: Global, payload: &[u8]) -> Result<Mp4Track> {
     read_tables_have_first_samples();
     let trak = TrakBox::read_payload(alloc, payload)?;
-    Ok(Mp4Track::new(alloc, trak, Items::new(alloc), 0)?)
+    Ok(Mp4Track::new(alloc, trak, Items::new(alloc), &[], SampleDefaults::none())?)
 }
 
 /// The track of id 1 that has these tables.

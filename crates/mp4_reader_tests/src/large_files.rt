@@ -1,11 +1,11 @@
 //! Files of many boxes: they are opened in a time that grows with their size.
 
 use crate::asserts::check;
-use crate::reader_files::of_reader;
 use mp4_codec::Result;
 use mp4_media::Mp4Reader;
 use mp4_movie_parts::movie_bytes::EMPTY_MOVIE;
 use mp4_movie_parts::plain_bytes::{begin_box, end_box};
+use mp4_movie_parts::reader_files::of_reader;
 use mp4_movie_parts::tracks::{THREE, written_track};
 use std::alloc::Global;
 

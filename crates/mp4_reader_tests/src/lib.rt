@@ -24,5 +24,3 @@ mod random_files;
 mod random_tracks;
 #[cfg(test)]
 mod reader;
-#[cfg(test)]
-mod reader_files;

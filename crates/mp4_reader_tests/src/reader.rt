@@ -3,16 +3,16 @@
 use crate::asserts::{check, same, same_at};
 use crate::lookup::few_sizes_are_read;
 use crate::opening::opened;
-use crate::reader_files::{
-    Answer, EMPTY_MOOV, FRAGMENTED, FTYP, MOOF, MVEX, THREE_SAMPLES, TextFile, all_spelled,
-    changed, file_of, fragmented, of_reader, of_track, samples_are, sync_sample, three_samples,
-};
 use mp4_boxes::Metadata;
 use mp4_codec::{BoxType, Error, Result};
 use mp4_lookup::{Mp4Track, SampleRef};
 use mp4_media::{Mp4Reader, read_mp4};
 use mp4_movie_parts::calls::{ISOM, add_text, write_sync};
 use mp4_movie_parts::movie_bytes::TEXT_MOVIE;
+use mp4_movie_parts::reader_files::{
+    Answer, EMPTY_MOOV, FRAGMENTED, FTYP, MOOF, MVEX, THREE_SAMPLES, TextFile, all_spelled,
+    changed, file_of, fragmented, of_reader, of_track, samples_are, sync_sample, three_samples,
+};
 use mp4_movie_parts::tracks::bytes_and_times;
 use mp4_movie_parts::written::written;
 use mp4_test_parts::nested::{CO64, STSC, STSD, STSS, STSZ, STTS, nest};
@@ -240,12 +240,12 @@ fn fragments_of(track: &Mp4Track) -> (usize, u32) {
 }
 
 #[test]
-fn a_track_of_fragments_counts_no_sample(rt: HostRuntime) {
+fn a_track_counts_the_samples_of_its_fragments(rt: HostRuntime) {
     let alloc = rt.alloc();
     let parts = of_reader(alloc, fragmented(alloc), parts_of);
     same(&rt, parts, Ok((true, 1, 1)));
     let count = of_reader(alloc, fragmented(alloc), |reader| reader.sample_count(1));
-    same(&rt, count, Ok(Ok(0)));
+    same(&rt, count, Ok(Ok(2)));
 }
 
 /// The fragments of track 1, where these numbers and these defaults stand in the fragmented file.
@@ -327,10 +327,20 @@ fn samples_of_a_piece_of_a_fragmented_movie_are_answered(rt: HostRuntime) {
     let without_fragments = [(0, Err(INVALID)), (1, Err(INVALID)), (3, Err(INVALID))];
     let movie = piece_of(alloc, &FRAGMENTED, 543);
     check(&rt, 543, samples_are(alloc, movie, 1, &without_fragments));
-    for end in [619, 627, 633, 634] {
+    for (end, first, second) in [
+        (619, Err(Error::EndOfData), Err(Error::EndOfData)),
+        (627, Err(Error::EndOfData), Err(Error::EndOfData)),
+        (633, sync_sample(0, 40, b"abc"), Err(Error::EndOfData)),
+        (
+            634,
+            sync_sample(0, 40, b"abc"),
+            sync_sample(40, 40, b"defg"),
+        ),
+    ] {
         let answers = [
             (0, Err(INVALID)),
-            (1, Ok(None)),
+            (1, first),
+            (2, second),
             (3, Ok(None)),
             (u32::MAX, Ok(None)),
         ];

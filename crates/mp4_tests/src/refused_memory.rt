@@ -88,6 +88,9 @@ use mp4_movie_parts::listed_calls::five_media;
 use mp4_movie_parts::listed_calls::text_calls;
 use mp4_movie_parts::movie_bytes::EMPTY_MOVIE;
 use mp4_movie_parts::movie_bytes::TEXT_MOVIE;
+use mp4_movie_parts::reader_files::FRAGMENTED;
+use mp4_movie_parts::reader_files::TextFile;
+use mp4_movie_parts::reader_files::file_of;
 use mp4_movie_parts::tracks::TEXT;
 use mp4_movie_parts::tracks::holds_of;
 use mp4_movie_parts::tracks::text_samples_are_found;
@@ -100,6 +103,7 @@ use mp4_table::StscBox;
 use mp4_table::StssBox;
 use mp4_table::StszBox;
 use mp4_table::SttsBox;
+use mp4_test_parts::nested::nest;
 use mp4_test_parts::sample_boxes::Number;
 use mp4_test_parts::sides::Side;
 use mp4_test_parts::spelled::both;
@@ -887,6 +891,72 @@ fn fragments_are_read(rt: &HostRuntime) -> Result<bool> {
 #[test]
 fn a_refused_opening_of_a_fragmented_file_is_made_again(rt: HostRuntime) {
     check(&rt, 1, fragments_are_read(&rt));
+}
+
+/// A file that is made again after a refusal.
+fn file_again(rt: &HostRuntime, file: &TextFile) -> Result<Vec<u8>> {
+    match file_of(rt.alloc(), file) {
+        Err(error) if is_refusal(rt, &error) => file_of(rt.alloc(), file),
+        answer => answer,
+    }
+}
+
+/// Whether a file of fragments is opened, and these samples of track 1 are read, each call made again after a refusal.
+fn samples_of_fragments_are_read(
+    rt: &HostRuntime,
+    file: &TextFile,
+    samples: &[SampleRef],
+) -> Result<bool> {
+    let bytes = file_again(rt, file)?;
+    let mut reader = opened_again(rt, &bytes)?;
+    Ok(are_read_again(rt, &mut reader, 1, samples))
+}
+
+#[test]
+fn a_refused_sample_of_a_fragment_is_read_again(rt: HostRuntime) {
+    let samples = [sync(0, 40, b"abc"), sync(40, 40, b"defg")];
+    let answer = samples_of_fragments_are_read(&rt, &FRAGMENTED, &samples);
+    check(&rt, 1, answer);
+}
+
+/// The text of a fragment whose run lists the sizes of 66 samples of two bytes.
+fn long_run(alloc: Global) -> Result<String> {
+    let mut run = String::from_str(alloc, "00000118 7472756e 00000200 00000042 ")?;
+    for _ in 0..66 {
+        run.push_str("00000002 ")?;
+    }
+    let header = "00000010 74666864 00000000 00000001 ";
+    let part = nest(alloc, "74726166", &[header, run.as_str()])?;
+    let header = "00000010 6d666864 00000000 00000001 ";
+    nest(alloc, "6d6f6f66", &[header, part.as_str()])
+}
+
+/// This text, which is made again after a refusal.
+fn long_run_again(rt: &HostRuntime) -> Result<String> {
+    match long_run(rt.alloc()) {
+        Err(error) if is_refusal(rt, &error) => long_run(rt.alloc()),
+        answer => answer,
+    }
+}
+
+/// Whether the 65th sample of this run is read, which begins behind the first that is kept; each call is made again after
+/// a refusal.
+fn long_run_is_read(rt: &HostRuntime) -> Result<bool> {
+    let fragment = long_run_again(rt)?;
+    let file = TextFile {
+        behind: &[fragment.as_str()],
+        ..FRAGMENTED
+    };
+    let bytes = file_again(rt, &file)?;
+    let mut reader = opened_again(rt, &bytes)?;
+    let sample = sample_again(rt, &mut reader, 1, 65);
+    let expected = Ok(Some(sync(2560, 40, b"\0\0")));
+    Ok(reader.sample_count(1) == Ok(66) && is_held(&sample, &expected))
+}
+
+#[test]
+fn a_refused_opening_of_a_long_run_is_made_again(rt: HostRuntime) {
+    check(&rt, 1, long_run_is_read(&rt));
 }
 
 /// Whether the samples of a track are found, which is made again with its index after a refusal.
