@@ -4,7 +4,8 @@
 #
 # A packet is a sample, with the same place, bytes, times and flag. Where ffprobe is known to say something else, for one of
 # the reasons below, that is what it has to say, and the reason is printed. Given by -v: the stream's kind, timescale and
-# duration in ticks (stream_ticks), the movie's duration (movie_milliseconds), and the numbers of its partial sync samples.
+# duration in ticks (stream_ticks), the movie's duration (movie_milliseconds), the numbers of its partial sync samples, and the
+# name of a file with what the bytes of the boxes say of its fragments (fragments; read_fragments.awk has the lines).
 # It prints how many samples there are, the reasons, and a line for each of the first differences; the status is 1 where there is one.
 
 FNR == NR {
@@ -26,6 +27,19 @@ function say(difference) {
   if (differences <= 5) said = said "\n  " difference
 }
 
+# What the bytes of the boxes say of the samples of fragments, which are the last of the track.
+function read_fragments(    text, parts, added, k) {
+  while (fragments != "" && (getline text < fragments) > 0) if (text ~ /^sample/) said_of[++added] = text
+  in_movie = samples - added
+  if (in_movie < 0) say(sprintf("%d samples, but the fragments have %d", samples, added))
+  for (k = 1; k <= added; k++) {
+    split(said_of[k], parts, " ")
+    fragment[in_movie + k] = parts[2]
+    boxes_duration[in_movie + k] = parts[3]
+    boxes_offset[in_movie + k] = parts[4]
+  }
+}
+
 function differs(k, what, ours, theirs) {
   say(sprintf("sample %d, %s: %s, but ffprobe has %s", k, what, ours, theirs))
 }
@@ -39,18 +53,34 @@ function because(reason) {
   given[reason] = 1
 }
 
-# How many ticks earlier ffprobe decodes all samples: the lowest rendering offset, where that is below 0. It doesn't look at
-# the last two entries of the table of rendering offsets, each of which is a run of equal ones.
+# How many ticks earlier ffprobe decodes all samples of the movie box: the lowest rendering offset, where that is below 0. It
+# doesn't look at the last two entries of the table of rendering offsets, each of which is a run of equal ones.
 function earlier(    k, runs, run_offset, least) {
-  for (k = 1; k <= samples; k++) if (k == 1 || offset[k] != offset[k - 1]) run_offset[++runs] = offset[k]
+  for (k = 1; k <= in_movie; k++) if (k == 1 || offset[k] != offset[k - 1]) run_offset[++runs] = offset[k]
   for (k = 1; k + 2 <= runs; k++) if (run_offset[k] < least) least = run_offset[k]
   return -least
 }
 
+# How many ticks later than they are decoded ffprobe shows all samples, beside their rendering offsets: by the lowest of these,
+# where that is below 0, of the fragments too.
+function later(    k, most) {
+  most = early
+  for (k = in_movie + 1; k <= samples; k++) if (-offset[k] > most) most = -offset[k]
+  return most
+}
+
 function compare_duration(k, has_offsets,    to_next, to_movie_end) {
+  if (k > in_movie) same(k, "duration in its fragment", duration[k], boxes_duration[k])
   if (duration[k] == lasts[k]) return
-  if (has_offsets) {
-    because("ffprobe takes no durations from a track with rendering offsets, so the times between the samples were compared")
+  if (k > in_movie) {
+    because("ffprobe takes no durations from fragments, so they were compared with the bytes of the boxes")
+    return
+  }
+  if (has_offsets || in_movie < samples) {
+    if (in_movie < samples)
+      because("ffprobe takes no durations from a track with fragments, so the times between the movie box's samples were compared")
+    else
+      because("ffprobe takes no durations from a track with rendering offsets, so the times between the samples were compared")
     to_next = (k < samples ? decoded[k + 1] : stream_ticks - early) - decoded[k]
     same(k, "time to the next", duration[k], to_next)
     return
@@ -69,15 +99,28 @@ function compare_sync(k) {
   else differs(k, "sync", sync[k], key[k])
 }
 
+# What a sample is shown later than it is decoded, as ffprobe has to show it.
+function shown_later(k) {
+  if (!passes_over_offsets) return late + offset[k]
+  because("ffprobe takes no rendering offsets from fragments where the movie box has samples and no table of them, so they were " \
+    "compared with the bytes of the boxes")
+  if (k > in_movie) same(k, "rendering offset in its fragment", offset[k], boxes_offset[k])
+  return late
+}
+
 function compare_each(    k, has_offsets) {
   for (k = 1; k <= samples; k++) if (offset[k] != 0) has_offsets = 1
+  passes_over_offsets = in_movie > 0 && in_movie < samples && has_offsets
+  for (k = 1; k <= in_movie; k++) if (offset[k] != 0) passes_over_offsets = 0
   early = earlier()
+  late = later()
   if (early > 0) because("ffprobe decodes all of it " early " ticks earlier, by the lowest rendering offset")
+  if (late > early) because("ffprobe shows all of it " late " ticks later, by the lowest rendering offset")
   for (k = 1; k <= samples; k++) {
     same(k, "place", place[k], at[k])
     same(k, "bytes", bytes[k], length_of[k])
-    same(k, "decoded", start[k] - early, decoded[k])
-    same(k, "shown", start[k] + offset[k], shown[k])
+    same(k, "decoded", start[k] - (k <= in_movie ? early : 0), decoded[k])
+    same(k, "shown", start[k] - (k <= in_movie ? early : 0) + shown_later(k), shown[k])
     compare_duration(k, has_offsets)
     compare_sync(k)
   }
@@ -111,9 +154,14 @@ function compare_joined(    k, packet, last, sum) {
 END {
   count = split(partial, numbers, " ")
   for (k = 1; k <= count; k++) is_partial[numbers[k]] = 1
+  read_fragments()
   for (k = 1; k < samples; k++)
-    if (start[k] + duration[k] != start[k + 1])
-      say(sprintf("sample %d ends at %s, and the next starts at %s", k, start[k] + duration[k], start[k + 1]))
+    if (start[k] + duration[k] != start[k + 1]) {
+      if (fragment[k] != fragment[k + 1])
+        because("a fragment begins when it says itself, and not where the samples before it end (ISO/IEC 14496-12, 8.8.12)")
+      else
+        say(sprintf("sample %d ends at %s, and the next starts at %s", k, start[k] + duration[k], start[k + 1]))
+    }
   if (are_joined()) compare_joined()
   else if (samples != packets) say(sprintf("%d samples, but ffprobe has %d packets", samples, packets))
   else compare_each()
