@@ -3,11 +3,11 @@
 
 use crate::asserts::{check, same};
 use crate::fragment_files::{
-    TFHD, has_samples, listed, moof, one_part, sync, with_fragments, with_part, with_three_parts,
-    with_two_parts,
+    TFHD, followed_by, has_samples, listed, moof, one_part, sync, with_fragments, with_part,
+    with_three_parts, with_two_parts,
 };
 use mp4_codec::{Error, Result};
-use mp4_movie_parts::reader_files::{FRAGMENTED, TextFile, changed, file_of, of_reader};
+use mp4_movie_parts::reader_files::{FRAGMENTED, TextFile, changed, of_reader};
 use mp4_test_parts::nested::{nest, track_of};
 use std::alloc::Global;
 
@@ -134,12 +134,12 @@ fn two_tracks(alloc: Global) -> Result<Vec<u8>> {
     let second = track_of(alloc, FRAGMENTED.tables)?;
     let more = format!(in alloc; "{second} {TWO_DEFAULTS}")?;
     let fragment = taking_turns(alloc)?;
-    let file = TextFile {
+    let movie = TextFile {
         more: more.as_str(),
-        behind: &[fragment.as_str()],
+        behind: &[],
         ..FRAGMENTED
     };
-    changed(file_of(alloc, &file), &[(531, 2)])
+    changed(followed_by(alloc, &movie, fragment.as_str()), &[(531, 2)])
 }
 
 #[test]

@@ -7,6 +7,7 @@ use mp4_movie_parts::asked::{are_same_refusal, reads, reads_there};
 use mp4_movie_parts::reader_files::{FRAGMENTED, TextFile, file_of};
 use mp4_movie_parts::walked_lookup::WalkedPlace;
 use mp4_test_parts::nested::nest;
+use mp4_test_parts::spelled::hex;
 use std::alloc::Global;
 
 /// The header of a fragment.
@@ -39,6 +40,13 @@ pub fn with_fragments(alloc: Global, behind: &[&str]) -> Result<Vec<u8>> {
             ..FRAGMENTED
         },
     )
+}
+
+/// A file, and behind it the boxes that a text spells.
+pub fn followed_by(alloc: Global, file: &TextFile, boxes: &str) -> Result<Vec<u8>> {
+    let mut bytes = file_of(alloc, file)?;
+    bytes.extend_from_slice(&hex(alloc, boxes)?)?;
+    Ok(bytes)
 }
 
 /// The fragmented file with a fragment of one part, of these boxes, and the boxes behind it.

@@ -2,11 +2,12 @@
 
 use crate::asserts::{check, same};
 use crate::fragment_files::{
-    TFHD, at, broken, has_answers, is_member_at, one_part, sync, with_fragments, with_part,
+    TFHD, at, broken, followed_by, has_answers, is_member_at, one_part, sync, with_fragments,
+    with_part,
 };
 use mp4_codec::{Error, Limit, Result};
 use mp4_lookup::Mp4Track;
-use mp4_movie_parts::reader_files::{MVEX, THREE_SAMPLES, TextFile, file_of, of_track};
+use mp4_movie_parts::reader_files::{MVEX, THREE_SAMPLES, TextFile, of_track};
 use mp4_test_parts::nested::STSD;
 use std::alloc::Global;
 
@@ -62,7 +63,7 @@ fn large_samples_leave_64_bits(rt: HostRuntime) {
 /// fragment.
 fn one_and(alloc: Global, run: &str) -> Result<Vec<u8>> {
     let fragment = one_part(alloc, &[TFHD, run])?;
-    let file = TextFile {
+    let movie = TextFile {
         tables: &[
             STSD,
             "00000018 73747473 00000000 00000001 00000001 00000007 ",
@@ -71,10 +72,9 @@ fn one_and(alloc: Global, run: &str) -> Result<Vec<u8>> {
             "00000014 7374636f 00000000 00000001 00000030 ",
         ],
         more: MVEX,
-        behind: &[fragment.as_str()],
         ..THREE_SAMPLES
     };
-    file_of(alloc, &file)
+    followed_by(alloc, &movie, fragment.as_str())
 }
 
 #[test]

@@ -1,7 +1,7 @@
 //! Tracks whose movie box has samples, to which fragments add others.
 
 use crate::asserts::{check, same};
-use crate::fragment_files::{has_samples, listed, one_part, sync};
+use crate::fragment_files::{followed_by, has_samples, listed, one_part, sync};
 use mp4_codec::{BoxType, Error, Result};
 use mp4_lookup::Mp4Track;
 use mp4_movie_parts::reader_files::{
@@ -66,13 +66,12 @@ fn with_tables(alloc: Global, tables: &[&str]) -> Result<Vec<u8>> {
     let header = "00000018 74666864 00000001 00000001 00000000 00000064 ";
     let run = "00000010 7472756e 00000000 00000002 ";
     let fragment = one_part(alloc, &[header, run])?;
-    let file = TextFile {
+    let movie = TextFile {
         tables,
         more: MVEX,
-        behind: &[fragment.as_str()],
         ..THREE_SAMPLES
     };
-    file_of(alloc, &file)
+    followed_by(alloc, &movie, fragment.as_str())
 }
 
 /// Tables of two samples of one byte, of these durations, chunks and places.
