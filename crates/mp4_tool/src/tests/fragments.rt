@@ -1,8 +1,11 @@
 //! Files of fragments: their samples are listed and described.
 
+use super::info::put;
 use super::runs::ran;
+use super::scripts::TEXT_SCRIPT;
 use crate::info::info_text;
 use crate::samples::samples_text;
+use crate::script::run_script;
 use std::alloc::Global;
 use std::fs;
 use std::test::Fail;
@@ -102,12 +105,50 @@ fn a_broken_place_or_a_missing_byte_ends_the_lines(rt: HostRuntime) -> Result<()
         text.escape_ascii()
     );
     for (place, byte) in [(607, 0xff), (608, 0xff), (609, 0xfd), (610, 0xe0)] {
-        if let Some(old) = file.get_mut(place) {
-            *old = byte;
-        }
+        put(&mut file, place, byte);
     }
     let text = samples_text(rt.alloc(), file.as_slice(), 1)?;
     let lines = b"1 invalid data\n";
+    assert!(rt;
+        text.as_slice() == lines.as_slice(),
+        "{}",
+        text.escape_ascii()
+    );
+    Ok(())
+}
+
+#[test]
+fn a_fragmented_movie_without_durations_is_described(rt: HostRuntime) -> Result<(), Fail> {
+    let mut file = with_fragment(rt.alloc(), TWO_SAMPLES)?;
+    for place in [66, 67, 186, 187, 282, 283] {
+        put(&mut file, place, 0);
+    }
+    let text = info_text(rt.alloc(), file.as_slice())?;
+    let lines =
+        b"brand isom 512\nbrands isom iso2 avc1 mp41\nsize 634\ntimescale 1000\nduration 0\n\
+        fragmented yes\ntrack 1 sbtl tx3g 1000 0 2 und\n";
+    assert!(rt;
+        text.as_slice() == lines.as_slice(),
+        "{}",
+        text.escape_ascii()
+    );
+    Ok(())
+}
+
+/// What the movie of three texts is extended by: the defaults of its track, at the movie's end, and a fragment of a sample of
+/// one byte.
+const EXTENSION: &[u8] =
+    b"\0\0\0(mvex\0\0\0 trex\0\0\0\0\0\0\0\x01\0\0\0\x01\0\0\0(\0\0\0\0\0\0\0\0\
+    \0\0\0Dmoof\0\0\0\x10mfhd\0\0\0\0\0\0\0\x01\0\0\0,traf\0\0\0\x10tfhd\0\0\0\0\0\0\0\x01\
+    \0\0\0\x14trun\0\0\x02\0\0\0\0\x01\0\0\0\x01";
+
+#[test]
+fn a_fragments_sample_follows_those_of_the_movie(rt: HostRuntime) -> Result<(), Fail> {
+    let mut file = run_script(rt.alloc(), TEXT_SCRIPT.as_bytes())?;
+    file.extend_from_slice(EXTENSION)?;
+    put(&mut file, 59, 0x4f);
+    let text = samples_text(rt.alloc(), file.as_slice(), 1)?;
+    let lines = b"1 48 3 0 500 0 1\n2 51 3 500 500 0 1\n3 54 2 1000 500 0 1\n4 647 1 1500 40 0 1\n";
     assert!(rt;
         text.as_slice() == lines.as_slice(),
         "{}",

@@ -76,7 +76,7 @@ pub const TEXT_INFO: &str =
 pub const TEXT_SAMPLES: &str = "1 48 3 0 500 0 1\n2 51 3 500 500 0 1\n3 54 2 1000 500 0 1\n";
 
 /// Puts a byte in the place of another.
-fn put(movie: &mut Vec<u8>, place: usize, byte: u8) {
+pub fn put(movie: &mut Vec<u8>, place: usize, byte: u8) {
     if let Some(old) = movie.get_mut(place) {
         *old = byte;
     }
@@ -112,6 +112,14 @@ fn a_sample_outside_the_file_ends_the_lines(rt: HostRuntime) -> Result<(), Fail>
     let lines = b"1 48 3 0 500 0 1\n2 51 3 500 500 0 1\n3 end of data\n";
     assert!(rt;
         text.as_slice() == lines.as_slice(),
+        "{}",
+        text.escape_ascii()
+    );
+    put(&mut movie, 601, 2);
+    put(&mut movie, 602, 93);
+    let text = samples_text(rt.alloc(), movie.as_slice(), 1)?;
+    assert!(rt;
+        text.as_slice() == b"1 end of data\n".as_slice(),
         "{}",
         text.escape_ascii()
     );
@@ -154,6 +162,16 @@ fn places_of_64_bits_are_shown(rt: HostRuntime) -> Result<(), Fail> {
         "{}",
         text.escape_ascii()
     );
+    Ok(())
+}
+
+#[test]
+fn two_tracks_without_samples_are_described(rt: HostRuntime) -> Result<(), Fail> {
+    let movie = run_script(rt.alloc(), b"track text 1000\ntrack text 1000")?;
+    let text = info_text(rt.alloc(), movie.as_slice())?;
+    let lines = "fragmented no\ntrack 1 sbtl tx3g 1000 0 0 und\ntrack 2 sbtl tx3g 1000 0 0 und\n";
+    let text = text.as_slice();
+    assert!(rt; text.ends_with(lines.as_bytes()), "{}", text.escape_ascii());
     Ok(())
 }
 
