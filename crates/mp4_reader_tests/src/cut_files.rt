@@ -2,6 +2,7 @@
 
 use crate::asserts::same;
 use crate::hostile_files::file_of;
+use crate::reader::long_file;
 use mp4_codec::Result;
 use mp4_lookup::Mp4Track;
 use mp4_media::{Mp4Reader, read_mp4};
@@ -55,14 +56,20 @@ fn opened(alloc: Global, bytes: &[u8]) -> usize {
     count
 }
 
-/// The same of a movie that a writer makes, and of one whose movie box stands before the media data.
-fn opened_of_two(alloc: Global) -> Result<(usize, usize)> {
+/// The same of a movie that a writer makes, of one with durations past 32 bits, and of one whose movie box stands before the
+/// media data.
+fn opened_of_three(alloc: Global) -> Result<(usize, usize, usize)> {
     let five = written(alloc, &[], &ISOM, &five_calls())?;
+    let long = long_file(alloc)?;
     let early = file_of(alloc, &TEXT)?;
-    Ok((opened(alloc, &five), opened(alloc, &early)))
+    Ok((
+        opened(alloc, &five),
+        opened(alloc, &long),
+        opened(alloc, &early),
+    ))
 }
 
 #[test]
 fn a_cut_file_is_opened_where_its_movie_is_whole(rt: HostRuntime) {
-    same(&rt, opened_of_two(rt.alloc()), Ok((1, 10)));
+    same(&rt, opened_of_three(rt.alloc()), Ok((1, 1, 10)));
 }

@@ -95,4 +95,9 @@ fn a_file_of_chunks_that_count_wrongly_is_refused(rt: HostRuntime) {
         "past 32 bits",
         is_refused(rt.alloc(), &[(1, u32::MAX), (2, 1)]),
     );
+    check(
+        &rt,
+        "past 32 bits by two chunks",
+        is_refused(rt.alloc(), &[(1, u32::MAX), (3, 1)]),
+    );
 }

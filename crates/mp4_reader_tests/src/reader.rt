@@ -189,7 +189,7 @@ fn a_sample_without_a_duration_is_refused_by_its_number(rt: HostRuntime) {
 }
 
 /// The file of two samples "a" that each last as long as one can.
-fn long_file(alloc: Global) -> Result<Vec<u8>> {
+pub fn long_file(alloc: Global) -> Result<Vec<u8>> {
     let calls = [
         add_text(1000),
         write_sync(1, u32::MAX, b"a"),
