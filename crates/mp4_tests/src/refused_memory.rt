@@ -939,15 +939,22 @@ fn long_run_again(rt: &HostRuntime) -> Result<String> {
     }
 }
 
+/// The fragmented file with these boxes behind its movie, which is made again after a refusal.
+fn with_boxes_again(rt: &HostRuntime, behind: &[&str]) -> Result<Vec<u8>> {
+    file_again(
+        rt,
+        &TextFile {
+            behind,
+            ..FRAGMENTED
+        },
+    )
+}
+
 /// Whether the 65th sample of this run is read, which begins behind the first that is kept; each call is made again after
 /// a refusal.
 fn long_run_is_read(rt: &HostRuntime) -> Result<bool> {
     let fragment = long_run_again(rt)?;
-    let file = TextFile {
-        behind: &[fragment.as_str()],
-        ..FRAGMENTED
-    };
-    let bytes = file_again(rt, &file)?;
+    let bytes = with_boxes_again(rt, &[fragment.as_str()])?;
     let mut reader = opened_again(rt, &bytes)?;
     let sample = sample_again(rt, &mut reader, 1, 65);
     let expected = Ok(Some(sync(2560, 40, b"\0\0")));
