@@ -18,7 +18,7 @@ use Rattle.mp4_boxes.specs.declared.moof.MoofBox.{MoofBox}
 use Rattle.mp4_boxes.specs.declared.traf.TrafBox.{TrafBox}
 use Rattle.mp4_fragments.specs.declared.defaults.SampleDefaults.{SampleDefaults}
 use Rattle.mp4_fragments.specs.Defaults.{defaults_of_trex}
-use Rattle.mp4_fragments.specs.Fragments.{placed_runs}
+use Rattle.mp4_fragments.specs.Fragments.{placed_runs, fragment_members}
 use Rattle.mp4_lookup.specs.declared.track.Mp4Track.{Mp4Track}
 use Rattle.mp4_lookup.specs.TrackRuns.{track_runs}
 use Rattle.mp4_lookup.specs.Tracks.{movie_end}
@@ -181,6 +181,7 @@ module _ {S T : Type 0} (moov : MoovBox) (moofs : List MoofBox) (places : List �
       same_trafs = trafs_is ∙ own_fragments fresh
 
       is : opened_track track ≡ with_fragments moov moofs places t
+      unfolding fragment_members
       is = rw (runs_is, duration_is, defaults_is, bases_is, trak_is, same_trafs) refl
 
       -- its track is made

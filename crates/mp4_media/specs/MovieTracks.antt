@@ -18,8 +18,9 @@ use Rattle.mp4_boxes.specs.declared.traf.TrafBox.{TrafBox}
 use Rattle.mp4_fragments.specs.declared.defaults.SampleDefaults.{SampleDefaults}
 use Rattle.mp4_fragments.specs.Bases.{bases_of}
 use Rattle.mp4_fragments.specs.Defaults.{defaults_of_trex, no_defaults}
-use Rattle.mp4_fragments.specs.Fragments.{placed_runs}
-use Rattle.mp4_fragments.specs.Members.{PlacedRun}
+use Rattle.mp4_fragments.specs.Fragments.{placed_runs, fragment_members}
+use Rattle.mp4_fragments.specs.Members.{PlacedRun, all_members}
+use Rattle.mp4_fragments.specs.declared.members.Member.{Member}
 use Rattle.mp4_lookup.specs.declared.track.Mp4Track.{Mp4Track}
 use Rattle.mp4_lookup.specs.TrackRuns.{track_runs}
 use Rattle.mp4_lookup.specs.Tracks.{tables_of, movie_end}
@@ -65,12 +66,13 @@ unfoldable pub track_bases : (ℕ → SampleDefaults) → List MoofBox → List 
 track_bases defaults moofs places id =
     flat_map (λ (x : MoofBox × ℕ). own_bases id x.0.trafs (bases_of defaults x.1 x.0.trafs)) (zip moofs places)
 
--- a track of an opened movie: what the movie says of it, its fragments, and the runs that they add
+-- a track of an opened movie: what the movie says of it, its fragments, the runs that they add, and the samples of these
 pub record OpenedTrack : Type 0 where
   pub trak : TrakBox
   pub trafs : List TrafBox
   pub default_sample_duration : ℕ
   pub runs : List PlacedRun
+  pub members : List Member
 
 -- The track with this box, to which these fragments add samples: they begin at these places, and its first run at the
 -- end of the samples of its box.
@@ -78,12 +80,13 @@ abbrev pub with_fragments : MoovBox → List MoofBox → List ℕ → TrakBox �
 with_fragments moov moofs places trak =
     let id = trak.tkhd.track_id in
     let trafs = trafs_of (trafs_in moofs) id in
+    let bases = track_bases (movie_defaults moov) moofs places id in
     record {
       trak = trak;
       trafs = trafs;
       default_sample_duration = default_duration trafs (movie_defaults moov id);
-      runs =
-          placed_runs (movie_defaults moov id) (movie_end trak) trafs (track_bases (movie_defaults moov) moofs places id);
+      runs = placed_runs (movie_defaults moov id) (movie_end trak) trafs bases;
+      members = fragment_members (movie_defaults moov id) (movie_end trak) trafs bases;
     }
 
 -- the track with this id in an opened movie with these fragments, which begin at these places
@@ -123,6 +126,7 @@ opened_track t = record {
   trafs = t.trafs;
   default_sample_duration = t.default_sample_duration;
   runs = track_runs t;
+  members = all_members (track_runs t);
 }
 
 module _ {X S : Type 0} where
