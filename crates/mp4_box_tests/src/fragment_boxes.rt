@@ -4,7 +4,7 @@ use crate::asserts::{check, holds};
 use mp4_boxes::{MoofBox, MvexBox, TrafBox};
 use mp4_codec::{BoxType, Result, WriteBox};
 use mp4_frag::{TfdtBox, TfhdBox, TrexBox, TrunBox};
-use mp4_test_parts::spelled::{is_invalid, is_spelled, is_unreadable, lacks, read, written};
+use mp4_test_parts::spelled::{is_invalid, is_kept_in, is_spelled, is_unreadable, lacks, read};
 use std::alloc::Global;
 
 /// The defaults of this track, all zero.
@@ -15,21 +15,25 @@ fn defaults_of(track_id: u32) -> TrexBox {
     }
 }
 
-/// Whether a box is written in so many bytes.
-fn has_length<B: WriteBox>(alloc: Global, value: &B, length: usize) -> Result<bool> {
-    Ok(written(alloc, value)?.len() == length && value.box_size() == length as u64)
-}
-
 fn two_defaults_have_72_bytes(alloc: Global) -> Result<bool> {
     let mut mvex = MvexBox::default(alloc)?;
     mvex.trexs.push(TrexBox::default())?;
     mvex.trexs.push(TrexBox::default())?;
-    has_length(alloc, &mvex, 72)
+    is_kept_in(alloc, &mvex, 72)
+}
+
+fn one_default_has_40_bytes(alloc: Global) -> Result<bool> {
+    let mut mvex = MvexBox::default(alloc)?;
+    mvex.trexs.push(TrexBox::default())?;
+    let text = "00000028 6d766578 00000020 74726578 \
+        00000000 00000000 00000000 00000000 00000000 00000000";
+    is_spelled(alloc, &mvex, text)
 }
 
 #[test]
-fn the_defaults_of_two_tracks_have_72_bytes(rt: HostRuntime) {
-    check(&rt, 1, two_defaults_have_72_bytes(rt.alloc()));
+fn the_defaults_of_one_track_have_40_bytes_and_those_of_two_72(rt: HostRuntime) {
+    check(&rt, 1, one_default_has_40_bytes(rt.alloc()));
+    check(&rt, 2, two_defaults_have_72_bytes(rt.alloc()));
 }
 
 fn two_defaults_are_read(alloc: Global) -> Result<bool> {
@@ -72,14 +76,14 @@ fn two_runs_make_56_bytes(alloc: Global) -> Result<bool> {
     let mut traf = TrafBox::default(alloc)?;
     traf.truns.push(TrunBox::default(alloc)?)?;
     traf.truns.push(TrunBox::default(alloc)?)?;
-    has_length(alloc, &traf, 56)
+    is_kept_in(alloc, &traf, 56)
 }
 
 fn a_time_and_a_run_make_56_bytes(alloc: Global) -> Result<bool> {
     let mut traf = TrafBox::default(alloc)?;
     traf.tfdt = Some(TfdtBox::default());
     traf.truns.push(TrunBox::default(alloc)?)?;
-    has_length(alloc, &traf, 56)
+    is_kept_in(alloc, &traf, 56)
 }
 
 #[test]

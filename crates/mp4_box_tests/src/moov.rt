@@ -2,8 +2,8 @@
 
 use crate::asserts::{check, holds, same};
 use mp4_boxes::MoovBox;
-use mp4_codec::{BoxType, ByteCursor, Error, ReadBox, Result, TryClone, WriteBox};
-use mp4_test_parts::spelled::written;
+use mp4_codec::{BoxType, Error, ReadBox, Result, WriteBox};
+use mp4_test_parts::spelled::is_kept_in;
 use std::alloc::Global;
 
 /// Whether a box is written in so many bytes, of which the first are these.
@@ -20,22 +20,9 @@ fn is_written(alloc: Global) -> Result<bool> {
     is_written_in(alloc, &MoovBox::default(alloc)?, 116, header)
 }
 
-/// Whether a box and its copy are what is read of its bytes, of which there are so many.
-fn is_read_again<B: WriteBox + TryClone + PartialEq>(
-    alloc: Global,
-    value: &B,
-    size: u64,
-) -> Result<bool> {
-    let bytes = written(alloc, value)?;
-    let mut cursor = ByteCursor::new(&bytes);
-    cursor.set_position(8);
-    let read = B::read_box(alloc, &mut cursor, size)?;
-    Ok(read == *value && read.try_clone()? == *value && cursor.position() == size)
-}
-
 /// Whether the default movie and its copy are what is read of its bytes.
 fn is_read(alloc: Global) -> Result<bool> {
-    is_read_again(alloc, &MoovBox::default(alloc)?, 116)
+    is_kept_in(alloc, &MoovBox::default(alloc)?, 116)
 }
 
 /// Whether the default movie has its type, and says its size.

@@ -9,7 +9,7 @@ use mp4_test_parts::nested::{
     CO64, DINF, HDLR, MDHD, MVHD, STCO, STSC, STSD, STSS, STSZ, STTS, TKHD, media_of, nest,
     track_of,
 };
-use mp4_test_parts::spelled::{is_spelled, is_unreadable, lacks, read};
+use mp4_test_parts::spelled::{is_kept_in, is_spelled, is_unreadable, lacks, read, written};
 use std::alloc::Global;
 
 const TABLES: [&str; 5] = [STSD, STTS, STSC, STSZ, STCO];
@@ -190,31 +190,22 @@ fn movie_of(
     }
 }
 
-/// The bytes of a box.
-fn size_of<B: WriteBox>(value: B) -> u64 {
-    value.box_size()
-}
-
-fn size_with_metadata(alloc: Global) -> Result<u64> {
+fn movie_of_metadata_is_kept(alloc: Global) -> Result<bool> {
     let meta = MetaBox::default(alloc)?;
-    Ok(size_of(movie_of(alloc, None, Some(meta), Some(UdtaBox::default()))))
+    let movie = movie_of(alloc, None, Some(meta), Some(UdtaBox::default()));
+    is_kept_in(alloc, &movie, 169)
 }
 
-fn size_with_defaults(alloc: Global) -> Result<u64> {
+fn movie_of_defaults_is_kept(alloc: Global) -> Result<bool> {
     let mut mvex = MvexBox::default(alloc)?;
     mvex.trexs.push(TrexBox::default())?;
-    Ok(size_of(movie_of(alloc, Some(mvex), None, None)))
+    is_kept_in(alloc, &movie_of(alloc, Some(mvex), None, None), 156)
 }
 
 #[test]
 fn what_a_movie_has_beside_its_header_makes_it_longer(rt: HostRuntime) {
-    same(&rt, size_with_metadata(rt.alloc()), Ok(169));
-    same(&rt, size_with_defaults(rt.alloc()), Ok(156));
-}
-
-/// The size of a box that a call makes.
-fn size_made<B: WriteBox>(value: Result<B>) -> Result<u64> {
-    Ok(value?.box_size())
+    check(&rt, 169, movie_of_metadata_is_kept(rt.alloc()));
+    check(&rt, 156, movie_of_defaults_is_kept(rt.alloc()));
 }
 
 /// The track with this metadata.
@@ -235,14 +226,31 @@ fn track_with_metadata(alloc: Global) -> Result<TrakBox> {
     }
 }
 
-/// How many bytes longer a default track is with default metadata.
-fn growth_by_metadata(alloc: Global) -> Result<u64> {
-    let before = size_made(TrakBox::default(alloc))?;
-    let after = size_made(track_with_metadata(alloc))?;
-    Ok(after.wrapping_sub(before))
+/// The movie of defaults with this track.
+fn movie_with(alloc: Global, track: Result<TrakBox>) -> Result<MoovBox> {
+    let mut movie = MoovBox::default(alloc)?;
+    movie.traks.push(track?)?;
+    Ok(movie)
+}
+
+/// How many bytes long the movie of defaults with this track says that it is, and in how many it is written.
+fn lengths_with(alloc: Global, track: Result<TrakBox>) -> Result<(u64, usize)> {
+    let movie = movie_with(alloc, track)?;
+    Ok((movie.get_size(), written(alloc, &movie)?.len()))
+}
+
+/// How many bytes longer a movie of a default track is where the track has default metadata, by what the movie says and by
+/// what is written.
+fn growth_by_metadata(alloc: Global) -> Result<(u64, usize)> {
+    let before = lengths_with(alloc, TrakBox::default(alloc))?;
+    let after = lengths_with(alloc, track_with_metadata(alloc))?;
+    Ok((
+        after.0.wrapping_sub(before.0),
+        after.1.wrapping_sub(before.1),
+    ))
 }
 
 #[test]
-fn metadata_of_a_track_makes_it_45_bytes_longer(rt: HostRuntime) {
-    same(&rt, growth_by_metadata(rt.alloc()), Ok(45));
+fn metadata_of_a_track_makes_its_movie_45_bytes_longer(rt: HostRuntime) {
+    same(&rt, growth_by_metadata(rt.alloc()), Ok((45, 45)));
 }

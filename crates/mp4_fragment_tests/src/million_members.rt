@@ -6,10 +6,10 @@ use mp4_codec::Result;
 use mp4_lookup::SampleRef;
 use mp4_media::{Mp4Reader, read_mp4};
 use mp4_movie_parts::asked::lends;
-use mp4_movie_parts::movie_bytes::EMPTY_MOVIE;
-use mp4_movie_parts::plain_bytes::{begin_box, end_box, put, put_over, put_pair};
-use mp4_movie_parts::tracks::{Tables, put_movie};
 use mp4_movie_parts::walked_lookup::WalkedPlace;
+use mp4_plain_movies::movie_bytes::EMPTY_MOVIE;
+use mp4_plain_movies::plain_bytes::{begin_box, end_box, put, put_over, put_pair};
+use mp4_plain_movies::plain_tables::{Tables, put_movie};
 use std::alloc::Global;
 
 const SAMPLES: u32 = 1_000_000;

@@ -1,11 +1,9 @@
-//! The tests of framing, leaf boxes, tables and sample entries: rows of bytes from outside, printed texts, and that
-//! each call succeeds with ample memory. What a contract says isn't tested again.
+//! The tests of framing, leaf boxes and tables: rows of bytes from outside, printed texts, and that each call succeeds
+//! with ample memory. What a contract says isn't tested again.
 #![tactic(auto)]
 
 #[cfg(test)]
 mod asserts;
-#[cfg(test)]
-mod audio_entries;
 #[cfg(test)]
 mod boxes;
 #[cfg(test)]
@@ -13,11 +11,7 @@ mod checks;
 #[cfg(test)]
 mod chunks;
 #[cfg(test)]
-mod codec_types;
-#[cfg(test)]
 mod codes;
-#[cfg(test)]
-mod configurations;
 #[cfg(test)]
 mod copies;
 #[cfg(test)]
@@ -57,12 +51,8 @@ mod offsets;
 #[cfg(test)]
 mod samples;
 #[cfg(test)]
-mod stsd;
-#[cfg(test)]
 mod tfhd;
 #[cfg(test)]
 mod tkhd;
 #[cfg(test)]
 mod trun;
-#[cfg(test)]
-mod visual_entries;

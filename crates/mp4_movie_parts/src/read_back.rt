@@ -1,13 +1,13 @@
 //! Whether the movie of a file has the tracks of the plain model's, and of each the samples that were accepted.
 
 use crate::asked::{lends, reads};
-use crate::calls::{Media, Sample};
-use crate::plain_movie::PlainMovie;
-use crate::plain_tracks::{PlainTrack, ticks};
 use mp4_codec::{Error, Result};
 use mp4_entry::MediaType;
 use mp4_lookup::{Mp4Track, SampleRef};
 use mp4_media::{Mp4Reader, read_mp4};
+use mp4_plain_movies::calls::{Media, Sample};
+use mp4_plain_movies::plain_movie::PlainMovie;
+use mp4_plain_movies::plain_tracks::{PlainTrack, ticks};
 use std::alloc::Global;
 
 fn media_type_of(media: &Media) -> MediaType {

@@ -1,10 +1,10 @@
 //! Files that a test writes down, and how their readers and tracks are asked.
 
 use crate::asked::reads;
-use crate::plain_bytes::put_over;
 use mp4_codec::{Error, Result};
 use mp4_lookup::{Mp4Track, SampleRef};
 use mp4_media::{Mp4Reader, read_mp4};
+use mp4_plain_movies::plain_bytes::put_over;
 use mp4_test_parts::nested::{
     DINF, HDLR, MDHD, MVHD, STCO, STSC, STSD, STSS, STSZ, STTS, TKHD, nest,
 };

@@ -1,111 +1,11 @@
-//! Tracks of tables that a test writes down: they are written as boxes and read as those of a file are.
+//! Tracks of tables that a test writes down: they are read as those of a file are.
 
-use crate::movie_bytes::EMPTY_MOVIE;
-use crate::plain_bytes::{
-    begin_box, end_box, put, put_chunks, put_durations, put_offsets, put_rendering_offsets,
-    put_sizes, put_sync_samples,
-};
 use mp4_boxes::{TrakBox, read_tables_have_first_samples};
 use mp4_codec::{Error, Items, ReadBox, Result};
 use mp4_fragments::SampleDefaults;
 use mp4_lookup::{Mp4Track, SamplePlace};
-use mp4_test_parts::nested::{DINF, HDLR, MDHD, STSD, TKHD};
-use mp4_test_parts::spelled::hex;
+use mp4_plain_movies::plain_tables::{Tables, written_track};
 use std::alloc::Global;
-
-/// The tables of a track.
-#[derive(Clone, Copy)]
-pub struct Tables<'a> {
-    /// Runs of stts: how many samples, and how long each lasts.
-    pub durations: &'a [(u32, u32)],
-    /// Runs of ctts: how many samples, and how much later than it is decoded each is shown.
-    pub rendering_offsets: Option<&'a [(u32, i32)]>,
-    /// The numbers of stss.
-    pub sync_samples: Option<&'a [u32]>,
-    /// Entries of stsc: the first chunk, and how many samples each chunk has.
-    pub chunks: &'a [(u32, u32)],
-    /// The one size of stsz, 0 where sizes are listed.
-    pub size: u32,
-    /// How many samples stsz counts.
-    pub count: u32,
-    /// The sizes that are listed.
-    pub sizes: &'a [u32],
-    /// Where each chunk begins, in 64 bits.
-    pub offsets: &'a [u64],
-}
-
-/// Three samples of one byte each, in one chunk at 100.
-pub const THREE: Tables<'static> = Tables {
-    durations: &[(3, 1)],
-    rendering_offsets: None,
-    sync_samples: None,
-    chunks: &[(1, 3)],
-    size: 1,
-    count: 3,
-    sizes: &[],
-    offsets: &[100],
-};
-
-/// The tables of three text samples in two chunks.
-pub const TEXT: Tables<'static> = Tables {
-    durations: &[(3, 500)],
-    rendering_offsets: None,
-    sync_samples: Some(&[1, 2, 3]),
-    chunks: &[(1, 2), (2, 1)],
-    size: 0,
-    count: 3,
-    sizes: &[3, 3, 2],
-    offsets: &[48, 54],
-};
-
-/// The tables as the children of a stbl.
-fn written_tables(alloc: Global, tables: &Tables) -> Result<Vec<u8>> {
-    let mut bytes = hex(alloc, STSD)?;
-    put_durations(&mut bytes, tables.durations)?;
-    if let Some(runs) = tables.rendering_offsets {
-        put_rendering_offsets(&mut bytes, runs)?;
-    }
-    if let Some(numbers) = tables.sync_samples {
-        put_sync_samples(&mut bytes, numbers)?;
-    }
-    put_chunks(&mut bytes, tables.chunks)?;
-    put_sizes(&mut bytes, tables.size, tables.count, tables.sizes)?;
-    put_offsets(&mut bytes, tables.offsets)?;
-    Ok(bytes)
-}
-
-/// What these texts spell, and behind it a box of this type around a payload.
-fn with_box(alloc: Global, texts: &[&str], kind: &[u8], payload: &[u8]) -> Result<Vec<u8>> {
-    let mut bytes = Vec::new(alloc);
-    for text in texts {
-        bytes.extend_from_slice(&hex(alloc, text)?)?;
-    }
-    let size = u32::try_from(payload.len()).unwrap_or(0);
-    put(&mut bytes, size.wrapping_add(8))?;
-    bytes.extend_from_slice(kind)?;
-    bytes.extend_from_slice(payload)?;
-    Ok(bytes)
-}
-
-/// The payload of a track of these tables.
-pub fn written_track(alloc: Global, tables: &Tables) -> Result<Vec<u8>> {
-    let tables = written_tables(alloc, tables)?;
-    let information = with_box(alloc, &[DINF], b"stbl", &tables)?;
-    let media = with_box(alloc, &[MDHD, HDLR], b"minf", &information)?;
-    with_box(alloc, &[TKHD], b"mdia", &media)
-}
-
-/// Puts the movie of a track of id 1 that has these tables.
-pub fn put_movie(alloc: Global, bytes: &mut Vec<u8>, tables: &Tables) -> Result<()> {
-    let payload = written_track(alloc, tables)?;
-    let movie = begin_box(bytes, b"moov")?;
-    bytes.extend_from_slice(&EMPTY_MOVIE[56..])?;
-    let track = begin_box(bytes, b"trak")?;
-    bytes.extend_from_slice(&payload)?;
-    end_box(bytes, track);
-    end_box(bytes, movie);
-    Ok(())
-}
 
 /// The track of a payload of a trak.
 fn read_track(alloc: Global, payload: &[u8]) -> Result<Mp4Track> {

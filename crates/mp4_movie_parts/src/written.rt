@@ -1,10 +1,11 @@
 //! What a writer and the plain model make of the calls that a test writes down.
 
-use crate::calls::{Beginning, Call, config_of, make};
-use crate::plain_movie::PlainMovie;
 use crate::read_back::is_read_back;
+use crate::writer_calls::{config_of, make};
 use mp4_codec::{Error, Result};
 use mp4_media::Mp4Writer;
+use mp4_plain_movies::calls::{Beginning, Call};
+use mp4_plain_movies::plain_movie::PlainMovie;
 use mp4_test_parts::spelled::hex;
 use std::alloc::Global;
 

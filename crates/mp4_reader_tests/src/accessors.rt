@@ -6,12 +6,12 @@ use mp4_codec::{BoxType, Error, FourCC, Limit, Result, WriteBox};
 use mp4_entry::{AvcProfile, ChannelConfig, MediaType, SampleFreqIndex, TrackType};
 use mp4_lookup::Mp4Track;
 use mp4_media::Mp4Reader;
-use mp4_movie_parts::calls::ISOM;
-use mp4_movie_parts::listed_calls::five_tracks;
 use mp4_movie_parts::reader_files::{
     FTYP, THREE_SAMPLES, TextFile, changed, file_of, of_reader, of_track, three_samples,
 };
 use mp4_movie_parts::written::written;
+use mp4_plain_movies::calls::ISOM;
+use mp4_plain_movies::listed_calls::five_tracks;
 use mp4_test_parts::nested::{STCO, STSC, STSD, STTS};
 use mp4_test_parts::spelled::{hex, read_bytes};
 use std::alloc::Global;

@@ -6,10 +6,10 @@ use crate::reader::long_file;
 use mp4_codec::Result;
 use mp4_lookup::Mp4Track;
 use mp4_media::{Mp4Reader, read_mp4};
-use mp4_movie_parts::calls::ISOM;
-use mp4_movie_parts::listed_calls::five_calls;
-use mp4_movie_parts::tracks::TEXT;
 use mp4_movie_parts::written::written;
+use mp4_plain_movies::calls::ISOM;
+use mp4_plain_movies::listed_calls::{five_calls, five_tracks};
+use mp4_plain_movies::plain_tables::TEXT;
 use std::alloc::Global;
 
 /// Asks for the numbers 0 to 4 of a track.
@@ -56,20 +56,22 @@ fn opened(alloc: Global, bytes: &[u8]) -> usize {
     count
 }
 
-/// The same of a movie that a writer makes, of one with durations past 32 bits, and of one whose movie box stands before the
-/// media data.
-fn opened_of_three(alloc: Global) -> Result<(usize, usize, usize)> {
+/// The same of two movies that a writer makes, the first one without samples, of one with durations past 32 bits, and of
+/// one whose movie box stands before the media data.
+fn opened_of_four(alloc: Global) -> Result<[usize; 4]> {
+    let none = written(alloc, &[], &ISOM, &five_tracks())?;
     let five = written(alloc, &[], &ISOM, &five_calls())?;
     let long = long_file(alloc)?;
     let early = file_of(alloc, &TEXT)?;
-    Ok((
+    Ok([
+        opened(alloc, &none),
         opened(alloc, &five),
         opened(alloc, &long),
         opened(alloc, &early),
-    ))
+    ])
 }
 
 #[test]
 fn a_cut_file_is_opened_where_its_movie_is_whole(rt: HostRuntime) {
-    same(&rt, opened_of_three(rt.alloc()), Ok((1, 1, 10)));
+    same(&rt, opened_of_four(rt.alloc()), Ok([1, 1, 1, 10]));
 }

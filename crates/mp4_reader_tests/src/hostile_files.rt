@@ -6,8 +6,8 @@ use mp4_codec::{Error, Result};
 use mp4_lookup::Mp4Track;
 use mp4_media::{Mp4Reader, read_mp4};
 use mp4_movie_parts::asked::reads_there;
-use mp4_movie_parts::movie_bytes::EMPTY_MOVIE;
-use mp4_movie_parts::tracks::{THREE, Tables, put_movie};
+use mp4_plain_movies::movie_bytes::EMPTY_MOVIE;
+use mp4_plain_movies::plain_tables::{THREE, Tables, put_movie};
 use std::alloc::Global;
 
 /// The file of a track of id 1 that has these tables: file type, movie, and media data of eight bytes.

@@ -3,10 +3,10 @@
 use crate::asserts::check;
 use mp4_codec::Result;
 use mp4_media::Mp4Reader;
-use mp4_movie_parts::movie_bytes::EMPTY_MOVIE;
-use mp4_movie_parts::plain_bytes::{begin_box, end_box};
 use mp4_movie_parts::reader_files::of_reader;
-use mp4_movie_parts::tracks::{THREE, written_track};
+use mp4_plain_movies::movie_bytes::EMPTY_MOVIE;
+use mp4_plain_movies::plain_bytes::{begin_box, end_box};
+use mp4_plain_movies::plain_tables::{THREE, written_track};
 use std::alloc::Global;
 
 /// So many tracks and fragments.

@@ -6,9 +6,9 @@ use bytes::Bytes;
 use mp4_codec::{BoxType, Error, Result};
 use mp4_lookup::{Comparisons, Mp4Sample, Mp4Track, SamplePlace, SampleRef};
 use mp4_movie_parts::tracks::{
-    TEXT, THREE, Tables, bytes_and_times, found, is_invalid_number, is_past, is_sync,
-    text_samples_are_found,
+    bytes_and_times, found, is_invalid_number, is_past, is_sync, text_samples_are_found,
 };
+use mp4_plain_movies::plain_tables::{TEXT, THREE, Tables};
 use std::alloc::Global;
 
 fn starts_at(track: &Mp4Track, k: u32, start: u64, duration: u32) -> bool {

@@ -5,9 +5,9 @@ use mp4_codec::Result;
 use mp4_lookup::{Comparisons, SamplePlace, SampleRef};
 use mp4_media::{Mp4Reader, read_mp4};
 use mp4_movie_parts::asked::reads;
-use mp4_movie_parts::movie_bytes::EMPTY_MOVIE;
-use mp4_movie_parts::plain_bytes::{begin_box, end_box};
-use mp4_movie_parts::tracks::{Tables, put_movie};
+use mp4_plain_movies::movie_bytes::EMPTY_MOVIE;
+use mp4_plain_movies::plain_bytes::{begin_box, end_box};
+use mp4_plain_movies::plain_tables::{Tables, put_movie};
 use std::alloc::Global;
 
 const SAMPLES: u32 = 1_000_000;

@@ -3,7 +3,7 @@
 use crate::asserts::{same, same_at};
 use mp4_codec::{BoxType, Error, Limit, Result};
 use mp4_media::{Mp4Reader, read_mp4};
-use mp4_movie_parts::movie_bytes::EMPTY_MOVIE;
+use mp4_plain_movies::movie_bytes::EMPTY_MOVIE;
 use std::alloc::Global;
 
 /// Where the movie box stands in the empty movie, and its header.

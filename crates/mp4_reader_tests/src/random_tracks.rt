@@ -4,9 +4,9 @@ use crate::asserts::check;
 use mp4_codec::Result;
 use mp4_lookup::Mp4Track;
 use mp4_movie_parts::asked::are_same_refusal;
-use mp4_movie_parts::random_tables::{RandomTables, break_one, put_all};
 use mp4_movie_parts::tracks::holds_of;
 use mp4_movie_parts::walked_lookup::walk;
+use mp4_plain_movies::random_tables::{RandomTables, break_one, put_all};
 use mp4_test_parts::random::Random;
 use std::alloc::Global;
 

@@ -7,14 +7,14 @@ use mp4_boxes::Metadata;
 use mp4_codec::{BoxType, Error, Result};
 use mp4_lookup::{Mp4Track, SampleRef};
 use mp4_media::{Mp4Reader, read_mp4};
-use mp4_movie_parts::calls::{ISOM, add_text, write_sync};
-use mp4_movie_parts::movie_bytes::TEXT_MOVIE;
 use mp4_movie_parts::reader_files::{
     Answer, EMPTY_MOOV, FRAGMENTED, FTYP, MOOF, MVEX, THREE_SAMPLES, TextFile, all_spelled,
     changed, file_of, fragmented, of_reader, of_track, samples_are, sync_sample, three_samples,
 };
 use mp4_movie_parts::tracks::bytes_and_times;
 use mp4_movie_parts::written::written;
+use mp4_plain_movies::calls::{ISOM, add_text, write_sync};
+use mp4_plain_movies::movie_bytes::TEXT_MOVIE;
 use mp4_test_parts::nested::{CO64, STSC, STSD, STSS, STSZ, STTS, nest};
 use mp4_test_parts::spelled::hex;
 use std::alloc::Global;

@@ -87,6 +87,17 @@ pub fn is_spelled<B: WriteBox + TryClone + PartialEq>(
     )
 }
 
+/// Whether a box is written in so many bytes, and it and its copy are what is read of them.
+pub fn is_kept_in<B: WriteBox + TryClone + PartialEq>(
+    alloc: Global,
+    value: &B,
+    size: u64,
+) -> Result<bool> {
+    let bytes = written(alloc, value)?;
+    let is_whole = value.box_size() == size && bytes.len() as u64 == size;
+    Ok(is_whole && read_bytes::<B>(alloc, &bytes)? == *value && value.try_clone()? == *value)
+}
+
 /// Whether a box is spelled by a text, read from it, and refused where the text is cut below `needed` bytes.
 pub fn is_whole<B: WriteBox + TryClone + PartialEq>(
     alloc: Global,

@@ -3,8 +3,9 @@
 use crate::asserts::{check, holds, same};
 use mp4_codec::{ByteCursor, Error, FourCC, Result, TryClone};
 use mp4_media::{Mp4Config, Mp4Reader, Mp4Writer, mdat_header, read_mp4};
-use mp4_movie_parts::calls::{ISOM, config_of};
-use mp4_movie_parts::movie_bytes::EMPTY_MOVIE;
+use mp4_movie_parts::writer_calls::config_of;
+use mp4_plain_movies::calls::ISOM;
+use mp4_plain_movies::movie_bytes::EMPTY_MOVIE;
 use std::alloc::Global;
 
 /// The configuration of the empty movie.

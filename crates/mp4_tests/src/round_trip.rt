@@ -3,10 +3,10 @@
 use crate::asserts::{check, same};
 use crate::random_movies::{random_bytes, random_movie};
 use mp4_codec::Result;
-use mp4_movie_parts::calls::{Call, ISOM};
-use mp4_movie_parts::listed_calls::{five_calls, text_calls};
 use mp4_movie_parts::read_back::is_read_back;
 use mp4_movie_parts::written::{movie_of, written};
+use mp4_plain_movies::calls::{Call, ISOM};
+use mp4_plain_movies::listed_calls::{five_calls, text_calls};
 use std::alloc::Global;
 
 /// Whether what a writer makes of calls and an end is read back.

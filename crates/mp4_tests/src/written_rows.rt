@@ -4,14 +4,14 @@ use crate::asserts::{check, holds, same, same_at};
 use mp4_codec::{ByteCursor, Error, Limit, Result};
 use mp4_entry::TrackType;
 use mp4_media::Mp4Reader;
-use mp4_movie_parts::calls::{
-    Beginning, Call, ISOM, Media, Sample, Sound, Track, add_text, write_sync,
-};
-use mp4_movie_parts::listed_calls::{SMALL, STEREO, add_media, five_tracks, text_calls};
-use mp4_movie_parts::movie_bytes::TEXT_MOVIE;
 use mp4_movie_parts::written::{
     have_code, have_in_order, is_written, last_answer, modelled, written,
 };
+use mp4_plain_movies::calls::{
+    Beginning, Call, ISOM, Media, Sample, Sound, Track, add_text, write_sync,
+};
+use mp4_plain_movies::listed_calls::{SMALL, STEREO, add_media, five_tracks, text_calls};
+use mp4_plain_movies::movie_bytes::TEXT_MOVIE;
 use mp4_test_parts::spelled::hex;
 use std::alloc::Global;
 

@@ -190,6 +190,17 @@ fn a_file_cut_in_its_middle_is_refused(rt: HostRuntime) -> std::result::Result<(
 }
 
 #[test]
+fn an_older_file_is_written_anew(rt: HostRuntime) -> std::result::Result<(), Fail> {
+    fs::write(&rt, "anew.mp4", [7; 1000].as_slice())?;
+    let printed = ran(&rt, "make anew.mp4", &mut b"".as_slice())?;
+    let anew = fs::read(&rt, "anew.mp4")?;
+    fs::remove_file(&rt, "anew.mp4")?;
+    assert!(rt; printed.is(0, "wrote 164 bytes\n", ""), "{printed:?}");
+    assert!(rt; anew.as_slice() == EMPTY_MOVIE.as_slice());
+    Ok(())
+}
+
+#[test]
 fn a_file_is_left_where_its_script_is_at_fault(rt: HostRuntime) -> std::result::Result<(), Fail> {
     fs::write(&rt, "left.mp4", b"old".as_slice())?;
     let printed = ran(&rt, "make left.mp4", &mut b"track text 0".as_slice())?;

@@ -1,6 +1,6 @@
 //! Random tables of tracks, from fixed seeds.
 
-use crate::tracks::{Tables, written_track};
+use crate::plain_tables::{Tables, written_track};
 use mp4_codec::Result;
 use mp4_test_parts::random::Random;
 use std::alloc::Global;
