@@ -11,8 +11,9 @@ use crate::edts::EdtsBox;
 use crate::mdia::MdiaBox;
 use crate::meta::MetaBox;
 use mp4_codec::{
-    BoxType, Child, Gather, HEADER_SIZE, InRange, Mp4Box, Put, ReadBox, Result, TryClone, WriteBox,
-    check_optional, gather_children, keep_last, optional_size, put_optional, required,
+    BoxType, Child, DebugItem, Gather, HEADER_SIZE, InRange, Mp4Box, Put, ReadBox, Result,
+    TryClone, WriteBox, check_optional, gather_children, keep_last, optional_size, put_optional,
+    required,
 };
 use mp4_leaf::TkhdBox;
 use std::alloc::Global;
@@ -33,6 +34,8 @@ pub struct TrakBox {
     /// The media: its kind, and where its samples lie; it is required.
     pub mdia: MdiaBox,
 }
+
+impl DebugItem for TrakBox {}
 
 impl TrakBox {
     /// A default header and default media, without edits and metadata.

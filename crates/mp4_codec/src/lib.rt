@@ -38,7 +38,7 @@ pub use gather::{
 };
 pub use header::{BoxHeader, HEADER_EXT_SIZE, HEADER_SIZE, OPEN_END};
 pub use in_range::InRange;
-pub use items::Items;
+pub use items::{DebugItem, Items};
 pub use keyed_items::{Key, KeyedItems};
 pub use laws::{
     frame_has_its_head, header_says_its_box, insertion_changes_one_key, payload_has_its_children,

@@ -9,8 +9,8 @@ ghost use Rattle.mp4_table.specs.CttsLaws.{ctts_entry_again, length-ctts_entry, 
 
 use crate::table::{put_table, read_table, table_size};
 use mp4_codec::{
-    BoxType, Entry, Fields, InRange, Items, Mp4Box, Put, ReadBox, Result, TryClone, WriteBox,
-    put_i32, put_u32,
+    BoxType, DebugItem, Entry, Fields, InRange, Items, Mp4Box, Put, ReadBox, Result, TryClone,
+    WriteBox, put_i32, put_u32,
 };
 use std::alloc::Global;
 
@@ -23,6 +23,8 @@ pub struct CttsEntry {
     /// version 0 too.
     pub sample_offset: i32,
 }
+
+impl DebugItem for CttsEntry {}
 
 impl TryClone for CttsEntry {
     fn try_clone(&self) -> Result<Self>
