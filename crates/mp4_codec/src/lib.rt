@@ -29,7 +29,7 @@ pub use child_boxes::{all_size, check_all, check_optional, optional_size, put_al
 pub use children::{Child, Children};
 pub use cursor::ByteCursor;
 pub use entry::{Entry, list_size, put_list};
-pub use error::{Error, Limit, Result};
+pub use error::{Error, Field, Limit, Malformed, Result};
 pub use fields::Fields;
 pub use four_cc::FourCC;
 pub use gather::{

@@ -9,7 +9,7 @@ ghost use Rattle.mp4_table.specs.StscLaws.{stsc_entry_again, length-stsc_entry, 
 
 use crate::table::{put_table, read_table, table_size};
 use mp4_codec::{
-    BoxType, DebugItem, Entry, Error, Fields, InRange, Items, Mp4Box, Put, ReadBox, Result,
+    BoxType, DebugItem, Entry, Error, Field, Fields, InRange, Items, Mp4Box, Put, ReadBox, Result,
     TryClone, WriteBox, put_u32,
 };
 use std::alloc::Global;
@@ -70,7 +70,7 @@ impl Entry for StscEntry {
     }
 
     #[tactic(auto, unfolding(crate::specs::Stsc::stsc_entry_at))]
-    fn read(fields: &mut Fields, _version: u8) -> Result<Self> {
+    fn read(fields: &mut Fields, _version: u8) -> Field<Self> {
         let first_chunk = fields.u32()?;
         let samples_per_chunk = fields.u32()?;
         let sample_description_index = fields.u32()?;

@@ -1,7 +1,7 @@
 use Rattle.std.proofs.Common.{◌≡◌, ◌-◌}
 use Rattle.mp4_codec.specs.Bytes.{list_at}
 use Rattle.mp4_codec.specs.ListLoop.{with_front}
-use Rattle.mp4_codec.proofs.fields.Fields.list.Given as goal
+use Rattle.mp4_codec.proofs.fields.Fields.entries.Given as goal
 
 abbrev pub invariant-loop : goal.invariant-loop
 invariant-loop g l =
