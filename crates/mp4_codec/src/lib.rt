@@ -49,4 +49,4 @@ pub use put::{
     put_versioned, put_zeros,
 };
 pub use text::Text;
-pub use try_clone::TryClone;
+pub use try_clone::{TryClone, four_copies};

@@ -17,7 +17,7 @@ use crate::tx3g::Tx3gBox;
 use crate::vp09::Vp09Box;
 use mp4_codec::{
     BoxType, Child, Children, Fields, InRange, Mp4Box, Put, ReadBox, Result, TryClone, WriteBox,
-    put_u8, put_u24, put_u32,
+    four_copies, put_u8, put_u24, put_u32,
 };
 use std::alloc::Global;
 
@@ -260,14 +260,16 @@ impl Default for StsdBox {
 
 impl TryClone for StsdBox {
     fn try_clone(&self) -> Result<Self> {
+        let tx3g = self.tx3g.try_clone()?;
+        let (avc1, hev1, vp09, mp4a) = four_copies(&self.avc1, &self.hev1, &self.vp09, &self.mp4a)?;
         Ok(StsdBox {
             version: self.version,
             flags: self.flags,
-            avc1: self.avc1.try_clone()?,
-            hev1: self.hev1.try_clone()?,
-            vp09: self.vp09.try_clone()?,
-            mp4a: self.mp4a.try_clone()?,
-            tx3g: self.tx3g.try_clone()?,
+            avc1,
+            hev1,
+            vp09,
+            mp4a,
+            tx3g,
         })
     }
 }
