@@ -1,5 +1,8 @@
 //! What cases are about, and who answers their questions.
 
+use crate::codecs::answer_of_codec;
+use crate::configs::answer_of_config;
+use crate::defaults::answer_of_default;
 use crate::files::answer_of_file;
 use crate::kinds::answer_of_box;
 use mp4_media::Result;
@@ -9,6 +12,9 @@ use std::alloc::Global;
 #[derive(Clone, Copy, Drop)]
 pub enum Subject {
     Box,
+    Codec,
+    Config,
+    Default,
     File,
 }
 
@@ -16,6 +22,9 @@ pub enum Subject {
 pub fn subject_of(word: &str) -> Option<Subject> {
     match word {
         "box" => Some(Subject::Box),
+        "codec" => Some(Subject::Codec),
+        "config" => Some(Subject::Config),
+        "default" => Some(Subject::Default),
         "file" => Some(Subject::File),
         _ => None,
     }
@@ -37,6 +46,9 @@ pub fn answer(
 ) -> Result<Option<String>> {
     match subject {
         Subject::Box => answer_of_box(alloc, bytes, question),
+        Subject::Codec => answer_of_codec(alloc, words, question),
+        Subject::Config => answer_of_config(alloc, words, question),
+        Subject::Default => answer_of_default(alloc, words, question),
         Subject::File => answer_of_file(alloc, bytes, question),
     }
 }
