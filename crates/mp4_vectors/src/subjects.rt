@@ -5,6 +5,7 @@ use crate::configs::answer_of_config;
 use crate::defaults::answer_of_default;
 use crate::files::answer_of_file;
 use crate::kinds::answer_of_box;
+use crate::writers::answer_of_writer;
 use mp4_media::Result;
 use std::alloc::Global;
 
@@ -16,6 +17,7 @@ pub enum Subject {
     Config,
     Default,
     File,
+    Writer,
 }
 
 /// The subject that a word begins; None where it begins none.
@@ -26,6 +28,7 @@ pub fn subject_of(word: &str) -> Option<Subject> {
         "config" => Some(Subject::Config),
         "default" => Some(Subject::Default),
         "file" => Some(Subject::File),
+        "writer" => Some(Subject::Writer),
         _ => None,
     }
 }
@@ -50,5 +53,6 @@ pub fn answer(
         Subject::Config => answer_of_config(alloc, words, question),
         Subject::Default => answer_of_default(alloc, words, question),
         Subject::File => answer_of_file(alloc, bytes, question),
+        Subject::Writer => answer_of_writer(alloc, words, question),
     }
 }
