@@ -39,7 +39,7 @@ fn aac_of(bitrate: &str, profile: &str, frequency: &str, channels: &str) -> Opti
 }
 
 /// The media of a track: `avc 320 240 6742c01e 68ce3c80`, `hevc 320 240`, `vp9 320 240`, `aac 128000 2 3 2` or `ttxt`.
-fn media_of(alloc: Global, text: &str) -> Result<Option<MediaConfig>> {
+pub fn media_of(alloc: Global, text: &str) -> Result<Option<MediaConfig>> {
     let words: Vec<&str> = text.split(' ').collect(alloc)?;
     Ok(match words.as_slice() {
         ["avc", width, height, sps, pps] => match pixels_of(width, height) {
