@@ -6,13 +6,19 @@
 #[cfg(test)]
 mod asserts;
 #[cfg(test)]
+mod large_tables;
+#[cfg(test)]
 mod long_lists;
 #[cfg(test)]
 mod movies;
 #[cfg(test)]
+mod parts;
+#[cfg(test)]
 mod random_movies;
 #[cfg(test)]
 mod refused_memory;
+#[cfg(test)]
+mod refused_writes;
 #[cfg(test)]
 mod round_trip;
 #[cfg(test)]

@@ -6,8 +6,7 @@ use mp4_table::{StscBox, SttsBox};
 use mp4_test_parts::spelled::{read_bytes, written};
 use std::alloc::Global;
 
-/// The bytes of a table of a million entries, which each begin with their place and have these bytes
-/// behind it.
+/// The bytes of a table of a million entries, which each begin with their place, before these bytes.
 fn million(alloc: Global, head: &[u8], behind: &[u8]) -> Result<Vec<u8>> {
     let mut bytes = Vec::new(alloc);
     bytes.extend_from_slice(head)?;
