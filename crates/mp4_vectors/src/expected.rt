@@ -73,10 +73,18 @@ fn is_within(expected: &str, number: &str) -> bool {
     }
 }
 
+/// Whether a number, or both ends of a range of numbers as `1..3`, are as expected.
+fn are_within(expected: &str, numbers: &str) -> bool {
+    match numbers.split_once("..") {
+        Some((least, most)) => is_within(expected, least) && is_within(expected, most),
+        None => is_within(expected, numbers),
+    }
+}
+
 /// Whether a count has the name of an expected one, and is as it is expected.
 fn is_count(expected: &str, given: &str) -> bool {
     match (expected.split_once(' '), given.split_once(' ')) {
-        (Some((name, limit)), Some((other, number))) => name == other && is_within(limit, number),
+        (Some((name, limit)), Some((other, number))) => name == other && are_within(limit, number),
         _ => false,
     }
 }

@@ -1,5 +1,6 @@
 //! What a file answers of the samples of its tracks.
 
+use crate::tracks::shown;
 use mp4_media::{Comparisons, Error, Mp4Reader, Mp4Sample, Result, SamplePlace, SampleRef};
 use std::alloc::{AllocError, Global};
 use std::fmt::Write;
@@ -169,11 +170,11 @@ pub fn samples(alloc: Global, file: &mut OpenedFile, id: u32) -> Result<String> 
     Ok(text)
 }
 
-/// How many numbers were compared in each table to find sample `k` of a track, and how many sizes were read.
-pub fn comparisons(alloc: Global, movie: &Mp4Reader, id: u32, k: u32) -> Result<String> {
-    let Some(place) = located(movie, id, k)? else {
-        return Ok(String::from_str(alloc, "none")?);
-    };
+/// The names of the counts of a lookup.
+const COUNTS: [&str; 6] = ["stsc", "stts", "ctts", "stss", "runs", "sizes"];
+
+/// How many numbers were compared in each table to find a sample, and how many sizes were read.
+fn counts_of(place: &SamplePlace) -> [u32; 6] {
     let Comparisons {
         stsc,
         stts,
@@ -181,9 +182,70 @@ pub fn comparisons(alloc: Global, movie: &Mp4Reader, id: u32, k: u32) -> Result<
         stss,
         runs,
     } = place.comparisons;
-    let sizes = place.size_reads;
-    let text = format!(in alloc;
-        "stsc {stsc}, stts {stts}, ctts {ctts}, stss {stss}, runs {runs}, sizes {sizes}"
-    )?;
+    [stsc, stts, ctts, stss, runs, place.size_reads]
+}
+
+/// The smaller ones, or the larger ones, of two rows of counts.
+fn combined(one: [u32; 6], other: [u32; 6], is_larger: bool) -> [u32; 6] {
+    let mut counts = one;
+    for (count, other) in counts.iter_mut().zip(other) {
+        *count = if is_larger {
+            other.max(*count)
+        } else {
+            other.min(*count)
+        };
+    }
+    counts
+}
+
+/// Writes each count after its name, as `stsc 1`, or `stsc 1..3` where samples differ.
+fn counts_text(alloc: Global, least: [u32; 6], most: [u32; 6]) -> Result<String> {
+    let mut text = String::new(alloc);
+    for ((name, least), most) in COUNTS.iter().zip(least).zip(most) {
+        if !text.is_empty() {
+            text.push_str(", ")?;
+        }
+        write!(text, "{name} {least}")?;
+        if most > least {
+            write!(text, "..{most}")?;
+        }
+    }
     Ok(text)
+}
+
+/// How many numbers were compared in each table to find each of these samples of a track that is there, and how many
+/// sizes were read.
+pub fn comparisons(
+    alloc: Global,
+    movie: &Mp4Reader,
+    id: u32,
+    first: u32,
+    last: u32,
+) -> Result<String> {
+    let mut least = [u32::MAX; 6];
+    let mut most = [0; 6];
+    for k in first..=last {
+        if let Some(place) = located(movie, id, k)? {
+            let counts = counts_of(&place);
+            least = combined(least, counts, false);
+            most = combined(most, counts, true);
+        }
+    }
+    counts_text(alloc, least, most)
+}
+
+/// A value and its type's words for it, as a program prints them.
+pub fn printed(
+    alloc: Global,
+    file: &mut OpenedFile,
+    question: &str,
+    id: u32,
+    k: u32,
+) -> Result<Option<String>> {
+    Ok(Some(match question {
+        "located" => shown(alloc, located(&file.movie, id, k))?,
+        "borrowed" => shown(alloc, file.movie.read_sample_ref(id, k))?,
+        "copied" => shown(alloc, file.movie.read_sample(id, k))?,
+        _ => return Ok(None),
+    }))
 }

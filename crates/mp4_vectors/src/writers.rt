@@ -8,7 +8,7 @@ use std::alloc::Global;
 
 /// What came of the calls of a writer.
 #[derive(Drop)]
-struct Written {
+struct Outcome {
     /// The answer to the last call.
     reply: String,
     bytes: Vec<u8>,
@@ -118,18 +118,18 @@ fn reply_of(alloc: Global, reply: Option<&Result<()>>) -> Result<String> {
 }
 
 /// What comes of calls.
-fn run(alloc: Global, writer: Mp4Writer, calls: &[WriterCall]) -> Result<Written> {
+fn run(alloc: Global, writer: Mp4Writer, calls: &[WriterCall]) -> Result<Outcome> {
     let mut writer = writer;
     let replies = writer.run(calls)?;
     let reply = reply_of(alloc, replies.last())?;
-    Ok(Written {
+    Ok(Outcome {
         reply,
         bytes: writer.into_writer(),
     })
 }
 
 /// What comes of a beginning and its calls; None where they aren't any.
-fn written(alloc: Global, words: &str) -> Result<Option<Written>> {
+fn written(alloc: Global, words: &str) -> Result<Option<Outcome>> {
     let texts: Vec<&str> = words.split(" / ").collect(alloc)?;
     let [beginning, calls @ ..] = texts.as_slice() else {
         return Ok(None);
