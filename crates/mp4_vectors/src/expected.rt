@@ -8,14 +8,12 @@ use std::alloc::Global;
 /// How an answer is compared.
 #[derive(Clone, Copy, Drop)]
 enum Comparison {
-    /// It is the expected text.
-    Text,
-    /// It is the expected bytes.
-    Bytes,
-    /// The expected text is a part of it.
-    Part,
-    /// The expected bytes are a part of it.
-    BytesPart,
+    /// It is what is expected.
+    Whole,
+    /// It has the expected parts, one after the other, perhaps with more between them.
+    Parts,
+    /// It doesn't have what is said.
+    Lack,
     /// Its counts are those that are named, or within their limits.
     Counts,
 }
@@ -27,35 +25,64 @@ pub struct Expected {
     comparison: Comparison,
 }
 
+/// What is between two parts of an answer.
+const BETWEEN: &str = " .. ";
+
 /// The question whose answer is compared: that of `has` is the value.
 pub fn question_of(question: &str) -> &str {
     if question == "has" {
         return "value";
     }
-    question.strip_suffix(" has").unwrap_or(question)
+    let question = question.strip_suffix(" has").unwrap_or(question);
+    question.strip_suffix(" lacks").unwrap_or(question)
 }
 
-/// Whether bytes are the answer to a question.
-fn is_of_bytes(question: &str) -> bool {
+/// Whether bytes are expected as the answer to a question.
+fn has_bytes(question: &str, expected: &str) -> bool {
     let first = question.split(' ').next().unwrap_or("");
-    first == "written" || first == "finished"
+    (first == "written" || first == "finished")
+        && expected != "same"
+        && !expected.starts_with("refused:")
 }
 
 /// How the answer to a question is compared.
 fn comparison_of(question: &str, expected: &str) -> Comparison {
-    let has_bytes = is_of_bytes(question)
-        && expected != "same"
-        && !expected.starts_with("refused:");
-    let is_part = question == "has" || question.ends_with(" has");
     if question.starts_with("comparisons ") && !expected.starts_with("refused:") {
-        return Comparison::Counts;
+        Comparison::Counts
+    } else if question == "has" || question.ends_with(" has") {
+        Comparison::Parts
+    } else if question.ends_with(" lacks") {
+        Comparison::Lack
+    } else {
+        Comparison::Whole
     }
-    match (has_bytes, is_part) {
-        (true, true) => Comparison::BytesPart,
-        (true, false) => Comparison::Bytes,
-        (false, true) => Comparison::Part,
-        (false, false) => Comparison::Text,
+}
+
+/// Whether a text has these parts, one after the other.
+fn has_parts(text: &str, parts: &str) -> bool {
+    let mut rest = text;
+    for part in parts.split(BETWEEN) {
+        match rest.split_once(part) {
+            Some((_, after)) => rest = after,
+            None => return false,
+        }
     }
+    true
+}
+
+/// The digits of the bytes that each part encodes; None where one encodes none.
+fn digits_of_parts(alloc: Global, names: &Names, parts: &str) -> Result<Option<String>> {
+    let mut text = String::new(alloc);
+    for part in parts.split(BETWEEN) {
+        let Some(bytes) = encoded(alloc, names, part)? else {
+            return Ok(None);
+        };
+        if !text.is_empty() {
+            text.push_str(BETWEEN)?;
+        }
+        text.push_str(&digits(alloc, &bytes)?)?;
+    }
+    Ok(Some(text))
 }
 
 /// Whether a number is as it is expected: `3`, `at most 3`, or `1 to 3`.
@@ -107,22 +134,24 @@ impl Expected {
         expected: &str,
     ) -> Result<Option<Expected>> {
         let comparison = comparison_of(question, expected);
-        let text = match comparison {
-            Comparison::Bytes | Comparison::BytesPart => match encoded(alloc, names, expected)? {
-                Some(bytes) => digits(alloc, bytes.as_slice())?,
-                None => return Ok(None),
-            },
-            _ => words(alloc, expected)?,
+        let text = if has_bytes(question, expected) {
+            digits_of_parts(alloc, names, expected)?
+        } else {
+            Some(words(alloc, expected)?)
         };
-        Ok(Some(Expected { text, comparison }))
+        match text {
+            Some(text) => Ok(Some(Expected { text, comparison })),
+            None => Ok(None),
+        }
     }
 
     /// Whether an answer is as expected.
     pub fn agrees(&self, given: &str) -> bool {
         let expected = self.text.as_str();
         match self.comparison {
-            Comparison::Text | Comparison::Bytes => expected == given,
-            Comparison::Part | Comparison::BytesPart => given.contains(expected),
+            Comparison::Whole => expected == given,
+            Comparison::Parts => has_parts(given, expected),
+            Comparison::Lack => !given.contains(expected),
             Comparison::Counts => are_counts(expected, given),
         }
     }
