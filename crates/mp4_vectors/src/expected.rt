@@ -108,19 +108,38 @@ fn are_within(expected: &str, numbers: &str) -> bool {
     }
 }
 
-/// Whether a count has the name of an expected one, and is as it is expected.
-fn is_count(expected: &str, given: &str) -> bool {
-    match (expected.split_once(' '), given.split_once(' ')) {
-        (Some((name, limit)), Some((other, number))) => name == other && are_within(limit, number),
-        _ => false,
-    }
+/// The name of a count, and its number or limit.
+fn parts_of(count: &str) -> (&str, &str) {
+    count.split_once(' ').unwrap_or((count, ""))
 }
 
-/// Whether each expected count is among those that were given.
+/// Whether a count has the name of an expected one, and is as it is expected.
+fn is_count(expected: &str, given: &str) -> bool {
+    let (name, limit) = parts_of(expected);
+    let (other, number) = parts_of(given);
+    name == other && are_within(limit, number)
+}
+
+/// Whether each given count that no expected one names is as it is expected of the others.
+fn are_others(expected: &str, limit: &str, given: &str) -> bool {
+    let mut all = true;
+    for count in given.split(", ") {
+        let (name, number) = parts_of(count);
+        let is_named = expected.split(", ").any(|other| parts_of(other).0 == name);
+        all = all && (is_named || are_within(limit, number));
+    }
+    all
+}
+
+/// Whether each expected count is among those that were given; `others 0` is said of those that aren't named.
 fn are_counts(expected: &str, given: &str) -> bool {
     let mut all = true;
     for count in expected.split(", ") {
-        all = all && given.split(", ").any(|other| is_count(count, other));
+        all = all
+            && match count.strip_prefix("others ") {
+                Some(limit) => are_others(expected, limit, given),
+                None => given.split(", ").any(|other| is_count(count, other)),
+            };
     }
     all
 }

@@ -170,6 +170,19 @@ pub fn samples(alloc: Global, file: &mut OpenedFile, id: u32) -> Result<String> 
     Ok(text)
 }
 
+/// What the numbers 0, the one after the last sample of a track, and 4294967295 are answered with.
+pub fn outside(alloc: Global, file: &mut OpenedFile, id: u32) -> Result<String> {
+    let after = file.movie.sample_count(id)?.saturating_add(1);
+    let mut text = String::new(alloc);
+    for k in [0, after, u32::MAX] {
+        if !text.is_empty() {
+            text.push_str(" / ")?;
+        }
+        write_sample(&mut text, file, id, k, true)?;
+    }
+    Ok(text)
+}
+
 /// The names of the counts of a lookup.
 const COUNTS: [&str; 6] = ["stsc", "stts", "ctts", "stss", "runs", "sizes"];
 
