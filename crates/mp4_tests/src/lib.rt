@@ -1,6 +1,6 @@
 //! What no case of `mp4_vectors` can say: values that no bytes give, what boxes are made with, random calls of the writer
-//! beside a plain model, what it wrote when it is read back, and that each call of every library succeeds with ample
-//! memory. What a contract says isn't tested again.
+//! beside a plain model, what it wrote when it is read back, random tables and files beside plain ones, a million samples,
+//! and that each call of every library succeeds with ample memory. What a contract says isn't tested again.
 #![tactic(auto)]
 
 #[cfg(test)]
@@ -10,11 +10,17 @@ mod large_tables;
 #[cfg(test)]
 mod long_lists;
 #[cfg(test)]
+mod million_samples;
+#[cfg(test)]
 mod movies;
 #[cfg(test)]
 mod parts;
 #[cfg(test)]
+mod random_files;
+#[cfg(test)]
 mod random_movies;
+#[cfg(test)]
+mod random_tracks;
 #[cfg(test)]
 mod refused_memory;
 #[cfg(test)]

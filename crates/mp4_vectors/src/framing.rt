@@ -1,7 +1,7 @@
 //! What headers of boxes and the children of payloads answer.
 
 use crate::encoded::digits;
-use mp4_media::{BoxHeader, ByteCursor, Child, Children, FourCC, Result};
+use mp4_media::{BoxHeader, ByteCursor, Child, Children, FourCC, Result, mdat_header};
 use std::alloc::Global;
 use std::fmt::Write;
 
@@ -37,6 +37,14 @@ pub fn answer_of_header(alloc: Global, bytes: &[u8], question: &str) -> Result<O
     match answer_of_read(alloc, bytes, question) {
         Ok(answer) => Ok(answer),
         Err(error) => Ok(Some(format!(in alloc; "refused: {error}")?)),
+    }
+}
+
+/// What the header of media data answers to a question, whose box has so many bytes; None where that is no question.
+pub fn answer_of_mdat(alloc: Global, size: &str, question: &str) -> Result<Option<String>> {
+    match (size.parse::<u64>(), question) {
+        (Ok(size), "written") => Ok(Some(digits(alloc, &mdat_header(size))?)),
+        _ => Ok(None),
     }
 }
 

@@ -1,7 +1,9 @@
 //! What a file answers of the samples of its tracks.
 
 use crate::tracks::shown;
-use mp4_media::{Comparisons, Error, Mp4Reader, Mp4Sample, Result, SamplePlace, SampleRef};
+use mp4_media::{
+    Comparisons, Error, Mp4Reader, Mp4Sample, Result, SamplePlace, SampleRef, read_mp4,
+};
 use std::alloc::{AllocError, Global};
 use std::fmt::Write;
 
@@ -247,6 +249,30 @@ pub fn comparisons(
     counts_text(alloc, least, most)
 }
 
+/// Whether two samples of a track are equal, as they are borrowed and as they are copied.
+pub fn compared(
+    alloc: Global,
+    movie: &mut Mp4Reader,
+    id: u32,
+    one: u32,
+    other: u32,
+) -> Result<String> {
+    let is_borrowed = movie.read_sample_ref(id, one)? == movie.read_sample_ref(id, other)?;
+    let is_copied = movie.read_sample(id, one)? == movie.read_sample(id, other)?;
+    let text = match (is_borrowed, is_copied) {
+        (true, true) => "equal",
+        (false, false) => "different",
+        _ => "equal in one way",
+    };
+    Ok(String::from_str(alloc, text)?)
+}
+
+/// A sample that is kept after the movie that it was read of.
+fn kept(alloc: Global, bytes: &[u8], id: u32, k: u32) -> Result<Option<SampleRef<'_>>> {
+    let movie = read_mp4(alloc, bytes)?;
+    movie.read_sample_ref(id, k)
+}
+
 /// A value and its type's words for it, as a program prints them.
 pub fn printed(
     alloc: Global,
@@ -257,7 +283,7 @@ pub fn printed(
 ) -> Result<Option<String>> {
     Ok(Some(match question {
         "located" => shown(alloc, located(&file.movie, id, k))?,
-        "borrowed" => shown(alloc, file.movie.read_sample_ref(id, k))?,
+        "borrowed" => shown(alloc, kept(alloc, file.bytes, id, k))?,
         "copied" => shown(alloc, file.movie.read_sample(id, k))?,
         _ => return Ok(None),
     }))

@@ -7,7 +7,7 @@ use crate::defaults::answer_of_default;
 use crate::fields::answer_of_fields;
 use crate::files::answer_of_file;
 use crate::fixed_point::{answer_of_i8, answer_of_u8, answer_of_u16};
-use crate::framing::{answer_of_children, answer_of_header};
+use crate::framing::{answer_of_children, answer_of_header, answer_of_mdat};
 use crate::kinds::answer_of_box;
 use crate::languages::answer_of_language;
 use crate::writers::answer_of_writer;
@@ -30,6 +30,7 @@ pub enum Subject {
     FixedU16,
     Header,
     Language,
+    Mdat,
     Writer,
 }
 
@@ -47,6 +48,7 @@ pub fn subject_of(word: &str) -> Option<Subject> {
         "header" => Some(Subject::Header),
         "i8.8" => Some(Subject::FixedI8),
         "language" => Some(Subject::Language),
+        "mdat" => Some(Subject::Mdat),
         "u8.8" => Some(Subject::FixedU8),
         "u16.16" => Some(Subject::FixedU16),
         "writer" => Some(Subject::Writer),
@@ -58,7 +60,7 @@ pub fn subject_of(word: &str) -> Option<Subject> {
 pub fn is_of_bytes(subject: Subject) -> bool {
     !matches!(
         &subject,
-        Subject::Codec | Subject::Config | Subject::Default | Subject::Writer
+        Subject::Codec | Subject::Config | Subject::Default | Subject::Mdat | Subject::Writer
     )
 }
 
@@ -85,6 +87,7 @@ pub fn answer(
         Subject::FixedU16 => answer_of_u16(alloc, bytes, question),
         Subject::Header => answer_of_header(alloc, bytes, question),
         Subject::Language => answer_of_language(alloc, bytes, question),
+        Subject::Mdat => answer_of_mdat(alloc, words, question),
         Subject::Writer => answer_of_writer(alloc, words, question),
     }
 }
