@@ -3,9 +3,7 @@
 use super::info::put;
 use super::runs::ran;
 use super::scripts::TEXT_SCRIPT;
-use crate::info::info_text;
-use crate::samples::samples_text;
-use crate::script::run_script;
+use mp4_script::{info_text, run_script, samples_text};
 use std::alloc::Global;
 use std::fs;
 use std::test::Fail;

@@ -1,12 +1,8 @@
 //! The texts that describe files.
 
 use super::scripts::{EMPTY_MOVIE, TEXT_SCRIPT};
-use crate::faults::fault_text;
-use crate::info::info_text;
-use crate::samples::samples_text;
-use crate::script::run_script;
-use crate::show::show_text;
 use mp4_media::{BoxType, Error};
+use mp4_script::{fault_text, info_text, run_script, samples_text, show_text};
 use std::alloc::Global;
 use std::test::Fail;
 

@@ -5,11 +5,8 @@
 use super::info::{EMPTY_INFO, TEXT_INFO, TEXT_SAMPLES};
 use super::runs::{Printed, ran};
 use super::scripts::{EMPTY_MOVIE, TEXT_SCRIPT};
-use crate::faults::fault_text;
-use crate::info::info_text;
-use crate::script::{ScriptFault, run_script};
-use crate::show::show_text;
 use mp4_media::{Error, Result};
+use mp4_script::{ScriptFault, fault_text, info_text, run_script, show_text};
 
 /// Prints that a request was refused, and answers whether the call said so.
 fn is_refusal(rt: &HostRuntime, error: &Error) -> bool {

@@ -1,7 +1,7 @@
 //! What scripts make.
 
-use crate::script::{ScriptFault, run_script};
 use mp4_media::{Error, Limit};
+use mp4_script::{ScriptFault, run_script};
 use std::test::Fail;
 
 /// The movie without tracks: a file type of isom, version 512, an empty mdat and a movie header of 1000 ticks
