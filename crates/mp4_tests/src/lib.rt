@@ -30,4 +30,8 @@ mod round_trip;
 #[cfg(test)]
 mod taste;
 #[cfg(test)]
+mod types;
+#[cfg(test)]
+mod unread_values;
+#[cfg(test)]
 mod written_rows;

@@ -5,6 +5,9 @@ use mp4_codec::{
     BoxType, ByteCursor, Error, FourCC, HEADER_EXT_SIZE, HEADER_SIZE, Items, KeyedItems, Limit,
     Result, Text, TryClone, all_children,
 };
+use mp4_entry::{
+    DecoderConfigDescriptor, DecoderSpecificDescriptor, ESDescriptor, SLConfigDescriptor,
+};
 use mp4_frag::MfhdBox;
 use mp4_leaf::{DataType, ElstEntry, FixedPointI8, FixedPointU8, FixedPointU16, Matrix, RgbColor};
 use mp4_table::{CttsEntry, StscEntry, SttsEntry};
@@ -225,11 +228,40 @@ fn entries_are_copied() -> bool {
     })
 }
 
+/// Whether the copies of the descriptors of a stream are equal to them.
+fn descriptors_are_copied() -> bool {
+    let dec_specific = DecoderSpecificDescriptor {
+        profile: 2,
+        freq_index: 3,
+        chan_conf: 2,
+    };
+    let dec_config = DecoderConfigDescriptor {
+        object_type_indication: 0x40,
+        stream_type: 5,
+        up_stream: 0,
+        buffer_size_db: 0,
+        max_bitrate: 128_000,
+        avg_bitrate: 128_000,
+        dec_specific,
+    };
+    let sl_config = SLConfigDescriptor {};
+    let stream = ESDescriptor {
+        es_id: 1,
+        dec_config,
+        sl_config,
+    };
+    is_copied(&stream)
+        && is_copied(&dec_config)
+        && is_copied(&dec_specific)
+        && is_copied(&sl_config)
+}
+
 #[test]
 fn a_copy_of_a_part_of_a_box_is_equal(rt: HostRuntime) {
     holds(&rt, "numbers", numbers_are_copied());
     holds(&rt, "parts", parts_are_copied());
     holds(&rt, "entries", entries_are_copied());
+    holds(&rt, "descriptors", descriptors_are_copied());
 }
 
 const MESSAGES: [(Error, &str); 21] = [

@@ -23,19 +23,34 @@ fn add_read_back<B: ReadBox + PartialEq>(
     Ok(())
 }
 
-/// What a value is written as, and what else isn't right: its size, its copy, or what is read back.
-fn written<B: AnyBox>(alloc: Global, value: &B) -> Result<String> {
-    let mut bytes = Vec::new(alloc);
-    let written = value.write_box(&mut bytes)?;
+/// The bytes that a value is written as, and what else isn't right: its size, its copy, or what is read back.
+fn compared<B: AnyBox>(alloc: Global, value: &B, bytes: &[u8]) -> Result<String> {
     let mut text = String::new(alloc);
-    write_digits(&mut text, bytes.as_slice())?;
-    if written != bytes.len() as u64 || value.box_size() != written {
-        write!(text, ", {} bytes for {written}", bytes.len())?;
+    write_digits(&mut text, bytes)?;
+    if value.box_size() != bytes.len() as u64 {
+        write!(text, ", of the size {}", value.box_size())?;
     }
     if value.try_clone()? != *value {
         text.push_str(", a copy isn't equal")?;
     }
-    add_read_back(alloc, &mut text, value, bytes.as_slice())?;
+    add_read_back(alloc, &mut text, value, bytes)?;
+    Ok(text)
+}
+
+/// What a value is written as in a buffer of one byte, or why it isn't; and whether the count of bytes is another, or a
+/// refusal changes the buffer.
+fn written<B: AnyBox>(alloc: Global, value: &B) -> Result<String> {
+    let mut out = vec![in alloc; 7u8]?;
+    let written = value.write_box(&mut out);
+    let bytes = out.get(1..).unwrap_or(&[]);
+    let mut text = match &written {
+        Ok(_) => compared(alloc, value, bytes)?,
+        Err(error) => format!(in alloc; "refused: {error}")?,
+    };
+    let count = written.unwrap_or(0);
+    if bytes.len() as u64 != count {
+        write!(text, ", {} bytes for {count}", bytes.len())?;
+    }
     Ok(text)
 }
 
@@ -48,10 +63,7 @@ pub fn answer_of_value<B: AnyBox>(
     Ok(Some(match question {
         "value" => format!(in alloc; "{value:?}")?,
         "size" => format!(in alloc; "{}", value.box_size())?,
-        "written" => match written(alloc, value) {
-            Ok(text) => text,
-            Err(error) => format!(in alloc; "refused: {error}")?,
-        },
+        "written" => written(alloc, value)?,
         _ => return Ok(None),
     }))
 }
