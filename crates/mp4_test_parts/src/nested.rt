@@ -54,10 +54,8 @@ pub const STSZ: &str = "00000020 7374737a 00000000 00000000 00000003 00000003 00
 
 pub const STCO: &str = "00000018 7374636f 00000000 00000002 00000030 00000036 ";
 
-pub const CO64: &str = "00000020 636f3634 00000000 00000002 0000000000000030 0000000000000036 ";
-
 /// The media of a track of these tables.
-pub fn media_of(alloc: Global, tables: &[&str]) -> Result<String> {
+fn media_of(alloc: Global, tables: &[&str]) -> Result<String> {
     let stbl = nest(alloc, "7374626c", tables)?;
     let minf = nest(alloc, "6d696e66", &[DINF, stbl.as_str()])?;
     nest(alloc, "6d646961", &[MDHD, HDLR, minf.as_str()])

@@ -1,12 +1,15 @@
-//! What no case of `mp4_vectors` can say: values that no bytes give, what boxes are made with, random calls of the writer
-//! beside a plain model, what it wrote when it is read back, random tables and files beside plain ones, a million samples,
-//! and that each call of every library succeeds with ample memory. What a contract says isn't tested again.
+//! What no case of `mp4_vectors` can say: values that no bytes give, what boxes are made with, random boxes, random calls
+//! of the writer beside a plain model, what it wrote when it is read back, random tables and files beside plain ones, a
+//! million samples, and that each call of every library succeeds with ample memory. What a contract says isn't tested
+//! again.
 #![tactic(auto)]
 
 #[cfg(test)]
 mod asserts;
 #[cfg(test)]
 mod large_tables;
+#[cfg(test)]
+mod laws;
 #[cfg(test)]
 mod long_lists;
 #[cfg(test)]
@@ -15,6 +18,8 @@ mod million_samples;
 mod movies;
 #[cfg(test)]
 mod parts;
+#[cfg(test)]
+mod random_boxes;
 #[cfg(test)]
 mod random_files;
 #[cfg(test)]
