@@ -39,9 +39,6 @@ pub const THREE_SAMPLES: TextFile<'static> = TextFile {
     behind: &[],
 };
 
-/// A movie of 116 bytes without tracks.
-pub const EMPTY_MOOV: [&str; 2] = ["00000074 6d6f6f76 ", MVHD];
-
 pub const MVEX: &str = "00000028 6d766578 \
     00000020 74726578 00000000 00000001 00000001 00000028 00000000 00000000 ";
 
@@ -91,10 +88,6 @@ pub fn file_of(alloc: Global, file: &TextFile) -> Result<Vec<u8>> {
     bytes.extend_from_slice(&hex(alloc, movie.as_str())?)?;
     bytes.extend_from_slice(&all_spelled(alloc, file.behind)?)?;
     Ok(bytes)
-}
-
-pub fn three_samples(alloc: Global) -> Result<Vec<u8>> {
-    file_of(alloc, &THREE_SAMPLES)
 }
 
 pub fn fragmented(alloc: Global) -> Result<Vec<u8>> {

@@ -1,7 +1,7 @@
 //! Tracks of tables that a test writes down: they are read as those of a file are.
 
 use mp4_boxes::{TrakBox, read_tables_have_first_samples};
-use mp4_codec::{Error, Items, ReadBox, Result};
+use mp4_codec::{Items, ReadBox, Result};
 use mp4_fragments::SampleDefaults;
 use mp4_lookup::{Mp4Track, SamplePlace};
 use mp4_plain_movies::plain_tables::{Tables, written_track};
@@ -41,16 +41,6 @@ pub fn found(track: &Mp4Track, k: u32) -> Option<SamplePlace> {
         Ok(place) => place,
         Err(_) => None,
     }
-}
-
-/// Whether a number is answered by no sample.
-pub fn is_past(track: &Mp4Track, k: u32) -> bool {
-    matches!(track.locate(k), Ok(None))
-}
-
-/// Whether a number is refused as invalid data.
-pub fn is_invalid_number(track: &Mp4Track, k: u32) -> bool {
-    matches!(track.locate(k), Err(Error::InvalidData(_)))
 }
 
 /// Offset and size, start and duration of a sample.

@@ -1,6 +1,5 @@
 //! What a writer and the plain model make of the calls that a test writes down.
 
-use crate::read_back::is_read_back;
 use crate::writer_calls::{config_of, make};
 use mp4_codec::{Error, Result};
 use mp4_media::Mp4Writer;
@@ -111,35 +110,4 @@ pub fn have_in_order(alloc: Global, bytes: &[u8], texts: &[&str]) -> Result<bool
         }
     }
     Ok(true)
-}
-
-/// Whether bytes have these four anywhere.
-pub fn have_code(bytes: &[u8], code: &[u8]) -> bool {
-    end_of(bytes, 0, code).is_some()
-}
-
-/// Whether the model and the writer make a movie of this many bytes, which has all that these texts
-/// spell, and is read back.
-pub fn is_written(
-    alloc: Global,
-    beginning: &Beginning,
-    calls: &[Call],
-    size: usize,
-    texts: &[&str],
-) -> Result<bool> {
-    let mut movie = movie_of(alloc, &[], beginning, calls)?;
-    let _ = movie.make(&Call::WriteEnd)?;
-    let bytes = written(alloc, &[], beginning, calls)?;
-    let is_spelled = bytes == movie.bytes && bytes.len() == size;
-    Ok(is_spelled && have_in_order(alloc, &bytes, texts)? && is_read_back(alloc, &bytes, &movie)?)
-}
-
-/// What a writer answers to the last of these calls.
-pub fn last_answer(alloc: Global, beginning: &Beginning, calls: &[Call]) -> Result<()> {
-    let mut writer = begun(alloc, &[], beginning)?;
-    let mut answer = Ok(());
-    for call in calls {
-        answer = make(alloc, &mut writer, call);
-    }
-    answer
 }

@@ -7,6 +7,8 @@
 #[cfg(test)]
 mod asserts;
 #[cfg(test)]
+mod large_sample;
+#[cfg(test)]
 mod large_tables;
 #[cfg(test)]
 mod laws;
@@ -14,8 +16,6 @@ mod laws;
 mod long_lists;
 #[cfg(test)]
 mod million_samples;
-#[cfg(test)]
-mod movies;
 #[cfg(test)]
 mod parts;
 #[cfg(test)]
@@ -38,5 +38,3 @@ mod taste;
 mod types;
 #[cfg(test)]
 mod unread_values;
-#[cfg(test)]
-mod written_rows;

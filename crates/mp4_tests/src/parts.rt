@@ -1,18 +1,17 @@
-//! What boxes are made with: the cursor, children of a type, lists, texts, maps, copies, and the messages of errors.
+//! What boxes are made with: the cursor, lists, texts, maps, copies, and the messages of errors.
 
 use crate::asserts::{check, holds, same};
 use mp4_codec::{
     BoxType, ByteCursor, Error, FourCC, HEADER_EXT_SIZE, HEADER_SIZE, Items, KeyedItems, Limit,
-    Result, Text, TryClone, all_children,
+    Result, Text, TryClone,
 };
 use mp4_entry::{
     DecoderConfigDescriptor, DecoderSpecificDescriptor, ESDescriptor, SLConfigDescriptor,
 };
-use mp4_frag::MfhdBox;
 use mp4_leaf::{DataType, ElstEntry, FixedPointI8, FixedPointU8, FixedPointU16, Matrix, RgbColor};
 use mp4_table::{CttsEntry, StscEntry, SttsEntry};
 use mp4_test_parts::sides::Side;
-use mp4_test_parts::spelled::{hex, prints};
+use mp4_test_parts::spelled::prints;
 use std::alloc::Global;
 use std::collections::HashMap;
 
@@ -32,33 +31,6 @@ fn a_cursor_takes_within_its_bytes(rt: HostRuntime) {
     same(&rt, cursor.rest().len(), 0);
     same(&rt, cursor.bytes().len(), 4);
     same(&rt, (HEADER_SIZE, HEADER_EXT_SIZE), (8, 4));
-}
-
-/// Fragment headers of the numbers 3, 1, 2 and 4.
-const FOUR: &str = "00000010 6d666864 00000000 00000003 00000010 6d666864 00000000 00000001 \
-    00000010 6d666864 00000000 00000002 00000010 6d666864 00000000 00000004";
-
-/// Whether all of four children are found, and the third is of number 2.
-fn all_are_found(alloc: Global) -> Result<bool> {
-    let bytes = hex(alloc, FOUR)?;
-    let all: Items<MfhdBox> = all_children(alloc, &bytes)?;
-    let third = all.get(2).map(|header| header.sequence_number);
-    Ok(all.len() == 4 && third == Some(2))
-}
-
-/// Whether children are refused of which the first has no fields.
-fn first_is_refused(alloc: Global) -> Result<bool> {
-    let bytes = hex(
-        alloc,
-        "00000008 6d666864 00000010 6d666864 00000000 00000002",
-    )?;
-    Ok(all_children::<MfhdBox>(alloc, &bytes).is_err())
-}
-
-#[test]
-fn all_children_of_a_type_are_found(rt: HostRuntime) {
-    check(&rt, 1, all_are_found(rt.alloc()));
-    check(&rt, 2, first_is_refused(rt.alloc()));
 }
 
 /// A list of two.

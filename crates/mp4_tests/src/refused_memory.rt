@@ -5,7 +5,6 @@
 use crate::asserts::check;
 use crate::asserts::holds;
 use crate::asserts::same;
-use crate::movies::config;
 use mp4_boxes::IlstBox;
 use mp4_boxes::Metadata;
 use mp4_boxes::MoofBox;
@@ -80,6 +79,7 @@ use mp4_movie_parts::reader_files::TextFile;
 use mp4_movie_parts::reader_files::file_of;
 use mp4_movie_parts::tracks::holds_of;
 use mp4_movie_parts::tracks::text_samples_are_found;
+use mp4_movie_parts::writer_calls::config_of;
 use mp4_movie_parts::writer_calls::make;
 use mp4_movie_parts::writer_calls::media_track;
 use mp4_movie_parts::writer_calls::writer_call;
@@ -678,8 +678,8 @@ fn a_refused_insert_leaves_the_map(rt: HostRuntime) {
 
 /// The configuration of the empty movie, which is made again after a refusal.
 fn config_again(rt: &HostRuntime) -> Result<Mp4Config> {
-    match config(rt.alloc()) {
-        Err(error) if is_refusal(rt, &error) => config(rt.alloc()),
+    match config_of(rt.alloc(), &ISOM) {
+        Err(error) if is_refusal(rt, &error) => config_of(rt.alloc(), &ISOM),
         answer => answer,
     }
 }

@@ -1,7 +1,9 @@
 //! What headers of boxes and the children of payloads answer.
 
 use crate::encoded::digits;
-use mp4_media::{BoxHeader, ByteCursor, Child, Children, FourCC, Result, mdat_header};
+use mp4_media::{
+    BoxHeader, ByteCursor, Child, Children, FourCC, MfhdBox, Result, all_children, mdat_header,
+};
 use std::alloc::Global;
 use std::fmt::Write;
 
@@ -67,15 +69,29 @@ fn add_children(alloc: Global, text: &mut String, payload: &[u8]) -> Result<()> 
     Ok(())
 }
 
+/// All children of a payload that are headers of movie fragments, or why they are refused.
+fn fragment_headers(alloc: Global, payload: &[u8]) -> Result<String> {
+    Ok(match all_children::<MfhdBox>(alloc, payload) {
+        Ok(headers) => format!(in alloc; "{:?}", headers.as_slice())?,
+        Err(error) => format!(in alloc; "refused: {error}")?,
+    })
+}
+
 /// The children of a payload one after the other, and whether it is closed after them.
-pub fn answer_of_children(alloc: Global, payload: &[u8], question: &str) -> Result<Option<String>> {
-    if question != "value" {
-        return Ok(None);
-    }
+fn listed_children(alloc: Global, payload: &[u8]) -> Result<String> {
     let mut text = String::new(alloc);
     match add_children(alloc, &mut text, payload) {
         Ok(()) => text.push_str("closed")?,
         Err(error) => write!(text, "refused: {error}")?,
     }
-    Ok(Some(text))
+    Ok(text)
+}
+
+/// What the children of a payload answer to a question; None where that is no question.
+pub fn answer_of_children(alloc: Global, payload: &[u8], question: &str) -> Result<Option<String>> {
+    Ok(Some(match question {
+        "value" => listed_children(alloc, payload)?,
+        "all mfhd" => fragment_headers(alloc, payload)?,
+        _ => return Ok(None),
+    }))
 }
