@@ -15,13 +15,21 @@ mod laws;
 #[cfg(test)]
 mod long_lists;
 #[cfg(test)]
+mod million_members;
+#[cfg(test)]
 mod million_samples;
 #[cfg(test)]
 mod parts;
 #[cfg(test)]
+mod plain_fragments;
+#[cfg(test)]
 mod random_boxes;
 #[cfg(test)]
 mod random_files;
+#[cfg(test)]
+mod random_fragment_files;
+#[cfg(test)]
+mod random_fragments;
 #[cfg(test)]
 mod random_movies;
 #[cfg(test)]

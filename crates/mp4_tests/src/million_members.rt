@@ -1,9 +1,8 @@
 //! The file of a run that lists a million samples, of which each is looked up and lent.
 
 use crate::asserts::check;
-use crate::fragment_files::{is_member, sync};
 use mp4_codec::Result;
-use mp4_lookup::SampleRef;
+use mp4_lookup::{Comparisons, Mp4Track, SamplePlace, SampleRef};
 use mp4_media::{Mp4Reader, read_mp4};
 use mp4_movie_parts::asked::lends;
 use mp4_movie_parts::walked_lookup::WalkedPlace;
@@ -84,12 +83,42 @@ fn file(alloc: Global) -> Result<(Vec<u8>, u64)> {
 /// Where sample `k` lies and when it is decoded and shown, if the first lies at `start`.
 fn place_of(start: u64, k: u32) -> WalkedPlace {
     let before = u64::from(k).wrapping_sub(1);
-    sync(
-        start.wrapping_add(u64::from(k / 2)),
-        k % 2,
-        before.wrapping_add(before / 2),
-        2 - k % 2,
-    )
+    WalkedPlace {
+        offset: start.wrapping_add(u64::from(k / 2)),
+        size: k % 2,
+        start_time: before.wrapping_add(before / 2),
+        duration: 2 - k % 2,
+        rendering_offset: 0,
+        is_sync: true,
+    }
+}
+
+/// Whether a sample was found by one comparison, in the runs.
+fn is_found_by_runs(place: &SamplePlace) -> bool {
+    let expected = Comparisons {
+        stsc: 0,
+        stts: 0,
+        ctts: 0,
+        stss: 0,
+        runs: 1,
+    };
+    place.comparisons == expected && place.size_reads == 0
+}
+
+/// Whether a number is found there, by one comparison.
+fn is_member_at(track: &Mp4Track, k: u32, place: &WalkedPlace) -> bool {
+    match track.locate(k) {
+        Ok(Some(found)) => place.is_same(&found) && is_found_by_runs(&found),
+        _ => false,
+    }
+}
+
+/// The same of the track of id 1.
+fn is_member(reader: &Mp4Reader, k: u32, place: &WalkedPlace) -> bool {
+    match reader.tracks().get(&1) {
+        None => false,
+        Some(track) => is_member_at(track, k, place),
+    }
 }
 
 /// Whether sample `k` is lent.
@@ -131,7 +160,7 @@ fn far_ones_are_lent(reader: &Mp4Reader, start: u64) -> bool {
         SAMPLES - 64,
     ] {
         let place = place_of(start, k);
-        all = all && is_member(reader, 1, k, &place, 1) && is_lent(reader, start, k);
+        all = all && is_member(reader, k, &place) && is_lent(reader, start, k);
     }
     all
 }
