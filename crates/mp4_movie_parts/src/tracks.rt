@@ -36,7 +36,7 @@ pub fn holds_of<F: FnOnce(&Mp4Track) -> bool>(
 }
 
 /// The place of a sample that is there.
-pub fn found(track: &Mp4Track, k: u32) -> Option<SamplePlace> {
+fn found(track: &Mp4Track, k: u32) -> Option<SamplePlace> {
     match track.locate(k) {
         Ok(place) => place,
         Err(_) => None,
@@ -44,7 +44,7 @@ pub fn found(track: &Mp4Track, k: u32) -> Option<SamplePlace> {
 }
 
 /// Offset and size, start and duration of a sample.
-pub fn bytes_and_times(track: &Mp4Track, k: u32) -> Option<(u64, u32, u64, u32)> {
+fn bytes_and_times(track: &Mp4Track, k: u32) -> Option<(u64, u32, u64, u32)> {
     match found(track, k) {
         None => None,
         Some(place) => Some((place.offset, place.size, place.start_time, place.duration)),
@@ -52,7 +52,7 @@ pub fn bytes_and_times(track: &Mp4Track, k: u32) -> Option<(u64, u32, u64, u32)>
 }
 
 /// Whether a sample is found, and is a sync sample.
-pub fn is_sync(track: &Mp4Track, k: u32) -> bool {
+fn is_sync(track: &Mp4Track, k: u32) -> bool {
     match found(track, k) {
         None => false,
         Some(place) => place.is_sync,
