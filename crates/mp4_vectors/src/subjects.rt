@@ -4,12 +4,14 @@ use crate::codecs::answer_of_codec;
 use crate::codes::answer_of_code;
 use crate::configs::answer_of_config;
 use crate::defaults::answer_of_default;
+use crate::encoded::{Names, encoded};
 use crate::fields::answer_of_fields;
 use crate::files::answer_of_file;
 use crate::fixed_point::{answer_of_i8, answer_of_u8, answer_of_u16};
 use crate::framing::{answer_of_children, answer_of_header, answer_of_mdat};
 use crate::kinds::answer_of_box;
 use crate::languages::answer_of_language;
+use crate::scripts::{answer_of_script, script_of};
 use crate::writers::answer_of_writer;
 use mp4_media::Result;
 use std::alloc::Global;
@@ -31,6 +33,7 @@ pub enum Subject {
     Header,
     Language,
     Mdat,
+    Script,
     Writer,
 }
 
@@ -49,6 +52,7 @@ pub fn subject_of(word: &str) -> Option<Subject> {
         "i8.8" => Some(Subject::FixedI8),
         "language" => Some(Subject::Language),
         "mdat" => Some(Subject::Mdat),
+        "script" => Some(Subject::Script),
         "u8.8" => Some(Subject::FixedU8),
         "u16.16" => Some(Subject::FixedU16),
         "writer" => Some(Subject::Writer),
@@ -56,12 +60,20 @@ pub fn subject_of(word: &str) -> Option<Subject> {
     }
 }
 
-/// Whether the words of a subject encode bytes.
-pub fn is_of_bytes(subject: Subject) -> bool {
-    !matches!(
-        &subject,
-        Subject::Codec | Subject::Config | Subject::Default | Subject::Mdat | Subject::Writer
-    )
+/// The bytes that the words of a subject encode, none where they encode no bytes by their kind; None where they should.
+pub fn bytes_of(
+    alloc: Global,
+    names: &Names,
+    subject: Subject,
+    words: &str,
+) -> Result<Option<Vec<u8>>> {
+    match subject {
+        Subject::Codec | Subject::Config | Subject::Default | Subject::Writer => {
+            Ok(Some(Vec::new(alloc)))
+        }
+        Subject::Script => Ok(script_of(alloc, words)?),
+        _ => encoded(alloc, names, words),
+    }
 }
 
 /// What a subject answers to a question; None where that is no question. `words` is what stands after the subject's
@@ -88,6 +100,7 @@ pub fn answer(
         Subject::Header => answer_of_header(alloc, bytes, question),
         Subject::Language => answer_of_language(alloc, bytes, question),
         Subject::Mdat => answer_of_mdat(alloc, words, question),
+        Subject::Script => answer_of_script(alloc, bytes, question),
         Subject::Writer => answer_of_writer(alloc, words, question),
     }
 }
