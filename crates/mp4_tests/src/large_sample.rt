@@ -1,9 +1,9 @@
 //! A sample of sound that has more bytes than its track can say in 24 bits.
 
 use crate::asserts::check;
+use crate::written::{have_in_order, written};
 use mp4_codec::Result;
 use mp4_entry::TrackType;
-use mp4_movie_parts::written::{have_in_order, written};
 use mp4_plain_movies::calls::{ISOM, Media, write_sync};
 use mp4_plain_movies::listed_calls::{STEREO, add_media};
 use std::alloc::Global;

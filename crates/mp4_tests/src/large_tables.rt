@@ -2,8 +2,8 @@
 
 use crate::asserts::check;
 use mp4_codec::Result;
+use mp4_plain_movies::spelled::{read_bytes, written};
 use mp4_table::{StscBox, SttsBox};
-use mp4_test_parts::spelled::{read_bytes, written};
 use std::alloc::Global;
 
 /// The bytes of a table of a million entries, which each begin with their place, before these bytes.

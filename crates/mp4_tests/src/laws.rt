@@ -5,11 +5,11 @@ use mp4_codec::{
     code_again, frame_has_its_head, header_says_its_box, insertion_changes_one_key,
     payload_has_its_children, refused_head_says_why, what_is_written_reads_back,
 };
+use mp4_plain_movies::sample_boxes::Number;
+use mp4_plain_movies::sides::Side;
 use mp4_table::{
     entries_are_no_fewer_than_turns, entries_have_first_samples, runs_are_no_fewer_than_turns,
 };
-use mp4_test_parts::sample_boxes::Number;
-use mp4_test_parts::sides::Side;
 
 #[test]
 fn a_law_can_be_called(rt: HostRuntime) {

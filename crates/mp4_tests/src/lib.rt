@@ -5,6 +5,8 @@
 #![tactic(auto)]
 
 #[cfg(test)]
+mod asked;
+#[cfg(test)]
 mod asserts;
 #[cfg(test)]
 mod large_sample;
@@ -35,6 +37,10 @@ mod random_movies;
 #[cfg(test)]
 mod random_tracks;
 #[cfg(test)]
+mod read_back;
+#[cfg(test)]
+mod reader_files;
+#[cfg(test)]
 mod refused_memory;
 #[cfg(test)]
 mod refused_writes;
@@ -43,6 +49,14 @@ mod round_trip;
 #[cfg(test)]
 mod taste;
 #[cfg(test)]
+mod tracks;
+#[cfg(test)]
 mod types;
 #[cfg(test)]
 mod unread_values;
+#[cfg(test)]
+mod walked_lookup;
+#[cfg(test)]
+mod writer_calls;
+#[cfg(test)]
+mod written;

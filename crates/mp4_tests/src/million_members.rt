@@ -1,11 +1,11 @@
 //! The file of a run that lists a million samples, of which each is looked up and lent.
 
+use crate::asked::lends;
 use crate::asserts::check;
+use crate::walked_lookup::WalkedPlace;
 use mp4_codec::Result;
 use mp4_lookup::{Comparisons, Mp4Track, SamplePlace, SampleRef};
 use mp4_media::{Mp4Reader, read_mp4};
-use mp4_movie_parts::asked::lends;
-use mp4_movie_parts::walked_lookup::WalkedPlace;
 use mp4_plain_movies::movie_bytes::EMPTY_MOVIE;
 use mp4_plain_movies::plain_bytes::{begin_box, end_box, put, put_over, put_pair};
 use mp4_plain_movies::plain_tables::{Tables, put_movie};

@@ -9,9 +9,9 @@ use mp4_entry::{
     DecoderConfigDescriptor, DecoderSpecificDescriptor, ESDescriptor, SLConfigDescriptor,
 };
 use mp4_leaf::{DataType, ElstEntry, FixedPointI8, FixedPointU8, FixedPointU16, Matrix, RgbColor};
+use mp4_plain_movies::sides::Side;
+use mp4_plain_movies::spelled::prints;
 use mp4_table::{CttsEntry, StscEntry, SttsEntry};
-use mp4_test_parts::sides::Side;
-use mp4_test_parts::spelled::prints;
 use std::alloc::Global;
 use std::collections::HashMap;
 

@@ -1,9 +1,9 @@
 //! The samples of a movie's tracks that its fragments add, written out member by member. They are compared with what the
 //! lookup finds, and not proved.
 
+use crate::walked_lookup::{WalkedPlace, walk};
 use mp4_boxes::{StblBox, TrakBox};
 use mp4_codec::{Error, Result};
-use mp4_movie_parts::walked_lookup::{WalkedPlace, walk};
 use mp4_table::SttsEntry;
 use std::alloc::Global;
 

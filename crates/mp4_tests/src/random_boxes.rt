@@ -13,11 +13,11 @@ use mp4_leaf::{
     DataBox, DataType, DinfBox, ElstBox, ElstEntry, HdlrBox, MdhdBox, MvhdBox, SmhdBox, TkhdBox,
     VmhdBox,
 };
+use mp4_plain_movies::random::Random;
+use mp4_plain_movies::spelled::{read_bytes, written};
 use mp4_table::{
     Co64Box, CttsBox, CttsEntry, StcoBox, StscBox, StscEntry, StssBox, StszBox, SttsBox, SttsEntry,
 };
-use mp4_test_parts::random::Random;
-use mp4_test_parts::spelled::{read_bytes, written};
 use std::alloc::Global;
 
 /// At most three numbers.

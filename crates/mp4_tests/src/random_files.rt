@@ -1,14 +1,14 @@
 //! Files of random boxes in a random order, from fixed seeds, some of them cut: each is opened as a plain program says.
 
+use crate::asked::{are_same_refusal, locates, reads_there};
 use crate::asserts::check;
+use crate::walked_lookup::{WalkedPlace, walk};
 use mp4_codec::{BoxType, Error, Result};
 use mp4_media::{Mp4Reader, read_mp4};
-use mp4_movie_parts::asked::{are_same_refusal, locates, reads_there};
-use mp4_movie_parts::walked_lookup::{WalkedPlace, walk};
 use mp4_plain_movies::movie_bytes::EMPTY_MOVIE;
 use mp4_plain_movies::plain_bytes::{begin_box, end_box, put, put_over, put_pair};
+use mp4_plain_movies::random::Random;
 use mp4_plain_movies::random_tables::random_track;
-use mp4_test_parts::random::Random;
 use std::alloc::Global;
 
 /// A file as a plain program keeps it: its bytes, and what they say.

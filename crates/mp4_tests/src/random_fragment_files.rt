@@ -1,14 +1,14 @@
 //! Random files of fragments, from fixed seeds: each number of each track is answered as a plain program says, which
 //! writes all members out.
 
+use crate::asked::{locates, reads_there};
 use crate::asserts::check;
 use crate::plain_fragments::{PlainTrack, written_out};
 use crate::random_fragments::random_file;
+use crate::walked_lookup::WalkedPlace;
 use mp4_codec::{Error, Result};
 use mp4_media::{Mp4Reader, read_mp4};
-use mp4_movie_parts::asked::{locates, reads_there};
-use mp4_movie_parts::walked_lookup::WalkedPlace;
-use mp4_test_parts::random::Random;
+use mp4_plain_movies::random::Random;
 use std::alloc::Global;
 
 /// How many samples the movie box counts for the track at an index.

@@ -4,8 +4,8 @@ use crate::plain_fragments::{NOTHING, PlainFragment, PlainPart, PlainRun, PlainV
 use mp4_codec::Result;
 use mp4_plain_movies::movie_bytes::EMPTY_MOVIE;
 use mp4_plain_movies::plain_bytes::{begin_box, end_box, put, put_over, put_pair};
+use mp4_plain_movies::random::Random;
 use mp4_plain_movies::random_tables::random_track;
-use mp4_test_parts::random::Random;
 use std::alloc::Global;
 
 /// The bytes of a file, and what is said in them of fragments.

@@ -1,13 +1,13 @@
 //! Tracks of random tables, from fixed seeds: at each number the lookup answers as a walk over the tables does.
 
+use crate::asked::are_same_refusal;
 use crate::asserts::check;
+use crate::tracks::holds_of;
+use crate::walked_lookup::walk;
 use mp4_codec::Result;
 use mp4_lookup::Mp4Track;
-use mp4_movie_parts::asked::are_same_refusal;
-use mp4_movie_parts::tracks::holds_of;
-use mp4_movie_parts::walked_lookup::walk;
+use mp4_plain_movies::random::Random;
 use mp4_plain_movies::random_tables::{RandomTables, break_one, put_all};
-use mp4_test_parts::random::Random;
 use std::alloc::Global;
 
 /// Whether the lookup and the walk answer the same at a number.

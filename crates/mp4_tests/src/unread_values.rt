@@ -9,7 +9,7 @@ use mp4_codec::{BoxType, FourCC, Items, Result, Text, WriteBox};
 use mp4_entry::{Avc1Box, AvcCBox, EsdsBox, Hev1Box, Mp4aBox, NalUnit, StsdBox, Tx3gBox};
 use mp4_frag::TrunBox;
 use mp4_leaf::{DataBox, DataType, HdlrBox};
-use mp4_test_parts::spelled::{
+use mp4_plain_movies::spelled::{
     also, both, hex, is_invalid, is_unrepresentable, read_bytes, writes, written,
 };
 use std::alloc::Global;

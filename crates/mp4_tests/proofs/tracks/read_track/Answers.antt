@@ -1,4 +1,4 @@
-use Rattle.mp4_movie_parts.proofs.tracks.read_track.Goals as goal
+use Rattle.mp4_tests.proofs.tracks.read_track.Goals as goal
 
 pub new-requires-2-clause-first_samples : goal.new-requires-2-clause-first_samples
 new-requires-2-clause-first_samples c =

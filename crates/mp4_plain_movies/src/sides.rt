@@ -1,7 +1,7 @@
 //! Keys for what is generic over keys.
 
 ghost use Rattle.std.specs.Prelude.{[], ◌∷◌, refl};
-ghost use Rattle.mp4_test_parts.specs.declared.sides.Side.TheVariants.{North, East, South, West};
+ghost use Rattle.mp4_plain_movies.specs.declared.sides.Side.TheVariants.{North, East, South, West};
 
 use mp4_codec::Key;
 

@@ -1,8 +1,8 @@
 //! Files that a test writes down.
 
 use mp4_codec::Result;
-use mp4_test_parts::nested::{DINF, HDLR, MDHD, MVHD, STSD, TKHD, nest};
-use mp4_test_parts::spelled::hex;
+use mp4_plain_movies::nested::{DINF, HDLR, MDHD, MVHD, STSD, TKHD, nest};
+use mp4_plain_movies::spelled::hex;
 use std::alloc::Global;
 
 /// A file of a movie with one text track, in texts that spell its boxes.
