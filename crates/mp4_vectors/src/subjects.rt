@@ -68,7 +68,7 @@ pub fn bytes_of(
     words: &str,
 ) -> Result<Option<Vec<u8>>> {
     match subject {
-        Subject::Codec | Subject::Config | Subject::Default | Subject::Writer => {
+        Subject::Codec | Subject::Config | Subject::Default | Subject::Mdat | Subject::Writer => {
             Ok(Some(Vec::new(alloc)))
         }
         Subject::Script => Ok(script_of(alloc, words)?),
