@@ -72,24 +72,33 @@ fn track_type_of(word: &str) -> Option<TrackType> {
     }
 }
 
+/// The language that bytes spell.
+fn language_of(alloc: Global, word: &str) -> Result<Option<Text>> {
+    match str::from_utf8(&encoded_word(alloc, word)?) {
+        Ok(language) => Ok(Some(Text::from_str(alloc, language)?)),
+        Err(_) => Ok(None),
+    }
+}
+
+/// Puts a value in the place of another. Whether there is one.
+fn set<T: Drop>(place: &mut T, value: Option<T>) -> bool {
+    match value {
+        Some(value) => {
+            *place = value;
+            true
+        }
+        None => false,
+    }
+}
+
 /// Changes what a track is added with: `timescale 3`, `language 'eng'` or `type video`. Whether that is such a change.
 fn set_option(alloc: Global, config: &mut TrackConfig, option: &str) -> Result<bool> {
-    match option.split_once(' ') {
-        Some(("timescale", number)) => match number.parse::<u32>() {
-            Ok(timescale) => config.timescale = timescale,
-            Err(_) => return Ok(false),
-        },
-        Some(("language", word)) => match str::from_utf8(&encoded_word(alloc, word)?) {
-            Ok(language) => config.language = Text::from_str(alloc, language)?,
-            Err(_) => return Ok(false),
-        },
-        Some(("type", word)) => match track_type_of(word) {
-            Some(track_type) => config.track_type = track_type,
-            None => return Ok(false),
-        },
-        _ => return Ok(false),
-    }
-    Ok(true)
+    Ok(match option.split_once(' ') {
+        Some(("timescale", number)) => set(&mut config.timescale, number.parse::<u32>().ok()),
+        Some(("language", word)) => set(&mut config.language, language_of(alloc, word)?),
+        Some(("type", word)) => set(&mut config.track_type, track_type_of(word)),
+        _ => false,
+    })
 }
 
 /// What a track is added with: its media, and after commas what differs from 1000 ticks a second, the language `und`

@@ -13,7 +13,7 @@ use crate::kinds::answer_of_box;
 use crate::languages::answer_of_language;
 use crate::scripts::{answer_of_script, script_of};
 use crate::writers::answer_of_writer;
-use mp4_media::Result;
+use mp4_media::{Error, Result};
 use std::alloc::Global;
 
 /// What is asked.
@@ -76,9 +76,8 @@ pub fn bytes_of(
     }
 }
 
-/// What a subject answers to a question; None where that is no question. `words` is what stands after the subject's
-/// word, and `bytes` is what they encode if they encode bytes.
-pub fn answer(
+/// What a subject answers to a question, or why it refuses it.
+fn asked(
     alloc: Global,
     subject: Subject,
     words: &str,
@@ -102,5 +101,21 @@ pub fn answer(
         Subject::Mdat => answer_of_mdat(alloc, words, question),
         Subject::Script => answer_of_script(alloc, bytes, question),
         Subject::Writer => answer_of_writer(alloc, words, question),
+    }
+}
+
+/// What a subject answers to a question; None where that is no question. `words` is what stands after the subject's
+/// word, and `bytes` is what they encode if they encode bytes.
+pub fn answer(
+    alloc: Global,
+    subject: Subject,
+    words: &str,
+    bytes: &[u8],
+    question: &str,
+) -> Result<Option<String>> {
+    match asked(alloc, subject, words, bytes, question) {
+        Err(Error::OutOfMemory) => Err(Error::OutOfMemory),
+        Err(error) => Ok(Some(format!(in alloc; "refused: {error}")?)),
+        answer => answer,
     }
 }
