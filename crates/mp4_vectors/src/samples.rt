@@ -200,17 +200,18 @@ fn counts_of(place: &SamplePlace) -> [u32; 6] {
     [stsc, stts, ctts, stss, runs, place.size_reads]
 }
 
-/// The smaller ones, or the larger ones, of two rows of counts.
-fn combined(one: [u32; 6], other: [u32; 6], is_larger: bool) -> [u32; 6] {
-    let mut counts = one;
-    for (count, other) in counts.iter_mut().zip(other) {
-        *count = if is_larger {
-            other.max(*count)
-        } else {
-            other.min(*count)
-        };
+/// Lowers each number to a count that is smaller.
+fn lower(least: &mut [u32; 6], counts: &[u32; 6]) {
+    for (number, count) in least.iter_mut().zip(counts.iter()) {
+        *number = (*number).min(*count);
     }
-    counts
+}
+
+/// Raises each number to a count that is larger.
+fn raise(most: &mut [u32; 6], counts: &[u32; 6]) {
+    for (number, count) in most.iter_mut().zip(counts.iter()) {
+        *number = (*number).max(*count);
+    }
 }
 
 /// Writes each count after its name, as `stsc 1`, or `stsc 1..3` where samples differ.
@@ -242,8 +243,8 @@ pub fn comparisons(
     for k in first..=last {
         if let Some(place) = located(movie, id, k)? {
             let counts = counts_of(&place);
-            least = combined(least, counts, false);
-            most = combined(most, counts, true);
+            lower(&mut least, &counts);
+            raise(&mut most, &counts);
         }
     }
     counts_text(alloc, least, most)
