@@ -65,16 +65,6 @@ stbl_added p c = do
     co64 = far_places;
   })
 
--- the description and the tables that have to be there
-unfoldable pub needed_tables : Option StsdBox → Option SttsBox → Option StscBox → Option StszBox
-    → Result (StsdBox × SttsBox × StscBox × StszBox) Cause
-needed_tables description durations chunks sizes = do
-  d ← needed stsd description
-  t ← needed stts durations
-  c ← needed stsc chunks
-  s ← needed stsz sizes
-  Ok (d, t, c, s)
-
 -- where the chunks lie, in 32 bits or in 64: one of the two has to be there
 abbrev pub needed_places : Option StcoBox → Option Co64Box → Result (Option StcoBox × Option Co64Box) Cause
 needed_places None None = Err (box2_not_found stco co64)

@@ -7,10 +7,11 @@ ghost use Rattle.mp4_codec.specs.Boxes.{size_around};
 ghost use Rattle.mp4_boxes.specs.Minf.{minf_payload, default_minf, minf_fault, minf_taken, minf_added, minf_of, minf_refusal, IsInRangeMinf, RemarksMinf};
 ghost use Rattle.mp4_boxes.specs.MinfLaws.{minf_adds, minf_again};
 
+use crate::parts::required_two;
 use crate::stbl::StblBox;
 use mp4_codec::{
     BoxType, Child, Gather, HEADER_SIZE, InRange, Mp4Box, Put, ReadBox, Result, TryClone, WriteBox,
-    gather_children, keep_last, optional_size, put_optional, required,
+    four_copies, gather_children, keep_last, optional_size, put_optional,
 };
 use mp4_leaf::{DinfBox, SmhdBox, VmhdBox};
 use std::alloc::Global;
@@ -67,11 +68,12 @@ impl MinfBox {
 
 impl TryClone for MinfBox {
     fn try_clone(&self) -> Result<Self> {
+        let (vmhd, smhd, dinf, stbl) = four_copies(&self.vmhd, &self.smhd, &self.dinf, &self.stbl)?;
         Ok(MinfBox {
-            vmhd: self.vmhd.try_clone()?,
-            smhd: self.smhd.try_clone()?,
-            dinf: self.dinf.try_clone()?,
-            stbl: self.stbl.try_clone()?,
+            vmhd,
+            smhd,
+            dinf,
+            stbl,
         })
     }
 }
@@ -140,7 +142,7 @@ impl Mp4Box for MinfBox {
 impl ReadBox for MinfBox {
     ghost value = { minf_of };
 
-    #[tactic(auto, unfolding(crate::specs::Minf::minf_of))]
+    #[tactic(auto, using(crate::proofs::Tables::minf_of_steps))]
     fn read_payload(alloc: Global, payload: &[u8]) -> Result<Self> {
         let MinfParts {
             vmhd,
@@ -148,8 +150,7 @@ impl ReadBox for MinfBox {
             dinf,
             stbl,
         } = gather_children(alloc, payload)?;
-        let dinf = required(dinf)?;
-        let stbl = required(stbl)?;
+        let (dinf, stbl) = required_two(dinf, stbl)?;
         Ok(MinfBox {
             vmhd,
             smhd,

@@ -9,8 +9,9 @@ ghost use Rattle.mp4_boxes.specs.MoofLaws.{moof_adds, moof_again};
 
 use crate::traf::TrafBox;
 use mp4_codec::{
-    BoxType, Child, Gather, HEADER_SIZE, InRange, Items, Mp4Box, Put, ReadBox, Result, TryClone,
-    WriteBox, all_size, check_all, gather_children, keep_each, keep_last, put_all, required,
+    BoxType, Child, DebugItem, Gather, HEADER_SIZE, InRange, Items, Mp4Box, Put, ReadBox, Result,
+    TryClone, WriteBox, all_size, check_all, gather_children, keep_each, keep_last, put_all,
+    required,
 };
 use mp4_frag::MfhdBox;
 use std::alloc::Global;
@@ -26,6 +27,8 @@ pub struct MoofBox {
     /// The fragments of tracks, in file order.
     pub trafs: Items<TrafBox>,
 }
+
+impl DebugItem for MoofBox {}
 
 impl MoofBox {
     /// A fragment of a default header, without tracks.

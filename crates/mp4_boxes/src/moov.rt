@@ -13,8 +13,8 @@ use crate::trak::TrakBox;
 use crate::udta::UdtaBox;
 use mp4_codec::{
     BoxType, Child, Gather, HEADER_SIZE, InRange, Items, Mp4Box, Put, ReadBox, Result, TryClone,
-    WriteBox, all_size, check_all, check_optional, gather_children, keep_each, keep_last,
-    optional_size, put_all, put_optional, required,
+    WriteBox, all_size, check_all, check_optional, four_copies, gather_children, keep_each,
+    keep_last, optional_size, put_all, put_optional, required,
 };
 use mp4_leaf::MvhdBox;
 use std::alloc::Global;
@@ -75,12 +75,18 @@ impl MoovBox {
 
 impl TryClone for MoovBox {
     fn try_clone(&self) -> Result<Self> {
+        let (traks, mvex, meta, udta) = four_copies(
+            &self.traks,
+            &self.mvex,
+            &self.meta,
+            &self.udta,
+        )?;
         Ok(MoovBox {
-            mvhd: self.mvhd.try_clone()?,
-            traks: self.traks.try_clone()?,
-            mvex: self.mvex.try_clone()?,
-            meta: self.meta.try_clone()?,
-            udta: self.udta.try_clone()?,
+            mvhd: self.mvhd,
+            traks,
+            mvex,
+            meta,
+            udta,
         })
     }
 }

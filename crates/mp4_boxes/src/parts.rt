@@ -1,10 +1,23 @@
-//! Several parts of a container at once.
+//! Several children of a container at once.
 
-ghost use Rattle.std.specs.Prelude.{◌≡◌, Ok};
-ghost use Rattle.mp4_codec.specs.Cause.{Answers, Gives};
-ghost use Rattle.mp4_boxes.specs.Needed.{three_needed};
+ghost use Rattle.std.specs.Prelude.{◌≡◌};
+ghost use Rattle.mp4_codec.specs.Cause.{Gives};
+ghost use Rattle.mp4_boxes.specs.Needed.{two_needed, three_needed, four_needed};
 
-use mp4_codec::{Mp4Box, Result, TryClone, required};
+use mp4_codec::{Mp4Box, Result, required};
+
+/// Two children that have to be there; `BoxNotFound` for the first that is missing.
+#[tactic(auto, unfolding(crate::specs::Needed::two_needed))]
+pub fn required_two<A: Mp4Box + Drop, B: Mp4Box + Drop>(
+    first: Option<A>,
+    second: Option<B>,
+) -> Result<(A, B)>
+    ensures { Gives (λ all. all) result (two_needed A.KIND B.KIND first second) }
+{
+    let first = required(first)?;
+    let second = required(second)?;
+    Ok((first, second))
+}
 
 /// Three children that have to be there; `BoxNotFound` for the first that is missing.
 #[tactic(auto, unfolding(crate::specs::Needed::three_needed))]
@@ -21,18 +34,24 @@ pub fn required_three<A: Mp4Box + Drop, B: Mp4Box + Drop, C: Mp4Box + Drop>(
     Ok((first, second, third))
 }
 
-/// Copies of four values. It is refused by `OutOfMemory` alone.
-pub fn four_copies<A: TryClone, B: TryClone, C: TryClone, D: TryClone>(
-    first: &A,
-    second: &B,
-    third: &C,
-    fourth: &D,
+/// Four children that have to be there; `BoxNotFound` for the first that is missing.
+#[tactic(auto, unfolding(crate::specs::Needed::four_needed))]
+pub fn required_four<A, B, C, D>(
+    first: Option<A>,
+    second: Option<B>,
+    third: Option<C>,
+    fourth: Option<D>,
 ) -> Result<(A, B, C, D)>
-    ensures { Answers (λ all. all) result (Ok (first.now, second.now, third.now, fourth.now)) }
+where
+    A: Mp4Box + Drop,
+    B: Mp4Box + Drop,
+    C: Mp4Box + Drop,
+    D: Mp4Box + Drop,
+    ensures { Gives (λ all. all) result (four_needed A.KIND B.KIND C.KIND D.KIND first second third fourth) }
 {
-    let first = first.try_clone()?;
-    let second = second.try_clone()?;
-    let third = third.try_clone()?;
-    let fourth = fourth.try_clone()?;
+    let first = required(first)?;
+    let second = required(second)?;
+    let third = required(third)?;
+    let fourth = required(fourth)?;
     Ok((first, second, third, fourth))
 }

@@ -4,13 +4,13 @@ ghost use Rattle.std.specs.Prelude.{◌≡◌, Ok};
 ghost use Rattle.mp4_codec.specs.declared.box_type.BoxType.TheVariants.{StblBox as stbl};
 ghost use Rattle.mp4_codec.specs.Cause.{Gives};
 ghost use Rattle.mp4_codec.specs.Boxes.{size_around};
-ghost use Rattle.mp4_boxes.specs.Stbl.{stbl_payload, default_stbl, stbl_fault, stbl_taken, stbl_added, stbl_of, stbl_refusal, needed_tables, needed_places, IsInRangeStbl, RemarksStbl};
+ghost use Rattle.mp4_boxes.specs.Stbl.{stbl_payload, default_stbl, stbl_fault, stbl_taken, stbl_added, stbl_of, stbl_refusal, needed_places, IsInRangeStbl, RemarksStbl};
 ghost use Rattle.mp4_boxes.specs.StblLaws.{stbl_adds, stbl_again};
 
-use crate::parts::four_copies;
+use crate::parts::required_four;
 use mp4_codec::{
     BoxType, Child, Error, Gather, HEADER_SIZE, InRange, Mp4Box, Put, ReadBox, Result, TryClone,
-    WriteBox, gather_children, keep_last, optional_size, put_optional, required,
+    WriteBox, four_copies, gather_children, keep_last, optional_size, put_optional,
 };
 use mp4_entry::StsdBox;
 use mp4_table::{Co64Box, CttsBox, StcoBox, StscBox, StssBox, StszBox, SttsBox};
@@ -45,23 +45,6 @@ pub struct StblBox {
     pub co64: Option<Co64Box>,
 }
 
-/// The description and the tables that have to be there; `BoxNotFound` for the first that is missing.
-#[tactic(auto, unfolding(crate::specs::Stbl::needed_tables))]
-fn required_tables(
-    stsd: Option<StsdBox>,
-    stts: Option<SttsBox>,
-    stsc: Option<StscBox>,
-    stsz: Option<StszBox>,
-) -> Result<(StsdBox, SttsBox, StscBox, StszBox)>
-    ensures { Gives (λ all. all) result (needed_tables stsd stts stsc stsz) }
-{
-    let stsd = required(stsd)?;
-    let stts = required(stts)?;
-    let stsc = required(stsc)?;
-    let stsz = required(stsz)?;
-    Ok((stsd, stts, stsc, stsz))
-}
-
 /// Both tables of the places of chunks, of which one has to be there; `Box2NotFound(StcoBox, Co64Box)`
 /// where neither is.
 fn required_places(
@@ -84,13 +67,16 @@ impl StblBox {
     pub fn default(alloc: Global) -> Result<Self>
         ensures { Gives (λ b. b) result (Ok default_stbl) }
     {
+        let stts = SttsBox::default(alloc)?;
+        let stsc = StscBox::default(alloc)?;
+        let stsz = StszBox::default(alloc)?;
         Ok(StblBox {
             stsd: StsdBox::default(),
-            stts: SttsBox::default(alloc)?,
+            stts,
             ctts: None,
             stss: None,
-            stsc: StscBox::default(alloc)?,
-            stsz: StszBox::default(alloc)?,
+            stsc,
+            stsz,
             stco: None,
             co64: None,
         })
@@ -122,8 +108,8 @@ impl StblBox {
 
 impl TryClone for StblBox {
     fn try_clone(&self) -> Result<Self> {
-        let (stsd, stts, stsc, stsz) = four_copies(&self.stsd, &self.stts, &self.stsc, &self.stsz)?;
         let (ctts, stss, stco, co64) = four_copies(&self.ctts, &self.stss, &self.stco, &self.co64)?;
+        let (stsd, stts, stsc, stsz) = four_copies(&self.stsd, &self.stts, &self.stsc, &self.stsz)?;
         Ok(StblBox {
             stsd,
             stts,
@@ -229,7 +215,7 @@ impl ReadBox for StblBox {
             stco,
             co64,
         } = gather_children(alloc, payload)?;
-        let (stsd, stts, stsc, stsz) = required_tables(stsd, stts, stsc, stsz)?;
+        let (stsd, stts, stsc, stsz) = required_four(stsd, stts, stsc, stsz)?;
         let (stco, co64) = required_places(stco, co64)?;
         Ok(StblBox {
             stsd,

@@ -8,8 +8,8 @@ ghost use Rattle.mp4_boxes.specs.Traf.{traf_payload, default_traf, traf_fault, t
 ghost use Rattle.mp4_boxes.specs.TrafLaws.{traf_adds, traf_again};
 
 use mp4_codec::{
-    BoxType, Child, Gather, HEADER_SIZE, InRange, Items, Mp4Box, Put, ReadBox, Result, TryClone,
-    WriteBox, all_size, check_all, check_optional, gather_children, keep_each, keep_last,
+    BoxType, Child, DebugItem, Gather, HEADER_SIZE, InRange, Items, Mp4Box, Put, ReadBox, Result,
+    TryClone, WriteBox, all_size, check_all, check_optional, gather_children, keep_each, keep_last,
     optional_size, put_all, put_optional, required,
 };
 use mp4_frag::{TfdtBox, TfhdBox, TrunBox};
@@ -28,6 +28,8 @@ pub struct TrafBox {
     /// The runs of samples, in file order.
     pub truns: Items<TrunBox>,
 }
+
+impl DebugItem for TrafBox {}
 
 impl TrafBox {
     /// A fragment of a default header, without a time and without runs.

@@ -10,9 +10,11 @@ ghost use Rattle.mp4_boxes.specs.TrakLaws.{trak_adds, trak_again};
 use crate::edts::EdtsBox;
 use crate::mdia::MdiaBox;
 use crate::meta::MetaBox;
+use crate::parts::required_two;
 use mp4_codec::{
-    BoxType, Child, Gather, HEADER_SIZE, InRange, Mp4Box, Put, ReadBox, Result, TryClone, WriteBox,
-    check_optional, gather_children, keep_last, optional_size, put_optional, required,
+    BoxType, Child, DebugItem, Gather, HEADER_SIZE, InRange, Mp4Box, Put, ReadBox, Result,
+    TryClone, WriteBox, check_optional, four_copies, gather_children, keep_last, optional_size,
+    put_optional,
 };
 use mp4_leaf::TkhdBox;
 use std::alloc::Global;
@@ -33,6 +35,8 @@ pub struct TrakBox {
     /// The media: its kind, and where its samples lie; it is required.
     pub mdia: MdiaBox,
 }
+
+impl DebugItem for TrakBox {}
 
 impl TrakBox {
     /// A default header and default media, without edits and metadata.
@@ -69,11 +73,12 @@ impl TrakBox {
 
 impl TryClone for TrakBox {
     fn try_clone(&self) -> Result<Self> {
+        let (tkhd, edts, meta, mdia) = four_copies(&self.tkhd, &self.edts, &self.meta, &self.mdia)?;
         Ok(TrakBox {
-            tkhd: self.tkhd.try_clone()?,
-            edts: self.edts.try_clone()?,
-            meta: self.meta.try_clone()?,
-            mdia: self.mdia.try_clone()?,
+            tkhd,
+            edts,
+            meta,
+            mdia,
         })
     }
 }
@@ -142,7 +147,7 @@ impl Mp4Box for TrakBox {
 impl ReadBox for TrakBox {
     ghost value = { trak_of };
 
-    #[tactic(auto, unfolding(crate::specs::Trak::trak_of))]
+    #[tactic(auto, using(crate::proofs::Media::trak_of_steps))]
     fn read_payload(alloc: Global, payload: &[u8]) -> Result<Self> {
         let TrakParts {
             tkhd,
@@ -150,8 +155,7 @@ impl ReadBox for TrakBox {
             meta,
             mdia,
         } = gather_children(alloc, payload)?;
-        let tkhd = required(tkhd)?;
-        let mdia = required(mdia)?;
+        let (tkhd, mdia) = required_two(tkhd, mdia)?;
         Ok(TrakBox {
             tkhd,
             edts,

@@ -3,6 +3,7 @@ use Rattle.std.specs.Prelude.{◌≡◌, ◌⊎◌, ℕ, Option, Some, None, Res
 use Rattle.mp4_codec.specs.declared.box_type.BoxType.{BoxType}
 use Rattle.mp4_codec.specs.declared.error.Limit.{Limit}
 use Rattle.mp4_codec.specs.declared.error.Error.{Error}
+use Rattle.mp4_codec.specs.declared.error.Malformed.{Malformed}
 use Rattle.mp4_codec.specs.declared.error.Error.TheVariants.{EndOfData, OutOfMemory, InvalidData, BoxNotFound}
 use Rattle.mp4_codec.specs.declared.error.Error.TheVariants.{Box2NotFound, TrakNotFound, BoxInTrakNotFound}
 use Rattle.mp4_codec.specs.declared.error.Error.TheVariants.{BoxInTrafNotFound, BoxInStblNotFound}
@@ -56,6 +57,11 @@ Gives view (Err e) answer = answer ≡ Err (cause_of e)
 abbrev pub Answers : {X Y : Type 0} → (X → Y) → Result X Error → Result Y Cause → Type 0
 Answers view (Ok x) answer = answer ≡ Ok (view x)
 Answers view (Err e) answer = (e ≡ OutOfMemory) ⊎ (answer ≡ Err (cause_of e))
+
+-- What a call that reads a field returned, seen by view, is just this answer.
+abbrev pub Reads : {X Y : Type 0} → (X → Y) → Result X Malformed → Result Y Cause → Type 0
+Reads view (Ok x) answer = answer ≡ Ok (view x)
+Reads view (Err malformed) answer = answer ≡ Err invalid_data
 
 -- What a call of a writer returned: where a cause holds it is just that cause; where none holds it is Ok, or memory
 -- ran out.

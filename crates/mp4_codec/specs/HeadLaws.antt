@@ -7,7 +7,9 @@ use Rattle.byteorder.specs.Endian.{big_number}
 use Rattle.mp4_codec.specs.declared.box_type.BoxType.{BoxType}
 use Rattle.mp4_codec.specs.BoxType.{box_type, IsNamed}
 use Rattle.mp4_codec.specs.Cause.{Cause, end_of_data, invalid_data, ◌>>=◌}
-use Rattle.mp4_codec.specs.Cursor.{Cursor, Head, left, moved, take_at, head_with, head_after, head_at, here}
+use Rattle.mp4_codec.specs.declared.header.BoxHeader.{BoxHeader}
+use Rattle.mp4_codec.specs.Cursor.{Cursor, Head, left, moved, take_at, head_with, head_after, head_at, here, reported}
+use Rattle.mp4_codec.specs.Cursor.{header_at}
 use Rattle.mp4_codec.specs.FramingLaws.{front, opened, enlarged, head_with-total}
 use Rattle.mp4_codec.specs.BoxType.{code_of}
 use Rattle.mp4_codec.specs.Bytes.{number, ◌⧺◌}
@@ -132,6 +134,22 @@ head_read place head behind e =
     let after = subst (λ (c : Cursor). head_after name (big_number 4 one.0.0) c ≡ Ok (head, behind)) (sym taken)
     one.2 in
     after_read place name (is_named name (big_number 4 (drop 4 one.0.0)) refl) head behind (big_number 4 one.0.0) after
+
+-- a header that was read, as it is reported
+pub record HeaderRead (place : Cursor) (header : BoxHeader) (behind : Cursor) : Type 0 where
+  pub named : IsNamed header.name
+  pub moves : place.position + 8 ≤ behind.position
+
+pub header_read : (place : Cursor) (header : BoxHeader) (behind : Cursor) → header_at place ≡ Ok (header, behind)
+    → HeaderRead place header behind
+header_read place header behind e =
+    let one = both_steps (head_at place) (λ (x : Head × Cursor). Ok (reported x.0, x.1)) (header, behind) e in
+    let same = ok_is (reported one.0.0, one.0.1) (header, behind) one.2 in
+    let name_is : one.0.0.name ≡ header.name = ap (λ (x : BoxHeader × Cursor). x.0.name) same in
+    let place_is : one.0.1.position ≡ behind.position = ap (λ (x : BoxHeader × Cursor). x.1.position) same in
+    let read = head_read place one.0.0 one.0.1 one.1 in
+    let after : one.0.1.position ≡ place.position + one.0.0.header = ap (λ (c : Cursor). c.position) read.after in
+    record { named = subst IsNamed name_is read.named; moves = omega (arith, read.long, place_is, after) }
 
 -- the bytes of the two kinds of headers
 short-is_front : (name : BoxType) (size : ℕ) → short_header name size ≡ front size (code_of name)

@@ -2,11 +2,11 @@
 
 ghost use Rattle.std.specs.Prelude.{◌≡◌, ℕ, List, length, Result, Ok, OnOk, min, ◌^◌, ◌-◌, ◌<◌};
 ghost use Rattle.std.specs.List.{flat_map};
-ghost use Rattle.mp4_codec.specs.Cause.{Cause, Gives, Answers, Checks, Refuses};
+ghost use Rattle.mp4_codec.specs.Cause.{Cause, Answers, Checks, Reads, Refuses};
 ghost use Rattle.mp4_codec.specs.Bytes.{Appends, ◌⧺◌, Reader, list_at, count_cause, number_at, number, four_cc_at, four_cc, IsCode, HasLength};
 ghost use Rattle.mp4_codec.specs.FieldLaws.{number_again, length-number, number-has_length, four_cc_again, length-four_cc, four_cc-has_length};
 
-use crate::error::{Error, Result};
+use crate::error::{Error, Field, Result};
 use crate::fields::Fields;
 use crate::four_cc::FourCC;
 use crate::items::Items;
@@ -29,8 +29,8 @@ pub trait Entry: Copy {
         ensures { result ≡ bytes_each version };
 
     /// The next entry.
-    fn read(fields: &mut Fields, version: u8) -> Result<Self>
-        ensures { Gives (λ x. (x, fields.new)) result (at version fields.old) };
+    fn read(fields: &mut Fields, version: u8) -> Field<Self>
+        ensures { Reads (λ x. (x, fields.new)) result (at version fields.old) };
 
     /// Adds the entry at the end of a buffer.
     fn put(self, out: &mut Vec<u8>, version: u8) -> Put
@@ -55,6 +55,18 @@ impl<'a> Fields<'a> {
         Ok(())
     }
 
+    /// So many entries, in a list that grows once.
+    fn entries<T: Entry>(&mut self, alloc: Global, version: u8, count: usize) -> Result<Items<T>>
+        ensures { Answers (λ xs. (xs, self.new)) result (list_at (T.at version) count self.old) }
+    {
+        let mut items = Items::with_capacity(alloc, count)?;
+        for _ in 0..count {
+            let item = T::read(self, version)?;
+            items.push(item)?;
+        }
+        Ok(items)
+    }
+
     /// So many entries. Where they pass the end they are `InvalidData`, before memory is requested; else the list grows
     /// once.
     pub fn list<T: Entry>(&mut self, alloc: Global, version: u8, count: usize) -> Result<Items<T>>
@@ -62,12 +74,7 @@ impl<'a> Fields<'a> {
         ensures count { Refuses (count_cause count (T.bytes_each version) self.old) result }
     {
         self.check_count(count, T::size(version))?;
-        let mut items = Items::with_capacity(alloc, count)?;
-        for _ in 0..count {
-            let item = T::read(self, version)?;
-            items.push(item)?;
-        }
-        Ok(items)
+        self.entries(alloc, version, count)
     }
 }
 
@@ -107,7 +114,7 @@ impl Entry for u32 {
         4
     }
 
-    fn read(fields: &mut Fields, _version: u8) -> Result<u32> {
+    fn read(fields: &mut Fields, _version: u8) -> Field<u32> {
         fields.u32()
     }
 
@@ -135,7 +142,7 @@ impl Entry for u64 {
         8
     }
 
-    fn read(fields: &mut Fields, _version: u8) -> Result<u64> {
+    fn read(fields: &mut Fields, _version: u8) -> Field<u64> {
         fields.u64()
     }
 
@@ -163,7 +170,7 @@ impl Entry for FourCC {
         4
     }
 
-    fn read(fields: &mut Fields, _version: u8) -> Result<FourCC> {
+    fn read(fields: &mut Fields, _version: u8) -> Field<FourCC> {
         fields.four_cc()
     }
 

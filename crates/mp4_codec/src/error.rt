@@ -1,10 +1,12 @@
 //! Why a call is refused.
 
 ghost use Rattle.std.specs.Prelude.{◌≡◌};
-ghost use Rattle.mp4_codec.specs.declared.error.Error.TheVariants.{OutOfMemory};
+ghost use Rattle.mp4_codec.specs.declared.error.Error.TheVariants.{InvalidData, OutOfMemory};
 
 use crate::box_type::BoxType;
 use std::alloc::{AllocError, AllocFailed};
+use std::fmt;
+use std::fmt::Write;
 use thiserror::Error as ThisError;
 
 /// What passes its limit, in [`Error::TooLarge`].
@@ -56,28 +58,28 @@ pub enum Error {
     #[error("{0} not found")]
     BoxNotFound(BoxType),
     /// Neither of two boxes is there, of which one is required.
-    #[error("{0} and {1} not found")]
+    #[error(fmt = two_boxes)]
     Box2NotFound(BoxType, BoxType),
     /// There is no track of this id.
     #[error("trak[{0}] not found")]
     TrakNotFound(u32),
     /// A track lacks a box.
-    #[error("trak[{0}].{1} not found")]
+    #[error(fmt = box_in_trak)]
     BoxInTrakNotFound(u32, BoxType),
     /// A fragment of a track lacks a box.
-    #[error("traf[{0}].{1} not found")]
+    #[error(fmt = box_in_traf)]
     BoxInTrafNotFound(u32, BoxType),
     /// A track's sample table lacks a box.
-    #[error("trak[{0}].stbl.{1} not found")]
+    #[error(fmt = box_in_stbl)]
     BoxInStblNotFound(u32, BoxType),
     /// A box of a track's sample table lacks an entry.
-    #[error("trak[{0}].stbl.{1}.entry[{2}] not found")]
+    #[error(fmt = entry_in_stbl)]
     EntryInStblNotFound(u32, BoxType, u32),
     /// A run of a track's fragment lacks an entry.
-    #[error("traf[{0}].trun.{1}.entry[{2}] not found")]
+    #[error(fmt = entry_in_trun)]
     EntryInTrunNotFound(u32, BoxType, u32),
     /// A box is of a version that is not read.
-    #[error("{0} version {1} is not supported")]
+    #[error(fmt = unsupported_version)]
     UnsupportedBoxVersion(BoxType, u8),
     /// The writer has written its last byte.
     #[error("writer ended")]
@@ -91,6 +93,52 @@ pub enum Error {
     /// A value has no spelling in its field.
     #[error("unrepresentable")]
     Unrepresentable(&'static str),
+}
+
+fn two_boxes<W: fmt::Write>(
+    first: &BoxType,
+    second: &BoxType,
+    f: &mut fmt::Formatter<W>,
+) -> fmt::Result {
+    write!(f, "{first} and {second} not found")
+}
+
+fn box_in_trak<W: fmt::Write>(id: &u32, name: &BoxType, f: &mut fmt::Formatter<W>) -> fmt::Result {
+    write!(f, "trak[{id}].{name} not found")
+}
+
+fn box_in_traf<W: fmt::Write>(id: &u32, name: &BoxType, f: &mut fmt::Formatter<W>) -> fmt::Result {
+    write!(f, "traf[{id}].{name} not found")
+}
+
+fn box_in_stbl<W: fmt::Write>(id: &u32, name: &BoxType, f: &mut fmt::Formatter<W>) -> fmt::Result {
+    write!(f, "trak[{id}].stbl.{name} not found")
+}
+
+fn entry_in_stbl<W: fmt::Write>(
+    id: &u32,
+    name: &BoxType,
+    entry: &u32,
+    f: &mut fmt::Formatter<W>,
+) -> fmt::Result {
+    write!(f, "trak[{id}].stbl.{name}.entry[{entry}] not found")
+}
+
+fn entry_in_trun<W: fmt::Write>(
+    id: &u32,
+    name: &BoxType,
+    entry: &u32,
+    f: &mut fmt::Formatter<W>,
+) -> fmt::Result {
+    write!(f, "traf[{id}].trun.{name}.entry[{entry}] not found")
+}
+
+fn unsupported_version<W: fmt::Write>(
+    name: &BoxType,
+    version: &u8,
+    f: &mut fmt::Formatter<W>,
+) -> fmt::Result {
+    write!(f, "{name} version {version} is not supported")
 }
 
 /// What the calls of this library answer.
@@ -111,3 +159,22 @@ impl<T: Drop> From<AllocFailed<T>> for Error {
         Error::OutOfMemory
     }
 }
+
+/// Bytes that have no meaning as a field of a payload: too few, or of an unknown version. As an [`Error`] it is
+/// `InvalidData`.
+#[derive(Clone, Copy, Debug, PartialEq, Eq)]
+pub struct Malformed {
+    /// For people; it may change.
+    pub text: &'static str,
+}
+
+impl From<Malformed> for Error {
+    ghost from_gives = { λ m e. e ≡ InvalidData m.text };
+
+    fn from(malformed: Malformed) -> Error {
+        Error::InvalidData(malformed.text)
+    }
+}
+
+/// What the calls answer that read a field and take no memory.
+pub type Field<T> = std::result::Result<T, Malformed>;

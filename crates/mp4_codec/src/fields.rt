@@ -1,10 +1,10 @@
 //! The fields of a payload, read one after the other.
 
 ghost use Rattle.std.specs.Prelude.{◌≡◌, ◌==◌, ◌≤◌, length, Ok, ℕ, List};
-ghost use Rattle.mp4_codec.specs.Cause.{Gives, Answers};
+ghost use Rattle.mp4_codec.specs.Cause.{Answers, Reads};
 ghost use Rattle.mp4_codec.specs.Bytes.{bytes_at, number_at, int16_at, int32_at, versioned_at, four_cc_at, until_zero, text_at};
 
-use crate::error::{Error, Result};
+use crate::error::{Field, Malformed, Result};
 use crate::four_cc::FourCC;
 use crate::items::Items;
 use byteorder::{BigEndian, ByteOrder};
@@ -57,11 +57,13 @@ impl<'a> Fields<'a> {
 
     /// The next n bytes.
     #[tactic(auto, unfolding(crate::specs::Bytes::bytes_at))]
-    pub fn bytes(&mut self, n: usize) -> Result<&'a [u8]>
-        ensures { Gives (λ part. (part.now, self.new)) result (bytes_at n self.old) }
+    pub fn bytes(&mut self, n: usize) -> Field<&'a [u8]>
+        ensures { Reads (λ part. (part.now, self.new)) result (bytes_at n self.old) }
     {
         if self.rest.len() < n {
-            return Err(Error::InvalidData("a field passes the end"));
+            return Err(Malformed {
+                text: "a field passes the end",
+            });
         }
         let (front, rest) = self.rest.split_at(n);
         self.rest = rest;
@@ -70,8 +72,8 @@ impl<'a> Fields<'a> {
 
     /// A number of one byte.
     #[tactic(auto, unfolding(crate::specs::Bytes::bytes_at, crate::specs::Bytes::number_at))]
-    pub fn u8(&mut self) -> Result<u8>
-        ensures { Gives (λ n. (n, self.new)) result (number_at 1 self.old) }
+    pub fn u8(&mut self) -> Field<u8>
+        ensures { Reads (λ n. (n, self.new)) result (number_at 1 self.old) }
     {
         let part = self.bytes(1)?;
         Ok(part[0])
@@ -79,8 +81,8 @@ impl<'a> Fields<'a> {
 
     /// A number of two bytes.
     #[tactic(auto, unfolding(crate::specs::Bytes::bytes_at, crate::specs::Bytes::number_at))]
-    pub fn u16(&mut self) -> Result<u16>
-        ensures { Gives (λ n. (n, self.new)) result (number_at 2 self.old) }
+    pub fn u16(&mut self) -> Field<u16>
+        ensures { Reads (λ n. (n, self.new)) result (number_at 2 self.old) }
     {
         let part = self.bytes(2)?;
         Ok(BigEndian::read_u16(part))
@@ -88,8 +90,8 @@ impl<'a> Fields<'a> {
 
     /// A number of three bytes, as flags are.
     #[tactic(auto, unfolding(crate::specs::Bytes::bytes_at, crate::specs::Bytes::number_at))]
-    pub fn u24(&mut self) -> Result<u32>
-        ensures { Gives (λ n. (n, self.new)) result (number_at 3 self.old) }
+    pub fn u24(&mut self) -> Field<u32>
+        ensures { Reads (λ n. (n, self.new)) result (number_at 3 self.old) }
     {
         let part = self.bytes(3)?;
         Ok(BigEndian::read_u24(part))
@@ -97,8 +99,8 @@ impl<'a> Fields<'a> {
 
     /// A number of four bytes.
     #[tactic(auto, unfolding(crate::specs::Bytes::bytes_at, crate::specs::Bytes::number_at))]
-    pub fn u32(&mut self) -> Result<u32>
-        ensures { Gives (λ n. (n, self.new)) result (number_at 4 self.old) }
+    pub fn u32(&mut self) -> Field<u32>
+        ensures { Reads (λ n. (n, self.new)) result (number_at 4 self.old) }
     {
         let part = self.bytes(4)?;
         Ok(BigEndian::read_u32(part))
@@ -106,8 +108,8 @@ impl<'a> Fields<'a> {
 
     /// A number of eight bytes.
     #[tactic(auto, unfolding(crate::specs::Bytes::bytes_at, crate::specs::Bytes::number_at))]
-    pub fn u64(&mut self) -> Result<u64>
-        ensures { Gives (λ n. (n, self.new)) result (number_at 8 self.old) }
+    pub fn u64(&mut self) -> Field<u64>
+        ensures { Reads (λ n. (n, self.new)) result (number_at 8 self.old) }
     {
         let part = self.bytes(8)?;
         Ok(BigEndian::read_u64(part))
@@ -115,8 +117,8 @@ impl<'a> Fields<'a> {
 
     /// A signed number of two bytes.
     #[tactic(auto, unfolding(crate::specs::Bytes::int16_at))]
-    pub fn i16(&mut self) -> Result<i16>
-        ensures { Gives (λ z. (z, self.new)) result (int16_at self.old) }
+    pub fn i16(&mut self) -> Field<i16>
+        ensures { Reads (λ z. (z, self.new)) result (int16_at self.old) }
     {
         let bits = self.u16()?;
         Ok(bits.cast_signed())
@@ -124,8 +126,8 @@ impl<'a> Fields<'a> {
 
     /// A signed number of four bytes.
     #[tactic(auto, unfolding(crate::specs::Bytes::int32_at))]
-    pub fn i32(&mut self) -> Result<i32>
-        ensures { Gives (λ z. (z, self.new)) result (int32_at self.old) }
+    pub fn i32(&mut self) -> Field<i32>
+        ensures { Reads (λ z. (z, self.new)) result (int32_at self.old) }
     {
         let bits = self.u32()?;
         Ok(bits.cast_signed())
@@ -133,8 +135,8 @@ impl<'a> Fields<'a> {
 
     /// A number of eight bytes in version 1 and of four in version 0; other versions are `InvalidData`.
     #[tactic(auto, unfolding(crate::specs::Bytes::versioned_at))]
-    pub fn versioned(&mut self, version: u8) -> Result<u64>
-        ensures { Gives (λ n. (n, self.new)) result (versioned_at version self.old) }
+    pub fn versioned(&mut self, version: u8) -> Field<u64>
+        ensures { Reads (λ n. (n, self.new)) result (versioned_at version self.old) }
     {
         match version {
             0 => {
@@ -142,14 +144,16 @@ impl<'a> Fields<'a> {
                 Ok(n as u64)
             }
             1 => self.u64(),
-            _ => Err(Error::InvalidData("an unknown version")),
+            _ => Err(Malformed {
+                text: "an unknown version",
+            }),
         }
     }
 
     /// A code of four bytes.
     #[tactic(auto, unfolding(crate::specs::Bytes::four_cc_at))]
-    pub fn four_cc(&mut self) -> Result<FourCC>
-        ensures { Gives (λ f. (f, self.new)) result (four_cc_at self.old) }
+    pub fn four_cc(&mut self) -> Field<FourCC>
+        ensures { Reads (λ f. (f, self.new)) result (four_cc_at self.old) }
     {
         let code = self.u32()?;
         Ok(FourCC::from(code))

@@ -6,12 +6,13 @@ ghost use Rattle.mp4_codec.specs.Cause.{Gives};
 ghost use Rattle.mp4_codec.specs.Bytes.{coded, four_cc_of};
 
 use crate::error::Error;
+use crate::items::DebugItem;
 use std::fmt;
-use std::fmt::Write;
+use std::fmt::{Debug, Write};
 use std::str::FromStr;
 
 /// A code of four bytes, as brands and handler types are (ISO/IEC 14496-12, 4.2).
-#[derive(Clone, Copy, Debug, PartialEq, Eq)]
+#[derive(Clone, Copy, PartialEq, Eq)]
 pub struct FourCC {
     /// The bytes, in the order of the file.
     pub value: [u8; 4],
@@ -86,3 +87,21 @@ impl fmt::Display for FourCC {
         write_code(self.value, f)
     }
 }
+
+/// Whether a byte is a visible character of ASCII, or a space.
+fn is_printable(byte: &u8) -> bool {
+    (0x20..=0x7e).contains(byte)
+}
+
+impl Debug for FourCC {
+    /// Writes a code of printable bytes as `'moov'`, and another in hex.
+    fn fmt<W: fmt::Write>(&self, f: &mut fmt::Formatter<W>) -> fmt::Result {
+        if self.value.iter().all(is_printable) {
+            return write!(f, "'{self}'");
+        }
+        let code = u32::from_be_bytes(self.value);
+        write!(f, "{code:08x}")
+    }
+}
+
+impl DebugItem for FourCC {}

@@ -50,9 +50,7 @@ fn check_size(size: u64) -> Result<()>
 /// What a header of so many bytes reports, by the length of the whole box that it says: 0 leaves the end open.
 fn header_with(name: BoxType, header: u64, total: u64) -> Result<BoxHeader>
     requires { 8 ≤ header }
-    ensures value { Gives (λ h. h) result (header_saying name header total) }
-    ensures name { IfOk result (λ h. h.name ≡ name) }
-    ensures size { IfOk result (λ h. (h.size ≡ 0) ⊎ (8 ≤ h.size)) }
+    ensures { Gives (λ h. h) result (header_saying name header total) }
 {
     if total == OPEN_END {
         return Ok(BoxHeader {
@@ -87,13 +85,28 @@ impl BoxHeader {
         BoxHeader { name, size }
     }
 
+    /// What `read` answers.
+    #[tactic(auto, unfolding(crate::specs::Cursor::head_at))]
+    fn read_head(reader: &mut ByteCursor) -> Result<Self>
+        ensures value { Gives (λ h. (h, reader.new)) result (header_at reader.old) }
+        ensures same { reader.new.bytes ≡ reader.old.bytes }
+    {
+        let first = reader.take(HEADER_SIZE)?;
+        let size = BigEndian::read_u32(first);
+        let name = BoxType::from(BigEndian::read_u32(&first[4..]));
+        if size == LARGE {
+            let large = BigEndian::read_u64(reader.take(8)?);
+            return header_with(name, LARGE_HEADER_SIZE, large);
+        }
+        header_with(name, HEADER_SIZE, u64::from(size))
+    }
+
     /// The header at the cursor, which then stands behind it.
     ///
     /// `EndOfData` where fewer than 8 bytes are left, or fewer than 16 and the size is 1;
     /// `InvalidData` for a size of 2 to 7 or a largesize of 1 to 15. A largesize of at least 16 is
     /// answered less 8, so that `size - 8` is the length of the payload. A refusal leaves the cursor at any place, over
     /// the same bytes.
-    #[tactic(auto, using(crate::specs::BoxTypeLaws::is_named), unfolding(crate::specs::Cursor::head_at))]
     pub fn read(reader: &mut ByteCursor) -> Result<Self>
         ensures value { Gives (λ h. (h, reader.new)) result (header_at reader.old) }
         ensures moved { OnOk result (reader.old.position + 8 ≤ reader.new.position) }
@@ -101,16 +114,7 @@ impl BoxHeader {
         ensures named { IfOk result (λ h. IsNamed h.name) }
         ensures size { IfOk result (λ h. (h.size ≡ 0) ⊎ (8 ≤ h.size)) }
     {
-        let first = reader.take(HEADER_SIZE)?;
-        let size = BigEndian::read_u32(first);
-        let name = BoxType::from(BigEndian::read_u32(&first[4..]));
-        if size == LARGE {
-            let large = BigEndian::read_u64(reader.take(8)?);
-            let header = header_with(name, LARGE_HEADER_SIZE, large)?;
-            return Ok(header);
-        }
-        let header = header_with(name, HEADER_SIZE, u64::from(size))?;
-        Ok(header)
+        Self::read_head(reader)
     }
 
     /// Adds the 8 bytes of the header at the end of a buffer, and answers their number.

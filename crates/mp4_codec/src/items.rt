@@ -7,13 +7,48 @@ ghost use Rattle.std.specs.Iterator.Adapters.{IterYieldsInOrder};
 ghost use Rattle.std.specs.Cmp.Lexicographic.{pointwise, lists_per, lists_equiv};
 
 use std::alloc::{AllocError, Global};
+use std::fmt;
+use std::fmt::{Debug, Write};
 use std::marker::Model;
 use std::slice::Iter;
 
 /// A list, as the fields of boxes are. It is made from a `Vec` and gives it back, without taking memory.
-#[derive(Debug, Drop)]
+#[derive(Drop)]
 pub struct Items<T> {
     items: Vec<T>,
+}
+
+/// What lists hold, which says how `Debug` writes a list of it.
+pub trait DebugItem: Debug + Sized {
+    /// Writes a list: each value by its own `Debug`, as `[1, 2]`; bytes in hex, as `[6d 6f]`.
+    fn fmt_items<W: fmt::Write>(items: &[Self], f: &mut fmt::Formatter<W>) -> fmt::Result {
+        f.debug_list().entries(items).finish()
+    }
+}
+
+impl DebugItem for u8 {
+    fn fmt_items<W: fmt::Write>(items: &[u8], f: &mut fmt::Formatter<W>) -> fmt::Result {
+        f.write_str("[")?;
+        for (index, byte) in items.iter().enumerate() {
+            if index > 0 {
+                f.write_str(" ")?;
+            }
+            write!(f, "{byte:02x}")?;
+        }
+        f.write_str("]")
+    }
+}
+
+impl DebugItem for u32 {}
+
+impl DebugItem for u64 {}
+
+impl<A: Debug, B: Debug> DebugItem for (A, B) {}
+
+impl<T: DebugItem> Debug for Items<T> {
+    fn fmt<W: fmt::Write>(&self, f: &mut fmt::Formatter<W>) -> fmt::Result {
+        T::fmt_items(self.items.as_slice(), f)
+    }
 }
 
 impl<T> Model for Items<T> {

@@ -14,6 +14,8 @@ use crate::try_clone::TryClone;
 use std::alloc::{AllocError, Global};
 use std::collections::HashMap;
 use std::default::Emptied;
+use std::fmt;
+use std::fmt::Debug;
 use std::hash::Hash;
 use std::marker::Model;
 
@@ -32,7 +34,7 @@ pub trait Key: Copy + Eq + Hash + 'static {
 
 /// A map from keys to values, which contracts see as the list of what it holds at each key.
 /// It is made from a `HashMap` and gives it back.
-#[derive(Debug, Drop)]
+#[derive(Drop)]
 pub struct KeyedItems<K: Key, V> {
     items: HashMap<K, V>,
 }
@@ -116,6 +118,19 @@ impl<K: Key, V: PartialEq> PartialEq for KeyedItems<K, V> {
 
 impl<K: Key, V: Eq> Eq for KeyedItems<K, V> {
     ghost laws = { lists_equiv (options_equiv V.Eq.laws) };
+}
+
+impl<K: Key + Debug, V: Debug> Debug for KeyedItems<K, V> {
+    /// Writes a map of the keys that have a value, in the order of `Key::all`.
+    fn fmt<W: fmt::Write>(&self, f: &mut fmt::Formatter<W>) -> fmt::Result {
+        let mut map = f.debug_map();
+        for key in K::all() {
+            if let Some(value) = self.items.get(key) {
+                map.entry(key, value);
+            }
+        }
+        map.finish()
+    }
 }
 
 impl<K: Key, V: TryClone> TryClone for KeyedItems<K, V> {

@@ -29,7 +29,7 @@ pub use child_boxes::{all_size, check_all, check_optional, optional_size, put_al
 pub use children::{Child, Children};
 pub use cursor::ByteCursor;
 pub use entry::{Entry, list_size, put_list};
-pub use error::{Error, Limit, Result};
+pub use error::{Error, Field, Limit, Malformed, Result};
 pub use fields::Fields;
 pub use four_cc::FourCC;
 pub use gather::{
@@ -38,7 +38,7 @@ pub use gather::{
 };
 pub use header::{BoxHeader, HEADER_EXT_SIZE, HEADER_SIZE, OPEN_END};
 pub use in_range::InRange;
-pub use items::Items;
+pub use items::{DebugItem, Items};
 pub use keyed_items::{Key, KeyedItems};
 pub use laws::{
     frame_has_its_head, header_says_its_box, insertion_changes_one_key, payload_has_its_children,
@@ -49,4 +49,4 @@ pub use put::{
     put_versioned, put_zeros,
 };
 pub use text::Text;
-pub use try_clone::TryClone;
+pub use try_clone::{TryClone, four_copies};

@@ -8,11 +8,13 @@ ghost use Rattle.mp4_codec.specs.Cause.{Answers};
 use crate::error::Result;
 use crate::try_clone::TryClone;
 use std::alloc::{AllocError, Global};
+use std::fmt;
+use std::fmt::Debug;
 use std::marker::Model;
 
 /// A text, as the fields of boxes are. It is made from a `String` and gives it back, without taking
 /// memory.
-#[derive(Debug, Drop)]
+#[derive(Drop)]
 pub struct Text {
     text: String,
 }
@@ -102,6 +104,12 @@ impl PartialEq for Text {
 
 impl Eq for Text {
     ghost laws = { nat_list_eq_equiv };
+}
+
+impl Debug for Text {
+    fn fmt<W: fmt::Write>(&self, f: &mut fmt::Formatter<W>) -> fmt::Result {
+        Debug::fmt(self.text.as_str(), f)
+    }
 }
 
 impl TryClone for Text {

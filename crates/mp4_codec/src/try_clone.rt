@@ -92,3 +92,19 @@ impl<T: TryClone> TryClone for Items<T> {
         Ok(copies)
     }
 }
+
+/// Copies of four values. It is refused by `OutOfMemory` alone.
+pub fn four_copies<A: TryClone, B: TryClone, C: TryClone, D: TryClone>(
+    first: &A,
+    second: &B,
+    third: &C,
+    fourth: &D,
+) -> Result<(A, B, C, D)>
+    ensures { Answers (λ all. all) result (Ok (first.now, second.now, third.now, fourth.now)) }
+{
+    let first = first.try_clone()?;
+    let second = second.try_clone()?;
+    let third = third.try_clone()?;
+    let fourth = fourth.try_clone()?;
+    Ok((first, second, third, fourth))
+}

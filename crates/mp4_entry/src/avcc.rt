@@ -11,8 +11,8 @@ ghost use Rattle.mp4_entry.specs.AvccLaws.{avcc_again};
 
 use crate::narrow::{check_most, put_low_u8, put_low_u16};
 use mp4_codec::{
-    BoxType, Fields, InRange, Items, Mp4Box, Put, ReadBox, Result, TryClone, WriteBox, put_bytes,
-    put_u8,
+    BoxType, DebugItem, Fields, InRange, Items, Mp4Box, Put, ReadBox, Result, TryClone, WriteBox,
+    put_bytes, put_u8,
 };
 use std::alloc::Global;
 
@@ -23,6 +23,8 @@ use std::alloc::Global;
 pub struct NalUnit {
     pub bytes: Items<u8>,
 }
+
+impl DebugItem for NalUnit {}
 
 impl NalUnit {
     /// The next set: its length in two bytes, and its bytes.

@@ -17,7 +17,7 @@ use crate::tx3g::Tx3gBox;
 use crate::vp09::Vp09Box;
 use mp4_codec::{
     BoxType, Child, Children, Fields, InRange, Mp4Box, Put, ReadBox, Result, TryClone, WriteBox,
-    put_u8, put_u24, put_u32,
+    four_copies, put_u8, put_u24, put_u32,
 };
 use std::alloc::Global;
 
@@ -50,28 +50,36 @@ impl StsdBox {
     pub fn new(alloc: Global, config: &MediaConfig) -> Result<Self>
         ensures { Answers (λ b. b) result (Ok (stsd_of_config config.now)) }
     {
-        let mut description = Self::without_entry(0, 0);
         match config {
             MediaConfig::AvcConfig(config) => {
-                description.avc1 = Some(Avc1Box::new(alloc, config)?);
-                Ok(description)
+                let entry = Avc1Box::new(alloc, config)?;
+                Ok(StsdBox {
+                    avc1: Some(entry),
+                    ..Self::without_entry(0, 0)
+                })
             }
             MediaConfig::HevcConfig(config) => {
-                description.hev1 = Some(Hev1Box::new(alloc, config)?);
-                Ok(description)
+                let entry = Hev1Box::new(alloc, config)?;
+                Ok(StsdBox {
+                    hev1: Some(entry),
+                    ..Self::without_entry(0, 0)
+                })
             }
             MediaConfig::Vp9Config(config) => {
-                description.vp09 = Some(Vp09Box::new(alloc, config)?);
-                Ok(description)
+                let entry = Vp09Box::new(alloc, config)?;
+                Ok(StsdBox {
+                    vp09: Some(entry),
+                    ..Self::without_entry(0, 0)
+                })
             }
-            MediaConfig::AacConfig(config) => {
-                description.mp4a = Some(Mp4aBox::new(config));
-                Ok(description)
-            }
-            MediaConfig::TtxtConfig(config) => {
-                description.tx3g = Some(Tx3gBox::new(config));
-                Ok(description)
-            }
+            MediaConfig::AacConfig(config) => Ok(StsdBox {
+                mp4a: Some(Mp4aBox::new(config)),
+                ..Self::without_entry(0, 0)
+            }),
+            MediaConfig::TtxtConfig(config) => Ok(StsdBox {
+                tx3g: Some(Tx3gBox::new(config)),
+                ..Self::without_entry(0, 0)
+            }),
         }
     }
 
@@ -110,29 +118,43 @@ impl StsdBox {
     fn read_entry(alloc: Global, version: u8, flags: u32, child: &Child) -> Result<Self>
         ensures { Answers (λ b. b) result (seen (with_entry version flags) (entry_of (child_box child.now))) }
     {
-        let mut description = Self::without_entry(version, flags);
         let code = u32::from(child.name);
         if code == u32::from(BoxType::Avc1Box) {
-            description.avc1 = Some(Avc1Box::read_payload(alloc, child.payload)?);
-            return Ok(description);
+            let entry = Avc1Box::read_payload(alloc, child.payload)?;
+            return Ok(StsdBox {
+                avc1: Some(entry),
+                ..Self::without_entry(version, flags)
+            });
         }
         if code == u32::from(BoxType::Hev1Box) {
-            description.hev1 = Some(Hev1Box::read_payload(alloc, child.payload)?);
-            return Ok(description);
+            let entry = Hev1Box::read_payload(alloc, child.payload)?;
+            return Ok(StsdBox {
+                hev1: Some(entry),
+                ..Self::without_entry(version, flags)
+            });
         }
         if code == u32::from(BoxType::Vp09Box) {
-            description.vp09 = Some(Vp09Box::read_payload(alloc, child.payload)?);
-            return Ok(description);
+            let entry = Vp09Box::read_payload(alloc, child.payload)?;
+            return Ok(StsdBox {
+                vp09: Some(entry),
+                ..Self::without_entry(version, flags)
+            });
         }
         if code == u32::from(BoxType::Mp4aBox) {
-            description.mp4a = Some(Mp4aBox::read_payload(alloc, child.payload)?);
-            return Ok(description);
+            let entry = Mp4aBox::read_payload(alloc, child.payload)?;
+            return Ok(StsdBox {
+                mp4a: Some(entry),
+                ..Self::without_entry(version, flags)
+            });
         }
         if code == u32::from(BoxType::Tx3gBox) {
-            description.tx3g = Some(Tx3gBox::read_payload(alloc, child.payload)?);
-            return Ok(description);
+            let entry = Tx3gBox::read_payload(alloc, child.payload)?;
+            return Ok(StsdBox {
+                tx3g: Some(entry),
+                ..Self::without_entry(version, flags)
+            });
         }
-        Ok(description)
+        Ok(Self::without_entry(version, flags))
     }
 
     /// How many entries are written.
@@ -238,14 +260,16 @@ impl Default for StsdBox {
 
 impl TryClone for StsdBox {
     fn try_clone(&self) -> Result<Self> {
+        let tx3g = self.tx3g.try_clone()?;
+        let (avc1, hev1, vp09, mp4a) = four_copies(&self.avc1, &self.hev1, &self.vp09, &self.mp4a)?;
         Ok(StsdBox {
             version: self.version,
             flags: self.flags,
-            avc1: self.avc1.try_clone()?,
-            hev1: self.hev1.try_clone()?,
-            vp09: self.vp09.try_clone()?,
-            mp4a: self.mp4a.try_clone()?,
-            tx3g: self.tx3g.try_clone()?,
+            avc1,
+            hev1,
+            vp09,
+            mp4a,
+            tx3g,
         })
     }
 }

@@ -1,11 +1,11 @@
 //! What the visual sample entries begin with.
 
 ghost use Rattle.std.specs.Prelude.{OnOk, ◌≡◌};
-ghost use Rattle.mp4_codec.specs.Cause.{Gives};
+ghost use Rattle.mp4_codec.specs.Cause.{Gives, Reads};
 ghost use Rattle.mp4_codec.specs.Bytes.{Appends};
 ghost use Rattle.mp4_entry.specs.Visual.{visual_at, visual, visual_of_size, IsInRangeVisual};
 
-use mp4_codec::{Fields, InRange, Put, Result, put_u16, put_u32, put_zeros};
+use mp4_codec::{Field, Fields, InRange, Put, Result, put_u16, put_u32, put_zeros};
 use mp4_leaf::FixedPointU16;
 
 /// The bytes of a visual sample entry without its children: 8 of its header, and 78.
@@ -56,8 +56,8 @@ impl InRange for Visual {
 
 /// The next such beginning.
 #[tactic(auto, unfolding(crate::specs::Visual::visual_at))]
-pub(crate) fn read_visual(fields: &mut Fields) -> Result<Visual>
-    ensures { Gives (λ v. (v, fields.new)) result (visual_at fields.old) }
+pub(crate) fn read_visual(fields: &mut Fields) -> Field<Visual>
+    ensures { Reads (λ v. (v, fields.new)) result (visual_at fields.old) }
 {
     fields.bytes(6)?;
     let data_reference_index = fields.u16()?;

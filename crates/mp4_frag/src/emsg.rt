@@ -9,8 +9,8 @@ ghost use Rattle.mp4_frag.specs.Emsg.{emsg_payload, emsg_0_payload, emsg_1_paylo
 ghost use Rattle.mp4_frag.specs.EmsgLaws.{emsg_again};
 
 use mp4_codec::{
-    BoxType, Error, Fields, InRange, Items, Mp4Box, Put, ReadBox, Result, TryClone, WriteBox,
-    put_bytes, put_u8, put_u24, put_u32, put_u64, put_zeros,
+    BoxType, DebugItem, Error, Fields, InRange, Items, Mp4Box, Put, ReadBox, Result, TryClone,
+    WriteBox, put_bytes, put_u8, put_u24, put_u32, put_u64, put_zeros,
 };
 use std::alloc::Global;
 
@@ -43,6 +43,8 @@ pub struct EmsgBox {
     /// The body of the message, as the scheme says.
     pub message_data: Items<u8>,
 }
+
+impl DebugItem for EmsgBox {}
 
 impl EmsgBox {
     /// All zero and empty, with neither of the times, so that it isn't written.

@@ -2,11 +2,11 @@
 
 ghost use Rattle.std.specs.Prelude.{◌≡◌, ◌≤◌, ℕ, List, OnOk};
 ghost use Rattle.std.specs.Option.{option_len};
-ghost use Rattle.mp4_codec.specs.Cause.{Gives, Checks};
+ghost use Rattle.mp4_codec.specs.Cause.{Checks, Reads};
 ghost use Rattle.mp4_codec.specs.Bytes.{Appends, Reader, number_at, number, int32_at, int32};
 ghost use Rattle.mp4_frag.specs.Optional.{is_set, optional_at, optional_field, flag_refusal};
 
-use mp4_codec::{Error, Fields, Put, Result, put_i32, put_u32, put_u64};
+use mp4_codec::{Error, Field, Fields, Put, Result, put_i32, put_u32, put_u64};
 
 /// A number that may be there or not.
 pub(crate) trait Number: Copy {
@@ -15,8 +15,8 @@ pub(crate) trait Number: Copy {
     ghost spelled: { Self → List ℕ };
 
     /// The next number.
-    fn read(fields: &mut Fields) -> Result<Self>
-        ensures { Gives (λ x. (x, fields.new)) result (at fields.old) };
+    fn read(fields: &mut Fields) -> Field<Self>
+        ensures { Reads (λ x. (x, fields.new)) result (at fields.old) };
 
     /// Adds the number at the end of a buffer.
     fn put(self, out: &mut Vec<u8>) -> Put
@@ -28,7 +28,7 @@ impl Number for u32 {
 
     ghost spelled = { number 4 };
 
-    fn read(fields: &mut Fields) -> Result<u32> {
+    fn read(fields: &mut Fields) -> Field<u32> {
         fields.u32()
     }
 
@@ -42,7 +42,7 @@ impl Number for u64 {
 
     ghost spelled = { number 8 };
 
-    fn read(fields: &mut Fields) -> Result<u64> {
+    fn read(fields: &mut Fields) -> Field<u64> {
         fields.u64()
     }
 
@@ -56,7 +56,7 @@ impl Number for i32 {
 
     ghost spelled = { int32 };
 
-    fn read(fields: &mut Fields) -> Result<i32> {
+    fn read(fields: &mut Fields) -> Field<i32> {
         fields.i32()
     }
 
@@ -79,8 +79,8 @@ pub(crate) fn read_flagged<T: Number>(
     fields: &mut Fields,
     flag: u32,
     flags: u32,
-) -> Result<Option<T>>
-    ensures { Gives (λ x. (x, fields.new)) result (optional_at T.at flag flags fields.old) }
+) -> Field<Option<T>>
+    ensures { Reads (λ x. (x, fields.new)) result (optional_at T.at flag flags fields.old) }
 {
     if !is_set(flags, flag) {
         return Ok(None);

@@ -3,12 +3,12 @@
 
 ghost use Rattle.std.specs.Prelude.{◌≡◌, ◌≤◌, [], ◌++◌, OnOk, IfOk};
 ghost use Rattle.std.specs.Option.{option_to_list};
-ghost use Rattle.mp4_codec.specs.Cause.{Answers, Checks, Gives, Refuses};
+ghost use Rattle.mp4_codec.specs.Cause.{Answers, Checks, Gives, Reads, Refuses};
 ghost use Rattle.mp4_codec.specs.Bytes.{Appends, list_at, count_cause};
 ghost use Rattle.mp4_frag.specs.Rows.{row_at, row, field_length, row_length, with_row, no_columns, columns_after, columns_at, column_refusal};
 
 use crate::optional::{is_set, put_flagged, read_flagged};
-use mp4_codec::{Error, Fields, Items, Put, Result};
+use mp4_codec::{Error, Field, Fields, Items, Put, Result};
 use std::alloc::{AllocError, Global};
 
 /// The flag of durations.
@@ -35,8 +35,8 @@ pub(crate) struct Row {
 impl Row {
     /// The next row.
     #[tactic(auto, unfolding(crate::specs::Rows::row_at))]
-    fn read(fields: &mut Fields, flags: u32) -> Result<Row>
-        ensures { Gives (λ x. (x, fields.new)) result (row_at flags fields.old) }
+    fn read(fields: &mut Fields, flags: u32) -> Field<Row>
+        ensures { Reads (λ x. (x, fields.new)) result (row_at flags fields.old) }
     {
         let duration = read_flagged(fields, DURATIONS, flags)?;
         let size = read_flagged(fields, SIZES, flags)?;

@@ -8,8 +8,8 @@ ghost use Rattle.mp4_frag.specs.Trex.{trex_payload, default_trex, trex_of, IsInR
 ghost use Rattle.mp4_frag.specs.TrexLaws.{trex_again};
 
 use mp4_codec::{
-    BoxType, Fields, InRange, Mp4Box, Put, ReadBox, Result, TryClone, WriteBox, put_u8, put_u24,
-    put_u32,
+    BoxType, DebugItem, Fields, InRange, Mp4Box, Put, ReadBox, Result, TryClone, WriteBox, put_u8,
+    put_u24, put_u32,
 };
 use std::alloc::Global;
 
@@ -33,6 +33,8 @@ pub struct TrexBox {
     /// Sample flags (ISO/IEC 14496-12, 8.8.3.1); bit 0x10000 is set where the sample is no sync sample.
     pub default_sample_flags: u32,
 }
+
+impl DebugItem for TrexBox {}
 
 impl TrexBox {
     /// `trex`.

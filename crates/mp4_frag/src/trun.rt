@@ -15,8 +15,8 @@ use crate::rows::{
     COMPOSITION_OFFSETS, Columns, DURATIONS, Row, SAMPLE_FLAGS, SIZES, check_column,
 };
 use mp4_codec::{
-    BoxType, Fields, InRange, Items, Mp4Box, Put, ReadBox, Result, TryClone, WriteBox, put_u8,
-    put_u24, put_u32,
+    BoxType, DebugItem, Fields, InRange, Items, Mp4Box, Put, ReadBox, Result, TryClone, WriteBox,
+    put_u8, put_u24, put_u32,
 };
 use std::alloc::Global;
 
@@ -54,6 +54,8 @@ pub struct TrunBox {
     /// By flag 0x800: the composition offset of each sample, in ticks of the media's timescale, as its 32 bits stand.
     pub sample_cts: Items<u32>,
 }
+
+impl DebugItem for TrunBox {}
 
 impl TrunBox {
     /// No samples.

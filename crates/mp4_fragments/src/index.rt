@@ -4,7 +4,7 @@ ghost use Rattle.std.specs.Prelude.{◌≡◌, ℕ, ◌+◌, ◌-◌, ◌^◌, m
 ghost use Rattle.mp4_fragments.specs.Index.{Pushed};
 
 use crate::members::Beginning;
-use mp4_codec::Items;
+use mp4_codec::{DebugItem, Items};
 use mp4_search::SearchedNumbers;
 use std::alloc::{AllocError, Global};
 
@@ -20,6 +20,8 @@ pub(crate) struct RunEntry {
     /// Its number in the fragment, counted from 0.
     pub run: usize,
 }
+
+impl DebugItem for RunEntry {}
 
 /// The runs of a track's fragments, one entry each: however many members a run has, none is written out.
 #[derive(Debug, Drop)]

@@ -7,6 +7,7 @@ ghost use Rattle.mp4_fragments.specs.Checkpoints.{AreCheckpoints};
 use crate::beginnings::at_by_checkpoints;
 use crate::defaults::SampleDefaults;
 use crate::values::value_at;
+use mp4_codec::DebugItem;
 use mp4_frag::TrunBox;
 
 /// The flag of a sample that can't be decoded without those before it (ISO/IEC 14496-12, 8.8.3.1).
@@ -19,6 +20,8 @@ pub struct Beginning {
     pub place: Option<u64>,
     pub time: Option<u64>,
 }
+
+impl DebugItem for Beginning {}
 
 /// A member of a run: a sample that a fragment adds to a track.
 #[derive(Clone, Copy, Debug, PartialEq, Eq)]

@@ -8,9 +8,9 @@ ghost use Rattle.mp4_codec.specs.declared.box_type.BoxType.TheVariants.{ElstBox 
 ghost use Rattle.mp4_codec.specs.Boxes.{size_around, all_refusal};
 
 use mp4_codec::{
-    BoxType, Entry, Fields, InRange, Items, Mp4Box, Put, ReadBox, Result, TryClone, WriteBox,
-    check_value, check_version, list_size, put_list, put_u8, put_u16, put_u24, put_u32,
-    put_versioned,
+    BoxType, DebugItem, Entry, Field, Fields, InRange, Items, Mp4Box, Put, ReadBox, Result,
+    TryClone, WriteBox, check_value, check_version, list_size, put_list, put_u8, put_u16, put_u24,
+    put_u32, put_versioned,
 };
 use std::alloc::Global;
 
@@ -27,6 +27,8 @@ pub struct ElstEntry {
     /// 65536ths of the speed.
     pub media_rate_fraction: u16,
 }
+
+impl DebugItem for ElstEntry {}
 
 impl ElstEntry {
     /// Whether a version has room for the edit.
@@ -79,7 +81,7 @@ impl Entry for ElstEntry {
     }
 
     #[tactic(auto, unfolding(crate::specs::Elst::elst_entry_at))]
-    fn read(fields: &mut Fields, version: u8) -> Result<ElstEntry> {
+    fn read(fields: &mut Fields, version: u8) -> Field<ElstEntry> {
         let segment_duration = fields.versioned(version)?;
         let media_time = fields.versioned(version)?;
         let media_rate = fields.u16()?;

@@ -6,9 +6,11 @@ ghost use Rattle.std.specs.Prelude.{◌≡◌, ◌*◌, ◌/◌, pos, ◌*ℤ◌
 ghost use Rattle.mp4_codec.specs.Cause.{Gives};
 
 use mp4_codec::{Result, TryClone};
+use std::fmt;
+use std::fmt::Debug;
 
 /// An unsigned number of 8.8 bits.
-#[derive(Debug, Clone, Copy, PartialEq, Eq)]
+#[derive(Clone, Copy, PartialEq, Eq)]
 pub struct FixedPointU8 {
     /// How many 256ths it is.
     pub raw: u16,
@@ -46,6 +48,13 @@ impl FixedPointU8 {
     }
 }
 
+impl Debug for FixedPointU8 {
+    /// Writes the number as a decimal fraction, as `1.5`.
+    fn fmt<W: fmt::Write>(&self, f: &mut fmt::Formatter<W>) -> fmt::Result {
+        Debug::fmt(&(f64::from(self.raw) / 256.0), f)
+    }
+}
+
 impl TryClone for FixedPointU8 {
     fn try_clone(&self) -> Result<Self>
         ensures { Gives (λ x. x) result (Ok self.now) }
@@ -55,7 +64,7 @@ impl TryClone for FixedPointU8 {
 }
 
 /// A signed number of 8.8 bits.
-#[derive(Debug, Clone, Copy, PartialEq, Eq)]
+#[derive(Clone, Copy, PartialEq, Eq)]
 pub struct FixedPointI8 {
     /// How many 256ths it is.
     pub raw: i16,
@@ -94,6 +103,13 @@ impl FixedPointI8 {
     }
 }
 
+impl Debug for FixedPointI8 {
+    /// Writes the number as a decimal fraction, as `1.5`.
+    fn fmt<W: fmt::Write>(&self, f: &mut fmt::Formatter<W>) -> fmt::Result {
+        Debug::fmt(&(f64::from(self.raw) / 256.0), f)
+    }
+}
+
 impl TryClone for FixedPointI8 {
     fn try_clone(&self) -> Result<Self>
         ensures { Gives (λ x. x) result (Ok self.now) }
@@ -103,7 +119,7 @@ impl TryClone for FixedPointI8 {
 }
 
 /// An unsigned number of 16.16 bits.
-#[derive(Debug, Clone, Copy, PartialEq, Eq)]
+#[derive(Clone, Copy, PartialEq, Eq)]
 pub struct FixedPointU16 {
     /// How many 65536ths it is.
     pub raw: u32,
@@ -138,6 +154,13 @@ impl FixedPointU16 {
         ensures { result ≡ self.raw }
     {
         self.raw
+    }
+}
+
+impl Debug for FixedPointU16 {
+    /// Writes the number as a decimal fraction, as `1.5`.
+    fn fmt<W: fmt::Write>(&self, f: &mut fmt::Formatter<W>) -> fmt::Result {
+        Debug::fmt(&(f64::from(self.raw) / 65536.0), f)
     }
 }
 

@@ -2,10 +2,10 @@
 
 ghost use Rattle.std.specs.Prelude.{OnOk, ◌≡◌, Ok};
 ghost use Rattle.mp4_codec.specs.Bytes.{Appends};
-ghost use Rattle.mp4_codec.specs.Cause.{Gives};
+ghost use Rattle.mp4_codec.specs.Cause.{Gives, Reads};
 ghost use Rattle.mp4_leaf.specs.Matrix.{matrix_at, matrix, unity, IsInRangeMatrix};
 
-use mp4_codec::{Fields, InRange, Put, Result, TryClone, put_i32};
+use mp4_codec::{Field, Fields, InRange, Put, Result, TryClone, put_i32};
 
 /// Where the picture is placed: a 3 by 3 matrix, row by row (ISO/IEC 14496-12, 6.2.2).
 ///
@@ -67,8 +67,8 @@ impl InRange for Matrix {
 
 /// The next matrix of a payload.
 #[tactic(auto, unfolding(crate::specs::Matrix::matrix_at))]
-pub(crate) fn read_matrix(fields: &mut Fields) -> Result<Matrix>
-    ensures { Gives (λ m. (m, fields.new)) result (matrix_at fields.old) }
+pub(crate) fn read_matrix(fields: &mut Fields) -> Field<Matrix>
+    ensures { Reads (λ m. (m, fields.new)) result (matrix_at fields.old) }
 {
     let a = fields.i32()?;
     let b = fields.i32()?;

@@ -1,11 +1,13 @@
 //! The times that headers of movies, tracks and media have.
 
 ghost use Rattle.std.specs.Prelude.{OnOk};
-ghost use Rattle.mp4_codec.specs.Cause.{Gives, Checks};
+ghost use Rattle.mp4_codec.specs.Cause.{Checks, Gives, Reads};
 ghost use Rattle.mp4_codec.specs.Bytes.{Appends};
 ghost use Rattle.mp4_leaf.specs.Times.{stamp_at, stamp, times_refusal};
 
-use mp4_codec::{Fields, Put, Result, check_value, check_version, put_u8, put_u24, put_versioned};
+use mp4_codec::{
+    Field, Fields, Put, Result, check_value, check_version, put_u8, put_u24, put_versioned,
+};
 
 /// What such a header begins with.
 #[derive(Clone, Copy)]
@@ -20,8 +22,8 @@ pub(crate) struct Stamp {
 
 /// The next stamp of a payload: 12 bytes in version 0, 20 in version 1; any other version is `InvalidData`.
 #[tactic(auto, unfolding(crate::specs::Times::stamp_at))]
-pub(crate) fn read_stamp(fields: &mut Fields) -> Result<Stamp>
-    ensures { Gives (λ s. (s, fields.new)) result (stamp_at fields.old) }
+pub(crate) fn read_stamp(fields: &mut Fields) -> Field<Stamp>
+    ensures { Reads (λ s. (s, fields.new)) result (stamp_at fields.old) }
 {
     let version = fields.u8()?;
     let flags = fields.u24()?;

@@ -1,6 +1,6 @@
 //! A track whose samples are found by their numbers.
 
-ghost use Rattle.std.specs.Prelude.{◌≡◌, ◌^◌, ◌<◌, length, ◌==◌, if◌then◌else◌, IfOk};
+ghost use Rattle.std.specs.Prelude.{◌≡◌, ◌^◌, ◌<◌, length, ◌==◌, if◌then◌else◌, IfOk, OnOk};
 ghost use Rattle.std.proofs.Props.{props};
 ghost use Rattle.mp4_table.specs.Stsc.{HasFirstSamples};
 ghost use Rattle.mp4_fragments.specs.Fragments.{placed_runs};
@@ -16,7 +16,7 @@ use mp4_fragments::{RunIndex, SampleDefaults, index_of as index_of_runs};
 use std::alloc::{AllocError, Global};
 
 /// A track of a movie that was opened (ISO/IEC 14496-12, 8.3.1).
-#[derive(Debug, Drop)]
+#[derive(Debug)]
 pub struct Mp4Track {
     /// What the movie box says of the track.
     pub trak: TrakBox,
@@ -32,6 +32,40 @@ pub struct Mp4Track {
     ghost indexed: { IsIndexOf trak.mdia.minf.stbl index } by { Prim.hlevel props },
     ghost placed: { Indexes (run_at trafs defaults) (runs_of trafs defaults runs) runs } by { Prim.hlevel props },
     ghost counted: { trak.mdia.minf.stbl.stsz.sample_count < 2 ^ 32 } by { Prim.hlevel props },
+}
+
+/// Taken apart here, and not at each end of each function that owns a track.
+impl Drop for Mp4Track {
+    fn drop(self) {
+        let Mp4Track {
+            trak: _,
+            trafs: _,
+            default_sample_duration: _,
+            index: _,
+            defaults: _,
+            runs: _,
+        } = self;
+    }
+}
+
+/// The index of a track's tables, and that of the runs of its fragments.
+fn indexes_of(
+    alloc: Global,
+    trak: &TrakBox,
+    trafs: &[TrafBox],
+    bases: &[Option<u64>],
+    defaults: SampleDefaults,
+) -> std::result::Result<(TrackIndex, RunIndex), AllocError>
+    requires { length bases.now ≡ length trafs.now }
+    ensures tables { IfOk result (λ x. IsIndexOf (tables_of trak.now) x.0) }
+    ensures runs { IfOk result (λ x. Indexes (run_at trafs.now defaults) (placed_runs defaults (movie_end trak.now) trafs.now bases.now) x.1) }
+    ensures counted { OnOk result ((tables_of trak.now).stsz.sample_count < 2 ^ 32) }
+{
+    let stbl = &trak.mdia.minf.stbl;
+    let index = index_of(alloc, stbl)?;
+    let end = end_after(stbl.stts.entries.as_slice(), stbl.stsz.sample_count);
+    let runs = index_of_runs(alloc, trafs, bases, defaults, end)?;
+    Ok((index, runs))
 }
 
 impl Mp4Track {
@@ -52,10 +86,7 @@ impl Mp4Track {
         ensures runs { IfOk result (λ t. runs_of t.trafs t.defaults t.runs ≡ placed_runs defaults (movie_end trak) trafs bases.now) }
         ensures duration { IfOk result (λ t. t.default_sample_duration ≡ (if length trafs == 0 then 0 else defaults.duration)) }
     {
-        let stbl = &trak.mdia.minf.stbl;
-        let index = index_of(alloc, stbl)?;
-        let end = end_after(stbl.stts.entries.as_slice(), stbl.stsz.sample_count);
-        let runs = index_of_runs(alloc, trafs.as_slice(), bases, defaults, end)?;
+        let (index, runs) = indexes_of(alloc, &trak, trafs.as_slice(), bases, defaults)?;
         let default_sample_duration = if trafs.is_empty() {
             0
         } else {

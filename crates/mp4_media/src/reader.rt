@@ -32,7 +32,7 @@ const MILLISECONDS: u32 = 1000;
 ///
 /// The accessors follow the public fields as they stand; [`Mp4Reader::size`], the tracks and their samples are those
 /// of the opening.
-#[derive(Debug, Drop)]
+#[derive(Debug)]
 pub struct Mp4Reader<'a> {
     bytes: &'a [u8],
     /// The last ftyp of the file.
@@ -46,6 +46,23 @@ pub struct Mp4Reader<'a> {
     moof_places: Items<u64>,
     size: u64,
     tracks: HashMap<u32, Mp4Track>,
+}
+
+/// Taken apart here, and not at each end of each function that owns a reader. So a field of a reader can be looked at,
+/// copied or replaced, but not moved out of it.
+impl<'a> Drop for Mp4Reader<'a> {
+    fn drop(self) {
+        let Mp4Reader {
+            bytes: _,
+            ftyp: _,
+            moov: _,
+            moofs: _,
+            emsgs: _,
+            moof_places: _,
+            size: _,
+            tracks: _,
+        } = self;
+    }
 }
 
 /// Opens a file: the answer is that of the walk over its boxes, and then of the ids of its tracks.
@@ -66,8 +83,7 @@ fn open<'a>(alloc: Global, reader: ByteCursor<'a>, size: u64) -> Result<Mp4Reade
     } = find_boxes(alloc, &mut reader, size)?;
     let ftyp = required(ftyp)?;
     let moov = required(moov)?;
-    let tracks = tracks_of(alloc, &moov, moofs.as_slice(), moof_places.as_slice())?;
-    Ok(Mp4Reader {
+    let mut opened = Mp4Reader {
         bytes: reader.bytes(),
         ftyp,
         moov,
@@ -75,8 +91,15 @@ fn open<'a>(alloc: Global, reader: ByteCursor<'a>, size: u64) -> Result<Mp4Reade
         emsgs,
         moof_places,
         size: reader.position() - start,
-        tracks,
-    })
+        tracks: HashMap::new(alloc),
+    };
+    opened.tracks = tracks_of(
+        alloc,
+        &opened.moov,
+        opened.moofs.as_slice(),
+        opened.moof_places.as_slice(),
+    )?;
+    Ok(opened)
 }
 
 impl<'a> Mp4Reader<'a> {

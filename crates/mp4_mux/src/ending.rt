@@ -3,8 +3,8 @@
 
 ghost use Rattle.std.specs.Prelude.{◌≡◌, ◌+◌, ◌^◌, ◌<◌, ◌≤◌, ◌++◌, Ok, None, length, map, fold, max, take, drop, OnOk, OnErr, IfOk, IfErr};
 ghost use Rattle.std.specs.List.{All};
-ghost use Rattle.mp4_codec.specs.Cause.{Answers, Checks};
-ghost use Rattle.mp4_codec.specs.Boxes.{size_around, size_cause, write_cause};
+ghost use Rattle.mp4_codec.specs.Cause.{Answers, AnswersCause, Checks};
+ghost use Rattle.mp4_codec.specs.Boxes.{Writes, frame, size_around, size_cause, write_cause};
 ghost use Rattle.mp4_boxes.specs.Moov.{moov_payload, moov_refusal};
 ghost use Rattle.mp4_mux.specs.Mdat.{mdat_header_of};
 ghost use Rattle.mp4_mux.specs.TrackHeaders.{movie_duration};
@@ -116,6 +116,15 @@ fn movie_box(alloc: Global, timescale: u32, tracks: &[TrackWriter], end: u64) ->
     })
 }
 
+/// Adds a box at the end of a buffer, as `write_box` does, and drops it. The caller, which owns it no longer, has nothing
+/// to drop.
+fn write_owned<B: WriteBox>(value: B, out: &mut Vec<u8>) -> Result<u64>
+    ensures cause { AnswersCause (write_cause (B.payload value) (B.refusal value)) result }
+    ensures bytes { Writes out.old.items out.new.items result (frame B.KIND (B.payload value)) }
+{
+    value.write_box(out)
+}
+
 /// Adds the movie box at the end of a buffer. Refused by `OutOfMemory` alone; the buffer may then hold a part of it.
 #[tactic(auto, unfolding(crate::specs::Writing::movie_bytes))]
 pub fn put_movie(out: &mut Vec<u8>, timescale: u32, tracks: &[TrackWriter], end: u64) -> Result<()>
@@ -127,7 +136,7 @@ pub fn put_movie(out: &mut Vec<u8>, timescale: u32, tracks: &[TrackWriter], end:
     ensures memory { IfErr result (λ e. e ≡ Error.OutOfMemory) }
 {
     let movie = movie_box(*out.allocator(), timescale, tracks, end)?;
-    movie.write_box(out)?;
+    write_owned(movie, out)?;
     Ok(())
 }
 

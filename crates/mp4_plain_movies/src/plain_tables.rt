@@ -1,13 +1,13 @@
 //! The tables of a track that a test writes down, and the boxes around them, spelled byte by byte.
 
 use crate::movie_bytes::EMPTY_MOVIE;
+use crate::nested::{DINF, HDLR, MDHD, STSD, TKHD};
 use crate::plain_bytes::{
     begin_box, end_box, put, put_chunks, put_durations, put_offsets, put_rendering_offsets,
     put_sizes, put_sync_samples,
 };
+use crate::spelled::hex;
 use mp4_codec::Result;
-use mp4_test_parts::nested::{DINF, HDLR, MDHD, STSD, TKHD};
-use mp4_test_parts::spelled::hex;
 use std::alloc::Global;
 
 /// The tables of a track.

@@ -1,8 +1,8 @@
 //! Random tables of tracks, from fixed seeds.
 
 use crate::plain_tables::{Tables, written_track};
+use crate::random::Random;
 use mp4_codec::Result;
-use mp4_test_parts::random::Random;
 use std::alloc::Global;
 
 /// Tables that a seed settles.

@@ -9,8 +9,8 @@ ghost use Rattle.mp4_table.specs.CttsLaws.{ctts_entry_again, length-ctts_entry, 
 
 use crate::table::{put_table, read_table, table_size};
 use mp4_codec::{
-    BoxType, Entry, Fields, InRange, Items, Mp4Box, Put, ReadBox, Result, TryClone, WriteBox,
-    put_i32, put_u32,
+    BoxType, DebugItem, Entry, Field, Fields, InRange, Items, Mp4Box, Put, ReadBox, Result,
+    TryClone, WriteBox, put_i32, put_u32,
 };
 use std::alloc::Global;
 
@@ -23,6 +23,8 @@ pub struct CttsEntry {
     /// version 0 too.
     pub sample_offset: i32,
 }
+
+impl DebugItem for CttsEntry {}
 
 impl TryClone for CttsEntry {
     fn try_clone(&self) -> Result<Self>
@@ -61,7 +63,7 @@ impl Entry for CttsEntry {
     }
 
     #[tactic(auto, unfolding(crate::specs::Ctts::ctts_entry_at))]
-    fn read(fields: &mut Fields, _version: u8) -> Result<Self> {
+    fn read(fields: &mut Fields, _version: u8) -> Field<Self> {
         let sample_count = fields.u32()?;
         let sample_offset = fields.i32()?;
         Ok(CttsEntry {

@@ -9,8 +9,8 @@ ghost use Rattle.mp4_table.specs.StscLaws.{stsc_entry_again, length-stsc_entry, 
 
 use crate::table::{put_table, read_table, table_size};
 use mp4_codec::{
-    BoxType, Entry, Error, Fields, InRange, Items, Mp4Box, Put, ReadBox, Result, TryClone,
-    WriteBox, put_u32,
+    BoxType, DebugItem, Entry, Error, Field, Fields, InRange, Items, Mp4Box, Put, ReadBox, Result,
+    TryClone, WriteBox, put_u32,
 };
 use std::alloc::Global;
 
@@ -28,6 +28,8 @@ pub struct StscEntry {
     /// alone has 0, reading the box finds it, and writing leaves it out.
     pub first_sample: u32,
 }
+
+impl DebugItem for StscEntry {}
 
 impl TryClone for StscEntry {
     fn try_clone(&self) -> Result<Self>
@@ -68,7 +70,7 @@ impl Entry for StscEntry {
     }
 
     #[tactic(auto, unfolding(crate::specs::Stsc::stsc_entry_at))]
-    fn read(fields: &mut Fields, _version: u8) -> Result<Self> {
+    fn read(fields: &mut Fields, _version: u8) -> Field<Self> {
         let first_chunk = fields.u32()?;
         let samples_per_chunk = fields.u32()?;
         let sample_description_index = fields.u32()?;

@@ -9,8 +9,8 @@ ghost use Rattle.mp4_table.specs.SttsLaws.{stts_entry_again, length-stts_entry, 
 
 use crate::table::{put_table, read_table, table_size};
 use mp4_codec::{
-    BoxType, Entry, Fields, InRange, Items, Mp4Box, Put, ReadBox, Result, TryClone, WriteBox,
-    put_u32,
+    BoxType, DebugItem, Entry, Field, Fields, InRange, Items, Mp4Box, Put, ReadBox, Result,
+    TryClone, WriteBox, put_u32,
 };
 use std::alloc::Global;
 
@@ -22,6 +22,8 @@ pub struct SttsEntry {
     /// How long each lasts, in ticks of the media's timescale.
     pub sample_delta: u32,
 }
+
+impl DebugItem for SttsEntry {}
 
 impl TryClone for SttsEntry {
     fn try_clone(&self) -> Result<Self>
@@ -60,7 +62,7 @@ impl Entry for SttsEntry {
     }
 
     #[tactic(auto, unfolding(crate::specs::Stts::stts_entry_at))]
-    fn read(fields: &mut Fields, _version: u8) -> Result<Self> {
+    fn read(fields: &mut Fields, _version: u8) -> Field<Self> {
         let sample_count = fields.u32()?;
         let sample_delta = fields.u32()?;
         Ok(SttsEntry {

@@ -3,16 +3,16 @@
 
 use crate::asserts::check;
 use crate::random_movies::{Habits, random_bytes, random_call};
+use crate::read_back::tracks_are_read;
+use crate::writer_calls::{config_of, writer_call};
+use crate::written::is_expected;
 use mp4_codec::{Error, Result};
 use mp4_media::{FoundSample, RoundTrip, SampleQuery, WriterCall, write_and_read};
-use mp4_movie_parts::read_back::tracks_are_read;
-use mp4_movie_parts::writer_calls::{config_of, writer_call};
-use mp4_movie_parts::written::is_expected;
 use mp4_plain_movies::calls::{Call, ISOM};
 use mp4_plain_movies::movie_bytes::TEXT_MOVIE;
 use mp4_plain_movies::plain_movie::PlainMovie;
-use mp4_test_parts::random::Random;
-use mp4_test_parts::spelled::hex;
+use mp4_plain_movies::random::Random;
+use mp4_plain_movies::spelled::hex;
 use std::alloc::Global;
 
 /// Calls as data, and what the model answers them.

@@ -2,13 +2,13 @@
 //! as the plain model says, and the bytes are those of the model.
 
 use crate::asserts::same;
+use crate::written::{answers_alike, begun};
 use mp4_codec::Result;
 use mp4_entry::TrackType;
 use mp4_media::Mp4Writer;
-use mp4_movie_parts::written::{answers_alike, begun};
 use mp4_plain_movies::calls::{Beginning, Call, ISOM, Media, Picture, Sample, Sound, Track};
 use mp4_plain_movies::plain_movie::PlainMovie;
-use mp4_test_parts::random::Random;
+use mp4_plain_movies::random::Random;
 use std::alloc::Global;
 
 /// What the samples of a list have in common.

@@ -2,10 +2,22 @@
 //! these tests with one request refused, each in turn. A refused call then answers `OutOfMemory`, it leaves what it
 //! must, and made again it is Ok. While a test prints that a request was refused, the next one is tried.
 
+use crate::asked::is_held;
+use crate::asked::lends;
 use crate::asserts::check;
 use crate::asserts::holds;
 use crate::asserts::same;
-use crate::movies::config;
+use crate::reader_files::FRAGMENTED;
+use crate::reader_files::TextFile;
+use crate::reader_files::file_of;
+use crate::tracks::holds_of;
+use crate::tracks::text_samples_are_found;
+use crate::writer_calls::config_of;
+use crate::writer_calls::make;
+use crate::writer_calls::media_track;
+use crate::writer_calls::writer_call;
+use crate::written::modelled;
+use crate::written::standing;
 use mp4_boxes::IlstBox;
 use mp4_boxes::Metadata;
 use mp4_boxes::MoofBox;
@@ -73,18 +85,6 @@ use mp4_media::TrackConfig;
 use mp4_media::WriterCall;
 use mp4_media::read_mp4;
 use mp4_media::write_and_read;
-use mp4_movie_parts::asked::is_held;
-use mp4_movie_parts::asked::lends;
-use mp4_movie_parts::reader_files::FRAGMENTED;
-use mp4_movie_parts::reader_files::TextFile;
-use mp4_movie_parts::reader_files::file_of;
-use mp4_movie_parts::tracks::holds_of;
-use mp4_movie_parts::tracks::text_samples_are_found;
-use mp4_movie_parts::writer_calls::make;
-use mp4_movie_parts::writer_calls::media_track;
-use mp4_movie_parts::writer_calls::writer_call;
-use mp4_movie_parts::written::modelled;
-use mp4_movie_parts::written::standing;
 use mp4_plain_movies::calls::Call;
 use mp4_plain_movies::calls::ISOM;
 use mp4_plain_movies::calls::Media;
@@ -95,7 +95,13 @@ use mp4_plain_movies::listed_calls::five_media;
 use mp4_plain_movies::listed_calls::text_calls;
 use mp4_plain_movies::movie_bytes::EMPTY_MOVIE;
 use mp4_plain_movies::movie_bytes::TEXT_MOVIE;
+use mp4_plain_movies::nested::nest;
 use mp4_plain_movies::plain_tables::TEXT;
+use mp4_plain_movies::sample_boxes::Number;
+use mp4_plain_movies::sides::Side;
+use mp4_plain_movies::spelled::both;
+use mp4_plain_movies::spelled::hex;
+use mp4_plain_movies::spelled::read_bytes;
 use mp4_table::Co64Box;
 use mp4_table::CttsBox;
 use mp4_table::StcoBox;
@@ -103,12 +109,6 @@ use mp4_table::StscBox;
 use mp4_table::StssBox;
 use mp4_table::StszBox;
 use mp4_table::SttsBox;
-use mp4_test_parts::nested::nest;
-use mp4_test_parts::sample_boxes::Number;
-use mp4_test_parts::sides::Side;
-use mp4_test_parts::spelled::both;
-use mp4_test_parts::spelled::hex;
-use mp4_test_parts::spelled::read_bytes;
 use std::alloc::Global;
 
 /// Prints that a request was refused, and answers whether the call said so.
@@ -678,8 +678,8 @@ fn a_refused_insert_leaves_the_map(rt: HostRuntime) {
 
 /// The configuration of the empty movie, which is made again after a refusal.
 fn config_again(rt: &HostRuntime) -> Result<Mp4Config> {
-    match config(rt.alloc()) {
-        Err(error) if is_refusal(rt, &error) => config(rt.alloc()),
+    match config_of(rt.alloc(), &ISOM) {
+        Err(error) if is_refusal(rt, &error) => config_of(rt.alloc(), &ISOM),
         answer => answer,
     }
 }

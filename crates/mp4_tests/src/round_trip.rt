@@ -2,9 +2,9 @@
 
 use crate::asserts::{check, same};
 use crate::random_movies::{random_bytes, random_movie};
+use crate::read_back::is_read_back;
+use crate::written::{movie_of, written};
 use mp4_codec::Result;
-use mp4_movie_parts::read_back::is_read_back;
-use mp4_movie_parts::written::{movie_of, written};
 use mp4_plain_movies::calls::{Call, ISOM};
 use mp4_plain_movies::listed_calls::{five_calls, text_calls};
 use std::alloc::Global;

@@ -1,8 +1,7 @@
-//! Fault messages.
+//! Why a run gives no text.
 
-use crate::script::ScriptFault;
-use mp4_media::{Error, Result};
-use std::alloc::Global;
+use mp4_media::Error;
+use mp4_script::ScriptFault;
 use thiserror::Error as ThisError;
 
 /// Why a run gives no text.
@@ -20,9 +19,4 @@ pub enum Fault<'a> {
     /// A script makes no movie.
     #[error("{0}")]
     Script(#[from] ScriptFault),
-}
-
-/// The message of an error.
-pub fn fault_text(alloc: Global, error: &Error) -> Result<Vec<u8>> {
-    Ok(format!(in alloc; "{error}")?.into_bytes())
 }

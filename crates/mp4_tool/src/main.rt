@@ -1,14 +1,8 @@
 //! Looks into MP4 files, and makes them of scripts.
 #![tactic(auto)]
 
-mod commands;
 mod faults;
-mod info;
-mod lines;
 mod run;
-mod samples;
-mod script;
-mod show;
 
 use crate::run::run;
 use mp4_media::{Error, Result};

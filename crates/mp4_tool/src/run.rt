@@ -1,12 +1,8 @@
 //! A run of the program.
 
-use crate::commands::decimal_in;
 use crate::faults::Fault;
-use crate::info::info_text;
-use crate::samples::samples_text;
-use crate::script::run_script;
-use crate::show::show_text;
 use mp4_media::Error;
+use mp4_script::{decimal_in, info_text, run_script, samples_text, show_text};
 use std::alloc::Global;
 use std::fs;
 use std::io::{ErrorKind, Read};

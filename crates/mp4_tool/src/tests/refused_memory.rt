@@ -2,14 +2,10 @@
 //! these tests with one request refused, each in turn. A refused call then says so, and made again it is Ok. While a
 //! test prints that a request was refused, the next one is tried.
 
-use super::info::{EMPTY_INFO, TEXT_INFO, TEXT_SAMPLES};
 use super::runs::{Printed, ran};
-use super::scripts::{EMPTY_MOVIE, TEXT_SCRIPT};
-use crate::faults::fault_text;
-use crate::info::info_text;
-use crate::script::{ScriptFault, run_script};
-use crate::show::show_text;
+use super::texts::{EMPTY_INFO, EMPTY_MOVIE, TEXT_INFO, TEXT_SAMPLES, TEXT_SCRIPT};
 use mp4_media::{Error, Result};
+use mp4_script::{ScriptFault, fault_text, info_text, run_script, show_text};
 
 /// Prints that a request was refused, and answers whether the call said so.
 fn is_refusal(rt: &HostRuntime, error: &Error) -> bool {

@@ -1,11 +1,10 @@
 //! Whole runs of the program.
 
-use super::info::{EMPTY_INFO, TEXT_INFO, TEXT_SAMPLES};
 use super::readers::{FailsBehind, Slow};
-use super::scripts::{EMPTY_MOVIE, TEXT_SCRIPT};
+use super::texts::{EMPTY_INFO, EMPTY_MOVIE, TEXT_INFO, TEXT_SAMPLES, TEXT_SCRIPT};
 use crate::run::run;
-use crate::script::run_script;
 use mp4_media::Result;
+use mp4_script::run_script;
 use std::alloc::{AllocError, Global};
 use std::fs;
 use std::io::Read;

@@ -1,9 +1,8 @@
 use Rattle.std.proofs.Common.{◌≡◌, Some, inr, refl}
 use Rattle.std.proofs.lemmas.Result.{err_from_is_err_and}
 use Rattle.mp4_codec.specs.Cause.{cause_of}
-use Rattle.mp4_codec.specs.Bytes.{list_at, count_cause}
+use Rattle.mp4_codec.specs.Bytes.{count_cause}
 use Rattle.mp4_codec.specs.FieldLaws.{count_cause-refused}
-use Rattle.mp4_codec.specs.ListLoop.{goes_on, ends, is_done}
 use Rattle.mp4_codec.proofs.fields.Fields.list.Goals as goal
 
 pub returns-in_err-check_count : goal.returns-in_err-check_count
@@ -16,39 +15,6 @@ returns-in_err-check_count g c =
     count_cause-refused (g.T.Entry.at c.args.version) n (g.met.T.Entry.has_length c.args.version) c.args.count
     c.args.self.now (cause_of c.in_err-check_count.field-0.0) passes in
     rw (p.1, p.2, passes) (record { value = inr refused; count = refl })
-
-pub returns-in_err-items-clause-count : goal.returns-in_err-items-clause-count
-returns-in_err-items-clause-count g c = rw (← c.size.ensures, c.in_ok-check_count.ensures) tt
-
-pub returns-in_err-item-clause-count : goal.returns-in_err-item-clause-count
-returns-in_err-item-clause-count g c = rw (← c.size.ensures, c.in_ok-check_count.ensures) tt
-
-pub returns-in_err-push-clause-count : goal.returns-in_err-push-clause-count
-returns-in_err-push-clause-count g c = rw (← c.size.ensures, c.in_ok-check_count.ensures) tt
-
-pub returns-in_err-item-clause-value : goal.returns-in_err-item-clause-value
-returns-in_err-item-clause-value g c =
-    let read = g.T.Entry.at c.args.version in
-    let p = err_from_is_err_and c.from_residual-in_err-item.result c.from_residual-in_err-item.ensures.1 in
-    let total = list_at read c.args.count c.args.self.now in
-    rw (p.1, p.2) (inr (ends read (cause_of c.in_err-item.field-0.0) c.loop.items c.args.count c.loop.counter
-    c.loop.self total
-    c.loop-test.true c.in_err-item.ensures c.loop.invariant))
-
-pub loop-preserved : goal.loop-preserved
-loop-preserved g c =
-    let read = g.T.Entry.at c.args.version in
-    let total = list_at read c.args.count c.args.self.now in
-    rw c.in_ok-push.ensures.ok
-    (goes_on read c.loop.items c.args.count c.loop.counter c.loop.self c.in_ok-item.item c.read.new.fields total
-    c.loop-test.true
-    c.in_ok-item.ensures c.loop.invariant)
-
-pub returns-clause-value : goal.returns-clause-value
-returns-clause-value g c =
-    let read = g.T.Entry.at c.args.version in
-    let total = list_at read c.args.count c.args.self.now in
-    is_done read c.loop.items c.args.count c.loop.counter c.loop.self total c.loop-test.false c.loop.invariant
 
 pub returns-clause-count : goal.returns-clause-count
 returns-clause-count g c = rw (← c.size.ensures, c.in_ok-check_count.ensures) tt

@@ -1,5 +1,4 @@
-use Rattle.std.proofs.Common.{sym, ap, subst, ◌∙◌, arith}
-use Rattle.mp4_fragments.specs.Fragments.{placed_runs}
+use Rattle.std.proofs.Common.{sym, subst}
 use Rattle.mp4_fragments.specs.Index.{Indexes, run_at}
 use Rattle.mp4_fragments.specs.IndexLaws.{indexed_runs}
 use Rattle.mp4_lookup.proofs.track.Mp4Track.new.Goals as goal
@@ -8,18 +7,17 @@ pub invariant_of-result : goal.invariant_of-result
 invariant_of-result c =
     let trafs = c.args.trafs in
     let defaults = c.args.defaults in
-    let index = c.in_ok-runs.runs in
-    let made = rw c.as_slice-2.ensures at c.in_ok-runs.ensures in
+    let index = c.in_ok-index.runs in
+    let made = rw c.as_slice.ensures at c.in_ok-index.ensures.runs in
     record {
       numbered = c.requires.first_samples;
-      indexed = c.in_ok-index.ensures;
+      indexed = c.in_ok-index.ensures.tables;
       placed = subst (λ runs. Indexes (run_at trafs defaults) runs index)
           (sym (indexed_runs trafs defaults _ index made)) made;
-      counted = omega arith;
+      counted = c.in_ok-index.ensures.counted;
     }
 
 pub returns-clause-runs : goal.returns-clause-runs
 returns-clause-runs c =
-    indexed_runs c.args.trafs c.args.defaults _ c.in_ok-runs.runs (rw c.as_slice-2.ensures at c.in_ok-runs.ensures)
-    ∙ ap (λ end. placed_runs c.args.defaults end c.args.trafs c.args.bases.now)
-    (rw c.as_slice.ensures at c.end_after-end.ensures)
+    indexed_runs c.args.trafs c.args.defaults _ c.in_ok-index.runs
+    (rw c.as_slice.ensures at c.in_ok-index.ensures.runs)

@@ -1,0 +1,18 @@
+//! Scripts, whose lines say what a movie is made of, and the texts that describe files: what the program `mp4_tool` reads and
+//! prints.
+#![tactic(auto)]
+
+mod commands;
+mod faults;
+mod info;
+mod lines;
+mod samples;
+mod script;
+mod show;
+
+pub use commands::decimal_in;
+pub use faults::fault_text;
+pub use info::info_text;
+pub use samples::samples_text;
+pub use script::{ScriptFault, run_script};
+pub use show::show_text;

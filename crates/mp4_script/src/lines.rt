@@ -1,0 +1,46 @@
+//! The lines of a text.
+
+ghost use Rattle.std.specs.Prelude.{◌≡◌, [], ◌∷◌, ◌==◌, ◌≤◌, length, MatchOption, IfNone};
+ghost use Rattle.std.specs.List.{position_or_len};
+ghost use Rattle.mp4_script.specs.Lines.{lines_of, lines_left};
+
+/// The byte at the end of a line.
+const LINE_FEED: u8 = b'\n';
+
+/// The lines of a text that are still to be read. Each ends with a line feed; the last one may lack it.
+#[derive(Drop)]
+pub(crate) struct Lines<'a> {
+    /// What stands behind the lines that were read; None behind the last one.
+    rest: Option<&'a [u8]>,
+}
+
+/// How many bytes stand before the first one that is this, or how many there are.
+pub(crate) fn length_before(text: &[u8], end: u8) -> usize
+    ensures { result ≡ position_or_len (λ byte. byte == end) text.now }
+{
+    text.iter().take_while(|byte| **byte != end).count()
+}
+
+impl<'a> Lines<'a> {
+    pub fn new(text: &'a [u8]) -> Self
+        ensures { lines_left result ≡ lines_of text.now }
+    {
+        Lines { rest: Some(text) }
+    }
+
+    /// The next line, without its line feed; None behind the last one.
+    pub fn next_line(&mut self) -> Option<&'a [u8]>
+        ensures line { MatchOption result (lines_left self.old ≡ []) (λ line. lines_left self.old ≡ line.now ∷ lines_left self.new) }
+        ensures end { IfNone result (lines_left self.new ≡ []) }
+    {
+        let text = self.rest?;
+        let end = length_before(text, LINE_FEED);
+        if end < text.len() {
+            self.rest = Some(&text[end + 1..]);
+            Some(&text[..end])
+        } else {
+            self.rest = None;
+            Some(text)
+        }
+    }
+}

@@ -1,0 +1,178 @@
+//! The file of a run that lists a million samples, of which each is looked up and lent.
+
+use crate::asked::lends;
+use crate::asserts::check;
+use crate::walked_lookup::WalkedPlace;
+use mp4_codec::Result;
+use mp4_lookup::{Comparisons, Mp4Track, SamplePlace, SampleRef};
+use mp4_media::{Mp4Reader, read_mp4};
+use mp4_plain_movies::movie_bytes::EMPTY_MOVIE;
+use mp4_plain_movies::plain_bytes::{begin_box, end_box, put, put_over, put_pair};
+use mp4_plain_movies::plain_tables::{Tables, put_movie};
+use std::alloc::Global;
+
+const SAMPLES: u32 = 1_000_000;
+
+/// The tables of a track without samples.
+const NO_SAMPLES: Tables<'static> = Tables {
+    durations: &[],
+    rendering_offsets: None,
+    sync_samples: None,
+    chunks: &[],
+    size: 0,
+    count: 0,
+    sizes: &[],
+    offsets: &[],
+};
+
+/// Puts what the run says of sample `k`: durations of 1 and 2 ticks, and sizes of one and no byte take turns.
+fn put_sample(bytes: &mut Vec<u8>, k: u32) -> Result<()> {
+    put_pair(bytes, 2 - k % 2, k % 2)
+}
+
+/// Puts the run of all samples. The answer is the place of its data offset.
+fn put_run(bytes: &mut Vec<u8>) -> Result<usize> {
+    let run = begin_box(bytes, b"trun")?;
+    put_pair(bytes, 0x301, SAMPLES)?;
+    let data_offset = bytes.len();
+    put(bytes, 0)?;
+    for k in 1..=SAMPLES {
+        put_sample(bytes, k)?;
+    }
+    end_box(bytes, run);
+    Ok(data_offset)
+}
+
+/// Puts the fragment of this run, whose samples lie eight bytes behind it.
+fn put_fragment(bytes: &mut Vec<u8>) -> Result<()> {
+    let moof = begin_box(bytes, b"moof\0\0\0\x10mfhd\0\0\0\0\0\0\0\x01")?;
+    let traf = begin_box(bytes, b"traf\0\0\0\x10tfhd\0\x02\0\0\0\0\0\x01")?;
+    let data_offset = put_run(bytes)?;
+    end_box(bytes, traf);
+    end_box(bytes, moof);
+    let size = u32::try_from(bytes.len().saturating_sub(moof)).unwrap_or(0);
+    put_over(bytes, data_offset, size.wrapping_add(8));
+    Ok(())
+}
+
+/// The byte that sample `k` is made of, if its number is odd.
+fn byte_of(k: u32) -> u8 {
+    (k % 251) as u8
+}
+
+/// Puts the media data: a byte for each sample of an odd number.
+fn put_data(bytes: &mut Vec<u8>) -> Result<()> {
+    let start = begin_box(bytes, b"mdat")?;
+    for half in 0..SAMPLES / 2 {
+        bytes.push(byte_of(2 * half + 1))?;
+    }
+    end_box(bytes, start);
+    Ok(())
+}
+
+/// File type, movie, fragment and media data. The answer has the place of the first sample, too.
+fn file(alloc: Global) -> Result<(Vec<u8>, u64)> {
+    let mut bytes = (&EMPTY_MOVIE[..32]).to_vec(alloc)?;
+    put_movie(alloc, &mut bytes, &NO_SAMPLES)?;
+    put_fragment(&mut bytes)?;
+    let start = bytes.len() as u64;
+    put_data(&mut bytes)?;
+    Ok((bytes, start.wrapping_add(8)))
+}
+
+/// Where sample `k` lies and when it is decoded and shown, if the first lies at `start`.
+fn place_of(start: u64, k: u32) -> WalkedPlace {
+    let before = u64::from(k).wrapping_sub(1);
+    WalkedPlace {
+        offset: start.wrapping_add(u64::from(k / 2)),
+        size: k % 2,
+        start_time: before.wrapping_add(before / 2),
+        duration: 2 - k % 2,
+        rendering_offset: 0,
+        is_sync: true,
+    }
+}
+
+/// Whether a sample was found by one comparison, in the runs.
+fn is_found_by_runs(place: &SamplePlace) -> bool {
+    let expected = Comparisons {
+        stsc: 0,
+        stts: 0,
+        ctts: 0,
+        stss: 0,
+        runs: 1,
+    };
+    place.comparisons == expected && place.size_reads == 0
+}
+
+/// Whether a number is found there, by one comparison.
+fn is_member_at(track: &Mp4Track, k: u32, place: &WalkedPlace) -> bool {
+    match track.locate(k) {
+        Ok(Some(found)) => place.is_same(&found) && is_found_by_runs(&found),
+        _ => false,
+    }
+}
+
+/// The same of the track of id 1.
+fn is_member(reader: &Mp4Reader, k: u32, place: &WalkedPlace) -> bool {
+    match reader.tracks().get(&1) {
+        None => false,
+        Some(track) => is_member_at(track, k, place),
+    }
+}
+
+/// Whether sample `k` is lent.
+fn is_lent(reader: &Mp4Reader, start: u64, k: u32) -> bool {
+    let place = place_of(start, k);
+    let byte = [byte_of(k)];
+    let sample = SampleRef {
+        start_time: place.start_time,
+        duration: place.duration,
+        rendering_offset: 0,
+        is_sync: true,
+        bytes: if place.size == 0 { &[] } else { &byte },
+    };
+    lends(reader, 1, k, &Ok(Some(sample)))
+}
+
+/// Whether each sample is lent, and none behind the last.
+fn each_is_lent(reader: &Mp4Reader, start: u64) -> bool {
+    let mut all = reader.sample_count(1) == Ok(SAMPLES);
+    for k in 1..=SAMPLES {
+        all = all && is_lent(reader, start, k);
+    }
+    all && lends(reader, 1, SAMPLES + 1, &Ok(None))
+}
+
+/// Whether samples at far numbers are found by one comparison and lent, in no order.
+fn far_ones_are_lent(reader: &Mp4Reader, start: u64) -> bool {
+    let mut all = true;
+    for k in [
+        SAMPLES,
+        1,
+        SAMPLES - 1,
+        64,
+        SAMPLES / 2,
+        65,
+        SAMPLES - 63,
+        128,
+        63,
+        SAMPLES - 64,
+    ] {
+        let place = place_of(start, k);
+        all = all && is_member(reader, k, &place) && is_lent(reader, start, k);
+    }
+    all
+}
+
+/// Whether the samples of the file are lent, at far numbers and in order.
+fn all_are_read(alloc: Global) -> Result<bool> {
+    let (bytes, start) = file(alloc)?;
+    let reader = read_mp4(alloc, &bytes)?;
+    Ok(far_ones_are_lent(&reader, start) && each_is_lent(&reader, start))
+}
+
+#[test]
+fn a_million_samples_of_a_run_are_read(rt: HostRuntime) {
+    check(&rt, 1, all_are_read(rt.alloc()));
+}

@@ -1,0 +1,180 @@
+//! The file of a track of a million samples, of which each is looked up and read.
+
+use crate::asked::reads;
+use crate::asserts::check;
+use mp4_codec::Result;
+use mp4_lookup::{Comparisons, SamplePlace, SampleRef};
+use mp4_media::{Mp4Reader, read_mp4};
+use mp4_plain_movies::movie_bytes::EMPTY_MOVIE;
+use mp4_plain_movies::plain_bytes::{begin_box, end_box};
+use mp4_plain_movies::plain_tables::{Tables, put_movie};
+use std::alloc::Global;
+
+const SAMPLES: u32 = 1_000_000;
+
+/// Runs of one sample each, of durations 1 and 2 in turn.
+fn durations(alloc: Global) -> Result<Vec<(u32, u32)>> {
+    let mut runs = Vec::new(alloc);
+    for _ in 0..SAMPLES / 2 {
+        runs.push((1, 1))?;
+        runs.push((1, 2))?;
+    }
+    Ok(runs)
+}
+
+/// Runs of one sample each, shown 7 and 8 ticks later in turn.
+fn rendering_offsets(alloc: Global) -> Result<Vec<(u32, i32)>> {
+    let mut runs = Vec::new(alloc);
+    for _ in 0..SAMPLES / 2 {
+        runs.push((1, 7))?;
+        runs.push((1, 8))?;
+    }
+    Ok(runs)
+}
+
+/// Each sample is a sync sample.
+fn sync_samples(alloc: Global) -> Result<Vec<u32>> {
+    let mut numbers = Vec::new(alloc);
+    for sample in 1..=SAMPLES {
+        numbers.push(sample)?;
+    }
+    Ok(numbers)
+}
+
+/// Sizes of one byte each.
+fn sizes(alloc: Global) -> Result<Vec<u32>> {
+    let mut sizes = Vec::new(alloc);
+    for _ in 0..SAMPLES {
+        sizes.push(1)?;
+    }
+    Ok(sizes)
+}
+
+/// A chunk of half the samples, and chunks of one sample each.
+fn chunks(alloc: Global) -> Result<Vec<(u32, u32)>> {
+    let mut entries = Vec::new(alloc);
+    entries.push((1, 500_000))?;
+    for chunk in 2..=500_001 {
+        entries.push((chunk, 1))?;
+    }
+    Ok(entries)
+}
+
+/// The chunks follow each other, the first behind the header of the media data.
+fn offsets(alloc: Global) -> Result<Vec<u64>> {
+    let mut offsets = Vec::new(alloc);
+    offsets.push(40)?;
+    for offset in 500_040..1_000_040 {
+        offsets.push(offset)?;
+    }
+    Ok(offsets)
+}
+
+/// Whether each search compared few numbers, and at least one.
+fn are_few(comparisons: &Comparisons) -> bool {
+    (1..=19).contains(&comparisons.stsc)
+        && (1..=20).contains(&comparisons.stts)
+        && (1..=20).contains(&comparisons.ctts)
+        && (1..=20).contains(&comparisons.stss)
+        && comparisons.runs == 0
+}
+
+/// Whether a place is that of sample `k`, which begins at this time.
+fn is_place_of(place: &SamplePlace, k: u32, start_time: u64) -> bool {
+    place.offset == u64::from(k).wrapping_add(39)
+        && place.size == 1
+        && place.start_time == start_time
+        && place.duration == 2 - k % 2
+        && place.rendering_offset == if k % 2 == 0 { 8 } else { 7 }
+        && place.is_sync
+        && are_few(&place.comparisons)
+        && (1..=3).contains(&place.size_reads)
+}
+
+/// Whether sample `k` is found, which begins at this time.
+fn is_found(reader: &Mp4Reader, k: u32, start_time: u64) -> bool {
+    let Some(track) = reader.tracks().get(&1) else {
+        return false;
+    };
+    match track.locate(k) {
+        Ok(Some(place)) => is_place_of(&place, k, start_time),
+        _ => false,
+    }
+}
+
+/// The byte that sample `k` is made of.
+fn byte_of(k: u32) -> u8 {
+    (k % 251) as u8
+}
+
+/// Whether sample `k` is read, which begins at this time.
+fn is_read(reader: &mut Mp4Reader, k: u32, start_time: u64) -> bool {
+    let sample = SampleRef {
+        start_time,
+        duration: 2 - k % 2,
+        rendering_offset: if k % 2 == 0 { 8 } else { 7 },
+        is_sync: true,
+        bytes: &[byte_of(k)],
+    };
+    reads(reader, 1, k, &Ok(Some(sample)))
+}
+
+/// Whether each sample is found and read, the last at 1499998, and none behind it.
+fn each_is_read(reader: &mut Mp4Reader) -> bool {
+    let mut start_time = 0u64;
+    let mut all = true;
+    for k in 1..=SAMPLES {
+        all = all && is_found(reader, k, start_time) && is_read(reader, k, start_time);
+        start_time = start_time.wrapping_add(u64::from(2 - k % 2));
+    }
+    all && start_time == 1_500_000
+        && is_read(reader, SAMPLES, 1_499_998)
+        && reads(reader, 1, SAMPLES + 1, &Ok(None))
+}
+
+/// File type and media data: a byte for each sample.
+fn media_data(alloc: Global) -> Result<Vec<u8>> {
+    let mut bytes = (&EMPTY_MOVIE[..32]).to_vec(alloc)?;
+    let start = begin_box(&mut bytes, b"mdat")?;
+    for k in 1..=SAMPLES {
+        bytes.push(byte_of(k))?;
+    }
+    end_box(&mut bytes, start);
+    Ok(bytes)
+}
+
+/// Whether each sample is read of the file with these tables.
+fn file_is_read(alloc: Global, tables: &Tables) -> Result<bool> {
+    let mut bytes = media_data(alloc)?;
+    put_movie(alloc, &mut bytes, tables)?;
+    let mut reader = read_mp4(alloc, &bytes)?;
+    Ok(each_is_read(&mut reader))
+}
+
+/// Whether each sample of a track is read, of which all but the first half have chunks of their own.
+fn all_are_read(alloc: Global) -> Result<bool> {
+    let durations = durations(alloc)?;
+    let rendering_offsets = rendering_offsets(alloc)?;
+    let sync_samples = sync_samples(alloc)?;
+    let chunks = chunks(alloc)?;
+    let sizes = sizes(alloc)?;
+    let offsets = offsets(alloc)?;
+    file_is_read(
+        alloc,
+        &Tables {
+            durations: &durations,
+            rendering_offsets: Some(&rendering_offsets),
+            sync_samples: Some(&sync_samples),
+            chunks: &chunks,
+            size: 0,
+            count: SAMPLES,
+            sizes: &sizes,
+            offsets: &offsets,
+        },
+    )
+}
+
+#[test]
+fn a_million_samples_are_read(rt: HostRuntime) {
+    check(&rt, 1, all_are_read(rt.alloc()));
+}

@@ -1,0 +1,290 @@
+//! The samples of a movie's tracks that its fragments add, written out member by member. They are compared with what the
+//! lookup finds, and not proved.
+
+use crate::walked_lookup::{WalkedPlace, walk};
+use mp4_boxes::{StblBox, TrakBox};
+use mp4_codec::{Error, Result};
+use mp4_table::SttsEntry;
+use std::alloc::Global;
+
+/// What is said of one sample, or of all samples for which no more is said.
+#[derive(Debug, Clone, Copy, PartialEq, Eq)]
+pub struct PlainValues {
+    pub duration: Option<u32>,
+    pub size: Option<u32>,
+    pub flags: Option<u32>,
+    pub composition_offset: Option<u32>,
+}
+
+impl PlainValues {
+    /// These, and others where they say nothing.
+    fn or(&self, others: &PlainValues) -> PlainValues {
+        PlainValues {
+            duration: self.duration.or(others.duration),
+            size: self.size.or(others.size),
+            flags: self.flags.or(others.flags),
+            composition_offset: self.composition_offset.or(others.composition_offset),
+        }
+    }
+}
+
+/// Nothing is said.
+pub const NOTHING: PlainValues = PlainValues {
+    duration: None,
+    size: None,
+    flags: None,
+    composition_offset: None,
+};
+
+/// A run of samples.
+#[derive(Drop)]
+pub struct PlainRun {
+    pub data_offset: Option<i32>,
+    pub first_flags: Option<u32>,
+    pub members: Vec<PlainValues>,
+}
+
+/// A track's part of a fragment.
+#[derive(Drop)]
+pub struct PlainPart {
+    pub id: u32,
+    pub base: Option<u64>,
+    pub counts_from_fragment: bool,
+    pub values: PlainValues,
+    pub time: Option<u64>,
+    pub runs: Vec<PlainRun>,
+}
+
+/// A fragment that begins at a place.
+#[derive(Drop)]
+pub struct PlainFragment {
+    pub place: u64,
+    pub parts: Vec<PlainPart>,
+}
+
+/// Where and when a sample begins.
+#[derive(Clone, Copy)]
+struct Spot {
+    place: Option<u64>,
+    time: Option<u64>,
+}
+
+/// A sample that a fragment adds.
+#[derive(Clone, Copy)]
+struct PlainSample {
+    spot: Spot,
+    size: u32,
+    duration: u32,
+    rendering_offset: i32,
+    is_sync: bool,
+}
+
+impl PlainSample {
+    /// What its number is answered with.
+    fn answer(&self) -> Result<Option<WalkedPlace>> {
+        let (Some(offset), Some(start_time)) = (self.spot.place, self.spot.time) else {
+            return Err(Error::InvalidData("the sample is nowhere"));
+        };
+        Ok(Some(WalkedPlace {
+            offset,
+            size: self.size,
+            start_time,
+            duration: self.duration,
+            rendering_offset: self.rendering_offset,
+            is_sync: self.is_sync,
+        }))
+    }
+}
+
+/// A track and the samples that fragments add to it.
+#[derive(Drop)]
+pub struct PlainTrack {
+    pub id: u32,
+    /// What the movie says of its samples.
+    values: PlainValues,
+    /// When its samples have lasted.
+    end: Option<u64>,
+    is_named: bool,
+    samples: Vec<PlainSample>,
+}
+
+impl PlainTrack {
+    /// How many samples fragments add.
+    pub fn added(&self) -> u32 {
+        u32::try_from(self.samples.len()).unwrap_or(0)
+    }
+
+    /// What a number of the track is answered with, whose movie box has these tables.
+    pub fn answer(&self, stbl: &StblBox, k: u32) -> Result<Option<WalkedPlace>> {
+        let count = stbl.stsz.sample_count;
+        if k <= count || !self.is_named {
+            return walk(stbl, self.id, k);
+        }
+        match self
+            .samples
+            .get(k.wrapping_sub(count).wrapping_sub(1) as usize)
+        {
+            None => Ok(None),
+            Some(sample) => sample.answer(),
+        }
+    }
+}
+
+/// So far on or back; None where that is below 0 or past 64 bits.
+fn moved(place: Option<u64>, offset: i32) -> Option<u64> {
+    let distance = u64::from(offset.unsigned_abs());
+    if offset < 0 {
+        place?.checked_sub(distance)
+    } else {
+        place?.checked_add(distance)
+    }
+}
+
+/// So far on.
+fn behind(place: Option<u64>, distance: u32) -> Option<u64> {
+    place?.checked_add(u64::from(distance))
+}
+
+/// Adds a sample of these values to a track. The answer is where the next one begins.
+fn add_sample(track: &mut PlainTrack, values: &PlainValues, spot: Spot) -> Result<Spot> {
+    let size = values.size.unwrap_or(0);
+    let duration = values.duration.unwrap_or(0);
+    track.samples.push(PlainSample {
+        spot,
+        size,
+        duration,
+        rendering_offset: values.composition_offset.unwrap_or(0).cast_signed(),
+        is_sync: values.flags.unwrap_or(0) / 0x1_0000 % 2 == 0,
+    })?;
+    Ok(Spot {
+        place: behind(spot.place, size),
+        time: behind(spot.time, duration),
+    })
+}
+
+/// Adds the samples of a run to a track, of which all have these values where they say no others. The answer is where the
+/// next one begins.
+fn add_run(
+    track: &mut PlainTrack,
+    run: &PlainRun,
+    values: &PlainValues,
+    first: Spot,
+) -> Result<Spot> {
+    let mut spot = first;
+    let mut first_flags = run.first_flags;
+    for member in run.members.as_slice() {
+        let own = member.or(values).or(&track.values);
+        let flags = first_flags.or(own.flags);
+        first_flags = None;
+        spot = add_sample(track, &PlainValues { flags, ..own }, spot)?;
+    }
+    Ok(spot)
+}
+
+/// Adds the runs of a part of a fragment, whose places count from a base, to its track. The answer is where its data ends.
+fn add_runs(track: &mut PlainTrack, part: &PlainPart, base: Option<u64>) -> Result<Option<u64>> {
+    track.is_named = true;
+    let before = track.samples.len();
+    let mut spot = Spot {
+        place: base,
+        time: part.time.or(track.end),
+    };
+    for run in part.runs.as_slice() {
+        if let Some(offset) = run.data_offset {
+            spot.place = moved(base, offset);
+        }
+        spot = add_run(track, run, &part.values, spot)?;
+    }
+    if track.samples.len() > before {
+        track.end = spot.time;
+    }
+    Ok(spot.place)
+}
+
+/// Adds a part of a fragment to its track. The answer is where its data ends.
+fn add_part(
+    tracks: &mut Vec<PlainTrack>,
+    part: &PlainPart,
+    base: Option<u64>,
+) -> Result<Option<u64>> {
+    let mut end = base;
+    for track in tracks.iter_mut() {
+        if track.id == part.id {
+            end = add_runs(track, part, base)?;
+        }
+    }
+    Ok(end)
+}
+
+/// Adds the parts of a fragment to their tracks.
+fn add_fragment(tracks: &mut Vec<PlainTrack>, fragment: &PlainFragment) -> Result<()> {
+    let mut end = Some(fragment.place);
+    for part in fragment.parts.as_slice() {
+        let base = match part.base {
+            Some(base) => Some(base),
+            None if part.counts_from_fragment => Some(fragment.place),
+            None => end,
+        };
+        end = add_part(tracks, part, base)?;
+    }
+    Ok(())
+}
+
+/// When the first so many samples of these runs have lasted.
+fn end_of(runs: &[SttsEntry], count: u32) -> u64 {
+    let mut left = count;
+    let mut end = 0u64;
+    for run in runs {
+        let taken = left.min(run.sample_count);
+        let time = u64::from(taken).wrapping_mul(u64::from(run.sample_delta));
+        end = end.wrapping_add(time);
+        left = left.wrapping_sub(taken);
+    }
+    end
+}
+
+/// What the movie says last of the samples of a track.
+fn values_of(defaults: &[(u32, PlainValues)], id: u32) -> PlainValues {
+    let mut values = NOTHING;
+    for default in defaults {
+        if default.0 == id {
+            values = default.1;
+        }
+    }
+    values
+}
+
+/// The tracks of these boxes, without fragments.
+fn unfragmented(
+    alloc: Global,
+    traks: &[TrakBox],
+    defaults: &[(u32, PlainValues)],
+) -> Result<Vec<PlainTrack>> {
+    let mut tracks = Vec::new(alloc);
+    for trak in traks {
+        let stbl = &trak.mdia.minf.stbl;
+        let id = trak.tkhd.track_id;
+        tracks.push(PlainTrack {
+            id,
+            values: values_of(defaults, id),
+            end: Some(end_of(stbl.stts.entries.as_slice(), stbl.stsz.sample_count)),
+            is_named: false,
+            samples: Vec::new(alloc),
+        })?;
+    }
+    Ok(tracks)
+}
+
+/// The tracks of these boxes with what these fragments add, of whose samples the movie says these values.
+pub fn written_out(
+    alloc: Global,
+    traks: &[TrakBox],
+    defaults: &[(u32, PlainValues)],
+    fragments: &[PlainFragment],
+) -> Result<Vec<PlainTrack>> {
+    let mut tracks = unfragmented(alloc, traks, defaults)?;
+    for fragment in fragments {
+        add_fragment(&mut tracks, fragment)?;
+    }
+    Ok(tracks)
+}

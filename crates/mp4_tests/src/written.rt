@@ -1,0 +1,113 @@
+//! What a writer and the plain model make of the calls that a test writes down.
+
+use crate::writer_calls::{config_of, make};
+use mp4_codec::{Error, Result};
+use mp4_media::Mp4Writer;
+use mp4_plain_movies::calls::{Beginning, Call};
+use mp4_plain_movies::plain_movie::PlainMovie;
+use mp4_plain_movies::spelled::hex;
+use std::alloc::Global;
+
+/// Whether an answer is the one that the model gives, the texts of refusals left out.
+pub fn is_expected(answer: &Result<()>, expected: &Option<Error>) -> bool {
+    match (answer, expected) {
+        (Ok(()), None) => true,
+        (Err(Error::Unrepresentable(_)), Some(Error::Unrepresentable(_))) => true,
+        (Err(error), Some(refusal)) => error == refusal,
+        _ => false,
+    }
+}
+
+/// Makes a call of both. Whether they answer the same.
+pub fn answers_alike<'a>(
+    alloc: Global,
+    writer: &mut Mp4Writer,
+    movie: &mut PlainMovie<'a>,
+    call: &Call<'a>,
+) -> Result<bool> {
+    let expected = movie.make(call)?;
+    Ok(is_expected(&make(alloc, writer, call), &expected))
+}
+
+/// Makes calls and an end, of which some may be refused.
+fn make_all(alloc: Global, writer: &mut Mp4Writer, calls: &[Call]) {
+    for call in calls {
+        let _ = make(alloc, writer, call);
+    }
+    let _ = writer.write_end();
+}
+
+/// A writer of a movie behind the bytes of a buffer.
+pub fn begun(alloc: Global, buffer: &[u8], beginning: &Beginning) -> Result<Mp4Writer> {
+    let buffer = buffer.to_vec(alloc)?;
+    let config = config_of(alloc, beginning)?;
+    Mp4Writer::write_start(alloc, buffer, &config)
+}
+
+/// The bytes that a writer makes of these calls and an end.
+pub fn written(
+    alloc: Global,
+    buffer: &[u8],
+    beginning: &Beginning,
+    calls: &[Call],
+) -> Result<Vec<u8>> {
+    let mut writer = begun(alloc, buffer, beginning)?;
+    make_all(alloc, &mut writer, calls);
+    Ok(writer.into_writer())
+}
+
+/// The model's movie after these calls, of which some may be refused.
+pub fn movie_of<'a>(
+    alloc: Global,
+    buffer: &[u8],
+    beginning: &Beginning,
+    calls: &[Call<'a>],
+) -> Result<PlainMovie<'a>> {
+    let mut movie = PlainMovie::begin(alloc, buffer, beginning)?;
+    for call in calls {
+        let _ = movie.make(call)?;
+    }
+    Ok(movie)
+}
+
+/// The bytes that the model makes of these calls, without an end.
+pub fn standing(alloc: Global, beginning: &Beginning, calls: &[Call]) -> Result<Vec<u8>> {
+    let movie = movie_of(alloc, &[], beginning, calls)?;
+    Ok(movie.bytes)
+}
+
+/// The bytes that the model makes of these calls and an end.
+pub fn modelled(
+    alloc: Global,
+    buffer: &[u8],
+    beginning: &Beginning,
+    calls: &[Call],
+) -> Result<Vec<u8>> {
+    let mut movie = movie_of(alloc, buffer, beginning, calls)?;
+    let _ = movie.make(&Call::WriteEnd)?;
+    Ok(movie.bytes)
+}
+
+/// The place behind bytes that are looked for from a place on.
+fn end_of(bytes: &[u8], from: usize, piece: &[u8]) -> Option<usize> {
+    for start in from..bytes.len() {
+        let end = start.wrapping_add(piece.len());
+        if bytes.get(start..end) == Some(piece) {
+            return Some(end);
+        }
+    }
+    None
+}
+
+/// Whether bytes have all that these texts spell, one behind the other, perhaps with others between
+/// them.
+pub fn have_in_order(alloc: Global, bytes: &[u8], texts: &[&str]) -> Result<bool> {
+    let mut from = 0usize;
+    for text in texts {
+        match end_of(bytes, from, &hex(alloc, text)?) {
+            Some(end) => from = end,
+            None => return Ok(false),
+        }
+    }
+    Ok(true)
+}

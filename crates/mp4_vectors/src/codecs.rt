@@ -1,0 +1,119 @@
+//! What the numbers and codes of codec types stand for.
+
+use crate::encoded::encoded;
+use mp4_media::*;
+use std::alloc::{AllocError, Global};
+use std::collections::BTreeMap;
+use std::fmt::{Debug, Write};
+
+/// The number of a question; None where it is no number of a byte.
+fn number(question: &str) -> Option<u8> {
+    question.parse::<u8>().ok()
+}
+
+/// What a call answered.
+fn told<T: Debug>(alloc: Global, value: &Result<T>) -> std::result::Result<String, AllocError> {
+    match value {
+        Ok(value) => format!(in alloc; "{value:?}"),
+        Err(error) => format!(in alloc; "refused: {error}"),
+    }
+}
+
+/// The type that a number stands for, and its own number where that is another.
+fn numbered<T: Debug>(
+    alloc: Global,
+    number: u8,
+    value: &Result<T>,
+    own: Option<u8>,
+) -> Result<String> {
+    let mut text = told(alloc, value)?;
+    match own {
+        Some(own) if own != number => write!(text, ", of the number {own}")?,
+        _ => {},
+    }
+    Ok(text)
+}
+
+/// The type of sound of a number.
+fn audio_object_type(alloc: Global, number: u8) -> Result<String> {
+    let value = AudioObjectType::try_from(number);
+    let own = value.as_ref().ok().map(|value| value.number());
+    numbered(alloc, number, &value, own)
+}
+
+/// The channels of a number.
+fn channel_config(alloc: Global, number: u8) -> Result<String> {
+    let value = ChannelConfig::try_from(number);
+    let own = value.as_ref().ok().map(|value| value.number());
+    numbered(alloc, number, &value, own)
+}
+
+/// The frequency of an index, and its hertz.
+fn sample_freq_index(alloc: Global, number: u8) -> Result<String> {
+    let value = SampleFreqIndex::try_from(number);
+    let own = value.as_ref().ok().map(|value| value.number());
+    let mut text = numbered(alloc, number, &value, own)?;
+    if let Ok(value) = &value {
+        write!(text, ", {} Hz", value.freq())?;
+    }
+    Ok(text)
+}
+
+/// The profile of video of two bytes: its number and the compatibility.
+fn avc_profile(alloc: Global, question: &str) -> Result<Option<String>> {
+    let Some(bytes) = encoded(alloc, &BTreeMap::new(alloc), question)? else {
+        return Ok(None);
+    };
+    match bytes.as_slice() {
+        [profile, compatibility] => {
+            let value = AvcProfile::try_from((*profile, *compatibility));
+            Ok(Some(told(alloc, &value)?))
+        },
+        _ => Ok(None),
+    }
+}
+
+/// The type of track of a handler, by its name, and its own handler where that is another.
+fn track_type_of(alloc: Global, handler: FourCC) -> Result<String> {
+    match TrackType::try_from(&handler) {
+        Ok(value) if FourCC::from(value) == handler => Ok(format!(in alloc; "{value}")?),
+        Ok(value) => Ok(format!(in alloc; "{value}, of another handler")?),
+        Err(error) => Ok(format!(in alloc; "refused: {error}")?),
+    }
+}
+
+/// The type of track of a handler of four bytes.
+fn track_type(alloc: Global, question: &str) -> Result<Option<String>> {
+    let Some(bytes) = encoded(alloc, &BTreeMap::new(alloc), question)? else {
+        return Ok(None);
+    };
+    match bytes.as_slice() {
+        [a, b, c, d] => {
+            let code = u32::from_be_bytes([*a, *b, *c, *d]);
+            Ok(Some(track_type_of(alloc, FourCC::from(code))?))
+        },
+        _ => Ok(None),
+    }
+}
+
+/// What a number stands for among the types of a name.
+fn answer_of_number(alloc: Global, types: &str, question: &str) -> Result<Option<String>> {
+    let Some(number) = number(question) else {
+        return Ok(None);
+    };
+    Ok(Some(match types {
+        "audio_object_type" => audio_object_type(alloc, number)?,
+        "channel_config" => channel_config(alloc, number)?,
+        "sample_freq_index" => sample_freq_index(alloc, number)?,
+        _ => return Ok(None),
+    }))
+}
+
+/// What a number or a code stands for among the types of a name; None where it is no number, or the name isn't known.
+pub fn answer_of_codec(alloc: Global, types: &str, question: &str) -> Result<Option<String>> {
+    match types {
+        "avc_profile" => avc_profile(alloc, question),
+        "track_type" => track_type(alloc, question),
+        _ => answer_of_number(alloc, types, question),
+    }
+}

@@ -1,0 +1,129 @@
+//! What the default value of a type of box answers.
+
+use crate::boxes::AnyBox;
+use crate::encoded::write_digits;
+use crate::kinds::kind_named;
+use mp4_media::*;
+use std::alloc::Global;
+use std::fmt::{Debug, Write};
+
+/// Adds whether bytes are read as another value than the one that they were written of. Where they aren't read, as
+/// those of a sample table without chunk offsets, nothing is added.
+fn add_read_back<B: ReadBox + PartialEq>(
+    alloc: Global,
+    text: &mut String,
+    value: &B,
+    bytes: &[u8],
+) -> Result<()> {
+    let payload = bytes.get(HEADER_SIZE as usize..).unwrap_or(&[]);
+    match B::read_payload(alloc, payload) {
+        Ok(again) if again != *value => text.push_str(", read back as another")?,
+        _ => {},
+    }
+    Ok(())
+}
+
+/// The bytes that a value is written as, and what else isn't right: its size, its copy, or what is read back.
+fn compared<B: AnyBox>(alloc: Global, value: &B, bytes: &[u8]) -> Result<String> {
+    let mut text = String::new(alloc);
+    write_digits(&mut text, bytes)?;
+    if value.box_size() != bytes.len() as u64 {
+        write!(text, ", of the size {}", value.box_size())?;
+    }
+    if value.try_clone()? != *value {
+        text.push_str(", a copy isn't equal")?;
+    }
+    add_read_back(alloc, &mut text, value, bytes)?;
+    Ok(text)
+}
+
+/// What a value is written as in a buffer of one byte, or why it isn't; and whether the count of bytes is another, or a
+/// refusal changes the buffer.
+fn written<B: AnyBox>(alloc: Global, value: &B) -> Result<String> {
+    let mut out = vec![in alloc; 7u8]?;
+    let written = value.write_box(&mut out);
+    let bytes = out.get(1..).unwrap_or(&[]);
+    let mut text = match &written {
+        Ok(_) => compared(alloc, value, bytes)?,
+        Err(error) => format!(in alloc; "refused: {error}")?,
+    };
+    let count = written.unwrap_or(0);
+    if bytes.len() as u64 != count {
+        write!(text, ", {} bytes for {count}", bytes.len())?;
+    }
+    Ok(text)
+}
+
+/// What a value answers to a question; None where that is no question.
+pub fn answer_of_value<B: AnyBox>(
+    alloc: Global,
+    value: &B,
+    question: &str,
+) -> Result<Option<String>> {
+    Ok(Some(match question {
+        "value" => format!(in alloc; "{value:?}")?,
+        "size" => format!(in alloc; "{}", value.box_size())?,
+        "written" => written(alloc, value)?,
+        _ => return Ok(None),
+    }))
+}
+
+/// What the value answers that a call made.
+fn made<B: AnyBox>(alloc: Global, value: Result<B>, question: &str) -> Result<Option<String>> {
+    answer_of_value(alloc, &value?, question)
+}
+
+/// What the default value of a type of box answers to a question; None where that is no question, or the type isn't known.
+pub fn answer_of_default(alloc: Global, kind: &str, question: &str) -> Result<Option<String>> {
+    match kind_named(kind) {
+        BoxType::Avc1Box => made(alloc, Avc1Box::default(alloc), question),
+        BoxType::AvcCBox => made(alloc, AvcCBox::default(alloc), question),
+        BoxType::Co64Box => made(alloc, Co64Box::default(alloc), question),
+        BoxType::CttsBox => made(alloc, CttsBox::default(alloc), question),
+        BoxType::DataBox => made(alloc, DataBox::default(alloc), question),
+        BoxType::DinfBox => made(alloc, DinfBox::default(alloc), question),
+        BoxType::DrefBox => made(alloc, DrefBox::default(alloc), question),
+        BoxType::EdtsBox => made(alloc, Ok(EdtsBox::default()), question),
+        BoxType::ElstBox => made(alloc, ElstBox::default(alloc), question),
+        BoxType::EmsgBox => made(alloc, EmsgBox::default(alloc), question),
+        BoxType::EsdsBox => made(alloc, Ok(EsdsBox::default()), question),
+        BoxType::FtypBox => made(alloc, FtypBox::default(alloc), question),
+        BoxType::HdlrBox => made(alloc, HdlrBox::default(alloc), question),
+        BoxType::Hev1Box => made(alloc, Hev1Box::default(alloc), question),
+        BoxType::HvcCBox => made(alloc, HvcCBox::default(alloc), question),
+        BoxType::IlstBox => made(alloc, IlstBox::default(alloc), question),
+        BoxType::MdhdBox => made(alloc, MdhdBox::default(alloc), question),
+        BoxType::MdiaBox => made(alloc, MdiaBox::default(alloc), question),
+        BoxType::MehdBox => made(alloc, Ok(MehdBox::default()), question),
+        BoxType::MetaBox => made(alloc, MetaBox::default(alloc), question),
+        BoxType::MfhdBox => made(alloc, Ok(MfhdBox::default()), question),
+        BoxType::MinfBox => made(alloc, MinfBox::default(alloc), question),
+        BoxType::MoofBox => made(alloc, MoofBox::default(alloc), question),
+        BoxType::MoovBox => made(alloc, MoovBox::default(alloc), question),
+        BoxType::Mp4aBox => made(alloc, Ok(Mp4aBox::default()), question),
+        BoxType::MvexBox => made(alloc, MvexBox::default(alloc), question),
+        BoxType::MvhdBox => made(alloc, Ok(MvhdBox::default()), question),
+        BoxType::SmhdBox => made(alloc, Ok(SmhdBox::default()), question),
+        BoxType::StblBox => made(alloc, StblBox::default(alloc), question),
+        BoxType::StcoBox => made(alloc, StcoBox::default(alloc), question),
+        BoxType::StscBox => made(alloc, StscBox::default(alloc), question),
+        BoxType::StsdBox => made(alloc, Ok(StsdBox::default()), question),
+        BoxType::StssBox => made(alloc, StssBox::default(alloc), question),
+        BoxType::StszBox => made(alloc, StszBox::default(alloc), question),
+        BoxType::SttsBox => made(alloc, SttsBox::default(alloc), question),
+        BoxType::TfdtBox => made(alloc, Ok(TfdtBox::default()), question),
+        BoxType::TfhdBox => made(alloc, Ok(TfhdBox::default()), question),
+        BoxType::TkhdBox => made(alloc, Ok(TkhdBox::default()), question),
+        BoxType::TrafBox => made(alloc, TrafBox::default(alloc), question),
+        BoxType::TrakBox => made(alloc, TrakBox::default(alloc), question),
+        BoxType::TrexBox => made(alloc, Ok(TrexBox::default()), question),
+        BoxType::TrunBox => made(alloc, TrunBox::default(alloc), question),
+        BoxType::Tx3gBox => made(alloc, Ok(Tx3gBox::default()), question),
+        BoxType::UdtaBox => made(alloc, Ok(UdtaBox::default()), question),
+        BoxType::UrlBox => made(alloc, UrlBox::default(alloc), question),
+        BoxType::VmhdBox => made(alloc, Ok(VmhdBox::default()), question),
+        BoxType::Vp09Box => made(alloc, Vp09Box::default(alloc), question),
+        BoxType::VpccBox => made(alloc, VpccBox::default(alloc), question),
+        _ => Ok(None),
+    }
+}

@@ -1,0 +1,206 @@
+//! What the fields of a payload answer, that are read one after the other and put again.
+
+use crate::encoded::digits;
+use mp4_media::{
+    Entry, Error, Fields, Items, Result, put_bytes, put_four_cc, put_i16, put_i32, put_list,
+    put_u8, put_u16, put_u24, put_u32, put_u64, put_versioned, put_zeros,
+};
+use std::alloc::Global;
+use std::fmt::{Debug, Write};
+
+/// What was read, and the same as it is put again.
+#[derive(Drop)]
+struct Row {
+    values: String,
+    again: Vec<u8>,
+}
+
+impl Row {
+    /// Writes a value after those before.
+    fn add<T: Debug>(&mut self, value: &T) -> Result<()> {
+        if !self.values.is_empty() {
+            self.values.push_str(", ")?;
+        }
+        write!(self.values, "{value:?}")?;
+        Ok(())
+    }
+
+    /// Reads an unsigned number; false where the word names none.
+    fn unsigned(&mut self, fields: &mut Fields, word: &str) -> Result<bool> {
+        match word {
+            "u8" => {
+                let number = fields.u8()?;
+                put_u8(&mut self.again, number)?;
+                self.add(&number)?;
+            },
+            "u16" => {
+                let number = fields.u16()?;
+                put_u16(&mut self.again, number)?;
+                self.add(&number)?;
+            },
+            "u24" => {
+                let number = fields.u24()?;
+                put_u24(&mut self.again, number)?;
+                self.add(&number)?;
+            },
+            "u32" => {
+                let number = fields.u32()?;
+                put_u32(&mut self.again, number)?;
+                self.add(&number)?;
+            },
+            _ => return Ok(false),
+        }
+        Ok(true)
+    }
+
+    /// Reads a number whose bytes depend on a version.
+    fn versioned(&mut self, fields: &mut Fields, version: u8) -> Result<bool> {
+        let number = fields.versioned(version)?;
+        put_versioned(&mut self.again, version, number)?;
+        self.add(&number)?;
+        Ok(true)
+    }
+
+    /// Reads another number; false where the word names none.
+    fn number(&mut self, fields: &mut Fields, word: &str) -> Result<bool> {
+        match word {
+            "u64" => {
+                let number = fields.u64()?;
+                put_u64(&mut self.again, number)?;
+                self.add(&number)?;
+            },
+            "i16" => {
+                let number = fields.i16()?;
+                put_i16(&mut self.again, number)?;
+                self.add(&number)?;
+            },
+            "i32" => {
+                let number = fields.i32()?;
+                put_i32(&mut self.again, number)?;
+                self.add(&number)?;
+            },
+            "version-0" => return self.versioned(fields, 0),
+            "version-1" => return self.versioned(fields, 1),
+            "version-2" => return self.versioned(fields, 2),
+            _ => return self.unsigned(fields, word),
+        }
+        Ok(true)
+    }
+
+    /// Reads a list of so many numbers.
+    fn list<T: Entry + Debug>(
+        &mut self,
+        alloc: Global,
+        fields: &mut Fields,
+        count: usize,
+    ) -> Result<bool>
+    where
+        Items<T>: Debug,
+    {
+        let list: Items<T> = fields.list(alloc, 0, count)?;
+        put_list(&mut self.again, 0, &list)?;
+        self.add(&list)?;
+        Ok(true)
+    }
+
+    /// Reads so many bytes.
+    fn bytes(&mut self, alloc: Global, fields: &mut Fields, count: usize) -> Result<bool> {
+        let bytes = Items::from(fields.bytes(count)?.to_vec(alloc)?);
+        put_bytes(&mut self.again, bytes.as_slice())?;
+        self.add(&bytes)?;
+        Ok(true)
+    }
+
+    /// Reads so many zero bytes, whatever they are.
+    fn zeros(&mut self, alloc: Global, fields: &mut Fields, count: usize) -> Result<bool> {
+        let bytes = Items::from(fields.bytes(count)?.to_vec(alloc)?);
+        if count < 256 {
+            put_zeros(&mut self.again, count)?;
+        }
+        self.add(&bytes)?;
+        Ok(true)
+    }
+
+    /// Reads so many values; false where the word names no kind of them.
+    fn values(
+        &mut self,
+        alloc: Global,
+        fields: &mut Fields,
+        word: &str,
+        count: &str,
+    ) -> Result<bool> {
+        let Ok(count) = count.parse::<usize>() else {
+            return Ok(false);
+        };
+        match word {
+            "u32" => self.list::<u32>(alloc, fields, count),
+            "u64" => self.list::<u64>(alloc, fields, count),
+            "bytes" => self.bytes(alloc, fields, count),
+            "zeros" => self.zeros(alloc, fields, count),
+            _ => Ok(false),
+        }
+    }
+
+    /// Reads a text or a code, or says what is left; false where the word means something else.
+    fn text(&mut self, alloc: Global, fields: &mut Fields, word: &str) -> Result<bool> {
+        match word {
+            "text" => {
+                let text = fields.text(alloc)?;
+                put_bytes(&mut self.again, text.as_slice())?;
+                put_u8(&mut self.again, 0)?;
+                self.add(&text)?;
+            },
+            "code" => {
+                let code = fields.four_cc()?;
+                put_four_cc(&mut self.again, code)?;
+                self.add(&code)?;
+            },
+            "until-zero" => self.add(&fields.until_zero(alloc)?)?,
+            "rest" => self.add(&Items::from(fields.rest().to_vec(alloc)?))?,
+            _ => return Ok(false),
+        }
+        Ok(true)
+    }
+
+    /// Reads what a word names; false where it names nothing.
+    fn field(&mut self, alloc: Global, fields: &mut Fields, word: &str) -> Result<bool> {
+        if let Some((kind, count)) = word.split_once('*') {
+            return self.values(alloc, fields, kind, count);
+        }
+        if self.text(alloc, fields, word)? {
+            return Ok(true);
+        }
+        self.number(fields, word)
+    }
+
+    /// Reads what words name, one after the other.
+    fn fields(&mut self, alloc: Global, payload: &[u8], words: &str) -> Result<()> {
+        let mut fields = Fields::new(payload);
+        for word in words.split(' ') {
+            if !self.field(alloc, &mut fields, word)? {
+                return Err(Error::InvalidData("a word that names no field"));
+            }
+        }
+        Ok(())
+    }
+}
+
+/// What the fields of a payload answer: the values of those that are named, or the bytes that they are put as; None
+/// where that is no question.
+pub fn answer_of_fields(alloc: Global, payload: &[u8], question: &str) -> Result<Option<String>> {
+    let Some((question, words)) = question.split_once(' ') else {
+        return Ok(None);
+    };
+    let mut row = Row {
+        values: String::new(alloc),
+        again: Vec::new(alloc),
+    };
+    let outcome = row.fields(alloc, payload, words);
+    let Row { values, again } = row;
+    Ok(match (question, outcome) {
+        ("read" | "written", Err(error)) => Some(format!(in alloc; "refused: {error}")?),
+        ("read", Ok(())) => Some(values),
+        ("written", Ok(())) => Some(digits(alloc, again.as_slice())?),
+        _ => None,
+    })
+}

@@ -1,0 +1,97 @@
+//! What headers of boxes and the children of payloads answer.
+
+use crate::encoded::digits;
+use mp4_media::{
+    BoxHeader, ByteCursor, Child, Children, FourCC, MfhdBox, Result, all_children, mdat_header,
+};
+use std::alloc::Global;
+use std::fmt::Write;
+
+/// What a header is written as, after a byte that is there before; and whether the buffer is another after a refusal.
+fn written(alloc: Global, header: &BoxHeader) -> Result<String> {
+    let mut out = vec![in alloc; 7u8]?;
+    let written = header.write(&mut out);
+    let mut text = match &written {
+        Ok(8) => digits(alloc, out.get(1..).unwrap_or(&[]))?,
+        Ok(count) => format!(in alloc; "{count} bytes")?,
+        Err(error) => format!(in alloc; "refused: {error}")?,
+    };
+    if written.is_err() && out.len() != 1 {
+        text.push_str(", a part is written")?;
+    }
+    Ok(text)
+}
+
+/// What the header that begins bytes answers to a question; None where that is no question.
+fn answer_of_read(alloc: Global, bytes: &[u8], question: &str) -> Result<Option<String>> {
+    let mut cursor = ByteCursor::new(bytes);
+    let header = BoxHeader::read(&mut cursor)?;
+    Ok(Some(match question {
+        "value" => format!(in alloc; "{header:?}")?,
+        "length" => format!(in alloc; "{}", cursor.position())?,
+        "written" => written(alloc, &header)?,
+        _ => return Ok(None),
+    }))
+}
+
+/// What the header that begins bytes answers to a question, or why there is none; None where that is no question.
+pub fn answer_of_header(alloc: Global, bytes: &[u8], question: &str) -> Result<Option<String>> {
+    match answer_of_read(alloc, bytes, question) {
+        Ok(answer) => Ok(answer),
+        Err(error) => Ok(Some(format!(in alloc; "refused: {error}")?)),
+    }
+}
+
+/// What the header of media data answers to a question, whose box has so many bytes; None where that is no question.
+pub fn answer_of_mdat(alloc: Global, size: &str, question: &str) -> Result<Option<String>> {
+    match (size.parse::<u64>(), question) {
+        (Ok(size), "written") => Ok(Some(digits(alloc, &mdat_header(size))?)),
+        _ => Ok(None),
+    }
+}
+
+/// Writes a child as its type and its payload.
+fn write_child(text: &mut String, alloc: Global, child: &Child) -> Result<()> {
+    let payload = digits(alloc, child.payload)?;
+    write!(text, "{:?} [{payload}] / ", FourCC::from(child.name))?;
+    Ok(())
+}
+
+/// Adds the children of a payload to a text.
+fn add_children(alloc: Global, text: &mut String, payload: &[u8]) -> Result<()> {
+    let mut children = Children::new(payload);
+    for _ in 0..=payload.len() {
+        match children.next_child()? {
+            Some(child) => write_child(text, alloc, &child)?,
+            None => return Ok(()),
+        }
+    }
+    Ok(())
+}
+
+/// All children of a payload that are headers of movie fragments, or why they are refused.
+fn fragment_headers(alloc: Global, payload: &[u8]) -> Result<String> {
+    Ok(match all_children::<MfhdBox>(alloc, payload) {
+        Ok(headers) => format!(in alloc; "{:?}", headers.as_slice())?,
+        Err(error) => format!(in alloc; "refused: {error}")?,
+    })
+}
+
+/// The children of a payload one after the other, and whether it is closed after them.
+fn listed_children(alloc: Global, payload: &[u8]) -> Result<String> {
+    let mut text = String::new(alloc);
+    match add_children(alloc, &mut text, payload) {
+        Ok(()) => text.push_str("closed")?,
+        Err(error) => write!(text, "refused: {error}")?,
+    }
+    Ok(text)
+}
+
+/// What the children of a payload answer to a question; None where that is no question.
+pub fn answer_of_children(alloc: Global, payload: &[u8], question: &str) -> Result<Option<String>> {
+    Ok(Some(match question {
+        "value" => listed_children(alloc, payload)?,
+        "all mfhd" => fragment_headers(alloc, payload)?,
+        _ => return Ok(None),
+    }))
+}

@@ -1,0 +1,44 @@
+//! What the language of a media header answers.
+
+use crate::encoded::digits;
+use mp4_media::{Error, MdhdBox, Result, Text, WriteBox, check_language};
+use std::alloc::Global;
+use std::str;
+
+/// The text that bytes are.
+fn text_of(alloc: Global, bytes: &[u8]) -> Result<Text> {
+    match str::from_utf8(bytes) {
+        Ok(text) => Ok(Text::from_str(alloc, text)?),
+        Err(_) => Err(Error::InvalidData("a text in UTF-8")),
+    }
+}
+
+/// The two bytes that a language is written as in a media header.
+fn written(alloc: Global, language: Text) -> Result<String> {
+    let mut header = MdhdBox::default(alloc)?;
+    header.language = language;
+    let mut out = Vec::new(alloc);
+    header.write_box(&mut out)?;
+    Ok(digits(alloc, out.get(28..30).unwrap_or(&[]))?)
+}
+
+/// What a language answers to a question; None where that is no question.
+fn answer(alloc: Global, bytes: &[u8], question: &str) -> Result<Option<String>> {
+    let language = text_of(alloc, bytes)?;
+    match question {
+        "written" => Ok(Some(written(alloc, language)?)),
+        "check" => {
+            check_language(&language)?;
+            Ok(Some(format!(in alloc; "accepted")?))
+        },
+        _ => Ok(None),
+    }
+}
+
+/// What the language that bytes are as a text answers to a question; None where that is no question.
+pub fn answer_of_language(alloc: Global, bytes: &[u8], question: &str) -> Result<Option<String>> {
+    match answer(alloc, bytes, question) {
+        Ok(answer) => Ok(answer),
+        Err(error) => Ok(Some(format!(in alloc; "refused: {error}")?)),
+    }
+}

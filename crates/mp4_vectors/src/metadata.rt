@@ -1,0 +1,65 @@
+//! What metadata says.
+
+use crate::encoded::write_digits;
+use mp4_media::{IlstBox, Metadata, Result};
+use std::alloc::Global;
+use std::borrow::CowStr;
+
+/// A text as a literal.
+fn text_of(alloc: Global, text: Option<CowStr<'_, Global>>) -> Result<String> {
+    Ok(match text {
+        Some(text) => format!(in alloc; "{:?}", text.as_str())?,
+        None => String::from_str(alloc, "none")?,
+    })
+}
+
+/// A year as a number.
+fn year_of(alloc: Global, year: Option<u32>) -> Result<String> {
+    Ok(match year {
+        Some(year) => format!(in alloc; "{year}")?,
+        None => String::from_str(alloc, "none")?,
+    })
+}
+
+/// The bytes of a picture.
+fn poster_of(alloc: Global, poster: Option<&[u8]>) -> Result<String> {
+    let mut text = String::new(alloc);
+    match poster {
+        Some(bytes) => write_digits(&mut text, bytes)?,
+        None => text.push_str("none")?,
+    }
+    Ok(text)
+}
+
+/// Whether metadata is asked.
+fn is_question(question: &str) -> bool {
+    matches!(question, "title" | "year" | "poster" | "summary")
+}
+
+/// What metadata answers to a question; None where that is no question.
+pub fn answer_of_metadata<M: Metadata>(
+    alloc: Global,
+    metadata: &M,
+    question: &str,
+) -> Result<Option<String>> {
+    Ok(Some(match question {
+        "title" => text_of(alloc, metadata.title(alloc)?)?,
+        "year" => year_of(alloc, metadata.year())?,
+        "poster" => poster_of(alloc, metadata.poster())?,
+        "summary" => text_of(alloc, metadata.summary(alloc)?)?,
+        _ => return Ok(None),
+    }))
+}
+
+/// What the metadata of a movie answers to a question; None where that is no question.
+pub fn answer_of_movie(
+    alloc: Global,
+    metadata: Option<&IlstBox>,
+    question: &str,
+) -> Result<Option<String>> {
+    match metadata {
+        Some(list) => answer_of_metadata(alloc, list, question),
+        None if is_question(question) => Ok(Some(String::from_str(alloc, "no metadata")?)),
+        None => Ok(None),
+    }
+}

@@ -1,0 +1,97 @@
+//! What scripts make, and the texts that describe files.
+
+use crate::encoded::{byte, digits};
+use crate::files::answer_of_file;
+use mp4_media::Result;
+use mp4_script::{ScriptFault, info_text, run_script, samples_text, show_text};
+use std::alloc::{AllocError, Global};
+
+/// Adds a word of a script to its bytes, in which `\` and two digits stand for a byte, and answers whether it is one.
+fn add_word(script: &mut Vec<u8>, word: &str) -> std::result::Result<bool, AllocError> {
+    let (plain, escaped) = word.split_once('\\').unwrap_or((word, ""));
+    script.extend_from_slice(plain.as_bytes())?;
+    if escaped.is_empty() {
+        return Ok(plain.len() == word.len());
+    }
+    for part in escaped.split('\\') {
+        let [high, low, rest @ ..] = part.as_bytes() else {
+            return Ok(false);
+        };
+        let Some(byte) = byte(&[*high, *low]) else {
+            return Ok(false);
+        };
+        script.push(byte)?;
+        script.extend_from_slice(rest)?;
+    }
+    Ok(true)
+}
+
+/// The bytes of a script, whose lines are parted by `/`; None where a word is none of a script.
+pub fn script_of(alloc: Global, words: &str) -> std::result::Result<Option<Vec<u8>>, AllocError> {
+    let mut script = Vec::new(alloc);
+    let mut is_script = true;
+    let mut begins_line = true;
+    for word in words.split_whitespace() {
+        if word == "/" {
+            script.push(b'\n')?;
+            begins_line = true;
+        } else {
+            if !begins_line {
+                script.push(b' ')?;
+            }
+            is_script = add_word(&mut script, word)? && is_script;
+            begins_line = false;
+        }
+    }
+    Ok(if is_script { Some(script) } else { None })
+}
+
+/// The lines of a text, parted by ` / `.
+fn lines(alloc: Global, text: &[u8]) -> std::result::Result<String, AllocError> {
+    let mut lines = String::new(alloc);
+    for line in std::str::from_utf8(text).unwrap_or("").lines() {
+        if !lines.is_empty() {
+            lines.push_str(" / ")?;
+        }
+        lines.push_str(line)?;
+    }
+    Ok(lines)
+}
+
+/// The lines that describe a file.
+pub fn info(alloc: Global, file: &[u8]) -> Result<String> {
+    Ok(lines(alloc, &info_text(alloc, file)?)?)
+}
+
+/// The lines of the samples of a track of a file.
+pub fn sample_lines(alloc: Global, file: &[u8], id: u32) -> Result<String> {
+    Ok(lines(alloc, &samples_text(alloc, file, id)?)?)
+}
+
+/// What the movie that a script made answers to a question.
+fn answer_of_movie(alloc: Global, movie: &[u8], question: &str) -> Result<Option<String>> {
+    match question {
+        "finished" => Ok(Some(digits(alloc, movie)?)),
+        "length" => Ok(Some(format!(in alloc; "{}", movie.len())?)),
+        _ => answer_of_file(alloc, movie, question),
+    }
+}
+
+/// Why a script makes no movie.
+fn refusal(alloc: Global, fault: &ScriptFault) -> Result<Option<String>> {
+    Ok(Some(format!(in alloc; "refused: {fault}")?))
+}
+
+/// What a script answers to a question: the lines that show its movie, or what its movie answers.
+pub fn answer_of_script(alloc: Global, script: &[u8], question: &str) -> Result<Option<String>> {
+    if question == "shown" {
+        return match show_text(alloc, script) {
+            Ok(text) => Ok(Some(lines(alloc, &text)?)),
+            Err(fault) => refusal(alloc, &fault),
+        };
+    }
+    match run_script(alloc, script) {
+        Ok(movie) => answer_of_movie(alloc, &movie, question),
+        Err(fault) => refusal(alloc, &fault),
+    }
+}
