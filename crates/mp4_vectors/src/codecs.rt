@@ -75,11 +75,11 @@ fn avc_profile(alloc: Global, question: &str) -> Result<Option<String>> {
 
 /// The type of track of a handler, by its name, and its own handler where that is another.
 fn track_type_of(alloc: Global, handler: FourCC) -> Result<String> {
-    match TrackType::try_from(&handler) {
-        Ok(value) if FourCC::from(value) == handler => Ok(format!(in alloc; "{value}")?),
-        Ok(value) => Ok(format!(in alloc; "{value}, of another handler")?),
-        Err(error) => Ok(format!(in alloc; "refused: {error}")?),
+    let value = TrackType::try_from(&handler)?;
+    if FourCC::from(value) != handler {
+        return Ok(format!(in alloc; "{value}, of another handler")?);
     }
+    Ok(format!(in alloc; "{value}")?)
 }
 
 /// The type of track of a handler of four bytes.

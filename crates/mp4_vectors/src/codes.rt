@@ -20,12 +20,10 @@ fn parsed(bytes: &[u8]) -> Result<FourCC> {
     }
 }
 
-/// The code that is read from bytes as a text, or why none is.
+/// The code that is read from bytes as a text.
 fn parsed_text(alloc: Global, bytes: &[u8]) -> Result<String> {
-    Ok(match parsed(bytes) {
-        Ok(code) => format!(in alloc; "{code:?}")?,
-        Err(error) => format!(in alloc; "refused: {error}")?,
-    })
+    let code = parsed(bytes)?;
+    Ok(format!(in alloc; "{code:?}")?)
 }
 
 /// What a code answers to a question; None where that is no question.

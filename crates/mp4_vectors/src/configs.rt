@@ -24,10 +24,8 @@ fn answer_of_entry(alloc: Global, config: &MediaConfig, question: &str) -> Resul
 
 /// Whether a configuration can be written.
 fn check_of(alloc: Global, config: &MediaConfig) -> Result<String> {
-    Ok(match config.check() {
-        Ok(()) => String::from_str(alloc, "accepted")?,
-        Err(error) => format!(in alloc; "refused: {error}")?,
-    })
+    config.check()?;
+    Ok(String::from_str(alloc, "accepted")?)
 }
 
 /// Whether the copy of a configuration is equal to it.

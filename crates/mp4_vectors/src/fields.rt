@@ -2,8 +2,8 @@
 
 use crate::encoded::digits;
 use mp4_media::{
-    Entry, Error, Fields, Items, Result, put_bytes, put_four_cc, put_i16, put_i32, put_list,
-    put_u8, put_u16, put_u24, put_u32, put_u64, put_versioned, put_zeros,
+    Entry, Fields, Items, Result, put_bytes, put_four_cc, put_i16, put_i32, put_list, put_u8,
+    put_u16, put_u24, put_u32, put_u64, put_versioned, put_zeros,
 };
 use std::alloc::Global;
 use std::fmt::{Debug, Write};
@@ -173,15 +173,15 @@ impl Row {
         self.number(fields, word)
     }
 
-    /// Reads what words name, one after the other.
-    fn fields(&mut self, alloc: Global, payload: &[u8], words: &str) -> Result<()> {
+    /// Reads what words name, one after the other, and answers whether each names a field.
+    fn fields(&mut self, alloc: Global, payload: &[u8], words: &str) -> Result<bool> {
         let mut fields = Fields::new(payload);
         for word in words.split(' ') {
             if !self.field(alloc, &mut fields, word)? {
-                return Err(Error::InvalidData("a word that names no field"));
+                return Ok(false);
             }
         }
-        Ok(())
+        Ok(true)
     }
 }
 
@@ -195,12 +195,13 @@ pub fn answer_of_fields(alloc: Global, payload: &[u8], question: &str) -> Result
         values: String::new(alloc),
         again: Vec::new(alloc),
     };
-    let outcome = row.fields(alloc, payload, words);
+    if !row.fields(alloc, payload, words)? {
+        return Ok(None);
+    }
     let Row { values, again } = row;
-    Ok(match (question, outcome) {
-        ("read" | "written", Err(error)) => Some(format!(in alloc; "refused: {error}")?),
-        ("read", Ok(())) => Some(values),
-        ("written", Ok(())) => Some(digits(alloc, again.as_slice())?),
+    Ok(match question {
+        "read" => Some(values),
+        "written" => Some(digits(alloc, again.as_slice())?),
         _ => None,
     })
 }

@@ -23,7 +23,7 @@ fn written(alloc: Global, header: &BoxHeader) -> Result<String> {
 }
 
 /// What the header that begins bytes answers to a question; None where that is no question.
-fn answer_of_read(alloc: Global, bytes: &[u8], question: &str) -> Result<Option<String>> {
+pub fn answer_of_header(alloc: Global, bytes: &[u8], question: &str) -> Result<Option<String>> {
     let mut cursor = ByteCursor::new(bytes);
     let header = BoxHeader::read(&mut cursor)?;
     Ok(Some(match question {
@@ -32,14 +32,6 @@ fn answer_of_read(alloc: Global, bytes: &[u8], question: &str) -> Result<Option<
         "written" => written(alloc, &header)?,
         _ => return Ok(None),
     }))
-}
-
-/// What the header that begins bytes answers to a question, or why there is none; None where that is no question.
-pub fn answer_of_header(alloc: Global, bytes: &[u8], question: &str) -> Result<Option<String>> {
-    match answer_of_read(alloc, bytes, question) {
-        Ok(answer) => Ok(answer),
-        Err(error) => Ok(Some(format!(in alloc; "refused: {error}")?)),
-    }
 }
 
 /// What the header of media data answers to a question, whose box has so many bytes; None where that is no question.
@@ -69,12 +61,10 @@ fn add_children(alloc: Global, text: &mut String, payload: &[u8]) -> Result<()> 
     Ok(())
 }
 
-/// All children of a payload that are headers of movie fragments, or why they are refused.
+/// All children of a payload that are headers of movie fragments.
 fn fragment_headers(alloc: Global, payload: &[u8]) -> Result<String> {
-    Ok(match all_children::<MfhdBox>(alloc, payload) {
-        Ok(headers) => format!(in alloc; "{:?}", headers.as_slice())?,
-        Err(error) => format!(in alloc; "refused: {error}")?,
-    })
+    let headers = all_children::<MfhdBox>(alloc, payload)?;
+    Ok(format!(in alloc; "{:?}", headers.as_slice())?)
 }
 
 /// The children of a payload one after the other, and whether it is closed after them.

@@ -22,8 +22,8 @@ fn written(alloc: Global, language: Text) -> Result<String> {
     Ok(digits(alloc, out.get(28..30).unwrap_or(&[]))?)
 }
 
-/// What a language answers to a question; None where that is no question.
-fn answer(alloc: Global, bytes: &[u8], question: &str) -> Result<Option<String>> {
+/// What the language that bytes are as a text answers to a question; None where that is no question.
+pub fn answer_of_language(alloc: Global, bytes: &[u8], question: &str) -> Result<Option<String>> {
     let language = text_of(alloc, bytes)?;
     match question {
         "written" => Ok(Some(written(alloc, language)?)),
@@ -32,13 +32,5 @@ fn answer(alloc: Global, bytes: &[u8], question: &str) -> Result<Option<String>>
             Ok(Some(format!(in alloc; "accepted")?))
         },
         _ => Ok(None),
-    }
-}
-
-/// What the language that bytes are as a text answers to a question; None where that is no question.
-pub fn answer_of_language(alloc: Global, bytes: &[u8], question: &str) -> Result<Option<String>> {
-    match answer(alloc, bytes, question) {
-        Ok(answer) => Ok(answer),
-        Err(error) => Ok(Some(format!(in alloc; "refused: {error}")?)),
     }
 }
