@@ -1,7 +1,8 @@
 -- Metadata as a list of items, as iTunes writes it.
 use Rattle.std.specs.Prelude.{◌≡◌, ℕ, List, [], ◌∷◌, length, Option, None, Result, Ok, IfSome}
 use Rattle.mp4_codec.specs.declared.box_type.BoxType.{BoxType}
-use Rattle.mp4_codec.specs.declared.box_type.BoxType.TheVariants.{DataBox as data_box, NameBox, DayBox, CovrBox, DescBox}
+use Rattle.mp4_codec.specs.declared.box_type.BoxType.TheVariants.{DataBox as data_box, NameBox}
+use Rattle.mp4_codec.specs.declared.box_type.BoxType.TheVariants.{DayBox, CovrBox, DescBox}
 use Rattle.mp4_codec.specs.Cause.{Cause, ◌>>=◌, ◌or◌}
 use Rattle.mp4_codec.specs.Bytes.{◌⧺◌}
 use Rattle.mp4_codec.specs.Boxes.{frame, optional, no_refusal, IsCanonical}

@@ -3,7 +3,8 @@ use Rattle.std.proofs.Common.{◌≡◌, ◌^◌, List, [], ◌∷◌, ◌++◌,
 use Rattle.std.proofs.Common.{arith, lit<}
 use Rattle.std.specs.Option.{option_to_list}
 use Rattle.mp4_codec.specs.declared.box_type.BoxType.{BoxType}
-use Rattle.mp4_codec.specs.declared.box_type.BoxType.TheVariants.{DataBox as data_box, NameBox, DayBox, CovrBox, DescBox, IlstBox as ilst}
+use Rattle.mp4_codec.specs.declared.box_type.BoxType.TheVariants.{DataBox as data_box, NameBox}
+use Rattle.mp4_codec.specs.declared.box_type.BoxType.TheVariants.{DayBox, CovrBox, DescBox, IlstBox as ilst}
 use Rattle.mp4_codec.specs.BoxType.{box_type}
 use Rattle.mp4_codec.specs.Cause.{unless}
 use Rattle.mp4_codec.specs.Bytes.{◌⧺◌}
@@ -19,7 +20,8 @@ use Rattle.mp4_boxes.specs.declared.metadata_key.MetadataKey.TheVariants.{Title,
 use Rattle.mp4_boxes.specs.declared.ilst.IlstItemBox.{IlstItemBox}
 use Rattle.mp4_boxes.specs.declared.ilst.IlstBox.{IlstBox}
 use Rattle.mp4_boxes.specs.MetadataKinds.{data_kind, spellable_name, spellable_day, spellable_covr, spellable_desc}
-use Rattle.mp4_boxes.specs.Ilst.{item_of, item_payload, IsInRangeItem, RemarksItem, Held, item_at, item_frame, ilst_fault}
+use Rattle.mp4_boxes.specs.Ilst.{item_of, item_payload, IsInRangeItem, RemarksItem, Held, item_at, item_frame}
+use Rattle.mp4_boxes.specs.Ilst.{ilst_fault}
 use Rattle.mp4_boxes.specs.Ilst.{ilst_taken, ilst_added, ilst_of, ilst_payload}
 use Rattle.mp4_boxes.specs.Ilst.{IsInRangeIlst, RemarksIlst, IsCanonicalIlst}
 

@@ -39,7 +39,7 @@ pub enum MetaBox {
         /// The handler: the last such child, which is required.
         hdlr: HdlrBox,
         /// The type and the payload of each other child, in file order. An entry of type `hdlr`, or one whose type is a
-        /// named type spelled as `UnknownBox`, is written, but not read again as it is.
+        /// named type given as `UnknownBox`, is written, but not read again as it is.
         children: Items<(BoxType, Items<u8>)>,
     },
 }

@@ -106,7 +106,7 @@ fn put_fragment(file: &mut PlainFile, random: &mut Random) -> Result<()> {
 }
 
 /// Puts media data.
-fn put_data(bytes: &mut Vec<u8>, random: &mut Random) -> Result<()> {
+pub fn put_data(bytes: &mut Vec<u8>, random: &mut Random) -> Result<()> {
     let start = begin_box(bytes, b"mdat")?;
     for _ in 0..random.byte() {
         bytes.push(random.byte())?;

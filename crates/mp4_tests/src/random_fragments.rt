@@ -1,6 +1,7 @@
 //! Random files of fragments, from fixed seeds: their bytes, and what a plain program keeps of them.
 
 use crate::plain_fragments::{NOTHING, PlainFragment, PlainPart, PlainRun, PlainValues};
+use crate::random_files::put_data;
 use mp4_codec::Result;
 use mp4_plain_movies::movie_bytes::EMPTY_MOVIE;
 use mp4_plain_movies::plain_bytes::{begin_box, end_box, put, put_over, put_pair};
@@ -246,16 +247,6 @@ fn put_movie(alloc: Global, file: &mut RandomFile, random: &mut Random, tracks: 
         put_defaults(file, random)?;
     }
     end_box(&mut file.bytes, start);
-    Ok(())
-}
-
-/// Puts media data.
-fn put_data(bytes: &mut Vec<u8>, random: &mut Random) -> Result<()> {
-    let start = begin_box(bytes, b"mdat")?;
-    for _ in 0..random.byte() {
-        bytes.push(random.byte())?;
-    }
-    end_box(bytes, start);
     Ok(())
 }
 
