@@ -216,17 +216,23 @@ impl ReadBox for StblBox {
             co64,
         } = gather_children(alloc, payload)?;
         let (stsd, stts, stsc, stsz) = required_four(stsd, stts, stsc, stsz)?;
-        let (stco, co64) = required_places(stco, co64)?;
-        Ok(StblBox {
-            stsd,
-            stts,
-            ctts,
-            stss,
-            stsc,
-            stsz,
-            stco,
-            co64,
-        })
+        match required_places(stco, co64) {
+            Ok((stco, co64)) => Ok(StblBox {
+                stsd,
+                stts,
+                ctts,
+                stss,
+                stsc,
+                stsz,
+                stco,
+                co64,
+            }),
+            Err(error) => {
+                drop(stsd);
+                drop((stts, ctts, stss, stsc, stsz));
+                Err(error)
+            }
+        }
     }
 }
 

@@ -66,6 +66,12 @@ reported head = record { name = head.name; size = size_with head.header head.tot
 abbrev pub header_saying : BoxType → ℕ → ℕ → Result BoxHeader Cause
 header_saying name header total = head_with name header total >>= λ head. Ok (reported head)
 
+-- the header whose first 8 bytes are these, and what follows them stands at the place: as it is reported, and the place
+-- behind it
+abbrev pub header_behind : List ℕ → Cursor → Result (BoxHeader × Cursor) Cause
+header_behind first cursor =
+    head_after (box_type (big_number 4 (drop 4 first))) (big_number 4 first) cursor >>= λ x. Ok (reported x.0, x.1)
+
 -- the header at the place as it is reported, and the place behind it
 abbrev pub header_at : Cursor → Result (BoxHeader × Cursor) Cause
 header_at cursor = head_at cursor >>= λ x. Ok (reported x.0, x.1)

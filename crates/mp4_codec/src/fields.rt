@@ -169,13 +169,13 @@ impl<'a> Fields<'a> {
 
     /// The bytes before the next zero, which has to be there and is passed over.
     #[tactic(auto, unfolding(crate::specs::Bytes::text_at))]
-    pub fn text(&mut self, alloc: Global) -> Result<Items<u8>>
-        ensures { Answers (λ text. (text, self.new)) result (text_at self.old) }
+    pub fn text(&mut self) -> Field<&'a [u8]>
+        ensures { Reads (λ text. (text.now, self.new)) result (text_at self.old) }
     {
         let n = zero_place(self.rest);
         let text = self.bytes(n)?;
         self.bytes(1)?;
-        Ok(Items::from(text.to_vec(alloc)?))
+        Ok(text)
     }
 }
 

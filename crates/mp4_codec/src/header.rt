@@ -1,8 +1,8 @@
 //! The header of a box (ISO/IEC 14496-12, 4.2).
 
-ghost use Rattle.std.specs.Prelude.{◌≡◌, ◌≤◌, ◌+◌, ◌⊎◌, OnOk, IfOk};
+ghost use Rattle.std.specs.Prelude.{◌≡◌, ◌≤◌, ◌+◌, ◌⊎◌, length, OnOk, IfOk};
 ghost use Rattle.mp4_codec.specs.Cause.{Gives, AnswersCause, Checks};
-ghost use Rattle.mp4_codec.specs.Cursor.{header_saying, header_at};
+ghost use Rattle.mp4_codec.specs.Cursor.{header_saying, header_behind, header_at};
 ghost use Rattle.mp4_codec.specs.BoxType.{IsNamed};
 ghost use Rattle.mp4_codec.specs.Bytes.{number, ◌⧺◌};
 ghost use Rattle.mp4_codec.specs.Boxes.{Writes, header_cause, header_spelling};
@@ -85,13 +85,12 @@ impl BoxHeader {
         BoxHeader { name, size }
     }
 
-    /// What `read` answers.
-    #[tactic(auto, unfolding(crate::specs::Cursor::head_at))]
-    fn read_head(reader: &mut ByteCursor) -> Result<Self>
-        ensures value { Gives (λ h. (h, reader.new)) result (header_at reader.old) }
+    /// What `read` answers behind the first 8 bytes of a header, which are these: a size of 1 says that a largesize follows.
+    fn read_behind(first: &[u8], reader: &mut ByteCursor) -> Result<Self>
+        requires { length first.now ≡ 8 }
+        ensures value { Gives (λ h. (h, reader.new)) result (header_behind first.now reader.old) }
         ensures same { reader.new.bytes ≡ reader.old.bytes }
     {
-        let first = reader.take(HEADER_SIZE)?;
         let size = BigEndian::read_u32(first);
         let name = BoxType::from(BigEndian::read_u32(&first[4..]));
         if size == LARGE {
@@ -99,6 +98,16 @@ impl BoxHeader {
             return header_with(name, LARGE_HEADER_SIZE, large);
         }
         header_with(name, HEADER_SIZE, u64::from(size))
+    }
+
+    /// What `read` answers.
+    #[tactic(auto, unfolding(crate::specs::Cursor::head_at))]
+    fn read_head(reader: &mut ByteCursor) -> Result<Self>
+        ensures value { Gives (λ h. (h, reader.new)) result (header_at reader.old) }
+        ensures same { reader.new.bytes ≡ reader.old.bytes }
+    {
+        let first = reader.take(HEADER_SIZE)?;
+        Self::read_behind(first, reader)
     }
 
     /// The header at the cursor, which then stands behind it.

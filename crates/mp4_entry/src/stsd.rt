@@ -6,7 +6,7 @@ ghost use Rattle.mp4_codec.specs.Boxes.{size_around};
 ghost use Rattle.mp4_codec.specs.Bytes.{Appends};
 ghost use Rattle.mp4_codec.specs.Cause.{Answers, Checks, seen};
 ghost use Rattle.mp4_codec.specs.Children.{child_box};
-ghost use Rattle.mp4_entry.specs.Stsd.{stsd_payload, default_stsd, stsd_of, stsd_of_config, stsd_refusal, IsInRangeStsd, RemarksStsd, first_entry, with_entry, entry_of, entry_bytes, entry_count, no_entry};
+ghost use Rattle.mp4_entry.specs.Stsd.{stsd_payload, default_stsd, stsd_of, stsd_of_config, stsd_refusal, IsInRangeStsd, RemarksStsd, first_entry, with_entry, entry_of, avc_video, hevc_video, vp9_video, aac_sound, text, entry_bytes, entry_count, no_entry};
 ghost use Rattle.mp4_entry.specs.StsdLaws.{stsd_again};
 
 use crate::avc1::Avc1Box;
@@ -53,33 +53,18 @@ impl StsdBox {
         match config {
             MediaConfig::AvcConfig(config) => {
                 let entry = Avc1Box::new(alloc, config)?;
-                Ok(StsdBox {
-                    avc1: Some(entry),
-                    ..Self::without_entry(0, 0)
-                })
+                Ok(Self::with_avc1(0, 0, entry))
             }
             MediaConfig::HevcConfig(config) => {
                 let entry = Hev1Box::new(alloc, config)?;
-                Ok(StsdBox {
-                    hev1: Some(entry),
-                    ..Self::without_entry(0, 0)
-                })
+                Ok(Self::with_hev1(0, 0, entry))
             }
             MediaConfig::Vp9Config(config) => {
                 let entry = Vp09Box::new(alloc, config)?;
-                Ok(StsdBox {
-                    vp09: Some(entry),
-                    ..Self::without_entry(0, 0)
-                })
+                Ok(Self::with_vp09(0, 0, entry))
             }
-            MediaConfig::AacConfig(config) => Ok(StsdBox {
-                mp4a: Some(Mp4aBox::new(config)),
-                ..Self::without_entry(0, 0)
-            }),
-            MediaConfig::TtxtConfig(config) => Ok(StsdBox {
-                tx3g: Some(Tx3gBox::new(config)),
-                ..Self::without_entry(0, 0)
-            }),
+            MediaConfig::AacConfig(config) => Ok(Self::with_mp4a(0, 0, Mp4aBox::new(config))),
+            MediaConfig::TtxtConfig(config) => Ok(Self::with_tx3g(0, 0, Tx3gBox::new(config))),
         }
     }
 
@@ -113,6 +98,56 @@ impl StsdBox {
         }
     }
 
+    /// This entry of `avc1` alone.
+    fn with_avc1(version: u8, flags: u32, entry: Avc1Box) -> Self
+        ensures { result ≡ with_entry version flags (avc_video entry) }
+    {
+        StsdBox {
+            avc1: Some(entry),
+            ..Self::without_entry(version, flags)
+        }
+    }
+
+    /// This entry of `hev1` alone.
+    fn with_hev1(version: u8, flags: u32, entry: Hev1Box) -> Self
+        ensures { result ≡ with_entry version flags (hevc_video entry) }
+    {
+        StsdBox {
+            hev1: Some(entry),
+            ..Self::without_entry(version, flags)
+        }
+    }
+
+    /// This entry of `vp09` alone.
+    fn with_vp09(version: u8, flags: u32, entry: Vp09Box) -> Self
+        ensures { result ≡ with_entry version flags (vp9_video entry) }
+    {
+        StsdBox {
+            vp09: Some(entry),
+            ..Self::without_entry(version, flags)
+        }
+    }
+
+    /// This entry of `mp4a` alone.
+    fn with_mp4a(version: u8, flags: u32, entry: Mp4aBox) -> Self
+        ensures { result ≡ with_entry version flags (aac_sound entry) }
+    {
+        StsdBox {
+            mp4a: Some(entry),
+            ..Self::without_entry(version, flags)
+        }
+    }
+
+    /// This entry of `tx3g` alone.
+    fn with_tx3g(version: u8, flags: u32, entry: Tx3gBox) -> Self
+        ensures { result ≡ with_entry version flags (text entry) }
+    {
+        StsdBox {
+            tx3g: Some(entry),
+            ..Self::without_entry(version, flags)
+        }
+    }
+
     /// The description whose first entry is this child.
     #[tactic(auto, unfolding(crate::specs::Stsd::entry_of))]
     fn read_entry(alloc: Global, version: u8, flags: u32, child: &Child) -> Result<Self>
@@ -121,38 +156,23 @@ impl StsdBox {
         let code = u32::from(child.name);
         if code == u32::from(BoxType::Avc1Box) {
             let entry = Avc1Box::read_payload(alloc, child.payload)?;
-            return Ok(StsdBox {
-                avc1: Some(entry),
-                ..Self::without_entry(version, flags)
-            });
+            return Ok(Self::with_avc1(version, flags, entry));
         }
         if code == u32::from(BoxType::Hev1Box) {
             let entry = Hev1Box::read_payload(alloc, child.payload)?;
-            return Ok(StsdBox {
-                hev1: Some(entry),
-                ..Self::without_entry(version, flags)
-            });
+            return Ok(Self::with_hev1(version, flags, entry));
         }
         if code == u32::from(BoxType::Vp09Box) {
             let entry = Vp09Box::read_payload(alloc, child.payload)?;
-            return Ok(StsdBox {
-                vp09: Some(entry),
-                ..Self::without_entry(version, flags)
-            });
+            return Ok(Self::with_vp09(version, flags, entry));
         }
         if code == u32::from(BoxType::Mp4aBox) {
             let entry = Mp4aBox::read_payload(alloc, child.payload)?;
-            return Ok(StsdBox {
-                mp4a: Some(entry),
-                ..Self::without_entry(version, flags)
-            });
+            return Ok(Self::with_mp4a(version, flags, entry));
         }
         if code == u32::from(BoxType::Tx3gBox) {
             let entry = Tx3gBox::read_payload(alloc, child.payload)?;
-            return Ok(StsdBox {
-                tx3g: Some(entry),
-                ..Self::without_entry(version, flags)
-            });
+            return Ok(Self::with_tx3g(version, flags, entry));
         }
         Ok(Self::without_entry(version, flags))
     }

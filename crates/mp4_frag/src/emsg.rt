@@ -2,7 +2,7 @@
 
 ghost use Rattle.std.specs.Prelude.{◌≡◌, Ok, OnOk};
 ghost use Rattle.mp4_codec.specs.declared.box_type.BoxType.TheVariants.{EmsgBox as emsg};
-ghost use Rattle.mp4_codec.specs.Cause.{Answers, Checks, Gives};
+ghost use Rattle.mp4_codec.specs.Cause.{Answers, Checks, Gives, Refuses, fault_of};
 ghost use Rattle.mp4_codec.specs.Bytes.{Appends};
 ghost use Rattle.mp4_codec.specs.Boxes.{size_around};
 ghost use Rattle.mp4_frag.specs.Emsg.{emsg_payload, emsg_0_payload, emsg_1_payload, ended, only_refusal, default_emsg, emsg_of, emsg_0_of, emsg_1_of, emsg_refusal, IsInRangeEmsg, RemarksEmsg};
@@ -87,19 +87,20 @@ impl EmsgBox {
         }
     }
 
-    /// The message behind its flags, in the layout of version 0.
+    /// The message behind its flags, in the layout of version 0. Its fields are found before memory is requested.
     #[tactic(auto, unfolding(crate::specs::Emsg::emsg_0_of))]
     fn read_version_0(alloc: Global, flags: u32, bytes: &[u8]) -> Result<Self>
-        ensures { Answers (λ x. x) result (emsg_0_of flags bytes.now) }
+        ensures value { Answers (λ x. x) result (emsg_0_of flags bytes.now) }
+        ensures early { Refuses (fault_of (emsg_0_of flags bytes.now)) result }
     {
         let mut fields = Fields::new(bytes);
-        let scheme_id_uri = fields.text(alloc)?;
-        let value = fields.text(alloc)?;
+        let scheme_id_uri = fields.text()?;
+        let value = fields.text()?;
         let timescale = fields.u32()?;
         let presentation_time_delta = fields.u32()?;
         let event_duration = fields.u32()?;
         let id = fields.u32()?;
-        let message_data = fields.rest().to_vec(alloc)?;
+        let texts = copied_texts(alloc, scheme_id_uri, value, fields.rest())?;
         Ok(EmsgBox {
             version: 0,
             flags,
@@ -108,25 +109,26 @@ impl EmsgBox {
             presentation_time_delta: Some(presentation_time_delta),
             event_duration,
             id,
-            scheme_id_uri,
-            value,
-            message_data: Items::from(message_data),
+            scheme_id_uri: texts.0,
+            value: texts.1,
+            message_data: texts.2,
         })
     }
 
-    /// The message behind its flags, in the layout of version 1.
+    /// The message behind its flags, in the layout of version 1. Its fields are found before memory is requested.
     #[tactic(auto, unfolding(crate::specs::Emsg::emsg_1_of))]
     fn read_version_1(alloc: Global, flags: u32, bytes: &[u8]) -> Result<Self>
-        ensures { Answers (λ x. x) result (emsg_1_of flags bytes.now) }
+        ensures value { Answers (λ x. x) result (emsg_1_of flags bytes.now) }
+        ensures early { Refuses (fault_of (emsg_1_of flags bytes.now)) result }
     {
         let mut fields = Fields::new(bytes);
         let timescale = fields.u32()?;
         let presentation_time = fields.u64()?;
         let event_duration = fields.u32()?;
         let id = fields.u32()?;
-        let scheme_id_uri = fields.text(alloc)?;
-        let value = fields.text(alloc)?;
-        let message_data = fields.rest().to_vec(alloc)?;
+        let scheme_id_uri = fields.text()?;
+        let value = fields.text()?;
+        let texts = copied_texts(alloc, scheme_id_uri, value, fields.rest())?;
         Ok(EmsgBox {
             version: 1,
             flags,
@@ -135,9 +137,9 @@ impl EmsgBox {
             presentation_time_delta: None,
             event_duration,
             id,
-            scheme_id_uri,
-            value,
-            message_data: Items::from(message_data),
+            scheme_id_uri: texts.0,
+            value: texts.1,
+            message_data: texts.2,
         })
     }
 
@@ -172,6 +174,21 @@ impl EmsgBox {
         put_bytes(out, self.message_data.as_slice())?;
         Ok(())
     }
+}
+
+/// Copies of both texts of a message, and of its body. Refused by `OutOfMemory` alone.
+fn copied_texts(
+    alloc: Global,
+    scheme_id_uri: &[u8],
+    value: &[u8],
+    message_data: &[u8],
+) -> Result<(Items<u8>, Items<u8>, Items<u8>)>
+    ensures { Answers (λ all. all) result (Ok (scheme_id_uri.now, value.now, message_data.now)) }
+{
+    let scheme_id_uri = Items::from(scheme_id_uri.to_vec(alloc)?);
+    let value = Items::from(value.to_vec(alloc)?);
+    let message_data = Items::from(message_data.to_vec(alloc)?);
+    Ok((scheme_id_uri, value, message_data))
 }
 
 /// Adds a text, and the zero byte that ends it.

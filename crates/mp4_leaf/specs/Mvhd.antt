@@ -1,12 +1,22 @@
 -- The movie header (ISO/IEC 14496-12, 8.2.2).
 use Rattle.std.specs.Prelude.{ℕ, ◌^◌, ◌<◌, List, Option, Result, Ok}
 use Rattle.mp4_codec.specs.Cause.{Cause, ◌>>=◌}
-use Rattle.mp4_codec.specs.Bytes.{number_at, bytes_at, versioned_at, number, zeros, versioned, ◌⧺◌}
+use Rattle.mp4_codec.specs.Bytes.{Reader, number_at, bytes_at, versioned_at, number, zeros, versioned, ◌⧺◌}
 use Rattle.mp4_leaf.specs.declared.times.Stamp.{Stamp}
 use Rattle.mp4_leaf.specs.Times.{stamp_at, stamp, times_refusal}
 use Rattle.mp4_leaf.specs.declared.mvhd.MvhdBox.{MvhdBox}
+use Rattle.mp4_leaf.specs.declared.mvhd.Playback.{Playback}
 use Rattle.mp4_leaf.specs.Matrix.{matrix_at, matrix, IsInRangeMatrix, unity}
 use Rattle.mp4_codec.specs.Boxes.{IsCanonical}
+
+-- how a movie is played: how fast, how loud, and where it is shown
+unfoldable pub playback_at : Reader Playback
+playback_at bytes = do
+  rate ← number_at 4 bytes
+  volume ← number_at 2 rate.1
+  reserved ← bytes_at 10 volume.1
+  matrix ← matrix_at reserved.1
+  Ok (record { rate = record { raw = rate.0 }; volume = record { raw = volume.0 }; matrix = matrix.0 }, matrix.1)
 
 -- the movie header that a payload holds, field by field; what follows is skipped
 unfoldable pub mvhd_of : List ℕ → Result MvhdBox Cause
@@ -14,11 +24,8 @@ mvhd_of payload = do
   stamp ← stamp_at payload
   timescale ← number_at 4 stamp.1
   duration ← versioned_at stamp.0.version timescale.1
-  rate ← number_at 4 duration.1
-  volume ← number_at 2 rate.1
-  reserved ← bytes_at 10 volume.1
-  matrix ← matrix_at reserved.1
-  predefined ← bytes_at 24 matrix.1
+  playback ← playback_at duration.1
+  predefined ← bytes_at 24 playback.1
   next_track_id ← number_at 4 predefined.1
   Ok (record {
     version = stamp.0.version;
@@ -27,9 +34,9 @@ mvhd_of payload = do
     modification_time = stamp.0.modification_time;
     timescale = timescale.0;
     duration = duration.0;
-    rate = record { raw = rate.0 };
-    volume = record { raw = volume.0 };
-    matrix = matrix.0;
+    rate = playback.0.rate;
+    volume = playback.0.volume;
+    matrix = playback.0.matrix;
     next_track_id = next_track_id.0;
   })
 

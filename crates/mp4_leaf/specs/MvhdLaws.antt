@@ -6,7 +6,7 @@ use Rattle.mp4_codec.specs.WriteLaws.{is_written}
 use Rattle.mp4_leaf.specs.declared.mvhd.MvhdBox.{MvhdBox}
 use Rattle.mp4_leaf.specs.MatrixLaws.{matrix_again, length-matrix}
 use Rattle.mp4_leaf.specs.TimesLaws.{times-have_room, with_duration, length-stamp, stamp_again}
-use Rattle.mp4_leaf.specs.Mvhd.{stamp_of, mvhd_of, mvhd_payload, mvhd_refusal, IsCanonicalMvhd}
+use Rattle.mp4_leaf.specs.Mvhd.{stamp_of, playback_at, mvhd_of, mvhd_payload, mvhd_refusal, IsCanonicalMvhd}
 
 pub length-mvhd_payload : (b : MvhdBox) → length (mvhd_payload b) ≡ cond (eqb b.version 1) 112 100
 unfolding mvhd_payload
@@ -15,7 +15,7 @@ length-mvhd_payload b =
     (omega (arith, with_duration (eqb b.version 1) 84))
 
 pub mvhd_again : (b : MvhdBox) → IsCanonicalMvhd b → mvhd_of (mvhd_payload b) ≡ Ok b
-unfolding mvhd_of mvhd_payload mvhd_refusal
+unfolding mvhd_of playback_at mvhd_payload mvhd_refusal
 mvhd_again b f =
     let in_range = f.in_range in
     let sound = (is_written (mvhd_payload b) (mvhd_refusal b) f.written).sound in

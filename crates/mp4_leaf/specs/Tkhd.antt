@@ -1,12 +1,35 @@
 -- The track header (ISO/IEC 14496-12, 8.3.2).
 use Rattle.std.specs.Prelude.{ℕ, ◌^◌, ◌<◌, List, Option, Result, Ok}
 use Rattle.mp4_codec.specs.Cause.{Cause, ◌>>=◌}
-use Rattle.mp4_codec.specs.Bytes.{number_at, bytes_at, versioned_at, number, zeros, versioned, ◌⧺◌}
+use Rattle.mp4_codec.specs.Bytes.{Reader, number_at, bytes_at, versioned_at, number, zeros, versioned, ◌⧺◌}
 use Rattle.mp4_leaf.specs.declared.times.Stamp.{Stamp}
 use Rattle.mp4_leaf.specs.Times.{stamp_at, stamp, times_refusal}
+use Rattle.mp4_leaf.specs.declared.tkhd.Presentation.{Presentation}
 use Rattle.mp4_leaf.specs.declared.tkhd.TkhdBox.{TkhdBox}
 use Rattle.mp4_leaf.specs.Matrix.{matrix_at, matrix, IsInRangeMatrix, unity}
 use Rattle.mp4_codec.specs.Boxes.{IsCanonical}
+
+-- how a track is presented: beside which others, how loud, where and how large
+unfoldable pub presentation_at : Reader Presentation
+presentation_at bytes = do
+  layer ← number_at 2 bytes
+  alternate_group ← number_at 2 layer.1
+  volume ← number_at 2 alternate_group.1
+  reserved ← bytes_at 2 volume.1
+  matrix ← matrix_at reserved.1
+  width ← number_at 4 matrix.1
+  height ← number_at 4 width.1
+  Ok (
+    record {
+      layer = layer.0;
+      alternate_group = alternate_group.0;
+      volume = record { raw = volume.0 };
+      matrix = matrix.0;
+      width = record { raw = width.0 };
+      height = record { raw = height.0 };
+    },
+    height.1,
+  )
 
 -- the track header that a payload holds, field by field; what follows is skipped
 unfoldable pub tkhd_of : List ℕ → Result TkhdBox Cause
@@ -16,13 +39,7 @@ tkhd_of payload = do
   reserved ← bytes_at 4 track_id.1
   duration ← versioned_at stamp.0.version reserved.1
   reserved_too ← bytes_at 8 duration.1
-  layer ← number_at 2 reserved_too.1
-  alternate_group ← number_at 2 layer.1
-  volume ← number_at 2 alternate_group.1
-  reserved_last ← bytes_at 2 volume.1
-  matrix ← matrix_at reserved_last.1
-  width ← number_at 4 matrix.1
-  height ← number_at 4 width.1
+  presentation ← presentation_at reserved_too.1
   Ok (record {
     version = stamp.0.version;
     flags = stamp.0.flags;
@@ -30,12 +47,12 @@ tkhd_of payload = do
     modification_time = stamp.0.modification_time;
     track_id = track_id.0;
     duration = duration.0;
-    layer = layer.0;
-    alternate_group = alternate_group.0;
-    volume = record { raw = volume.0 };
-    matrix = matrix.0;
-    width = record { raw = width.0 };
-    height = record { raw = height.0 };
+    layer = presentation.0.layer;
+    alternate_group = presentation.0.alternate_group;
+    volume = presentation.0.volume;
+    matrix = presentation.0.matrix;
+    width = presentation.0.width;
+    height = presentation.0.height;
   })
 
 -- what the header begins with

@@ -6,7 +6,7 @@ use Rattle.mp4_codec.specs.WriteLaws.{is_written}
 use Rattle.mp4_leaf.specs.declared.tkhd.TkhdBox.{TkhdBox}
 use Rattle.mp4_leaf.specs.MatrixLaws.{matrix_again, length-matrix}
 use Rattle.mp4_leaf.specs.TimesLaws.{times-have_room, with_duration, length-stamp, stamp_again}
-use Rattle.mp4_leaf.specs.Tkhd.{stamp_of, tkhd_of, tkhd_payload, tkhd_refusal, IsCanonicalTkhd}
+use Rattle.mp4_leaf.specs.Tkhd.{stamp_of, presentation_at, tkhd_of, tkhd_payload, tkhd_refusal, IsCanonicalTkhd}
 
 pub length-tkhd_payload : (b : TkhdBox) → length (tkhd_payload b) ≡ cond (eqb b.version 1) 96 84
 unfolding tkhd_payload
@@ -15,7 +15,7 @@ length-tkhd_payload b =
     (omega (arith, with_duration (eqb b.version 1) 68))
 
 pub tkhd_again : (b : TkhdBox) → IsCanonicalTkhd b → tkhd_of (tkhd_payload b) ≡ Ok b
-unfolding tkhd_of tkhd_payload tkhd_refusal
+unfolding tkhd_of presentation_at tkhd_payload tkhd_refusal
 tkhd_again b f =
     let in_range = f.in_range in
     let sound = (is_written (tkhd_payload b) (tkhd_refusal b) f.written).sound in

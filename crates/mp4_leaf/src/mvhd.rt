@@ -1,18 +1,18 @@
 //! The movie header.
 
 ghost use Rattle.std.specs.Prelude.{◌≡◌, Ok};
-ghost use Rattle.mp4_codec.specs.Cause.{Gives};
+ghost use Rattle.mp4_codec.specs.Cause.{Gives, Reads};
 ghost use Rattle.mp4_codec.specs.declared.box_type.BoxType.TheVariants.{MvhdBox as mvhd};
 ghost use Rattle.mp4_codec.specs.Boxes.{size_around};
-ghost use Rattle.mp4_leaf.specs.Mvhd.{mvhd_payload, default_mvhd, mvhd_of, mvhd_refusal, IsInRangeMvhd, RemarksMvhd, stamp_of};
+ghost use Rattle.mp4_leaf.specs.Mvhd.{playback_at, mvhd_payload, default_mvhd, mvhd_of, mvhd_refusal, IsInRangeMvhd, RemarksMvhd, stamp_of};
 ghost use Rattle.mp4_leaf.specs.MvhdLaws.{mvhd_again};
 
 use crate::fixed_point::{FixedPointU8, FixedPointU16};
 use crate::matrix::{Matrix, put_matrix, read_matrix};
 use crate::times::{Stamp, check_times, put_stamp, read_stamp};
 use mp4_codec::{
-    BoxType, Fields, InRange, Mp4Box, Put, ReadBox, Result, TryClone, WriteBox, put_u16, put_u32,
-    put_versioned, put_zeros,
+    BoxType, Field, Fields, InRange, Mp4Box, Put, ReadBox, Result, TryClone, WriteBox, put_u16,
+    put_u32, put_versioned, put_zeros,
 };
 use std::alloc::Global;
 
@@ -40,6 +40,30 @@ pub struct MvhdBox {
     pub matrix: Matrix,
     /// A number above all track ids, for the next track that is added.
     pub next_track_id: u32,
+}
+
+/// How a movie is played: how fast, how loud, and where it is shown.
+#[derive(Clone, Copy)]
+struct Playback {
+    rate: FixedPointU16,
+    volume: FixedPointU8,
+    matrix: Matrix,
+}
+
+/// The next such fields of a payload.
+#[tactic(auto, unfolding(crate::specs::Mvhd::playback_at))]
+fn read_playback(fields: &mut Fields) -> Field<Playback>
+    ensures { Reads (λ p. (p, fields.new)) result (playback_at fields.old) }
+{
+    let rate = fields.u32()?;
+    let volume = fields.u16()?;
+    fields.bytes(10)?;
+    let matrix = read_matrix(fields)?;
+    Ok(Playback {
+        rate: FixedPointU16::new_raw(rate),
+        volume: FixedPointU8::new_raw(volume),
+        matrix,
+    })
 }
 
 impl MvhdBox {
@@ -137,10 +161,7 @@ impl ReadBox for MvhdBox {
         let stamp = read_stamp(&mut fields)?;
         let timescale = fields.u32()?;
         let duration = fields.versioned(stamp.version)?;
-        let rate = fields.u32()?;
-        let volume = fields.u16()?;
-        fields.bytes(10)?;
-        let matrix = read_matrix(&mut fields)?;
+        let playback = read_playback(&mut fields)?;
         fields.bytes(24)?;
         let next_track_id = fields.u32()?;
         Ok(MvhdBox {
@@ -150,9 +171,9 @@ impl ReadBox for MvhdBox {
             modification_time: stamp.modification_time,
             timescale,
             duration,
-            rate: FixedPointU16::new_raw(rate),
-            volume: FixedPointU8::new_raw(volume),
-            matrix,
+            rate: playback.rate,
+            volume: playback.volume,
+            matrix: playback.matrix,
             next_track_id,
         })
     }

@@ -3,15 +3,15 @@
 ghost use Rattle.std.specs.Prelude.{◌≡◌, ◌*◌, Ok};
 ghost use Rattle.mp4_codec.specs.declared.box_type.BoxType.TheVariants.{TkhdBox as tkhd};
 ghost use Rattle.mp4_codec.specs.Boxes.{size_around};
-ghost use Rattle.mp4_leaf.specs.Tkhd.{tkhd_payload, default_tkhd, tkhd_of, tkhd_refusal, IsInRangeTkhd, RemarksTkhd, stamp_of};
+ghost use Rattle.mp4_leaf.specs.Tkhd.{presentation_at, tkhd_payload, default_tkhd, tkhd_of, tkhd_refusal, IsInRangeTkhd, RemarksTkhd, stamp_of};
 ghost use Rattle.mp4_leaf.specs.TkhdLaws.{tkhd_again};
-ghost use Rattle.mp4_codec.specs.Cause.{Gives};
+ghost use Rattle.mp4_codec.specs.Cause.{Gives, Reads};
 
 use crate::fixed_point::{FixedPointU8, FixedPointU16};
 use crate::matrix::{Matrix, put_matrix, read_matrix};
 use crate::times::{Stamp, check_times, put_stamp, read_stamp};
 use mp4_codec::{
-    BoxType, Fields, InRange, Mp4Box, Put, ReadBox, Result, TryClone, WriteBox, put_u16, put_u32,
+    BoxType, Field, Fields, InRange, Mp4Box, Put, ReadBox, Result, TryClone, WriteBox, put_u16, put_u32,
     put_versioned, put_zeros,
 };
 use std::alloc::Global;
@@ -45,6 +45,39 @@ pub struct TkhdBox {
     pub width: FixedPointU16,
     /// The height to show the track at, in pixels.
     pub height: FixedPointU16,
+}
+
+/// How a track is presented: beside which others, how loud, where and how large.
+#[derive(Clone, Copy)]
+struct Presentation {
+    layer: u16,
+    alternate_group: u16,
+    volume: FixedPointU8,
+    matrix: Matrix,
+    width: FixedPointU16,
+    height: FixedPointU16,
+}
+
+/// The next such fields of a payload.
+#[tactic(auto, unfolding(crate::specs::Tkhd::presentation_at))]
+fn read_presentation(fields: &mut Fields) -> Field<Presentation>
+    ensures { Reads (λ p. (p, fields.new)) result (presentation_at fields.old) }
+{
+    let layer = fields.u16()?;
+    let alternate_group = fields.u16()?;
+    let volume = fields.u16()?;
+    fields.bytes(2)?;
+    let matrix = read_matrix(fields)?;
+    let width = fields.u32()?;
+    let height = fields.u32()?;
+    Ok(Presentation {
+        layer,
+        alternate_group,
+        volume: FixedPointU8::new_raw(volume),
+        matrix,
+        width: FixedPointU16::new_raw(width),
+        height: FixedPointU16::new_raw(height),
+    })
 }
 
 impl TkhdBox {
@@ -162,13 +195,7 @@ impl ReadBox for TkhdBox {
         fields.bytes(4)?;
         let duration = fields.versioned(stamp.version)?;
         fields.bytes(8)?;
-        let layer = fields.u16()?;
-        let alternate_group = fields.u16()?;
-        let volume = fields.u16()?;
-        fields.bytes(2)?;
-        let matrix = read_matrix(&mut fields)?;
-        let width = fields.u32()?;
-        let height = fields.u32()?;
+        let presentation = read_presentation(&mut fields)?;
         Ok(TkhdBox {
             version: stamp.version,
             flags: stamp.flags,
@@ -176,12 +203,12 @@ impl ReadBox for TkhdBox {
             modification_time: stamp.modification_time,
             track_id,
             duration,
-            layer,
-            alternate_group,
-            volume: FixedPointU8::new_raw(volume),
-            matrix,
-            width: FixedPointU16::new_raw(width),
-            height: FixedPointU16::new_raw(height),
+            layer: presentation.layer,
+            alternate_group: presentation.alternate_group,
+            volume: presentation.volume,
+            matrix: presentation.matrix,
+            width: presentation.width,
+            height: presentation.height,
         })
     }
 }

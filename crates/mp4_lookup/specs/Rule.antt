@@ -51,17 +51,22 @@ timed track k (Some duration) start = Ok (duration, start)
 unfoldable pub time_at : List SttsEntry → ℕ → ℕ → Result (ℕ × ℕ) Cause
 time_at runs track k = timed track k (slice_get (durations runs) (k - 1)) (start_of (durations runs) k)
 
--- Where sample k lies, and its size: behind its chunk's first sample, in a chunk that stsc finds. A chunk or a size
--- that isn't there is no sample.
-unfoldable pub spot_at : StblBox → ℕ → Result (Option (ℕ × ℕ)) Cause
-spot_at t k = do
-  entry ← entry_for t.stsc.entries k
+-- where sample k lies, and its size, by its entry of stsc: behind its chunk's first sample; a chunk or a size that isn't
+-- there is no sample
+abbrev pub spot_by : StblBox → StscEntry → ℕ → Result (Option (ℕ × ℕ)) Cause
+spot_by t entry k = do
   chunk ← chunk_for entry k
   if_there (slice_get (chunk_offsets t) (chunk - 1)) (λ chunk_offset.
       if_there (slice_get (sizes t.stsz k) (k - 1)) (λ size. do
         offset ← within_64_bits (chunk_offset
             + sum (slice_range (sizes t.stsz k) (first_in_chunk entry k - 1) (k - 1)))
         Ok (Some (offset, size))))
+
+-- the same, by its number alone
+unfoldable pub spot_at : StblBox → ℕ → Result (Option (ℕ × ℕ)) Cause
+spot_at t k = do
+  entry ← entry_for t.stsc.entries k
+  spot_by t entry k
 
 -- what is answered at number k of a track
 unfoldable pub rule : StblBox → ℕ → ℕ → Result (Option Place) Cause

@@ -1,7 +1,7 @@
 //! Where a sample lies: its entry of stsc, its chunk, and the sizes before it in the chunk (ISO/IEC 14496-12,
 //! 8.7.3 to 8.7.5).
 
-ghost use Rattle.std.specs.Prelude.{◌≡◌, ℕ, ◌-◌, ◌<◌, ◌≤◌, map, length, sum, slice_get, slice_range, option_map, IfOk, IfSome, OnOk};
+ghost use Rattle.std.specs.Prelude.{◌≡◌, ℕ, ◌+◌, ◌-◌, ◌<◌, ◌≤◌, map, length, sum, slice_get, slice_range, option_map, IfOk, IfSome, OnOk};
 ghost use Rattle.mp4_codec.specs.Cause.{Gives};
 ghost use Rattle.mp4_table.specs.Stsc.{HasFirstSamples};
 ghost use Rattle.mp4_search.specs.Search.{IsFew};
@@ -9,7 +9,7 @@ ghost use Rattle.mp4_search.specs.Sums.{SumsBefore};
 ghost use Rattle.mp4_lookup.specs.Tables.{chunk_offsets, sizes};
 ghost use Rattle.mp4_lookup.specs.Index.{IsIndexOf};
 ghost use Rattle.mp4_lookup.specs.Costs.{AreFewSizeReads};
-ghost use Rattle.mp4_lookup.specs.Rule.{entry_for, chunk_for, spot_at};
+ghost use Rattle.mp4_lookup.specs.Rule.{entry_for, chunk_for, within_64_bits, spot_by, spot_at};
 
 use crate::index::TrackIndex;
 use mp4_boxes::StblBox;
@@ -119,6 +119,50 @@ fn size_between(stsz: &StszBox, sums: &RunningSizes, first: u32, k: u32) -> (u12
     (upto - from, readings.count())
 }
 
+/// A place, if it is within 64 bits: so many bytes behind the beginning of a chunk.
+fn place_within(chunk_offset: u64, earlier: u128) -> Result<u64>
+    ensures { Gives (λ place. place) result (within_64_bits (chunk_offset + earlier)) }
+{
+    match u128::from(chunk_offset).checked_add(earlier) {
+        Some(place) if place <= u128::from(u64::MAX) => Ok(place as u64),
+        _ => Err(Error::InvalidData("a place passes 64 bits")),
+    }
+}
+
+/// Where sample `k` lies, and its size, by its entry of stsc, which so many comparisons found.
+fn spot_by(
+    stbl: &StblBox,
+    index: &TrackIndex,
+    entry: &StscEntry,
+    comparisons: u32,
+    k: u32,
+) -> Result<Option<Spot>>
+    requires index { IsIndexOf stbl.now index.now }
+    requires from { 1 ≤ entry.now.first_sample }
+    requires to { entry.now.first_sample ≤ k }
+    requires some { 1 ≤ entry.now.samples_per_chunk }
+    ensures spot { Gives (λ s. option_map (λ s. (s.offset, s.size)) s) result (spot_by stbl.now entry.now k) }
+    ensures comparisons { IfOk result (λ s. IfSome s (λ s. s.comparisons ≡ comparisons)) }
+    ensures size_reads { IfOk result (λ s. IfSome s (λ s. AreFewSizeReads stbl.now s.size_reads)) }
+{
+    let chunk = chunk_of(entry, k)?;
+    let Some(chunk_offset) = chunk_offset_at(stbl, chunk) else {
+        return Ok(None);
+    };
+    let Some(size) = size_at(&stbl.stsz, k) else {
+        return Ok(None);
+    };
+    let first = k - (k - entry.first_sample) % entry.samples_per_chunk;
+    let (earlier, size_reads) = size_between(&stbl.stsz, &index.size_sums, first, k);
+    let offset = place_within(chunk_offset, earlier)?;
+    Ok(Some(Spot {
+        offset,
+        size,
+        comparisons,
+        size_reads,
+    }))
+}
+
 /// Where sample `k` lies, and its size.
 #[tactic(auto, unfolding(crate::specs::Rule::spot_at))]
 pub fn spot_at(stbl: &StblBox, index: &TrackIndex, k: u32) -> Result<Option<Spot>>
@@ -130,22 +174,5 @@ pub fn spot_at(stbl: &StblBox, index: &TrackIndex, k: u32) -> Result<Option<Spot
     ensures size_reads { IfOk result (λ s. IfSome s (λ s. AreFewSizeReads stbl.now s.size_reads)) }
 {
     let (entry, comparisons) = entry_at(stbl.stsc.entries.as_slice(), &index.first_samples, k)?;
-    let chunk = chunk_of(&entry, k)?;
-    let Some(chunk_offset) = chunk_offset_at(stbl, chunk) else {
-        return Ok(None);
-    };
-    let Some(size) = size_at(&stbl.stsz, k) else {
-        return Ok(None);
-    };
-    let first = k - (k - entry.first_sample) % entry.samples_per_chunk;
-    let (earlier, size_reads) = size_between(&stbl.stsz, &index.size_sums, first, k);
-    match u128::from(chunk_offset).checked_add(earlier) {
-        Some(offset) if offset <= u128::from(u64::MAX) => Ok(Some(Spot {
-            offset: offset as u64,
-            size,
-            comparisons,
-            size_reads,
-        })),
-        _ => Err(Error::InvalidData("a place passes 64 bits")),
-    }
+    spot_by(stbl, index, &entry, comparisons, k)
 }

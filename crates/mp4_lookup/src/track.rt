@@ -38,13 +38,17 @@ pub struct Mp4Track {
 impl Drop for Mp4Track {
     fn drop(self) {
         let Mp4Track {
-            trak: _,
-            trafs: _,
+            trak,
+            trafs,
             default_sample_duration: _,
-            index: _,
+            index,
             defaults: _,
-            runs: _,
+            runs,
         } = self;
+        drop(trak);
+        drop(trafs);
+        drop(index);
+        drop(runs);
     }
 }
 
@@ -68,6 +72,17 @@ fn indexes_of(
     Ok((index, runs))
 }
 
+/// How long a sample of a fragment lasts where nothing else is said of it; 0 without fragments.
+fn duration_in_fragments(trafs: &Items<TrafBox>, defaults: SampleDefaults) -> u32
+    ensures { result ≡ (if length trafs.now == 0 then 0 else defaults.duration) }
+{
+    if trafs.is_empty() {
+        0
+    } else {
+        defaults.duration
+    }
+}
+
 impl Mp4Track {
     /// Makes the indexes of a track, once, so that its samples are found fast: one of its tables, and one of the runs of
     /// its fragments, whose places count from these bases, one for each. `defaults` is what the movie says of the samples
@@ -86,19 +101,23 @@ impl Mp4Track {
         ensures runs { IfOk result (λ t. runs_of t.trafs t.defaults t.runs ≡ placed_runs defaults (movie_end trak) trafs bases.now) }
         ensures duration { IfOk result (λ t. t.default_sample_duration ≡ (if length trafs == 0 then 0 else defaults.duration)) }
     {
-        let (index, runs) = indexes_of(alloc, &trak, trafs.as_slice(), bases, defaults)?;
-        let default_sample_duration = if trafs.is_empty() {
-            0
-        } else {
-            defaults.duration
-        };
-        Ok(Mp4Track {
-            trak,
-            trafs,
-            default_sample_duration,
-            index,
-            defaults,
-            runs,
-        })
+        match indexes_of(alloc, &trak, trafs.as_slice(), bases, defaults) {
+            Ok((index, runs)) => {
+                let default_sample_duration = duration_in_fragments(&trafs, defaults);
+                Ok(Mp4Track {
+                    trak,
+                    trafs,
+                    default_sample_duration,
+                    index,
+                    defaults,
+                    runs,
+                })
+            }
+            Err(error) => {
+                drop(trak);
+                drop(trafs);
+                Err(error)
+            }
+        }
     }
 }

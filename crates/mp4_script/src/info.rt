@@ -75,18 +75,30 @@ fn write_tracks(alloc: Global, text: &mut String, movie: &Mp4Reader) -> Result<(
     Ok(())
 }
 
-/// Writes the lines that describe an opened movie.
-pub(crate) fn write_info(alloc: Global, text: &mut String, movie: &Mp4Reader) -> Result<()> {
+/// Writes the lines of the brands.
+fn write_file_type(text: &mut String, movie: &Mp4Reader) -> Result<()> {
     let brand = movie.major_brand();
     let version = movie.minor_version();
-    let size = movie.size();
-    let timescale = movie.timescale();
-    let fragmented = if movie.is_fragmented() { "yes" } else { "no" };
     writeln!(text, "brand {brand} {version}")?;
     write_brands(text, movie)?;
+    Ok(())
+}
+
+/// Writes the lines of the sizes: how many bytes there are, how many ticks a second has, and how long the movie is.
+fn write_sizes(text: &mut String, movie: &Mp4Reader) -> Result<()> {
+    let size = movie.size();
+    let timescale = movie.timescale();
     writeln!(text, "size {size}")?;
     writeln!(text, "timescale {timescale}")?;
     write_duration(text, movie)?;
+    Ok(())
+}
+
+/// Writes the lines that describe an opened movie.
+pub(crate) fn write_info(alloc: Global, text: &mut String, movie: &Mp4Reader) -> Result<()> {
+    write_file_type(text, movie)?;
+    write_sizes(text, movie)?;
+    let fragmented = if movie.is_fragmented() { "yes" } else { "no" };
     writeln!(text, "fragmented {fragmented}")?;
     write_tracks(alloc, text, movie)
 }

@@ -553,8 +553,8 @@ fn read_entries(alloc: Global) -> Result<bool> {
 /// Reads a text in two ways.
 fn read_texts(alloc: Global) -> Result<bool> {
     let name = Fields::new(b"text\0").until_zero(alloc)?;
-    let text = Fields::new(b"text\0").text(alloc)?;
-    Ok(name == text)
+    let text = Fields::new(b"text\0").text()?;
+    Ok(name.as_slice() == text)
 }
 
 /// Reads children in two ways.

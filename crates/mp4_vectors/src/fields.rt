@@ -145,7 +145,7 @@ impl Row {
     fn text(&mut self, alloc: Global, fields: &mut Fields, word: &str) -> Result<bool> {
         match word {
             "text" => {
-                let text = fields.text(alloc)?;
+                let text = Items::from(fields.text()?.to_vec(alloc)?);
                 put_bytes(&mut self.again, text.as_slice())?;
                 put_u8(&mut self.again, 0)?;
                 self.add(&text)?;

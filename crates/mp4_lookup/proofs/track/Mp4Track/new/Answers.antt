@@ -7,17 +7,17 @@ pub invariant_of-result : goal.invariant_of-result
 invariant_of-result c =
     let trafs = c.args.trafs in
     let defaults = c.args.defaults in
-    let index = c.in_ok-index.runs in
-    let made = rw c.as_slice.ensures at c.in_ok-index.ensures.runs in
+    let index = c.in-Ok.runs in
+    let made = rw c.as_slice.ensures at c.in-Ok.ensures.runs in
     record {
       numbered = c.requires.first_samples;
-      indexed = c.in_ok-index.ensures.tables;
+      indexed = c.in-Ok.ensures.tables;
       placed = subst (λ runs. Indexes (run_at trafs defaults) runs index)
           (sym (indexed_runs trafs defaults _ index made)) made;
-      counted = c.in_ok-index.ensures.counted;
+      counted = c.in-Ok.ensures.counted;
     }
 
-pub returns-clause-runs : goal.returns-clause-runs
-returns-clause-runs c =
-    indexed_runs c.args.trafs c.args.defaults _ c.in_ok-index.runs
-    (rw c.as_slice.ensures at c.in_ok-index.ensures.runs)
+pub returns-in-Ok-clause-runs : goal.returns-in-Ok-clause-runs
+returns-in-Ok-clause-runs c =
+    indexed_runs c.args.trafs c.args.defaults _ c.in-Ok.runs
+    (rw c.as_slice.ensures at c.in-Ok.ensures.runs)
