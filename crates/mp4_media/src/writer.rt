@@ -1,9 +1,14 @@
 //! Movies that are written.
 
-ghost use Rattle.std.specs.Prelude.{◌≡◌, None, OnOk, OnErr, IfOk};
+ghost use Rattle.std.specs.Prelude.{◌≡◌, ◌+◌, ◌<◌, ◌≤◌, ◌^◌, length, None, OnOk, OnErr, IfErr, IfOk};
+ghost use Rattle.std.specs.List.{All};
+ghost use Rattle.mp4_codec.specs.Boxes.{write_cause};
 ghost use Rattle.mp4_codec.specs.Cause.{AnswersCause, Checks};
+ghost use Rattle.mp4_boxes.specs.Moov.{moov_payload, moov_refusal};
 ghost use Rattle.mp4_lookup.specs.Samples.{sample_of};
-ghost use Rattle.mp4_mux.specs.Writing.{started, with_track, with_sample, with_end, start_cause, track_cause, sample_cause, end_cause, whole_of, WriterState};
+ghost use Rattle.mp4_mux.specs.FinishedTrack.{movie_for};
+ghost use Rattle.mp4_mux.specs.Parts.{bytes_at_end, finished_buildings, unwritten};
+ghost use Rattle.mp4_mux.specs.Writing.{movie_bytes, started, with_track, with_sample, with_end, start_cause, track_cause, sample_cause, end_cause, whole_of, WriterState};
 ghost use Rattle.mp4_mux.specs.Written.{IsWrittenMovie};
 ghost use Rattle.mp4_media.specs.Finished.{Opens};
 ghost use Rattle.mp4_media.specs.WriterFields.{writer_state, IsWriter};
@@ -21,7 +26,7 @@ use std::marker::Model;
 ///
 /// Where a call has a cause for its refusal, exactly that cause is the answer, checked before memory is
 /// requested; else it is Ok, or `OutOfMemory`. A refused call leaves the writer and its bytes as they were.
-#[derive(Debug, Drop)]
+#[derive(Debug)]
 pub struct Mp4Writer {
     /// The length of the buffer that was handed in.
     front: usize,
@@ -41,6 +46,47 @@ impl Model for Mp4Writer {
     ghost view = { writer_state };
 
     ghost invariant = { IsWriter };
+}
+
+/// Taken apart here, and not at each end of each function that owns a writer.
+impl Drop for Mp4Writer {
+    fn drop(self) {
+        let Mp4Writer {
+            front: _,
+            mdat: _,
+            config: _,
+            buffer: _,
+            tracks: _,
+            written: _,
+            ended: _,
+        } = self;
+    }
+}
+
+/// Ends the bytes of a movie whose mdat has its place there: the bytes that wait of its tracks are added, the header of
+/// mdat says how many bytes it has then, and the movie box follows.
+///
+/// Refused by `OutOfMemory` alone; then the buffer is as it was.
+fn add_end(
+    buffer: &mut Vec<u8>,
+    mdat: usize,
+    timescale: u32,
+    tracks: &[TrackWriter],
+) -> Result<()>
+    requires mdat { mdat + 16 ≤ length buffer.old.items }
+    requires few { length tracks.now < 2 ^ 32 }
+    requires clocks { All (λ b. b.movie_timescale ≡ timescale) tracks.now }
+    requires written { length buffer.old.items + length (unwritten tracks.now) < 2 ^ 64 → write_cause (moov_payload (movie_for timescale (finished_buildings 1 (length buffer.old.items) tracks.now))) (moov_refusal (movie_for timescale (finished_buildings 1 (length buffer.old.items) tracks.now))) ≡ None }
+    ensures ok { OnOk result (buffer.new.items ≡ bytes_at_end mdat (unwritten tracks.now) (movie_bytes timescale (finished_buildings 1 (length buffer.old.items) tracks.now)) buffer.old.items) }
+    ensures memory { IfErr result (λ e. e ≡ Error.OutOfMemory) }
+    ensures err { OnErr result (buffer.new.items ≡ buffer.old.items) }
+{
+    let end = buffer.len();
+    let mut tail = pending_bytes(*buffer.allocator(), tracks)?;
+    let size = (end - mdat) as u64 + tail.len() as u64;
+    put_movie(&mut tail, timescale, tracks, end as u64)?;
+    finish(buffer, mdat, size, &tail)?;
+    Ok(())
 }
 
 impl Mp4Writer {
@@ -165,11 +211,12 @@ impl Mp4Writer {
         ensures err { OnErr result (self.new ≡ self.old) }
     {
         self.check_end()?;
-        let end = self.buffer.len();
-        let mut tail = pending_bytes(self.allocator(), &self.tracks)?;
-        let size = (end - self.mdat) as u64 + tail.len() as u64;
-        put_movie(&mut tail, self.config.timescale, &self.tracks, end as u64)?;
-        finish(&mut self.buffer, self.mdat, size, &tail)?;
+        add_end(
+            &mut self.buffer,
+            self.mdat,
+            self.config.timescale,
+            &self.tracks,
+        )?;
         self.ended = true;
         Ok(())
     }
@@ -203,7 +250,15 @@ impl Mp4Writer {
     pub fn into_writer(self) -> Vec<u8>
         ensures { result.items ≡ whole_of self }
     {
-        let Mp4Writer { buffer, .. } = self;
+        let Mp4Writer {
+            front: _,
+            mdat: _,
+            config: _,
+            buffer,
+            tracks: _,
+            written: _,
+            ended: _,
+        } = self;
         buffer
     }
 }
