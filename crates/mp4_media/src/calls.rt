@@ -1,6 +1,6 @@
 //! Calls of a writer as data, and lists of them.
 
-ghost use Rattle.std.specs.Prelude.{◌≡◌, true, IfErr, IfOk, OnErr};
+ghost use Rattle.std.specs.Prelude.{◌≡◌, ◌≤◌, [], length, true, vec_capacity, vec_len, IfErr, IfOk, OnErr};
 ghost use Rattle.std.specs.List.{AllByRecursion};
 ghost use Rattle.mp4_codec.specs.Cause.{AnswersCause};
 ghost use Rattle.mp4_mux.specs.Calls.{Answered, IsInRangeCall, after, after_reply, call_cause};
@@ -65,11 +65,24 @@ impl Mp4Writer {
         ensures err { OnErr result (self.new ≡ self.old) }
     {
         let mut replies = Vec::with_capacity(self.allocator(), calls.len())?;
+        self.perform_all(calls, &mut replies);
+        Ok(replies)
+    }
+
+    /// Makes calls one after the other, and adds what each answers to a list of no replies that has room for all.
+    fn perform_all(&mut self, calls: &[WriterCall], replies: &mut Vec<Result<()>>)
+        requires none { replies.old.items ≡ [] }
+        requires count { vec_len replies.old ≡ 0 }
+        requires room { length calls.now ≤ vec_capacity replies.old }
+        ensures replies { Answered (calls_of calls.now) replies.new.items self.old }
+        ensures after { self.new ≡ after (calls_of calls.now) replies.new.items self.old }
+        ensures fits { AllByRecursion IsInRangeCall (calls_of calls.now) }
+        ensures opens { (self.old.ended ≡ true → Opens self.old) → self.new.ended ≡ true → Opens self.new }
+    {
         for call in calls {
             call.in_range();
             let reply = self.perform(call);
-            replies.push(reply).unwrap();
+            replies.push_reserved(reply);
         }
-        Ok(replies)
     }
 }

@@ -1,11 +1,13 @@
 //! Movies that are written.
 
-ghost use Rattle.std.specs.Prelude.{◌≡◌, ◌+◌, ◌<◌, ◌≤◌, ◌^◌, length, None, OnOk, OnErr, IfErr, IfOk};
+ghost use Rattle.std.specs.Prelude.{◌≡◌, ◌+◌, ◌<◌, ◌≤◌, ◌^◌, ◌++◌, ◌∷◌, [], length, None, OnOk, OnErr, IfErr, IfOk};
 ghost use Rattle.std.specs.List.{All};
 ghost use Rattle.mp4_codec.specs.Boxes.{write_cause};
 ghost use Rattle.mp4_codec.specs.Cause.{AnswersCause, Checks};
 ghost use Rattle.mp4_boxes.specs.Moov.{moov_payload, moov_refusal};
 ghost use Rattle.mp4_lookup.specs.Samples.{sample_of};
+ghost use Rattle.mp4_mux.specs.Building.{new_building};
+ghost use Rattle.mp4_mux.specs.Config.{config_cause};
 ghost use Rattle.mp4_mux.specs.FinishedTrack.{movie_for};
 ghost use Rattle.mp4_mux.specs.Parts.{bytes_at_end, finished_buildings, unwritten};
 ghost use Rattle.mp4_mux.specs.Writing.{movie_bytes, started, with_track, with_sample, with_end, start_cause, track_cause, sample_cause, end_cause, whole_of, WriterState};
@@ -63,6 +65,20 @@ impl Drop for Mp4Writer {
     }
 }
 
+/// Adds a track without samples, in a movie of this timescale. Refused by `OutOfMemory` alone; then the tracks are as
+/// they were.
+fn push_track(tracks: &mut Vec<TrackWriter>, timescale: u32, config: &TrackConfig) -> Result<()>
+    requires { config_cause config.now ≡ None }
+    ensures ok { OnOk result (tracks.new.items ≡ tracks.old.items ++ new_building timescale config.now ∷ []) }
+    ensures memory { IfErr result (λ e. e ≡ Error.OutOfMemory) }
+    ensures err { OnErr result (tracks.new.items ≡ tracks.old.items) }
+{
+    let config = config.try_clone()?;
+    let track = TrackWriter::new(*tracks.allocator(), timescale, config);
+    tracks.push(track)?;
+    Ok(())
+}
+
 /// Ends the bytes of a movie whose mdat has its place there: the bytes that wait of its tracks are added, the header of
 /// mdat says how many bytes it has then, and the movie box follows.
 ///
@@ -99,20 +115,34 @@ impl Mp4Writer {
         ensures ok { IfOk result (λ w. w ≡ started writer.items config.now) }
     {
         check_file_type(config)?;
-        config.in_range();
         let config = config.try_clone()?;
-        let mut buffer = writer;
+        Self::start_with(alloc, writer, config)
+    }
+
+    /// Begins a movie whose file type was checked. Refused by `OutOfMemory` alone.
+    fn start_with(alloc: Global, mut buffer: Vec<u8>, config: Mp4Config) -> Result<Self>
+        requires { start_cause config ≡ None }
+        ensures cause { AnswersCause None result }
+        ensures ok { IfOk result (λ w. w ≡ started buffer.items config) }
+    {
+        config.in_range();
         let front = buffer.len();
-        let mdat = begin(&mut buffer, &config)?;
-        Ok(Mp4Writer {
-            front,
-            mdat,
-            config,
-            buffer,
-            tracks: Vec::new(alloc),
-            written: Vec::new(alloc),
-            ended: false,
-        })
+        match begin(&mut buffer, &config) {
+            Ok(mdat) => Ok(Mp4Writer {
+                front,
+                mdat,
+                config,
+                buffer,
+                tracks: Vec::new(alloc),
+                written: Vec::new(alloc),
+                ended: false,
+            }),
+            Err(error) => {
+                drop(buffer);
+                drop(config);
+                Err(error)
+            }
+        }
     }
 
     /// Whether a track can be added.
@@ -141,10 +171,7 @@ impl Mp4Writer {
     {
         self.check_track(config)?;
         config.in_range();
-        let config = config.try_clone()?;
-        let alloc = self.allocator();
-        let track = TrackWriter::new(alloc, self.config.timescale, config);
-        self.tracks.push(track)?;
+        push_track(&mut self.tracks, self.config.timescale, config)?;
         Ok(())
     }
 

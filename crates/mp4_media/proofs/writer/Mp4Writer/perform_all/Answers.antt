@@ -5,16 +5,15 @@ use Rattle.mp4_mux.specs.Calls.{Answered, call_cause, after, after_reply}
 use Rattle.mp4_mux.specs.CallLaws.{after_one_more, answered_one_more}
 use Rattle.mp4_media.specs.WriterCalls.{call_of, calls_of}
 use Rattle.mp4_media.proofs.Performing.{calls_of-more, in_range-more}
-use Rattle.mp4_media.proofs.writer.Mp4Writer.run.Goals as goal
+use Rattle.mp4_media.proofs.writer.Mp4Writer.perform_all.Goals as goal
 
 pub loop-call-init : goal.loop-call-init
 unfolding after Answered
 loop-call-init c =
-    let none = c.in_ok-replies.ensures.items in
     record {
-      room = omega (arith, c.in_ok-replies.ensures.capacity);
-      count = c.in_ok-replies.ensures.len;
-      replies = rw none tt;
+      room = c.requires.room;
+      count = c.requires.count;
+      replies = rw c.requires.none tt;
       after = refl;
       fits = tt;
       opens = λ h. h;
@@ -28,11 +27,11 @@ loop-call-preserved c =
     let call = call_of c.call-item.result in
     let more : calls_of (take (i + 1) c.args.calls.now) ≡ before ++ call ∷ [] =
     calls_of-more c.args.calls.now i c.call-item.result (omega arith) c.call-item.is in
-    let told : c.push.new.self.items ≡ c.loop-call.replies.items ++ c.perform-reply.result ∷ [] =
-    rw c.unwrap.ensures at c.push.ensures.items in
+    let told : c.push_reserved.new.self.items ≡ c.loop-call.replies.items ++ c.perform-reply.result ∷ [] =
+    c.push_reserved.ensures.items in
     record {
-      room = omega (arith, c.push.ensures.capacity, inv.room);
-      count = let n = rw c.unwrap.ensures at c.push.ensures.len in omega arith;
+      room = omega (arith, c.push_reserved.ensures.capacity, inv.room);
+      count = let n = c.push_reserved.ensures.len in omega arith;
       replies = rw (more, told) (answered_one_more before c.loop-call.replies.items c.args.self.now call
           c.perform-reply.result inv.replies
           (subst (λ (w : WriterState). AnswersCause (call_cause w call) c.perform-reply.result) inv.after

@@ -4,7 +4,7 @@ use Rattle.std.specs.List.{AllByRecursion}
 use Rattle.mp4_mux.specs.Calls.{Answered, IsInRangeCall, after}
 use Rattle.mp4_media.specs.WriterCalls.{calls_of}
 use Rattle.mp4_media.proofs.Performing.{OpensAtEnd}
-use Rattle.mp4_media.proofs.writer.Mp4Writer.run.Given as goal
+use Rattle.mp4_media.proofs.writer.Mp4Writer.perform_all.Given as goal
 
 -- the calls so far are in range, have their replies, and have left this
 abbrev pub invariant-loop-call : goal.invariant-loop-call
