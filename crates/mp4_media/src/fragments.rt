@@ -12,6 +12,23 @@ use mp4_fragments::{SampleDefaults, traf_base, traf_end};
 use std::alloc::{AllocError, Global};
 use std::collections::HashMap;
 
+/// Adds a copy of this fragment to those of its track.
+fn add_traf(
+    alloc: Global,
+    fragments: &mut HashMap<u32, Items<TrafBox>>,
+    traf: &TrafBox,
+) -> Result<()>
+    ensures memory { IfErr result (λ e. e ≡ Error.OutOfMemory) }
+    ensures added { OnOk result ((id : ℕ) → fragments_at fragments.new id ≡ fragments_at fragments.old id ++ trafs_of (traf.now ∷ []) id) }
+{
+    let of_track = fragments
+        .entry(traf.tfhd.track_id)?
+        .or_insert(Items::new(alloc));
+    let copy = traf.try_clone()?;
+    of_track.push(copy)?;
+    Ok(())
+}
+
 /// Adds a copy of each of these fragments to those of its track.
 fn add_trafs(
     alloc: Global,
@@ -22,11 +39,7 @@ fn add_trafs(
     ensures added { OnOk result ((id : ℕ) → fragments_at fragments.new id ≡ fragments_at fragments.old id ++ trafs_of trafs.now id) }
 {
     for traf in trafs {
-        let copy = traf.try_clone()?;
-        fragments
-            .entry(traf.tfhd.track_id)?
-            .or_insert(Items::new(alloc))
-            .push(copy)?;
+        add_traf(alloc, fragments, traf)?;
     }
     Ok(())
 }

@@ -161,6 +161,20 @@ pub(crate) fn next_box(alloc: Global, reader: &mut ByteCursor, size: u64) -> Res
     Ok(Some(FileBox { place, content }))
 }
 
+/// Adds the boxes of a file of `size` bytes from the cursor on, which then stands at its end, to what was found, which
+/// is no box at the start; or answers the first fault of a box.
+fn add_boxes(alloc: Global, reader: &mut ByteCursor, found: &mut Found, size: u64) -> Result<()>
+    requires { found.old ≡ found_of [] }
+    ensures answer { Answers (λ _. (found.new, reader.new.position)) result (found_at size reader.old) }
+    ensures onward { OnOk result (reader.old.position ≤ reader.new.position) }
+    ensures same { OnOk result (reader.new.bytes ≡ reader.old.bytes) }
+{
+    while let Some(file_box) = next_box(alloc, reader, size)? {
+        found.add(file_box)?;
+    }
+    Ok(())
+}
+
 /// What counts of the boxes of a file of `size` bytes from the cursor on, which then stands at its end; or the first
 /// fault of a box.
 pub(crate) fn find_boxes(alloc: Global, reader: &mut ByteCursor, size: u64) -> Result<Found>
@@ -169,8 +183,11 @@ pub(crate) fn find_boxes(alloc: Global, reader: &mut ByteCursor, size: u64) -> R
     ensures same { OnOk result (reader.new.bytes ≡ reader.old.bytes) }
 {
     let mut found = Found::none(alloc);
-    while let Some(file_box) = next_box(alloc, reader, size)? {
-        found.add(file_box)?;
+    match add_boxes(alloc, reader, &mut found, size) {
+        Ok(()) => Ok(found),
+        Err(error) => {
+            drop(found);
+            Err(error)
+        }
     }
-    Ok(found)
 }

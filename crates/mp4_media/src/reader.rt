@@ -54,14 +54,20 @@ impl<'a> Drop for Mp4Reader<'a> {
     fn drop(self) {
         let Mp4Reader {
             bytes: _,
-            ftyp: _,
-            moov: _,
-            moofs: _,
-            emsgs: _,
-            moof_places: _,
+            ftyp,
+            moov,
+            moofs,
+            emsgs,
+            moof_places,
             size: _,
-            tracks: _,
+            tracks,
         } = self;
+        drop(ftyp);
+        drop(moov);
+        drop(moofs);
+        drop(emsgs);
+        drop(moof_places);
+        drop(tracks);
     }
 }
 
