@@ -91,10 +91,15 @@ opened_with found file_type movie size = record {
   size = size;
 }
 
+-- the file of so many bytes that is opened where this was found
+abbrev pub opened_from : Found → ℕ → Result OpenedFile Cause
+opened_from found size = do
+  file_type ← needed ftyp found.ftyp
+  movie ← needed moov found.moov
+  unless (id_fault movie found.moofs) (Ok (opened_with found file_type movie size))
+
 -- the file that is opened from a place on
 unfoldable pub opened_at : ℕ → Cursor → Result OpenedFile Cause
 opened_at size place = do
   found ← found_at size place
-  file_type ← needed ftyp found.0.ftyp
-  movie ← needed moov found.0.moov
-  unless (id_fault movie found.0.moofs) (Ok (opened_with found.0 file_type movie (found.1 - place.position)))
+  opened_from found.0 (found.1 - place.position)

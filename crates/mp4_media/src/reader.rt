@@ -3,6 +3,7 @@
 ghost use Rattle.std.specs.Prelude.{◌≡◌, ◌⊎◌, ◌<◌, length, Some, Ok, Err, option_map, option_copied, IfOk, IfErr, ◌↔◌, IsTrue};
 ghost use Rattle.mp4_codec.specs.Cause.{Cause, cause_of, Gives, Answers};
 ghost use Rattle.mp4_codec.specs.Cursor.{here};
+ghost use Rattle.mp4_boxes.specs.declared.moov.MoovBox.{MoovBox};
 ghost use Rattle.mp4_lookup.specs.declared.track.Mp4Track.{Mp4Track};
 ghost use Rattle.mp4_lookup.specs.Plain.{Consistent};
 ghost use Rattle.mp4_lookup.specs.Samples.{TimedSample, lent_sample, plain_sample_at, timed_sample};
@@ -10,9 +11,9 @@ ghost use Rattle.mp4_lookup.specs.Time.{time_of};
 ghost use Rattle.mp4_lookup.specs.Tracks.{tables_of, is_of_movie};
 ghost use Rattle.mp4_media.specs.FileBoxes.{OpenedFile, opened_file};
 ghost use Rattle.mp4_media.specs.FileGrammar.{IsFile, IsFaultyFile};
-ghost use Rattle.mp4_media.specs.MovieTracks.{AreTracks, at_id};
+ghost use Rattle.mp4_media.specs.MovieTracks.{AreTracks, HaveFirstSamples, at_id};
 ghost use Rattle.mp4_media.specs.Reading.{IsSample, ilst_of_movie, needed_track, sample_count_in, sample_in};
-ghost use Rattle.mp4_media.specs.Walk.{opened_at};
+ghost use Rattle.mp4_media.specs.Walk.{opened_at, opened_from};
 
 use crate::opening::{Found, find_boxes};
 use crate::tracks::tracks_of;
@@ -71,32 +72,31 @@ impl<'a> Drop for Mp4Reader<'a> {
     }
 }
 
-/// Opens a file: the answer is that of the walk over its boxes, and then of the ids of its tracks.
-#[tactic(auto, unfolding(crate::specs::Walk::opened_at))]
-fn open<'a>(alloc: Global, reader: ByteCursor<'a>, size: u64) -> Result<Mp4Reader<'a>>
-    ensures answer { Answers opened_file result (opened_at size reader.entry) }
-    ensures bytes { IfOk result (λ r. r.bytes.now ≡ reader.entry.bytes) }
+/// Opens a file of `size` bytes of which this was found.
+fn open_found<'a>(alloc: Global, found: Found, bytes: &'a [u8], size: u64) -> Result<Mp4Reader<'a>>
+    requires first_samples { (m : MoovBox) → found.moov ≡ Some m → HaveFirstSamples m.traks }
+    requires places { length found.moof_places ≡ length found.moofs }
+    ensures answer { Answers opened_file result (opened_from found size) }
+    ensures bytes { IfOk result (λ r. r.bytes.now ≡ bytes.now) }
     ensures tracks { IfOk result (λ r. AreTracks r.moov r.moofs r.moof_places r.tracks) }
 {
-    let mut reader = reader;
-    let start = reader.position();
     let Found {
         ftyp,
         moov,
         moofs,
         moof_places,
         emsgs,
-    } = find_boxes(alloc, &mut reader, size)?;
+    } = found;
     let ftyp = required(ftyp)?;
     let moov = required(moov)?;
     let mut opened = Mp4Reader {
-        bytes: reader.bytes(),
+        bytes,
         ftyp,
         moov,
         moofs,
         emsgs,
         moof_places,
-        size: reader.position() - start,
+        size,
         tracks: HashMap::new(alloc),
     };
     opened.tracks = tracks_of(
@@ -106,6 +106,19 @@ fn open<'a>(alloc: Global, reader: ByteCursor<'a>, size: u64) -> Result<Mp4Reade
         opened.moof_places.as_slice(),
     )?;
     Ok(opened)
+}
+
+/// Opens a file: the answer is that of the walk over its boxes, and then of the ids of its tracks.
+#[tactic(auto, unfolding(crate::specs::Walk::opened_at))]
+fn open<'a>(alloc: Global, reader: ByteCursor<'a>, size: u64) -> Result<Mp4Reader<'a>>
+    ensures answer { Answers opened_file result (opened_at size reader.entry) }
+    ensures bytes { IfOk result (λ r. r.bytes.now ≡ reader.entry.bytes) }
+    ensures tracks { IfOk result (λ r. AreTracks r.moov r.moofs r.moof_places r.tracks) }
+{
+    let mut reader = reader;
+    let start = reader.position();
+    let found = find_boxes(alloc, &mut reader, size)?;
+    open_found(alloc, found, reader.bytes(), reader.position() - start)
 }
 
 impl<'a> Mp4Reader<'a> {

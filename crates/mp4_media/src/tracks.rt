@@ -1,13 +1,13 @@
 //! The tracks of a movie that is opened, by their ids.
 
-ghost use Rattle.std.specs.Prelude.{◌≡◌, length, IfOk, IfErr};
+ghost use Rattle.std.specs.Prelude.{◌≡◌, ℕ, length, None, ◌==◌, if◌then◌else◌, IfOk, IfErr};
 ghost use Rattle.mp4_codec.specs.Cause.{Checks};
 ghost use Rattle.mp4_codec.specs.Boxes.{all_refusal};
 ghost use Rattle.mp4_table.specs.Stsc.{HasFirstSamples};
 ghost use Rattle.mp4_fragments.specs.Fragments.{placed_runs};
 ghost use Rattle.mp4_lookup.specs.TrackRuns.{track_runs};
 ghost use Rattle.mp4_lookup.specs.Tracks.{tables_of, movie_end};
-ghost use Rattle.mp4_media.specs.MovieTracks.{AreTracks, HaveFirstSamples, RefusedBy, default_duration, has_id, id_fault, unknown_id, unknown_ids, zero_id};
+ghost use Rattle.mp4_media.specs.MovieTracks.{AreTracks, HaveFirstSamples, RefusedBy, at_id, bases_at, default_duration, defaults_at, fragments_at, has_id, id_fault, movie_defaults, unknown_id, unknown_ids, zero_id};
 
 use crate::fragments::{
     bases_by_id, bases_with_id, defaults_by_id, fragments_by_id, track_defaults, trexs_of,
@@ -81,6 +81,58 @@ fn track_with(
     Ok(track)
 }
 
+/// The track of this box, with its fragments, which are taken from those that are kept for each track.
+fn taken_track(
+    alloc: Global,
+    trak: &TrakBox,
+    fragments: &mut HashMap<u32, Items<TrafBox>>,
+    bases: &HashMap<u32, Items<Option<u64>>>,
+    defaults: &HashMap<u32, SampleDefaults>,
+) -> Result<Mp4Track>
+    requires first_samples { HasFirstSamples (tables_of trak.now).stsc.entries }
+    requires bases { length (bases_at bases.now trak.now.tkhd.track_id) ≡ length (fragments_at fragments.old trak.now.tkhd.track_id) }
+    ensures memory { IfErr result (λ e. e ≡ Error.OutOfMemory) }
+    ensures trak { IfOk result (λ t. t.trak ≡ trak.now) }
+    ensures trafs { IfOk result (λ t. t.trafs ≡ fragments_at fragments.old trak.now.tkhd.track_id) }
+    ensures runs { IfOk result (λ t. track_runs t ≡ placed_runs (defaults_at defaults.now trak.now.tkhd.track_id) (movie_end trak.now) (fragments_at fragments.old trak.now.tkhd.track_id) (bases_at bases.now trak.now.tkhd.track_id)) }
+    ensures duration { IfOk result (λ t. t.default_sample_duration ≡ default_duration (fragments_at fragments.old trak.now.tkhd.track_id) (defaults_at defaults.now trak.now.tkhd.track_id)) }
+    ensures taken { (id : ℕ) → at_id fragments.new id ≡ (if trak.now.tkhd.track_id == id then None else at_id fragments.old id) }
+{
+    let id = trak.tkhd.track_id;
+    let trafs = fragments.remove(&id).unwrap_or(Items::new(alloc));
+    let of_movie = track_defaults(defaults, id);
+    track_with(alloc, trak, trafs, bases_with_id(bases, id), of_movie)
+}
+
+/// The tracks of a movie as `made_tracks` answers them, where these are the movie's defaults for samples of fragments.
+fn tracks_with_defaults(
+    alloc: Global,
+    moov: &MoovBox,
+    moofs: &[MoofBox],
+    places: &[u64],
+    defaults: &HashMap<u32, SampleDefaults>,
+) -> Result<HashMap<u32, Mp4Track>>
+    requires first_samples { HaveFirstSamples moov.now.traks }
+    requires places { length places.now ≡ length moofs.now }
+    requires defaults { (id : ℕ) → defaults_at defaults.now id ≡ movie_defaults moov.now id }
+    ensures memory { IfErr result (λ e. e ≡ Error.OutOfMemory) }
+    ensures tracks { IfOk result (λ m. AreTracks moov.now moofs.now places.now m) }
+{
+    let bases = bases_by_id(alloc, moofs, places, defaults)?;
+    let mut fragments = fragments_by_id(alloc, moofs)?;
+    let traks = moov.traks.as_slice();
+    let mut tracks = HashMap::new(alloc);
+    for index in (0..traks.len()).rev() {
+        let trak = &traks[index];
+        let id = trak.tkhd.track_id;
+        if !has_track(&tracks, id) {
+            let track = taken_track(alloc, trak, &mut fragments, &bases, defaults)?;
+            tracks.insert(id, track)?;
+        }
+    }
+    Ok(tracks)
+}
+
 /// The tracks of a movie by their ids, each with its fragments, which begin at these places; of equal ids the last.
 fn made_tracks(
     alloc: Global,
@@ -93,22 +145,8 @@ fn made_tracks(
     ensures memory { IfErr result (λ e. e ≡ Error.OutOfMemory) }
     ensures tracks { IfOk result (λ m. AreTracks moov.now moofs.now places.now m) }
 {
-    let mut fragments = fragments_by_id(alloc, moofs)?;
     let defaults = defaults_by_id(alloc, trexs_of(&moov.mvex))?;
-    let bases = bases_by_id(alloc, moofs, places, &defaults)?;
-    let traks = moov.traks.as_slice();
-    let mut tracks = HashMap::new(alloc);
-    for index in (0..traks.len()).rev() {
-        let trak = &traks[index];
-        let id = trak.tkhd.track_id;
-        if !has_track(&tracks, id) {
-            let trafs = fragments.remove(&id).unwrap_or(Items::new(alloc));
-            let of_movie = track_defaults(&defaults, id);
-            let track = track_with(alloc, trak, trafs, bases_with_id(&bases, id), of_movie)?;
-            tracks.insert(id, track)?;
-        }
-    }
-    Ok(tracks)
+    tracks_with_defaults(alloc, moov, moofs, places, &defaults)
 }
 
 /// The tracks of a movie by their ids, each with its fragments, which begin at these places; of equal ids the last. The
