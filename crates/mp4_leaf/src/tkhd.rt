@@ -11,8 +11,8 @@ use crate::fixed_point::{FixedPointU8, FixedPointU16};
 use crate::matrix::{Matrix, put_matrix, read_matrix};
 use crate::times::{Stamp, check_times, put_stamp, read_stamp};
 use mp4_codec::{
-    BoxType, Field, Fields, InRange, Mp4Box, Put, ReadBox, Result, TryClone, WriteBox, put_u16, put_u32,
-    put_versioned, put_zeros,
+    BoxType, Field, Fields, InRange, Mp4Box, Put, ReadBox, Result, TryClone, WriteBox, put_u16,
+    put_u32, put_versioned, put_zeros,
 };
 use std::alloc::Global;
 

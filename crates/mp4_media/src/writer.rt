@@ -83,12 +83,7 @@ fn push_track(tracks: &mut Vec<TrackWriter>, timescale: u32, config: &TrackConfi
 /// mdat says how many bytes it has then, and the movie box follows.
 ///
 /// Refused by `OutOfMemory` alone; then the buffer is as it was.
-fn add_end(
-    buffer: &mut Vec<u8>,
-    mdat: usize,
-    timescale: u32,
-    tracks: &[TrackWriter],
-) -> Result<()>
+fn add_end(buffer: &mut Vec<u8>, mdat: usize, timescale: u32, tracks: &[TrackWriter]) -> Result<()>
     requires mdat { mdat + 16 ≤ length buffer.old.items }
     requires few { length tracks.now < 2 ^ 32 }
     requires clocks { All (λ b. b.movie_timescale ≡ timescale) tracks.now }
@@ -281,11 +276,11 @@ impl Mp4Writer {
             front: _,
             mdat: _,
             config: _,
-            buffer,
+            buffer: bytes,
             tracks: _,
             written: _,
             ended: _,
         } = self;
-        buffer
+        bytes
     }
 }

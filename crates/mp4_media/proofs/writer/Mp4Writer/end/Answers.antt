@@ -34,7 +34,7 @@ add_end-requires-clause-written c =
     let b = (goal.at.add_end-requires-clause-written c).In_ok-check_end in
     let p = parts_of c.self.inside in
     rw c.deref.ensures.value (λ room. movie-written-kept p c.self.invariant (goes_on b)
-        (omega (arith, room, data_end-kept p c.self.invariant (goes_on b))) (open_cause b))
+    (omega (arith, room, data_end-kept p c.self.invariant (goes_on b))) (open_cause b))
 
 -- what is kept then
 at_end : (c : In_ok-add_end)
