@@ -4,7 +4,7 @@ ghost use Rattle.std.specs.Prelude.{◌≡◌, ℕ, ◌-◌, ◌^◌, ◌<◌, L
 ghost use Rattle.std.specs.Option.{option_map, option_and_then};
 ghost use Rattle.std.specs.List.{sum_by};
 ghost use Rattle.mp4_boxes.specs.declared.traf.TrafBox.{TrafBox};
-ghost use Rattle.mp4_search.specs.Search.{IsFew};
+ghost use Rattle.mp4_search.specs.Search.{IsFew, comparisons_in};
 ghost use Rattle.mp4_fragments.specs.Members.{PlacedRun, all_members};
 ghost use Rattle.mp4_fragments.specs.Index.{Find, Indexes, IsRight, member_in, placed_at, run_at, runs_of};
 
@@ -13,7 +13,7 @@ use crate::index::{RunEntry, RunIndex};
 use crate::members::{Member, nth_member};
 use mp4_boxes::TrafBox;
 use mp4_frag::TrunBox;
-use mp4_search::{Readings, last_at_most};
+use mp4_search::last_at_most;
 
 /// A member, and how many numbers were compared to find its run.
 #[derive(Clone, Copy, Debug, PartialEq, Eq)]
@@ -65,10 +65,12 @@ impl RunIndex {
         requires number { number < 2 ^ 32 - 1 }
         requires indexed { Indexes (run_at trafs.now track) (runs_of trafs.now track self.now) self.now }
         ensures member { option_map (λ x. x.member) result ≡ slice_get (all_members (runs_of trafs.now track self.now)) number }
+        ensures counted { IfSome result (λ x. x.comparisons ≡ comparisons_in self.now.counts number) }
         ensures comparisons { IfSome result (λ x. IsFew x.comparisons (length (runs_of trafs.now track self.now))) }
     {
-        let mut readings = Readings::new();
-        let Some(found) = last_at_most(&self.counts, number, &mut readings) else {
+        let (found, readings) = last_at_most(&self.counts, number);
+        let comparisons = readings.count();
+        let Some(found) = found else {
             return None;
         };
         let entry = &self.entries.as_slice()[found.index];
@@ -76,7 +78,7 @@ impl RunIndex {
             None => None,
             Some(member) => Some(FoundMember {
                 member,
-                comparisons: readings.count(),
+                comparisons,
             }),
         }
     }

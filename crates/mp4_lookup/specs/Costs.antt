@@ -1,20 +1,50 @@
--- How few numbers a lookup reads.
-use Rattle.std.specs.Prelude.{◌≡◌, ℕ, ◌<◌, ◌≤◌, List, length}
+-- How many numbers a lookup compares and reads, and how few they are.
+use Rattle.std.specs.Prelude.{◌≡◌, ℕ, ◌-◌, ◌<◌, ◌≤◌, List, length, if◌then◌else◌}
 use Rattle.std.specs.List.Sorted.{IsStrictlyIncreasing}
 use Rattle.mp4_boxes.specs.declared.stbl.StblBox.{StblBox}
+use Rattle.mp4_fragments.specs.declared.index.RunIndex.{RunIndex}
 use Rattle.mp4_fragments.specs.Members.{PlacedRun}
+use Rattle.mp4_lookup.specs.declared.index.TrackIndex.{TrackIndex}
 use Rattle.mp4_lookup.specs.declared.sample.Comparisons.{Comparisons}
+use Rattle.mp4_lookup.specs.declared.track.Mp4Track.{Mp4Track}
 use Rattle.mp4_lookup.specs.Tables.{ctts_runs, sync_numbers}
+use Rattle.mp4_lookup.specs.Tracks.{is_of_movie, tables_of}
 use Rattle.mp4_search.specs.Digits.{digits}
-use Rattle.mp4_search.specs.Search.{IsFew}
+use Rattle.mp4_search.specs.Search.{IsFew, comparisons_in}
 
--- In each table at most as many comparisons as the number of its entries has binary digits, in stss where it rises;
--- no run of a fragment is looked at.
+-- how many numbers of stss are compared with k: none where they don't strictly rise, since all are then looked at
+abbrev pub sync_comparisons : TrackIndex → ℕ → ℕ
+sync_comparisons index k = if index.sync_rises then comparisons_in index.sync_numbers k else 0
+
+-- how many numbers the lookup of sample k compares: those of one search in each table, and none elsewhere
+abbrev pub comparisons_at : TrackIndex → ℕ → Comparisons
+comparisons_at index k = record {
+  stsc = comparisons_in index.first_samples k;
+  stts = comparisons_in index.stts_counts (k - 1);
+  ctts = comparisons_in index.ctts_counts (k - 1);
+  stss = sync_comparisons index k;
+  runs = 0;
+}
+
+-- the same for the sample with this number among those that fragments add: those of one search in the runs
+abbrev pub comparisons_in_runs : RunIndex → ℕ → Comparisons
+comparisons_in_runs index number =
+    record { stsc = 0; stts = 0; ctts = 0; stss = 0; runs = comparisons_in index.counts number }
+
+-- how many numbers the lookup of sample k of a track compares
+unfoldable pub comparisons_of : Mp4Track → ℕ → Comparisons
+comparisons_of t k =
+    if is_of_movie t.trak t.trafs k then comparisons_at t.index k else
+    comparisons_in_runs t.runs (k - (tables_of t.trak).stsz.sample_count - 1)
+
+-- In each table at most as many comparisons as the number of its entries has binary digits, in stss where it strictly
+-- rises, and none there where it doesn't; no run of a fragment is looked at.
 pub record AreFew (t : StblBox) (c : Comparisons) : Type 0 where
   pub stsc : IsFew c.stsc (length t.stsc.entries)
   pub stts : IsFew c.stts (length t.stts.entries)
   pub ctts : IsFew c.ctts (length (ctts_runs t.ctts))
   pub stss : IsStrictlyIncreasing (sync_numbers t.stss) → IsFew c.stss (length (sync_numbers t.stss))
+  pub unsorted : (IsStrictlyIncreasing (sync_numbers t.stss) → ⊥) → c.stss ≡ 0
   pub runs : c.runs ≡ 0
 
 -- A sample that a fragment adds is found by a search in the runs alone: at least one comparison, and at most as many as the
@@ -27,7 +57,7 @@ pub record AreFewForMember (placed : List PlacedRun) (c : Comparisons) : Type 0 
   pub some_runs : 1 ≤ c.runs
   pub runs : c.runs ≤ digits (length placed)
 
--- no running size is read where all samples have one size, else 1 to 3
+-- no running size is read where all samples have one size, else two are
 pub record AreFewSizeReads (t : StblBox) (reads : ℕ) : Type 0 where
   pub one_size : 0 < t.stsz.sample_size → reads ≡ 0
-  pub listed : t.stsz.sample_size ≡ 0 → (1 ≤ reads) × (reads ≤ 3)
+  pub listed : t.stsz.sample_size ≡ 0 → reads ≡ 2

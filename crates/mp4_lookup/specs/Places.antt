@@ -2,8 +2,9 @@
 use Rattle.std.specs.Prelude.{ℕ, ℤ, Bool}
 use Rattle.mp4_lookup.specs.declared.sample.SamplePlace.{SamplePlace}
 
--- what the tables say of a sample: the place of its first byte in the file, its size, the sum of the durations before
--- it, its own, how many ticks later than it is decoded it is shown, and whether it is a sync sample
+-- what the tables say of a sample: the place of its first byte in the file, its size, when it is decoded (when those
+-- before it have lasted, counted from the last decode time of a fragment, where there is one), how long it lasts, how many
+-- ticks later than it is decoded it is shown, and whether it is a sync sample
 pub record Place : Type 0 where
   pub offset : ℕ
   pub size : ℕ

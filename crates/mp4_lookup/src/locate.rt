@@ -5,7 +5,7 @@ ghost use Rattle.mp4_codec.specs.Cause.{Gives};
 ghost use Rattle.mp4_table.specs.Stsc.{HasFirstSamples};
 ghost use Rattle.mp4_lookup.specs.Places.{place_of};
 ghost use Rattle.mp4_lookup.specs.Index.{IsIndexOf};
-ghost use Rattle.mp4_lookup.specs.Costs.{AreFew, AreFewSizeReads};
+ghost use Rattle.mp4_lookup.specs.Costs.{AreFew, AreFewSizeReads, comparisons_at};
 ghost use Rattle.mp4_lookup.specs.Rule.{rule};
 
 use crate::index::{TrackIndex, runs_of_ctts};
@@ -26,6 +26,7 @@ pub fn place_at(
     requires firsts { HasFirstSamples stbl.now.stsc.entries }
     requires index { IsIndexOf stbl.now index.now }
     ensures rule { Gives (λ p. option_map place_of p) result (rule stbl.now track_id k) }
+    ensures counted { IfOk result (λ p. IfSome p (λ p. p.comparisons ≡ comparisons_at index.now k)) }
     ensures comparisons { IfOk result (λ p. IfSome p (λ p. AreFew stbl.now p.comparisons)) }
     ensures size_reads { IfOk result (λ p. IfSome p (λ p. AreFewSizeReads stbl.now p.size_reads)) }
 {

@@ -6,7 +6,7 @@ ghost use Rattle.mp4_codec.specs.Cause.{Gives};
 ghost use Rattle.mp4_fragments.specs.Members.{all_members};
 ghost use Rattle.mp4_lookup.specs.Places.{place_of};
 ghost use Rattle.mp4_lookup.specs.Plain.{Consistent, plain_at};
-ghost use Rattle.mp4_lookup.specs.Costs.{AreFew, AreFewForMember, AreFewSizeReads};
+ghost use Rattle.mp4_lookup.specs.Costs.{AreFew, AreFewForMember, AreFewSizeReads, comparisons_in_runs, comparisons_of};
 ghost use Rattle.mp4_lookup.specs.Tracks.{tables_of, is_of_movie, member_place, answer_at};
 ghost use Rattle.mp4_lookup.specs.TrackRuns.{track_runs};
 
@@ -29,6 +29,7 @@ impl Mp4Track {
     pub fn locate(&self, k: u32) -> Result<Option<SamplePlace>>
         ensures rule { Gives (λ p. option_map place_of p) result (answer_at self.now.trak self.now.trafs (track_runs self.now) k) }
         ensures plain { IsTrue (is_of_movie self.now.trak self.now.trafs k) → Consistent (tables_of self.now.trak) → Gives (λ p. option_map place_of p) result (plain_at (tables_of self.now.trak) k) }
+        ensures counted { IfOk result (λ p. IfSome p (λ p. p.comparisons ≡ comparisons_of self.now k)) }
         ensures comparisons { IsTrue (is_of_movie self.now.trak self.now.trafs k) → IfOk result (λ p. IfSome p (λ p. AreFew (tables_of self.now.trak) p.comparisons)) }
         ensures size_reads { IsTrue (is_of_movie self.now.trak self.now.trafs k) → IfOk result (λ p. IfSome p (λ p. AreFewSizeReads (tables_of self.now.trak) p.size_reads)) }
         ensures added { is_of_movie self.now.trak self.now.trafs k ≡ false → IfOk result (λ p. IfSome p (λ p. AreFewForMember (track_runs self.now) p.comparisons × (p.size_reads ≡ 0))) }
@@ -37,9 +38,10 @@ impl Mp4Track {
     }
 
     /// The answer of `locate`.
-    #[tactic(auto, unfolding(crate::specs::Tracks::answer_at))]
+    #[tactic(auto, unfolding(crate::specs::Tracks::answer_at, crate::specs::Costs::comparisons_of))]
     fn answer(&self, k: u32) -> Result<Option<SamplePlace>>
         ensures rule { Gives (λ p. option_map place_of p) result (answer_at self.now.trak self.now.trafs (track_runs self.now) k) }
+        ensures counted { IfOk result (λ p. IfSome p (λ p. p.comparisons ≡ comparisons_of self.now k)) }
         ensures comparisons { IsTrue (is_of_movie self.now.trak self.now.trafs k) → IfOk result (λ p. IfSome p (λ p. AreFew (tables_of self.now.trak) p.comparisons)) }
         ensures size_reads { IsTrue (is_of_movie self.now.trak self.now.trafs k) → IfOk result (λ p. IfSome p (λ p. AreFewSizeReads (tables_of self.now.trak) p.size_reads)) }
         ensures added { is_of_movie self.now.trak self.now.trafs k ≡ false → IfOk result (λ p. IfSome p (λ p. AreFewForMember (track_runs self.now) p.comparisons × (p.size_reads ≡ 0))) }
@@ -56,6 +58,7 @@ impl Mp4Track {
     fn added_at(&self, number: u32) -> Result<Option<SamplePlace>>
         requires { number < 2 ^ 32 - 1 }
         ensures rule { Gives (λ p. option_map place_of p) result (member_place (slice_get (all_members (track_runs self.now)) number)) }
+        ensures counted { IfOk result (λ p. IfSome p (λ p. p.comparisons ≡ comparisons_in_runs self.now.runs number)) }
         ensures comparisons { IfOk result (λ p. IfSome p (λ p. AreFewForMember (track_runs self.now) p.comparisons)) }
         ensures size_reads { IfOk result (λ p. IfSome p (λ p. p.size_reads ≡ 0)) }
     {

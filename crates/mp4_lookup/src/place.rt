@@ -4,7 +4,7 @@
 ghost use Rattle.std.specs.Prelude.{◌≡◌, ℕ, ◌+◌, ◌-◌, ◌<◌, ◌≤◌, map, length, sum, slice_get, slice_range, option_map, IfOk, IfSome, OnOk};
 ghost use Rattle.mp4_codec.specs.Cause.{Gives};
 ghost use Rattle.mp4_table.specs.Stsc.{HasFirstSamples};
-ghost use Rattle.mp4_search.specs.Search.{IsFew};
+ghost use Rattle.mp4_search.specs.Search.{IsFew, comparisons_in};
 ghost use Rattle.mp4_search.specs.Sums.{SumsBefore};
 ghost use Rattle.mp4_lookup.specs.Tables.{chunk_offsets, sizes};
 ghost use Rattle.mp4_lookup.specs.Index.{IsIndexOf};
@@ -14,7 +14,7 @@ ghost use Rattle.mp4_lookup.specs.Rule.{entry_for, chunk_for, within_64_bits, sp
 use crate::index::TrackIndex;
 use mp4_boxes::StblBox;
 use mp4_codec::{Error, Result};
-use mp4_search::{Readings, RunningSizes, SearchedNumbers, last_at_most};
+use mp4_search::{RunningSizes, SearchedNumbers, last_at_most};
 use mp4_table::{StscEntry, StszBox};
 
 /// Where a sample lies, and what it cost to find it.
@@ -38,20 +38,22 @@ fn entry_at(
     ensures entry { Gives (λ x. x.0) result (entry_for entries.now k) }
     ensures counts { OnOk result (1 ≤ k) }
     ensures usable { IfOk result (λ x. (1 ≤ x.0.first_sample) × (x.0.first_sample ≤ k) × (1 ≤ x.0.samples_per_chunk)) }
+    ensures counted { IfOk result (λ x. x.1 ≡ comparisons_in first_samples.now k) }
     ensures few { IfOk result (λ x. IsFew x.1 (length entries.now)) }
 {
     if k == 0 {
         return Err(Error::InvalidData("samples are numbered from 1"));
     }
-    let mut readings = Readings::new();
-    let Some(found) = last_at_most(first_samples, k, &mut readings) else {
+    let (found, readings) = last_at_most(first_samples, k);
+    let comparisons = readings.count();
+    let Some(found) = found else {
         return Err(Error::InvalidData("stsc has no entry for the sample"));
     };
     let entry = entries[found.index];
     if entry.samples_per_chunk == 0 {
         return Err(Error::InvalidData("stsc has a chunk of no samples"));
     }
-    Ok((entry, readings.count()))
+    Ok((entry, comparisons))
 }
 
 /// The chunk of sample `k`, which counts from 1.
@@ -108,15 +110,13 @@ fn size_between(stsz: &StszBox, sums: &RunningSizes, first: u32, k: u32) -> (u12
     requires sums { SumsBefore (λ s. s) stsz.now.sample_sizes sums.now }
     ensures sum { result.0 ≡ sum (slice_range (sizes stsz.now k) (first - 1) (k - 1)) }
     ensures one_size { 0 < stsz.now.sample_size → result.1 ≡ 0 }
-    ensures listed { stsz.now.sample_size ≡ 0 → (1 ≤ result.1) × (result.1 ≤ 3) }
+    ensures listed { stsz.now.sample_size ≡ 0 → result.1 ≡ 2 }
 {
     if stsz.sample_size > 0 {
         return (u128::from(k - first) * u128::from(stsz.sample_size), 0);
     }
-    let mut readings = Readings::new();
-    let upto = sums.read(k as usize - 1, &mut readings);
-    let from = sums.read(first as usize - 1, &mut readings);
-    (upto - from, readings.count())
+    let (sum, readings) = sums.between(first as usize - 1, k as usize - 1);
+    (sum, readings.count())
 }
 
 /// A place, if it is within 64 bits: so many bytes behind the beginning of a chunk.
@@ -170,6 +170,7 @@ pub fn spot_at(stbl: &StblBox, index: &TrackIndex, k: u32) -> Result<Option<Spot
     requires index { IsIndexOf stbl.now index.now }
     ensures spot { Gives (λ s. option_map (λ s. (s.offset, s.size)) s) result (spot_at stbl.now k) }
     ensures counts { OnOk result (1 ≤ k) }
+    ensures counted { IfOk result (λ s. IfSome s (λ s. s.comparisons ≡ comparisons_in index.now.first_samples k)) }
     ensures few { IfOk result (λ s. IfSome s (λ s. IsFew s.comparisons (length stbl.now.stsc.entries))) }
     ensures size_reads { IfOk result (λ s. IfSome s (λ s. AreFewSizeReads stbl.now s.size_reads)) }
 {

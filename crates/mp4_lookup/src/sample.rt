@@ -7,7 +7,8 @@ use bytes::Bytes;
 /// Times are in ticks of the track's timescale.
 #[derive(Debug, PartialEq, Eq, Drop)]
 pub struct Mp4Sample {
-    /// When it is decoded: the sum of the durations before it.
+    /// When it is decoded: when the samples before it have lasted, counted from the last decode time of a fragment
+    /// (`tfdt`), where there is one.
     pub start_time: u64,
     /// How long it lasts, until the next is decoded.
     pub duration: u32,
@@ -24,7 +25,8 @@ pub struct Mp4Sample {
 /// Times are in ticks of the track's timescale.
 #[derive(Debug, Clone, Copy, PartialEq, Eq)]
 pub struct SampleRef<'a> {
-    /// When it is decoded: the sum of the durations before it.
+    /// When it is decoded: when the samples before it have lasted, counted from the last decode time of a fragment
+    /// (`tfdt`), where there is one.
     pub start_time: u64,
     /// How long it lasts, until the next is decoded.
     pub duration: u32,
@@ -45,7 +47,8 @@ pub struct SamplePlace {
     pub offset: u64,
     /// How many bytes it has.
     pub size: u32,
-    /// When it is decoded: the sum of the durations before it.
+    /// When it is decoded: when the samples before it have lasted, counted from the last decode time of a fragment
+    /// (`tfdt`), where there is one.
     pub start_time: u64,
     /// How long it lasts, until the next is decoded.
     pub duration: u32,
@@ -55,7 +58,7 @@ pub struct SamplePlace {
     pub is_sync: bool,
     /// How many numbers were compared in each table.
     pub comparisons: Comparisons,
-    /// How many running sums of sizes were read: none where all samples have one size.
+    /// How many running sums of sizes were read: none where all samples have one size, else 2.
     pub size_reads: u32,
 }
 
@@ -68,7 +71,7 @@ pub struct Comparisons {
     pub stts: u32,
     /// Running counts of ctts.
     pub ctts: u32,
-    /// Numbers of stss; 0 where they don't rise, since all are then looked at.
+    /// Numbers of stss; 0 where they don't strictly rise, since all are then looked at.
     pub stss: u32,
     /// Running counts of the runs of fragments, 0 for a sample of the movie box.
     pub runs: u32,

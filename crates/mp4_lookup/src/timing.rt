@@ -1,20 +1,21 @@
 //! When a sample is decoded and shown, and whether it is a sync sample (ISO/IEC 14496-12, 8.6.1 and 8.6.2).
 
-ghost use Rattle.std.specs.Prelude.{◌≡◌, ℕ, ◌+◌, ◌-◌, ◌<◌, ◌≤◌, pos, length, get_or, IfOk, IsTrue, ◌==◌, ◌↔◌};
+ghost use Rattle.std.specs.Prelude.{◌≡◌, ℕ, ◌+◌, ◌-◌, ◌<◌, ◌≤◌, pos, length, get_or, IfOk, IsTrue, ◌==◌, ◌↔◌, if◌then◌else◌};
 ghost use Rattle.std.specs.List.{list_any};
 ghost use Rattle.std.specs.List.Sorted.{IsStrictlyIncreasing};
 ghost use Rattle.mp4_codec.specs.Cause.{Gives};
 ghost use Rattle.mp4_table.specs.Runs.{durations, rendering_offsets};
 ghost use Rattle.mp4_table.specs.Starts.{start_of};
-ghost use Rattle.mp4_search.specs.Search.{IsFew};
+ghost use Rattle.mp4_search.specs.Search.{IsFew, comparisons_in};
 ghost use Rattle.mp4_search.specs.Sums.{CountsBefore};
+ghost use Rattle.mp4_lookup.specs.Costs.{sync_comparisons};
 ghost use Rattle.mp4_lookup.specs.Sums.{TimesBefore};
 ghost use Rattle.mp4_lookup.specs.Tables.{is_sync_at, sync_numbers};
 ghost use Rattle.mp4_lookup.specs.Rule.{time_at};
 
 use crate::index::TrackIndex;
 use mp4_codec::{BoxType, Error, Result};
-use mp4_search::{Readings, SearchedNumbers, last_at_most};
+use mp4_search::{SearchedNumbers, last_at_most};
 use mp4_table::{CttsEntry, StssBox, SttsEntry};
 
 /// When so many samples of these runs have lasted, or all, where there are fewer.
@@ -44,10 +45,12 @@ pub fn time_at(
     requires first { 1 ≤ k }
     requires sums { TimesBefore runs.now counts.now times.now }
     ensures time { Gives (λ t. (t.0, t.1)) result (time_at runs.now track_id k) }
+    ensures counted { IfOk result (λ t. t.2 ≡ comparisons_in counts.now (k - 1)) }
     ensures few { IfOk result (λ t. IsFew t.2 (length runs.now)) }
 {
-    let mut readings = Readings::new();
-    let Some(found) = last_at_most(counts, k - 1, &mut readings) else {
+    let (found, readings) = last_at_most(counts, k - 1);
+    let comparisons = readings.count();
+    let Some(found) = found else {
         return Err(Error::EntryInStblNotFound(track_id, BoxType::SttsBox, k));
     };
     let run = runs[found.index];
@@ -56,7 +59,7 @@ pub fn time_at(
         return Err(Error::EntryInStblNotFound(track_id, BoxType::SttsBox, k));
     }
     let start = times[found.index] + u128::from(further) * u128::from(run.sample_delta);
-    Ok((run.sample_delta, start as u64, readings.count()))
+    Ok((run.sample_delta, start as u64, comparisons))
 }
 
 /// How much later than it is decoded sample `k` is shown, and how many comparisons found it: 0 past the
@@ -65,35 +68,39 @@ pub fn rendering_offset_at(runs: &[CttsEntry], counts: &SearchedNumbers, k: u32)
     requires first { 1 ≤ k }
     requires sums { CountsBefore (λ r. r.sample_count) runs.now counts.now }
     ensures value { result.0 ≡ get_or (rendering_offsets runs.now) (k - 1) (pos 0) }
+    ensures counted { result.1 ≡ comparisons_in counts.now (k - 1) }
     ensures few { IsFew result.1 (length runs.now) }
 {
-    let mut readings = Readings::new();
-    let Some(found) = last_at_most(counts, k - 1, &mut readings) else {
-        return (0, readings.count());
+    let (found, readings) = last_at_most(counts, k - 1);
+    let comparisons = readings.count();
+    let Some(found) = found else {
+        return (0, comparisons);
     };
     let run = runs[found.index];
     let further = k - 1 - found.number;
     if further >= run.sample_count {
-        return (0, readings.count());
+        return (0, comparisons);
     }
-    (run.sample_offset, readings.count())
+    (run.sample_offset, comparisons)
 }
 
-/// Whether the numbers contain `k`, and how many comparisons showed it. Numbers that don't rise are all
-/// looked at.
+/// Whether the numbers contain `k`, and how many comparisons showed it. Numbers that don't
+/// strictly rise are all looked at, and count as no comparison.
 fn contains(numbers: &[u32], rises: bool, searched: &SearchedNumbers, k: u32) -> (bool, u32)
     requires rises { IsTrue rises → IsStrictlyIncreasing numbers.now }
     requires same { searched.now ≡ numbers.now }
     ensures value { result.0 ≡ list_any (λ n. n == k) numbers.now }
+    ensures counted { result.1 ≡ (if rises then comparisons_in searched.now k else 0) }
     ensures few { IsTrue rises → IsFew result.1 (length numbers.now) }
 {
     if !rises {
         return (numbers.contains(&k), 0);
     }
-    let mut readings = Readings::new();
-    match last_at_most(searched, k, &mut readings) {
-        None => (false, readings.count()),
-        Some(found) => (found.number == k, readings.count()),
+    let (found, readings) = last_at_most(searched, k);
+    let comparisons = readings.count();
+    match found {
+        None => (false, comparisons),
+        Some(found) => (found.number == k, comparisons),
     }
 }
 
@@ -102,6 +109,7 @@ pub fn is_sync(stss: &Option<StssBox>, index: &TrackIndex, k: u32) -> (bool, u32
     requires rises { IsTrue index.now.sync_rises ↔ IsStrictlyIncreasing (sync_numbers stss.now) }
     requires sync { index.now.sync_numbers ≡ sync_numbers stss.now }
     ensures value { result.0 ≡ is_sync_at stss.now k }
+    ensures counted { result.1 ≡ sync_comparisons index.now k }
     ensures few { IsStrictlyIncreasing (sync_numbers stss.now) → IsFew result.1 (length (sync_numbers stss.now)) }
 {
     match stss {

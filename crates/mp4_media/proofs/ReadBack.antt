@@ -366,7 +366,7 @@ module _ (session : Session) (empty : session.front ≡ []) (e : IsEnded session
       subst (λ (f : OpenedFile). AreTracks f.moov f.moofs f.moof_places r.tracks) (sym same) o.tracks in
       subst (HasExactly r) (session_accepts session e.answered)
       (exactly st (session_written session e) (subst (λ (bytes : List ℕ). length bytes < 2 ^ 64) is fits) r
-      (o.holds ∙ is) tracks)
+      (o.bytes ∙ is) tracks)
   read_back (Err error) o = wanted_memory finished error (o.opens finished is_file)
 
 -- A track of an opened file that no fragment names.

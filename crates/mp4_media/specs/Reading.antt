@@ -8,9 +8,11 @@ use Rattle.mp4_boxes.specs.declared.meta.MetaBox.TheVariants.{Mdir, Unknown}
 use Rattle.mp4_boxes.specs.declared.udta.UdtaBox.{UdtaBox}
 use Rattle.mp4_boxes.specs.declared.moov.MoovBox.{MoovBox}
 use Rattle.mp4_lookup.specs.declared.track.Mp4Track.{Mp4Track}
+use Rattle.mp4_lookup.specs.Places.{Place}
 use Rattle.mp4_lookup.specs.Rates.{sample_count_of}
 use Rattle.mp4_lookup.specs.Samples.{TimedSample, sample_at}
 use Rattle.mp4_lookup.specs.TrackRuns.{track_runs}
+use Rattle.mp4_lookup.specs.Tracks.{answer_at}
 use Rattle.mp4_media.specs.MovieTracks.{at_id}
 
 abbrev pub ilst_of_meta : Option MetaBox → Option IlstBox
@@ -39,6 +41,10 @@ module _ {S : Type 0} where
   -- the track with this id, which has to be there
   abbrev pub needed_track : HashMap ℕ Mp4Track S → ℕ → Result Mp4Track Cause
   needed_track tracks id = track_or id (at_id tracks id)
+
+  -- where number k of the track with this id lies
+  unfoldable pub located_in : HashMap ℕ Mp4Track S → ℕ → ℕ → Result (Option Place) Cause
+  located_in tracks id k = needed_track tracks id >>= λ t. answer_at t.trak t.trafs (track_runs t) k
 
   -- what is read at number k of the track with this id
   unfoldable pub sample_in : List ℕ → HashMap ℕ Mp4Track S → ℕ → ℕ → Result (Option TimedSample) Cause

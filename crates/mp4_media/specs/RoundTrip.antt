@@ -1,30 +1,32 @@
 -- What the library promises above all: what is written is read back, and what is found in any file is what its tables
 -- say (ISO/IEC 14496-12, 8.3.2, 8.6 and 8.7).
-use Rattle.std.specs.Prelude.{◌≡◌, ℕ, zero, suc, ◌<◌, ◌^◌, List, [], ◌∷◌, length, slice_get, option_map, Option, Some}
-use Rattle.std.specs.Prelude.{Result, Ok, Err, IfOk, IfSome, IsSomeAnd}
+use Rattle.std.specs.Prelude.{◌≡◌, ◌⊎◌, ℕ, zero, suc, ◌<◌, ◌^◌, List, [], ◌∷◌, length, slice_get, option_map, Option, Some}
+use Rattle.std.specs.Prelude.{Result, Ok, Err, IfErr, IfOk, IfSome, IsSomeAnd, IsTrue, false}
 use Rattle.mp4_codec.specs.declared.error.Error.{Error}
 use Rattle.mp4_codec.specs.declared.error.Error.TheVariants.{OutOfMemory}
-use Rattle.mp4_codec.specs.Cause.{Cause, invalid_data, trak_not_found, Gives, Answers, ◌>>=◌}
+use Rattle.mp4_codec.specs.Cause.{Cause, invalid_data, trak_not_found, cause_of, Gives, Answers, ◌>>=◌}
 use Rattle.mp4_codec.specs.Cursor.{Cursor, here}
 use Rattle.mp4_entry.specs.Config.{media_type_in}
 use Rattle.mp4_entry.specs.TrackType.{track_type_of}
 use Rattle.mp4_boxes.specs.declared.stbl.StblBox.{StblBox}
 use Rattle.mp4_boxes.specs.declared.trak.TrakBox.{TrakBox}
 use Rattle.mp4_lookup.specs.declared.sample.SamplePlace.{SamplePlace}
-use Rattle.mp4_lookup.specs.Costs.{AreFew, AreFewSizeReads}
+use Rattle.mp4_lookup.specs.declared.track.Mp4Track.{Mp4Track}
+use Rattle.mp4_lookup.specs.Costs.{AreFew, AreFewForMember, AreFewSizeReads}
 use Rattle.mp4_lookup.specs.Kind.{media_type_of}
 use Rattle.mp4_lookup.specs.Places.{place_of}
 use Rattle.mp4_lookup.specs.Plain.{Consistent, plain_at}
 use Rattle.mp4_lookup.specs.Samples.{Sample, TimedSample, timed, timed_sample, plain_sample_at}
-use Rattle.mp4_lookup.specs.Tracks.{tables_of}
+use Rattle.mp4_lookup.specs.TrackRuns.{track_runs}
+use Rattle.mp4_lookup.specs.Tracks.{tables_of, is_of_movie}
 use Rattle.mp4_mux.specs.declared.config.TrackConfig.{TrackConfig}
 use Rattle.mp4_mux.specs.Writing.{AcceptedTrack}
 use Rattle.mp4_media.specs.declared.reader.Mp4Reader.{Mp4Reader}
 use Rattle.mp4_media.specs.declared.round_trip.FoundSample.{FoundSample}
 use Rattle.mp4_media.specs.FileBoxes.{OpenedFile, opened_file}
-use Rattle.mp4_media.specs.FileGrammar.{IsFile}
+use Rattle.mp4_media.specs.FileGrammar.{IsFile, IsFaultyFile}
 use Rattle.mp4_media.specs.MovieTracks.{trak_with_id, trafs_in, trafs_of, at_id, AreTracks}
-use Rattle.mp4_media.specs.Reading.{track_or, sample_in, sample_count_in}
+use Rattle.mp4_media.specs.Reading.{track_or, located_in, sample_in, sample_count_in}
 
 -- The first half: what is written is read back.
 
@@ -70,11 +72,22 @@ pub record HasExactly (movie : Mp4Reader) (accepted : List AcceptedTrack) : Type
   pub samples : (id k : ℕ) → k < 2 ^ 32 → sample_read movie id k ≡ accepted_sample accepted id k
   pub counts : (id : ℕ) → samples_counted movie id ≡ accepted_count accepted id
 
--- what `read_mp4` answers of these bytes, as its contract says
-pub record IsOpening (bytes : List ℕ) (result : Result Mp4Reader Error) : Type 0 where
-  pub opens : (opened : OpenedFile) → IsFile (length bytes) (here bytes 0) opened → Answers opened_file result (Ok opened)
-  pub holds : IfOk result (λ movie. movie.bytes.now ≡ bytes)
-  pub tracks : IfOk result (λ movie. AreTracks movie.moov movie.moofs movie.moof_places movie.tracks)
+-- What a call answers that opens the file of so many bytes which begins here, as `read_header` does and as its contract
+-- says: where these bytes are a file it is what they hold, where they have a fault it is the first; or memory ran out.
+-- The movie of what it answers is seen by `movie_in`.
+pub record IsOpeningBy {X : Type 0} (movie_in : X → Mp4Reader) (size : ℕ) (start : Cursor) (result : Result X Error)
+    : Type 0 where
+  pub file : IfOk result (λ x. IsFile size start (opened_file (movie_in x)))
+  pub opens : (opened : OpenedFile) → IsFile size start opened → Answers (λ x. opened_file (movie_in x)) result (Ok opened)
+  pub fault : IfErr result (λ e. (e ≡ OutOfMemory) ⊎ IsFaultyFile size start (cause_of e))
+  pub refused : (c : Cause) → IsFaultyFile size start c → Answers (λ x. opened_file (movie_in x)) result (Err c)
+  pub bytes : IfOk result (λ x. (movie_in x).bytes.now ≡ start.bytes)
+  pub tracks : IfOk result (λ x. AreTracks (movie_in x).moov (movie_in x).moofs (movie_in x).moof_places
+      (movie_in x).tracks)
+
+-- what `read_mp4` answers of these bytes
+abbrev pub IsOpening : List ℕ → Result Mp4Reader Error → Type 0
+IsOpening bytes result = IsOpeningBy (λ movie. movie) (length bytes) (here bytes 0) result
 
 -- bytes open, or memory ran out; where they open, this holds of the movie
 abbrev pub OpensAs : (Mp4Reader → Type 0) → Result Mp4Reader Error → Type 0
@@ -100,6 +113,20 @@ pub record IsPlace (t : StblBox) (k : ℕ) (place : Result (Option SamplePlace) 
 pub record IsFoundAt (file : List ℕ) (t : StblBox) (k : ℕ) (found : FoundSample) : Type 0 where
   pub place : IsPlace t k found.place
   pub sample : Answers (λ s. option_map timed_sample s) found.sample (plain_sample_at file t k)
+
+-- What a lookup cost in this track: a sample of the movie box few comparisons in each table and few readings of running
+-- sizes, one that a fragment adds few comparisons of runs.
+pub record IsCheap (t : Mp4Track) (k : ℕ) (place : Result (Option SamplePlace) Error) : Type 0 where
+  pub of_movie : IsTrue (is_of_movie t.trak t.trafs k)
+      → IfOk place (λ p. IfSome p (λ p. AreFew (tables_of t.trak) p.comparisons
+      × AreFewSizeReads (tables_of t.trak) p.size_reads))
+  pub added : is_of_movie t.trak t.trafs k ≡ false
+      → IfOk place (λ p. IfSome p (λ p. AreFewForMember (track_runs t) p.comparisons × (p.size_reads ≡ 0)))
+
+-- The place at number k of the track with this id, whatever its tables and its fragments say, and what it cost.
+pub record IsLocated (movie : Mp4Reader) (id k : ℕ) (place : Result (Option SamplePlace) Error) : Type 0 where
+  pub rule : Gives (λ p. option_map place_of p) place (located_in movie.tracks id k)
+  pub cost : (t : Mp4Track) → at_id movie.tracks id ≡ Some t → IsCheap t k place
 
 -- memory ran out before the sample was looked for, or it is found
 abbrev pub LooksUp : List ℕ → StblBox → ℕ → Result FoundSample Error → Type 0

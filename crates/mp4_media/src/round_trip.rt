@@ -1,22 +1,24 @@
 //! What the library promises above all, as the contract of one call: what is written is read back, and what is found in
 //! any file is what its tables say.
 
-ghost use Rattle.std.specs.Prelude.{◌≡◌, ◌⊎◌, true, [], IfErr, IfOk, IsTrue, Some, length};
-ghost use Rattle.mp4_codec.specs.Cause.{cause_of};
+ghost use Rattle.std.specs.Prelude.{◌≡◌, true, [], option_map, IfOk, IsTrue, Some};
+ghost use Rattle.mp4_codec.specs.Cause.{Answers, AnswersCause};
 ghost use Rattle.mp4_codec.specs.Cursor.{here};
 ghost use Rattle.mp4_lookup.specs.declared.track.Mp4Track.{Mp4Track};
 ghost use Rattle.mp4_lookup.specs.Plain.{Consistent};
+ghost use Rattle.mp4_lookup.specs.Samples.{timed_sample};
 ghost use Rattle.mp4_lookup.specs.Tracks.{tables_of, is_of_movie};
 ghost use Rattle.mp4_mux.specs.Calls.{Answered, accepted_after, after, has_end};
 ghost use Rattle.mp4_mux.specs.Writing.{start_cause, started, whole_of};
 ghost use Rattle.mp4_media.specs.MovieTracks.{at_id};
-ghost use Rattle.mp4_media.specs.RoundTrip.{LooksUpInEachFile, HasExactly, IsPlace, OpensAs};
+ghost use Rattle.mp4_media.specs.Reading.{sample_in};
+ghost use Rattle.mp4_media.specs.RoundTrip.{LooksUpInEachFile, HasExactly, IsLocated, IsOpening, IsOpeningBy, IsPlace, OpensAs};
 ghost use Rattle.mp4_media.specs.WriterCalls.{calls_of};
 
 use crate::calls::WriterCall;
 use crate::reader::{Mp4Reader, read_mp4};
 use crate::writer::Mp4Writer;
-use mp4_codec::{ByteCursor, Error, Result};
+use mp4_codec::{ByteCursor, Result};
 use mp4_lookup::{Mp4Sample, SamplePlace};
 use mp4_mux::Mp4Config;
 use std::alloc::Global;
@@ -61,7 +63,9 @@ pub struct RoundTrip<'w, 'f> {
 }
 
 /// Where a sample of an opened movie lies.
+#[tactic(auto, unfolding(crate::specs::Reading::located_in))]
 fn place_in(movie: &Mp4Reader, track_id: u32, number: u32) -> Result<Option<SamplePlace>>
+    ensures located { IsLocated movie.now track_id number result }
     ensures plain { (t : Mp4Track) → at_id movie.now.tracks track_id ≡ Some t → IsTrue (is_of_movie t.trak t.trafs number) → Consistent (tables_of t.trak) → IsPlace (tables_of t.trak) number result }
 {
     movie.track(track_id)?.locate(number)
@@ -71,6 +75,9 @@ fn place_in(movie: &Mp4Reader, track_id: u32, number: u32) -> Result<Option<Samp
 /// [`Mp4Reader::read_sample`] do.
 pub fn find_sample<'f>(alloc: Global, query: &SampleQuery<'f>) -> Result<FoundSample<'f>>
     ensures found { LooksUpInEachFile query.now.size (here query.now.bytes.now query.now.start) query.now.track_id query.now.number result }
+    ensures opened { IsOpeningBy (λ found. found.movie) query.now.size (here query.now.bytes.now query.now.start) result }
+    ensures place { IfOk result (λ found. IsLocated found.movie query.now.track_id query.now.number found.place) }
+    ensures sample { IfOk result (λ found. Answers (λ s. option_map timed_sample s) found.sample (sample_in query.now.bytes.now found.movie.tracks query.now.track_id query.now.number)) }
 {
     let mut file = ByteCursor::new(query.bytes);
     file.set_position(query.start);
@@ -105,8 +112,9 @@ pub fn write_and_read<'w, 'f>(
     ensures replies { IfOk result (λ r. Answered (calls_of calls.now) r.replies.items (started [] config.now)) }
     ensures bytes { IfOk result (λ r. r.bytes.now ≡ whole_of (after (calls_of calls.now) r.replies.items (started [] config.now))) }
     ensures read_back { IfOk result (λ r. has_end (calls_of calls.now) r.replies.items ≡ true → OpensAs (λ movie. HasExactly movie (accepted_after (calls_of calls.now) r.replies.items [])) r.movie) }
+    ensures opened { IfOk result (λ r. IsOpening r.bytes.now r.movie) }
     ensures found { IfOk result (λ r. LooksUpInEachFile query.now.size (here query.now.bytes.now query.now.start) query.now.track_id query.now.number r.found) }
-    ensures refused { IfErr result (λ e. (e ≡ Error.OutOfMemory) ⊎ (start_cause config.now ≡ Some (cause_of e))) }
+    ensures cause { AnswersCause (start_cause config.now) result }
 {
     let mut writer = Mp4Writer::write_start(alloc, Vec::new(alloc), config)?;
     let replies = writer.run(calls)?;

@@ -1,12 +1,13 @@
 //! Numbers of which each reading is counted.
 
-ghost use Rattle.std.specs.Prelude.{◌≡◌, ℕ, ◌+◌, ◌-◌, ◌^◌, ◌<◌, [], ◌∷◌, ◌++◌, length, slice_index, OnOk};
+ghost use Rattle.std.specs.Prelude.{◌≡◌, ℕ, ◌+◌, ◌-◌, ◌^◌, ◌<◌, ◌≤◌, [], ◌∷◌, ◌++◌, length, slice_index, OnOk};
 
 use std::alloc::AllocError;
 use std::marker::Model;
 
-/// How many readings were made.
-#[derive(Debug, Drop)]
+/// How many numbers were read by one call. Only the calls of this crate that read numbers make one, with all readings of
+/// theirs in it, and it can't be dropped: whoever makes such a call takes the count.
+#[derive(Debug)]
 pub struct Readings {
     count: u32,
 }
@@ -18,20 +19,23 @@ impl Model for Readings {
 }
 
 impl Readings {
-    pub fn new() -> Self
+    /// No reading yet.
+    pub(crate) fn new() -> Self
         ensures { result ≡ 0 }
     {
         Readings { count: 0 }
     }
 
-    pub fn count(&self) -> u32
-        ensures { result ≡ self.now }
+    /// How many they are.
+    pub fn count(self) -> u32
+        ensures { result ≡ self }
     {
-        self.count
+        let Readings { count } = self;
+        count
     }
 }
 
-/// Numbers that are searched: they are read one at a time, and only by `read`.
+/// Numbers that are searched: only a search reads them, one at a time.
 #[derive(Debug, Drop)]
 pub struct SearchedNumbers {
     numbers: Vec<u32>,
@@ -67,7 +71,7 @@ impl SearchedNumbers {
     }
 
     /// The number at an index, which counts from 0. This counts as one reading.
-    pub fn read(&self, index: usize, readings: &mut Readings) -> u32
+    pub(crate) fn read(&self, index: usize, readings: &mut Readings) -> u32
         requires within { index < length self.now }
         requires room { readings.old < 2 ^ 32 - 1 }
         ensures number { result ≡ slice_index self.now index }
@@ -78,7 +82,7 @@ impl SearchedNumbers {
     }
 }
 
-/// Running sums of sizes: they are read one at a time, and only by `read`.
+/// Running sums of sizes: for each, the sum of those before it. Only a difference of two of them is answered.
 #[derive(Debug, Drop)]
 pub struct RunningSizes {
     sums: Vec<u128>,
@@ -100,7 +104,7 @@ impl RunningSizes {
     }
 
     /// The sum at an index, which counts from 0. This counts as one reading.
-    pub fn read(&self, index: usize, readings: &mut Readings) -> u128
+    fn read(&self, index: usize, readings: &mut Readings) -> u128
         requires within { index < length self.now }
         requires room { readings.old < 2 ^ 32 - 1 }
         ensures number { result ≡ slice_index self.now index }
@@ -108,5 +112,20 @@ impl RunningSizes {
     {
         readings.count += 1;
         self.sums[index]
+    }
+
+    /// How much the sizes from `first` up to but without `last` have together, counted from 0, and how many sums were
+    /// read: 2.
+    pub fn between(&self, first: usize, last: usize) -> (u128, Readings)
+        requires first { first < length self.now }
+        requires last { last < length self.now }
+        requires order { slice_index self.now first ≤ slice_index self.now last }
+        ensures sum { result.0 ≡ slice_index self.now last - slice_index self.now first }
+        ensures counted { result.1 ≡ 2 }
+    {
+        let mut readings = Readings::new();
+        let upto = self.read(last, &mut readings);
+        let from = self.read(first, &mut readings);
+        (upto - from, readings)
     }
 }

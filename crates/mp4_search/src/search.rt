@@ -2,7 +2,7 @@
 
 ghost use Rattle.std.specs.Prelude.{◌≡◌, ℕ, ◌<◌, ◌≤◌, length, slice_index, IfSome, IfNone};
 ghost use Rattle.std.specs.List.Sorted.{IsNonDecreasing};
-ghost use Rattle.mp4_search.specs.Search.{IsLastAtMost, IsFew};
+ghost use Rattle.mp4_search.specs.Search.{IsLastAtMost, IsFew, comparisons_in};
 
 use crate::counted::{Readings, SearchedNumbers};
 
@@ -13,20 +13,21 @@ pub struct Found {
     pub number: u32,
 }
 
-/// The last of the numbers that is at most `key`.
-pub fn last_at_most(numbers: &SearchedNumbers, key: u32, readings: &mut Readings) -> Option<Found>
-    requires rising { IsNonDecreasing numbers.now }
-    requires fresh { readings.old ≡ 0 }
-    ensures found { IfSome result (λ f. IsLastAtMost numbers.now key f.index × (f.number ≡ slice_index numbers.now f.index)) }
-    ensures none { IfNone result ((j : ℕ) → j < length numbers.now → key < slice_index numbers.now j) }
-    ensures comparisons { IsFew readings.new (length numbers.now) }
+/// The last of the numbers that is at most `key`, and how many of them were compared with it.
+pub fn last_at_most(numbers: &SearchedNumbers, key: u32) -> (Option<Found>, Readings)
+    requires { IsNonDecreasing numbers.now }
+    ensures found { IfSome result.0 (λ f. IsLastAtMost numbers.now key f.index × (f.number ≡ slice_index numbers.now f.index)) }
+    ensures none { IfNone result.0 ((j : ℕ) → j < length numbers.now → key < slice_index numbers.now j) }
+    ensures counted { result.1 ≡ comparisons_in numbers.now key }
+    ensures few { IsFew result.1 (length numbers.now) }
 {
+    let mut readings = Readings::new();
     let mut found: Option<Found> = None;
     let mut low: usize = 0;
     let mut high = numbers.len();
     while low < high {
         let middle = low + (high - low) / 2;
-        let number = numbers.read(middle, readings);
+        let number = numbers.read(middle, &mut readings);
         if number <= key {
             found = Some(Found {
                 index: middle,
@@ -37,5 +38,5 @@ pub fn last_at_most(numbers: &SearchedNumbers, key: u32, readings: &mut Readings
             high = middle;
         }
     }
-    found
+    (found, readings)
 }

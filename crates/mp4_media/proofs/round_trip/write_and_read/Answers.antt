@@ -31,7 +31,10 @@ returns-clause-read_back c = λ over.
     c.as_slice-bytes.ensures.value ∙ c.into_writer.ensures ∙ ap whole_of final in
     read_back session refl (record { answered = answered; ended = ended }) c.as_slice-bytes.result.now bytes
     (omega arith) opens c.read_mp4.result (record {
+      file = c.read_mp4.ensures.file;
       opens = c.read_mp4.ensures.opens;
-      holds = c.read_mp4.ensures.bytes;
+      fault = c.read_mp4.ensures.fault;
+      refused = c.read_mp4.ensures.refused;
+      bytes = c.read_mp4.ensures.bytes;
       tracks = c.read_mp4.ensures.tracks;
     })

@@ -1,5 +1,6 @@
-use Rattle.std.proofs.Common.{◌+◌, ◌-◌, ◌/◌, length, arith, rules}
-use Rattle.mp4_search.proofs.Digits.{digits_half, digits_64}
+use Rattle.std.proofs.Common.{◌+◌, ◌-◌, ◌/◌, length, refl, arith, rules}
+use Rattle.mp4_search.proofs.Comparisons.{all_left, behind, before, none_left}
+use Rattle.mp4_search.proofs.Digits.{digits_grow, digits_half, digits_64}
 use Rattle.mp4_search.proofs.search.last_at_most.Goals as goal
 
 pub read-number-requires-clause-room : goal.read-number-requires-clause-room
@@ -18,6 +19,8 @@ loop-low-preserved-then-number-key c =
       above = l.invariant.above;
       paid = omega (arith, paid);
       untouched = λ e. omega arith;
+      left = rw c.read-number.ensures.counted (behind c.args.numbers.now c.args.key l.low l.high l.readings
+          l.invariant.left (omega arith) (omega (arith, c.read-number.ensures.number)));
     }
 
 pub loop-low-preserved : goal.loop-low-preserved
@@ -29,7 +32,25 @@ loop-low-preserved c =
       ordered = omega arith;
       inside = omega arith;
       found = l.invariant.found;
-      above = λ j h k. omega (arith, c.read-number.ensures.number, c.requires.rising middle j 0 h k);
+      above = λ j h k. omega (arith, c.read-number.ensures.number, c.requires middle j 0 h k);
       paid = omega (arith, paid);
       untouched = λ e. omega arith;
+      left = rw c.read-number.ensures.counted (before c.args.numbers.now c.args.key l.low l.high l.readings
+          l.invariant.left (omega arith) (omega (arith, c.read-number.ensures.number)));
     }
+
+pub loop-low-init : goal.loop-low-init
+loop-low-init c = rw (c.len-high.ensures, c.new-readings.ensures) (record {
+  ordered = omega arith;
+  inside = omega arith;
+  found = refl;
+  above = λ j h k. absurd (omega (arith, h, k));
+  paid = omega (arith, digits_grow (length c.args.numbers.now - 0) (length c.args.numbers.now) (omega arith));
+  untouched = λ e. omega arith;
+  left = all_left c.args.numbers.now c.args.key;
+})
+
+pub returns-clause-counted : goal.returns-clause-counted
+returns-clause-counted c =
+    let l = c.loop-low in
+    none_left c.args.numbers.now c.args.key l.low l.high l.readings l.invariant.left (omega arith)

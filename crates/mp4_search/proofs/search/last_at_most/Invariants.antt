@@ -1,10 +1,11 @@
 use Rattle.std.proofs.Common.{◌-◌, ◌≡◌, ℕ, ◌<◌, ◌≤◌, length, slice_index, ◌+◌}
 use Rattle.std.specs.Prelude.{MatchOption}
 use Rattle.mp4_search.specs.Digits.{digits}
+use Rattle.mp4_search.proofs.Comparisons.{AreLeft}
 use Rattle.mp4_search.proofs.search.last_at_most.Given as goal
 
 -- What is found stands before low and is at most the key. What stands from high on is above it. The digits of what is
--- left pay for what is to come.
+-- left pay for what is to come, and so many comparisons are left.
 abbrev pub invariant-loop-low : goal.invariant-loop-low
 invariant-loop-low l = record {
   ordered : l.low ≤ l.high;
@@ -14,6 +15,7 @@ invariant-loop-low l = record {
   above : (j : ℕ) → l.high ≤ j → j < length l.numbers → l.key < slice_index l.numbers j;
   paid : l.readings + digits (l.high - l.low) ≤ digits (length l.numbers);
   untouched : l.readings ≡ 0 → l.high - l.low ≡ length l.numbers;
+  left : AreLeft l.numbers l.key l.low l.high l.readings;
 }
 
 abbrev pub decreases-loop-low : goal.decreases-loop-low

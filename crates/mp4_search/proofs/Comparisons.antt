@@ -1,0 +1,59 @@
+-- A search by halves, a comparison at a time.
+use Rattle.std.proofs.Common.{◌≡◌, ℕ, zero, suc, ◌+◌, ◌-◌, ◌/◌, ◌<◌, ◌≤◌, List, length, slice_index, arith}
+use Rattle.std.proofs.lemmas.Bool.{lt-ltb, le-ltb, le-leb, lt-leb}
+use Rattle.mp4_search.specs.Search.{comparisons_between, comparisons_in}
+
+-- after so many comparisons, what is left between two places makes the others, in steps that are enough
+pub record AreLeft (numbers : List ℕ) (key low high compared : ℕ) : Type 0 where
+  pub steps : ℕ
+  pub enough : high - low ≤ steps
+  pub left : compared + comparisons_between steps numbers key low high ≡ comparisons_in numbers key
+
+pub all_left : (numbers : List ℕ) (key : ℕ) → AreLeft numbers key 0 (length numbers) 0
+unfolding comparisons_in
+all_left numbers key = record { steps = length numbers; enough = omega arith; left = omega arith }
+
+-- one comparison more: what is left stands behind the number in the middle
+pub behind : (numbers : List ℕ) (key low high compared : ℕ) → AreLeft numbers key low high compared → low < high
+    → slice_index numbers (low + (high - low) / 2) ≤ key
+    → AreLeft numbers key (low + (high - low) / 2 + 1) high (compared + 1)
+unfolding comparisons_between
+behind numbers key low high compared a h small = step a.steps a.enough a.left
+  where
+    step : (n : ℕ) → high - low ≤ n
+        → compared + comparisons_between n numbers key low high ≡ comparisons_in numbers key
+        → AreLeft numbers key (low + (high - low) / 2 + 1) high (compared + 1)
+    step zero enough left = absurd (omega (arith, h, enough))
+    step (suc n) enough left = record {
+      steps = n;
+      enough = omega (arith, enough);
+      left = let e = rw (lt-ltb low high h, le-leb _ key small) at left in omega (arith, e);
+    }
+
+-- one comparison more: what is left stands before the number in the middle
+pub before : (numbers : List ℕ) (key low high compared : ℕ) → AreLeft numbers key low high compared → low < high
+    → key < slice_index numbers (low + (high - low) / 2)
+    → AreLeft numbers key low (low + (high - low) / 2) (compared + 1)
+unfolding comparisons_between
+before numbers key low high compared a h large = step a.steps a.enough a.left
+  where
+    step : (n : ℕ) → high - low ≤ n
+        → compared + comparisons_between n numbers key low high ≡ comparisons_in numbers key
+        → AreLeft numbers key low (low + (high - low) / 2) (compared + 1)
+    step zero enough left = absurd (omega (arith, h, enough))
+    step (suc n) enough left = record {
+      steps = n;
+      enough = omega (arith, enough);
+      left = let e = rw (lt-ltb low high h, lt-leb _ key large) at left in omega (arith, e);
+    }
+
+-- nothing is left
+pub none_left : (numbers : List ℕ) (key low high compared : ℕ) → AreLeft numbers key low high compared → high ≤ low
+    → compared ≡ comparisons_in numbers key
+unfolding comparisons_between
+none_left numbers key low high compared a h = step a.steps a.left
+  where
+    step : (n : ℕ) → compared + comparisons_between n numbers key low high ≡ comparisons_in numbers key
+        → compared ≡ comparisons_in numbers key
+    step zero left = omega (arith, left)
+    step (suc n) left = let e = rw (le-ltb low high h) at left in omega (arith, e)
