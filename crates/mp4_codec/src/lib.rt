@@ -11,6 +11,7 @@ mod cursor;
 mod entry;
 mod error;
 mod fields;
+mod fixed_point;
 mod four_cc;
 mod gather;
 mod header;
@@ -31,6 +32,7 @@ pub use cursor::ByteCursor;
 pub use entry::{Entry, list_size, put_list};
 pub use error::{Error, Field, Limit, Malformed, Result};
 pub use fields::Fields;
+pub use fixed_point::{FixedPointI8, FixedPointU8, FixedPointU16};
 pub use four_cc::FourCC;
 pub use gather::{
     Gather, all_children, gather_children, keep_each, keep_last, last_child, required,

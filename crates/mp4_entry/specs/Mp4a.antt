@@ -8,7 +8,7 @@ use Rattle.mp4_codec.specs.Cause.{Cause, ◌>>=◌}
 use Rattle.mp4_codec.specs.Bytes.{bytes_at, number_at, number, zeros, ◌⧺◌}
 use Rattle.mp4_codec.specs.Boxes.{IsCanonical, optional, optional_refusal}
 use Rattle.mp4_codec.specs.Children.{children, gathered, fault_in, last_of}
-use Rattle.mp4_leaf.specs.declared.fixed_point.FixedPointU16.{FixedPointU16}
+use Rattle.mp4_codec.specs.declared.fixed_point.FixedPointU16.{FixedPointU16}
 use Rattle.mp4_entry.specs.declared.esds.EsdsBox.{EsdsBox}
 use Rattle.mp4_entry.specs.declared.mp4a.Mp4aBox.{Mp4aBox}
 use Rattle.mp4_entry.specs.declared.mp4a.AacConfig.{AacConfig}

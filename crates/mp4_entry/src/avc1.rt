@@ -11,10 +11,9 @@ ghost use Rattle.mp4_entry.specs.Avc1Laws.{avc1_again};
 use crate::avcc::AvcCBox;
 use crate::visual::{VISUAL_SIZE, Visual, put_visual, read_visual};
 use mp4_codec::{
-    BoxType, Error, Fields, InRange, Items, Mp4Box, Put, ReadBox, Result, TryClone, WriteBox,
-    last_child,
+    BoxType, Error, Fields, FixedPointU16, InRange, Items, Mp4Box, Put, ReadBox, Result, TryClone,
+    WriteBox, last_child,
 };
-use mp4_leaf::FixedPointU16;
 use std::alloc::Global;
 
 /// The sample entry of AVC video, `avc1` (ISO/IEC 14496-15, 5.4.2).

@@ -11,9 +11,9 @@ ghost use Rattle.mp4_entry.specs.Hev1Laws.{hev1_again};
 use crate::hvcc::HvcCBox;
 use crate::visual::{VISUAL_SIZE, Visual, put_visual, read_visual};
 use mp4_codec::{
-    BoxType, Error, Fields, InRange, Mp4Box, Put, ReadBox, Result, TryClone, WriteBox, last_child,
+    BoxType, Error, Fields, FixedPointU16, InRange, Mp4Box, Put, ReadBox, Result, TryClone,
+    WriteBox, last_child,
 };
-use mp4_leaf::FixedPointU16;
 use std::alloc::Global;
 
 /// The sample entry of HEVC video, `hev1` (ISO/IEC 14496-15, 8.4.1).

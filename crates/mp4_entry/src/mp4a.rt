@@ -16,10 +16,10 @@ use crate::esds::{
 };
 use crate::sample_freq_index::SampleFreqIndex;
 use mp4_codec::{
-    BoxType, Child, Children, Fields, InRange, Mp4Box, Put, ReadBox, Result, TryClone, WriteBox,
-    check_optional, last_child, optional_size, put_optional, put_u16, put_u32, put_zeros,
+    BoxType, Child, Children, Fields, FixedPointU16, InRange, Mp4Box, Put, ReadBox, Result,
+    TryClone, WriteBox, check_optional, last_child, optional_size, put_optional, put_u16, put_u32,
+    put_zeros,
 };
-use mp4_leaf::FixedPointU16;
 use std::alloc::Global;
 
 /// The sample entry of MPEG-4 audio, `mp4a` (ISO/IEC 14496-14, 5.6; ISO/IEC 14496-12, 12.2.3).

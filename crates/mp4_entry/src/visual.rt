@@ -5,8 +5,7 @@ ghost use Rattle.mp4_codec.specs.Cause.{Gives, Reads};
 ghost use Rattle.mp4_codec.specs.Bytes.{Appends};
 ghost use Rattle.mp4_entry.specs.Visual.{visual_at, visual, visual_of_size, IsInRangeVisual};
 
-use mp4_codec::{Field, Fields, InRange, Put, Result, put_u16, put_u32, put_zeros};
-use mp4_leaf::FixedPointU16;
+use mp4_codec::{Field, Fields, FixedPointU16, InRange, Put, Result, put_u16, put_u32, put_zeros};
 
 /// The bytes of a visual sample entry without its children: 8 of its header, and 78.
 pub(crate) const VISUAL_SIZE: u64 = 86;

@@ -11,9 +11,9 @@ ghost use Rattle.mp4_entry.specs.Vp09Laws.{vp09_again};
 use crate::visual::{VISUAL_SIZE, Visual, put_visual, read_visual};
 use crate::vpcc::VpccBox;
 use mp4_codec::{
-    BoxType, Error, Fields, InRange, Mp4Box, Put, ReadBox, Result, TryClone, WriteBox, last_child,
+    BoxType, Error, Fields, FixedPointU16, InRange, Mp4Box, Put, ReadBox, Result, TryClone,
+    WriteBox, last_child,
 };
-use mp4_leaf::FixedPointU16;
 use std::alloc::Global;
 
 /// The sample entry of VP9 video, `vp09` (the VP codec binding to ISO media files).

@@ -4,7 +4,6 @@
 mod data;
 mod dinf;
 mod elst;
-mod fixed_point;
 mod ftyp;
 mod hdlr;
 mod language;
@@ -19,7 +18,6 @@ mod vmhd;
 pub use data::{DataBox, DataType};
 pub use dinf::{DinfBox, DrefBox, UrlBox};
 pub use elst::{ElstBox, ElstEntry};
-pub use fixed_point::{FixedPointI8, FixedPointU8, FixedPointU16};
 pub use ftyp::FtypBox;
 pub use hdlr::HdlrBox;
 pub use language::check_language;

@@ -7,12 +7,11 @@ ghost use Rattle.mp4_codec.specs.Boxes.{size_around};
 ghost use Rattle.mp4_leaf.specs.Mvhd.{playback_at, mvhd_payload, default_mvhd, mvhd_of, mvhd_refusal, IsInRangeMvhd, RemarksMvhd, stamp_of};
 ghost use Rattle.mp4_leaf.specs.MvhdLaws.{mvhd_again};
 
-use crate::fixed_point::{FixedPointU8, FixedPointU16};
 use crate::matrix::{Matrix, put_matrix, read_matrix};
 use crate::times::{Stamp, check_times, put_stamp, read_stamp};
 use mp4_codec::{
-    BoxType, Field, Fields, InRange, Mp4Box, Put, ReadBox, Result, TryClone, WriteBox, put_u16,
-    put_u32, put_versioned, put_zeros,
+    BoxType, Field, Fields, FixedPointU8, FixedPointU16, InRange, Mp4Box, Put, ReadBox, Result,
+    TryClone, WriteBox, put_u16, put_u32, put_versioned, put_zeros,
 };
 use std::alloc::Global;
 

@@ -7,10 +7,9 @@ ghost use Rattle.mp4_leaf.specs.Smhd.{smhd_payload, default_smhd, smhd_of, IsInR
 ghost use Rattle.mp4_leaf.specs.SmhdLaws.{smhd_again};
 ghost use Rattle.mp4_codec.specs.Cause.{Gives};
 
-use crate::fixed_point::FixedPointI8;
 use mp4_codec::{
-    BoxType, Fields, InRange, Mp4Box, Put, ReadBox, Result, TryClone, WriteBox, put_i16, put_u8,
-    put_u24, put_zeros,
+    BoxType, Fields, FixedPointI8, InRange, Mp4Box, Put, ReadBox, Result, TryClone, WriteBox,
+    put_i16, put_u8, put_u24, put_zeros,
 };
 use std::alloc::Global;
 

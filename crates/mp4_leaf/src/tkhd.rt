@@ -7,12 +7,11 @@ ghost use Rattle.mp4_leaf.specs.Tkhd.{presentation_at, tkhd_payload, default_tkh
 ghost use Rattle.mp4_leaf.specs.TkhdLaws.{tkhd_again};
 ghost use Rattle.mp4_codec.specs.Cause.{Gives, Reads};
 
-use crate::fixed_point::{FixedPointU8, FixedPointU16};
 use crate::matrix::{Matrix, put_matrix, read_matrix};
 use crate::times::{Stamp, check_times, put_stamp, read_stamp};
 use mp4_codec::{
-    BoxType, Field, Fields, InRange, Mp4Box, Put, ReadBox, Result, TryClone, WriteBox, put_u16,
-    put_u32, put_versioned, put_zeros,
+    BoxType, Field, Fields, FixedPointU8, FixedPointU16, InRange, Mp4Box, Put, ReadBox, Result,
+    TryClone, WriteBox, put_u16, put_u32, put_versioned, put_zeros,
 };
 use std::alloc::Global;
 

@@ -3,7 +3,7 @@
 use Rattle.std.specs.Prelude.{ℕ, ◌/◌, Result}
 use Rattle.std.specs.Option.{option_map_or}
 use Rattle.mp4_codec.specs.Cause.{Cause}
-use Rattle.mp4_leaf.specs.declared.fixed_point.FixedPointU16.{FixedPointU16}
+use Rattle.mp4_codec.specs.declared.fixed_point.FixedPointU16.{FixedPointU16}
 use Rattle.mp4_entry.specs.declared.avc1.Avc1Box.{Avc1Box}
 use Rattle.mp4_boxes.specs.declared.trak.TrakBox.{TrakBox}
 use Rattle.mp4_lookup.specs.Time.{time_of}

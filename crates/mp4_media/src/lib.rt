@@ -12,14 +12,15 @@ mod writer;
 
 // Framing, and what boxes are made with.
 pub use mp4_codec::{
-    BoxHeader, BoxType, ByteCursor, Child, Children, Entry, Error, Fields, FourCC, Gather,
-    HEADER_EXT_SIZE, HEADER_SIZE, InRange, Items, Key, KeyedItems, Limit, Mp4Box, OPEN_END, Put,
-    ReadBox, Result, Text, TryClone, WriteBox, all_children, all_size, check_all, check_optional,
-    check_value, check_version, code_again, frame_has_its_head, gather_children,
-    header_says_its_box, insertion_changes_one_key, keep_each, keep_last, last_child, list_size,
-    optional_size, payload_has_its_children, put_all, put_bytes, put_four_cc, put_i16, put_i32,
-    put_list, put_optional, put_u8, put_u16, put_u24, put_u32, put_u64, put_versioned, put_zeros,
-    refused_head_says_why, required, some_required, what_is_written_reads_back,
+    BoxHeader, BoxType, ByteCursor, Child, Children, Entry, Error, Fields, FixedPointI8,
+    FixedPointU8, FixedPointU16, FourCC, Gather, HEADER_EXT_SIZE, HEADER_SIZE, InRange, Items, Key,
+    KeyedItems, Limit, Mp4Box, OPEN_END, Put, ReadBox, Result, Text, TryClone, WriteBox,
+    all_children, all_size, check_all, check_optional, check_value, check_version, code_again,
+    frame_has_its_head, gather_children, header_says_its_box, insertion_changes_one_key, keep_each,
+    keep_last, last_child, list_size, optional_size, payload_has_its_children, put_all, put_bytes,
+    put_four_cc, put_i16, put_i32, put_list, put_optional, put_u8, put_u16, put_u24, put_u32,
+    put_u64, put_versioned, put_zeros, refused_head_says_why, required, some_required,
+    what_is_written_reads_back,
 };
 
 // Leaf boxes, sample entries and sample tables.
@@ -32,9 +33,8 @@ pub use mp4_entry::{
 };
 pub use mp4_frag::{EmsgBox, MehdBox, MfhdBox, TfdtBox, TfhdBox, TrexBox, TrunBox};
 pub use mp4_leaf::{
-    DataBox, DataType, DinfBox, DrefBox, ElstBox, ElstEntry, FixedPointI8, FixedPointU8,
-    FixedPointU16, FtypBox, HdlrBox, Matrix, MdhdBox, MvhdBox, RgbColor, SmhdBox, TkhdBox, UrlBox,
-    VmhdBox, check_language,
+    DataBox, DataType, DinfBox, DrefBox, ElstBox, ElstEntry, FtypBox, HdlrBox, Matrix, MdhdBox,
+    MvhdBox, RgbColor, SmhdBox, TkhdBox, UrlBox, VmhdBox, check_language,
 };
 pub use mp4_table::{
     Co64Box, CttsBox, CttsEntry, StcoBox, StscBox, StscEntry, StssBox, StszBox, SttsBox, SttsEntry,

@@ -5,9 +5,9 @@ ghost use Rattle.mp4_codec.specs.Cause.{Answers};
 ghost use Rattle.mp4_mux.specs.TrackHeaders.{version_for, header_length, picture_size, tkhd_for, mdhd_for, hdlr_for, vmhd_for, smhd_for, media_header_length, mvhd_for};
 
 use crate::config::TrackConfig;
-use mp4_codec::{FourCC, Items, Result, TryClone};
+use mp4_codec::{FixedPointU16, FourCC, Items, Result, TryClone};
 use mp4_entry::{MediaConfig, TrackType};
-use mp4_leaf::{FixedPointU16, HdlrBox, MdhdBox, MvhdBox, SmhdBox, TkhdBox, VmhdBox};
+use mp4_leaf::{HdlrBox, MdhdBox, MvhdBox, SmhdBox, TkhdBox, VmhdBox};
 use std::alloc::Global;
 
 /// The version of a header of this duration: 0 where it has room in 32 bits, else 1.

@@ -2,13 +2,13 @@
 
 use crate::asserts::{check, holds, same};
 use mp4_codec::{
-    BoxType, ByteCursor, Error, FourCC, HEADER_EXT_SIZE, HEADER_SIZE, Items, KeyedItems, Limit,
-    Result, Text, TryClone,
+    BoxType, ByteCursor, Error, FixedPointI8, FixedPointU8, FixedPointU16, FourCC, HEADER_EXT_SIZE,
+    HEADER_SIZE, Items, KeyedItems, Limit, Result, Text, TryClone,
 };
 use mp4_entry::{
     DecoderConfigDescriptor, DecoderSpecificDescriptor, ESDescriptor, SLConfigDescriptor,
 };
-use mp4_leaf::{DataType, ElstEntry, FixedPointI8, FixedPointU8, FixedPointU16, Matrix, RgbColor};
+use mp4_leaf::{DataType, ElstEntry, Matrix, RgbColor};
 use mp4_plain_movies::sides::Side;
 use mp4_plain_movies::spelled::prints;
 use mp4_table::{CttsEntry, StscEntry, SttsEntry};

@@ -5,7 +5,8 @@
 ghost use Rattle.std.specs.Prelude.{◌≡◌, ◌*◌, ◌/◌, pos, ◌*ℤ◌, ◌+ℤ◌, ◌≤ℤ◌, ◌<ℤ◌, Ok};
 ghost use Rattle.mp4_codec.specs.Cause.{Gives};
 
-use mp4_codec::{Result, TryClone};
+use crate::error::Result;
+use crate::try_clone::TryClone;
 use std::fmt;
 use std::fmt::Debug;
 
