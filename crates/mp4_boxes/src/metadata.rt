@@ -22,7 +22,7 @@ pub trait Metadata {
     ghost held: { Self → List (Option IlstItemBox) };
 
     /// The title, whatever its data type: each maximal piece that is not UTF-8 is U+FFFD. Only `OutOfMemory` is refused.
-    fn title(&self, alloc: Global) -> Result<Option<CowStr<'_, Global>>>
+    fn title(&self) -> Result<Option<CowStr<'_, Global>>>
         ensures { Answers (option_map cow_str_bytes) result (Ok (title_of (held self.now))) };
 
     /// The year of release. A value of data type `Binary` of four bytes is their big-endian number. A value of data type
@@ -36,20 +36,20 @@ pub trait Metadata {
         ensures { option_map (λ bytes. bytes.now) result ≡ poster_of (held self.now) };
 
     /// The description, as the title is read.
-    fn summary(&self, alloc: Global) -> Result<Option<CowStr<'_, Global>>>
+    fn summary(&self) -> Result<Option<CowStr<'_, Global>>>
         ensures { Answers (option_map cow_str_bytes) result (Ok (summary_of (held self.now))) };
 }
 
 /// The text of an item.
 #[tactic(auto, unfolding(crate::specs::Metadata::text_of))]
-fn lossy_text(alloc: Global, item: Option<&IlstItemBox>) -> Result<Option<CowStr<'_, Global>>>
+fn lossy_text(item: Option<&IlstItemBox>) -> Result<Option<CowStr<'_, Global>>>
     ensures { Answers (option_map cow_str_bytes) result (Ok (option_map text_of (option_copied item.entry))) }
 {
     match item {
         None => Ok(None),
         Some(item) => {
-            let text = item.item.bytes.as_slice().to_str_lossy(alloc)?;
-            Ok(Some(text))
+            let bytes = &item.item.bytes;
+            Ok(Some(bytes.as_slice().to_str_lossy(bytes.allocator())?))
         }
     }
 }
@@ -91,8 +91,8 @@ fn year_of_value(value: &DataBox) -> Option<u32>
 impl Metadata for IlstBox {
     ghost held = { λ b. b.items };
 
-    fn title(&self, alloc: Global) -> Result<Option<CowStr<'_, Global>>> {
-        lossy_text(alloc, item_of_key(&self.items, MetadataKey::Title))
+    fn title(&self) -> Result<Option<CowStr<'_, Global>>> {
+        lossy_text(item_of_key(&self.items, MetadataKey::Title))
     }
 
     fn year(&self) -> Option<u32> {
@@ -109,7 +109,7 @@ impl Metadata for IlstBox {
         }
     }
 
-    fn summary(&self, alloc: Global) -> Result<Option<CowStr<'_, Global>>> {
-        lossy_text(alloc, item_of_key(&self.items, MetadataKey::Summary))
+    fn summary(&self) -> Result<Option<CowStr<'_, Global>>> {
+        lossy_text(item_of_key(&self.items, MetadataKey::Summary))
     }
 }

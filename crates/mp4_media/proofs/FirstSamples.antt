@@ -9,7 +9,7 @@ use Rattle.mp4_codec.specs.declared.box_type.BoxType.TheVariants.{FtypBox as fty
 use Rattle.mp4_codec.specs.declared.box_type.BoxType.TheVariants.{EmsgBox as emsg}
 use Rattle.mp4_codec.specs.Cause.{Cause, ◌>>=◌}
 use Rattle.mp4_codec.specs.Cursor.{Cursor}
-use Rattle.mp4_codec.specs.Children.{last, needed}
+use Rattle.mp4_codec.specs.Children.{last}
 use Rattle.mp4_codec.specs.Steps.{ok_is}
 use Rattle.mp4_leaf.specs.Ftyp.{ftyp_of}
 use Rattle.mp4_frag.specs.Emsg.{emsg_of}
@@ -24,7 +24,7 @@ use Rattle.mp4_media.specs.FileBoxes.{is_type, read_as, meaning_of, moov_from, m
 use Rattle.mp4_media.specs.FileGrammar.{between, Holds, read, skipped, AreFileBoxes}
 use Rattle.mp4_media.specs.MovieTracks.{HaveFirstSamples}
 use Rattle.mp4_media.specs.declared.opening.Found.{Found}
-use Rattle.mp4_media.specs.Walk.{file_boxes_at, found_of, found_at}
+use Rattle.mp4_media.specs.Walk.{both_needed, file_boxes_at, found_of, found_at}
 use Rattle.mp4_media.proofs.Grammar.{Whole, all, broken, whole, all-read, walked, walked-fault}
 
 abbrev pub IsNumbered : MoovBox → Type 0
@@ -116,7 +116,9 @@ found_numbered size start found end m e is = by (file_boxes_at size size start) 
         movie_numbered size start boxes.0 boxes.1 m known (ap (λ (x : Found × ℕ). x.0.moov) one ∙ is)
     by (Err c) known same = absurd cc
 
--- a part that has to be there is there
-pub needed_is : {A : Type 0} (t : BoxType) (o : Option A) (x : A) → needed t o ≡ Ok x → o ≡ Some x
-needed_is t (Some y) x e = ap Some (ok_is y x e)
-needed_is t None x e = absurd cc
+-- the second of two parts that have to be there is there
+pub second_is : {A B : Type 0} (s t : BoxType) (a : Option A) (b : Option B) (both : A × B)
+    → both_needed s t a b ≡ Ok both → b ≡ Some both.1
+second_is {A = A} {B = B} s t (Some x) (Some y) both e = ap (λ (p : A × B). Some p.1) (ok_is (x, y) both e)
+second_is s t (Some x) None both e = absurd cc
+second_is s t None b both e = absurd cc

@@ -2,14 +2,16 @@
 //! any file is what its tables say.
 
 ghost use Rattle.std.specs.Prelude.{◌≡◌, true, [], option_map, IfOk, IsTrue, Some};
+ghost use Rattle.std.specs.List.{AllByRecursion};
 ghost use Rattle.mp4_codec.specs.Cause.{Answers, AnswersCause};
 ghost use Rattle.mp4_codec.specs.Cursor.{here};
 ghost use Rattle.mp4_lookup.specs.declared.track.Mp4Track.{Mp4Track};
 ghost use Rattle.mp4_lookup.specs.Plain.{Consistent};
 ghost use Rattle.mp4_lookup.specs.Samples.{timed_sample};
 ghost use Rattle.mp4_lookup.specs.Tracks.{tables_of, is_of_movie};
-ghost use Rattle.mp4_mux.specs.Calls.{Answered, accepted_after, after, has_end};
+ghost use Rattle.mp4_mux.specs.Calls.{Answered, IsInRangeCall, accepted_after, after, has_end};
 ghost use Rattle.mp4_mux.specs.Writing.{start_cause, started, whole_of};
+ghost use Rattle.mp4_media.specs.Finished.{Opens};
 ghost use Rattle.mp4_media.specs.MovieTracks.{at_id};
 ghost use Rattle.mp4_media.specs.Reading.{sample_in};
 ghost use Rattle.mp4_media.specs.RoundTrip.{LooksUpInEachFile, HasExactly, IsLocated, IsOpening, IsOpeningBy, IsPlace, OpensAs};
@@ -91,6 +93,26 @@ pub fn find_sample<'f>(alloc: Global, query: &SampleQuery<'f>) -> Result<FoundSa
     })
 }
 
+/// Makes a writer's calls from an empty buffer, and answers their answers. What this buffer held is gone then; it holds
+/// the written bytes.
+fn write_calls(
+    alloc: Global,
+    config: &Mp4Config,
+    calls: &[WriterCall],
+    buffer: &mut Vec<u8>,
+) -> Result<Vec<Result<()>>>
+    ensures replies { IfOk result (λ rs. Answered (calls_of calls.now) rs.items (started [] config.now)) }
+    ensures fits { IfOk result (λ rs. AllByRecursion IsInRangeCall (calls_of calls.now)) }
+    ensures bytes { IfOk result (λ rs. buffer.new.items ≡ whole_of (after (calls_of calls.now) rs.items (started [] config.now))) }
+    ensures opens { IfOk result (λ rs. has_end (calls_of calls.now) rs.items ≡ true → Opens (after (calls_of calls.now) rs.items (started [] config.now))) }
+    ensures cause { AnswersCause (start_cause config.now) result }
+{
+    let mut writer = Mp4Writer::write_start(alloc, Vec::new(alloc), config)?;
+    let replies = writer.run(calls)?;
+    *buffer = writer.into_writer();
+    Ok(replies)
+}
+
 /// Makes a writer's calls from an empty buffer, whatever they are, and opens what it has written; and beside it looks
 /// for a sample in another file. What the buffer that is handed in held is gone; it holds the written bytes.
 ///
@@ -116,9 +138,7 @@ pub fn write_and_read<'w, 'f>(
     ensures found { IfOk result (λ r. LooksUpInEachFile query.now.size (here query.now.bytes.now query.now.start) query.now.track_id query.now.number r.found) }
     ensures cause { AnswersCause (start_cause config.now) result }
 {
-    let mut writer = Mp4Writer::write_start(alloc, Vec::new(alloc), config)?;
-    let replies = writer.run(calls)?;
-    *buffer = writer.into_writer();
+    let replies = write_calls(alloc, config, calls, buffer)?;
     let bytes = buffer.as_slice();
     Ok(RoundTrip {
         replies,

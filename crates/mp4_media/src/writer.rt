@@ -264,7 +264,7 @@ impl Mp4Writer {
     }
 
     /// Where the writer takes its memory from.
-    pub fn allocator(&self) -> Global {
+    pub(crate) fn allocator(&self) -> Global {
         *self.buffer.allocator()
     }
 

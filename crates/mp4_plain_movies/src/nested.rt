@@ -1,7 +1,6 @@
 //! Texts that spell boxes of boxes.
 
-use mp4_codec::Result;
-use std::alloc::Global;
+use std::alloc::{AllocError, Global};
 
 /// How many bytes a text spells.
 fn spelled_bytes(text: &str) -> usize {
@@ -13,7 +12,7 @@ fn spelled_bytes(text: &str) -> usize {
 }
 
 /// A box around children; the text of its type and that of each child spell bytes, two digits each.
-pub fn nest(alloc: Global, kind: &str, children: &[&str]) -> Result<String> {
+pub fn nest(alloc: Global, kind: &str, children: &[&str]) -> Result<String, AllocError> {
     let mut size = 8usize;
     let mut inner = String::new(alloc);
     for child in children {
@@ -55,14 +54,14 @@ pub const STSZ: &str = "00000020 7374737a 00000000 00000000 00000003 00000003 00
 pub const STCO: &str = "00000018 7374636f 00000000 00000002 00000030 00000036 ";
 
 /// The media of a track of these tables.
-fn media_of(alloc: Global, tables: &[&str]) -> Result<String> {
+fn media_of(alloc: Global, tables: &[&str]) -> Result<String, AllocError> {
     let stbl = nest(alloc, "7374626c", tables)?;
     let minf = nest(alloc, "6d696e66", &[DINF, stbl.as_str()])?;
     nest(alloc, "6d646961", &[MDHD, HDLR, minf.as_str()])
 }
 
 /// A track of these tables.
-pub fn track_of(alloc: Global, tables: &[&str]) -> Result<String> {
+pub fn track_of(alloc: Global, tables: &[&str]) -> Result<String, AllocError> {
     let mdia = media_of(alloc, tables)?;
     nest(alloc, "7472616b", &[TKHD, mdia.as_str()])
 }

@@ -2,7 +2,7 @@
 
 use crate::calls::{Media, Picture, Sound};
 use crate::plain_bytes::{begin_box, end_box, put, put_short_pair, put_zeros};
-use mp4_codec::Result;
+use std::alloc::AllocError;
 
 const VMHD: [u8; 20] = *b"\0\0\0\x14vmhd\0\0\0\x01\0\0\0\0\0\0\0\0";
 
@@ -28,7 +28,7 @@ const FREQUENCIES: [u32; 13] = [
 ];
 
 /// The header of media that video and sound have, but VP9 video hasn't.
-pub fn put_media_header(bytes: &mut Vec<u8>, media: &Media) -> Result<()> {
+pub fn put_media_header(bytes: &mut Vec<u8>, media: &Media) -> Result<(), AllocError> {
     match media {
         Media::Avc(_, _, _) | Media::Hevc(_) => bytes.extend_from_slice(&VMHD)?,
         Media::Aac(_) => bytes.extend_from_slice(&SMHD)?,
@@ -48,23 +48,21 @@ pub fn pixels(media: &Media) -> (u32, u32) {
 }
 
 /// The fields of an entry of video.
-fn put_picture(bytes: &mut Vec<u8>, picture: Picture) -> Result<()> {
+fn put_picture(bytes: &mut Vec<u8>, picture: Picture) -> Result<(), AllocError> {
     bytes.extend_from_slice(&FIRST)?;
     put_zeros(bytes, 16)?;
     put_short_pair(bytes, picture.width, picture.height)?;
     bytes.extend_from_slice(&RESOLUTION)?;
     put_zeros(bytes, 32)?;
-    bytes.extend_from_slice(b"\0\x18\xff\xff")?;
-    Ok(())
+    bytes.extend_from_slice(b"\0\x18\xff\xff")
 }
 
 /// One parameter set: how many there are, its length and its bytes.
-fn put_set(bytes: &mut Vec<u8>, count: u8, set: &[u8]) -> Result<()> {
+fn put_set(bytes: &mut Vec<u8>, count: u8, set: &[u8]) -> Result<(), AllocError> {
     bytes.push(count)?;
     let length = u16::try_from(set.len()).unwrap_or(0);
     bytes.extend_from_slice(&length.to_be_bytes())?;
-    bytes.extend_from_slice(set)?;
-    Ok(())
+    bytes.extend_from_slice(set)
 }
 
 /// The three bytes of a sequence parameter set that say profile and level.
@@ -72,7 +70,7 @@ fn profile_of(sequence: &[u8]) -> &[u8] {
     sequence.get(1..4).unwrap_or(&[])
 }
 
-fn put_avcc(bytes: &mut Vec<u8>, sequence: &[u8], picture_set: &[u8]) -> Result<()> {
+fn put_avcc(bytes: &mut Vec<u8>, sequence: &[u8], picture_set: &[u8]) -> Result<(), AllocError> {
     let start = begin_box(bytes, b"avcC\x01")?;
     bytes.extend_from_slice(profile_of(sequence))?;
     bytes.push(0xff)?;
@@ -87,7 +85,7 @@ fn put_avc(
     picture: Picture,
     sequence: &[u8],
     picture_set: &[u8],
-) -> Result<()> {
+) -> Result<(), AllocError> {
     let start = begin_box(bytes, b"avc1")?;
     put_picture(bytes, picture)?;
     put_avcc(bytes, sequence, picture_set)?;
@@ -96,7 +94,12 @@ fn put_avc(
 }
 
 /// An entry of video with this configuration behind its fields.
-fn put_video(bytes: &mut Vec<u8>, kind: &[u8], picture: Picture, setup: &[u8]) -> Result<()> {
+fn put_video(
+    bytes: &mut Vec<u8>,
+    kind: &[u8],
+    picture: Picture,
+    setup: &[u8],
+) -> Result<(), AllocError> {
     let start = begin_box(bytes, kind)?;
     put_picture(bytes, picture)?;
     bytes.extend_from_slice(setup)?;
@@ -126,7 +129,7 @@ fn sound_bits(sound: Sound) -> u16 {
 }
 
 /// The descriptors of a stream of sound whose largest sample has so many bytes.
-fn put_stream(bytes: &mut Vec<u8>, sound: Sound, largest: u32) -> Result<()> {
+fn put_stream(bytes: &mut Vec<u8>, sound: Sound, largest: u32) -> Result<(), AllocError> {
     let start = begin_box(bytes, b"esds\0\0\0\0\x03\x19\0\x01\0\x04\x11\x40")?;
     put(bytes, largest.min(0xff_ffff).wrapping_add(0x1500_0000))?;
     put(bytes, sound.bitrate)?;
@@ -139,7 +142,7 @@ fn put_stream(bytes: &mut Vec<u8>, sound: Sound, largest: u32) -> Result<()> {
 }
 
 /// The fields of an entry of sound.
-fn put_sound(bytes: &mut Vec<u8>, sound: Sound) -> Result<()> {
+fn put_sound(bytes: &mut Vec<u8>, sound: Sound) -> Result<(), AllocError> {
     bytes.extend_from_slice(&FIRST)?;
     put_zeros(bytes, 8)?;
     put_short_pair(bytes, u16::from(sound.channels), 16)?;
@@ -147,7 +150,7 @@ fn put_sound(bytes: &mut Vec<u8>, sound: Sound) -> Result<()> {
     put(bytes, fixed_hertz(sound.frequency))
 }
 
-fn put_aac(bytes: &mut Vec<u8>, sound: Sound, largest: u32) -> Result<()> {
+fn put_aac(bytes: &mut Vec<u8>, sound: Sound, largest: u32) -> Result<(), AllocError> {
     let start = begin_box(bytes, b"mp4a")?;
     put_sound(bytes, sound)?;
     put_stream(bytes, sound, largest)?;
@@ -155,7 +158,7 @@ fn put_aac(bytes: &mut Vec<u8>, sound: Sound, largest: u32) -> Result<()> {
     Ok(())
 }
 
-fn put_text(bytes: &mut Vec<u8>) -> Result<()> {
+fn put_text(bytes: &mut Vec<u8>) -> Result<(), AllocError> {
     let start = begin_box(bytes, b"tx3g")?;
     bytes.extend_from_slice(&FIRST)?;
     bytes.extend_from_slice(&TEXT)?;
@@ -163,7 +166,7 @@ fn put_text(bytes: &mut Vec<u8>) -> Result<()> {
     Ok(())
 }
 
-fn put_entry(bytes: &mut Vec<u8>, media: &Media, largest: u32) -> Result<()> {
+fn put_entry(bytes: &mut Vec<u8>, media: &Media, largest: u32) -> Result<(), AllocError> {
     match media {
         Media::Avc(picture, sequence, picture_set) => {
             put_avc(bytes, *picture, sequence, picture_set)
@@ -176,7 +179,7 @@ fn put_entry(bytes: &mut Vec<u8>, media: &Media, largest: u32) -> Result<()> {
 }
 
 /// The sample description of a track whose largest sample has so many bytes.
-pub fn put_description(bytes: &mut Vec<u8>, media: &Media, largest: u32) -> Result<()> {
+pub fn put_description(bytes: &mut Vec<u8>, media: &Media, largest: u32) -> Result<(), AllocError> {
     let start = begin_box(bytes, b"stsd\0\0\0\0\0\0\0\x01")?;
     put_entry(bytes, media, largest)?;
     end_box(bytes, start);

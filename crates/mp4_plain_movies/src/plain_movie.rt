@@ -4,8 +4,8 @@
 use crate::calls::{Beginning, Call, Media, Sample, Track};
 use crate::plain_bytes::{begin_box, end_box, put};
 use crate::plain_tracks::{PlainTrack, movie_ticks, put_movie_header, put_track, ticks};
-use mp4_codec::{Error, Limit, Result};
-use std::alloc::Global;
+use mp4_codec::{Error, Limit};
+use std::alloc::{AllocError, Global};
 
 /// A movie that was begun.
 #[derive(Drop)]
@@ -51,7 +51,7 @@ fn track_refusal(track: &Track) -> Option<Error> {
     None
 }
 
-fn put_file_type(bytes: &mut Vec<u8>, beginning: &Beginning) -> Result<()> {
+fn put_file_type(bytes: &mut Vec<u8>, beginning: &Beginning) -> Result<(), AllocError> {
     let start = begin_box(bytes, b"ftyp")?;
     put(bytes, beginning.major_brand)?;
     put(bytes, beginning.minor_version)?;
@@ -63,7 +63,7 @@ fn put_file_type(bytes: &mut Vec<u8>, beginning: &Beginning) -> Result<()> {
 }
 
 /// Puts the samples that no chunk has yet at the end of the bytes, as a chunk.
-fn close(bytes: &mut Vec<u8>, track: &mut PlainTrack) -> Result<()> {
+fn close(bytes: &mut Vec<u8>, track: &mut PlainTrack) -> Result<(), AllocError> {
     let place = u32::try_from(bytes.len()).unwrap_or(0);
     let all = track.samples.len();
     for sample in track.samples.get(track.closed..).unwrap_or(&[]) {
@@ -92,7 +92,7 @@ fn add<'a>(
     movie_timescale: u32,
     track: &mut PlainTrack<'a>,
     sample: Sample<'a>,
-) -> Result<bool> {
+) -> Result<bool, AllocError> {
     track.samples.push(sample)?;
     if movie_ticks(&track.samples, track.track.timescale, movie_timescale).is_none() {
         let _ = track.samples.pop();
@@ -122,7 +122,7 @@ fn put_tracks(
     bytes: &mut Vec<u8>,
     tracks: &[PlainTrack],
     movie_timescale: u32,
-) -> Result<()> {
+) -> Result<(), AllocError> {
     let mut id = 0u32;
     for track in tracks {
         id = id.wrapping_add(1);
@@ -136,7 +136,7 @@ fn put_movie(
     bytes: &mut Vec<u8>,
     tracks: &[PlainTrack],
     timescale: u32,
-) -> Result<()> {
+) -> Result<(), AllocError> {
     let start = begin_box(bytes, b"moov")?;
     put_movie_header(bytes, timescale, longest(tracks, timescale))?;
     put_tracks(alloc, bytes, tracks, timescale)?;
@@ -146,7 +146,7 @@ fn put_movie(
 
 impl<'a> PlainMovie<'a> {
     /// A movie behind the bytes of a buffer.
-    pub fn begin(alloc: Global, buffer: &[u8], beginning: &Beginning) -> Result<Self> {
+    pub fn begin(alloc: Global, buffer: &[u8], beginning: &Beginning) -> Result<Self, AllocError> {
         let mut bytes = buffer.to_vec(alloc)?;
         put_file_type(&mut bytes, beginning)?;
         let mdat = bytes.len();
@@ -161,7 +161,7 @@ impl<'a> PlainMovie<'a> {
         })
     }
 
-    fn add_track(&mut self, track: Track<'a>) -> Result<Option<Error>> {
+    fn add_track(&mut self, track: Track<'a>) -> Result<Option<Error>, AllocError> {
         if let Some(refusal) = track_refusal(&track) {
             return Ok(Some(refusal));
         }
@@ -175,7 +175,7 @@ impl<'a> PlainMovie<'a> {
         Ok(None)
     }
 
-    fn write_sample(&mut self, id: u32, sample: Sample<'a>) -> Result<Option<Error>> {
+    fn write_sample(&mut self, id: u32, sample: Sample<'a>) -> Result<Option<Error>, AllocError> {
         let index = (id as usize).wrapping_sub(1);
         let Some(track) = self.tracks.get_mut(index) else {
             return Ok(Some(Error::TrakNotFound(id)));
@@ -186,7 +186,7 @@ impl<'a> PlainMovie<'a> {
         Ok(Some(Error::TooLarge(Limit::TrackDuration)))
     }
 
-    fn close_all(&mut self) -> Result<()> {
+    fn close_all(&mut self) -> Result<(), AllocError> {
         for track in self.tracks.iter_mut() {
             if track.closed < track.samples.len() {
                 close(&mut self.bytes, track)?;
@@ -195,7 +195,7 @@ impl<'a> PlainMovie<'a> {
         Ok(())
     }
 
-    fn write_end(&mut self) -> Result<Option<Error>> {
+    fn write_end(&mut self) -> Result<Option<Error>, AllocError> {
         self.close_all()?;
         end_box(&mut self.bytes, self.mdat);
         put_movie(self.alloc, &mut self.bytes, &self.tracks, self.timescale)?;
@@ -205,7 +205,7 @@ impl<'a> PlainMovie<'a> {
 
     /// Makes a call. The answer is what a writer has to refuse it with, the texts of refusals left
     /// out.
-    pub fn make(&mut self, call: &Call<'a>) -> Result<Option<Error>> {
+    pub fn make(&mut self, call: &Call<'a>) -> Result<Option<Error>, AllocError> {
         if self.has_ended {
             return Ok(Some(Error::Ended));
         }

@@ -7,8 +7,7 @@ use crate::plain_bytes::{
     put_sizes, put_sync_samples,
 };
 use crate::spelled::hex;
-use mp4_codec::Result;
-use std::alloc::Global;
+use std::alloc::{AllocError, Global};
 
 /// The tables of a track.
 #[derive(Clone, Copy)]
@@ -56,7 +55,7 @@ pub const TEXT: Tables<'static> = Tables {
 };
 
 /// The tables as the children of a stbl.
-fn written_tables(alloc: Global, tables: &Tables) -> Result<Vec<u8>> {
+fn written_tables(alloc: Global, tables: &Tables) -> Result<Vec<u8>, AllocError> {
     let mut bytes = hex(alloc, STSD)?;
     put_durations(&mut bytes, tables.durations)?;
     if let Some(runs) = tables.rendering_offsets {
@@ -72,7 +71,12 @@ fn written_tables(alloc: Global, tables: &Tables) -> Result<Vec<u8>> {
 }
 
 /// What these texts spell, and behind it a box of this type around a payload.
-fn with_box(alloc: Global, texts: &[&str], kind: &[u8], payload: &[u8]) -> Result<Vec<u8>> {
+fn with_box(
+    alloc: Global,
+    texts: &[&str],
+    kind: &[u8],
+    payload: &[u8],
+) -> Result<Vec<u8>, AllocError> {
     let mut bytes = Vec::new(alloc);
     for text in texts {
         bytes.extend_from_slice(&hex(alloc, text)?)?;
@@ -85,7 +89,7 @@ fn with_box(alloc: Global, texts: &[&str], kind: &[u8], payload: &[u8]) -> Resul
 }
 
 /// The payload of a track of these tables.
-pub fn written_track(alloc: Global, tables: &Tables) -> Result<Vec<u8>> {
+pub fn written_track(alloc: Global, tables: &Tables) -> Result<Vec<u8>, AllocError> {
     let tables = written_tables(alloc, tables)?;
     let information = with_box(alloc, &[DINF], b"stbl", &tables)?;
     let media = with_box(alloc, &[MDHD, HDLR], b"minf", &information)?;
@@ -93,7 +97,7 @@ pub fn written_track(alloc: Global, tables: &Tables) -> Result<Vec<u8>> {
 }
 
 /// Puts the movie of a track of id 1 that has these tables.
-pub fn put_movie(alloc: Global, bytes: &mut Vec<u8>, tables: &Tables) -> Result<()> {
+pub fn put_movie(alloc: Global, bytes: &mut Vec<u8>, tables: &Tables) -> Result<(), AllocError> {
     let payload = written_track(alloc, tables)?;
     let movie = begin_box(bytes, b"moov")?;
     bytes.extend_from_slice(&EMPTY_MOVIE[56..])?;

@@ -6,9 +6,8 @@ use crate::plain_bytes::{
     put_rendering_offsets, put_sizes, put_sync_samples, put_zeros,
 };
 use crate::plain_entries::{pixels, put_description, put_media_header};
-use mp4_codec::Result;
 use mp4_entry::TrackType;
-use std::alloc::Global;
+use std::alloc::{AllocError, Global};
 
 /// A track that was added.
 #[derive(Drop)]
@@ -57,7 +56,7 @@ fn is_long(time: u64) -> bool {
 }
 
 /// Version and flags, and when it was made and changed, for a header with this duration.
-fn put_stamp(bytes: &mut Vec<u8>, duration: u64, flags: u32) -> Result<()> {
+fn put_stamp(bytes: &mut Vec<u8>, duration: u64, flags: u32) -> Result<(), AllocError> {
     if is_long(duration) {
         put(bytes, flags.wrapping_add(0x0100_0000))?;
         return put_zeros(bytes, 16);
@@ -66,18 +65,19 @@ fn put_stamp(bytes: &mut Vec<u8>, duration: u64, flags: u32) -> Result<()> {
     put_zeros(bytes, 8)
 }
 
-fn put_time(bytes: &mut Vec<u8>, time: u64) -> Result<()> {
+fn put_time(bytes: &mut Vec<u8>, time: u64) -> Result<(), AllocError> {
     match u32::try_from(time) {
         Ok(time) => put(bytes, time),
-        Err(_) => {
-            bytes.extend_from_slice(&time.to_be_bytes())?;
-            Ok(())
-        }
+        Err(_) => { bytes.extend_from_slice(&time.to_be_bytes()) }
     }
 }
 
 /// The header of a movie.
-pub fn put_movie_header(bytes: &mut Vec<u8>, timescale: u32, duration: u64) -> Result<()> {
+pub fn put_movie_header(
+    bytes: &mut Vec<u8>,
+    timescale: u32,
+    duration: u64,
+) -> Result<(), AllocError> {
     let start = begin_box(bytes, b"mvhd")?;
     put_stamp(bytes, duration, 0)?;
     put(bytes, timescale)?;
@@ -91,7 +91,7 @@ pub fn put_movie_header(bytes: &mut Vec<u8>, timescale: u32, duration: u64) -> R
 }
 
 /// What stands in the header of a track behind its duration.
-fn put_picture(bytes: &mut Vec<u8>, pixels: (u32, u32)) -> Result<()> {
+fn put_picture(bytes: &mut Vec<u8>, pixels: (u32, u32)) -> Result<(), AllocError> {
     put_zeros(bytes, 12)?;
     bytes.extend_from_slice(b"\x01\0\0\0")?;
     bytes.extend_from_slice(&MATRIX)?;
@@ -102,7 +102,12 @@ fn put_picture(bytes: &mut Vec<u8>, pixels: (u32, u32)) -> Result<()> {
     )
 }
 
-fn put_track_header(bytes: &mut Vec<u8>, track: &Track, id: u32, duration: u64) -> Result<()> {
+fn put_track_header(
+    bytes: &mut Vec<u8>,
+    track: &Track,
+    id: u32,
+    duration: u64,
+) -> Result<(), AllocError> {
     let start = begin_box(bytes, b"tkhd")?;
     put_stamp(bytes, duration, 1)?;
     put_pair(bytes, id, 0)?;
@@ -123,7 +128,7 @@ fn language_bits(language: &str) -> u16 {
     bits
 }
 
-fn put_time_header(bytes: &mut Vec<u8>, track: &Track, duration: u64) -> Result<()> {
+fn put_time_header(bytes: &mut Vec<u8>, track: &Track, duration: u64) -> Result<(), AllocError> {
     let start = begin_box(bytes, b"mdhd")?;
     put_stamp(bytes, duration, 0)?;
     put(bytes, track.timescale)?;
@@ -142,14 +147,14 @@ fn handler_of(track_type: TrackType) -> &'static [u8] {
     }
 }
 
-fn put_handler(bytes: &mut Vec<u8>, track_type: TrackType) -> Result<()> {
+fn put_handler(bytes: &mut Vec<u8>, track_type: TrackType) -> Result<(), AllocError> {
     bytes.extend_from_slice(b"\0\0\0\x21hdlr\0\0\0\0\0\0\0\0")?;
     bytes.extend_from_slice(handler_of(track_type))?;
     put_zeros(bytes, 13)
 }
 
 /// Runs of samples of one duration.
-fn duration_runs(alloc: Global, samples: &[Sample]) -> Result<Vec<(u32, u32)>> {
+fn duration_runs(alloc: Global, samples: &[Sample]) -> Result<Vec<(u32, u32)>, AllocError> {
     let mut runs: Vec<(u32, u32)> = Vec::new(alloc);
     for sample in samples {
         match runs.last_mut() {
@@ -161,7 +166,7 @@ fn duration_runs(alloc: Global, samples: &[Sample]) -> Result<Vec<(u32, u32)>> {
 }
 
 /// Runs of samples of one rendering offset; none where all are 0.
-fn rendering_runs(alloc: Global, samples: &[Sample]) -> Result<Vec<(u32, i32)>> {
+fn rendering_runs(alloc: Global, samples: &[Sample]) -> Result<Vec<(u32, i32)>, AllocError> {
     let mut runs: Vec<(u32, i32)> = Vec::new(alloc);
     for sample in samples {
         match runs.last_mut() {
@@ -176,7 +181,7 @@ fn rendering_runs(alloc: Global, samples: &[Sample]) -> Result<Vec<(u32, i32)>> 
 }
 
 /// The numbers of the sync samples.
-fn sync_numbers(alloc: Global, samples: &[Sample]) -> Result<Vec<u32>> {
+fn sync_numbers(alloc: Global, samples: &[Sample]) -> Result<Vec<u32>, AllocError> {
     let mut numbers = Vec::new(alloc);
     let mut number = 0u32;
     for sample in samples {
@@ -189,7 +194,7 @@ fn sync_numbers(alloc: Global, samples: &[Sample]) -> Result<Vec<u32>> {
 }
 
 /// The entries of chunks with so many samples each: the first chunk of each run of equal counts.
-fn chunk_entries(alloc: Global, counts: &[u32]) -> Result<Vec<(u32, u32)>> {
+fn chunk_entries(alloc: Global, counts: &[u32]) -> Result<Vec<(u32, u32)>, AllocError> {
     let mut entries: Vec<(u32, u32)> = Vec::new(alloc);
     let mut chunk = 0u32;
     for count in counts {
@@ -205,7 +210,7 @@ fn size_of(sample: &Sample) -> u32 {
     u32::try_from(sample.bytes.len()).unwrap_or(0)
 }
 
-fn sizes(alloc: Global, samples: &[Sample]) -> Result<Vec<u32>> {
+fn sizes(alloc: Global, samples: &[Sample]) -> Result<Vec<u32>, AllocError> {
     let mut sizes = Vec::new(alloc);
     for sample in samples {
         sizes.push(size_of(sample))?;
@@ -233,7 +238,7 @@ fn largest(samples: &[Sample]) -> u32 {
 }
 
 /// The tables of times.
-fn put_times(alloc: Global, bytes: &mut Vec<u8>, samples: &[Sample]) -> Result<()> {
+fn put_times(alloc: Global, bytes: &mut Vec<u8>, samples: &[Sample]) -> Result<(), AllocError> {
     put_durations(bytes, &duration_runs(alloc, samples)?)?;
     let runs = rendering_runs(alloc, samples)?;
     if !runs.is_empty() {
@@ -245,7 +250,11 @@ fn put_times(alloc: Global, bytes: &mut Vec<u8>, samples: &[Sample]) -> Result<(
     put_sync_samples(bytes, &sync_numbers(alloc, samples)?)
 }
 
-fn put_listed_sizes(alloc: Global, bytes: &mut Vec<u8>, samples: &[Sample]) -> Result<()> {
+fn put_listed_sizes(
+    alloc: Global,
+    bytes: &mut Vec<u8>,
+    samples: &[Sample],
+) -> Result<(), AllocError> {
     let sizes = sizes(alloc, samples)?;
     let count = u32::try_from(sizes.len()).unwrap_or(0);
     match one_size(&sizes) {
@@ -255,13 +264,13 @@ fn put_listed_sizes(alloc: Global, bytes: &mut Vec<u8>, samples: &[Sample]) -> R
 }
 
 /// The tables of places.
-fn put_places(alloc: Global, bytes: &mut Vec<u8>, track: &PlainTrack) -> Result<()> {
+fn put_places(alloc: Global, bytes: &mut Vec<u8>, track: &PlainTrack) -> Result<(), AllocError> {
     put_chunks(bytes, &chunk_entries(alloc, &track.counts)?)?;
     put_listed_sizes(alloc, bytes, &track.samples)?;
     put_near_offsets(bytes, &track.chunks)
 }
 
-fn put_tables(alloc: Global, bytes: &mut Vec<u8>, track: &PlainTrack) -> Result<()> {
+fn put_tables(alloc: Global, bytes: &mut Vec<u8>, track: &PlainTrack) -> Result<(), AllocError> {
     let start = begin_box(bytes, b"stbl")?;
     put_description(bytes, &track.track.media, largest(&track.samples))?;
     put_times(alloc, bytes, &track.samples)?;
@@ -270,7 +279,11 @@ fn put_tables(alloc: Global, bytes: &mut Vec<u8>, track: &PlainTrack) -> Result<
     Ok(())
 }
 
-fn put_information(alloc: Global, bytes: &mut Vec<u8>, track: &PlainTrack) -> Result<()> {
+fn put_information(
+    alloc: Global,
+    bytes: &mut Vec<u8>,
+    track: &PlainTrack,
+) -> Result<(), AllocError> {
     let start = begin_box(bytes, b"minf")?;
     put_media_header(bytes, &track.track.media)?;
     bytes.extend_from_slice(&DINF)?;
@@ -279,7 +292,7 @@ fn put_information(alloc: Global, bytes: &mut Vec<u8>, track: &PlainTrack) -> Re
     Ok(())
 }
 
-fn put_media(alloc: Global, bytes: &mut Vec<u8>, track: &PlainTrack) -> Result<()> {
+fn put_media(alloc: Global, bytes: &mut Vec<u8>, track: &PlainTrack) -> Result<(), AllocError> {
     let start = begin_box(bytes, b"mdia")?;
     put_time_header(bytes, &track.track, ticks(&track.samples))?;
     put_handler(bytes, track.track.track_type)?;
@@ -295,7 +308,7 @@ pub fn put_track(
     track: &PlainTrack,
     id: u32,
     duration: u64,
-) -> Result<()> {
+) -> Result<(), AllocError> {
     let start = begin_box(bytes, b"trak")?;
     put_track_header(bytes, &track.track, id, duration)?;
     put_media(alloc, bytes, track)?;

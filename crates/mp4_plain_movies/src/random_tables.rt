@@ -2,8 +2,7 @@
 
 use crate::plain_tables::{Tables, written_track};
 use crate::random::Random;
-use mp4_codec::Result;
-use std::alloc::Global;
+use std::alloc::{AllocError, Global};
 
 /// Tables that a seed settles.
 #[derive(Drop)]
@@ -58,7 +57,12 @@ impl RandomTables {
 }
 
 /// One chunk more, with so many samples.
-fn put_chunk(tables: &mut RandomTables, random: &mut Random, chunk: u32, count: u32) -> Result<()> {
+fn put_chunk(
+    tables: &mut RandomTables,
+    random: &mut Random,
+    chunk: u32,
+    count: u32,
+) -> Result<(), AllocError> {
     tables.chunks.push((chunk, count))?;
     tables.offsets.push(u64::from(random.next()))?;
     tables.durations.push((count, random.few()))?;
@@ -72,7 +76,11 @@ fn put_chunk(tables: &mut RandomTables, random: &mut Random, chunk: u32, count: 
 }
 
 /// The sizes of so many samples, of which some are sync samples.
-fn put_samples(tables: &mut RandomTables, random: &mut Random, count: u32) -> Result<()> {
+fn put_samples(
+    tables: &mut RandomTables,
+    random: &mut Random,
+    count: u32,
+) -> Result<(), AllocError> {
     for sample in 1..=count {
         tables.sizes.push(random.few())?;
         if random.chance() {
@@ -83,7 +91,7 @@ fn put_samples(tables: &mut RandomTables, random: &mut Random, count: u32) -> Re
 }
 
 /// Puts the tables of chunks that have one to four samples each; the answer is how many there are.
-pub fn put_all(tables: &mut RandomTables, random: &mut Random) -> Result<u32> {
+pub fn put_all(tables: &mut RandomTables, random: &mut Random) -> Result<u32, AllocError> {
     let mut total = 0u32;
     for chunk in 1..=random.below(7).wrapping_add(1) {
         let count = random.few().wrapping_add(1);
@@ -95,7 +103,11 @@ pub fn put_all(tables: &mut RandomTables, random: &mut Random) -> Result<u32> {
 }
 
 /// Makes one of the tables contradict the others.
-pub fn break_one(tables: &mut RandomTables, random: &mut Random, count: u32) -> Result<()> {
+pub fn break_one(
+    tables: &mut RandomTables,
+    random: &mut Random,
+    count: u32,
+) -> Result<(), AllocError> {
     match random.below(9) {
         0 => drop(tables.durations.pop()),
         1 => drop(tables.rendering_offsets.pop()),
@@ -112,7 +124,7 @@ pub fn break_one(tables: &mut RandomTables, random: &mut Random, count: u32) -> 
 
 /// The payload of a track of random tables, of which one in four has a broken one; most chunks lie in the first
 /// thousand bytes.
-pub fn random_track(alloc: Global, random: &mut Random) -> Result<Vec<u8>> {
+pub fn random_track(alloc: Global, random: &mut Random) -> Result<Vec<u8>, AllocError> {
     let mut tables = RandomTables::new(alloc);
     let count = put_all(&mut tables, random)?;
     if random.few() == 0 {

@@ -1,7 +1,7 @@
 //! What the tests of all boxes do with bytes.
 
 use mp4_codec::{ByteCursor, Error, HEADER_SIZE, Limit, ReadBox, Result, WriteBox};
-use std::alloc::Global;
+use std::alloc::{AllocError, Global};
 use std::fmt::Display;
 
 /// Whether a statement holds and a call answers `Ok(true)`. Both are made, so no way through a test ends early, which
@@ -21,7 +21,7 @@ pub fn prints(alloc: Global, value: &impl Display, text: &str) -> Result<bool> {
 }
 
 /// The bytes that a text spells, two digits each; spaces are skipped.
-pub fn hex(alloc: Global, text: &str) -> Result<Vec<u8>> {
+pub fn hex(alloc: Global, text: &str) -> std::result::Result<Vec<u8>, AllocError> {
     let mut bytes = Vec::new(alloc);
     let mut byte = 0u8;
     let mut half = false;

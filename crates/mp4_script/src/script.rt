@@ -77,7 +77,12 @@ fn make_call(writer: &mut Mp4Writer, number: u64, call: &WriterCall) -> Result<(
 }
 
 /// Runs the line of this number: an empty one changes nothing, and any other makes its call.
-fn run_line(writer: &mut Mp4Writer, number: u64, line: &[u8]) -> Result<(), ScriptFault>
+fn run_line(
+    alloc: Global,
+    writer: &mut Mp4Writer,
+    number: u64,
+    line: &[u8],
+) -> Result<(), ScriptFault>
     ensures answer { AnswersScript (RanOutAt number line.now) (λ _. writer.new) result (line_step number line.now writer.old) }
     ensures fits { IfOk result (λ _. AllByRecursion IsInRangeCall (calls_in (line.now ∷ []))) }
 {
@@ -87,7 +92,7 @@ fn run_line(writer: &mut Mp4Writer, number: u64, line: &[u8]) -> Result<(), Scri
     let Some(command) = command_in(line) else {
         return Err(ScriptFault::NotACommand(number));
     };
-    match call_of(writer.allocator(), &command) {
+    match call_of(alloc, &command) {
         Ok(call) => {
             call.in_range();
             make_call(writer, number, &call)
@@ -97,7 +102,7 @@ fn run_line(writer: &mut Mp4Writer, number: u64, line: &[u8]) -> Result<(), Scri
 }
 
 /// Runs the lines of a script, up to the first that is at fault.
-fn run_lines(writer: &mut Mp4Writer, script: &[u8]) -> Result<(), ScriptFault>
+fn run_lines(alloc: Global, writer: &mut Mp4Writer, script: &[u8]) -> Result<(), ScriptFault>
     ensures answer { AnswersScript (RanOutIn script.now writer.old) (λ _. writer.new) result (run_all script.now writer.old) }
     ensures fits { IfOk result (λ _. AllByRecursion IsInRangeCall (calls_in (lines_of script.now))) }
 {
@@ -105,7 +110,7 @@ fn run_lines(writer: &mut Mp4Writer, script: &[u8]) -> Result<(), ScriptFault>
     let mut number = 0;
     while let Some(line) = lines.next_line() {
         number += 1;
-        run_line(writer, number, line)?;
+        run_line(alloc, writer, number, line)?;
     }
     Ok(())
 }
@@ -127,7 +132,7 @@ pub fn run_script(alloc: Global, script: &[u8]) -> Result<Vec<u8>, ScriptFault>
 {
     written_movies_are_read_back();
     let mut writer = begin(alloc).map_err(ScriptFault::End)?;
-    run_lines(&mut writer, script)?;
+    run_lines(alloc, &mut writer, script)?;
     match writer.write_end() {
         Ok(()) => Ok(writer.into_writer()),
         Err(error) => Err(ScriptFault::End(error)),

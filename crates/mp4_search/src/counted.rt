@@ -2,6 +2,7 @@
 
 ghost use Rattle.std.specs.Prelude.{◌≡◌, ℕ, ◌+◌, ◌-◌, ◌^◌, ◌<◌, ◌≤◌, [], ◌∷◌, ◌++◌, length, slice_index, OnOk};
 
+use mp4_codec::Items;
 use std::alloc::AllocError;
 use std::marker::Model;
 
@@ -38,7 +39,7 @@ impl Readings {
 /// Numbers that are searched: only a search reads them, one at a time.
 #[derive(Debug, Drop)]
 pub struct SearchedNumbers {
-    numbers: Vec<u32>,
+    numbers: Items<u32>,
 }
 
 impl Model for SearchedNumbers {
@@ -46,14 +47,16 @@ impl Model for SearchedNumbers {
 
     ghost Value = { List ℕ };
 
-    ghost view = { λ s. s.numbers.items };
+    ghost view = { λ s. s.numbers };
 }
 
 impl SearchedNumbers {
     pub fn new(numbers: Vec<u32>) -> Self
         ensures { result ≡ numbers.items }
     {
-        SearchedNumbers { numbers }
+        SearchedNumbers {
+            numbers: Items::from(numbers),
+        }
     }
 
     pub fn len(&self) -> usize
@@ -78,7 +81,7 @@ impl SearchedNumbers {
         ensures counted { readings.new ≡ readings.old + 1 }
     {
         readings.count += 1;
-        self.numbers[index]
+        self.numbers.as_slice()[index]
     }
 }
 

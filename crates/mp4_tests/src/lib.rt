@@ -1,7 +1,6 @@
-//! What no case of `mp4_vectors` can say: values that no bytes give, what boxes are made with, random boxes, random calls
-//! of the writer beside a plain model, what it wrote when it is read back, random tables and files beside plain ones, a
-//! million samples, and that each call of every library succeeds with ample memory. What a contract says isn't tested
-//! again.
+//! What no case of `mp4_vectors` can say of movies: random calls of the writer beside a plain model, what it wrote when it
+//! is read back, random tables and files beside plain ones, a million samples, and that each call of the libraries above
+//! `mp4_boxes` succeeds with ample memory. What a contract says isn't tested again.
 #![tactic(auto)]
 
 #[cfg(test)]
@@ -11,21 +10,15 @@ mod asserts;
 #[cfg(test)]
 mod large_sample;
 #[cfg(test)]
-mod large_tables;
-#[cfg(test)]
-mod laws;
-#[cfg(test)]
 mod long_lists;
 #[cfg(test)]
 mod million_members;
 #[cfg(test)]
 mod million_samples;
 #[cfg(test)]
-mod parts;
+mod plain_files;
 #[cfg(test)]
 mod plain_fragments;
-#[cfg(test)]
-mod random_boxes;
 #[cfg(test)]
 mod random_files;
 #[cfg(test)]
@@ -43,17 +36,11 @@ mod reader_files;
 #[cfg(test)]
 mod refused_memory;
 #[cfg(test)]
-mod refused_writes;
-#[cfg(test)]
 mod round_trip;
 #[cfg(test)]
 mod taste;
 #[cfg(test)]
 mod tracks;
-#[cfg(test)]
-mod types;
-#[cfg(test)]
-mod unread_values;
 #[cfg(test)]
 mod walked_lookup;
 #[cfg(test)]

@@ -3,13 +3,12 @@
 use crate::asked::lends;
 use crate::asserts::check;
 use crate::walked_lookup::WalkedPlace;
-use mp4_codec::Result;
 use mp4_lookup::{Comparisons, Mp4Track, SamplePlace, SampleRef};
 use mp4_media::{Mp4Reader, read_mp4};
 use mp4_plain_movies::movie_bytes::EMPTY_MOVIE;
 use mp4_plain_movies::plain_bytes::{begin_box, end_box, put, put_over, put_pair};
 use mp4_plain_movies::plain_tables::{Tables, put_movie};
-use std::alloc::Global;
+use std::alloc::{AllocError, Global};
 
 const SAMPLES: u32 = 1_000_000;
 
@@ -26,12 +25,12 @@ const NO_SAMPLES: Tables<'static> = Tables {
 };
 
 /// Puts what the run says of sample `k`: durations of 1 and 2 ticks, and sizes of one and no byte take turns.
-fn put_sample(bytes: &mut Vec<u8>, k: u32) -> Result<()> {
+fn put_sample(bytes: &mut Vec<u8>, k: u32) -> Result<(), AllocError> {
     put_pair(bytes, 2 - k % 2, k % 2)
 }
 
 /// Puts the run of all samples. The answer is the place of its data offset.
-fn put_run(bytes: &mut Vec<u8>) -> Result<usize> {
+fn put_run(bytes: &mut Vec<u8>) -> Result<usize, AllocError> {
     let run = begin_box(bytes, b"trun")?;
     put_pair(bytes, 0x301, SAMPLES)?;
     let data_offset = bytes.len();
@@ -44,7 +43,7 @@ fn put_run(bytes: &mut Vec<u8>) -> Result<usize> {
 }
 
 /// Puts the fragment of this run, whose samples lie eight bytes behind it.
-fn put_fragment(bytes: &mut Vec<u8>) -> Result<()> {
+fn put_fragment(bytes: &mut Vec<u8>) -> Result<(), AllocError> {
     let moof = begin_box(bytes, b"moof\0\0\0\x10mfhd\0\0\0\0\0\0\0\x01")?;
     let traf = begin_box(bytes, b"traf\0\0\0\x10tfhd\0\x02\0\0\0\0\0\x01")?;
     let data_offset = put_run(bytes)?;
@@ -61,7 +60,7 @@ fn byte_of(k: u32) -> u8 {
 }
 
 /// Puts the media data: a byte for each sample of an odd number.
-fn put_data(bytes: &mut Vec<u8>) -> Result<()> {
+fn put_data(bytes: &mut Vec<u8>) -> Result<(), AllocError> {
     let start = begin_box(bytes, b"mdat")?;
     for half in 0..SAMPLES / 2 {
         bytes.push(byte_of(2 * half + 1))?;
@@ -71,7 +70,7 @@ fn put_data(bytes: &mut Vec<u8>) -> Result<()> {
 }
 
 /// File type, movie, fragment and media data. The answer has the place of the first sample, too.
-fn file(alloc: Global) -> Result<(Vec<u8>, u64)> {
+fn file(alloc: Global) -> Result<(Vec<u8>, u64), AllocError> {
     let mut bytes = (&EMPTY_MOVIE[..32]).to_vec(alloc)?;
     put_movie(alloc, &mut bytes, &NO_SAMPLES)?;
     put_fragment(&mut bytes)?;
@@ -166,7 +165,7 @@ fn far_ones_are_lent(reader: &Mp4Reader, start: u64) -> bool {
 }
 
 /// Whether the samples of the file are lent, at far numbers and in order.
-fn all_are_read(alloc: Global) -> Result<bool> {
+fn all_are_read(alloc: Global) -> mp4_codec::Result<bool> {
     let (bytes, start) = file(alloc)?;
     let reader = read_mp4(alloc, &bytes)?;
     Ok(far_ones_are_lent(&reader, start) && each_is_lent(&reader, start))

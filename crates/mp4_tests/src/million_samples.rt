@@ -2,18 +2,17 @@
 
 use crate::asked::reads;
 use crate::asserts::check;
-use mp4_codec::Result;
 use mp4_lookup::{Comparisons, SamplePlace, SampleRef};
 use mp4_media::{Mp4Reader, read_mp4};
 use mp4_plain_movies::movie_bytes::EMPTY_MOVIE;
 use mp4_plain_movies::plain_bytes::{begin_box, end_box};
 use mp4_plain_movies::plain_tables::{Tables, put_movie};
-use std::alloc::Global;
+use std::alloc::{AllocError, Global};
 
 const SAMPLES: u32 = 1_000_000;
 
 /// Runs of one sample each, of durations 1 and 2 in turn.
-fn durations(alloc: Global) -> Result<Vec<(u32, u32)>> {
+fn durations(alloc: Global) -> Result<Vec<(u32, u32)>, AllocError> {
     let mut runs = Vec::new(alloc);
     for _ in 0..SAMPLES / 2 {
         runs.push((1, 1))?;
@@ -23,7 +22,7 @@ fn durations(alloc: Global) -> Result<Vec<(u32, u32)>> {
 }
 
 /// Runs of one sample each, shown 7 and 8 ticks later in turn.
-fn rendering_offsets(alloc: Global) -> Result<Vec<(u32, i32)>> {
+fn rendering_offsets(alloc: Global) -> Result<Vec<(u32, i32)>, AllocError> {
     let mut runs = Vec::new(alloc);
     for _ in 0..SAMPLES / 2 {
         runs.push((1, 7))?;
@@ -33,7 +32,7 @@ fn rendering_offsets(alloc: Global) -> Result<Vec<(u32, i32)>> {
 }
 
 /// Each sample is a sync sample.
-fn sync_samples(alloc: Global) -> Result<Vec<u32>> {
+fn sync_samples(alloc: Global) -> Result<Vec<u32>, AllocError> {
     let mut numbers = Vec::new(alloc);
     for sample in 1..=SAMPLES {
         numbers.push(sample)?;
@@ -42,7 +41,7 @@ fn sync_samples(alloc: Global) -> Result<Vec<u32>> {
 }
 
 /// Sizes of one byte each.
-fn sizes(alloc: Global) -> Result<Vec<u32>> {
+fn sizes(alloc: Global) -> Result<Vec<u32>, AllocError> {
     let mut sizes = Vec::new(alloc);
     for _ in 0..SAMPLES {
         sizes.push(1)?;
@@ -51,7 +50,7 @@ fn sizes(alloc: Global) -> Result<Vec<u32>> {
 }
 
 /// A chunk of half the samples, and chunks of one sample each.
-fn chunks(alloc: Global) -> Result<Vec<(u32, u32)>> {
+fn chunks(alloc: Global) -> Result<Vec<(u32, u32)>, AllocError> {
     let mut entries = Vec::new(alloc);
     entries.push((1, 500_000))?;
     for chunk in 2..=500_001 {
@@ -61,7 +60,7 @@ fn chunks(alloc: Global) -> Result<Vec<(u32, u32)>> {
 }
 
 /// The chunks follow each other, the first behind the header of the media data.
-fn offsets(alloc: Global) -> Result<Vec<u64>> {
+fn offsets(alloc: Global) -> Result<Vec<u64>, AllocError> {
     let mut offsets = Vec::new(alloc);
     offsets.push(40)?;
     for offset in 500_040..1_000_040 {
@@ -133,7 +132,7 @@ fn each_is_read(reader: &mut Mp4Reader) -> bool {
 }
 
 /// File type and media data: a byte for each sample.
-fn media_data(alloc: Global) -> Result<Vec<u8>> {
+fn media_data(alloc: Global) -> Result<Vec<u8>, AllocError> {
     let mut bytes = (&EMPTY_MOVIE[..32]).to_vec(alloc)?;
     let start = begin_box(&mut bytes, b"mdat")?;
     for k in 1..=SAMPLES {
@@ -144,7 +143,7 @@ fn media_data(alloc: Global) -> Result<Vec<u8>> {
 }
 
 /// Whether each sample is read of the file with these tables.
-fn file_is_read(alloc: Global, tables: &Tables) -> Result<bool> {
+fn file_is_read(alloc: Global, tables: &Tables) -> mp4_codec::Result<bool> {
     let mut bytes = media_data(alloc)?;
     put_movie(alloc, &mut bytes, tables)?;
     let mut reader = read_mp4(alloc, &bytes)?;
@@ -152,7 +151,7 @@ fn file_is_read(alloc: Global, tables: &Tables) -> Result<bool> {
 }
 
 /// Whether each sample of a track is read, of which all but the first half have chunks of their own.
-fn all_are_read(alloc: Global) -> Result<bool> {
+fn all_are_read(alloc: Global) -> mp4_codec::Result<bool> {
     let durations = durations(alloc)?;
     let rendering_offsets = rendering_offsets(alloc)?;
     let sync_samples = sync_samples(alloc)?;

@@ -1,13 +1,12 @@
 //! Random files of fragments, from fixed seeds: their bytes, and what a plain program keeps of them.
 
+use crate::plain_files::put_data;
 use crate::plain_fragments::{NOTHING, PlainFragment, PlainPart, PlainRun, PlainValues};
-use crate::random_files::put_data;
-use mp4_codec::Result;
 use mp4_plain_movies::movie_bytes::EMPTY_MOVIE;
 use mp4_plain_movies::plain_bytes::{begin_box, end_box, put, put_over, put_pair};
 use mp4_plain_movies::random::Random;
 use mp4_plain_movies::random_tables::random_track;
-use std::alloc::Global;
+use std::alloc::{AllocError, Global};
 
 /// The bytes of a file, and what is said in them of fragments.
 #[derive(Drop)]
@@ -44,7 +43,12 @@ fn distance(random: &mut Random) -> i32 {
 }
 
 /// Puts a number if its flag is set.
-fn put_flagged(bytes: &mut Vec<u8>, flags: u32, flag: u32, number: u32) -> Result<Option<u32>> {
+fn put_flagged(
+    bytes: &mut Vec<u8>,
+    flags: u32,
+    flag: u32,
+    number: u32,
+) -> Result<Option<u32>, AllocError> {
     if flags & flag == 0 {
         return Ok(None);
     }
@@ -53,7 +57,11 @@ fn put_flagged(bytes: &mut Vec<u8>, flags: u32, flag: u32, number: u32) -> Resul
 }
 
 /// Puts what a run says of a sample.
-fn put_member(bytes: &mut Vec<u8>, random: &mut Random, flags: u32) -> Result<PlainValues> {
+fn put_member(
+    bytes: &mut Vec<u8>,
+    random: &mut Random,
+    flags: u32,
+) -> Result<PlainValues, AllocError> {
     Ok(PlainValues {
         duration: put_flagged(bytes, flags, 0x100, number(random))?,
         size: put_flagged(bytes, flags, 0x200, number(random))?,
@@ -78,7 +86,7 @@ fn put_members(
     random: &mut Random,
     flags: u32,
     count: u32,
-) -> Result<Vec<PlainValues>> {
+) -> Result<Vec<PlainValues>, AllocError> {
     let mut members = Vec::new(alloc);
     for _ in 0..count {
         members.push(put_member(bytes, random, flags)?)?;
@@ -87,7 +95,11 @@ fn put_members(
 }
 
 /// Puts a run of random flags, in a version that says nothing.
-fn put_run(alloc: Global, bytes: &mut Vec<u8>, random: &mut Random) -> Result<PlainRun> {
+fn put_run(
+    alloc: Global,
+    bytes: &mut Vec<u8>,
+    random: &mut Random,
+) -> Result<PlainRun, AllocError> {
     let flags = random.next() & 0xf05;
     let count = count(random);
     let version = if random.chance() { 0x100_0000 } else { 0 };
@@ -106,7 +118,11 @@ fn put_run(alloc: Global, bytes: &mut Vec<u8>, random: &mut Random) -> Result<Pl
 }
 
 /// Puts the base of a part of a fragment if its flag is set.
-fn put_base(bytes: &mut Vec<u8>, random: &mut Random, flags: u32) -> Result<Option<u64>> {
+fn put_base(
+    bytes: &mut Vec<u8>,
+    random: &mut Random,
+    flags: u32,
+) -> Result<Option<u64>, AllocError> {
     if flags & 0x1 == 0 {
         return Ok(None);
     }
@@ -121,7 +137,7 @@ fn put_header(
     bytes: &mut Vec<u8>,
     random: &mut Random,
     id: u32,
-) -> Result<PlainPart> {
+) -> Result<PlainPart, AllocError> {
     let own_base = if random.few() == 0 { 0x1 } else { 0 };
     let flags = random.next() & 0x3_003a | own_base;
     let start = begin_box(bytes, b"tfhd")?;
@@ -146,7 +162,7 @@ fn put_header(
 }
 
 /// Puts the time of a part of a fragment, in 32 or 64 bits, or no time.
-fn put_time(bytes: &mut Vec<u8>, random: &mut Random) -> Result<Option<u64>> {
+fn put_time(bytes: &mut Vec<u8>, random: &mut Random) -> Result<Option<u64>, AllocError> {
     match random.few() {
         0 => {
             let time = number(random);
@@ -165,7 +181,12 @@ fn put_time(bytes: &mut Vec<u8>, random: &mut Random) -> Result<Option<u64>> {
 }
 
 /// Puts a part of a fragment, with up to three runs.
-fn put_part(alloc: Global, bytes: &mut Vec<u8>, random: &mut Random, id: u32) -> Result<PlainPart> {
+fn put_part(
+    alloc: Global,
+    bytes: &mut Vec<u8>,
+    random: &mut Random,
+    id: u32,
+) -> Result<PlainPart, AllocError> {
     let start = begin_box(bytes, b"traf")?;
     let mut part = put_header(alloc, bytes, random, id)?;
     part.time = put_time(bytes, random)?;
@@ -182,7 +203,7 @@ fn put_fragment(
     bytes: &mut Vec<u8>,
     random: &mut Random,
     tracks: u32,
-) -> Result<PlainFragment> {
+) -> Result<PlainFragment, AllocError> {
     let mut parts = Vec::new(alloc);
     let start = begin_box(bytes, b"moof\0\0\0\x10mfhd\0\0\0\0\0\0\0\x01")?;
     for _ in 0..random.few() {
@@ -197,7 +218,12 @@ fn put_fragment(
 }
 
 /// Puts a track of random tables.
-fn put_track(alloc: Global, bytes: &mut Vec<u8>, random: &mut Random, id: u32) -> Result<()> {
+fn put_track(
+    alloc: Global,
+    bytes: &mut Vec<u8>,
+    random: &mut Random,
+    id: u32,
+) -> Result<(), AllocError> {
     let mut track = random_track(alloc, random)?;
     put_over(&mut track, 20, id);
     let start = begin_box(bytes, b"trak")?;
@@ -207,7 +233,7 @@ fn put_track(alloc: Global, bytes: &mut Vec<u8>, random: &mut Random, id: u32) -
 }
 
 /// Puts what the movie says of the samples of fragments of a track.
-fn put_default(file: &mut RandomFile, random: &mut Random) -> Result<()> {
+fn put_default(file: &mut RandomFile, random: &mut Random) -> Result<(), AllocError> {
     let id = random.few();
     let duration = number(random);
     let size = number(random);
@@ -227,7 +253,7 @@ fn put_default(file: &mut RandomFile, random: &mut Random) -> Result<()> {
 }
 
 /// Puts what the movie says of the samples of fragments, of up to four tracks.
-fn put_defaults(file: &mut RandomFile, random: &mut Random) -> Result<()> {
+fn put_defaults(file: &mut RandomFile, random: &mut Random) -> Result<(), AllocError> {
     let start = begin_box(&mut file.bytes, b"mvex")?;
     for _ in 0..=random.few() {
         put_default(file, random)?;
@@ -237,7 +263,12 @@ fn put_defaults(file: &mut RandomFile, random: &mut Random) -> Result<()> {
 }
 
 /// Puts a movie of so many tracks.
-fn put_movie(alloc: Global, file: &mut RandomFile, random: &mut Random, tracks: u32) -> Result<()> {
+fn put_movie(
+    alloc: Global,
+    file: &mut RandomFile,
+    random: &mut Random,
+    tracks: u32,
+) -> Result<(), AllocError> {
     let start = begin_box(&mut file.bytes, b"moov")?;
     file.bytes.extend_from_slice(&EMPTY_MOVIE[56..])?;
     for id in 1..=tracks {
@@ -256,14 +287,14 @@ fn put_fragment_and_data(
     file: &mut RandomFile,
     random: &mut Random,
     tracks: u32,
-) -> Result<()> {
+) -> Result<(), AllocError> {
     let fragment = put_fragment(alloc, &mut file.bytes, random, tracks)?;
     file.fragments.push(fragment)?;
     put_data(&mut file.bytes, random)
 }
 
 /// A file of one to three tracks and up to four fragments, one of which may stand before the movie.
-pub fn random_file(alloc: Global, random: &mut Random) -> Result<RandomFile> {
+pub fn random_file(alloc: Global, random: &mut Random) -> Result<RandomFile, AllocError> {
     let mut file = RandomFile {
         bytes: (&EMPTY_MOVIE[..32]).to_vec(alloc)?,
         defaults: Vec::new(alloc),

@@ -1,9 +1,8 @@
 //! Files that a test writes down.
 
-use mp4_codec::Result;
 use mp4_plain_movies::nested::{DINF, HDLR, MDHD, MVHD, STSD, TKHD, nest};
 use mp4_plain_movies::spelled::hex;
-use std::alloc::Global;
+use std::alloc::{AllocError, Global};
 
 /// A file of a movie with one text track, in texts that spell its boxes.
 #[derive(Clone, Copy)]
@@ -47,7 +46,7 @@ pub const FRAGMENTED: TextFile<'static> = TextFile {
 };
 
 /// What these texts spell, one behind the other.
-fn all_spelled(alloc: Global, texts: &[&str]) -> Result<Vec<u8>> {
+fn all_spelled(alloc: Global, texts: &[&str]) -> Result<Vec<u8>, AllocError> {
     let mut bytes = Vec::new(alloc);
     for text in texts {
         bytes.extend_from_slice(&hex(alloc, text)?)?;
@@ -56,7 +55,7 @@ fn all_spelled(alloc: Global, texts: &[&str]) -> Result<Vec<u8>> {
 }
 
 /// The movie of a file, in a text that spells it.
-fn movie_of(alloc: Global, file: &TextFile) -> Result<String> {
+fn movie_of(alloc: Global, file: &TextFile) -> Result<String, AllocError> {
     let stbl = nest(alloc, "7374626c", file.tables)?;
     let minf = nest(alloc, "6d696e66", &[DINF, stbl.as_str()])?;
     let mdia = nest(alloc, "6d646961", &[file.mdhd, HDLR, minf.as_str()])?;
@@ -65,7 +64,7 @@ fn movie_of(alloc: Global, file: &TextFile) -> Result<String> {
 }
 
 /// The bytes of a file.
-pub fn file_of(alloc: Global, file: &TextFile) -> Result<Vec<u8>> {
+pub fn file_of(alloc: Global, file: &TextFile) -> Result<Vec<u8>, AllocError> {
     let movie = movie_of(alloc, file)?;
     let mut bytes = all_spelled(alloc, file.before)?;
     bytes.extend_from_slice(&hex(alloc, movie.as_str())?)?;

@@ -2,113 +2,25 @@
 //! these tests with one request refused, each in turn. A refused call then answers `OutOfMemory`, it leaves what it
 //! must, and made again it is Ok. While a test prints that a request was refused, the next one is tried.
 
-use crate::asked::is_held;
-use crate::asked::lends;
-use crate::asserts::check;
-use crate::asserts::holds;
-use crate::asserts::same;
-use crate::reader_files::FRAGMENTED;
-use crate::reader_files::TextFile;
-use crate::reader_files::file_of;
-use crate::tracks::holds_of;
-use crate::tracks::text_samples_are_found;
-use crate::writer_calls::config_of;
-use crate::writer_calls::make;
-use crate::writer_calls::media_track;
-use crate::writer_calls::writer_call;
-use crate::written::modelled;
-use crate::written::standing;
-use mp4_boxes::IlstBox;
-use mp4_boxes::Metadata;
-use mp4_boxes::MoofBox;
-use mp4_boxes::MoovBox;
-use mp4_codec::BoxHeader;
-use mp4_codec::BoxType;
-use mp4_codec::Error;
-use mp4_codec::Fields;
-use mp4_codec::FourCC;
-use mp4_codec::Items;
-use mp4_codec::KeyedItems;
-use mp4_codec::Mp4Box;
-use mp4_codec::ReadBox;
-use mp4_codec::Result;
-use mp4_codec::Text;
-use mp4_codec::TryClone;
-use mp4_codec::WriteBox;
-use mp4_codec::all_children;
-use mp4_codec::all_size;
-use mp4_codec::last_child;
-use mp4_codec::optional_size;
-use mp4_codec::put_all;
-use mp4_codec::put_bytes;
-use mp4_codec::put_four_cc;
-use mp4_codec::put_i16;
-use mp4_codec::put_i32;
-use mp4_codec::put_list;
-use mp4_codec::put_optional;
-use mp4_codec::put_u8;
-use mp4_codec::put_u16;
-use mp4_codec::put_u24;
-use mp4_codec::put_u32;
-use mp4_codec::put_u64;
-use mp4_codec::put_versioned;
-use mp4_codec::put_zeros;
-use mp4_entry::HevcConfig;
-use mp4_entry::MediaConfig;
-use mp4_entry::StsdBox;
-use mp4_entry::TtxtConfig;
-use mp4_frag::EmsgBox;
-use mp4_frag::MehdBox;
-use mp4_frag::MfhdBox;
-use mp4_frag::TfdtBox;
-use mp4_frag::TfhdBox;
-use mp4_frag::TrexBox;
-use mp4_frag::TrunBox;
-use mp4_leaf::DataBox;
-use mp4_leaf::DinfBox;
-use mp4_leaf::ElstBox;
-use mp4_leaf::FtypBox;
-use mp4_leaf::HdlrBox;
-use mp4_leaf::MdhdBox;
-use mp4_leaf::MvhdBox;
-use mp4_leaf::SmhdBox;
-use mp4_leaf::TkhdBox;
-use mp4_leaf::VmhdBox;
-use mp4_lookup::Mp4Sample;
-use mp4_lookup::SampleRef;
-use mp4_media::Mp4Config;
-use mp4_media::Mp4Reader;
-use mp4_media::Mp4Writer;
-use mp4_media::RoundTrip;
-use mp4_media::SampleQuery;
-use mp4_media::TrackConfig;
-use mp4_media::WriterCall;
-use mp4_media::read_mp4;
-use mp4_media::write_and_read;
-use mp4_plain_movies::calls::Call;
-use mp4_plain_movies::calls::ISOM;
-use mp4_plain_movies::calls::Media;
-use mp4_plain_movies::calls::add_text;
-use mp4_plain_movies::calls::write_sync;
-use mp4_plain_movies::listed_calls::five_calls;
-use mp4_plain_movies::listed_calls::five_media;
-use mp4_plain_movies::listed_calls::text_calls;
-use mp4_plain_movies::movie_bytes::EMPTY_MOVIE;
-use mp4_plain_movies::movie_bytes::TEXT_MOVIE;
+use crate::asked::{is_held, lends};
+use crate::asserts::{check, same};
+use crate::reader_files::{FRAGMENTED, TextFile, file_of};
+use crate::tracks::{holds_of, text_samples_are_found};
+use crate::writer_calls::{config_of, make, media_track, writer_call};
+use crate::written::{modelled, standing};
+use mp4_codec::{Error, Result, Text, TryClone};
+use mp4_entry::{MediaConfig, TtxtConfig};
+use mp4_lookup::{Mp4Sample, SampleRef};
+use mp4_media::{
+    Mp4Config, Mp4Reader, Mp4Writer, RoundTrip, SampleQuery, TrackConfig, WriterCall, read_mp4,
+    write_and_read,
+};
+use mp4_plain_movies::calls::{Call, ISOM, Media, add_text, write_sync};
+use mp4_plain_movies::listed_calls::{five_calls, five_media, text_calls};
+use mp4_plain_movies::movie_bytes::{EMPTY_MOVIE, FRAGMENT, FULL_MOVIE, TEXT_MOVIE};
 use mp4_plain_movies::nested::nest;
 use mp4_plain_movies::plain_tables::TEXT;
-use mp4_plain_movies::sample_boxes::Number;
-use mp4_plain_movies::sides::Side;
-use mp4_plain_movies::spelled::both;
 use mp4_plain_movies::spelled::hex;
-use mp4_plain_movies::spelled::read_bytes;
-use mp4_table::Co64Box;
-use mp4_table::CttsBox;
-use mp4_table::StcoBox;
-use mp4_table::StscBox;
-use mp4_table::StssBox;
-use mp4_table::StszBox;
-use mp4_table::SttsBox;
 use std::alloc::Global;
 
 /// Prints that a request was refused, and answers whether the call said so.
@@ -117,563 +29,12 @@ fn is_refusal(rt: &HostRuntime, error: &Error) -> bool {
     *error == Error::OutOfMemory
 }
 
-/// What a call answers, and what it answers when it is made again after a refusal.
-fn read_again<B: ReadBox>(rt: &HostRuntime, bytes: &[u8]) -> Result<B> {
-    match read_bytes(rt.alloc(), bytes) {
-        Err(error) if is_refusal(rt, &error) => read_bytes(rt.alloc(), bytes),
-        answer => answer,
-    }
-}
-
 /// A copy, which is made again after a refusal.
 fn copy_again<T: TryClone>(rt: &HostRuntime, value: &T) -> Result<T> {
     match value.try_clone() {
         Err(error) if is_refusal(rt, &error) => value.try_clone(),
         answer => answer,
     }
-}
-
-/// The bytes of a box. After a refusal the buffer has to be as before, and the box is written again.
-fn write_again<B: WriteBox>(rt: &HostRuntime, value: &B) -> Result<Vec<u8>> {
-    let mut bytes = Vec::new(rt.alloc());
-    match value.write_box(&mut bytes) {
-        Err(error) if is_refusal(rt, &error) && bytes.is_empty() => {
-            value.write_box(&mut bytes)?;
-        }
-        answer => {
-            answer?;
-        }
-    }
-    Ok(bytes)
-}
-
-/// Whether a box is read from these bytes, copied and written as them, each call made again after a refusal.
-fn is_kept<B: WriteBox + TryClone + PartialEq>(rt: &HostRuntime, bytes: &[u8]) -> Result<bool> {
-    let value: B = read_again(rt, bytes)?;
-    let copy = copy_again(rt, &value)?;
-    Ok(copy == value && write_again(rt, &copy)?.as_slice() == bytes)
-}
-
-const FTYP: [u8; 20] = *b"\0\0\0\x14ftypisom\0\0\x02\0mp41";
-
-const DATA: [u8; 19] = *b"\0\0\0\x13data\0\0\0\x01\0\0\0\0abc";
-
-const HDLR: [u8; 35] = *b"\0\0\0\x23hdlr\0\0\0\0\0\0\0\0vide\0\0\0\0\0\0\0\0\0\0\0\0Hi\0";
-
-const MDHD: [u8; 32] = *b"\0\0\0\x20mdhd\0\0\0\0\0\0\0\0\0\0\0\0\0\0\x03\xe8\0\0\0\0\x55\xc4\0\0";
-
-const ELST: [u8; 28] = *b"\0\0\0\x1celst\0\0\0\0\0\0\0\x01\0\0\0\x02\0\0\0\x04\0\x05\0\x06";
-
-const DINF: [u8; 38] =
-    *b"\0\0\0\x26dinf\0\0\0\x1edref\0\0\0\0\0\0\0\x01\0\0\0\x0eurl \0\0\0\x01a\0";
-
-const VMHD: [u8; 20] = *b"\0\0\0\x14vmhd\0\0\0\x01\0\0\0\0\0\0\0\0";
-
-const SMHD: [u8; 16] = *b"\0\0\0\x10smhd\0\0\0\0\0\0\0\0";
-
-const STTS: [u8; 24] = *b"\0\0\0\x18stts\0\0\0\0\0\0\0\x01\0\0\0\x03\0\0\x02\0";
-
-const CTTS: [u8; 24] = *b"\0\0\0\x18ctts\0\0\0\0\0\0\0\x01\0\0\0\x03\xff\xff\xff\x9c";
-
-const STSC: [u8; 28] = *b"\0\0\0\x1cstsc\0\0\0\0\0\0\0\x01\0\0\0\x01\0\0\0\x01\0\0\0\x01";
-
-const STSS: [u8; 20] = *b"\0\0\0\x14stss\0\0\0\0\0\0\0\x01\0\0\0\x0d";
-
-const STSZ: [u8; 24] = *b"\0\0\0\x18stsz\0\0\0\0\0\0\0\0\0\0\0\x01\0\0\0\x09";
-
-const STCO: [u8; 20] = *b"\0\0\0\x14stco\0\0\0\0\0\0\0\x01\0\0\0\x30";
-
-const CO64: [u8; 24] = *b"\0\0\0\x18co64\0\0\0\0\0\0\0\x01\0\0\0\0\0\0\0\x30";
-
-const TFHD: [u8; 20] = *b"\0\0\0\x14tfhd\0\0\0\x08\0\0\0\x09\0\0\0\x04";
-
-const TRUN: [u8; 40] =
-    *b"\0\0\0\x28trun\0\0\x0f\x05\0\0\0\x01\xff\xff\xff\xfe\x02\0\0\0\0\0\0\x11\0\0\0\x21\0\0\0\x31\0\0\0\x41";
-
-const EMSG: [u8; 35] = *b"\0\0\0\x23emsg\0\0\0\0a\0bc\0\0\0\0\x01\0\0\0\x02\0\0\0\x03\0\0\0\x04de";
-
-const AVC1_DESCRIPTION: [u8; 129] =
-    *b"\0\0\0\x81stsd\0\0\0\0\0\0\0\x01\0\0\0qavc1\0\0\0\0\0\0\0\x01\0\0\0\0\0\0\0\0\0\0\0\0\0\0\0\0\x01@\0\xf0\0H\0\0\0H\0\0\0\0\0\0\0\x01\0\0\0\0\0\0\0\0\0\0\0\0\0\0\0\0\0\0\0\0\0\0\0\0\0\0\0\0\0\0\0\0\0\x18\xff\xff\0\0\0\x1bavcC\x01B\xc0\x1e\xff\xe1\0\x04gB\xc0\x1e\x01\0\x04h\xce<\x80";
-
-const HEV1_DESCRIPTION: [u8; 133] =
-    *b"\0\0\0\x85stsd\0\0\0\0\0\0\0\x01\0\0\0uhev1\0\0\0\0\0\0\0\x01\0\0\0\0\0\0\0\0\0\0\0\0\0\0\0\0\x01@\0\xf0\0H\0\0\0H\0\0\0\0\0\0\0\x01\0\0\0\0\0\0\0\0\0\0\0\0\0\0\0\0\0\0\0\0\0\0\0\0\0\0\0\0\0\0\0\0\0\x18\xff\xff\0\0\0\x1fhvcC\x01\0\0\0\0\0\0\0\0\0\0\0\0\0\0\0\0\0\0\0\0\0\0";
-
-const VP09_DESCRIPTION: [u8; 122] =
-    *b"\0\0\0zstsd\0\0\0\0\0\0\0\x01\0\0\0jvp09\0\0\0\0\0\0\0\x01\0\0\0\0\0\0\0\0\0\0\0\0\0\0\0\0\x01@\0\xf0\0H\0\0\0H\0\0\0\0\0\0\0\x01\0\0\0\0\0\0\0\0\0\0\0\0\0\0\0\0\0\0\0\0\0\0\0\0\0\0\0\0\0\0\0\0\0\x18\xff\xff\0\0\0\x14vpcC\x01\0\0\0\0\x1f\x80\0\0\0\0\0";
-
-const MP4A_DESCRIPTION: [u8; 91] =
-    *b"\0\0\0[stsd\0\0\0\0\0\0\0\x01\0\0\0Kmp4a\0\0\0\0\0\0\0\x01\0\0\0\0\0\0\0\0\0\x02\0\x10\0\0\0\0\xbb\x80\0\0\0\0\0'esds\0\0\0\0\x03\x19\0\x01\0\x04\x11@\x15\0\0\0\0\x01\xf4\0\0\x01\xf4\0\x05\x02\x11\x90\x06\x01\x02";
-
-const TX3G_DESCRIPTION: [u8; 62] =
-    *b"\0\0\0>stsd\0\0\0\0\0\0\0\x01\0\0\0.tx3g\0\0\0\0\0\0\0\x01\0\0\0\0\x01\xff\0\0\0\xff\0\0\0\0\0\0\0\0\0\0\0\0\0\x01\0\x10\xff\xff\xff\xff";
-
-const FREE: [u8; 12] = *b"\0\0\0\x0cfree\0\0\0\x02";
-
-#[test]
-fn a_refused_call_of_a_header_box_is_made_again(rt: HostRuntime) {
-    let movie = &EMPTY_MOVIE[48..];
-    check(&rt, 1, is_kept::<MoovBox>(&rt, movie));
-    check(&rt, 2, is_kept::<MvhdBox>(&rt, &movie[8..]));
-}
-
-/// A movie of a text track, with edits, metadata of both kinds and defaults of fragments.
-const MOVIE: [u8; 855] = *b"\
-    \0\0\x03Wmoov\0\0\0lmvhd\0\0\0\0\0\0\0\0\0\0\0\0\0\0\x03\xe8\0\0\x05\xdc\0\x01\0\0\x01\0\
-    \0\0\0\0\0\0\0\0\0\0\0\x01\0\0\0\0\0\0\0\0\0\0\0\0\0\0\0\x01\0\0\0\0\0\0\0\0\0\0\0\0\0\0\
-    @\0\0\0\0\0\0\0\0\0\0\0\0\0\0\0\0\0\0\0\0\0\0\0\0\0\0\0\0\0\0\x01\0\0\x02\x0ftrak\0\0\0\
-    \x5ctkhd\0\0\0\x01\0\0\0\0\0\0\0\0\0\0\0\x01\0\0\0\0\0\0\x05\xdc\0\0\0\0\0\0\0\0\0\0\0\0\
-    \x01\0\0\0\0\x01\0\0\0\0\0\0\0\0\0\0\0\0\0\0\0\x01\0\0\0\0\0\0\0\0\0\0\0\0\0\0@\0\0\0\0\
-    \0\0\0\0\0\0\0\0\0\0$edts\0\0\0\x1celst\0\0\0\0\0\0\0\x01\0\0\0\x07\0\0\0\0\0\x01\0\0\0\
-    \0\08meta\0\0\0\0\0\0\0!hdlr\0\0\0\0\0\0\0\0test\0\0\0\0\0\0\0\0\0\0\0\0\0\0\0\0\x0bfree\
-    abc\0\0\x01Omdia\0\0\0 mdhd\0\0\0\0\0\0\0\0\0\0\0\0\0\0\x03\xe8\0\0\x05\xdcU\xc4\0\0\0\0\
-    \0!hdlr\0\0\0\0\0\0\0\0sbtl\0\0\0\0\0\0\0\0\0\0\0\0\0\0\0\x01\x06minf\0\0\0$dinf\0\0\0\
-    \x1cdref\0\0\0\0\0\0\0\x01\0\0\0\x0curl \0\0\0\x01\0\0\0\xdastbl\0\0\0>stsd\0\0\0\0\0\0\
-    \0\x01\0\0\0.tx3g\0\0\0\0\0\0\0\x01\0\0\0\0\x01\xff\0\0\0\xff\0\0\0\0\0\0\0\0\0\0\0\0\0\
-    \x01\0\x10\xff\xff\xff\xff\0\0\0\x18stts\0\0\0\0\0\0\0\x01\0\0\0\x03\0\0\x01\xf4\0\0\0\
-    \x1cstss\0\0\0\0\0\0\0\x03\0\0\0\x01\0\0\0\x02\0\0\0\x03\0\0\0(stsc\0\0\0\0\0\0\0\x02\0\
-    \0\0\x01\0\0\0\x02\0\0\0\x01\0\0\0\x02\0\0\0\x01\0\0\0\x01\0\0\0 stsz\0\0\0\0\0\0\0\0\0\
-    \0\0\x03\0\0\0\x03\0\0\0\x03\0\0\0\x02\0\0\0\x18stco\0\0\0\0\0\0\0\x02\0\0\00\0\0\06\0\0\
-    \0(mvex\0\0\0 trex\0\0\0\0\0\0\0\x01\0\0\0\x01\0\0\0(\0\0\0\0\0\0\0\0\0\0\08meta\0\0\0\0\
-    \0\0\0!hdlr\0\0\0\0\0\0\0\0test\0\0\0\0\0\0\0\0\0\0\0\0\0\0\0\0\x0bfreeabc\0\0\0tudta\0\
-    \0\0lmeta\0\0\0\0\0\0\0!hdlr\0\0\0\0\0\0\0\0mdir\0\0\0\0\0\0\0\0\0\0\0\0\0\0\0\0?ilst\0\
-    \0\0\x1a\xa9nam\0\0\0\x12data\0\0\0\x01\0\0\0\0\xffA\0\0\0\x1d\xa9day\0\0\0\x15data\0\0\
-    \0\x01\0\0\0\0+2024";
-
-/// A movie fragment of two runs in two fragments of a track.
-const FRAGMENT: [u8; 152] = *b"\
-    \0\0\0\x98moof\0\0\0\x10mfhd\0\0\0\0\0\0\0\x01\0\0\0@traf\0\0\0\x10tfhd\0\0\0\0\0\0\0\
-    \x01\0\0\0\x10tfdt\0\0\0\0\0\0\0\0\0\0\0\x18trun\0\0\x02\0\0\0\0\x02\0\0\0\x03\0\0\0\x04\
-    \0\0\0@traf\0\0\0\x10tfhd\0\0\0\0\0\0\0\x01\0\0\0\x10tfdt\0\0\0\0\0\0\0\0\0\0\0\x18trun\
-    \0\0\x02\0\0\0\0\x02\0\0\0\x03\0\0\0\x04";
-
-/// A title of a byte that begins no character and an A, and a year.
-const TITLES: [u8; 63] = *b"\
-    \0\0\0?ilst\0\0\0\x1a\xa9nam\0\0\0\x12data\0\0\0\x01\0\0\0\0\xffA\0\0\0\x1d\xa9day\0\0\0\
-    \x15data\0\0\0\x01\0\0\0\0+2024";
-
-#[test]
-fn a_refused_call_of_a_movie_with_tracks_is_made_again(rt: HostRuntime) {
-    check(&rt, 1, is_kept::<MoovBox>(&rt, &MOVIE));
-}
-
-#[test]
-fn a_refused_call_of_a_movie_fragment_is_made_again(rt: HostRuntime) {
-    check(&rt, 1, is_kept::<MoofBox>(&rt, &FRAGMENT));
-}
-
-/// Whether a title is read, the call made again after a refusal.
-fn is_titled(rt: &HostRuntime) -> Result<bool> {
-    let list: IlstBox = read_again(rt, &TITLES)?;
-    let answer = match list.title(rt.alloc()) {
-        Err(error) if is_refusal(rt, &error) => list.title(rt.alloc()),
-        answer => answer,
-    };
-    let Some(title) = answer? else {
-        return Ok(false);
-    };
-    Ok(title.as_str() == "\u{fffd}A")
-}
-
-#[test]
-fn a_refused_call_of_a_title_is_made_again(rt: HostRuntime) {
-    check(&rt, 1, is_titled(&rt));
-}
-
-/// Whether a box is copied, written and read as it is, each call made again after a refusal.
-fn is_kept_as_it_is<B: WriteBox + TryClone + PartialEq>(
-    rt: &HostRuntime,
-    value: &B,
-) -> Result<bool> {
-    let copy = copy_again(rt, value)?;
-    let bytes = write_again(rt, &copy)?;
-    Ok(read_again::<B>(rt, &bytes)? == *value)
-}
-
-#[test]
-fn a_refused_call_of_a_track_header_is_made_again(rt: HostRuntime) {
-    check(&rt, 1, is_kept_as_it_is(&rt, &TkhdBox::default()));
-}
-
-#[test]
-fn a_refused_call_of_a_media_header_is_made_again(rt: HostRuntime) {
-    check(&rt, 1, is_kept::<MdhdBox>(&rt, &MDHD));
-    check(&rt, 2, is_kept::<VmhdBox>(&rt, &VMHD));
-    check(&rt, 3, is_kept::<SmhdBox>(&rt, &SMHD));
-}
-
-#[test]
-fn a_refused_call_of_a_handler_is_made_again(rt: HostRuntime) {
-    check(&rt, 1, is_kept::<HdlrBox>(&rt, &HDLR));
-    check(&rt, 2, is_kept::<ElstBox>(&rt, &ELST));
-}
-
-#[test]
-fn a_refused_call_of_a_file_type_is_made_again(rt: HostRuntime) {
-    check(&rt, 1, is_kept::<FtypBox>(&rt, &FTYP));
-    check(&rt, 2, is_kept::<DataBox>(&rt, &DATA));
-}
-
-#[test]
-fn a_refused_call_of_data_information_is_made_again(rt: HostRuntime) {
-    check(&rt, 1, is_kept::<DinfBox>(&rt, &DINF));
-}
-
-#[test]
-fn a_refused_call_of_a_table_of_runs_is_made_again(rt: HostRuntime) {
-    check(&rt, 1, is_kept::<SttsBox>(&rt, &STTS));
-    check(&rt, 2, is_kept::<CttsBox>(&rt, &CTTS));
-    check(&rt, 3, is_kept::<StscBox>(&rt, &STSC));
-}
-
-#[test]
-fn a_refused_call_of_a_table_of_samples_is_made_again(rt: HostRuntime) {
-    check(&rt, 1, is_kept::<StssBox>(&rt, &STSS));
-    check(&rt, 2, is_kept::<StszBox>(&rt, &STSZ));
-}
-
-/// Whether wide offsets become narrow ones, each call made again after a refusal.
-fn is_narrowed(rt: &HostRuntime) -> Result<bool> {
-    let wide: Co64Box = read_again(rt, &CO64)?;
-    let narrow = match StcoBox::try_from(rt.alloc(), &wide) {
-        Err(error) if is_refusal(rt, &error) => StcoBox::try_from(rt.alloc(), &wide)?,
-        answer => answer?,
-    };
-    Ok(narrow == read_again(rt, &STCO)?)
-}
-
-#[test]
-fn a_refused_call_of_a_table_of_offsets_is_made_again(rt: HostRuntime) {
-    check(&rt, 1, is_kept::<StcoBox>(&rt, &STCO));
-    check(&rt, 2, is_kept::<Co64Box>(&rt, &CO64));
-    check(&rt, 3, is_narrowed(&rt));
-}
-
-#[test]
-fn a_refused_call_of_a_fragments_header_is_made_again(rt: HostRuntime) {
-    check(&rt, 1, is_kept::<TfhdBox>(&rt, &TFHD));
-    check(&rt, 2, is_kept_as_it_is(&rt, &MfhdBox::default()));
-    check(&rt, 3, is_kept_as_it_is(&rt, &TrexBox::default()));
-}
-
-#[test]
-fn a_refused_call_of_a_fragments_time_is_made_again(rt: HostRuntime) {
-    check(&rt, 1, is_kept_as_it_is(&rt, &TfdtBox::default()));
-    check(&rt, 2, is_kept_as_it_is(&rt, &MehdBox::default()));
-}
-
-#[test]
-fn a_refused_call_of_a_run_is_made_again(rt: HostRuntime) {
-    check(&rt, 1, is_kept::<TrunBox>(&rt, &TRUN));
-}
-
-#[test]
-fn a_refused_call_of_an_event_message_is_made_again(rt: HostRuntime) {
-    check(&rt, 1, is_kept::<EmsgBox>(&rt, &EMSG));
-}
-
-#[test]
-fn a_refused_call_of_a_description_of_video_is_made_again(rt: HostRuntime) {
-    check(&rt, 1, is_kept::<StsdBox>(&rt, &AVC1_DESCRIPTION));
-    check(&rt, 2, is_kept::<StsdBox>(&rt, &HEV1_DESCRIPTION));
-    check(&rt, 3, is_kept::<StsdBox>(&rt, &VP09_DESCRIPTION));
-}
-
-#[test]
-fn a_refused_call_of_a_description_of_sound_or_text_is_made_again(rt: HostRuntime) {
-    check(&rt, 1, is_kept::<StsdBox>(&rt, &MP4A_DESCRIPTION));
-    check(&rt, 2, is_kept::<StsdBox>(&rt, &TX3G_DESCRIPTION));
-}
-
-/// The description of a configuration, which is made again after a refusal.
-fn description_again(rt: &HostRuntime, config: &MediaConfig) -> Result<StsdBox> {
-    match StsdBox::new(rt.alloc(), config) {
-        Err(error) if is_refusal(rt, &error) => StsdBox::new(rt.alloc(), config),
-        answer => answer,
-    }
-}
-
-/// Whether a configuration and its copy give a description of these bytes.
-fn is_description(rt: &HostRuntime, config: &MediaConfig, bytes: &[u8]) -> Result<bool> {
-    let copy = copy_again(rt, config)?;
-    let description = description_again(rt, &copy)?;
-    Ok(copy == *config && write_again(rt, &description)?.as_slice() == bytes)
-}
-
-#[test]
-fn a_refused_description_of_a_configuration_is_made_again(rt: HostRuntime) {
-    let config = MediaConfig::HevcConfig(HevcConfig {
-        width: 320,
-        height: 240,
-    });
-    check(&rt, 1, is_description(&rt, &config, &HEV1_DESCRIPTION));
-}
-
-/// Whether the default of a media header is the spelled one.
-fn is_default(rt: &HostRuntime) -> Result<bool> {
-    let default = match MdhdBox::default(rt.alloc()) {
-        Err(error) if is_refusal(rt, &error) => MdhdBox::default(rt.alloc())?,
-        answer => answer?,
-    };
-    Ok(default == read_again(rt, &MDHD)?)
-}
-
-#[test]
-fn a_refused_default_is_made_again(rt: HostRuntime) {
-    check(&rt, 1, is_default(&rt));
-}
-
-/// Whether a refused header leaves the buffer, and made again it is written.
-fn header_is_written(rt: &HostRuntime) -> Result<bool> {
-    let mut out = Vec::new(rt.alloc());
-    let header = BoxHeader::new(BoxType::FreeBox, 12);
-    if let Err(error) = header.write(&mut out) {
-        if !is_refusal(rt, &error) || !out.is_empty() || header.write(&mut out)? != 8 {
-            return Ok(false);
-        }
-    }
-    Ok(out.as_slice() == &FREE[..8])
-}
-
-#[test]
-fn a_refused_header_leaves_the_buffer(rt: HostRuntime) {
-    check(&rt, 1, header_is_written(&rt));
-}
-
-/// Puts a field, by a number for its kind, into a buffer of its own.
-fn put_field(alloc: Global, kind: u8) -> Result<()> {
-    let mut out = Vec::new(alloc);
-    let put = match kind {
-        0 => put_u8(&mut out, 1),
-        1 => put_u16(&mut out, 1),
-        2 => put_u24(&mut out, 1),
-        3 => put_u32(&mut out, 1),
-        4 => put_u64(&mut out, 1),
-        5 => put_i16(&mut out, -1),
-        6 => put_i32(&mut out, -1),
-        7 => put_zeros(&mut out, 1),
-        8 => put_versioned(&mut out, 1, 1),
-        9 => put_bytes(&mut out, b"a"),
-        _ => put_four_cc(&mut out, FourCC::from(1)),
-    };
-    put?;
-    Ok(())
-}
-
-/// Puts each kind of field.
-fn put_fields(alloc: Global) -> Result<bool> {
-    for kind in 0..11 {
-        put_field(alloc, kind)?;
-    }
-    Ok(true)
-}
-
-/// Puts a list of one entry into a buffer of its own.
-fn put_entries(alloc: Global) -> Result<bool> {
-    let mut entries = Items::new(alloc);
-    entries.push(1u32)?;
-    put_list(&mut Vec::new(alloc), 0, &entries)?;
-    Ok(true)
-}
-
-/// Puts a list of one child into a buffer of its own. Whether its size is as it should be.
-fn put_children(alloc: Global) -> Result<bool> {
-    let mut children = Items::new(alloc);
-    children.push(Number { value: 2 })?;
-    if all_size(&children) != 12 {
-        return Ok(false);
-    }
-    put_all(&mut Vec::new(alloc), &children)?;
-    Ok(true)
-}
-
-/// Puts one child into a buffer of its own. Whether its size is as it should be.
-fn put_child(alloc: Global) -> Result<bool> {
-    let child = Some(Number { value: 2 });
-    if optional_size(&child) != 12 {
-        return Ok(false);
-    }
-    put_optional(&mut Vec::new(alloc), &child)?;
-    Ok(true)
-}
-
-/// Puts a box and its payload, each into a buffer of its own. Whether its size is as it should be.
-fn put_number(alloc: Global) -> Result<bool> {
-    let number = Number { value: 2 };
-    if number.box_size() != 12 {
-        return Ok(false);
-    }
-    number.put_payload(&mut Vec::new(alloc))?;
-    number.put_box(&mut Vec::new(alloc))?;
-    Ok(true)
-}
-
-/// Puts a list of entries, a list of children, one child and a box. Whether the sizes are as they should be.
-fn put_lists(alloc: Global) -> Result<bool> {
-    both(
-        put_entries(alloc),
-        both(
-            put_children(alloc),
-            both(put_child(alloc), put_number(alloc)),
-        ),
-    )
-}
-
-/// Whether fields are put, and put again after a refusal.
-fn fields_are_put(rt: &HostRuntime) -> Result<bool> {
-    match put_fields(rt.alloc()) {
-        Err(error) if is_refusal(rt, &error) => put_fields(rt.alloc()),
-        answer => answer,
-    }
-}
-
-/// Whether lists are put, and put again after a refusal.
-fn lists_are_put(rt: &HostRuntime) -> Result<bool> {
-    match put_lists(rt.alloc()) {
-        Err(error) if is_refusal(rt, &error) => put_lists(rt.alloc()),
-        answer => answer,
-    }
-}
-
-#[test]
-fn a_refused_put_is_made_again(rt: HostRuntime) {
-    check(&rt, 1, fields_are_put(&rt));
-}
-
-#[test]
-fn a_refused_put_of_a_list_is_made_again(rt: HostRuntime) {
-    check(&rt, 1, lists_are_put(&rt));
-}
-
-/// Reads a list of three entries.
-fn read_entries(alloc: Global) -> Result<bool> {
-    let entries: Items<u32> = Fields::new(&FREE).list(alloc, 0, 3)?;
-    Ok(entries.len() == 3)
-}
-
-/// Reads a text in two ways.
-fn read_texts(alloc: Global) -> Result<bool> {
-    let name = Fields::new(b"text\0").until_zero(alloc)?;
-    let text = Fields::new(b"text\0").text()?;
-    Ok(name.as_slice() == text)
-}
-
-/// Reads children in two ways.
-fn read_children(alloc: Global) -> Result<bool> {
-    let children: Items<Number> = all_children(alloc, &FREE)?;
-    let child: Option<Number> = last_child(alloc, &FREE)?;
-    Ok(children.len() == 1 && child.is_some())
-}
-
-/// Reads a list of entries, a text in two ways, and children in two ways.
-fn read_parts(alloc: Global) -> Result<bool> {
-    both(
-        read_entries(alloc),
-        both(read_texts(alloc), read_children(alloc)),
-    )
-}
-
-/// Whether parts are read, and read again after a refusal.
-fn parts_are_read(rt: &HostRuntime) -> Result<bool> {
-    match read_parts(rt.alloc()) {
-        Err(error) if is_refusal(rt, &error) => read_parts(rt.alloc()),
-        answer => answer,
-    }
-}
-
-#[test]
-fn a_refused_read_of_parts_is_made_again(rt: HostRuntime) {
-    check(&rt, 1, parts_are_read(&rt));
-    check(&rt, 2, is_kept::<Number>(&rt, &FREE));
-}
-
-/// Whether a refused push leaves the list, and made again it is Ok.
-fn is_pushed(rt: &HostRuntime) -> Result<bool> {
-    let mut list: Items<u32> = Items::new(rt.alloc());
-    for n in 0..5u32 {
-        if list.push(n).is_err() {
-            if !is_refusal(rt, &Error::OutOfMemory) || list.len() != n as usize {
-                return Ok(false);
-            }
-            list.push(n)?;
-        }
-    }
-    Ok(list.as_slice() == [0, 1, 2, 3, 4].as_slice() && copy_again(rt, &list)? == list)
-}
-
-#[test]
-fn a_refused_push_leaves_the_list(rt: HostRuntime) {
-    check(&rt, 1, is_pushed(&rt));
-}
-
-#[test]
-fn a_refused_list_is_made_again(rt: HostRuntime) {
-    if Items::<u32>::with_capacity(rt.alloc(), 3).is_err() {
-        holds(&rt, 1, is_refusal(&rt, &Error::OutOfMemory));
-        holds(&rt, 2, Items::<u32>::with_capacity(rt.alloc(), 3).is_ok());
-    }
-}
-
-/// A text, which is made again after a refusal.
-fn text_again(rt: &HostRuntime, text: &str) -> Result<Text> {
-    match Text::from_str(rt.alloc(), text) {
-        Ok(made) => Ok(made),
-        Err(refused) => {
-            let _ = is_refusal(rt, &Error::from(refused));
-            Ok(Text::from_str(rt.alloc(), text)?)
-        }
-    }
-}
-
-/// Whether a refused addition leaves the text, and made again it is Ok.
-fn is_added(rt: &HostRuntime) -> Result<bool> {
-    let mut text = text_again(rt, "u")?;
-    if text.push_str("nd, und, und").is_err() {
-        if !is_refusal(rt, &Error::OutOfMemory) || text.len() != 1 {
-            return Ok(false);
-        }
-        text.push_str("nd, und, und")?;
-    }
-    Ok(text.as_str() == "und, und, und" && copy_again(rt, &text)? == text)
-}
-
-#[test]
-fn a_refused_addition_leaves_the_text(rt: HostRuntime) {
-    check(&rt, 1, is_added(&rt));
-}
-
-/// Whether a key is inserted; a refused insert has to leave the map of so many keys, and made again it is Ok.
-fn is_inserted(
-    rt: &HostRuntime,
-    map: &mut KeyedItems<Side, u32>,
-    side: Side,
-    count: usize,
-) -> Result<bool> {
-    if map.insert(side, 7).is_err() {
-        if !is_refusal(rt, &Error::OutOfMemory) || map.len() != count || map.get(side).is_some() {
-            return Ok(false);
-        }
-        map.insert(side, 7)?;
-    }
-    Ok(true)
-}
-
-/// Whether four keys are inserted so, and the copy of the map is equal to it.
-fn are_inserted(rt: &HostRuntime) -> Result<bool> {
-    let mut map: KeyedItems<Side, u32> = KeyedItems::new(rt.alloc());
-    for (count, side) in [Side::North, Side::East, Side::South, Side::West]
-        .iter()
-        .enumerate()
-    {
-        if !is_inserted(rt, &mut map, *side, count)? {
-            return Ok(false);
-        }
-    }
-    Ok(map.len() == 4 && copy_again(rt, &map)? == map)
-}
-
-#[test]
-fn a_refused_insert_leaves_the_map(rt: HostRuntime) {
-    check(&rt, 1, are_inserted(&rt));
 }
 
 /// The configuration of the empty movie, which is made again after a refusal.
@@ -859,7 +220,7 @@ fn a_refused_sample_of_five_tracks_is_read_again(rt: HostRuntime) {
 /// A file of a text track with defaults of fragments, and a fragment of two parts of it.
 fn fragmented(alloc: Global) -> Result<Vec<u8>> {
     let mut bytes = (&EMPTY_MOVIE[..32]).to_vec(alloc)?;
-    bytes.extend_from_slice(&MOVIE)?;
+    bytes.extend_from_slice(&FULL_MOVIE)?;
     bytes.extend_from_slice(&FRAGMENT)?;
     Ok(bytes)
 }
@@ -895,10 +256,10 @@ fn a_refused_opening_of_a_fragmented_file_is_made_again(rt: HostRuntime) {
 
 /// A file that is made again after a refusal.
 fn file_again(rt: &HostRuntime, file: &TextFile) -> Result<Vec<u8>> {
-    match file_of(rt.alloc(), file) {
-        Err(error) if is_refusal(rt, &error) => file_of(rt.alloc(), file),
-        answer => answer,
-    }
+    Ok(match file_of(rt.alloc(), file) {
+        Err(_) if is_refusal(rt, &Error::OutOfMemory) => file_of(rt.alloc(), file)?,
+        answer => answer?,
+    })
 }
 
 /// Whether a file of fragments is opened, and these samples of track 1 are read, each call made again after a refusal.
@@ -928,7 +289,7 @@ fn long_run(alloc: Global) -> Result<String> {
     let header = "00000010 74666864 00000000 00000001 ";
     let part = nest(alloc, "74726166", &[header, run.as_str()])?;
     let header = "00000010 6d666864 00000000 00000001 ";
-    nest(alloc, "6d6f6f66", &[header, part.as_str()])
+    Ok(nest(alloc, "6d6f6f66", &[header, part.as_str()])?)
 }
 
 /// This text, which is made again after a refusal.
@@ -1050,10 +411,10 @@ fn written_again(rt: &HostRuntime, calls: &[Call]) -> Result<Vec<u8>> {
 
 /// The bytes that a text spells, which are made again after a refusal.
 fn hex_again(rt: &HostRuntime, text: &str) -> Result<Vec<u8>> {
-    match hex(rt.alloc(), text) {
-        Err(error) if is_refusal(rt, &error) => hex(rt.alloc(), text),
-        answer => answer,
-    }
+    Ok(match hex(rt.alloc(), text) {
+        Err(_) if is_refusal(rt, &Error::OutOfMemory) => hex(rt.alloc(), text)?,
+        answer => answer?,
+    })
 }
 
 /// Whether a writer that ended refuses each call.

@@ -101,12 +101,13 @@ fn answer_of_number(alloc: Global, types: &str, question: &str) -> Result<Option
     let Some(number) = number(question) else {
         return Ok(None);
     };
-    Ok(Some(match types {
-        "audio_object_type" => audio_object_type(alloc, number)?,
-        "channel_config" => channel_config(alloc, number)?,
-        "sample_freq_index" => sample_freq_index(alloc, number)?,
+    let answer = match types {
+        "audio_object_type" => audio_object_type(alloc, number),
+        "channel_config" => channel_config(alloc, number),
+        "sample_freq_index" => sample_freq_index(alloc, number),
         _ => return Ok(None),
-    }))
+    };
+    Ok(Some(answer?))
 }
 
 /// What a number or a code stands for among the types of a name; None where it is no number, or the name isn't known.

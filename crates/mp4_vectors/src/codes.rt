@@ -30,17 +30,18 @@ fn parsed_text(alloc: Global, bytes: &[u8]) -> Result<String> {
 fn answer(alloc: Global, code: FourCC, question: &str) -> Result<Option<String>> {
     let number = u32::from(code);
     let kind = BoxType::from(number);
-    Ok(Some(match question {
-        "value" => format!(in alloc; "{code:?}")?,
-        "text" => format!(in alloc; "\"{code}\"")?,
-        "number" => format!(in alloc; "{number:08x}")?,
-        "code of the number" => format!(in alloc; "{:?}", FourCC::from(number))?,
-        "type" => format!(in alloc; "{kind:?}")?,
-        "text of the type" => format!(in alloc; "\"{kind}\"")?,
-        "number of the type" => format!(in alloc; "{:08x}", u32::from(kind))?,
-        "code of the type" => format!(in alloc; "{:?}", FourCC::from(kind))?,
+    let answer = match question {
+        "value" => format!(in alloc; "{code:?}"),
+        "text" => format!(in alloc; "\"{code}\""),
+        "number" => format!(in alloc; "{number:08x}"),
+        "code of the number" => format!(in alloc; "{:?}", FourCC::from(number)),
+        "type" => format!(in alloc; "{kind:?}"),
+        "text of the type" => format!(in alloc; "\"{kind}\""),
+        "number of the type" => format!(in alloc; "{:08x}", u32::from(kind)),
+        "code of the type" => format!(in alloc; "{:?}", FourCC::from(kind)),
         _ => return Ok(None),
-    }))
+    };
+    Ok(Some(answer?))
 }
 
 /// What the code that bytes are answers to a question; None where that is no question.

@@ -36,17 +36,18 @@ fn copy_of(alloc: Global, config: &MediaConfig) -> Result<String> {
 
 /// What a configuration answers to a question; None where that is no question.
 fn answer(alloc: Global, config: &MediaConfig, question: &str) -> Result<Option<String>> {
-    Ok(Some(match question {
-        "check" => check_of(alloc, config)?,
-        "copy" => copy_of(alloc, config)?,
-        "track_type" => format!(in alloc; "{}", config.track_type())?,
-        "media_type" => format!(in alloc; "{:?}", config.media_type())?,
-        "box_type" => format!(in alloc; "{}", BoxType::from(config.media_type()))?,
+    let answer = match question {
+        "check" => check_of(alloc, config),
+        "copy" => copy_of(alloc, config),
+        "track_type" => Ok(format!(in alloc; "{}", config.track_type())?),
+        "media_type" => Ok(format!(in alloc; "{:?}", config.media_type())?),
+        "box_type" => Ok(format!(in alloc; "{}", BoxType::from(config.media_type()))?),
         _ => match question.strip_suffix(" stsd") {
             Some(question) => return made(alloc, StsdBox::new(alloc, config), question),
             None => return answer_of_entry(alloc, config, question),
         },
-    }))
+    };
+    Ok(Some(answer?))
 }
 
 /// What a configuration of media answers to a question; None where that is no question, or the words are no

@@ -60,12 +60,13 @@ pub fn answer_of_value<B: AnyBox>(
     value: &B,
     question: &str,
 ) -> Result<Option<String>> {
-    Ok(Some(match question {
-        "value" => format!(in alloc; "{value:?}")?,
-        "size" => format!(in alloc; "{}", value.box_size())?,
-        "written" => written(alloc, value)?,
+    let answer = match question {
+        "value" => Ok(format!(in alloc; "{value:?}")?),
+        "size" => Ok(format!(in alloc; "{}", value.box_size())?),
+        "written" => written(alloc, value),
         _ => return Ok(None),
-    }))
+    };
+    Ok(Some(answer?))
 }
 
 /// What the value answers that a call made.

@@ -2,7 +2,7 @@
 
 use crate::encoded::digits;
 use mp4_media::{
-    Entry, Fields, Items, Result, put_bytes, put_four_cc, put_i16, put_i32, put_list, put_u8,
+    Entry, Fields, Items, Put, Result, put_bytes, put_four_cc, put_i16, put_i32, put_list, put_u8,
     put_u16, put_u24, put_u32, put_u64, put_versioned, put_zeros,
 };
 use std::alloc::Global;
@@ -17,12 +17,18 @@ struct Row {
 
 impl Row {
     /// Writes a value after those before.
-    fn add<T: Debug>(&mut self, value: &T) -> Result<()> {
+    fn add<T: Debug>(&mut self, value: &T) -> Put {
         if !self.values.is_empty() {
             self.values.push_str(", ")?;
         }
-        write!(self.values, "{value:?}")?;
-        Ok(())
+        write!(self.values, "{value:?}")
+    }
+
+    /// Adds a value that was put again; `OutOfMemory` where there was no room for it.
+    fn keep<T: Debug>(&mut self, value: &T, put: Put) -> Result<bool> {
+        put?;
+        self.add(value)?;
+        Ok(true)
     }
 
     /// Reads an unsigned number; false where the word names none.
@@ -30,35 +36,33 @@ impl Row {
         match word {
             "u8" => {
                 let number = fields.u8()?;
-                put_u8(&mut self.again, number)?;
-                self.add(&number)?;
+                let put = put_u8(&mut self.again, number);
+                self.keep(&number, put)
             },
             "u16" => {
                 let number = fields.u16()?;
-                put_u16(&mut self.again, number)?;
-                self.add(&number)?;
+                let put = put_u16(&mut self.again, number);
+                self.keep(&number, put)
             },
             "u24" => {
                 let number = fields.u24()?;
-                put_u24(&mut self.again, number)?;
-                self.add(&number)?;
+                let put = put_u24(&mut self.again, number);
+                self.keep(&number, put)
             },
             "u32" => {
                 let number = fields.u32()?;
-                put_u32(&mut self.again, number)?;
-                self.add(&number)?;
+                let put = put_u32(&mut self.again, number);
+                self.keep(&number, put)
             },
-            _ => return Ok(false),
+            _ => Ok(false),
         }
-        Ok(true)
     }
 
     /// Reads a number whose bytes depend on a version.
     fn versioned(&mut self, fields: &mut Fields, version: u8) -> Result<bool> {
         let number = fields.versioned(version)?;
-        put_versioned(&mut self.again, version, number)?;
-        self.add(&number)?;
-        Ok(true)
+        let put = put_versioned(&mut self.again, version, number);
+        self.keep(&number, put)
     }
 
     /// Reads another number; false where the word names none.
@@ -66,25 +70,24 @@ impl Row {
         match word {
             "u64" => {
                 let number = fields.u64()?;
-                put_u64(&mut self.again, number)?;
-                self.add(&number)?;
+                let put = put_u64(&mut self.again, number);
+                self.keep(&number, put)
             },
             "i16" => {
                 let number = fields.i16()?;
-                put_i16(&mut self.again, number)?;
-                self.add(&number)?;
+                let put = put_i16(&mut self.again, number);
+                self.keep(&number, put)
             },
             "i32" => {
                 let number = fields.i32()?;
-                put_i32(&mut self.again, number)?;
-                self.add(&number)?;
+                let put = put_i32(&mut self.again, number);
+                self.keep(&number, put)
             },
-            "version-0" => return self.versioned(fields, 0),
-            "version-1" => return self.versioned(fields, 1),
-            "version-2" => return self.versioned(fields, 2),
-            _ => return self.unsigned(fields, word),
+            "version-0" => self.versioned(fields, 0),
+            "version-1" => self.versioned(fields, 1),
+            "version-2" => self.versioned(fields, 2),
+            _ => self.unsigned(fields, word),
         }
-        Ok(true)
     }
 
     /// Reads a list of so many numbers.
@@ -98,27 +101,26 @@ impl Row {
         Items<T>: Debug,
     {
         let list: Items<T> = fields.list(alloc, 0, count)?;
-        put_list(&mut self.again, 0, &list)?;
-        self.add(&list)?;
-        Ok(true)
+        let put = put_list(&mut self.again, 0, &list);
+        self.keep(&list, put)
     }
 
     /// Reads so many bytes.
     fn bytes(&mut self, alloc: Global, fields: &mut Fields, count: usize) -> Result<bool> {
         let bytes = Items::from(fields.bytes(count)?.to_vec(alloc)?);
-        put_bytes(&mut self.again, bytes.as_slice())?;
-        self.add(&bytes)?;
-        Ok(true)
+        let put = put_bytes(&mut self.again, bytes.as_slice());
+        self.keep(&bytes, put)
     }
 
     /// Reads so many zero bytes, whatever they are.
     fn zeros(&mut self, alloc: Global, fields: &mut Fields, count: usize) -> Result<bool> {
         let bytes = Items::from(fields.bytes(count)?.to_vec(alloc)?);
-        if count < 256 {
-            put_zeros(&mut self.again, count)?;
-        }
-        self.add(&bytes)?;
-        Ok(true)
+        let put = if count < 256 {
+            put_zeros(&mut self.again, count)
+        } else {
+            Ok(())
+        };
+        self.keep(&bytes, put)
     }
 
     /// Reads so many values; false where the word names no kind of them.
@@ -147,19 +149,24 @@ impl Row {
             "text" => {
                 let text = Items::from(fields.text()?.to_vec(alloc)?);
                 put_bytes(&mut self.again, text.as_slice())?;
-                put_u8(&mut self.again, 0)?;
-                self.add(&text)?;
+                let put = put_u8(&mut self.again, 0);
+                self.keep(&text, put)
             },
             "code" => {
                 let code = fields.four_cc()?;
-                put_four_cc(&mut self.again, code)?;
-                self.add(&code)?;
+                let put = put_four_cc(&mut self.again, code);
+                self.keep(&code, put)
             },
-            "until-zero" => self.add(&fields.until_zero(alloc)?)?,
-            "rest" => self.add(&Items::from(fields.rest().to_vec(alloc)?))?,
-            _ => return Ok(false),
+            "until-zero" => {
+                let text = fields.until_zero(alloc)?;
+                self.keep(&text, Ok(()))
+            },
+            "rest" => {
+                let bytes = Items::from(fields.rest().to_vec(alloc)?);
+                self.keep(&bytes, Ok(()))
+            },
+            _ => Ok(false),
         }
-        Ok(true)
     }
 
     /// Reads what a word names; false where it names nothing.

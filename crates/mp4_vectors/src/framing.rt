@@ -26,12 +26,13 @@ fn written(alloc: Global, header: &BoxHeader) -> Result<String> {
 pub fn answer_of_header(alloc: Global, bytes: &[u8], question: &str) -> Result<Option<String>> {
     let mut cursor = ByteCursor::new(bytes);
     let header = BoxHeader::read(&mut cursor)?;
-    Ok(Some(match question {
-        "value" => format!(in alloc; "{header:?}")?,
-        "length" => format!(in alloc; "{}", cursor.position())?,
-        "written" => written(alloc, &header)?,
+    let answer = match question {
+        "value" => Ok(format!(in alloc; "{header:?}")?),
+        "length" => Ok(format!(in alloc; "{}", cursor.position())?),
+        "written" => written(alloc, &header),
         _ => return Ok(None),
-    }))
+    };
+    Ok(Some(answer?))
 }
 
 /// What the header of media data answers to a question, whose box has so many bytes; None where that is no question.
@@ -79,9 +80,10 @@ fn listed_children(alloc: Global, payload: &[u8]) -> Result<String> {
 
 /// What the children of a payload answer to a question; None where that is no question.
 pub fn answer_of_children(alloc: Global, payload: &[u8], question: &str) -> Result<Option<String>> {
-    Ok(Some(match question {
-        "value" => listed_children(alloc, payload)?,
-        "all mfhd" => fragment_headers(alloc, payload)?,
+    let answer = match question {
+        "value" => listed_children(alloc, payload),
+        "all mfhd" => fragment_headers(alloc, payload),
         _ => return Ok(None),
-    }))
+    };
+    Ok(Some(answer?))
 }

@@ -7,18 +7,20 @@ use std::borrow::CowStr;
 
 /// A text as a literal.
 fn text_of(alloc: Global, text: Option<CowStr<'_, Global>>) -> Result<String> {
-    Ok(match text {
-        Some(text) => format!(in alloc; "{:?}", text.as_str())?,
-        None => String::from_str(alloc, "none")?,
-    })
+    let answer = match text {
+        Some(text) => format!(in alloc; "{:?}", text.as_str()),
+        None => String::from_str(alloc, "none"),
+    };
+    Ok(answer?)
 }
 
 /// A year as a number.
 fn year_of(alloc: Global, year: Option<u32>) -> Result<String> {
-    Ok(match year {
-        Some(year) => format!(in alloc; "{year}")?,
-        None => String::from_str(alloc, "none")?,
-    })
+    let answer = match year {
+        Some(year) => format!(in alloc; "{year}"),
+        None => String::from_str(alloc, "none"),
+    };
+    Ok(answer?)
 }
 
 /// The bytes of a picture.
@@ -42,13 +44,14 @@ pub fn answer_of_metadata<M: Metadata>(
     metadata: &M,
     question: &str,
 ) -> Result<Option<String>> {
-    Ok(Some(match question {
-        "title" => text_of(alloc, metadata.title(alloc)?)?,
-        "year" => year_of(alloc, metadata.year())?,
-        "poster" => poster_of(alloc, metadata.poster())?,
-        "summary" => text_of(alloc, metadata.summary(alloc)?)?,
+    let answer = match question {
+        "title" => text_of(alloc, metadata.title()?),
+        "year" => year_of(alloc, metadata.year()),
+        "poster" => poster_of(alloc, metadata.poster()),
+        "summary" => text_of(alloc, metadata.summary()?),
         _ => return Ok(None),
-    }))
+    };
+    Ok(Some(answer?))
 }
 
 /// What the metadata of a movie answers to a question; None where that is no question.

@@ -282,10 +282,11 @@ pub fn printed(
     id: u32,
     k: u32,
 ) -> Result<Option<String>> {
-    Ok(Some(match question {
-        "located" => shown(alloc, located(&file.movie, id, k))?,
-        "borrowed" => shown(alloc, kept(alloc, file.bytes, id, k))?,
-        "copied" => shown(alloc, file.movie.read_sample(id, k))?,
+    let answer = match question {
+        "located" => shown(alloc, located(&file.movie, id, k)),
+        "borrowed" => shown(alloc, kept(alloc, file.bytes, id, k)),
+        "copied" => shown(alloc, file.movie.read_sample(id, k)),
         _ => return Ok(None),
-    }))
+    };
+    Ok(Some(answer?))
 }

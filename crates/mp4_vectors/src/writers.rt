@@ -110,11 +110,12 @@ fn calls_of(alloc: Global, texts: &[&str]) -> Result<Option<Vec<WriterCall>>> {
 
 /// What a call was answered.
 fn reply_of(alloc: Global, reply: Option<&Result<()>>) -> Result<String> {
-    Ok(match reply {
-        Some(Ok(())) => String::from_str(alloc, "ok")?,
-        Some(Err(error)) => format!(in alloc; "refused: {error}")?,
-        None => String::new(alloc),
-    })
+    let text = match reply {
+        Some(Ok(())) => String::from_str(alloc, "ok"),
+        Some(Err(error)) => format!(in alloc; "refused: {error}"),
+        None => Ok(String::new(alloc)),
+    };
+    Ok(text?)
 }
 
 /// What comes of calls.

@@ -1,11 +1,11 @@
-use Rattle.mp4_codec.specs.declared.box_type.BoxType.TheVariants.{MoovBox as moov}
-use Rattle.mp4_media.proofs.FirstSamples.{needed_is}
+use Rattle.mp4_codec.specs.declared.box_type.BoxType.TheVariants.{FtypBox as ftyp, MoovBox as moov}
+use Rattle.mp4_media.proofs.FirstSamples.{second_is}
 use Rattle.mp4_media.proofs.reader.open_found.Goals as goal
 
 pub tracks_of-requires-clause-first_samples : goal.tracks_of-requires-clause-first_samples
 tracks_of-requires-clause-first_samples c =
-    c.requires.first_samples c.in_ok-moov.moov
-    (needed_is moov c.args.found.moov c.in_ok-moov.moov c.in_ok-moov.ensures)
+    c.requires.first_samples _
+    (second_is ftyp moov c.args.found.ftyp c.args.found.moov _ (rw c.in-Ok.is at c.required_both.ensures))
 
 pub tracks_of-requires-clause-places : goal.tracks_of-requires-clause-places
 tracks_of-requires-clause-places c = rw (c.as_slice-2.ensures, c.as_slice.ensures) c.requires.places

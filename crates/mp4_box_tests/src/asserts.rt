@@ -1,0 +1,32 @@
+//! How the tests assert. A crate of tests has these functions of its own: no library may end the process.
+
+use mp4_codec::Result;
+use std::fmt::{Debug, Display};
+use std::process::Abort;
+
+/// Ends the test and prints which case it is, unless the answer is `Ok(true)`. A case has a name of its own in
+/// its test: a text, or its number. The tests assert by these functions, since an assertion in the test itself is
+/// far dearer to prove.
+pub fn check(rt: &impl Abort, case: impl Display + Drop, answer: Result<bool>) {
+    assert!(rt; matches!(answer, Ok(true)), "case {case}");
+}
+
+/// Ends the test and prints which case it is, unless the statement holds.
+pub fn holds(rt: &impl Abort, case: impl Display + Drop, statement: bool) {
+    assert!(rt; statement, "case {case}");
+}
+
+/// Ends the test and prints both values, unless they are equal.
+pub fn same<T: PartialEq + Debug + Drop>(rt: &impl Abort, value: T, expected: T) {
+    assert_eq!(rt; value, expected);
+}
+
+/// Ends the test and prints which case it is and both values, unless they are equal.
+pub fn same_at<T: PartialEq + Debug + Drop>(
+    rt: &impl Abort,
+    case: impl Display + Drop,
+    value: T,
+    expected: T,
+) {
+    assert_eq!(rt; value, expected, "case {case}");
+}
