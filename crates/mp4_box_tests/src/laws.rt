@@ -1,10 +1,11 @@
 //! Laws: functions that do nothing, whose contracts say what holds.
 
-use mp4_boxes::{MetadataKey, equal_keys_hash_alike, read_tables_have_first_samples};
+use mp4_boxes::read_tables_have_first_samples;
 use mp4_codec::{
     code_again, frame_has_its_head, header_says_its_box, insertion_changes_one_key,
     payload_has_its_children, refused_head_says_why, what_is_written_reads_back,
 };
+use mp4_meta::{MetadataKey, equal_keys_hash_alike};
 use mp4_plain_movies::sample_boxes::Number;
 use mp4_plain_movies::sides::Side;
 use mp4_table::{

@@ -3,7 +3,7 @@
 //! must, and made again it is Ok. While a test prints that a request was refused, the next one is tried.
 
 use crate::asserts::{check, holds};
-use mp4_boxes::{IlstBox, Metadata, MoofBox, MoovBox};
+use mp4_boxes::MoovBox;
 use mp4_codec::{
     BoxHeader, BoxType, Error, Fields, FourCC, Items, KeyedItems, Mp4Box, ReadBox, Result, Text,
     TryClone, WriteBox, all_children, all_size, last_child, optional_size, put_all, put_bytes,
@@ -11,10 +11,11 @@ use mp4_codec::{
     put_u64, put_versioned, put_zeros,
 };
 use mp4_entry::{HevcConfig, MediaConfig, StsdBox};
-use mp4_frag::{EmsgBox, MehdBox, MfhdBox, TfdtBox, TfhdBox, TrexBox, TrunBox};
+use mp4_frag::{EmsgBox, MehdBox, MfhdBox, MoofBox, TfdtBox, TfhdBox, TrexBox, TrunBox};
 use mp4_leaf::{
     DataBox, DinfBox, ElstBox, FtypBox, HdlrBox, MdhdBox, MvhdBox, SmhdBox, TkhdBox, VmhdBox,
 };
+use mp4_meta::{IlstBox, Metadata};
 use mp4_plain_movies::movie_bytes::{EMPTY_MOVIE, FRAGMENT, FULL_MOVIE};
 use mp4_plain_movies::sample_boxes::Number;
 use mp4_plain_movies::sides::Side;

@@ -1,9 +1,10 @@
 //! What sample entries and containers say of their types and sizes.
 
 use crate::asserts::{check, same};
-use mp4_boxes::{IlstBox, MdiaBox, MetaBox, MinfBox, MoovBox, StblBox, UdtaBox};
+use mp4_boxes::{MdiaBox, MinfBox, MoovBox, StblBox};
 use mp4_codec::{BoxType, Result};
 use mp4_entry::{Avc1Box, EsdsBox, Hev1Box, Mp4aBox, StsdBox, Tx3gBox, Vp09Box};
+use mp4_meta::{IlstBox, MetaBox, UdtaBox};
 use std::alloc::Global;
 
 /// Whether an entry of AVC and its configuration say their types and sizes.

@@ -1,7 +1,7 @@
--- The leaves of movies, tracks and metadata, as kinds of boxes that containers hold.
+-- The leaves of movies and tracks, as kinds of boxes that containers hold.
 use Rattle.std.proofs.Common.{refl, lit<}
 use Rattle.mp4_codec.specs.declared.box_type.BoxType.TheVariants.{MvhdBox as mvhd, TkhdBox as tkhd, ElstBox as elst}
-use Rattle.mp4_codec.specs.declared.box_type.BoxType.TheVariants.{MdhdBox as mdhd, HdlrBox as hdlr, VmhdBox as vmhd}
+use Rattle.mp4_codec.specs.declared.box_type.BoxType.TheVariants.{MdhdBox as mdhd, VmhdBox as vmhd}
 use Rattle.mp4_codec.specs.declared.box_type.BoxType.TheVariants.{SmhdBox as smhd, DinfBox as dinf}
 use Rattle.mp4_codec.specs.BoxType.{box_type}
 use Rattle.mp4_codec.specs.Boxes.{no_refusal}
@@ -19,9 +19,6 @@ use Rattle.mp4_leaf.specs.ElstLaws.{elst_again}
 use Rattle.mp4_leaf.specs.declared.mdhd.MdhdBox.{MdhdBox}
 use Rattle.mp4_leaf.specs.Mdhd.{mdhd_of, mdhd_payload, mdhd_refusal, IsInRangeMdhd, RemarksMdhd}
 use Rattle.mp4_leaf.specs.MdhdLaws.{mdhd_again}
-use Rattle.mp4_leaf.specs.declared.hdlr.HdlrBox.{HdlrBox}
-use Rattle.mp4_leaf.specs.Hdlr.{hdlr_of, hdlr_payload, IsInRangeHdlr, RemarksHdlr}
-use Rattle.mp4_leaf.specs.HdlrLaws.{hdlr_again}
 use Rattle.mp4_leaf.specs.declared.vmhd.VmhdBox.{VmhdBox}
 use Rattle.mp4_leaf.specs.Vmhd.{vmhd_of, vmhd_payload, IsInRangeVmhd, RemarksVmhd}
 use Rattle.mp4_leaf.specs.VmhdLaws.{vmhd_again}
@@ -94,22 +91,6 @@ mdhd_kind = record {
   Remarks = RemarksMdhd;
   spellable = spellable_mdhd;
   again = mdhd_again;
-}
-
-pub spellable_hdlr : IsSpellable hdlr
-unfolding box_type
-spellable_hdlr = record { named = refl; code = lit< tt }
-
-abbrev pub hdlr_kind : Kind HdlrBox
-hdlr_kind = record {
-  name = hdlr;
-  payload = hdlr_payload;
-  value = hdlr_of;
-  refusal = no_refusal;
-  IsInRange = IsInRangeHdlr;
-  Remarks = RemarksHdlr;
-  spellable = spellable_hdlr;
-  again = hdlr_again;
 }
 
 pub spellable_vmhd : IsSpellable vmhd

@@ -19,7 +19,8 @@ use Rattle.mp4_boxes.specs.declared.minf.MinfBox.{MinfBox}
 use Rattle.mp4_boxes.specs.declared.mdia.MdiaBox.{MdiaBox}
 use Rattle.mp4_boxes.specs.declared.mdia.MdiaParts.{MdiaParts}
 use Rattle.mp4_codec.specs.GatherLaws.{gathered-taken, needed-holds}
-use Rattle.mp4_boxes.specs.LeafKinds.{mdhd_kind, hdlr_kind}
+use Rattle.mp4_meta.specs.MetadataKinds.{hdlr_kind}
+use Rattle.mp4_boxes.specs.LeafKinds.{mdhd_kind}
 use Rattle.mp4_boxes.specs.Minf.{minf_of, minf_payload, minf_refusal}
 use Rattle.mp4_boxes.specs.MinfLaws.{minf_kind, minf_of-has_first_samples}
 use Rattle.mp4_boxes.specs.Mdia.{mdia_fault, mdia_taken, mdia_added, mdia_of, mdia_payload, mdia_refusal}

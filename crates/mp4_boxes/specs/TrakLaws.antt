@@ -24,13 +24,13 @@ use Rattle.mp4_codec.specs.WrittenParts.{optional_part, group, last_group, gathe
 use Rattle.mp4_codec.specs.WrittenParts.{Kind}
 use Rattle.mp4_leaf.specs.Tkhd.{tkhd_of, tkhd_payload, tkhd_refusal}
 use Rattle.mp4_boxes.specs.Edts.{edts_of, edts_payload, edts_refusal}
-use Rattle.mp4_boxes.specs.Meta.{meta_of, meta_payload}
+use Rattle.mp4_meta.specs.Meta.{meta_of, meta_payload}
 use Rattle.mp4_boxes.specs.Mdia.{mdia_of, mdia_payload, mdia_refusal}
 use Rattle.mp4_boxes.specs.declared.trak.TrakBox.{TrakBox}
 use Rattle.mp4_boxes.specs.EdtsLaws.{edts_kind}
 use Rattle.mp4_boxes.specs.LeafKinds.{tkhd_kind}
 use Rattle.mp4_boxes.specs.MdiaLaws.{mdia_kind}
-use Rattle.mp4_boxes.specs.MetaLaws.{meta_kind}
+use Rattle.mp4_meta.specs.MetaLaws.{meta_kind}
 use Rattle.mp4_boxes.specs.Trak.{trak_fault, trak_taken, trak_added, trak_of, trak_payload, trak_refusal}
 use Rattle.mp4_boxes.specs.Trak.{IsInRangeTrak, RemarksTrak, IsCanonicalTrak}
 

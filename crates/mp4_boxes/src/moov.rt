@@ -7,16 +7,15 @@ ghost use Rattle.mp4_codec.specs.Boxes.{size_around};
 ghost use Rattle.mp4_boxes.specs.Moov.{moov_payload, default_moov, moov_fault, moov_taken, moov_added, moov_of, moov_refusal, IsInRangeMoov, RemarksMoov};
 ghost use Rattle.mp4_boxes.specs.MoovLaws.{moov_adds, moov_again};
 
-use crate::meta::MetaBox;
-use crate::mvex::MvexBox;
 use crate::trak::TrakBox;
-use crate::udta::UdtaBox;
 use mp4_codec::{
     BoxType, Child, Gather, HEADER_SIZE, InRange, Items, Mp4Box, Put, ReadBox, Result, TryClone,
     WriteBox, all_size, check_all, check_optional, four_copies, gather_children, keep_each,
     keep_last, optional_size, put_all, put_optional, required,
 };
+use mp4_frag::MvexBox;
 use mp4_leaf::MvhdBox;
+use mp4_meta::{MetaBox, UdtaBox};
 use std::alloc::Global;
 
 /// The movie, `moov`: what a file holds beside its samples (ISO/IEC 14496-12, 8.2.1).

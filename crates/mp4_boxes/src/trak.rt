@@ -9,7 +9,6 @@ ghost use Rattle.mp4_boxes.specs.TrakLaws.{trak_adds, trak_again};
 
 use crate::edts::EdtsBox;
 use crate::mdia::MdiaBox;
-use crate::meta::MetaBox;
 use crate::parts::required_two;
 use mp4_codec::{
     BoxType, Child, DebugItem, Gather, HEADER_SIZE, InRange, Mp4Box, Put, ReadBox, Result,
@@ -17,6 +16,7 @@ use mp4_codec::{
     put_optional,
 };
 use mp4_leaf::TkhdBox;
+use mp4_meta::MetaBox;
 use std::alloc::Global;
 
 /// A track, `trak` (ISO/IEC 14496-12, 8.3.1).

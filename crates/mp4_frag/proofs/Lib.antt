@@ -1,2 +1,3 @@
-pub mod Sizes
+pub mod ContainerSizes
 pub mod RowLoop
+pub mod Sizes

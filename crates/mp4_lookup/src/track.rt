@@ -10,8 +10,9 @@ ghost use Rattle.mp4_lookup.specs.Tracks.{tables_of, movie_end};
 
 use crate::index::{TrackIndex, index_of};
 use crate::timing::end_after;
-use mp4_boxes::{TrafBox, TrakBox};
+use mp4_boxes::TrakBox;
 use mp4_codec::Items;
+use mp4_frag::TrafBox;
 use mp4_fragments::{RunIndex, SampleDefaults, index_of as index_of_runs};
 use std::alloc::{AllocError, Global};
 

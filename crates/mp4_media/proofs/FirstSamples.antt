@@ -14,8 +14,9 @@ use Rattle.mp4_codec.specs.Steps.{ok_is}
 use Rattle.mp4_leaf.specs.Ftyp.{ftyp_of}
 use Rattle.mp4_frag.specs.Emsg.{emsg_of}
 use Rattle.mp4_boxes.specs.declared.moov.MoovBox.{MoovBox}
+use Rattle.mp4_boxes.specs.Needed.{two_needed}
 use Rattle.mp4_boxes.specs.Moov.{moov_of}
-use Rattle.mp4_boxes.specs.Moof.{moof_of}
+use Rattle.mp4_frag.specs.Moof.{moof_of}
 use Rattle.mp4_boxes.specs.MoovLaws.{moov_of-has_first_samples}
 use Rattle.mp4_media.specs.declared.opening.FileBox.{FileBox}
 use Rattle.mp4_media.specs.declared.opening.BoxContent.{BoxContent}
@@ -24,7 +25,7 @@ use Rattle.mp4_media.specs.FileBoxes.{is_type, read_as, meaning_of, moov_from, m
 use Rattle.mp4_media.specs.FileGrammar.{between, Holds, read, skipped, AreFileBoxes}
 use Rattle.mp4_media.specs.MovieTracks.{HaveFirstSamples}
 use Rattle.mp4_media.specs.declared.opening.Found.{Found}
-use Rattle.mp4_media.specs.Walk.{both_needed, file_boxes_at, found_of, found_at}
+use Rattle.mp4_media.specs.Walk.{file_boxes_at, found_of, found_at}
 use Rattle.mp4_media.proofs.Grammar.{Whole, all, broken, whole, all-read, walked, walked-fault}
 
 abbrev pub IsNumbered : MoovBox → Type 0
@@ -118,7 +119,8 @@ found_numbered size start found end m e is = by (file_boxes_at size size start) 
 
 -- the second of two parts that have to be there is there
 pub second_is : {A B : Type 0} (s t : BoxType) (a : Option A) (b : Option B) (both : A × B)
-    → both_needed s t a b ≡ Ok both → b ≡ Some both.1
+    → two_needed s t a b ≡ Ok both → b ≡ Some both.1
+unfolding two_needed
 second_is {A = A} {B = B} s t (Some x) (Some y) both e = ap (λ (p : A × B). Some p.1) (ok_is (x, y) both e)
 second_is s t (Some x) None both e = absurd cc
 second_is s t None b both e = absurd cc

@@ -2,10 +2,10 @@
 use Rattle.std.specs.Prelude.{◌≡◌, ℕ, List, Option, Some, None, Result, Ok, Err}
 use Rattle.std.specs.HashMap.{HashMap}
 use Rattle.mp4_codec.specs.Cause.{Cause, trak_not_found, ◌>>=◌}
-use Rattle.mp4_boxes.specs.declared.ilst.IlstBox.{IlstBox}
-use Rattle.mp4_boxes.specs.declared.meta.MetaBox.{MetaBox}
-use Rattle.mp4_boxes.specs.declared.meta.MetaBox.TheVariants.{Mdir, Unknown}
-use Rattle.mp4_boxes.specs.declared.udta.UdtaBox.{UdtaBox}
+use Rattle.mp4_meta.specs.declared.ilst.IlstBox.{IlstBox}
+use Rattle.mp4_meta.specs.declared.meta.MetaBox.{MetaBox}
+use Rattle.mp4_meta.specs.declared.meta.MetaBox.TheVariants.{Mdir, Unknown}
+use Rattle.mp4_meta.specs.declared.udta.UdtaBox.{UdtaBox}
 use Rattle.mp4_boxes.specs.declared.moov.MoovBox.{MoovBox}
 use Rattle.mp4_lookup.specs.declared.track.Mp4Track.{Mp4Track}
 use Rattle.mp4_lookup.specs.Places.{Place}

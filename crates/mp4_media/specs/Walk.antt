@@ -2,7 +2,6 @@
 use Rattle.std.specs.Prelude.{ℕ, zero, suc, ◌+◌, ◌-◌, ◌^◌, List, [], ◌∷◌, Option, Some, None, Result, Ok, Err, nat_lt}
 use Rattle.std.specs.Prelude.{nat_le, ◌==◌, if◌then◌else◌}
 use Rattle.mp4_codec.specs.declared.box_type.BoxType.TheVariants.{FtypBox as ftyp, MoovBox as moov}
-use Rattle.mp4_codec.specs.declared.box_type.BoxType.{BoxType}
 use Rattle.mp4_codec.specs.declared.header.BoxHeader.{BoxHeader}
 use Rattle.mp4_codec.specs.Cause.{Cause, end_of_data, invalid_data, ◌>>=◌, unless}
 use Rattle.mp4_codec.specs.Cursor.{Cursor, moved, header_at}
@@ -91,13 +90,6 @@ opened_with found file_type movie size = record {
   emsgs = found.emsgs;
   size = size;
 }
-
--- two boxes, each of which has to be there
-abbrev pub both_needed : {A B : Type 0} → BoxType → BoxType → Option A → Option B → Result (A × B) Cause
-both_needed s t a b = do
-  first ← needed s a
-  second ← needed t b
-  Ok (first, second)
 
 -- the file of so many bytes that is opened where this was found
 abbrev pub opened_from : Found → ℕ → Result OpenedFile Cause

@@ -24,6 +24,9 @@ pub use mp4_codec::{
 };
 
 // Leaf boxes, sample entries and sample tables.
+pub use mp4_boxes::{
+    EdtsBox, MdiaBox, MinfBox, MoovBox, StblBox, TrakBox, read_tables_have_first_samples,
+};
 pub use mp4_entry::{
     AacConfig, AudioObjectType, Avc1Box, AvcCBox, AvcConfig, AvcProfile, ChannelConfig,
     DecoderConfigDescriptor, DecoderSpecificDescriptor, ESDescriptor, EsdsBox, Hev1Box, HevcConfig,
@@ -31,10 +34,15 @@ pub use mp4_entry::{
     StsdBox, TrackType, TtxtConfig, Tx3gBox, Vp09Box, Vp9Config, VpccBox,
     configurations_are_written, numbers_have_one_value, values_have_their_numbers,
 };
-pub use mp4_frag::{EmsgBox, MehdBox, MfhdBox, TfdtBox, TfhdBox, TrexBox, TrunBox};
+pub use mp4_frag::{
+    EmsgBox, MehdBox, MfhdBox, MoofBox, MvexBox, TfdtBox, TfhdBox, TrafBox, TrexBox, TrunBox,
+};
 pub use mp4_leaf::{
     DataBox, DataType, DinfBox, DrefBox, ElstBox, ElstEntry, FtypBox, HdlrBox, Matrix, MdhdBox,
     MvhdBox, RgbColor, SmhdBox, TkhdBox, UrlBox, VmhdBox, check_language,
+};
+pub use mp4_meta::{
+    IlstBox, IlstItemBox, MetaBox, Metadata, MetadataKey, UdtaBox, equal_keys_hash_alike,
 };
 pub use mp4_table::{
     Co64Box, CttsBox, CttsEntry, StcoBox, StscBox, StscEntry, StssBox, StszBox, SttsBox, SttsEntry,
@@ -45,11 +53,6 @@ pub use mp4_table::{
 pub use calls::WriterCall;
 pub use laws::{
     interleavings_are_read_alike, samples_follow_one_another, written_movies_are_read_back,
-};
-pub use mp4_boxes::{
-    EdtsBox, IlstBox, IlstItemBox, MdiaBox, MetaBox, Metadata, MetadataKey, MinfBox, MoofBox,
-    MoovBox, MvexBox, StblBox, TrafBox, TrakBox, UdtaBox, equal_keys_hash_alike,
-    read_tables_have_first_samples,
 };
 pub use mp4_fragments::{
     Beginning, FoundMember, Member, RunIndex, SampleDefaults, index_of, traf_base, traf_end,

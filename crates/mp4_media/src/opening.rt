@@ -6,11 +6,11 @@ ghost use Rattle.mp4_codec.specs.Cause.{Gives, Answers};
 ghost use Rattle.mp4_media.specs.FileBoxes.{meaning_of};
 ghost use Rattle.mp4_media.specs.Walk.{skip_at, content_at, next_box_at, found_of, with_box, found_at};
 
-use mp4_boxes::{MoofBox, MoovBox};
+use mp4_boxes::MoovBox;
 use mp4_codec::{
     BoxHeader, BoxType, ByteCursor, Error, HEADER_SIZE, Items, OPEN_END, ReadBox, Result,
 };
-use mp4_frag::EmsgBox;
+use mp4_frag::{EmsgBox, MoofBox};
 use mp4_leaf::FtypBox;
 use std::alloc::{AllocError, Global};
 

@@ -13,16 +13,17 @@ ghost use Rattle.mp4_media.specs.FileBoxes.{OpenedFile, opened_file};
 ghost use Rattle.mp4_media.specs.FileGrammar.{IsFile, IsFaultyFile};
 ghost use Rattle.mp4_media.specs.MovieTracks.{AreTracks, HaveFirstSamples, at_id};
 ghost use Rattle.mp4_media.specs.Reading.{IsSample, ilst_of_movie, needed_track, sample_count_in, sample_in};
-ghost use Rattle.mp4_media.specs.Walk.{both_needed, opened_at, opened_from};
+ghost use Rattle.mp4_media.specs.Walk.{opened_at, opened_from};
 
 use crate::opening::{Found, find_boxes};
 use crate::tracks::tracks_of;
 use bytes::Bytes;
-use mp4_boxes::{IlstBox, MetaBox, MoofBox, MoovBox};
-use mp4_codec::{ByteCursor, Error, FourCC, Items, Mp4Box, Result, required};
-use mp4_frag::EmsgBox;
+use mp4_boxes::{MoovBox, required_two};
+use mp4_codec::{ByteCursor, Error, FourCC, Items, Result};
+use mp4_frag::{EmsgBox, MoofBox};
 use mp4_leaf::FtypBox;
 use mp4_lookup::{Mp4Sample, Mp4Track, SampleRef, time_of};
+use mp4_meta::{IlstBox, MetaBox};
 use std::alloc::Global;
 use std::collections::HashMap;
 
@@ -72,18 +73,8 @@ impl<'a> Drop for Mp4Reader<'a> {
     }
 }
 
-/// Two boxes, each of which has to be there; `BoxNotFound` for the first that is missing.
-fn required_both<A: Mp4Box + Drop, B: Mp4Box + Drop>(
-    first: Option<A>,
-    second: Option<B>,
-) -> Result<(A, B)>
-    ensures { Gives (λ both. both) result (both_needed A.KIND B.KIND first second) }
-{
-    let first = required(first)?;
-    Ok((first, required(second)?))
-}
-
 /// Opens a file of `size` bytes of which this was found.
+#[tactic(auto, unfolding(mp4_boxes::specs::Needed::two_needed))]
 fn open_found<'a>(alloc: Global, found: Found, bytes: &'a [u8], size: u64) -> Result<Mp4Reader<'a>>
     requires first_samples { (m : MoovBox) → found.moov ≡ Some m → HaveFirstSamples m.traks }
     requires places { length found.moof_places ≡ length found.moofs }
@@ -98,7 +89,7 @@ fn open_found<'a>(alloc: Global, found: Found, bytes: &'a [u8], size: u64) -> Re
         moof_places,
         emsgs,
     } = found;
-    let (ftyp, moov) = match required_both(ftyp, moov) {
+    let (ftyp, moov) = match required_two(ftyp, moov) {
         Ok(both) => both,
         Err(error) => {
             drop(moofs);

@@ -12,8 +12,9 @@ ghost use Rattle.mp4_media.specs.MovieTracks.{AreTracks, HaveFirstSamples, Refus
 use crate::fragments::{
     bases_by_id, bases_with_id, defaults_by_id, fragments_by_id, track_defaults, trexs_of,
 };
-use mp4_boxes::{MoofBox, MoovBox, TrafBox, TrakBox};
+use mp4_boxes::{MoovBox, TrakBox};
 use mp4_codec::{Error, Items, Result, TryClone};
+use mp4_frag::{MoofBox, TrafBox};
 use mp4_fragments::SampleDefaults;
 use mp4_lookup::Mp4Track;
 use std::alloc::Global;

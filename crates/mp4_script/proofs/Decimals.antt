@@ -8,7 +8,7 @@ use Rattle.std.specs.Prelude.{slice_index}
 use Rattle.std.specs.Result.{OkIff, result_ok}
 use Rattle.std.specs.Str.{IsUtf8, all_ascii_digits}
 use Rattle.std.specs.Str.Parse.{ParsesUnsigned}
-use Rattle.mp4_boxes.specs.Metadata.{decimal_value, numeral}
+use Rattle.mp4_meta.specs.Metadata.{decimal_value, numeral}
 use Rattle.mp4_script.specs.Commands.{decimal_in}
 
 abbrev AreDigits : List ℕ → Type 0

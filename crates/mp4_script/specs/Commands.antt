@@ -4,7 +4,7 @@ use Rattle.std.specs.Prelude.{Option, Some, None, nat_eq, nat_lt, ◌==◌, if�
 use Rattle.std.specs.List.{position_or_len}
 use Rattle.std.specs.Cmp.Lexicographic.{pointwise}
 use Rattle.mp4_entry.specs.declared.config.MediaConfig.TheVariants.{TtxtConfig as Ttxt}
-use Rattle.mp4_boxes.specs.Metadata.{numeral}
+use Rattle.mp4_meta.specs.Metadata.{numeral}
 use Rattle.mp4_mux.specs.declared.config.TrackConfig.{TrackConfig}
 use Rattle.mp4_mux.specs.Config.{track_config_of}
 use Rattle.mp4_mux.specs.Calls.{Call, add_track, write_sample}

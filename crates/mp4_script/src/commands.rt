@@ -62,7 +62,7 @@ fn cut_at_space(line: &[u8]) -> Option<(&[u8], &[u8])>
 }
 
 /// The number that one to ten decimal digits write, where it has 32 bits.
-#[tactic(auto, unfolding(crate::specs::Commands::decimal_in, mp4_boxes::specs::Metadata::numeral))]
+#[tactic(auto, unfolding(crate::specs::Commands::decimal_in, mp4_meta::specs::Metadata::numeral))]
 pub fn decimal_in(digits: &[u8]) -> Option<u32>
     ensures { result ≡ decimal_in digits.now }
 {

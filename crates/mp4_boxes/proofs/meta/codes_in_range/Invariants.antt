@@ -1,7 +1,0 @@
-use Rattle.std.proofs.Common.{take}
-use Rattle.std.specs.List.{AllByRecursion}
-use Rattle.mp4_boxes.specs.Meta.{HasCode}
-use Rattle.mp4_boxes.proofs.meta.codes_in_range.Given as goal
-
-abbrev pub invariant-loop-child : goal.invariant-loop-child
-invariant-loop-child l = AllByRecursion HasCode (take l.child-index l.child-items)

@@ -1,0 +1,7 @@
+use Rattle.mp4_codec.specs.PutLaws.{◌then◌}
+use Rattle.mp4_frag.specs.Moof.{moof_payload}
+use Rattle.mp4_frag.proofs.moof.MoofBoxWriteBox.put_payload.Goals as goal
+
+pub returns : goal.returns
+unfolding moof_payload
+returns c = c.in_ok-put_box.ensures then c.in_ok-put_all.ensures

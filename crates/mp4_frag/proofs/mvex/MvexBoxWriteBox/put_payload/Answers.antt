@@ -1,0 +1,7 @@
+use Rattle.mp4_codec.specs.PutLaws.{◌then◌}
+use Rattle.mp4_frag.specs.Mvex.{mvex_payload}
+use Rattle.mp4_frag.proofs.mvex.MvexBoxWriteBox.put_payload.Goals as goal
+
+pub returns : goal.returns
+unfolding mvex_payload
+returns c = c.in_ok-put_optional.ensures then c.in_ok-put_all.ensures

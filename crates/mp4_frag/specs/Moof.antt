@@ -1,0 +1,61 @@
+-- The fragment of a movie (ISO/IEC 14496-12, 8.8.4).
+use Rattle.std.specs.Prelude.{ℕ, List, [], Option, Result, Ok}
+use Rattle.std.specs.List.{AllByRecursion}
+use Rattle.mp4_codec.specs.declared.box_type.BoxType.TheVariants.{MfhdBox as mfhd, TrafBox as traf}
+use Rattle.mp4_codec.specs.Cause.{Cause, ◌>>=◌, ◌or◌}
+use Rattle.mp4_codec.specs.Bytes.{◌⧺◌}
+use Rattle.mp4_codec.specs.Boxes.{frame, all_frames, all_refusal, IsCanonical}
+use Rattle.mp4_codec.specs.Children.{ChildBox, children, gathered, fault_in, last_of, all_of, with_last, with_next}
+use Rattle.mp4_codec.specs.Children.{needed}
+use Rattle.mp4_frag.specs.Mfhd.{mfhd_of, mfhd_payload, IsInRangeMfhd, RemarksMfhd, default_mfhd}
+use Rattle.mp4_frag.specs.Traf.{traf_of, traf_payload, traf_refusal, IsInRangeTraf, RemarksTraf}
+use Rattle.mp4_frag.specs.declared.moof.MoofBox.{MoofBox}
+use Rattle.mp4_frag.specs.declared.moof.MoofParts.{MoofParts}
+
+-- why a child refuses the movie fragment
+unfoldable pub moof_fault : ChildBox → Option Cause
+moof_fault c = fault_in mfhd mfhd_of c or fault_in traf traf_of c
+
+-- what is taken of the children: the last header, and all fragments of tracks
+unfoldable pub moof_taken : List ChildBox → MoofParts
+moof_taken cs = record { mfhd = last_of mfhd mfhd_of cs; trafs = all_of traf traf_of cs }
+
+-- the same with one child more
+unfoldable pub moof_added : MoofParts → ChildBox → Result MoofParts Cause
+moof_added p c = do
+  header ← with_last mfhd mfhd_of c p.mfhd
+  fragments ← with_next traf traf_of c p.trafs
+  Ok (record { mfhd = header; trafs = fragments })
+
+-- the movie fragment that a payload holds: a header has to be there
+unfoldable pub moof_of : List ℕ → Result MoofBox Cause
+moof_of payload = do
+  parts ← gathered moof_fault moof_taken (children payload)
+  header ← needed mfhd parts.mfhd
+  Ok (record { mfhd = header; trafs = parts.trafs })
+
+-- the payload that holds a movie fragment
+unfoldable pub moof_payload : MoofBox → List ℕ
+moof_payload b = frame mfhd (mfhd_payload b.mfhd) ⧺ all_frames traf traf_payload b.trafs
+
+-- why a movie fragment is not written: the first refusal in written order
+unfoldable pub moof_refusal : MoofBox → Option Cause
+moof_refusal b = all_refusal traf_refusal b.trafs
+
+-- each number is within its type
+pub record IsInRangeMoof (b : MoofBox) : Type 0 where
+  pub mfhd : IsInRangeMfhd b.mfhd
+  pub trafs : AllByRecursion IsInRangeTraf b.trafs
+
+-- the remarks of its children
+pub record RemarksMoof (b : MoofBox) : Type 0 where
+  pub mfhd : RemarksMfhd b.mfhd
+  pub trafs : AllByRecursion RemarksTraf b.trafs
+
+-- a movie fragment that is written and reads back equal
+abbrev pub IsCanonicalMoof : MoofBox → Type 0
+IsCanonicalMoof = IsCanonical IsInRangeMoof RemarksMoof moof_payload moof_refusal
+
+-- a movie fragment of a default header, without samples
+abbrev pub default_moof : MoofBox
+default_moof = record { mfhd = default_mfhd; trafs = [] }

@@ -1,0 +1,5 @@
+pub mod ChildFrames
+pub mod Items
+pub mod MetaSizes
+pub mod Numerals
+pub mod Sizes

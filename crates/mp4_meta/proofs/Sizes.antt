@@ -1,0 +1,5 @@
+-- The lengths of boxes in boxes, for the check.
+use Rattle.mp4_codec.specs.FieldLaws.{length-then}
+use Rattle.mp4_codec.specs.FramingLaws.{length-frame}
+
+pub ruleset sizes = (length-frame, length-then)

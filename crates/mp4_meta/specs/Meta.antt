@@ -1,0 +1,103 @@
+-- Metadata (ISO/IEC 14496-12, 8.11.1).
+use Rattle.std.specs.Prelude.{◌≡◌, ◌^◌, ◌<◌, ◌==◌, ℕ, Bool, false, not, List, [], ◌∷◌, ◌++◌, Option, None}
+use Rattle.std.specs.Prelude.{Result, Ok, Err, IfSome, if◌then◌else◌}
+use Rattle.std.specs.Int.{w32, from_be_bytes}
+use Rattle.std.specs.List.{AllByRecursion, filter, flat_map}
+use Rattle.mp4_codec.specs.declared.box_type.BoxType.TheVariants.{HdlrBox as hdlr, IlstBox as ilst, MetaBox as meta}
+use Rattle.mp4_codec.specs.BoxType.{code_of, IsNamed}
+use Rattle.mp4_codec.specs.Cause.{Cause, unsupported_version, ◌>>=◌}
+use Rattle.mp4_codec.specs.Bytes.{number_at, zeros, ◌⧺◌, coded}
+use Rattle.mp4_codec.specs.Boxes.{frame, optional, no_refusal, IsCanonical}
+use Rattle.mp4_codec.specs.Children.{ChildBox, children, gathered, is_of, fault_in, last_of, needed}
+use Rattle.mp4_leaf.specs.declared.hdlr.HdlrBox.{HdlrBox}
+use Rattle.mp4_leaf.specs.Hdlr.{hdlr_of, hdlr_payload, IsInRangeHdlr, RemarksHdlr, default_hdlr}
+use Rattle.mp4_meta.specs.declared.meta.MetaBox.{MetaBox}
+use Rattle.mp4_meta.specs.declared.meta.MetaBox.TheVariants.{Mdir, Unknown}
+use Rattle.mp4_meta.specs.declared.meta.OtherChildren.{OtherChildren}
+use Rattle.mp4_meta.specs.Ilst.{ilst_of, ilst_payload, IsInRangeIlst, RemarksIlst}
+
+-- the bytes begin with the type hdlr
+abbrev pub names_hdlr : List ℕ → Bool
+names_hdlr bytes = named (number_at 4 bytes)
+  where
+    named : Result (ℕ × List ℕ) Cause → Bool
+    named (Ok code) = code.0 == code_of hdlr
+    named (Err c) = false
+
+-- The part of a payload that holds the children: what stands behind four zero bytes, or the whole payload where its
+-- second four bytes are the type of a hdlr. Anything else is a version that is not known.
+unfoldable pub meta_body : List ℕ → Result (List ℕ) Cause
+meta_body payload = do
+  first ← number_at 4 payload
+  if first.0 == 0 then Ok first.1 else
+      if names_hdlr first.1 then Ok payload else
+      (number_at 1 payload >>= λ version. Err (unsupported_version meta version.0))
+
+-- the handler type mdir
+abbrev pub mdir : ℕ
+mdir = 0x6d646972
+
+abbrev pub is_mdir : HdlrBox → Bool
+is_mdir handler = from_be_bytes w32 handler.handler_type.value == mdir
+
+-- the handler that is written for it
+abbrev pub mdir_handler : HdlrBox
+mdir_handler = record default_hdlr { handler_type = coded mdir }
+
+-- the children that are not the handler
+unfoldable pub others : List ChildBox → List ChildBox
+others cs = filter (λ c. not (is_of hdlr c)) cs
+
+-- the same with one child more
+unfoldable pub others_added : OtherChildren → ChildBox → Result OtherChildren Cause
+others_added p c = if is_of hdlr c then Ok p else Ok (record { children = p.children ++ c ∷ [] })
+
+-- no child is refused
+abbrev pub no_fault : ChildBox → Option Cause
+no_fault c = None
+
+-- The metadata that a payload holds: a handler has to be there. With handler mdir it is the last list of items; with any
+-- other handler all children but the handler, as they are.
+unfoldable pub meta_of : List ℕ → Result MetaBox Cause
+meta_of payload = do
+  body ← meta_body payload
+  last ← gathered (fault_in hdlr hdlr_of) (last_of hdlr hdlr_of) (children body)
+  handler ← needed hdlr last
+  if is_mdir handler
+      then (gathered (fault_in ilst ilst_of) (last_of ilst ilst_of) (children body) >>= λ list. Ok (Mdir list))
+      else (gathered no_fault others (children body) >>= λ cs. Ok (Unknown handler cs))
+
+-- the boxes of these children, one after the other
+unfoldable pub child_frames : List ChildBox → List ℕ
+child_frames cs = flat_map (λ c. frame c.0 c.1) cs
+
+-- the payload that holds metadata
+unfoldable pub meta_payload : MetaBox → List ℕ
+meta_payload (Mdir list) = zeros 4 ⧺ frame hdlr (hdlr_payload mdir_handler) ⧺ optional ilst ilst_payload list
+meta_payload (Unknown handler cs) = zeros 4 ⧺ frame hdlr (hdlr_payload handler) ⧺ child_frames cs
+
+-- the code of a child's type has 32 bits
+abbrev pub HasCode : ChildBox → Type 0
+HasCode c = code_of c.0 < 2 ^ 32
+
+-- each number is within its type
+abbrev pub IsInRangeMeta : MetaBox → Type 0
+IsInRangeMeta (Mdir list) = IfSome list IsInRangeIlst
+IsInRangeMeta (Unknown handler cs) = IsInRangeHdlr handler × AllByRecursion HasCode cs
+
+-- a child that is not the handler, and whose type is no named type spelled as an unknown one
+abbrev pub IsOther : ChildBox → Type 0
+IsOther c = (is_of hdlr c ≡ false) × IsNamed c.0
+
+-- the remarks of its children; unknown metadata is not of handler mdir
+abbrev pub RemarksMeta : MetaBox → Type 0
+RemarksMeta (Mdir list) = IfSome list RemarksIlst
+RemarksMeta (Unknown handler cs) = RemarksHdlr handler × (is_mdir handler ≡ false) × AllByRecursion IsOther cs
+
+-- metadata that is written and reads back equal
+abbrev pub IsCanonicalMeta : MetaBox → Type 0
+IsCanonicalMeta = IsCanonical IsInRangeMeta RemarksMeta meta_payload no_refusal
+
+-- metadata of a default handler, without other children
+abbrev pub default_meta : MetaBox
+default_meta = Unknown default_hdlr []
