@@ -5,12 +5,13 @@ use crate::asserts::check;
 use mp4_boxes::{EdtsBox, MdiaBox, MinfBox, MoovBox, StblBox, TrakBox};
 use mp4_codec::{BoxType, FourCC, Items, Result, WriteBox};
 use mp4_entry::{StsdBox, Tx3gBox};
-use mp4_frag::{MehdBox, MoofBox, MvexBox, TfdtBox, TfhdBox, TrafBox, TrexBox, TrunBox};
+use mp4_frag::{MehdBox, TfdtBox, TfhdBox, TrexBox, TrunBox};
 use mp4_leaf::{
     DataBox, DataType, DinfBox, ElstBox, ElstEntry, HdlrBox, MdhdBox, MvhdBox, SmhdBox, TkhdBox,
     VmhdBox,
 };
 use mp4_meta::{IlstBox, IlstItemBox, MetaBox, MetadataKey, UdtaBox};
+use mp4_moof::{MoofBox, MvexBox, TrafBox};
 use mp4_plain_movies::random::Random;
 use mp4_plain_movies::spelled::{read_bytes, written};
 use mp4_table::{

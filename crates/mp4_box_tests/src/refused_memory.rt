@@ -11,11 +11,12 @@ use mp4_codec::{
     put_u64, put_versioned, put_zeros,
 };
 use mp4_entry::{HevcConfig, MediaConfig, StsdBox};
-use mp4_frag::{EmsgBox, MehdBox, MfhdBox, MoofBox, TfdtBox, TfhdBox, TrexBox, TrunBox};
+use mp4_frag::{EmsgBox, MehdBox, MfhdBox, TfdtBox, TfhdBox, TrexBox, TrunBox};
 use mp4_leaf::{
     DataBox, DinfBox, ElstBox, FtypBox, HdlrBox, MdhdBox, MvhdBox, SmhdBox, TkhdBox, VmhdBox,
 };
 use mp4_meta::{IlstBox, Metadata};
+use mp4_moof::MoofBox;
 use mp4_plain_movies::movie_bytes::{EMPTY_MOVIE, FRAGMENT, FULL_MOVIE};
 use mp4_plain_movies::sample_boxes::Number;
 use mp4_plain_movies::sides::Side;

@@ -5,9 +5,10 @@ use crate::asserts::{check, same_at};
 use mp4_boxes::{MdiaBox, MinfBox, StblBox};
 use mp4_codec::{BoxType, FourCC, Items, Result, Text, WriteBox};
 use mp4_entry::{Avc1Box, AvcCBox, EsdsBox, Hev1Box, Mp4aBox, NalUnit, StsdBox, Tx3gBox};
-use mp4_frag::{TrafBox, TrunBox};
+use mp4_frag::TrunBox;
 use mp4_leaf::{DataBox, DataType, HdlrBox};
 use mp4_meta::{IlstBox, IlstItemBox, MetaBox, Metadata, MetadataKey};
+use mp4_moof::TrafBox;
 use mp4_plain_movies::spelled::{
     also, both, hex, is_invalid, is_unrepresentable, read_bytes, writes, written,
 };

@@ -10,7 +10,7 @@ use Rattle.mp4_codec.specs.Children.{ChildBox, children, gathered, fault_in, las
 use Rattle.mp4_codec.specs.Children.{needed}
 use Rattle.mp4_leaf.specs.Mvhd.{mvhd_of, mvhd_payload, mvhd_refusal, IsInRangeMvhd, RemarksMvhd, default_mvhd}
 use Rattle.mp4_boxes.specs.Trak.{trak_of, trak_payload, trak_refusal, IsInRangeTrak, RemarksTrak}
-use Rattle.mp4_frag.specs.Mvex.{mvex_of, mvex_payload, mvex_refusal, IsInRangeMvex, RemarksMvex}
+use Rattle.mp4_moof.specs.Mvex.{mvex_of, mvex_payload, mvex_refusal, IsInRangeMvex, RemarksMvex}
 use Rattle.mp4_meta.specs.Meta.{meta_of, meta_payload, IsInRangeMeta, RemarksMeta}
 use Rattle.mp4_meta.specs.Udta.{udta_of, udta_payload, IsInRangeUdta, RemarksUdta}
 use Rattle.mp4_boxes.specs.declared.moov.MoovBox.{MoovBox}

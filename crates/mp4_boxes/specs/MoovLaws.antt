@@ -22,13 +22,13 @@ use Rattle.mp4_codec.specs.WrittenParts.{optional_part, list_part, group, last_g
 use Rattle.mp4_codec.specs.WrittenParts.{last_of-part, all_of-part, both_fit}
 use Rattle.mp4_leaf.specs.Mvhd.{mvhd_of, mvhd_payload, mvhd_refusal}
 use Rattle.mp4_boxes.specs.Trak.{trak_of, trak_payload, trak_refusal}
-use Rattle.mp4_frag.specs.Mvex.{mvex_of, mvex_payload, mvex_refusal}
+use Rattle.mp4_moof.specs.Mvex.{mvex_of, mvex_payload, mvex_refusal}
 use Rattle.mp4_meta.specs.Meta.{meta_of, meta_payload}
 use Rattle.mp4_meta.specs.Udta.{udta_of, udta_payload}
 use Rattle.mp4_boxes.specs.declared.moov.MoovBox.{MoovBox}
 use Rattle.mp4_boxes.specs.LeafKinds.{mvhd_kind}
 use Rattle.mp4_meta.specs.MetaLaws.{meta_kind}
-use Rattle.mp4_frag.specs.MvexLaws.{mvex_kind}
+use Rattle.mp4_moof.specs.MvexLaws.{mvex_kind}
 use Rattle.mp4_boxes.specs.TrakLaws.{trak_kind}
 use Rattle.mp4_meta.specs.UdtaLaws.{udta_kind}
 use Rattle.mp4_boxes.specs.Moov.{moov_fault, moov_taken, moov_added, moov_of, moov_payload, moov_refusal}

@@ -13,9 +13,9 @@ use mp4_codec::{
     WriteBox, all_size, check_all, check_optional, four_copies, gather_children, keep_each,
     keep_last, optional_size, put_all, put_optional, required,
 };
-use mp4_frag::MvexBox;
 use mp4_leaf::MvhdBox;
 use mp4_meta::{MetaBox, UdtaBox};
+use mp4_moof::MvexBox;
 use std::alloc::Global;
 
 /// The movie, `moov`: what a file holds beside its samples (ISO/IEC 14496-12, 8.2.1).

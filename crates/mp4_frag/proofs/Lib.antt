@@ -1,3 +1,2 @@
-pub mod ContainerSizes
-pub mod RowLoop
 pub mod Sizes
+pub mod RowLoop

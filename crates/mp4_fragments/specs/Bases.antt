@@ -3,7 +3,7 @@
 use Rattle.std.specs.Prelude.{ℕ, ℤ, List, [], ◌∷◌, fold, Option, Some, None, if◌then◌else◌}
 use Rattle.mp4_frag.specs.Optional.{is_set}
 use Rattle.mp4_frag.specs.declared.trun.TrunBox.{TrunBox}
-use Rattle.mp4_frag.specs.declared.traf.TrafBox.{TrafBox}
+use Rattle.mp4_moof.specs.declared.traf.TrafBox.{TrafBox}
 use Rattle.mp4_fragments.specs.Numbers.{plus, moved, sum_of_first}
 use Rattle.mp4_fragments.specs.Defaults.{defaults_in}
 use Rattle.mp4_fragments.specs.declared.defaults.SampleDefaults.{SampleDefaults}

@@ -3,7 +3,7 @@ use Rattle.std.specs.Prelude.{ℕ, nat_lt, Bool, List, [], ◌∷◌, ◌++◌, 
 use Rattle.std.specs.List.{list_any}
 use Rattle.mp4_frag.specs.declared.tfdt.TfdtBox.{TfdtBox}
 use Rattle.mp4_frag.specs.declared.trun.TrunBox.{TrunBox}
-use Rattle.mp4_frag.specs.declared.traf.TrafBox.{TrafBox}
+use Rattle.mp4_moof.specs.declared.traf.TrafBox.{TrafBox}
 use Rattle.mp4_fragments.specs.Bases.{data_begins}
 use Rattle.mp4_fragments.specs.Defaults.{defaults_in}
 use Rattle.mp4_fragments.specs.Members.{PlacedRun, at_member, all_members}

@@ -3,7 +3,7 @@ use Rattle.std.proofs.Common.{◌≡◌, ℕ, ◌<◌, List, [], ◌∷◌, leng
 use Rattle.std.proofs.Common.{arith}
 use Rattle.std.specs.Prelude.{slice_get}
 use Rattle.std.specs.List.{filter_map}
-use Rattle.mp4_frag.specs.declared.traf.TrafBox.{TrafBox}
+use Rattle.mp4_moof.specs.declared.traf.TrafBox.{TrafBox}
 use Rattle.mp4_fragments.specs.Index.{Indexes, placed_at, run_at, runs_of}
 use Rattle.mp4_fragments.specs.Members.{PlacedRun, all_members}
 use Rattle.mp4_fragments.specs.declared.defaults.SampleDefaults.{SampleDefaults}

@@ -7,7 +7,8 @@ ghost use Rattle.mp4_fragments.specs.Bases.{base_of, data_ends, traf_ends};
 use crate::beginnings::{add, data_begin};
 use crate::defaults::SampleDefaults;
 use crate::values::sum_of;
-use mp4_frag::{TrafBox, TrunBox};
+use mp4_frag::TrunBox;
+use mp4_moof::TrafBox;
 
 /// The flag of a header whose base is the first byte of its fragment.
 const DEFAULT_BASE_IS_MOOF: u32 = 0x20000;

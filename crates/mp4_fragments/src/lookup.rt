@@ -3,7 +3,7 @@
 ghost use Rattle.std.specs.Prelude.{◌≡◌, ℕ, ◌-◌, ◌^◌, ◌<◌, List, length, min, slice_get, IfSome, Option};
 ghost use Rattle.std.specs.Option.{option_map, option_and_then};
 ghost use Rattle.std.specs.List.{sum_by};
-ghost use Rattle.mp4_frag.specs.declared.traf.TrafBox.{TrafBox};
+ghost use Rattle.mp4_moof.specs.declared.traf.TrafBox.{TrafBox};
 ghost use Rattle.mp4_search.specs.Search.{IsFew, comparisons_in};
 ghost use Rattle.mp4_fragments.specs.Members.{PlacedRun, all_members};
 ghost use Rattle.mp4_fragments.specs.Index.{Find, Indexes, IsRight, member_in, placed_at, run_at, runs_of};
@@ -11,7 +11,8 @@ ghost use Rattle.mp4_fragments.specs.Index.{Find, Indexes, IsRight, member_in, p
 use crate::defaults::SampleDefaults;
 use crate::index::{RunEntry, RunIndex};
 use crate::members::{Member, nth_member};
-use mp4_frag::{TrafBox, TrunBox};
+use mp4_frag::TrunBox;
+use mp4_moof::TrafBox;
 use mp4_search::last_at_most;
 
 /// A member, and how many numbers were compared to find its run.

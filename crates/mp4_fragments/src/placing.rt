@@ -10,7 +10,8 @@ use crate::beginnings::{at_by_checkpoints, checkpoints, data_begin};
 use crate::defaults::SampleDefaults;
 use crate::index::{RunEntry, RunIndex};
 use crate::members::Beginning;
-use mp4_frag::{TfdtBox, TrafBox, TrunBox};
+use mp4_frag::{TfdtBox, TrunBox};
+use mp4_moof::TrafBox;
 use std::alloc::{AllocError, Global};
 
 /// Where and when a run begins, if the member before it ends at `at`.

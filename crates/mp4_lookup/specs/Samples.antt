@@ -4,7 +4,7 @@ use Rattle.std.specs.Prelude.{nat_lt, if◌then◌else◌}
 use Rattle.mp4_codec.specs.Cause.{Cause, end_of_data, ◌>>=◌}
 use Rattle.mp4_boxes.specs.declared.stbl.StblBox.{StblBox}
 use Rattle.mp4_boxes.specs.declared.trak.TrakBox.{TrakBox}
-use Rattle.mp4_frag.specs.declared.traf.TrafBox.{TrafBox}
+use Rattle.mp4_moof.specs.declared.traf.TrafBox.{TrafBox}
 use Rattle.mp4_fragments.specs.Members.{PlacedRun}
 use Rattle.mp4_lookup.specs.declared.sample.Mp4Sample.{Mp4Sample}
 use Rattle.mp4_lookup.specs.declared.sample.SampleRef.{SampleRef}

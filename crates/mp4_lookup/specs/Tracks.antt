@@ -7,7 +7,7 @@ use Rattle.mp4_table.specs.Runs.{durations}
 use Rattle.mp4_table.specs.Starts.{start_of}
 use Rattle.mp4_boxes.specs.declared.stbl.StblBox.{StblBox}
 use Rattle.mp4_boxes.specs.declared.trak.TrakBox.{TrakBox}
-use Rattle.mp4_frag.specs.declared.traf.TrafBox.{TrafBox}
+use Rattle.mp4_moof.specs.declared.traf.TrafBox.{TrafBox}
 use Rattle.mp4_fragments.specs.Members.{PlacedRun, all_members}
 use Rattle.mp4_fragments.specs.declared.members.Member.{Member}
 use Rattle.mp4_lookup.specs.Places.{Place}

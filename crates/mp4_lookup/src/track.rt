@@ -12,8 +12,8 @@ use crate::index::{TrackIndex, index_of};
 use crate::timing::end_after;
 use mp4_boxes::TrakBox;
 use mp4_codec::Items;
-use mp4_frag::TrafBox;
 use mp4_fragments::{RunIndex, SampleDefaults, index_of as index_of_runs};
+use mp4_moof::TrafBox;
 use std::alloc::{AllocError, Global};
 
 /// A track of a movie that was opened (ISO/IEC 14496-12, 8.3.1).

@@ -7,8 +7,8 @@ use Rattle.std.specs.HashMap.{HashMap}
 use Rattle.std.proofs.lemmas.Bool.{eqb-true}
 use Rattle.std.proofs.lemmas.List.{append-nil, drop_all, drop_more}
 use Rattle.std.proofs.lemmas.List.Elements.{filter-append}
-use Rattle.mp4_frag.specs.declared.moof.MoofBox.{MoofBox}
-use Rattle.mp4_frag.specs.declared.traf.TrafBox.{TrafBox}
+use Rattle.mp4_moof.specs.declared.moof.MoofBox.{MoofBox}
+use Rattle.mp4_moof.specs.declared.traf.TrafBox.{TrafBox}
 use Rattle.mp4_fragments.specs.declared.defaults.SampleDefaults.{SampleDefaults}
 use Rattle.mp4_fragments.specs.Bases.{base_of, bases_from, bases_of, traf_ends}
 use Rattle.mp4_media.specs.MovieTracks.{bases_at, own_bases, track_bases, trafs_in, trafs_of}

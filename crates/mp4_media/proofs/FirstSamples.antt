@@ -16,7 +16,7 @@ use Rattle.mp4_frag.specs.Emsg.{emsg_of}
 use Rattle.mp4_boxes.specs.declared.moov.MoovBox.{MoovBox}
 use Rattle.mp4_boxes.specs.Needed.{two_needed}
 use Rattle.mp4_boxes.specs.Moov.{moov_of}
-use Rattle.mp4_frag.specs.Moof.{moof_of}
+use Rattle.mp4_moof.specs.Moof.{moof_of}
 use Rattle.mp4_boxes.specs.MoovLaws.{moov_of-has_first_samples}
 use Rattle.mp4_media.specs.declared.opening.FileBox.{FileBox}
 use Rattle.mp4_media.specs.declared.opening.BoxContent.{BoxContent}

@@ -5,7 +5,7 @@ use Rattle.std.specs.List.{cons_option}
 use Rattle.mp4_codec.specs.Cause.{Cause, ◌>>=◌}
 use Rattle.mp4_codec.specs.Cursor.{Cursor}
 use Rattle.mp4_codec.specs.Steps.{ok_is}
-use Rattle.mp4_frag.specs.declared.moof.MoofBox.{MoofBox}
+use Rattle.mp4_moof.specs.declared.moof.MoofBox.{MoofBox}
 use Rattle.mp4_media.specs.declared.opening.FileBox.{FileBox}
 use Rattle.mp4_media.specs.declared.opening.Found.{Found}
 use Rattle.mp4_media.specs.FileBoxes.{moof_from, moofs_in, moof_places_in}

@@ -14,8 +14,8 @@ use Rattle.mp4_codec.specs.GatherLaws.{last-push}
 use Rattle.mp4_frag.specs.declared.trex.TrexBox.{TrexBox}
 use Rattle.mp4_boxes.specs.declared.moov.MoovBox.{MoovBox}
 use Rattle.mp4_boxes.specs.declared.trak.TrakBox.{TrakBox}
-use Rattle.mp4_frag.specs.declared.moof.MoofBox.{MoofBox}
-use Rattle.mp4_frag.specs.declared.traf.TrafBox.{TrafBox}
+use Rattle.mp4_moof.specs.declared.moof.MoofBox.{MoofBox}
+use Rattle.mp4_moof.specs.declared.traf.TrafBox.{TrafBox}
 use Rattle.mp4_fragments.specs.declared.defaults.SampleDefaults.{SampleDefaults}
 use Rattle.mp4_fragments.specs.Defaults.{defaults_of_trex}
 use Rattle.mp4_fragments.specs.Fragments.{placed_runs, fragment_members}

@@ -14,9 +14,9 @@ use Rattle.mp4_codec.specs.Cursor.{here}
 use Rattle.mp4_codec.specs.Steps.{ok_is}
 use Rattle.mp4_boxes.specs.declared.stbl.StblBox.{StblBox}
 use Rattle.mp4_boxes.specs.declared.trak.TrakBox.{TrakBox}
-use Rattle.mp4_frag.specs.declared.traf.TrafBox.{TrafBox}
+use Rattle.mp4_moof.specs.declared.traf.TrafBox.{TrafBox}
 use Rattle.mp4_boxes.specs.declared.moov.MoovBox.{MoovBox}
-use Rattle.mp4_frag.specs.declared.moof.MoofBox.{MoofBox}
+use Rattle.mp4_moof.specs.declared.moof.MoofBox.{MoofBox}
 use Rattle.mp4_fragments.specs.Fragments.{placed_runs}
 use Rattle.mp4_fragments.specs.Members.{PlacedRun}
 use Rattle.mp4_lookup.specs.declared.track.Mp4Track.{Mp4Track}

@@ -12,9 +12,9 @@ use Rattle.mp4_leaf.specs.Ftyp.{ftyp_of}
 use Rattle.mp4_frag.specs.declared.emsg.EmsgBox.{EmsgBox}
 use Rattle.mp4_frag.specs.Emsg.{emsg_of}
 use Rattle.mp4_boxes.specs.declared.moov.MoovBox.{MoovBox}
-use Rattle.mp4_frag.specs.declared.moof.MoofBox.{MoofBox}
+use Rattle.mp4_moof.specs.declared.moof.MoofBox.{MoofBox}
 use Rattle.mp4_boxes.specs.Moov.{moov_of}
-use Rattle.mp4_frag.specs.Moof.{moof_of}
+use Rattle.mp4_moof.specs.Moof.{moof_of}
 use Rattle.mp4_media.specs.declared.opening.FileBox.{FileBox}
 use Rattle.mp4_media.specs.declared.opening.BoxContent.{BoxContent}
 use Rattle.mp4_media.specs.declared.opening.BoxContent.TheVariants.{Ftyp, Moov, Moof, Emsg}

@@ -12,9 +12,9 @@ use Rattle.mp4_table.specs.Stsc.{HasFirstSamples}
 use Rattle.mp4_frag.specs.declared.trex.TrexBox.{TrexBox}
 use Rattle.mp4_boxes.specs.declared.moov.MoovBox.{MoovBox}
 use Rattle.mp4_boxes.specs.declared.trak.TrakBox.{TrakBox}
-use Rattle.mp4_frag.specs.declared.mvex.MvexBox.{MvexBox}
-use Rattle.mp4_frag.specs.declared.moof.MoofBox.{MoofBox}
-use Rattle.mp4_frag.specs.declared.traf.TrafBox.{TrafBox}
+use Rattle.mp4_moof.specs.declared.mvex.MvexBox.{MvexBox}
+use Rattle.mp4_moof.specs.declared.moof.MoofBox.{MoofBox}
+use Rattle.mp4_moof.specs.declared.traf.TrafBox.{TrafBox}
 use Rattle.mp4_fragments.specs.declared.defaults.SampleDefaults.{SampleDefaults}
 use Rattle.mp4_fragments.specs.Bases.{bases_of}
 use Rattle.mp4_fragments.specs.Defaults.{defaults_of_trex, no_defaults}

@@ -6,8 +6,9 @@ ghost use Rattle.mp4_fragments.specs.Bases.{bases_of};
 ghost use Rattle.mp4_media.specs.MovieTracks.{at_id, bases_at, defaults_at, defaults_with_id, fragments_at, own_bases, track_bases, trafs_in, trafs_of, trexs_in};
 
 use mp4_codec::{Error, Items, Result, TryClone};
-use mp4_frag::{MoofBox, MvexBox, TrafBox, TrexBox};
+use mp4_frag::TrexBox;
 use mp4_fragments::{SampleDefaults, traf_base, traf_end};
+use mp4_moof::{MoofBox, MvexBox, TrafBox};
 use std::alloc::{AllocError, Global};
 use std::collections::HashMap;
 

@@ -34,9 +34,7 @@ pub use mp4_entry::{
     StsdBox, TrackType, TtxtConfig, Tx3gBox, Vp09Box, Vp9Config, VpccBox,
     configurations_are_written, numbers_have_one_value, values_have_their_numbers,
 };
-pub use mp4_frag::{
-    EmsgBox, MehdBox, MfhdBox, MoofBox, MvexBox, TfdtBox, TfhdBox, TrafBox, TrexBox, TrunBox,
-};
+pub use mp4_frag::{EmsgBox, MehdBox, MfhdBox, TfdtBox, TfhdBox, TrexBox, TrunBox};
 pub use mp4_leaf::{
     DataBox, DataType, DinfBox, DrefBox, ElstBox, ElstEntry, FtypBox, HdlrBox, Matrix, MdhdBox,
     MvhdBox, RgbColor, SmhdBox, TkhdBox, UrlBox, VmhdBox, check_language,
@@ -44,6 +42,7 @@ pub use mp4_leaf::{
 pub use mp4_meta::{
     IlstBox, IlstItemBox, MetaBox, Metadata, MetadataKey, UdtaBox, equal_keys_hash_alike,
 };
+pub use mp4_moof::{MoofBox, MvexBox, TrafBox};
 pub use mp4_table::{
     Co64Box, CttsBox, CttsEntry, StcoBox, StscBox, StscEntry, StssBox, StszBox, SttsBox, SttsEntry,
     entries_are_no_fewer_than_turns, entries_have_first_samples, runs_are_no_fewer_than_turns,

@@ -10,8 +10,9 @@ use mp4_boxes::MoovBox;
 use mp4_codec::{
     BoxHeader, BoxType, ByteCursor, Error, HEADER_SIZE, Items, OPEN_END, ReadBox, Result,
 };
-use mp4_frag::{EmsgBox, MoofBox};
+use mp4_frag::EmsgBox;
 use mp4_leaf::FtypBox;
+use mp4_moof::MoofBox;
 use std::alloc::{AllocError, Global};
 
 /// What a box of a file holds.

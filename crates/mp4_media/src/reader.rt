@@ -20,10 +20,11 @@ use crate::tracks::tracks_of;
 use bytes::Bytes;
 use mp4_boxes::{MoovBox, required_two};
 use mp4_codec::{ByteCursor, Error, FourCC, Items, Result};
-use mp4_frag::{EmsgBox, MoofBox};
+use mp4_frag::EmsgBox;
 use mp4_leaf::FtypBox;
 use mp4_lookup::{Mp4Sample, Mp4Track, SampleRef, time_of};
 use mp4_meta::{IlstBox, MetaBox};
+use mp4_moof::MoofBox;
 use std::alloc::Global;
 use std::collections::HashMap;
 

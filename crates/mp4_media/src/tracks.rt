@@ -14,9 +14,9 @@ use crate::fragments::{
 };
 use mp4_boxes::{MoovBox, TrakBox};
 use mp4_codec::{Error, Items, Result, TryClone};
-use mp4_frag::{MoofBox, TrafBox};
 use mp4_fragments::SampleDefaults;
 use mp4_lookup::Mp4Track;
+use mp4_moof::{MoofBox, TrafBox};
 use std::alloc::Global;
 use std::collections::HashMap;
 

@@ -1,7 +1,7 @@
 use Rattle.std.proofs.Common.{ℕ, Option, None, get_or, refl, sym, subst, arith}
 use Rattle.std.specs.Prelude.{zip}
 use Rattle.std.proofs.lemmas.Slice.Zip.{length-zip}
-use Rattle.mp4_frag.specs.declared.traf.TrafBox.{TrafBox}
+use Rattle.mp4_moof.specs.declared.traf.TrafBox.{TrafBox}
 use Rattle.mp4_fragments.specs.Defaults.{defaults_in}
 use Rattle.mp4_fragments.specs.Fragments.{with_traf}
 use Rattle.mp4_fragments.specs.Index.{KnowsRuns}

@@ -4,7 +4,7 @@ use Rattle.mp4_codec.specs.Cause.{cause_of}
 use Rattle.mp4_leaf.specs.Ftyp.{ftyp_of}
 use Rattle.mp4_frag.specs.Emsg.{emsg_of}
 use Rattle.mp4_boxes.specs.Moov.{moov_of}
-use Rattle.mp4_frag.specs.Moof.{moof_of}
+use Rattle.mp4_moof.specs.Moof.{moof_of}
 use Rattle.mp4_media.specs.declared.opening.BoxContent.TheVariants.{Ftyp, Moov, Moof, Emsg}
 use Rattle.mp4_media.proofs.Contents.{meaning-ftyp, meaning-moov, meaning-moof, meaning-emsg, meaning-none}
 use Rattle.mp4_media.proofs.Contents.{content-read, content-refused}

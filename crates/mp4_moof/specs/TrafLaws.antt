@@ -18,10 +18,10 @@ use Rattle.mp4_codec.specs.WrittenParts.{Kind}
 use Rattle.mp4_frag.specs.Tfhd.{tfhd_of, tfhd_payload, tfhd_refusal}
 use Rattle.mp4_frag.specs.Tfdt.{tfdt_of, tfdt_payload, tfdt_refusal}
 use Rattle.mp4_frag.specs.Trun.{trun_of, trun_payload, trun_refusal}
-use Rattle.mp4_frag.specs.declared.traf.TrafBox.{TrafBox}
-use Rattle.mp4_frag.specs.FragmentKinds.{tfhd_kind, tfdt_kind, trun_kind}
-use Rattle.mp4_frag.specs.Traf.{traf_fault, traf_taken, traf_added, traf_of, traf_payload, traf_refusal}
-use Rattle.mp4_frag.specs.Traf.{IsInRangeTraf, RemarksTraf, IsCanonicalTraf}
+use Rattle.mp4_moof.specs.declared.traf.TrafBox.{TrafBox}
+use Rattle.mp4_moof.specs.FragmentKinds.{tfhd_kind, tfdt_kind, trun_kind}
+use Rattle.mp4_moof.specs.Traf.{traf_fault, traf_taken, traf_added, traf_of, traf_payload, traf_refusal}
+use Rattle.mp4_moof.specs.Traf.{IsInRangeTraf, RemarksTraf, IsCanonicalTraf}
 
 pub traf_adds : (cs : List ChildBox) (c : ChildBox)
     → traf_added (traf_taken cs) c ≡ unless (traf_fault c) (Ok (traf_taken (cs ++ c ∷ [])))

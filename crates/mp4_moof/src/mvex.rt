@@ -4,16 +4,15 @@ ghost use Rattle.std.specs.Prelude.{◌≡◌, Ok};
 ghost use Rattle.mp4_codec.specs.declared.box_type.BoxType.TheVariants.{MvexBox as mvex};
 ghost use Rattle.mp4_codec.specs.Cause.{Gives};
 ghost use Rattle.mp4_codec.specs.Boxes.{size_around};
-ghost use Rattle.mp4_frag.specs.Mvex.{mvex_payload, default_mvex, mvex_fault, mvex_taken, mvex_added, mvex_of, mvex_refusal, IsInRangeMvex, RemarksMvex};
-ghost use Rattle.mp4_frag.specs.MvexLaws.{mvex_adds, mvex_again};
+ghost use Rattle.mp4_moof.specs.Mvex.{mvex_payload, default_mvex, mvex_fault, mvex_taken, mvex_added, mvex_of, mvex_refusal, IsInRangeMvex, RemarksMvex};
+ghost use Rattle.mp4_moof.specs.MvexLaws.{mvex_adds, mvex_again};
 
-use crate::mehd::MehdBox;
-use crate::trex::TrexBox;
 use mp4_codec::{
     BoxType, Child, Gather, HEADER_SIZE, InRange, Items, Mp4Box, Put, ReadBox, Result, TryClone,
     WriteBox, all_size, check_optional, gather_children, keep_each, keep_last, optional_size,
     put_all, put_optional, some_required,
 };
+use mp4_frag::{MehdBox, TrexBox};
 use std::alloc::Global;
 
 /// The movie extends box, `mvex`: it says that fragments may follow (ISO/IEC 14496-12, 8.8.1).

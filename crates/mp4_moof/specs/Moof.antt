@@ -8,9 +8,9 @@ use Rattle.mp4_codec.specs.Boxes.{frame, all_frames, all_refusal, IsCanonical}
 use Rattle.mp4_codec.specs.Children.{ChildBox, children, gathered, fault_in, last_of, all_of, with_last, with_next}
 use Rattle.mp4_codec.specs.Children.{needed}
 use Rattle.mp4_frag.specs.Mfhd.{mfhd_of, mfhd_payload, IsInRangeMfhd, RemarksMfhd, default_mfhd}
-use Rattle.mp4_frag.specs.Traf.{traf_of, traf_payload, traf_refusal, IsInRangeTraf, RemarksTraf}
-use Rattle.mp4_frag.specs.declared.moof.MoofBox.{MoofBox}
-use Rattle.mp4_frag.specs.declared.moof.MoofParts.{MoofParts}
+use Rattle.mp4_moof.specs.Traf.{traf_of, traf_payload, traf_refusal, IsInRangeTraf, RemarksTraf}
+use Rattle.mp4_moof.specs.declared.moof.MoofBox.{MoofBox}
+use Rattle.mp4_moof.specs.declared.moof.MoofParts.{MoofParts}
 
 -- why a child refuses the movie fragment
 unfoldable pub moof_fault : ChildBox → Option Cause

@@ -1,6 +1,6 @@
 use Rattle.mp4_codec.specs.PutLaws.{◌then◌}
-use Rattle.mp4_frag.specs.Mvex.{mvex_payload}
-use Rattle.mp4_frag.proofs.mvex.MvexBoxWriteBox.put_payload.Goals as goal
+use Rattle.mp4_moof.specs.Mvex.{mvex_payload}
+use Rattle.mp4_moof.proofs.mvex.MvexBoxWriteBox.put_payload.Goals as goal
 
 pub returns : goal.returns
 unfolding mvex_payload

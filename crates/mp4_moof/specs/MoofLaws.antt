@@ -10,12 +10,12 @@ use Rattle.mp4_codec.specs.WriteLaws.{is_written}
 use Rattle.mp4_codec.specs.WrittenParts.{Groups, Part, Written, payloads, required_part, list_part, group}
 use Rattle.mp4_codec.specs.WrittenParts.{last_group, gathered-written, last_of-part, all_of-part, both_fit}
 use Rattle.mp4_frag.specs.Mfhd.{mfhd_of, mfhd_payload}
-use Rattle.mp4_frag.specs.Traf.{traf_of, traf_payload, traf_refusal}
-use Rattle.mp4_frag.specs.declared.moof.MoofBox.{MoofBox}
-use Rattle.mp4_frag.specs.FragmentKinds.{mfhd_kind}
-use Rattle.mp4_frag.specs.TrafLaws.{traf_kind}
-use Rattle.mp4_frag.specs.Moof.{moof_fault, moof_taken, moof_added, moof_of, moof_payload, moof_refusal}
-use Rattle.mp4_frag.specs.Moof.{IsCanonicalMoof}
+use Rattle.mp4_moof.specs.Traf.{traf_of, traf_payload, traf_refusal}
+use Rattle.mp4_moof.specs.declared.moof.MoofBox.{MoofBox}
+use Rattle.mp4_moof.specs.FragmentKinds.{mfhd_kind}
+use Rattle.mp4_moof.specs.TrafLaws.{traf_kind}
+use Rattle.mp4_moof.specs.Moof.{moof_fault, moof_taken, moof_added, moof_of, moof_payload, moof_refusal}
+use Rattle.mp4_moof.specs.Moof.{IsCanonicalMoof}
 
 pub moof_adds : (cs : List ChildBox) (c : ChildBox)
     → moof_added (moof_taken cs) c ≡ unless (moof_fault c) (Ok (moof_taken (cs ++ c ∷ [])))

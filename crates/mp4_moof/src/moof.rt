@@ -4,16 +4,16 @@ ghost use Rattle.std.specs.Prelude.{◌≡◌, Ok};
 ghost use Rattle.mp4_codec.specs.declared.box_type.BoxType.TheVariants.{MoofBox as moof};
 ghost use Rattle.mp4_codec.specs.Cause.{Gives};
 ghost use Rattle.mp4_codec.specs.Boxes.{size_around};
-ghost use Rattle.mp4_frag.specs.Moof.{moof_payload, default_moof, moof_fault, moof_taken, moof_added, moof_of, moof_refusal, IsInRangeMoof, RemarksMoof};
-ghost use Rattle.mp4_frag.specs.MoofLaws.{moof_adds, moof_again};
+ghost use Rattle.mp4_moof.specs.Moof.{moof_payload, default_moof, moof_fault, moof_taken, moof_added, moof_of, moof_refusal, IsInRangeMoof, RemarksMoof};
+ghost use Rattle.mp4_moof.specs.MoofLaws.{moof_adds, moof_again};
 
-use crate::mfhd::MfhdBox;
 use crate::traf::TrafBox;
 use mp4_codec::{
     BoxType, Child, DebugItem, Gather, HEADER_SIZE, InRange, Items, Mp4Box, Put, ReadBox, Result,
     TryClone, WriteBox, all_size, check_all, gather_children, keep_each, keep_last, put_all,
     required,
 };
+use mp4_frag::MfhdBox;
 use std::alloc::Global;
 
 /// A movie fragment, `moof`: samples that are added behind those of the movie (ISO/IEC 14496-12, 8.8.4).

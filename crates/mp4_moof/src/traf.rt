@@ -4,17 +4,15 @@ ghost use Rattle.std.specs.Prelude.{◌≡◌, Ok};
 ghost use Rattle.mp4_codec.specs.declared.box_type.BoxType.TheVariants.{TrafBox as traf};
 ghost use Rattle.mp4_codec.specs.Cause.{Gives};
 ghost use Rattle.mp4_codec.specs.Boxes.{size_around};
-ghost use Rattle.mp4_frag.specs.Traf.{traf_payload, default_traf, traf_fault, traf_taken, traf_added, traf_of, traf_refusal, IsInRangeTraf, RemarksTraf};
-ghost use Rattle.mp4_frag.specs.TrafLaws.{traf_adds, traf_again};
+ghost use Rattle.mp4_moof.specs.Traf.{traf_payload, default_traf, traf_fault, traf_taken, traf_added, traf_of, traf_refusal, IsInRangeTraf, RemarksTraf};
+ghost use Rattle.mp4_moof.specs.TrafLaws.{traf_adds, traf_again};
 
-use crate::tfdt::TfdtBox;
-use crate::tfhd::TfhdBox;
-use crate::trun::TrunBox;
 use mp4_codec::{
     BoxType, Child, DebugItem, Gather, HEADER_SIZE, InRange, Items, Mp4Box, Put, ReadBox, Result,
     TryClone, WriteBox, all_size, check_all, check_optional, gather_children, keep_each, keep_last,
     optional_size, put_all, put_optional, required,
 };
+use mp4_frag::{TfdtBox, TfhdBox, TrunBox};
 use std::alloc::Global;
 
 /// The part of a movie fragment that adds samples to one track, `traf` (ISO/IEC 14496-12, 8.8.6).

@@ -9,8 +9,8 @@ use Rattle.mp4_codec.specs.Children.{ChildBox, children, gathered, fault_in, las
 use Rattle.mp4_codec.specs.Children.{some_needed}
 use Rattle.mp4_frag.specs.Mehd.{mehd_of, mehd_payload, mehd_refusal, IsInRangeMehd, RemarksMehd}
 use Rattle.mp4_frag.specs.Trex.{trex_of, trex_payload, IsInRangeTrex, RemarksTrex}
-use Rattle.mp4_frag.specs.declared.mvex.MvexBox.{MvexBox}
-use Rattle.mp4_frag.specs.declared.mvex.MvexParts.{MvexParts}
+use Rattle.mp4_moof.specs.declared.mvex.MvexBox.{MvexBox}
+use Rattle.mp4_moof.specs.declared.mvex.MvexParts.{MvexParts}
 
 -- why a child refuses the box
 unfoldable pub mvex_fault : ChildBox → Option Cause

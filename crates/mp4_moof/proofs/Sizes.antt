@@ -2,4 +2,4 @@
 use Rattle.mp4_codec.specs.FieldLaws.{length-then}
 use Rattle.mp4_codec.specs.FramingLaws.{length-frame}
 
-pub ruleset container_sizes = (length-frame, length-then)
+pub ruleset sizes = (length-frame, length-then)

@@ -1,6 +1,6 @@
 use Rattle.mp4_codec.specs.PutLaws.{◌then◌}
-use Rattle.mp4_frag.specs.Traf.{traf_payload}
-use Rattle.mp4_frag.proofs.traf.TrafBoxWriteBox.put_payload.Goals as goal
+use Rattle.mp4_moof.specs.Traf.{traf_payload}
+use Rattle.mp4_moof.proofs.traf.TrafBoxWriteBox.put_payload.Goals as goal
 
 pub returns : goal.returns
 unfolding traf_payload

@@ -10,8 +10,8 @@ use Rattle.mp4_codec.specs.Children.{needed}
 use Rattle.mp4_frag.specs.Tfhd.{tfhd_of, tfhd_payload, tfhd_refusal, IsInRangeTfhd, RemarksTfhd, default_tfhd}
 use Rattle.mp4_frag.specs.Tfdt.{tfdt_of, tfdt_payload, tfdt_refusal, IsInRangeTfdt, RemarksTfdt}
 use Rattle.mp4_frag.specs.Trun.{trun_of, trun_payload, trun_refusal, IsInRangeTrun, RemarksTrun}
-use Rattle.mp4_frag.specs.declared.traf.TrafBox.{TrafBox}
-use Rattle.mp4_frag.specs.declared.traf.TrafParts.{TrafParts}
+use Rattle.mp4_moof.specs.declared.traf.TrafBox.{TrafBox}
+use Rattle.mp4_moof.specs.declared.traf.TrafParts.{TrafParts}
 
 -- why a child refuses the fragment
 unfoldable pub traf_fault : ChildBox → Option Cause

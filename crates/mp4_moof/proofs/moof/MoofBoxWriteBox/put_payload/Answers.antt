@@ -1,6 +1,6 @@
 use Rattle.mp4_codec.specs.PutLaws.{◌then◌}
-use Rattle.mp4_frag.specs.Moof.{moof_payload}
-use Rattle.mp4_frag.proofs.moof.MoofBoxWriteBox.put_payload.Goals as goal
+use Rattle.mp4_moof.specs.Moof.{moof_payload}
+use Rattle.mp4_moof.proofs.moof.MoofBoxWriteBox.put_payload.Goals as goal
 
 pub returns : goal.returns
 unfolding moof_payload

@@ -16,10 +16,10 @@ use Rattle.mp4_codec.specs.WrittenParts.{optional_part, list_part, group, last_g
 use Rattle.mp4_codec.specs.WrittenParts.{last_of-part, all_of-part, both_fit, Kind}
 use Rattle.mp4_frag.specs.Mehd.{mehd_of, mehd_payload, mehd_refusal}
 use Rattle.mp4_frag.specs.Trex.{trex_of, trex_payload}
-use Rattle.mp4_frag.specs.declared.mvex.MvexBox.{MvexBox}
-use Rattle.mp4_frag.specs.FragmentKinds.{mehd_kind, trex_kind}
-use Rattle.mp4_frag.specs.Mvex.{mvex_fault, mvex_taken, mvex_added, mvex_of, mvex_payload, mvex_refusal}
-use Rattle.mp4_frag.specs.Mvex.{IsInRangeMvex, RemarksMvex, IsCanonicalMvex}
+use Rattle.mp4_moof.specs.declared.mvex.MvexBox.{MvexBox}
+use Rattle.mp4_moof.specs.FragmentKinds.{mehd_kind, trex_kind}
+use Rattle.mp4_moof.specs.Mvex.{mvex_fault, mvex_taken, mvex_added, mvex_of, mvex_payload, mvex_refusal}
+use Rattle.mp4_moof.specs.Mvex.{IsInRangeMvex, RemarksMvex, IsCanonicalMvex}
 
 pub mvex_adds : (cs : List ChildBox) (c : ChildBox)
     → mvex_added (mvex_taken cs) c ≡ unless (mvex_fault c) (Ok (mvex_taken (cs ++ c ∷ [])))
