@@ -5,7 +5,7 @@ use Rattle.mp4_media.proofs.reader.open_found.Goals as goal
 pub tracks_of-requires-clause-first_samples : goal.tracks_of-requires-clause-first_samples
 tracks_of-requires-clause-first_samples c =
     c.requires.first_samples _
-    (second_is ftyp moov c.args.found.ftyp c.args.found.moov _ (rw c.in-Ok.is at c.required_both.ensures))
+    (second_is ftyp moov c.args.found.ftyp c.args.found.moov _ (rw c.in-Ok.is at c.required_two.ensures))
 
 pub tracks_of-requires-clause-places : goal.tracks_of-requires-clause-places
 tracks_of-requires-clause-places c = rw (c.as_slice-2.ensures, c.as_slice.ensures) c.requires.places
