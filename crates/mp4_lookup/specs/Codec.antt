@@ -15,7 +15,7 @@ use Rattle.mp4_entry.specs.AvcProfile.{avc_profile_of}
 use Rattle.mp4_entry.specs.ChannelConfig.{channel_config_of}
 use Rattle.mp4_entry.specs.SampleFreqIndex.{freq_index_of}
 use Rattle.mp4_boxes.specs.declared.trak.TrakBox.{TrakBox}
-use Rattle.mp4_lookup.specs.Tracks.{tables_of}
+use Rattle.mp4_samples.specs.Tables.{tables_of}
 
 -- a box of this type in the sample table of a track: where it isn't there, that is the refusal
 abbrev pub box_in_stbl : {A : Type 0} → TrakBox → BoxType → Option A → Result A Cause

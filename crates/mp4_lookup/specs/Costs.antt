@@ -5,10 +5,10 @@ use Rattle.mp4_boxes.specs.declared.stbl.StblBox.{StblBox}
 use Rattle.mp4_fragments.specs.declared.index.RunIndex.{RunIndex}
 use Rattle.mp4_fragments.specs.Members.{PlacedRun}
 use Rattle.mp4_lookup.specs.declared.index.TrackIndex.{TrackIndex}
-use Rattle.mp4_lookup.specs.declared.sample.Comparisons.{Comparisons}
+use Rattle.mp4_samples.specs.declared.sample.Comparisons.{Comparisons}
 use Rattle.mp4_lookup.specs.declared.track.Mp4Track.{Mp4Track}
-use Rattle.mp4_lookup.specs.Tables.{ctts_runs, sync_numbers}
-use Rattle.mp4_lookup.specs.Tracks.{is_of_movie, tables_of}
+use Rattle.mp4_samples.specs.Tables.{ctts_runs, sync_numbers, tables_of}
+use Rattle.mp4_lookup.specs.Tracks.{is_of_movie}
 use Rattle.mp4_search.specs.Digits.{digits}
 use Rattle.mp4_search.specs.Search.{IsFew, comparisons_in}
 

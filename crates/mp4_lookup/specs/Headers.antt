@@ -7,7 +7,7 @@ use Rattle.mp4_codec.specs.declared.fixed_point.FixedPointU16.{FixedPointU16}
 use Rattle.mp4_entry.specs.declared.avc1.Avc1Box.{Avc1Box}
 use Rattle.mp4_boxes.specs.declared.trak.TrakBox.{TrakBox}
 use Rattle.mp4_lookup.specs.Time.{time_of}
-use Rattle.mp4_lookup.specs.Tracks.{tables_of}
+use Rattle.mp4_samples.specs.Tables.{tables_of}
 
 -- how long a track lasts by its media header (8.4.2), in microseconds
 abbrev pub duration_of : TrakBox → Result ℕ Cause

@@ -3,7 +3,7 @@ use Rattle.std.specs.Prelude.{◌≡◌, ◌↔◌, map, IsTrue}
 use Rattle.std.specs.List.Sorted.{IsStrictlyIncreasing}
 use Rattle.mp4_boxes.specs.declared.stbl.StblBox.{StblBox}
 use Rattle.mp4_lookup.specs.declared.index.TrackIndex.{TrackIndex}
-use Rattle.mp4_lookup.specs.Tables.{ctts_runs, sync_numbers}
+use Rattle.mp4_samples.specs.Tables.{ctts_runs, sync_numbers}
 use Rattle.mp4_search.specs.Sums.{SumsBefore, CountsBefore}
 use Rattle.mp4_lookup.specs.Sums.{TimesBefore}
 

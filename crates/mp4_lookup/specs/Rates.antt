@@ -9,7 +9,7 @@ use Rattle.mp4_entry.specs.declared.esds.EsdsBox.{EsdsBox}
 use Rattle.mp4_boxes.specs.declared.trak.TrakBox.{TrakBox}
 use Rattle.mp4_fragments.specs.Members.{PlacedRun, all_members}
 use Rattle.mp4_lookup.specs.Headers.{duration_of}
-use Rattle.mp4_lookup.specs.Tracks.{tables_of}
+use Rattle.mp4_samples.specs.Tables.{tables_of}
 
 -- a number of at most 32 bits
 abbrev pub within_32_bits : ℕ → Result ℕ Cause

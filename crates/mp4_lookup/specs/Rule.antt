@@ -9,8 +9,8 @@ use Rattle.mp4_table.specs.Runs.{durations, rendering_offsets}
 use Rattle.mp4_table.specs.Chunks.{last_where}
 use Rattle.mp4_table.specs.Starts.{start_of}
 use Rattle.mp4_boxes.specs.declared.stbl.StblBox.{StblBox}
-use Rattle.mp4_lookup.specs.Places.{Place}
-use Rattle.mp4_lookup.specs.Tables.{chunk_offsets, sizes, ctts_runs, is_sync_at}
+use Rattle.mp4_samples.specs.Places.{Place}
+use Rattle.mp4_samples.specs.Tables.{chunk_offsets, sizes, ctts_runs, is_sync_at}
 
 -- where something isn't there, there is no sample
 abbrev pub if_there : {A B : Type 0} → Option A → (A → Result (Option B) Cause) → Result (Option B) Cause

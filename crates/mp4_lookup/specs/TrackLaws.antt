@@ -7,9 +7,10 @@ use Rattle.mp4_table.specs.Stsc.{HasFirstSamples}
 use Rattle.mp4_boxes.specs.declared.trak.TrakBox.{TrakBox}
 use Rattle.mp4_moof.specs.declared.traf.TrafBox.{TrafBox}
 use Rattle.mp4_fragments.specs.Members.{PlacedRun}
-use Rattle.mp4_lookup.specs.Plain.{Consistent, plain_at}
-use Rattle.mp4_lookup.specs.Samples.{read_in, sample_at, plain_sample_at}
-use Rattle.mp4_lookup.specs.Tracks.{tables_of, is_of_movie, answer_at}
+use Rattle.mp4_samples.specs.Plain.{Consistent, plain_at}
+use Rattle.mp4_samples.specs.Samples.{read_in, plain_sample_at}
+use Rattle.mp4_lookup.specs.Tracks.{sample_at, is_of_movie, answer_at}
+use Rattle.mp4_samples.specs.Tables.{tables_of}
 use Rattle.mp4_lookup.specs.RuleLaws.{rule_is_plain}
 
 -- in a track that no fragment names, all numbers are the movie box's

@@ -2,7 +2,7 @@
 -- (ISO/IEC 14496-12, 8.6.1.2, 8.7.3 and 8.8).
 use Rattle.std.specs.Prelude.{ℕ, ◌+◌, ◌-◌, Bool, List, length, slice_get, Option, Some, None, Result, Ok, Err, nat_le}
 use Rattle.std.specs.Prelude.{◌==◌, ◌||◌, if◌then◌else◌}
-use Rattle.mp4_codec.specs.Cause.{Cause, invalid_data}
+use Rattle.mp4_codec.specs.Cause.{Cause, invalid_data, ◌>>=◌}
 use Rattle.mp4_table.specs.Runs.{durations}
 use Rattle.mp4_table.specs.Starts.{start_of}
 use Rattle.mp4_boxes.specs.declared.stbl.StblBox.{StblBox}
@@ -10,12 +10,10 @@ use Rattle.mp4_boxes.specs.declared.trak.TrakBox.{TrakBox}
 use Rattle.mp4_moof.specs.declared.traf.TrafBox.{TrafBox}
 use Rattle.mp4_fragments.specs.Members.{PlacedRun, all_members}
 use Rattle.mp4_fragments.specs.declared.members.Member.{Member}
-use Rattle.mp4_lookup.specs.Places.{Place}
+use Rattle.mp4_samples.specs.Places.{Place}
+use Rattle.mp4_samples.specs.Samples.{TimedSample, read_in}
+use Rattle.mp4_samples.specs.Tables.{tables_of}
 use Rattle.mp4_lookup.specs.Rule.{rule}
-
--- the sample table of a track
-abbrev pub tables_of : TrakBox → StblBox
-tables_of trak = trak.mdia.minf.stbl
 
 -- when the samples of the movie box have lasted, as far as stts says it
 abbrev pub movie_end : TrakBox → ℕ
@@ -49,3 +47,7 @@ unfoldable pub answer_at : TrakBox → List TrafBox → List PlacedRun → ℕ �
 answer_at trak trafs runs k =
     if is_of_movie trak trafs k then rule (tables_of trak) trak.tkhd.track_id k else
     member_place (slice_get (all_members runs) (k - (tables_of trak).stsz.sample_count - 1))
+
+-- what is read at number k of a track of a file, to which fragments add these runs
+unfoldable pub sample_at : List ℕ → TrakBox → List TrafBox → List PlacedRun → ℕ → Result (Option TimedSample) Cause
+sample_at file trak trafs runs k = answer_at trak trafs runs k >>= read_in file

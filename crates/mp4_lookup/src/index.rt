@@ -3,7 +3,7 @@
 ghost use Rattle.std.specs.Prelude.{◌≡◌, ℕ, ◌*◌, ◌^◌, ◌<◌, ◌↔◌, IfOk, OnOk, IsTrue};
 ghost use Rattle.std.specs.List.{All};
 ghost use Rattle.std.specs.List.Sorted.{IsStrictlyIncreasing};
-ghost use Rattle.mp4_lookup.specs.Tables.{ctts_runs, sync_numbers};
+ghost use Rattle.mp4_samples.specs.Tables.{ctts_runs, sync_numbers};
 ghost use Rattle.mp4_search.specs.Sums.{SumsBefore};
 ghost use Rattle.mp4_lookup.specs.Index.{IsIndexOf};
 

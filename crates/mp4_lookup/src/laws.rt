@@ -5,7 +5,7 @@
 ghost use Rattle.std.specs.Prelude.{◌≡◌, ℕ, ◌^◌, ◌<◌};
 ghost use Rattle.mp4_table.specs.Stsc.{HasFirstSamples};
 ghost use Rattle.mp4_boxes.specs.declared.stbl.StblBox.{StblBox};
-ghost use Rattle.mp4_lookup.specs.Plain.{Consistent, plain_at};
+ghost use Rattle.mp4_samples.specs.Plain.{Consistent, plain_at};
 ghost use Rattle.mp4_lookup.specs.Rule.{rule};
 
 /// Where the tables of a track describe the same samples, the lookup answers what they say written out, at

@@ -13,12 +13,10 @@ mod lookup;
 mod place;
 mod rates;
 mod runs;
-mod sample;
 mod time;
 mod timing;
 mod track;
 
 pub use laws::rule_is_plain_expansion;
-pub use sample::{Comparisons, Mp4Sample, SamplePlace, SampleRef};
 pub use time::time_of;
 pub use track::Mp4Track;

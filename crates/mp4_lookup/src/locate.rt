@@ -3,17 +3,17 @@
 ghost use Rattle.std.specs.Prelude.{◌≡◌, ℕ, ◌<◌, option_map, IfOk, IfSome};
 ghost use Rattle.mp4_codec.specs.Cause.{Gives};
 ghost use Rattle.mp4_table.specs.Stsc.{HasFirstSamples};
-ghost use Rattle.mp4_lookup.specs.Places.{place_of};
+ghost use Rattle.mp4_samples.specs.Places.{place_of};
 ghost use Rattle.mp4_lookup.specs.Index.{IsIndexOf};
 ghost use Rattle.mp4_lookup.specs.Costs.{AreFew, AreFewSizeReads, comparisons_at};
 ghost use Rattle.mp4_lookup.specs.Rule.{rule};
 
 use crate::index::{TrackIndex, runs_of_ctts};
 use crate::place::spot_at;
-use crate::sample::{Comparisons, SamplePlace};
 use crate::timing::{is_sync, rendering_offset_at, time_at};
 use mp4_boxes::StblBox;
 use mp4_codec::Result;
+use mp4_samples::{Comparisons, SamplePlace};
 
 /// Where sample `k` of a track lies, and when it is decoded and shown, as the tables of the track say.
 #[tactic(auto, unfolding(crate::specs::Rule::rule))]

@@ -4,16 +4,17 @@
 ghost use Rattle.std.specs.Prelude.{◌≡◌, ◌-◌, ◌^◌, ◌<◌, false, length, min, option_map, slice_get, IfOk, IfSome, IsTrue};
 ghost use Rattle.mp4_codec.specs.Cause.{Gives};
 ghost use Rattle.mp4_fragments.specs.Members.{all_members};
-ghost use Rattle.mp4_lookup.specs.Places.{place_of};
-ghost use Rattle.mp4_lookup.specs.Plain.{Consistent, plain_at};
+ghost use Rattle.mp4_samples.specs.Places.{place_of};
+ghost use Rattle.mp4_samples.specs.Plain.{Consistent, plain_at};
 ghost use Rattle.mp4_lookup.specs.Costs.{AreFew, AreFewForMember, AreFewSizeReads, comparisons_in_runs, comparisons_of};
-ghost use Rattle.mp4_lookup.specs.Tracks.{tables_of, is_of_movie, member_place, answer_at};
+ghost use Rattle.mp4_samples.specs.Tables.{tables_of};
+ghost use Rattle.mp4_lookup.specs.Tracks.{is_of_movie, member_place, answer_at};
 ghost use Rattle.mp4_lookup.specs.TrackRuns.{track_runs};
 
 use crate::locate::place_at;
-use crate::sample::{Comparisons, SamplePlace};
 use crate::track::Mp4Track;
 use mp4_codec::{Error, Result};
+use mp4_samples::{Comparisons, SamplePlace};
 
 impl Mp4Track {
     /// Where sample `k` of the track lies, and when it is decoded and shown; samples are numbered from 1: first those of

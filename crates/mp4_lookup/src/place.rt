@@ -6,7 +6,7 @@ ghost use Rattle.mp4_codec.specs.Cause.{Gives};
 ghost use Rattle.mp4_table.specs.Stsc.{HasFirstSamples};
 ghost use Rattle.mp4_search.specs.Search.{IsFew, comparisons_in};
 ghost use Rattle.mp4_search.specs.Sums.{SumsBefore};
-ghost use Rattle.mp4_lookup.specs.Tables.{chunk_offsets, sizes};
+ghost use Rattle.mp4_samples.specs.Tables.{chunk_offsets, sizes};
 ghost use Rattle.mp4_lookup.specs.Index.{IsIndexOf};
 ghost use Rattle.mp4_lookup.specs.Costs.{AreFewSizeReads};
 ghost use Rattle.mp4_lookup.specs.Rule.{entry_for, chunk_for, within_64_bits, spot_by, spot_at};

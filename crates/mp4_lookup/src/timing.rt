@@ -10,7 +10,7 @@ ghost use Rattle.mp4_search.specs.Search.{IsFew, comparisons_in};
 ghost use Rattle.mp4_search.specs.Sums.{CountsBefore};
 ghost use Rattle.mp4_lookup.specs.Costs.{sync_comparisons};
 ghost use Rattle.mp4_lookup.specs.Sums.{TimesBefore};
-ghost use Rattle.mp4_lookup.specs.Tables.{is_sync_at, sync_numbers};
+ghost use Rattle.mp4_samples.specs.Tables.{is_sync_at, sync_numbers};
 ghost use Rattle.mp4_lookup.specs.Rule.{time_at};
 
 use crate::index::TrackIndex;

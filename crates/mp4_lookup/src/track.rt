@@ -6,7 +6,8 @@ ghost use Rattle.mp4_table.specs.Stsc.{HasFirstSamples};
 ghost use Rattle.mp4_fragments.specs.Fragments.{placed_runs};
 ghost use Rattle.mp4_fragments.specs.Index.{Indexes, run_at, runs_of};
 ghost use Rattle.mp4_lookup.specs.Index.{IsIndexOf};
-ghost use Rattle.mp4_lookup.specs.Tracks.{tables_of, movie_end};
+ghost use Rattle.mp4_samples.specs.Tables.{tables_of};
+ghost use Rattle.mp4_lookup.specs.Tracks.{movie_end};
 
 use crate::index::{TrackIndex, index_of};
 use crate::timing::end_after;

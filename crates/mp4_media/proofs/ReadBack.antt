@@ -21,12 +21,13 @@ use Rattle.mp4_fragments.specs.Fragments.{placed_runs}
 use Rattle.mp4_fragments.specs.Members.{PlacedRun}
 use Rattle.mp4_lookup.specs.declared.track.Mp4Track.{Mp4Track}
 use Rattle.mp4_lookup.specs.Kind.{media_type_of}
-use Rattle.mp4_lookup.specs.Places.{Place}
-use Rattle.mp4_lookup.specs.Plain.{Consistent, plain_at}
+use Rattle.mp4_samples.specs.Places.{Place}
+use Rattle.mp4_samples.specs.Plain.{Consistent, plain_at}
 use Rattle.mp4_lookup.specs.Rates.{sample_count_of}
 use Rattle.mp4_lookup.specs.Rule.{usable, entry_for, spot_at, rule}
-use Rattle.mp4_lookup.specs.Samples.{Sample, TimedSample, timed_from, timed, read_in, sample_at, plain_sample_at}
-use Rattle.mp4_lookup.specs.Tracks.{tables_of, answer_at}
+use Rattle.mp4_samples.specs.Samples.{Sample, TimedSample, timed_from, timed, read_in, plain_sample_at}
+use Rattle.mp4_lookup.specs.Tracks.{sample_at, answer_at}
+use Rattle.mp4_samples.specs.Tables.{tables_of}
 use Rattle.mp4_lookup.specs.TrackLaws.{sample_is_plain, unfragmented_is_of_movie}
 use Rattle.mp4_lookup.specs.TrackRuns.{track_runs}
 use Rattle.mp4_mux.specs.FinishedTrack.{trak_for}

@@ -16,13 +16,13 @@ use Rattle.mp4_moof.specs.declared.traf.TrafBox.{TrafBox}
 use Rattle.mp4_fragments.specs.declared.members.Member.{Member}
 use Rattle.mp4_fragments.specs.Members.{PlacedRun, all_members}
 use Rattle.mp4_lookup.specs.declared.track.Mp4Track.{Mp4Track}
-use Rattle.mp4_lookup.specs.Places.{Place}
-use Rattle.mp4_lookup.specs.Plain.{Consistent}
+use Rattle.mp4_samples.specs.Places.{Place}
+use Rattle.mp4_samples.specs.Plain.{Consistent}
 use Rattle.mp4_lookup.specs.Rule.{if_there, usable, entry_for, chunk_number, chunk_for, within_64_bits, timed, time_at}
 use Rattle.mp4_lookup.specs.Rule.{first_in_chunk, spot_at, rule}
-use Rattle.mp4_lookup.specs.Samples.{read_in, sample_at, plain_sample_at}
-use Rattle.mp4_lookup.specs.Tables.{chunk_offsets, sizes}
-use Rattle.mp4_lookup.specs.Tracks.{tables_of, is_of_movie, begins_at, member_place, answer_at}
+use Rattle.mp4_samples.specs.Samples.{read_in, plain_sample_at}
+use Rattle.mp4_lookup.specs.Tracks.{sample_at, is_of_movie, begins_at, member_place, answer_at}
+use Rattle.mp4_samples.specs.Tables.{chunk_offsets, sizes, tables_of}
 use Rattle.mp4_lookup.specs.TrackRuns.{track_runs}
 use Rattle.mp4_lookup.specs.TrackLaws.{sample_is_plain}
 use Rattle.mp4_media.specs.MovieTracks.{at_id}

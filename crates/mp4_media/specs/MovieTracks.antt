@@ -23,7 +23,8 @@ use Rattle.mp4_fragments.specs.Members.{PlacedRun, all_members}
 use Rattle.mp4_fragments.specs.declared.members.Member.{Member}
 use Rattle.mp4_lookup.specs.declared.track.Mp4Track.{Mp4Track}
 use Rattle.mp4_lookup.specs.TrackRuns.{track_runs}
-use Rattle.mp4_lookup.specs.Tracks.{tables_of, movie_end}
+use Rattle.mp4_samples.specs.Tables.{tables_of}
+use Rattle.mp4_lookup.specs.Tracks.{movie_end}
 
 -- the box of the track with this id: of equal ids the last
 abbrev pub trak_with_id : List TrakBox → ℕ → Option TrakBox

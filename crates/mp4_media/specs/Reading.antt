@@ -8,11 +8,11 @@ use Rattle.mp4_meta.specs.declared.meta.MetaBox.TheVariants.{Mdir, Unknown}
 use Rattle.mp4_meta.specs.declared.udta.UdtaBox.{UdtaBox}
 use Rattle.mp4_boxes.specs.declared.moov.MoovBox.{MoovBox}
 use Rattle.mp4_lookup.specs.declared.track.Mp4Track.{Mp4Track}
-use Rattle.mp4_lookup.specs.Places.{Place}
+use Rattle.mp4_samples.specs.Places.{Place}
 use Rattle.mp4_lookup.specs.Rates.{sample_count_of}
-use Rattle.mp4_lookup.specs.Samples.{TimedSample, sample_at}
+use Rattle.mp4_samples.specs.Samples.{TimedSample}
+use Rattle.mp4_lookup.specs.Tracks.{sample_at, answer_at}
 use Rattle.mp4_lookup.specs.TrackRuns.{track_runs}
-use Rattle.mp4_lookup.specs.Tracks.{answer_at}
 use Rattle.mp4_media.specs.MovieTracks.{at_id}
 
 abbrev pub ilst_of_meta : Option MetaBox → Option IlstBox

@@ -10,15 +10,16 @@ use Rattle.mp4_entry.specs.Config.{media_type_in}
 use Rattle.mp4_entry.specs.TrackType.{track_type_of}
 use Rattle.mp4_boxes.specs.declared.stbl.StblBox.{StblBox}
 use Rattle.mp4_boxes.specs.declared.trak.TrakBox.{TrakBox}
-use Rattle.mp4_lookup.specs.declared.sample.SamplePlace.{SamplePlace}
+use Rattle.mp4_samples.specs.declared.sample.SamplePlace.{SamplePlace}
 use Rattle.mp4_lookup.specs.declared.track.Mp4Track.{Mp4Track}
 use Rattle.mp4_lookup.specs.Costs.{AreFew, AreFewForMember, AreFewSizeReads}
 use Rattle.mp4_lookup.specs.Kind.{media_type_of}
-use Rattle.mp4_lookup.specs.Places.{place_of}
-use Rattle.mp4_lookup.specs.Plain.{Consistent, plain_at}
-use Rattle.mp4_lookup.specs.Samples.{Sample, TimedSample, timed, timed_sample, plain_sample_at}
+use Rattle.mp4_samples.specs.Places.{place_of}
+use Rattle.mp4_samples.specs.Plain.{Consistent, plain_at}
+use Rattle.mp4_samples.specs.Samples.{Sample, TimedSample, timed, timed_sample, plain_sample_at}
 use Rattle.mp4_lookup.specs.TrackRuns.{track_runs}
-use Rattle.mp4_lookup.specs.Tracks.{tables_of, is_of_movie}
+use Rattle.mp4_samples.specs.Tables.{tables_of}
+use Rattle.mp4_lookup.specs.Tracks.{is_of_movie}
 use Rattle.mp4_mux.specs.declared.config.TrackConfig.{TrackConfig}
 use Rattle.mp4_mux.specs.Writing.{AcceptedTrack}
 use Rattle.mp4_media.specs.declared.reader.Mp4Reader.{Mp4Reader}

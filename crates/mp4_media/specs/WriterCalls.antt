@@ -1,6 +1,6 @@
 -- Calls of a writer as data.
 use Rattle.std.specs.Prelude.{List, map}
-use Rattle.mp4_lookup.specs.Samples.{sample_of}
+use Rattle.mp4_samples.specs.Samples.{sample_of}
 use Rattle.mp4_mux.specs.Calls.{Call, add_track, write_sample, write_end}
 use Rattle.mp4_media.specs.declared.calls.WriterCall.{WriterCall}
 use Rattle.mp4_media.specs.declared.calls.WriterCall.TheVariants.{AddTrack, WriteSample, WriteEnd}

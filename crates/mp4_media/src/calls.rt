@@ -9,8 +9,8 @@ ghost use Rattle.mp4_media.specs.WriterCalls.{call_of, calls_of};
 
 use crate::writer::Mp4Writer;
 use mp4_codec::{Error, InRange, Result};
-use mp4_lookup::Mp4Sample;
 use mp4_mux::TrackConfig;
+use mp4_samples::Mp4Sample;
 
 /// A call of a writer of movies.
 #[derive(Debug, PartialEq, Eq, Drop)]

@@ -2,7 +2,7 @@
 
 ghost use Rattle.std.specs.Prelude.{◌≡◌, ◌<◌, ◌+◌, ◌^◌, ℕ, List, [], Ok, Result, Some, length};
 ghost use Rattle.mp4_codec.specs.declared.error.Error.{Error};
-ghost use Rattle.mp4_lookup.specs.Samples.{TimedSample};
+ghost use Rattle.mp4_samples.specs.Samples.{TimedSample};
 ghost use Rattle.mp4_mux.specs.Calls.{IsEnded, Session, accepted_by, writer_of};
 ghost use Rattle.mp4_mux.specs.Writing.{AcceptedTrack, whole_of};
 ghost use Rattle.mp4_media.specs.Finished.{Opens};

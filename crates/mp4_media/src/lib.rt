@@ -56,9 +56,7 @@ pub use laws::{
 pub use mp4_fragments::{
     Beginning, FoundMember, Member, RunIndex, SampleDefaults, index_of, traf_base, traf_end,
 };
-pub use mp4_lookup::{
-    Comparisons, Mp4Sample, Mp4Track, SamplePlace, SampleRef, rule_is_plain_expansion, time_of,
-};
+pub use mp4_lookup::{Mp4Track, rule_is_plain_expansion, time_of};
 pub use mp4_mux::{
     ChunkPlace, ChunkRef, Durations, Mp4Config, SampleInfo, TrackConfig, TrackWriter, add_sample,
     an_end_closes_one_chunk_a_track, an_end_writes_the_accepted_samples, begin,
@@ -66,6 +64,7 @@ pub use mp4_mux::{
     described_samples_are_found, file_type, file_type_size, finish, interleavings_accept_the_same,
     mdat_header, movie_size, pending_bytes, put_movie,
 };
+pub use mp4_samples::{Comparisons, Mp4Sample, SamplePlace, SampleRef};
 pub use mp4_search::{Found, Readings, RunningSizes, SearchedNumbers, last_at_most};
 pub use reader::{Mp4Reader, read_mp4};
 pub use round_trip::{FoundSample, RoundTrip, SampleQuery, find_sample, write_and_read};

@@ -5,10 +5,11 @@ ghost use Rattle.mp4_codec.specs.Cause.{Cause, cause_of, Gives, Answers};
 ghost use Rattle.mp4_codec.specs.Cursor.{here};
 ghost use Rattle.mp4_boxes.specs.declared.moov.MoovBox.{MoovBox};
 ghost use Rattle.mp4_lookup.specs.declared.track.Mp4Track.{Mp4Track};
-ghost use Rattle.mp4_lookup.specs.Plain.{Consistent};
-ghost use Rattle.mp4_lookup.specs.Samples.{TimedSample, lent_sample, plain_sample_at, timed_sample};
+ghost use Rattle.mp4_samples.specs.Plain.{Consistent};
+ghost use Rattle.mp4_samples.specs.Samples.{TimedSample, lent_sample, plain_sample_at, timed_sample};
 ghost use Rattle.mp4_lookup.specs.Time.{time_of};
-ghost use Rattle.mp4_lookup.specs.Tracks.{tables_of, is_of_movie};
+ghost use Rattle.mp4_samples.specs.Tables.{tables_of};
+ghost use Rattle.mp4_lookup.specs.Tracks.{is_of_movie};
 ghost use Rattle.mp4_media.specs.FileBoxes.{OpenedFile, opened_file};
 ghost use Rattle.mp4_media.specs.FileGrammar.{IsFile, IsFaultyFile};
 ghost use Rattle.mp4_media.specs.MovieTracks.{AreTracks, HaveFirstSamples, at_id};
@@ -22,9 +23,10 @@ use mp4_boxes::{MoovBox, required_two};
 use mp4_codec::{ByteCursor, Error, FourCC, Items, Result};
 use mp4_frag::EmsgBox;
 use mp4_leaf::FtypBox;
-use mp4_lookup::{Mp4Sample, Mp4Track, SampleRef, time_of};
+use mp4_lookup::{Mp4Track, time_of};
 use mp4_meta::{IlstBox, MetaBox};
 use mp4_moof::MoofBox;
+use mp4_samples::{Mp4Sample, SampleRef};
 use std::alloc::Global;
 use std::collections::HashMap;
 
@@ -288,7 +290,7 @@ impl<'a> Mp4Reader<'a> {
     }
 
     /// The answer of `read_sample_ref`.
-    #[tactic(auto, unfolding(crate::specs::Reading::sample_in, mp4_lookup::specs::Samples::sample_at))]
+    #[tactic(auto, unfolding(crate::specs::Reading::sample_in, mp4_lookup::specs::Tracks::sample_at))]
     fn lent(&self, track_id: u32, k: u32) -> Result<Option<SampleRef<'a>>>
         ensures { Gives (λ s. option_map lent_sample s) result (sample_in self.now.bytes.now self.now.tracks track_id k) }
     {

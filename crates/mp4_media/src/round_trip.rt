@@ -6,9 +6,10 @@ ghost use Rattle.std.specs.List.{AllByRecursion};
 ghost use Rattle.mp4_codec.specs.Cause.{Answers, AnswersCause};
 ghost use Rattle.mp4_codec.specs.Cursor.{here};
 ghost use Rattle.mp4_lookup.specs.declared.track.Mp4Track.{Mp4Track};
-ghost use Rattle.mp4_lookup.specs.Plain.{Consistent};
-ghost use Rattle.mp4_lookup.specs.Samples.{timed_sample};
-ghost use Rattle.mp4_lookup.specs.Tracks.{tables_of, is_of_movie};
+ghost use Rattle.mp4_samples.specs.Plain.{Consistent};
+ghost use Rattle.mp4_samples.specs.Samples.{timed_sample};
+ghost use Rattle.mp4_samples.specs.Tables.{tables_of};
+ghost use Rattle.mp4_lookup.specs.Tracks.{is_of_movie};
 ghost use Rattle.mp4_mux.specs.Calls.{Answered, IsInRangeCall, accepted_after, after, has_end};
 ghost use Rattle.mp4_mux.specs.Writing.{start_cause, started, whole_of};
 ghost use Rattle.mp4_media.specs.Finished.{Opens};
@@ -21,8 +22,8 @@ use crate::calls::WriterCall;
 use crate::reader::{Mp4Reader, read_mp4};
 use crate::writer::Mp4Writer;
 use mp4_codec::{ByteCursor, Result};
-use mp4_lookup::{Mp4Sample, SamplePlace};
 use mp4_mux::Mp4Config;
+use mp4_samples::{Mp4Sample, SamplePlace};
 use std::alloc::Global;
 
 /// A file, and a sample of it to look for.

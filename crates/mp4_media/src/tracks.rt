@@ -6,7 +6,8 @@ ghost use Rattle.mp4_codec.specs.Boxes.{all_refusal};
 ghost use Rattle.mp4_table.specs.Stsc.{HasFirstSamples};
 ghost use Rattle.mp4_fragments.specs.Fragments.{placed_runs};
 ghost use Rattle.mp4_lookup.specs.TrackRuns.{track_runs};
-ghost use Rattle.mp4_lookup.specs.Tracks.{tables_of, movie_end};
+ghost use Rattle.mp4_samples.specs.Tables.{tables_of};
+ghost use Rattle.mp4_lookup.specs.Tracks.{movie_end};
 ghost use Rattle.mp4_media.specs.MovieTracks.{AreTracks, HaveFirstSamples, RefusedBy, at_id, bases_at, default_duration, defaults_at, fragments_at, has_id, id_fault, movie_defaults, unknown_id, unknown_ids, zero_id};
 
 use crate::fragments::{

@@ -5,7 +5,7 @@ ghost use Rattle.std.specs.List.{All};
 ghost use Rattle.mp4_codec.specs.Boxes.{write_cause};
 ghost use Rattle.mp4_codec.specs.Cause.{AnswersCause, Checks};
 ghost use Rattle.mp4_boxes.specs.Moov.{moov_payload, moov_refusal};
-ghost use Rattle.mp4_lookup.specs.Samples.{sample_of};
+ghost use Rattle.mp4_samples.specs.Samples.{sample_of};
 ghost use Rattle.mp4_mux.specs.Building.{new_building};
 ghost use Rattle.mp4_mux.specs.Config.{config_cause};
 ghost use Rattle.mp4_mux.specs.FinishedTrack.{movie_for};
@@ -16,11 +16,11 @@ ghost use Rattle.mp4_media.specs.Finished.{Opens};
 ghost use Rattle.mp4_media.specs.WriterFields.{writer_state, IsWriter};
 
 use mp4_codec::{Error, InRange, Limit, Result, TryClone};
-use mp4_lookup::Mp4Sample;
 use mp4_mux::{
     ChunkRef, Mp4Config, TrackConfig, TrackWriter, add_sample, begin, check_file_type, check_movie,
     finish, pending_bytes, put_movie,
 };
+use mp4_samples::Mp4Sample;
 use std::alloc::Global;
 use std::marker::Model;
 

@@ -5,7 +5,7 @@ use Rattle.std.specs.List.{sum_by}
 use Rattle.std.proofs.lemmas.List.{length-append, length-drop, take_all, drop-append-le, length-take-le, take_at}
 use Rattle.std.proofs.lemmas.List.Elements.{All-push}
 use Rattle.std.proofs.lemmas.List.{length_push, take-append-drop, nil_from_length}
-use Rattle.mp4_lookup.specs.Samples.{Sample}
+use Rattle.mp4_samples.specs.Samples.{Sample}
 use Rattle.mp4_mux.specs.SampleInfos.{IsInRangeSampleInfo}
 use Rattle.mp4_mux.specs.declared.sample_info.SampleInfo.{SampleInfo}
 use Rattle.mp4_mux.specs.declared.chunk_place.ChunkPlace.{ChunkPlace}

@@ -4,7 +4,7 @@ use Rattle.std.specs.Prelude.{Option, Some, nat_le, if◌then◌else◌}
 use Rattle.mp4_codec.specs.declared.error.Limit.TheVariants.{SampleBytes, SampleCount, TrackDuration}
 use Rattle.mp4_codec.specs.Cause.{Cause, too_large}
 use Rattle.std.specs.List.{sum_by, All, AllByRecursion}
-use Rattle.mp4_lookup.specs.Samples.{Sample}
+use Rattle.mp4_samples.specs.Samples.{Sample}
 use Rattle.mp4_mux.specs.declared.config.TrackConfig.{TrackConfig}
 use Rattle.mp4_mux.specs.declared.sample_info.SampleInfo.{SampleInfo}
 use Rattle.mp4_mux.specs.declared.chunk_place.ChunkPlace.{ChunkPlace}

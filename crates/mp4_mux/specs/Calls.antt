@@ -5,7 +5,7 @@ use Rattle.std.specs.Int.{w32}
 use Rattle.std.specs.List.{AllByRecursion}
 use Rattle.mp4_codec.specs.declared.error.Error.{Error}
 use Rattle.mp4_codec.specs.Cause.{Cause, AnswersCause}
-use Rattle.mp4_lookup.specs.Samples.{Sample}
+use Rattle.mp4_samples.specs.Samples.{Sample}
 use Rattle.mp4_mux.specs.declared.config.Mp4Config.{Mp4Config}
 use Rattle.mp4_mux.specs.declared.config.TrackConfig.{TrackConfig}
 use Rattle.mp4_mux.specs.Config.{IsInRangeTrackConfig}

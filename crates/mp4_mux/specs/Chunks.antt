@@ -1,7 +1,7 @@
 -- The tracks that are written, and the chunks in which their samples stand (ISO/IEC 14496-12, 8.7.4 and 8.7.5).
 use Rattle.std.specs.Prelude.{ℕ, ◌+◌, ◌==◌, List, [], ◌∷◌, ◌++◌, length, map, Bool, nat_le, nat_lt, ◌&&◌, if◌then◌else◌}
 use Rattle.std.specs.List.{flat_map, sum_by}
-use Rattle.mp4_lookup.specs.Samples.{Sample}
+use Rattle.mp4_samples.specs.Samples.{Sample}
 use Rattle.mp4_mux.specs.declared.config.TrackConfig.{TrackConfig}
 use Rattle.mp4_mux.specs.TrackHeaders.{PlacedChunk}
 

@@ -5,7 +5,7 @@ use Rattle.std.specs.List.{flat_map}
 use Rattle.std.proofs.lemmas.List.{append-nil, length-append}
 use Rattle.std.proofs.lemmas.List.Concat.{flat_map-append}
 use Rattle.std.proofs.lemmas.Bool.{ne_eqb}
-use Rattle.mp4_lookup.specs.Samples.{Sample}
+use Rattle.mp4_samples.specs.Samples.{Sample}
 use Rattle.mp4_mux.specs.TrackHeaders.{PlacedChunk}
 use Rattle.mp4_mux.specs.Chunks.{TrackState, Chunk, sample_bytes, chunk_bytes, chunk_of, last_chunks, samples_of}
 use Rattle.mp4_mux.specs.Chunks.{placed_from, of_track}

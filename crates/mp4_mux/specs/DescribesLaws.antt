@@ -10,8 +10,8 @@ use Rattle.std.proofs.lemmas.Simd.{map-map}
 use Rattle.mp4_table.specs.Chunks.{places}
 use Rattle.mp4_table.specs.Starts.{start_of}
 use Rattle.mp4_boxes.specs.declared.stbl.StblBox.{StblBox}
-use Rattle.mp4_lookup.specs.Samples.{Sample, TimedSample, timed_from, timed, read_at}
-use Rattle.mp4_lookup.specs.Places.{Place}
+use Rattle.mp4_samples.specs.Samples.{Sample, TimedSample, timed_from, timed, read_at}
+use Rattle.mp4_samples.specs.Places.{Place}
 use Rattle.mp4_mux.specs.declared.sample_info.SampleInfo.{SampleInfo}
 use Rattle.mp4_mux.specs.Chunks.{Chunk, chunk_bytes, samples_of, placed_from, of_track}
 use Rattle.mp4_mux.specs.FinishedTrack.{counts_of, offsets_of}

@@ -17,7 +17,7 @@ use Rattle.mp4_mux.specs.declared.sample_info.SampleInfo.{SampleInfo}
 use Rattle.mp4_mux.specs.declared.chunk_place.ChunkRef.{ChunkRef}
 use Rattle.mp4_mux.specs.Mdat.{mdat_header_of}
 use Rattle.mp4_mux.specs.MdatLaws.{length-mdat_header_of}
-use Rattle.mp4_lookup.specs.Samples.{Sample}
+use Rattle.mp4_samples.specs.Samples.{Sample}
 use Rattle.mp4_mux.specs.TrackHeaders.{PlacedChunk, FinishedTrack, placed_of}
 use Rattle.mp4_mux.specs.Writing.{movie_bytes}
 use Rattle.mp4_mux.specs.Chunks.{TrackState, Chunk, sample_bytes, chunk_bytes, chunk_of, last_chunks, none_pending}

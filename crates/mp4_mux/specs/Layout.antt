@@ -1,7 +1,7 @@
 -- Chunks that are no longer than they have to be.
 use Rattle.std.specs.Prelude.{◌≡◌, ℕ, ◌<◌, List, length, take, true, false, ◌==◌}
 use Rattle.std.specs.List.{AllByRecursion, filter}
-use Rattle.mp4_lookup.specs.Samples.{Sample}
+use Rattle.mp4_samples.specs.Samples.{Sample}
 use Rattle.mp4_mux.specs.Chunks.{TrackState, Chunk, is_full}
 use Rattle.mp4_mux.specs.Writing.{WriterState, track_at, with_end}
 use Rattle.mp4_mux.specs.Sound.{IsIdOf}

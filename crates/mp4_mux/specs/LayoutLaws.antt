@@ -10,7 +10,7 @@ use Rattle.std.proofs.lemmas.List.Sums.{sum_by-take-le}
 use Rattle.std.proofs.lemmas.Bool.{cases_eq, cases_lt, and_right}
 use Rattle.std.proofs.lemmas.Bool.Decides.{nat_tests}
 use Rattle.std.specs.Prelude.{nat_le, nat_lt}
-use Rattle.mp4_lookup.specs.Samples.{Sample}
+use Rattle.mp4_samples.specs.Samples.{Sample}
 use Rattle.mp4_mux.specs.declared.config.Mp4Config.{Mp4Config}
 use Rattle.mp4_mux.specs.declared.config.TrackConfig.{TrackConfig}
 use Rattle.mp4_mux.specs.Chunks.{TrackState, Chunk, sample_bytes, is_full}

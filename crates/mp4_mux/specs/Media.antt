@@ -4,7 +4,7 @@ use Rattle.std.specs.Prelude.{if◌then◌else◌}
 use Rattle.mp4_mux.specs.declared.sample_info.SampleInfo.{SampleInfo}
 use Rattle.mp4_mux.specs.declared.chunk_place.ChunkPlace.{ChunkPlace}
 use Rattle.mp4_mux.specs.declared.chunk_place.ChunkRef.{ChunkRef}
-use Rattle.mp4_lookup.specs.Samples.{Sample}
+use Rattle.mp4_samples.specs.Samples.{Sample}
 use Rattle.mp4_mux.specs.Chunks.{TrackState, Chunk, sample_bytes, is_full}
 use Rattle.mp4_mux.specs.Writing.{no_track}
 use Rattle.mp4_mux.specs.Building.{Building, new_building, pushed, closed, samples_in}

@@ -10,7 +10,7 @@ use Rattle.std.proofs.lemmas.Bool.{cases_eq}
 use Rattle.mp4_mux.specs.declared.sample_info.SampleInfo.{SampleInfo}
 use Rattle.mp4_mux.specs.declared.chunk_place.ChunkPlace.{ChunkPlace}
 use Rattle.mp4_mux.specs.declared.chunk_place.ChunkRef.{ChunkRef}
-use Rattle.mp4_lookup.specs.Samples.{Sample}
+use Rattle.mp4_samples.specs.Samples.{Sample}
 use Rattle.mp4_mux.specs.Chunks.{Chunk}
 use Rattle.mp4_mux.specs.Building.{Building, sample_at, samples_in}
 use Rattle.mp4_mux.specs.Media.{Media, building_at, no_building, no_place, place_in, infos_in, chunk_in}

@@ -2,7 +2,7 @@
 use Rattle.std.proofs.Common.{◌≡◌, ℕ, true, false, cond, List, Some, None, is_some, is_none, refl}
 use Rattle.mp4_table.specs.declared.stco.StcoBox.{StcoBox}
 use Rattle.mp4_table.specs.declared.co64.Co64Box.{Co64Box}
-use Rattle.mp4_lookup.specs.Tables.{offsets_of}
+use Rattle.mp4_samples.specs.Tables.{offsets_of}
 use Rattle.mp4_mux.specs.SampleTables.{are_far, stco_for, co64_for}
 
 pub offsets_of-stco_for-co64_for : (os : List ℕ) → offsets_of (stco_for os) (co64_for os) ≡ os

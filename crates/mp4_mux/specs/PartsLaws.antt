@@ -18,7 +18,7 @@ use Rattle.mp4_mux.specs.declared.chunk_place.ChunkRef.{ChunkRef}
 use Rattle.mp4_mux.specs.Config.{IsInRangeConfig, IsInRangeTrackConfig}
 use Rattle.mp4_mux.specs.Mdat.{mdat_header_of}
 use Rattle.mp4_mux.specs.MdatLaws.{length-mdat_header_of}
-use Rattle.mp4_lookup.specs.Samples.{Sample}
+use Rattle.mp4_samples.specs.Samples.{Sample}
 use Rattle.mp4_mux.specs.TrackHeaders.{placed_of}
 use Rattle.mp4_mux.specs.Chunks.{TrackState, Chunk, sample_bytes, chunk_bytes, samples_of, placed_from, of_track}
 use Rattle.mp4_mux.specs.ChunksLaws.{other_id}

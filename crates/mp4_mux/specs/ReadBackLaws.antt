@@ -7,9 +7,9 @@ use Rattle.std.proofs.lemmas.List.{get_or-map, length-map}
 use Rattle.std.proofs.lemmas.Option.{same_Some, slice_get-get_or, slice_get_past, slice_get_within}
 use Rattle.mp4_boxes.specs.declared.stbl.StblBox.{StblBox}
 use Rattle.mp4_boxes.specs.declared.trak.TrakBox.{TrakBox}
-use Rattle.mp4_lookup.specs.Samples.{Sample, TimedSample, timed_from, timed, read_at}
-use Rattle.mp4_lookup.specs.Plain.{member, plain, plain_at, within_file}
-use Rattle.mp4_lookup.specs.Tracks.{tables_of}
+use Rattle.mp4_samples.specs.Samples.{Sample, TimedSample, timed_from, timed, read_at}
+use Rattle.mp4_samples.specs.Plain.{member, plain, plain_at, within_file}
+use Rattle.mp4_samples.specs.Tables.{tables_of}
 use Rattle.mp4_mux.specs.Writing.{WriterState, AcceptedTrack, accepted, no_track, movie_of, whole_of, with_end}
 use Rattle.mp4_mux.specs.Sound.{IsSound}
 use Rattle.mp4_mux.specs.EndedStates.{accepted-end}

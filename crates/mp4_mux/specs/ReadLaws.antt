@@ -4,7 +4,7 @@ use Rattle.std.proofs.Common.{refl, sym, ap, ap₂, subst, ◌∙◌, append_ass
 use Rattle.std.specs.List.{AllByRecursion}
 use Rattle.std.proofs.lemmas.List.{take_at, drop_at, map-append, length-append}
 use Rattle.mp4_table.specs.Chunks.{laid_from}
-use Rattle.mp4_lookup.specs.Samples.{Sample}
+use Rattle.mp4_samples.specs.Samples.{Sample}
 use Rattle.mp4_mux.specs.Chunks.{Chunk, sample_bytes, chunk_bytes, samples_of}
 use Rattle.mp4_mux.specs.EndedStates.{all-append}
 use Rattle.mp4_mux.specs.Written.{sizes_of, ranges_from, ranges_of}

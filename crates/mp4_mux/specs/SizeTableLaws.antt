@@ -7,7 +7,7 @@ use Rattle.std.proofs.lemmas.Bool.{cond_both, and_parts, eqb-true, cases_eq, lt-
 use Rattle.std.proofs.lemmas.List.{length-map}
 use Rattle.mp4_codec.specs.Cause.{invalid_data}
 use Rattle.mp4_table.specs.Stsz.{stsz_refusal}
-use Rattle.mp4_lookup.specs.Tables.{sizes}
+use Rattle.mp4_samples.specs.Tables.{sizes}
 use Rattle.mp4_mux.specs.declared.sample_info.SampleInfo.{SampleInfo}
 use Rattle.mp4_mux.specs.SampleTables.{one_size, listed_sizes, stsz_for}
 

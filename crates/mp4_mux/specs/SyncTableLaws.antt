@@ -7,7 +7,7 @@ use Rattle.std.proofs.lemmas.Bool.{cond_both, ne_eqb}
 use Rattle.std.proofs.lemmas.List.Elements.{All-nil, All-cons, All-weaker}
 use Rattle.std.proofs.lemmas.List.Folds.{list_any_none}
 use Rattle.std.proofs.lemmas.List.Kept.{AllPairs-cons}
-use Rattle.mp4_lookup.specs.Tables.{sync_numbers, is_sync_at}
+use Rattle.mp4_samples.specs.Tables.{sync_numbers, is_sync_at}
 use Rattle.mp4_mux.specs.declared.sample_info.SampleInfo.{SampleInfo}
 use Rattle.mp4_mux.specs.SampleTables.{sync_numbers_from, stss_for}
 

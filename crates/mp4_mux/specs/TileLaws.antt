@@ -7,7 +7,7 @@ use Rattle.std.proofs.lemmas.List.Concat.{flat_map-append}
 use Rattle.std.proofs.lemmas.List.Elements.{filter-append}
 use Rattle.std.proofs.lemmas.List.Sums.{sum_by-cons}
 use Rattle.mp4_table.specs.Chunks.{laid_from, places}
-use Rattle.mp4_lookup.specs.Samples.{Sample}
+use Rattle.mp4_samples.specs.Samples.{Sample}
 use Rattle.mp4_mux.specs.Chunks.{Chunk, sample_bytes, chunk_bytes, samples_of, placed_from, of_track}
 use Rattle.mp4_mux.specs.FinishedTrack.{counts_of, offsets_of}
 use Rattle.mp4_mux.specs.TrackHeaders.{PlacedChunk}

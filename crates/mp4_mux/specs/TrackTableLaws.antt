@@ -12,8 +12,8 @@ use Rattle.mp4_table.specs.declared.stsc.StscBox.{StscBox}
 use Rattle.mp4_table.specs.Chunks.{counts, laid_from, places}
 use Rattle.mp4_table.specs.Runs.{expand, durations, rendering_offsets}
 use Rattle.mp4_boxes.specs.declared.stbl.StblBox.{StblBox}
-use Rattle.mp4_lookup.specs.Plain.{Consistent, sample_places, member, plain}
-use Rattle.mp4_lookup.specs.Tables.{chunk_offsets, offsets_of, sizes, ctts_runs, is_sync_at}
+use Rattle.mp4_samples.specs.Plain.{Consistent, sample_places, member, plain}
+use Rattle.mp4_samples.specs.Tables.{chunk_offsets, offsets_of, sizes, ctts_runs, is_sync_at}
 use Rattle.mp4_mux.specs.declared.sample_info.SampleInfo.{SampleInfo}
 use Rattle.mp4_mux.specs.SampleTables.{ctts_for, stsz_for}
 use Rattle.mp4_mux.specs.SampleTableLaws.{durations-stts_for, Renders, ctts_for-renders}

@@ -11,7 +11,7 @@ use Rattle.mp4_entry.specs.declared.config.MediaConfig.TheVariants.{TtxtConfig a
 use Rattle.mp4_entry.specs.declared.track_type.TrackType.TheVariants.{Subtitle}
 use Rattle.mp4_boxes.specs.declared.moov.MoovBox.{MoovBox}
 use Rattle.mp4_boxes.specs.Moov.{moov_payload}
-use Rattle.mp4_lookup.specs.Samples.{Sample}
+use Rattle.mp4_samples.specs.Samples.{Sample}
 use Rattle.mp4_mux.specs.declared.config.Mp4Config.{Mp4Config}
 use Rattle.mp4_mux.specs.declared.config.TrackConfig.{TrackConfig}
 use Rattle.mp4_mux.specs.declared.sample_info.SampleInfo.{SampleInfo}

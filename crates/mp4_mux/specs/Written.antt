@@ -12,12 +12,11 @@ use Rattle.mp4_entry.specs.Stsd.{first_entry}
 use Rattle.mp4_entry.specs.TrackType.{track_type_of}
 use Rattle.mp4_boxes.specs.declared.stbl.StblBox.{StblBox}
 use Rattle.mp4_boxes.specs.declared.trak.TrakBox.{TrakBox}
-use Rattle.mp4_lookup.specs.Samples.{Sample, TimedSample, timed, read_at}
-use Rattle.mp4_lookup.specs.Places.{Place}
-use Rattle.mp4_lookup.specs.Plain.{Consistent, sample_places, plain}
-use Rattle.mp4_lookup.specs.Tables.{chunk_offsets}
-use Rattle.mp4_lookup.specs.Tracks.{tables_of}
-use Rattle.mp4_lookup.specs.Kind.{coding_of}
+use Rattle.mp4_samples.specs.Samples.{Sample, TimedSample, timed, read_at}
+use Rattle.mp4_samples.specs.Places.{Place}
+use Rattle.mp4_samples.specs.Plain.{Consistent, sample_places, plain}
+use Rattle.mp4_samples.specs.Tables.{chunk_offsets, tables_of}
+use Rattle.mp4_samples.specs.Coding.{coding_of}
 use Rattle.mp4_mux.specs.Chunks.{Chunk, sample_bytes}
 use Rattle.mp4_mux.specs.Writing.{WriterState, AcceptedTrack, accepted, data_of, data_place, movie_of, whole_of}
 

@@ -6,8 +6,8 @@ use Rattle.std.proofs.lemmas.List.{length-append}
 use Rattle.std.proofs.lemmas.List.Elements.{All-from_recursion}
 use Rattle.mp4_table.specs.Chunks.{laid_from}
 use Rattle.mp4_boxes.specs.declared.trak.TrakBox.{TrakBox}
-use Rattle.mp4_lookup.specs.Plain.{sample_places}
-use Rattle.mp4_lookup.specs.Tracks.{tables_of}
+use Rattle.mp4_samples.specs.Plain.{sample_places}
+use Rattle.mp4_samples.specs.Tables.{tables_of}
 use Rattle.mp4_mux.specs.Mdat.{mdat_header_of}
 use Rattle.mp4_mux.specs.MdatLaws.{length-mdat_header_of}
 use Rattle.mp4_mux.specs.TrackHeaders.{PlacedChunk, FinishedTrack}

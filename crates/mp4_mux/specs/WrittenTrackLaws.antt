@@ -19,10 +19,10 @@ use Rattle.mp4_entry.specs.declared.track_type.TrackType.TheVariants.{Video, Aud
 use Rattle.mp4_entry.specs.Config.{media_type_in}
 use Rattle.mp4_entry.specs.Stsd.{first_entry}
 use Rattle.mp4_entry.specs.TrackType.{track_type_of}
-use Rattle.mp4_lookup.specs.Samples.{Sample}
-use Rattle.mp4_lookup.specs.Plain.{sample_places}
-use Rattle.mp4_lookup.specs.Tables.{chunk_offsets, sizes}
-use Rattle.mp4_lookup.specs.Kind.{coding_of}
+use Rattle.mp4_samples.specs.Samples.{Sample}
+use Rattle.mp4_samples.specs.Plain.{sample_places}
+use Rattle.mp4_samples.specs.Tables.{chunk_offsets, sizes}
+use Rattle.mp4_samples.specs.Coding.{coding_of}
 use Rattle.mp4_mux.specs.declared.config.TrackConfig.{TrackConfig}
 use Rattle.mp4_mux.specs.declared.sample_info.SampleInfo.{SampleInfo}
 use Rattle.mp4_mux.specs.Description.{stsd_for}

@@ -7,8 +7,8 @@ ghost use Rattle.std.specs.Prelude.{◌≡◌, ◌≤◌, ◌<◌, ◌^◌, ◌+
 ghost use Rattle.std.specs.List.{AllPairs};
 ghost use Rattle.mp4_mux.specs.Chunks.{TrackState, chunk_of, last_chunks, samples_of};
 ghost use Rattle.mp4_boxes.specs.declared.stbl.StblBox.{StblBox};
-ghost use Rattle.mp4_lookup.specs.Samples.{Sample, TimedSample, timed};
-ghost use Rattle.mp4_lookup.specs.Plain.{plain_at};
+ghost use Rattle.mp4_samples.specs.Samples.{Sample, TimedSample, timed};
+ghost use Rattle.mp4_samples.specs.Plain.{plain_at};
 ghost use Rattle.mp4_mux.specs.Writing.{WriterState, track_at, accepted, data_of, data_place, with_end};
 ghost use Rattle.mp4_mux.specs.Sound.{IsIdOf, IsSound};
 ghost use Rattle.mp4_mux.specs.Calls.{Session, IsAnswered, IsEnded, writer_of, accepted_by, none_accepted};

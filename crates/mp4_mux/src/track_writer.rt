@@ -4,7 +4,7 @@ ghost use Rattle.std.specs.Prelude.{ℕ, min, None, Ok, IfOk, ◌≡◌, ◌++�
 ghost use Rattle.std.specs.Option.{option_to_list};
 ghost use Rattle.mp4_codec.specs.Cause.{Answers, Checks};
 ghost use Rattle.mp4_boxes.specs.Trak.{trak_payload};
-ghost use Rattle.mp4_lookup.specs.Samples.{sample_of};
+ghost use Rattle.mp4_samples.specs.Samples.{sample_of};
 ghost use Rattle.mp4_mux.specs.Config.{config_cause};
 ghost use Rattle.mp4_mux.specs.TrackHeaders.{movie_duration, durations_of};
 ghost use Rattle.mp4_mux.specs.FinishedTrack.{trak_for};
@@ -23,7 +23,7 @@ use crate::sample_info::SampleInfo;
 use crate::trak::{TrackParts, trak_box, trak_size};
 use mp4_boxes::TrakBox;
 use mp4_codec::{Error, InRange, Limit};
-use mp4_lookup::Mp4Sample;
+use mp4_samples::Mp4Sample;
 use std::alloc::{AllocError, Global};
 use std::marker::Model;
 

@@ -2,8 +2,8 @@
 
 use crate::walked_lookup::WalkedPlace;
 use mp4_codec::{Error, Result};
-use mp4_lookup::{Mp4Sample, SamplePlace, SampleRef};
 use mp4_media::Mp4Reader;
+use mp4_samples::{Mp4Sample, SamplePlace, SampleRef};
 
 /// Whether both answers are refusals for the same reason.
 pub fn are_same_refusal(one: &Error, other: &Error) -> bool {

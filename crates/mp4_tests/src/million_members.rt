@@ -3,11 +3,12 @@
 use crate::asked::lends;
 use crate::asserts::check;
 use crate::walked_lookup::WalkedPlace;
-use mp4_lookup::{Comparisons, Mp4Track, SamplePlace, SampleRef};
+use mp4_lookup::Mp4Track;
 use mp4_media::{Mp4Reader, read_mp4};
 use mp4_plain_movies::movie_bytes::EMPTY_MOVIE;
 use mp4_plain_movies::plain_bytes::{begin_box, end_box, put, put_over, put_pair};
 use mp4_plain_movies::plain_tables::{Tables, put_movie};
+use mp4_samples::{Comparisons, SamplePlace, SampleRef};
 use std::alloc::{AllocError, Global};
 
 const SAMPLES: u32 = 1_000_000;

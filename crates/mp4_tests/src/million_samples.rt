@@ -2,11 +2,11 @@
 
 use crate::asked::reads;
 use crate::asserts::check;
-use mp4_lookup::{Comparisons, SamplePlace, SampleRef};
 use mp4_media::{Mp4Reader, read_mp4};
 use mp4_plain_movies::movie_bytes::EMPTY_MOVIE;
 use mp4_plain_movies::plain_bytes::{begin_box, end_box};
 use mp4_plain_movies::plain_tables::{Tables, put_movie};
+use mp4_samples::{Comparisons, SamplePlace, SampleRef};
 use std::alloc::{AllocError, Global};
 
 const SAMPLES: u32 = 1_000_000;

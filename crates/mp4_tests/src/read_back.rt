@@ -3,11 +3,12 @@
 use crate::asked::{lends, reads};
 use mp4_codec::{Error, Result};
 use mp4_entry::MediaType;
-use mp4_lookup::{Mp4Track, SampleRef};
+use mp4_lookup::Mp4Track;
 use mp4_media::{Mp4Reader, read_mp4};
 use mp4_plain_movies::calls::{Media, Sample};
 use mp4_plain_movies::plain_movie::PlainMovie;
 use mp4_plain_movies::plain_tracks::{PlainTrack, ticks};
+use mp4_samples::SampleRef;
 use std::alloc::Global;
 
 fn media_type_of(media: &Media) -> MediaType {

@@ -10,7 +10,6 @@ use crate::writer_calls::{config_of, make, media_track, writer_call};
 use crate::written::{modelled, standing};
 use mp4_codec::{Error, Result, Text, TryClone};
 use mp4_entry::{MediaConfig, TtxtConfig};
-use mp4_lookup::{Mp4Sample, SampleRef};
 use mp4_media::{
     Mp4Config, Mp4Reader, Mp4Writer, RoundTrip, SampleQuery, TrackConfig, WriterCall, read_mp4,
     write_and_read,
@@ -21,6 +20,7 @@ use mp4_plain_movies::movie_bytes::{EMPTY_MOVIE, FRAGMENT, FULL_MOVIE, TEXT_MOVI
 use mp4_plain_movies::nested::nest;
 use mp4_plain_movies::plain_tables::TEXT;
 use mp4_plain_movies::spelled::hex;
+use mp4_samples::{Mp4Sample, SampleRef};
 use std::alloc::Global;
 
 /// Prints that a request was refused, and answers whether the call said so.

@@ -1,4 +1,4 @@
-//! The functions that the README shows.
+//! The functions that docs/CALLING.md shows first, one of which README shows too.
 
 use crate::asserts::check;
 use bytes::Bytes;

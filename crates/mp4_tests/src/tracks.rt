@@ -3,8 +3,9 @@
 use mp4_boxes::{TrakBox, read_tables_have_first_samples};
 use mp4_codec::{Items, ReadBox, Result};
 use mp4_fragments::SampleDefaults;
-use mp4_lookup::{Mp4Track, SamplePlace};
+use mp4_lookup::Mp4Track;
 use mp4_plain_movies::plain_tables::{Tables, written_track};
+use mp4_samples::SamplePlace;
 use std::alloc::Global;
 
 /// The track of a payload of a trak.

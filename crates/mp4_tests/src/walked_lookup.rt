@@ -3,7 +3,7 @@
 
 use mp4_boxes::StblBox;
 use mp4_codec::{BoxType, Error, Result};
-use mp4_lookup::SamplePlace;
+use mp4_samples::SamplePlace;
 use mp4_table::{CttsEntry, StscEntry, StszBox, SttsEntry};
 
 /// Where a sample lies, and when it is decoded and shown.

@@ -6,9 +6,9 @@ use mp4_entry::{
     AacConfig, AudioObjectType, AvcConfig, ChannelConfig, HevcConfig, SampleFreqIndex, TtxtConfig,
     Vp9Config,
 };
-use mp4_lookup::Mp4Sample;
 use mp4_media::{Mp4Config, Mp4Writer, TrackConfig, WriterCall};
 use mp4_plain_movies::calls::{Beginning, Call, Media, Picture, Sample, Sound, Track};
+use mp4_samples::Mp4Sample;
 use std::alloc::Global;
 
 /// The configuration that such a movie is begun with.

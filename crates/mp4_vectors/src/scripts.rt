@@ -1,7 +1,7 @@
 //! What scripts make, and the texts that describe files.
 
-use crate::encoded::{byte, digits};
 use crate::files::answer_of_file;
+use mp4_cases::encoded::{byte, digits};
 use mp4_media::Result;
 use mp4_script::{ScriptFault, info_text, run_script, samples_text, show_text};
 use std::alloc::{AllocError, Global};

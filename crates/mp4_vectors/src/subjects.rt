@@ -1,18 +1,19 @@
 //! What cases are about, and who answers their questions.
 
-use crate::codecs::answer_of_codec;
-use crate::codes::answer_of_code;
-use crate::configs::answer_of_config;
-use crate::defaults::answer_of_default;
-use crate::encoded::{Names, encoded};
-use crate::fields::answer_of_fields;
 use crate::files::answer_of_file;
-use crate::fixed_point::{answer_of_i8, answer_of_u8, answer_of_u16};
-use crate::framing::{answer_of_children, answer_of_header, answer_of_mdat};
-use crate::kinds::answer_of_box;
-use crate::languages::answer_of_language;
+use crate::mdat::answer_of_mdat;
 use crate::scripts::{answer_of_script, script_of};
 use crate::writers::answer_of_writer;
+use mp4_cases::codecs::answer_of_codec;
+use mp4_cases::codes::answer_of_code;
+use mp4_cases::configs::answer_of_config;
+use mp4_cases::defaults::answer_of_default;
+use mp4_cases::encoded::{Names, encoded};
+use mp4_cases::fields::answer_of_fields;
+use mp4_cases::fixed_point::{answer_of_i8, answer_of_u8, answer_of_u16};
+use mp4_cases::framing::{answer_of_children, answer_of_header};
+use mp4_cases::kinds::answer_of_box;
+use mp4_cases::languages::answer_of_language;
 use mp4_media::{Error, Result};
 use std::alloc::Global;
 

@@ -1,8 +1,8 @@
 //! What a writer of movies answers to its calls, and what the file is that it wrote.
 
 use crate::calls::call_of;
-use crate::encoded::{digits, encoded_word};
 use crate::files::answer_of_file;
+use mp4_cases::encoded::{digits, encoded_word};
 use mp4_media::{FourCC, Items, Mp4Config, Mp4Writer, Result, WriterCall};
 use std::alloc::Global;
 

@@ -4,9 +4,9 @@ use Rattle.std.proofs.lemmas.Result.{err_from_is_err_and}
 use Rattle.mp4_codec.specs.Cause.{Answers}
 use Rattle.mp4_codec.specs.Steps.{ok_is}
 use Rattle.mp4_boxes.specs.declared.trak.TrakBox.{TrakBox}
-use Rattle.mp4_lookup.specs.Plain.{Consistent}
-use Rattle.mp4_lookup.specs.Samples.{timed_sample, plain_sample_at}
-use Rattle.mp4_lookup.specs.Tracks.{tables_of}
+use Rattle.mp4_samples.specs.Plain.{Consistent}
+use Rattle.mp4_samples.specs.Samples.{timed_sample, plain_sample_at}
+use Rattle.mp4_samples.specs.Tables.{tables_of}
 use Rattle.mp4_lookup.specs.TrackLaws.{unfragmented_is_of_movie}
 use Rattle.mp4_media.specs.FileBoxes.{opened_file}
 use Rattle.mp4_media.specs.RoundTrip.{IsPlace}

@@ -1,6 +1,6 @@
 use Rattle.std.proofs.Common.{◌≡◌, ◌-◌, inl, inr, refl, arith}
 use Rattle.std.proofs.lemmas.List.{get_or_read}
-use Rattle.mp4_lookup.specs.Samples.{sample_of}
+use Rattle.mp4_samples.specs.Samples.{sample_of}
 use Rattle.mp4_mux.specs.Media.{building_at, no_building}
 use Rattle.mp4_mux.specs.Sound.{IsIdOf}
 use Rattle.mp4_mux.specs.StateLaws.{sample_cause-ended, sample_cause-unknown}

@@ -1,5 +1,5 @@
 use Rattle.std.proofs.Common.{refl}
-use Rattle.mp4_lookup.specs.Samples.{sample_of}
+use Rattle.mp4_samples.specs.Samples.{sample_of}
 use Rattle.mp4_mux.specs.Calls.{add_track, write_sample}
 use Rattle.mp4_media.proofs.Performing.{still_opens}
 use Rattle.mp4_media.proofs.writer.Mp4Writer.perform.Goals as goal

@@ -1,6 +1,6 @@
 use Rattle.std.proofs.Common.{◌≡◌, sym, ap, ◌∙◌, subst, arith, None, false}
 use Rattle.mp4_mux.specs.SampleInfos.{IsInRangeSampleInfo}
-use Rattle.mp4_lookup.specs.Samples.{sample_of}
+use Rattle.mp4_samples.specs.Samples.{sample_of}
 use Rattle.mp4_mux.specs.Writing.{WriterState, info_of, sample_cause, with_sample}
 use Rattle.mp4_mux.specs.Media.{Media}
 use Rattle.mp4_mux.specs.StateLaws.{IsWelcome, sample_welcome, sound_sample}

@@ -1,6 +1,6 @@
 use Rattle.std.proofs.Common.{arith, ap}
 use Rattle.mp4_mux.specs.declared.sample_info.SampleInfo.{SampleInfo}
-use Rattle.mp4_lookup.specs.Samples.{sample_of}
+use Rattle.mp4_samples.specs.Samples.{sample_of}
 use Rattle.mp4_mux.specs.TrackFields.{fields_of}
 use Rattle.mp4_mux.proofs.TrackLemmas.{pending_room, media_room, is_track-push, view-push}
 use Rattle.mp4_mux.proofs.track_writer.TrackWriter.push.Goals as goal

@@ -2,7 +2,7 @@
 
 use crate::encoded::{Names, digits, encoded};
 use crate::items::words;
-use mp4_media::Result;
+use mp4_codec::Result;
 use std::alloc::Global;
 
 /// How an answer is compared.

@@ -3,14 +3,10 @@ use Rattle.std.specs.Prelude.{ℕ, ℤ, ◌+◌, Bool, List, [], ◌∷◌, leng
 use Rattle.std.specs.Prelude.{nat_lt, if◌then◌else◌}
 use Rattle.mp4_codec.specs.Cause.{Cause, end_of_data, ◌>>=◌}
 use Rattle.mp4_boxes.specs.declared.stbl.StblBox.{StblBox}
-use Rattle.mp4_boxes.specs.declared.trak.TrakBox.{TrakBox}
-use Rattle.mp4_moof.specs.declared.traf.TrafBox.{TrafBox}
-use Rattle.mp4_fragments.specs.Members.{PlacedRun}
-use Rattle.mp4_lookup.specs.declared.sample.Mp4Sample.{Mp4Sample}
-use Rattle.mp4_lookup.specs.declared.sample.SampleRef.{SampleRef}
-use Rattle.mp4_lookup.specs.Places.{Place}
-use Rattle.mp4_lookup.specs.Plain.{plain_at}
-use Rattle.mp4_lookup.specs.Tracks.{answer_at}
+use Rattle.mp4_samples.specs.declared.sample.Mp4Sample.{Mp4Sample}
+use Rattle.mp4_samples.specs.declared.sample.SampleRef.{SampleRef}
+use Rattle.mp4_samples.specs.Places.{Place}
+use Rattle.mp4_samples.specs.Plain.{plain_at}
 
 -- A sample: its bytes, its duration in ticks of its track, how many ticks later than it is decoded it is shown, and
 -- whether it is a sync sample. When it is decoded follows from the durations before it.
@@ -50,10 +46,6 @@ read_at file p = record {
 abbrev pub read_in : List ℕ → Option Place → Result (Option TimedSample) Cause
 read_in file None = Ok None
 read_in file (Some p) = if nat_lt (length file) (p.offset + p.size) then Err end_of_data else Ok (Some (read_at file p))
-
--- what is read at number k of a track of a file, to which fragments add these runs
-unfoldable pub sample_at : List ℕ → TrakBox → List TrafBox → List PlacedRun → ℕ → Result (Option TimedSample) Cause
-sample_at file trak trafs runs k = answer_at trak trafs runs k >>= read_in file
 
 -- what is read at number k where the tables written out lead
 unfoldable pub plain_sample_at : List ℕ → StblBox → ℕ → Result (Option TimedSample) Cause

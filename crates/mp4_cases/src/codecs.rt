@@ -1,7 +1,8 @@
 //! What the numbers and codes of codec types stand for.
 
 use crate::encoded::encoded;
-use mp4_media::*;
+use mp4_codec::{FourCC, Result};
+use mp4_entry::{AudioObjectType, AvcProfile, ChannelConfig, SampleFreqIndex, TrackType};
 use std::alloc::{AllocError, Global};
 use std::collections::BTreeMap;
 use std::fmt::{Debug, Write};

@@ -1,7 +1,7 @@
 //! Bytes that are changed or cut before they are asked.
 
 use crate::encoded::{Names, encoded};
-use mp4_media::Result;
+use mp4_codec::Result;
 use std::alloc::Global;
 
 /// A question, and what is done to the bytes before it is asked.

@@ -1,7 +1,7 @@
 //! What the fields of a payload answer, that are read one after the other and put again.
 
 use crate::encoded::digits;
-use mp4_media::{
+use mp4_codec::{
     Entry, Fields, Items, Put, Result, put_bytes, put_four_cc, put_i16, put_i32, put_list, put_u8,
     put_u16, put_u24, put_u32, put_u64, put_versioned, put_zeros,
 };

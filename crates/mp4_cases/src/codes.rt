@@ -1,6 +1,6 @@
 //! What a code of four bytes answers.
 
-use mp4_media::{BoxType, Error, FourCC, Result};
+use mp4_codec::{BoxType, Error, FourCC, Result};
 use std::alloc::Global;
 use std::str;
 

@@ -1,6 +1,6 @@
 -- Where a sample lies, and when it is decoded and shown.
 use Rattle.std.specs.Prelude.{ℕ, ℤ, Bool}
-use Rattle.mp4_lookup.specs.declared.sample.SamplePlace.{SamplePlace}
+use Rattle.mp4_samples.specs.declared.sample.SamplePlace.{SamplePlace}
 
 -- what the tables say of a sample: the place of its first byte in the file, its size, when it is decoded (when those
 -- before it have lasted, counted from the last decode time of a fragment, where there is one), how long it lasts, how many

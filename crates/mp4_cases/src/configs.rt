@@ -1,9 +1,10 @@
 //! What a configuration of a track answers.
 
 use crate::boxes::AnyBox;
-use crate::calls::media_of;
 use crate::defaults::answer_of_value;
-use mp4_media::*;
+use crate::media::media_of;
+use mp4_codec::{BoxType, Result, TryClone};
+use mp4_entry::{Avc1Box, Hev1Box, MediaConfig, Mp4aBox, StsdBox, Tx3gBox, Vp09Box};
 use std::alloc::Global;
 
 /// What a sample entry, or a sample description, answers that a call made.

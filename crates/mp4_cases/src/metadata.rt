@@ -1,7 +1,8 @@
 //! What metadata says.
 
 use crate::encoded::write_digits;
-use mp4_media::{IlstBox, Metadata, Result};
+use mp4_codec::Result;
+use mp4_meta::{IlstBox, Metadata};
 use std::alloc::Global;
 use std::borrow::CowStr;
 

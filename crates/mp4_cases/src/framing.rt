@@ -1,9 +1,8 @@
 //! What headers of boxes and the children of payloads answer.
 
 use crate::encoded::digits;
-use mp4_media::{
-    BoxHeader, ByteCursor, Child, Children, FourCC, MfhdBox, Result, all_children, mdat_header,
-};
+use mp4_codec::{BoxHeader, ByteCursor, Child, Children, FourCC, Result, all_children};
+use mp4_frag::MfhdBox;
 use std::alloc::Global;
 use std::fmt::Write;
 
@@ -33,14 +32,6 @@ pub fn answer_of_header(alloc: Global, bytes: &[u8], question: &str) -> Result<O
         _ => return Ok(None),
     };
     Ok(Some(answer?))
-}
-
-/// What the header of media data answers to a question, whose box has so many bytes; None where that is no question.
-pub fn answer_of_mdat(alloc: Global, size: &str, question: &str) -> Result<Option<String>> {
-    match (size.parse::<u64>(), question) {
-        (Ok(size), "written") => Ok(Some(digits(alloc, &mdat_header(size))?)),
-        _ => Ok(None),
-    }
 }
 
 /// Writes a child as its type and its payload.

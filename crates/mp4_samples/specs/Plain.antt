@@ -8,8 +8,8 @@ use Rattle.mp4_table.specs.Runs.{durations, rendering_offsets}
 use Rattle.mp4_table.specs.Chunks.{counts, places}
 use Rattle.mp4_table.specs.Starts.{start_of}
 use Rattle.mp4_boxes.specs.declared.stbl.StblBox.{StblBox}
-use Rattle.mp4_lookup.specs.Places.{Place}
-use Rattle.mp4_lookup.specs.Tables.{chunk_offsets, sizes, ctts_runs, sync_numbers, is_sync_at}
+use Rattle.mp4_samples.specs.Places.{Place}
+use Rattle.mp4_samples.specs.Tables.{chunk_offsets, sizes, ctts_runs, sync_numbers, is_sync_at}
 
 -- The tables describe the same samples, at least one. Chunks are numbered from 1, and each has at least one sample.
 pub record Consistent (t : StblBox) : Type 0 where

@@ -1,7 +1,8 @@
 //! What the language of a media header answers.
 
 use crate::encoded::digits;
-use mp4_media::{Error, MdhdBox, Result, Text, WriteBox, check_language};
+use mp4_codec::{Error, Result, Text, WriteBox};
+use mp4_leaf::{MdhdBox, check_language};
 use std::alloc::Global;
 use std::str;
 

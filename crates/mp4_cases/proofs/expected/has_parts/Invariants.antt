@@ -1,6 +1,6 @@
 use denote.Shadow.{shadow}
 use denote.Text.{Utf8}
-use Rattle.mp4_vectors.proofs.expected.has_parts.Given as goal
+use Rattle.mp4_cases.proofs.expected.has_parts.Given as goal
 
 abbrev pub invariant-loop-part : goal.invariant-loop-part
 invariant-loop-part l = shadow (Utf8 l.rest)

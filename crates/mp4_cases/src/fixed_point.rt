@@ -1,6 +1,6 @@
 //! What numbers in fixed point answer.
 
-use mp4_media::{FixedPointI8, FixedPointU8, FixedPointU16, Result};
+use mp4_codec::{FixedPointI8, FixedPointU8, FixedPointU16, Result};
 use std::alloc::Global;
 
 /// What an unsigned number of 8 and 8 bits answers to a question; None where that is no question.

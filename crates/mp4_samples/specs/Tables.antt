@@ -8,6 +8,11 @@ use Rattle.mp4_table.specs.declared.stsz.StszBox.{StszBox}
 use Rattle.mp4_table.specs.declared.stco.StcoBox.{StcoBox}
 use Rattle.mp4_table.specs.declared.co64.Co64Box.{Co64Box}
 use Rattle.mp4_boxes.specs.declared.stbl.StblBox.{StblBox}
+use Rattle.mp4_boxes.specs.declared.trak.TrakBox.{TrakBox}
+
+-- the sample table of a track
+abbrev pub tables_of : TrakBox → StblBox
+tables_of trak = trak.mdia.minf.stbl
 
 -- the offsets of stco where it is there, else of co64
 abbrev pub offsets_of : Option StcoBox → Option Co64Box → List ℕ

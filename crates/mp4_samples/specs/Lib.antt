@@ -1,0 +1,7 @@
+pub mod Tables
+pub mod Places
+pub mod Plain
+pub mod Samples
+pub mod Coding
+pub mod LastLaws
+pub mod ChunkLaws

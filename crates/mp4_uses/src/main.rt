@@ -1,0 +1,41 @@
+//! Programs on the library, each in a file of its own, and here run on one movie. docs/CALLING.md shows them.
+#![tactic(auto)]
+
+mod copy;
+mod count;
+mod round_trip;
+mod seek;
+mod subtitles;
+
+use crate::copy::copy_track;
+use crate::count::sample_counts;
+use crate::round_trip::{movie_calls, movie_config, write_and_open};
+use crate::seek::sync_sample_at_or_before;
+use crate::subtitles::subtitles;
+use anyhow::Result;
+use mp4_media::Mp4Reader;
+use std::alloc::Global;
+use std::fs;
+
+/// Prints what the programs answer of a movie whose first track is video and whose second track is text.
+fn show(rt: &HostRuntime, alloc: Global, movie: &Mp4Reader) -> Result<()> {
+    for (id, count) in sample_counts(alloc, movie)? {
+        println!(rt; "track {id} has {count} samples")?;
+    }
+    let copied = copy_track(movie, 1, &mut fs::create(rt, "track_1.bin")?)?;
+    println!(rt; "track 1 has {copied} bytes")?;
+    if let Some(sample) = sync_sample_at_or_before(movie, 1, 1500)? {
+        println!(rt; "at 1500 decode from {}", sample.start_time)?;
+    }
+    print!(rt; "{}", subtitles(alloc, movie, 2)?)?;
+    Ok(())
+}
+
+fn main(rt: HostRuntime) -> Result<()> {
+    let mut buffer = Vec::new(rt.alloc());
+    let config = movie_config(rt.alloc())?;
+    let calls = movie_calls(rt.alloc())?;
+    let written = write_and_open(rt.alloc(), &config, &calls, &mut buffer)?;
+    println!(rt; "{} calls were answered", written.replies.len())?;
+    show(&rt, rt.alloc(), &written.movie)
+}

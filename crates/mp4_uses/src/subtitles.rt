@@ -1,0 +1,34 @@
+//! The subtitles of a text track, with their times.
+
+use mp4_media::{Error, Mp4Reader, Result, time_of};
+use std::alloc::Global;
+use std::fmt::Write;
+use std::str;
+
+/// The text of a sample of a text track (3GPP TS 26.245, 5.17): its length in two bytes, and then as many bytes.
+fn text_of(sample: &[u8]) -> Result<&str> {
+    let [high, low, rest @ ..] = sample else {
+        return Err(Error::InvalidData("a length of two bytes"));
+    };
+    let length = usize::from(u16::from_be_bytes([*high, *low]));
+    let bytes = rest.get(..length).ok_or(Error::EndOfData)?;
+    str::from_utf8(bytes).map_err(|_| Error::InvalidData("a text in UTF-8"))
+}
+
+/// A line for each sample of a text track: from when to when it is shown, in milliseconds, and its text.
+pub fn subtitles(alloc: Global, movie: &Mp4Reader, track_id: u32) -> Result<String> {
+    let track = movie
+        .tracks()
+        .get(&track_id)
+        .ok_or(Error::TrakNotFound(track_id))?;
+    let mut lines = String::new(alloc);
+    for number in 1..=track.sample_count()? {
+        if let Some(sample) = movie.read_sample_ref(track_id, number)? {
+            let end = sample.start_time.saturating_add(u64::from(sample.duration));
+            let from = time_of(1000, sample.start_time, track.timescale())?;
+            let to = time_of(1000, end, track.timescale())?;
+            writeln!(lines, "{from} to {to} ms: {}", text_of(sample.bytes)?)?;
+        }
+    }
+    Ok(lines)
+}
