@@ -89,7 +89,7 @@ fn chunk_offset_at(stbl: &StblBox, chunk: u32) -> Option<u64>
 }
 
 /// The size of sample `k`.
-#[tactic(auto, unfolding(crate::specs::Tables::sizes))]
+#[tactic(auto, unfolding(mp4_samples::specs::Tables::sizes))]
 fn size_at(stsz: &StszBox, k: u32) -> Option<u32>
     requires { 1 ≤ k }
     ensures { result ≡ slice_get (sizes stsz.now k) (k - 1) }
@@ -102,7 +102,7 @@ fn size_at(stsz: &StszBox, k: u32) -> Option<u32>
 }
 
 /// The sum of the sizes of the samples from `first` up to `k`, and how many running sums were read.
-#[tactic(auto, unfolding(crate::specs::Tables::sizes))]
+#[tactic(auto, unfolding(mp4_samples::specs::Tables::sizes))]
 fn size_between(stsz: &StszBox, sums: &RunningSizes, first: u32, k: u32) -> (u128, u32)
     requires from { 1 ≤ first }
     requires to { first ≤ k }

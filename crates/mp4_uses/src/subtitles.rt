@@ -1,6 +1,6 @@
 //! The subtitles of a text track, with their times.
 
-use mp4_media::{Error, Mp4Reader, Result, time_of};
+use mp4_media::{Error, Mp4Reader, Result, SampleRef, time_of};
 use std::alloc::Global;
 use std::fmt::Write;
 use std::str;
@@ -15,7 +15,17 @@ fn text_of(sample: &[u8]) -> Result<&str> {
     str::from_utf8(bytes).map_err(|_| Error::InvalidData("a text in UTF-8"))
 }
 
-/// A line for each sample of a text track: from when to when it is shown, in milliseconds, and its text.
+/// Writes from when to when a sample is shown, in milliseconds, and its text.
+fn write_subtitle(lines: &mut String, sample: &SampleRef, timescale: u32) -> Result<()> {
+    let end = sample.start_time.saturating_add(u64::from(sample.duration));
+    let from = time_of(1000, sample.start_time, timescale)?;
+    let to = time_of(1000, end, timescale)?;
+    let text = text_of(sample.bytes)?;
+    writeln!(lines, "{from} to {to} ms: {text}")?;
+    Ok(())
+}
+
+/// The subtitles of a text track, a line each.
 pub fn subtitles(alloc: Global, movie: &Mp4Reader, track_id: u32) -> Result<String> {
     let track = movie
         .tracks()
@@ -24,10 +34,7 @@ pub fn subtitles(alloc: Global, movie: &Mp4Reader, track_id: u32) -> Result<Stri
     let mut lines = String::new(alloc);
     for number in 1..=track.sample_count()? {
         if let Some(sample) = movie.read_sample_ref(track_id, number)? {
-            let end = sample.start_time.saturating_add(u64::from(sample.duration));
-            let from = time_of(1000, sample.start_time, track.timescale())?;
-            let to = time_of(1000, end, track.timescale())?;
-            writeln!(lines, "{from} to {to} ms: {}", text_of(sample.bytes)?)?;
+            write_subtitle(&mut lines, &sample, track.timescale())?;
         }
     }
     Ok(lines)
