@@ -7,7 +7,6 @@ pub mod WriterFields
 pub mod Finished
 pub mod WriterCalls
 pub mod RoundTrip
-
 -- what callers cite of the crates below, by the name of this one: errors, places in bytes, the tables and samples of a
 -- track, where a lookup leads and what it costs, a writer and its calls
 pub use Rattle.mp4_codec.specs.Cause
