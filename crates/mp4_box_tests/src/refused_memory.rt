@@ -3,20 +3,23 @@
 //! must, and made again it is Ok. While a test prints that a request was refused, the next one is tried.
 
 use crate::asserts::{check, holds};
-use mp4_boxes::MoovBox;
+use mp4_boxes::{MdiaBox, MinfBox, MoovBox, StblBox, TrakBox};
 use mp4_codec::{
     BoxHeader, BoxType, Error, Fields, FourCC, Items, KeyedItems, Mp4Box, ReadBox, Result, Text,
     TryClone, WriteBox, all_children, all_size, last_child, optional_size, put_all, put_bytes,
     put_four_cc, put_i16, put_i32, put_list, put_optional, put_u8, put_u16, put_u24, put_u32,
     put_u64, put_versioned, put_zeros,
 };
-use mp4_entry::{HevcConfig, MediaConfig, StsdBox};
+use mp4_entry::{
+    Avc1Box, AvcCBox, Hev1Box, HevcConfig, HvcCBox, MediaConfig, StsdBox, Vp09Box, VpccBox,
+};
 use mp4_frag::{EmsgBox, MehdBox, MfhdBox, TfdtBox, TfhdBox, TrexBox, TrunBox};
 use mp4_leaf::{
-    DataBox, DinfBox, ElstBox, FtypBox, HdlrBox, MdhdBox, MvhdBox, SmhdBox, TkhdBox, VmhdBox,
+    DataBox, DinfBox, DrefBox, ElstBox, FtypBox, HdlrBox, MdhdBox, MvhdBox, SmhdBox, TkhdBox,
+    UrlBox, VmhdBox,
 };
-use mp4_meta::{IlstBox, Metadata};
-use mp4_moof::MoofBox;
+use mp4_meta::{IlstBox, MetaBox, Metadata};
+use mp4_moof::{MoofBox, MvexBox, TrafBox};
 use mp4_plain_movies::movie_bytes::{EMPTY_MOVIE, FRAGMENT, FULL_MOVIE};
 use mp4_plain_movies::sample_boxes::Number;
 use mp4_plain_movies::sides::Side;
@@ -129,10 +132,10 @@ fn a_refused_call_of_a_header_box_is_made_again(rt: HostRuntime) {
     check(&rt, 2, is_kept::<MvhdBox>(&rt, &movie[8..]));
 }
 
-/// A title of a byte that begins no character and an A, and a year.
-const TITLES: [u8; 63] = *b"\
-    \0\0\0?ilst\0\0\0\x1a\xa9nam\0\0\0\x12data\0\0\0\x01\0\0\0\0\xffA\0\0\0\x1d\xa9day\0\0\0\
-    \x15data\0\0\0\x01\0\0\0\0+2024";
+/// A title of a byte that begins no character and an A, a year, and a summary of such a byte and a B.
+const TITLES: [u8; 89] = *b"\
+    \0\0\0Yilst\0\0\0\x1a\xa9nam\0\0\0\x12data\0\0\0\x01\0\0\0\0\xffA\0\0\0\x1d\xa9day\0\0\0\
+    \x15data\0\0\0\x01\0\0\0\0+2024\0\0\0\x1adesc\0\0\0\x12data\0\0\0\x01\0\0\0\0\xffB";
 
 #[test]
 fn a_refused_call_of_a_movie_with_tracks_is_made_again(rt: HostRuntime) {
@@ -157,9 +160,23 @@ fn is_titled(rt: &HostRuntime) -> Result<bool> {
     Ok(title.as_str() == "\u{fffd}A")
 }
 
+/// Whether a summary is read, the call made again after a refusal.
+fn is_summed_up(rt: &HostRuntime) -> Result<bool> {
+    let list: IlstBox = read_again(rt, &TITLES)?;
+    let answer = match list.summary() {
+        Err(error) if is_refusal(rt, &error) => list.summary(),
+        answer => answer,
+    };
+    let Some(summary) = answer? else {
+        return Ok(false);
+    };
+    Ok(summary.as_str() == "\u{fffd}B")
+}
+
 #[test]
 fn a_refused_call_of_a_title_is_made_again(rt: HostRuntime) {
     check(&rt, 1, is_titled(&rt));
+    check(&rt, 2, is_summed_up(&rt));
 }
 
 /// Whether a box is copied, written and read as it is, each call made again after a refusal.
@@ -291,7 +308,7 @@ fn a_refused_description_of_a_configuration_is_made_again(rt: HostRuntime) {
     check(&rt, 1, is_description(&rt, &config, &HEV1_DESCRIPTION));
 }
 
-/// Whether the default of a media header is the spelled one.
+/// Whether the default of a media header is the encoded one.
 fn is_default(rt: &HostRuntime) -> Result<bool> {
     let default = match MdhdBox::default(rt.alloc()) {
         Err(error) if is_refusal(rt, &error) => MdhdBox::default(rt.alloc())?,
@@ -303,6 +320,233 @@ fn is_default(rt: &HostRuntime) -> Result<bool> {
 #[test]
 fn a_refused_default_is_made_again(rt: HostRuntime) {
     check(&rt, 1, is_default(&rt));
+}
+
+/// Whether two calls answer the same, of which at most one has a request refused; that one has to say so.
+fn are_alike<B: PartialEq + Drop>(rt: &HostRuntime, one: Result<B>, other: Result<B>) -> bool {
+    match (one, other) {
+        (Ok(one), Ok(other)) => one == other,
+        (Err(error), Ok(_)) | (Ok(_), Err(error)) => is_refusal(rt, &error),
+        (Err(_), Err(_)) => false,
+    }
+}
+
+#[test]
+fn a_refused_default_of_leaves_is_made_again(rt: HostRuntime) {
+    let alike = are_alike(
+        &rt,
+        DataBox::default(rt.alloc()),
+        DataBox::default(rt.alloc()),
+    );
+    holds(&rt, "DataBox", alike);
+    let alike = are_alike(
+        &rt,
+        DinfBox::default(rt.alloc()),
+        DinfBox::default(rt.alloc()),
+    );
+    holds(&rt, "DinfBox", alike);
+    let alike = are_alike(
+        &rt,
+        DrefBox::default(rt.alloc()),
+        DrefBox::default(rt.alloc()),
+    );
+    holds(&rt, "DrefBox", alike);
+    let alike = are_alike(
+        &rt,
+        ElstBox::default(rt.alloc()),
+        ElstBox::default(rt.alloc()),
+    );
+    holds(&rt, "ElstBox", alike);
+    let alike = are_alike(
+        &rt,
+        FtypBox::default(rt.alloc()),
+        FtypBox::default(rt.alloc()),
+    );
+    holds(&rt, "FtypBox", alike);
+    let alike = are_alike(
+        &rt,
+        HdlrBox::default(rt.alloc()),
+        HdlrBox::default(rt.alloc()),
+    );
+    holds(&rt, "HdlrBox", alike);
+    let alike = are_alike(
+        &rt,
+        MdhdBox::default(rt.alloc()),
+        MdhdBox::default(rt.alloc()),
+    );
+    holds(&rt, "MdhdBox", alike);
+    let alike = are_alike(
+        &rt,
+        UrlBox::default(rt.alloc()),
+        UrlBox::default(rt.alloc()),
+    );
+    holds(&rt, "UrlBox", alike);
+}
+
+#[test]
+fn a_refused_default_of_tables_is_made_again(rt: HostRuntime) {
+    let alike = are_alike(
+        &rt,
+        Co64Box::default(rt.alloc()),
+        Co64Box::default(rt.alloc()),
+    );
+    holds(&rt, "Co64Box", alike);
+    let alike = are_alike(
+        &rt,
+        CttsBox::default(rt.alloc()),
+        CttsBox::default(rt.alloc()),
+    );
+    holds(&rt, "CttsBox", alike);
+    let alike = are_alike(
+        &rt,
+        StcoBox::default(rt.alloc()),
+        StcoBox::default(rt.alloc()),
+    );
+    holds(&rt, "StcoBox", alike);
+    let alike = are_alike(
+        &rt,
+        StscBox::default(rt.alloc()),
+        StscBox::default(rt.alloc()),
+    );
+    holds(&rt, "StscBox", alike);
+    let alike = are_alike(
+        &rt,
+        StssBox::default(rt.alloc()),
+        StssBox::default(rt.alloc()),
+    );
+    holds(&rt, "StssBox", alike);
+    let alike = are_alike(
+        &rt,
+        StszBox::default(rt.alloc()),
+        StszBox::default(rt.alloc()),
+    );
+    holds(&rt, "StszBox", alike);
+    let alike = are_alike(
+        &rt,
+        SttsBox::default(rt.alloc()),
+        SttsBox::default(rt.alloc()),
+    );
+    holds(&rt, "SttsBox", alike);
+}
+
+#[test]
+fn a_refused_default_of_entries_is_made_again(rt: HostRuntime) {
+    let alike = are_alike(
+        &rt,
+        Avc1Box::default(rt.alloc()),
+        Avc1Box::default(rt.alloc()),
+    );
+    holds(&rt, "Avc1Box", alike);
+    let alike = are_alike(
+        &rt,
+        AvcCBox::default(rt.alloc()),
+        AvcCBox::default(rt.alloc()),
+    );
+    holds(&rt, "AvcCBox", alike);
+    let alike = are_alike(
+        &rt,
+        Hev1Box::default(rt.alloc()),
+        Hev1Box::default(rt.alloc()),
+    );
+    holds(&rt, "Hev1Box", alike);
+    let alike = are_alike(
+        &rt,
+        HvcCBox::default(rt.alloc()),
+        HvcCBox::default(rt.alloc()),
+    );
+    holds(&rt, "HvcCBox", alike);
+    let alike = are_alike(
+        &rt,
+        Vp09Box::default(rt.alloc()),
+        Vp09Box::default(rt.alloc()),
+    );
+    holds(&rt, "Vp09Box", alike);
+    let alike = are_alike(
+        &rt,
+        VpccBox::default(rt.alloc()),
+        VpccBox::default(rt.alloc()),
+    );
+    holds(&rt, "VpccBox", alike);
+}
+
+#[test]
+fn a_refused_default_of_fragments_is_made_again(rt: HostRuntime) {
+    let alike = are_alike(
+        &rt,
+        EmsgBox::default(rt.alloc()),
+        EmsgBox::default(rt.alloc()),
+    );
+    holds(&rt, "EmsgBox", alike);
+    let alike = are_alike(
+        &rt,
+        IlstBox::default(rt.alloc()),
+        IlstBox::default(rt.alloc()),
+    );
+    holds(&rt, "IlstBox", alike);
+    let alike = are_alike(
+        &rt,
+        MetaBox::default(rt.alloc()),
+        MetaBox::default(rt.alloc()),
+    );
+    holds(&rt, "MetaBox", alike);
+    let alike = are_alike(
+        &rt,
+        MoofBox::default(rt.alloc()),
+        MoofBox::default(rt.alloc()),
+    );
+    holds(&rt, "MoofBox", alike);
+    let alike = are_alike(
+        &rt,
+        MvexBox::default(rt.alloc()),
+        MvexBox::default(rt.alloc()),
+    );
+    holds(&rt, "MvexBox", alike);
+    let alike = are_alike(
+        &rt,
+        TrafBox::default(rt.alloc()),
+        TrafBox::default(rt.alloc()),
+    );
+    holds(&rt, "TrafBox", alike);
+    let alike = are_alike(
+        &rt,
+        TrunBox::default(rt.alloc()),
+        TrunBox::default(rt.alloc()),
+    );
+    holds(&rt, "TrunBox", alike);
+}
+
+#[test]
+fn a_refused_default_of_containers_is_made_again(rt: HostRuntime) {
+    let alike = are_alike(
+        &rt,
+        MdiaBox::default(rt.alloc()),
+        MdiaBox::default(rt.alloc()),
+    );
+    holds(&rt, "MdiaBox", alike);
+    let alike = are_alike(
+        &rt,
+        MinfBox::default(rt.alloc()),
+        MinfBox::default(rt.alloc()),
+    );
+    holds(&rt, "MinfBox", alike);
+    let alike = are_alike(
+        &rt,
+        MoovBox::default(rt.alloc()),
+        MoovBox::default(rt.alloc()),
+    );
+    holds(&rt, "MoovBox", alike);
+    let alike = are_alike(
+        &rt,
+        StblBox::default(rt.alloc()),
+        StblBox::default(rt.alloc()),
+    );
+    holds(&rt, "StblBox", alike);
+    let alike = are_alike(
+        &rt,
+        TrakBox::default(rt.alloc()),
+        TrakBox::default(rt.alloc()),
+    );
+    holds(&rt, "TrakBox", alike);
 }
 
 /// Whether a refused header leaves the buffer, and made again it is written.

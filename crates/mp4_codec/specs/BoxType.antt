@@ -92,6 +92,6 @@ among (t ∷ ts) code = if code == code_of t then t else among ts code
 unfoldable pub box_type : ℕ → BoxType
 box_type code = among named code
 
--- a type that has a name is not spelled as an unknown one
+-- a type that has a name is not encoded as an unknown one
 abbrev pub IsNamed : BoxType → Type 0
 IsNamed t = box_type (code_of t) ≡ t

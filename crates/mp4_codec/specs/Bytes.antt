@@ -89,7 +89,7 @@ value_refusal version x = if version == 1 then None else if nat_lt (2 ^ 32 - 1) 
 abbrev pub coded : ℕ → FourCC
 coded n = record { value = to_be_bytes w32 n }
 
--- the code that a text spells
+-- the code that a text encodes
 abbrev pub four_cc_of : List ℕ → Result FourCC Cause
 four_cc_of text = if length text == 4 then Ok (record { value = text }) else Err invalid_data
 

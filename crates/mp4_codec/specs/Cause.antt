@@ -71,7 +71,7 @@ AnswersCause None (Err e) = e ≡ OutOfMemory
 AnswersCause (Some c) (Ok x) = ⊥
 AnswersCause (Some c) (Err e) = c ≡ cause_of e
 
--- Where a cause holds, the call answers just that, and want of memory does not stand in its place.
+-- Where a cause holds, the call answers just that, and never that memory ran out.
 abbrev pub Refuses : {X : Type 0} → Option Cause → Result X Error → Type 0
 Refuses None result = Unit {0}
 Refuses (Some c) (Ok x) = ⊥

@@ -28,7 +28,7 @@ pub data IsFrame (name : BoxType) (payload bytes : List ℕ) : Type 0 where
   short : IsSpellable name → 8 + length payload < 2 ^ 32 → bytes ≡ frame name payload → IsFrame name payload bytes
   long : IsSpellable name → 16 + length payload < 2 ^ 64 → bytes ≡ long_frame name payload → IsFrame name payload bytes
 
--- Read at this place, the header says the type and eight more than the payload's length, whatever the spelling;
+-- Read at this place, the header says the type and eight more than the payload's length, whatever the encoding;
 -- the payload stands behind the header, and the place behind the payload is behind the whole box.
 pub record ReadsAsBox (name : BoxType) (payload box : List ℕ) (bytes : List ℕ) (place : ℕ) : Type 0 where
   pub header : ℕ

@@ -69,7 +69,7 @@ pub enum BoxType {
     VpccBox,
     NameBox,
     DayBox,
-    /// A code that has no name above. What is read is never a named type spelled so.
+    /// A code that has no name above. What is read is never a named type encoded so.
     UnknownBox(u32),
 }
 

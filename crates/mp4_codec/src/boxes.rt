@@ -94,7 +94,7 @@ pub trait WriteBox: Mp4Box + ReadBox + InRange {
     /// Adds the box at the end of a buffer, and answers its length in bytes, which is that of `box_size`.
     ///
     /// `TooLarge(BoxSize)` where that passes 2^32 - 1, then the first refusal of a leaf in written order, both before
-    /// memory is requested. A refused call leaves the buffer as before, for want of memory too.
+    /// memory is requested. A refused call leaves the buffer as before, also when memory ran out.
     fn write_box(&self, writer: &mut Vec<u8>) -> Result<u64>
         ensures cause { AnswersCause (write_cause (Self.payload self.now) (refusal self.now)) result }
         ensures bytes { Writes writer.old.items writer.new.items result (frame Self.KIND (Self.payload self.now)) }

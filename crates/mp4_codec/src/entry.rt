@@ -19,7 +19,7 @@ pub trait Entry: Copy {
 
     ghost spelled: { ℕ → Self → List ℕ };
 
-    /// The values that a version spells apart from one another.
+    /// The values that a version encodes apart from one another.
     ghost Fits: { ℕ → Self → Type 0 };
 
     ghost bytes_each: { ℕ → ℕ };

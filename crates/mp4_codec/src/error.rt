@@ -90,7 +90,7 @@ pub enum Error {
     /// Something passes its limit.
     #[error("too large: {}", .0.words())]
     TooLarge(Limit),
-    /// A value has no spelling in its field.
+    /// A value has no encoding in its field.
     #[error("unrepresentable")]
     Unrepresentable(&'static str),
 }

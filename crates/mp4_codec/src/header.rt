@@ -28,7 +28,7 @@ pub const OPEN_END: u64 = 0;
 const LARGE: u32 = 1;
 
 /// The header of a box: its type, and a size in bytes that is 8 more than the length of the payload,
-/// whichever way the header is spelled; or 0 where the box goes on to the end of the file.
+/// whichever way the header is encoded; or 0 where the box goes on to the end of the file.
 #[derive(Clone, Copy, Debug, PartialEq, Eq)]
 pub struct BoxHeader {
     pub name: BoxType,
@@ -129,7 +129,7 @@ impl BoxHeader {
     /// Adds the 8 bytes of the header at the end of a buffer, and answers their number.
     ///
     /// `InvalidData` for a size of 1 to 7, `TooLarge(BoxSize)` for one past 2^32 - 1, both before memory is requested. A
-    /// refused call leaves the buffer as before, for want of memory too.
+    /// refused call leaves the buffer as before, also when memory ran out.
     pub fn write(&self, writer: &mut Vec<u8>) -> Result<u64>
         ensures cause { AnswersCause (header_cause self.now.size) result }
         ensures bytes { Writes writer.old.items writer.new.items result (header_spelling self.now) }

@@ -14,7 +14,7 @@ ghost use Rattle.mp4_codec.specs.KeyedItems.{no_items, held_at, with_item};
 use crate::boxes::WriteBox;
 use crate::keyed_items::Key;
 
-/// A box is read where it stands, whatever stands before it and behind it, in either spelling of
+/// A box is read where it stands, whatever stands before it and behind it, in either encoding of
 /// its size: its header says its type and eight more than the length of its payload, its payload
 /// stands behind its header, and the next byte is the first behind the box.
 pub fn frame_has_its_head()

@@ -1,6 +1,6 @@
 //! Fields at the end of a buffer.
 //!
-//! After a refusal, for want of memory, a buffer may hold a part of the field.
+//! After a refusal, which says that memory ran out, a buffer may hold a part of the field.
 
 ghost use Rattle.std.specs.Prelude.{◌≡◌, ◌<◌, OnOk};
 ghost use Rattle.mp4_codec.specs.Bytes.{Appends, number, zeros, int16, int32, versioned, four_cc};

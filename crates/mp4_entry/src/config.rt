@@ -26,7 +26,7 @@ pub enum MediaConfig {
     TtxtConfig(TtxtConfig),
 }
 
-/// Whether the parameter sets of AVC video have a spelling.
+/// Whether the parameter sets of AVC video have an encoding.
 fn check_avc(config: &AvcConfig) -> Result<()>
     ensures { Checks result (avc_refusal config.now) }
 {

@@ -53,7 +53,7 @@ optional_last read write Fits back flag flags field agrees fits =
 pub number_back : (n : ℕ) → ReadsBack (number_at n) (number n) (λ x. x < 256 ^ n)
 number_back n = record { again = number_again n }
 
--- its length, which hangs on its flag
+-- its length, which depends on its flag
 pub optional-has_length : {A : Type 0} (read : Reader A) (n flag flags : ℕ) → HasLength read n
     → HasLength (optional_at read flag flags) (cond (is_set flags flag) n 0)
 unfolding optional_at

@@ -139,7 +139,7 @@ fn add_trafs(
 }
 
 /// The index of a track's runs: those of its fragments, which have these bases. Its samples before the fragments end at
-/// `end`, in ticks of its timescale. No member is written out, and only want of memory refuses.
+/// `end`, in ticks of its timescale. No member is written out. Refused only where memory runs out.
 #[tactic(auto, unfolding(crate::specs::Fragments::placed_runs))]
 pub fn index_of(
     alloc: Global,

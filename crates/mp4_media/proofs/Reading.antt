@@ -28,7 +28,7 @@ use Rattle.mp4_lookup.specs.TrackLaws.{sample_is_plain}
 use Rattle.mp4_media.specs.MovieTracks.{at_id}
 use Rattle.mp4_media.specs.Reading.{track_or, needed_track, sample_in}
 
--- an answer that is no refusal for want of memory
+-- an answer that does not say that memory ran out
 abbrev WantsNone : {A : Type 0} → Result A Cause → Type 0
 WantsNone (Ok x) = Unit {0}
 WantsNone (Err c) = c ≡ out_of_memory → ⊥
@@ -144,7 +144,7 @@ module _ {S : Type 0} (file : List ℕ) (tracks : HashMap ℕ Mp4Track S) (id k 
       (λ t. next (answer_at t.trak t.trafs (track_runs t) k) (read_in file) (answer-none t.trak t.trafs (track_runs t) k)
       (read-none file))
 
-  -- no sample is refused for want of memory
+  -- of no sample it is said that memory ran out
   pub sample_wants_none : (c : Cause) → sample_in file tracks id k ≡ Err c → c ≡ out_of_memory → ⊥
   sample_wants_none c e = subst WantsNone e sample-none
 

@@ -85,7 +85,7 @@ abbrev pub IsInRangeMeta : MetaBox → Type 0
 IsInRangeMeta (Mdir list) = IfSome list IsInRangeIlst
 IsInRangeMeta (Unknown handler cs) = IsInRangeHdlr handler × AllByRecursion HasCode cs
 
--- a child that is not the handler, and whose type is no named type spelled as an unknown one
+-- a child that is not the handler, and whose type is no named type encoded as an unknown one
 abbrev pub IsOther : ChildBox → Type 0
 IsOther c = (is_of hdlr c ≡ false) × IsNamed c.0
 

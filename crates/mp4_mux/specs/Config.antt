@@ -26,7 +26,7 @@ track_config_of media =
       media_conf = media;
     }
 
--- why no track is added with a configuration: it has no ticks, or its language or its media have no spelling
+-- why no track is added with a configuration: it has no ticks, or its language or its media have no encoding
 unfoldable pub config_cause : TrackConfig → Option Cause
 config_cause c =
     if c.timescale == 0 then Some zero_timescale else (language_refusal c.language or media_refusal c.media_conf)

@@ -2,7 +2,7 @@
 
 use std::alloc::{AllocError, Global};
 
-/// How many bytes a text spells.
+/// How many bytes a text encodes.
 fn spelled_bytes(text: &str) -> usize {
     text.as_bytes()
         .iter()

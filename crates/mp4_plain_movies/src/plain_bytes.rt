@@ -1,4 +1,4 @@
-//! Numbers, boxes and tables spelled byte by byte, without the library's boxes.
+//! Numbers, boxes and tables encoded byte by byte, without the library's boxes.
 
 use std::alloc::AllocError;
 

@@ -1,4 +1,4 @@
-//! Sample entries and headers of media, spelled byte by byte.
+//! Sample entries and headers of media, encoded byte by byte.
 
 use crate::calls::{Media, Picture, Sound};
 use crate::plain_bytes::{begin_box, end_box, put, put_short_pair, put_zeros};

@@ -29,7 +29,7 @@ fn is_language(language: &str) -> bool {
     all && language.len() == 3
 }
 
-/// Whether an entry of media can be spelled.
+/// Whether an entry of media can be encoded.
 fn has_entry(media: &Media) -> bool {
     match media {
         Media::Avc(_, sequence, picture_set) => {

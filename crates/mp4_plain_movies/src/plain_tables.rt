@@ -1,13 +1,22 @@
-//! The tables of a track that a test writes down, and the boxes around them, spelled byte by byte.
+//! The tables of a track that a test writes down, and the boxes around them, encoded byte by byte.
 
 use crate::movie_bytes::EMPTY_MOVIE;
 use crate::nested::{DINF, HDLR, MDHD, STSD, TKHD};
 use crate::plain_bytes::{
-    begin_box, end_box, put, put_chunks, put_durations, put_offsets, put_rendering_offsets,
-    put_sizes, put_sync_samples,
+    begin_box, end_box, put, put_chunks, put_durations, put_near_offsets, put_offsets,
+    put_rendering_offsets, put_sizes, put_sync_samples,
 };
 use crate::spelled::hex;
 use std::alloc::{AllocError, Global};
+
+/// Where each chunk begins.
+#[derive(Clone, Copy)]
+pub enum Offsets<'a> {
+    /// In 32 bits, by stco.
+    Near(&'a [u32]),
+    /// In 64 bits, by co64.
+    Far(&'a [u64]),
+}
 
 /// The tables of a track.
 #[derive(Clone, Copy)]
@@ -26,8 +35,8 @@ pub struct Tables<'a> {
     pub count: u32,
     /// The sizes that are listed.
     pub sizes: &'a [u32],
-    /// Where each chunk begins, in 64 bits.
-    pub offsets: &'a [u64],
+    /// Where each chunk begins.
+    pub offsets: Offsets<'a>,
 }
 
 /// Three samples of one byte each, in one chunk at 100.
@@ -39,7 +48,7 @@ pub const THREE: Tables<'static> = Tables {
     size: 1,
     count: 3,
     sizes: &[],
-    offsets: &[100],
+    offsets: Offsets::Far(&[100]),
 };
 
 /// The tables of three text samples in two chunks.
@@ -51,7 +60,7 @@ pub const TEXT: Tables<'static> = Tables {
     size: 0,
     count: 3,
     sizes: &[3, 3, 2],
-    offsets: &[48, 54],
+    offsets: Offsets::Far(&[48, 54]),
 };
 
 /// The tables as the children of a stbl.
@@ -66,7 +75,10 @@ fn written_tables(alloc: Global, tables: &Tables) -> Result<Vec<u8>, AllocError>
     }
     put_chunks(&mut bytes, tables.chunks)?;
     put_sizes(&mut bytes, tables.size, tables.count, tables.sizes)?;
-    put_offsets(&mut bytes, tables.offsets)?;
+    match tables.offsets {
+        Offsets::Near(offsets) => put_near_offsets(&mut bytes, offsets)?,
+        Offsets::Far(offsets) => put_offsets(&mut bytes, offsets)?,
+    }
     Ok(bytes)
 }
 

@@ -1,4 +1,4 @@
-//! A track as a plain list of samples, and its box spelled byte by byte.
+//! A track as a plain list of samples, and its box encoded byte by byte.
 
 use crate::calls::{Sample, Track};
 use crate::plain_bytes::{

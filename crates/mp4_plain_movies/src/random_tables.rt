@@ -1,6 +1,6 @@
 //! Random tables of tracks, from fixed seeds.
 
-use crate::plain_tables::{Tables, written_track};
+use crate::plain_tables::{Offsets, Tables, written_track};
 use crate::random::Random;
 use std::alloc::{AllocError, Global};
 
@@ -51,7 +51,7 @@ impl RandomTables {
                 count
             },
             sizes: self.sizes.as_slice(),
-            offsets: self.offsets.as_slice(),
+            offsets: Offsets::Far(self.offsets.as_slice()),
         }
     }
 }

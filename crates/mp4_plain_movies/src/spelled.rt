@@ -5,7 +5,7 @@ use std::alloc::{AllocError, Global};
 use std::fmt::Display;
 
 /// Whether a statement holds and a call answers `Ok(true)`. Both are made, so no way through a test ends early, which
-/// would be far dearer to prove.
+/// would be far slower to prove.
 pub fn also(statement: bool, answer: Result<bool>) -> Result<bool> {
     if statement { answer } else { Ok(false) }
 }
@@ -20,7 +20,7 @@ pub fn prints(alloc: Global, value: &impl Display, text: &str) -> Result<bool> {
     Ok(format!(in alloc; "{value}")?.as_str() == text)
 }
 
-/// The bytes that a text spells, two digits each; spaces are skipped.
+/// The bytes that a text encodes, two digits each; spaces are skipped.
 pub fn hex(alloc: Global, text: &str) -> std::result::Result<Vec<u8>, AllocError> {
     let mut bytes = Vec::new(alloc);
     let mut byte = 0u8;
@@ -54,7 +54,7 @@ pub fn written<B: WriteBox>(alloc: Global, value: &B) -> Result<Vec<u8>> {
     Ok(bytes)
 }
 
-/// Whether a box is written as the bytes that a text spells, as many as its size.
+/// Whether a box is written as the bytes that a text encodes, as many as its size.
 pub fn writes<B: WriteBox>(alloc: Global, value: &B, text: &str) -> Result<bool> {
     let bytes = hex(alloc, text)?;
     Ok(written(alloc, value)? == bytes && value.box_size() == bytes.len() as u64)
@@ -79,7 +79,7 @@ pub fn is_past_its_field<B: WriteBox>(alloc: Global, value: &B) -> Result<bool> 
     Ok(refusal(alloc, value)? == Some(Error::TooLarge(Limit::Value)))
 }
 
-/// Whether a box is refused since a value can't be spelled.
+/// Whether a box is refused since a value can't be encoded.
 pub fn is_unrepresentable<B: WriteBox>(alloc: Global, value: &B) -> Result<bool> {
     Ok(matches!(refusal(alloc, value)?, Some(Error::Unrepresentable(_))))
 }

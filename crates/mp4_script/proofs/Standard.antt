@@ -16,7 +16,7 @@ use Rattle.mp4_script.specs.Script.{ended_movie, movie_made_by, RanOutIn, RanOut
 begins : start_cause standard_config ≡ None
 begins = start_cause-few standard_config (omega arith)
 
--- where there is no cause, a refusal is for want of memory
+-- where there is no cause, a refusal says that memory ran out
 of_memory : (X : Type 0) (cause : Option Cause) (e : Error)
     → cause ≡ None → AnswersCause {X = X} cause (Err e) → e ≡ OutOfMemory
 of_memory X cause e none answers = subst (λ why. AnswersCause {X = X} why (Err e)) none answers

@@ -108,7 +108,7 @@ pub(crate) fn write_info(alloc: Global, text: &mut String, movie: &Mp4Reader) ->
 /// sample entry, its timescale, its duration in microseconds, how many samples it has, and its language. What can't be
 /// computed is shown as `-`.
 ///
-/// Refused as the movie's opening is, and for want of memory.
+/// Refused as the movie's opening is, and where memory runs out.
 pub fn info_text(alloc: Global, file: &[u8]) -> Result<Vec<u8>> {
     let movie = read_mp4(alloc, file)?;
     let mut text = String::new(alloc);

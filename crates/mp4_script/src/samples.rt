@@ -60,7 +60,7 @@ pub(crate) fn write_samples(text: &mut String, movie: &Mp4Reader, id: u32) -> Re
 /// how much later it is shown, in ticks of the track, and 1 for a sync sample or 0. A number without a sample is `none`,
 /// and one that can't be read says why; either ends the lines.
 ///
-/// Refused as the movie's opening and the count of samples are, and for want of memory.
+/// Refused as the movie's opening and the count of samples are, and where memory runs out.
 pub fn samples_text(alloc: Global, file: &[u8], track_id: u32) -> Result<Vec<u8>> {
     let movie = read_mp4(alloc, file)?;
     let mut text = String::new(alloc);

@@ -124,8 +124,8 @@ fn run_lines(alloc: Global, writer: &mut Mp4Writer, script: &[u8]) -> Result<(),
 /// 32 bits; an offset may have a minus. The movie is of brand isom, version 512, compatible with isom, iso2, avc1 and mp41,
 /// and has 1000 ticks in a second.
 ///
-/// The first line at fault is the answer: `NotACommand` where it is no command, `Refused` where its call is refused, for
-/// want of memory too; `End` where the movie isn't begun or isn't ended.
+/// The first line at fault is the answer: `NotACommand` where it is no command, `Refused` where its call is refused,
+/// also when memory ran out; `End` where the movie isn't begun or isn't ended.
 pub fn run_script(alloc: Global, script: &[u8]) -> Result<Vec<u8>, ScriptFault>
     ensures answer { AnswersScript (RanOut script.now) (λ bytes. bytes.items) result (movie_made_by script.now) }
     ensures opens { IfOk result (λ bytes. OpensAsScripted script.now bytes.items) }

@@ -6,7 +6,7 @@ use std::process::Abort;
 
 /// Ends the test and prints which case it is, unless the answer is `Ok(true)`. A case has a name of its own in
 /// its test: a text, or its number. The tests assert by these functions, since an assertion in the test itself is
-/// far dearer to prove.
+/// far slower to prove.
 pub fn check(rt: &impl Abort, case: impl Display + Drop, answer: Result<bool>) {
     assert!(rt; matches!(answer, Ok(true)), "case {case}");
 }

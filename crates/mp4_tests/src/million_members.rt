@@ -7,7 +7,7 @@ use mp4_lookup::Mp4Track;
 use mp4_media::{Mp4Reader, read_mp4};
 use mp4_plain_movies::movie_bytes::EMPTY_MOVIE;
 use mp4_plain_movies::plain_bytes::{begin_box, end_box, put, put_over, put_pair};
-use mp4_plain_movies::plain_tables::{Tables, put_movie};
+use mp4_plain_movies::plain_tables::{Offsets, Tables, put_movie};
 use mp4_samples::{Comparisons, SamplePlace, SampleRef};
 use std::alloc::{AllocError, Global};
 
@@ -22,7 +22,7 @@ const NO_SAMPLES: Tables<'static> = Tables {
     size: 0,
     count: 0,
     sizes: &[],
-    offsets: &[],
+    offsets: Offsets::Far(&[]),
 };
 
 /// Puts what the run says of sample `k`: durations of 1 and 2 ticks, and sizes of one and no byte take turns.

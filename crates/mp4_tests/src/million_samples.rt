@@ -5,7 +5,7 @@ use crate::asserts::check;
 use mp4_media::{Mp4Reader, read_mp4};
 use mp4_plain_movies::movie_bytes::EMPTY_MOVIE;
 use mp4_plain_movies::plain_bytes::{begin_box, end_box};
-use mp4_plain_movies::plain_tables::{Tables, put_movie};
+use mp4_plain_movies::plain_tables::{Offsets, Tables, put_movie};
 use mp4_samples::{Comparisons, SamplePlace, SampleRef};
 use std::alloc::{AllocError, Global};
 
@@ -59,11 +59,11 @@ fn chunks(alloc: Global) -> Result<Vec<(u32, u32)>, AllocError> {
     Ok(entries)
 }
 
-/// The chunks follow each other, the first behind the header of the media data.
-fn offsets(alloc: Global) -> Result<Vec<u64>, AllocError> {
+/// The chunks follow each other from the file's first byte on, whatever box it is of.
+fn offsets(alloc: Global) -> Result<Vec<u32>, AllocError> {
     let mut offsets = Vec::new(alloc);
-    offsets.push(40)?;
-    for offset in 500_040..1_000_040 {
+    offsets.push(0)?;
+    for offset in 500_000..1_000_000 {
         offsets.push(offset)?;
     }
     Ok(offsets)
@@ -80,7 +80,7 @@ fn are_few(comparisons: &Comparisons) -> bool {
 
 /// Whether a place is that of sample `k`, which begins at this time.
 fn is_place_of(place: &SamplePlace, k: u32, start_time: u64) -> bool {
-    place.offset == u64::from(k).wrapping_add(39)
+    place.offset == u64::from(k).wrapping_sub(1)
         && place.size == 1
         && place.start_time == start_time
         && place.duration == 2 - k % 2
@@ -101,42 +101,38 @@ fn is_found(reader: &Mp4Reader, k: u32, start_time: u64) -> bool {
     }
 }
 
-/// The byte that sample `k` is made of.
-fn byte_of(k: u32) -> u8 {
-    (k % 251) as u8
-}
-
-/// Whether sample `k` is read, which begins at this time.
-fn is_read(reader: &mut Mp4Reader, k: u32, start_time: u64) -> bool {
+/// Whether sample `k` is read, which begins at this time: the file's byte at its place.
+fn is_read(bytes: &[u8], reader: &mut Mp4Reader, k: u32, start_time: u64) -> bool {
+    let place = k.wrapping_sub(1) as usize;
     let sample = SampleRef {
         start_time,
         duration: 2 - k % 2,
         rendering_offset: if k % 2 == 0 { 8 } else { 7 },
         is_sync: true,
-        bytes: &[byte_of(k)],
+        bytes: bytes.get(place..k as usize).unwrap_or(&[]),
     };
     reads(reader, 1, k, &Ok(Some(sample)))
 }
 
-/// Whether each sample is found and read, the last at 1499998, and none behind it.
-fn each_is_read(reader: &mut Mp4Reader) -> bool {
+/// Whether each sample is found and read, the last at 1499998, and none after it.
+fn each_is_read(bytes: &[u8], reader: &mut Mp4Reader) -> bool {
     let mut start_time = 0u64;
     let mut all = true;
     for k in 1..=SAMPLES {
-        all = all && is_found(reader, k, start_time) && is_read(reader, k, start_time);
+        all = all && is_found(reader, k, start_time) && is_read(bytes, reader, k, start_time);
         start_time = start_time.wrapping_add(u64::from(2 - k % 2));
     }
     all && start_time == 1_500_000
-        && is_read(reader, SAMPLES, 1_499_998)
+        && is_read(bytes, reader, SAMPLES, 1_499_998)
         && reads(reader, 1, SAMPLES + 1, &Ok(None))
 }
 
-/// File type and media data: a byte for each sample.
+/// File type and media data: with these a byte for each sample, and more.
 fn media_data(alloc: Global) -> Result<Vec<u8>, AllocError> {
     let mut bytes = (&EMPTY_MOVIE[..32]).to_vec(alloc)?;
     let start = begin_box(&mut bytes, b"mdat")?;
     for k in 1..=SAMPLES {
-        bytes.push(byte_of(k))?;
+        bytes.push((k % 251) as u8)?;
     }
     end_box(&mut bytes, start);
     Ok(bytes)
@@ -147,7 +143,7 @@ fn file_is_read(alloc: Global, tables: &Tables) -> mp4_codec::Result<bool> {
     let mut bytes = media_data(alloc)?;
     put_movie(alloc, &mut bytes, tables)?;
     let mut reader = read_mp4(alloc, &bytes)?;
-    Ok(each_is_read(&mut reader))
+    Ok(each_is_read(&bytes, &mut reader))
 }
 
 /// Whether each sample of a track is read, of which all but the first half have chunks of their own.
@@ -168,7 +164,7 @@ fn all_are_read(alloc: Global) -> mp4_codec::Result<bool> {
             size: 0,
             count: SAMPLES,
             sizes: &sizes,
-            offsets: &offsets,
+            offsets: Offsets::Near(&offsets),
         },
     )
 }

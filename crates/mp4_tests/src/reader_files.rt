@@ -54,7 +54,7 @@ fn all_spelled(alloc: Global, texts: &[&str]) -> Result<Vec<u8>, AllocError> {
     Ok(bytes)
 }
 
-/// The movie of a file, in a text that spells it.
+/// The movie of a file, in a text that encodes it.
 fn movie_of(alloc: Global, file: &TextFile) -> Result<String, AllocError> {
     let stbl = nest(alloc, "7374626c", file.tables)?;
     let minf = nest(alloc, "6d696e66", &[DINF, stbl.as_str()])?;

@@ -409,7 +409,7 @@ fn written_again(rt: &HostRuntime, calls: &[Call]) -> Result<Vec<u8>> {
     Ok(writer.into_writer())
 }
 
-/// The bytes that a text spells, which are made again after a refusal.
+/// The bytes that a text encodes, which are made again after a refusal.
 fn hex_again(rt: &HostRuntime, text: &str) -> Result<Vec<u8>> {
     Ok(match hex(rt.alloc(), text) {
         Err(_) if is_refusal(rt, &Error::OutOfMemory) => hex(rt.alloc(), text)?,
@@ -426,7 +426,7 @@ fn has_ended(rt: &HostRuntime, writer: &mut Mp4Writer) -> bool {
     all
 }
 
-/// Whether three text samples are written as they are spelled, and calls behind the end leave them.
+/// Whether three text samples are written as they are encoded, and calls behind the end leave them.
 fn text_movie_is_left(rt: &HostRuntime) -> Result<bool> {
     let mut writer = called_again(rt, &text_calls())?;
     let is_refused = has_ended(rt, &mut writer);
@@ -503,7 +503,7 @@ fn is_whole(trip: &RoundTrip) -> bool {
         && matches!(&trip.found, Ok(found) if found.place.is_ok() && found.sample.is_ok())
 }
 
-/// Whether a part of a round trip was refused for want of memory.
+/// Whether a part of a round trip was refused since memory ran out.
 fn lacks_memory(trip: &RoundTrip) -> bool {
     let refused = |reply: &Result<()>| *reply == Err(Error::OutOfMemory);
     let opening = matches!(&trip.movie, Err(Error::OutOfMemory));
@@ -514,7 +514,7 @@ fn lacks_memory(trip: &RoundTrip) -> bool {
     opening || finding || trip.replies.iter().any(refused)
 }
 
-/// Whether a round trip is whole; `OutOfMemory` where a part of it was refused for want of memory.
+/// Whether a round trip is whole; `OutOfMemory` where a part of it was refused since memory ran out.
 fn wholeness(trip: &RoundTrip) -> Result<bool> {
     if lacks_memory(trip) {
         return Err(Error::OutOfMemory);

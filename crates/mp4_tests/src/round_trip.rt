@@ -3,9 +3,11 @@
 use crate::asserts::{check, same};
 use crate::random_movies::{random_bytes, random_movie};
 use crate::read_back::is_read_back;
+use crate::writer_calls::{config_of, writer_call};
 use crate::written::{movie_of, written};
-use mp4_codec::Result;
-use mp4_plain_movies::calls::{Call, ISOM};
+use mp4_codec::{BoxType, Error, Result};
+use mp4_media::{RoundTrip, SampleQuery, WriterCall, write_and_read};
+use mp4_plain_movies::calls::{Call, ISOM, add_text, write_sync};
 use mp4_plain_movies::listed_calls::{five_calls, text_calls};
 use std::alloc::Global;
 
@@ -44,4 +46,41 @@ fn first_that_differs(alloc: Global, end: u64) -> Result<Option<u64>> {
 #[test]
 fn three_hundred_lists_of_calls_are_read_back(rt: HostRuntime) {
     same(&rt, first_that_differs(rt.alloc(), 300), Ok(None));
+}
+
+/// The calls that add a track of text and write a sample of it, without an end.
+fn unended_calls(alloc: Global) -> Result<Vec<WriterCall>> {
+    let mut calls = Vec::new(alloc);
+    calls.push(writer_call(alloc, &add_text(1000))?)?;
+    calls.push(writer_call(alloc, &write_sync(1, 500, b"abc"))?)?;
+    Ok(calls)
+}
+
+/// Whether both calls were Ok, and what was written has no movie: the file type and an empty mdat.
+fn has_no_movie(trip: &RoundTrip) -> bool {
+    trip.replies.len() == 2
+        && trip.replies.iter().all(|reply| reply.is_ok())
+        && trip.bytes.len() == 48
+        && matches!(&trip.movie, Err(Error::BoxNotFound(BoxType::MoovBox)))
+}
+
+/// Whether calls without an end are answered, and what they wrote isn't opened.
+fn unended_movie_is_refused(alloc: Global) -> Result<bool> {
+    let query = SampleQuery {
+        bytes: &[],
+        start: 0,
+        size: 0,
+        track_id: 1,
+        number: 1,
+    };
+    let config = config_of(alloc, &ISOM)?;
+    let calls = unended_calls(alloc)?;
+    let mut buffer = Vec::new(alloc);
+    let trip = write_and_read(alloc, &config, &calls, &mut buffer, &query)?;
+    Ok(has_no_movie(&trip))
+}
+
+#[test]
+fn a_list_of_calls_without_an_end_makes_no_movie(rt: HostRuntime) {
+    check(&rt, 1, unended_movie_is_refused(rt.alloc()));
 }

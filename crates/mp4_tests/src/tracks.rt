@@ -24,7 +24,7 @@ fn track_of(alloc: Global, tables: &Tables) -> Result<Mp4Track> {
 /// Whether a statement holds of the track of id 1 that has these tables.
 ///
 /// The track lives in this one function, and tests say facts of a track that they are lent: a function that holds a
-/// track is dear to prove.
+/// track is slow to prove.
 pub fn holds_of<F: FnOnce(&Mp4Track) -> bool>(
     alloc: Global,
     tables: &Tables,

@@ -5,7 +5,7 @@
 use super::runs::{Printed, ran};
 use super::texts::{EMPTY_INFO, EMPTY_MOVIE, TEXT_INFO, TEXT_SAMPLES, TEXT_SCRIPT};
 use mp4_media::{Error, Result};
-use mp4_script::{ScriptFault, fault_text, info_text, run_script, show_text};
+use mp4_script::{ScriptFault, fault_text, info_text, run_script, samples_text, show_text};
 
 /// Prints that a request was refused, and answers whether the call said so.
 fn is_refusal(rt: &HostRuntime, error: &Error) -> bool {
@@ -13,7 +13,7 @@ fn is_refusal(rt: &HostRuntime, error: &Error) -> bool {
     *error == Error::OutOfMemory
 }
 
-/// Whether a script is at fault for want of memory, at its beginning, at its end or at a line.
+/// Whether a script is at fault since memory ran out, at its beginning, at its end or at a line.
 fn is_refused_script(rt: &HostRuntime, fault: &ScriptFault) -> bool {
     match fault {
         ScriptFault::NotACommand(_) => false,
@@ -21,11 +21,15 @@ fn is_refused_script(rt: &HostRuntime, fault: &ScriptFault) -> bool {
     }
 }
 
-/// Whether a run ended for want of memory.
+/// Whether a run ended since memory ran out: at its end or at a line of its script, or elsewhere.
 fn is_refused_run(rt: &HostRuntime, printed: &Printed) -> bool {
     let messages = [
         "mp4_tool: out of memory\n",
         "mp4_tool: end: out of memory\n",
+        "mp4_tool: line 1: out of memory\n",
+        "mp4_tool: line 2: out of memory\n",
+        "mp4_tool: line 3: out of memory\n",
+        "mp4_tool: line 5: out of memory\n",
     ];
     let refused = messages.iter().any(|message| printed.is(1, "", message));
     refused && is_refusal(rt, &Error::OutOfMemory)
@@ -98,25 +102,59 @@ fn a_refused_show_is_made_again(rt: HostRuntime) -> std::result::Result<(), Scri
     Ok(())
 }
 
-/// A run with this argument and an empty script, which is made again after a refusal.
-fn ran_again(rt: &HostRuntime, command: &str) -> Result<Printed> {
-    match ran(rt, command, &mut b"\n".as_slice()) {
-        Err(error) if is_refusal(rt, &error) => ran(rt, command, &mut b"\n".as_slice()),
-        Ok(printed) if is_refused_run(rt, &printed) => ran(rt, command, &mut b"\n".as_slice()),
+/// A run with these arguments and this script, which is made again after a refusal.
+fn ran_again(rt: &HostRuntime, command: &str, script: &str) -> Result<Printed> {
+    match ran(rt, command, &mut script.as_bytes()) {
+        Err(error) if is_refusal(rt, &error) => ran(rt, command, &mut script.as_bytes()),
+        Ok(printed) if is_refused_run(rt, &printed) => ran(rt, command, &mut script.as_bytes()),
         answer => answer,
     }
 }
 
 #[test]
 fn a_refused_run_is_made_again(rt: HostRuntime) -> Result<()> {
-    let printed = ran_again(&rt, "show")?;
+    let printed = ran_again(&rt, "show", "\n")?;
     assert!(rt; printed.is(0, EMPTY_INFO, ""), "{printed:?}");
     Ok(())
 }
 
 #[test]
 fn a_refused_run_of_another_command_is_made_again(rt: HostRuntime) -> Result<()> {
-    let printed = ran_again(&rt, "help")?;
+    let printed = ran_again(&rt, "help", "\n")?;
     assert_eq!(rt; printed.status, 2);
+    Ok(())
+}
+
+#[test]
+fn refused_runs_on_a_file_are_made_again(rt: HostRuntime) -> Result<()> {
+    let made = ran_again(&rt, "make refused.mp4", TEXT_SCRIPT)?;
+    assert!(rt; made.is(0, "wrote 607 bytes\n", ""), "{made:?}");
+    let described = ran_again(&rt, "info refused.mp4", "")?;
+    assert!(rt; described.is(0, TEXT_INFO, ""), "{described:?}");
+    let listed = ran_again(&rt, "samples refused.mp4 1", "")?;
+    assert!(rt; listed.is(0, TEXT_SAMPLES, ""), "{listed:?}");
+    Ok(())
+}
+
+/// The movie of a script, which is made again after a refusal.
+fn movie_again(rt: &HostRuntime) -> std::result::Result<Vec<u8>, ScriptFault> {
+    let script = TEXT_SCRIPT.as_bytes();
+    match run_script(rt.alloc(), script) {
+        Err(fault) if is_refused_script(rt, &fault) => run_script(rt.alloc(), script),
+        answer => answer,
+    }
+}
+
+#[test]
+fn refused_lines_of_a_track_are_made_again(
+    rt: HostRuntime,
+) -> std::result::Result<(), ScriptFault> {
+    let movie = movie_again(&rt)?;
+    let text = match samples_text(rt.alloc(), &movie, 1) {
+        Err(error) if is_refusal(&rt, &error) => samples_text(rt.alloc(), &movie, 1),
+        answer => answer,
+    };
+    let text = text.map_err(ScriptFault::End)?;
+    assert!(rt; text.as_slice() == TEXT_SAMPLES.as_bytes());
     Ok(())
 }
