@@ -146,7 +146,28 @@ fn file_is_read(alloc: Global, tables: &Tables) -> mp4_codec::Result<bool> {
     Ok(each_is_read(&bytes, &mut reader))
 }
 
-/// Whether each sample of a track is read, of which all but the first half have chunks of their own.
+/// The tables of the track, of which all but the first half of the samples have chunks of their own.
+fn tables_of<'a>(
+    durations: &'a [(u32, u32)],
+    rendering_offsets: &'a [(u32, i32)],
+    sync_samples: &'a [u32],
+    chunks: &'a [(u32, u32)],
+    sizes: &'a [u32],
+    offsets: &'a [u32],
+) -> Tables<'a> {
+    Tables {
+        durations,
+        rendering_offsets: Some(rendering_offsets),
+        sync_samples: Some(sync_samples),
+        chunks,
+        size: 0,
+        count: SAMPLES,
+        sizes,
+        offsets: Offsets::Near(offsets),
+    }
+}
+
+/// Whether each sample of the track is read.
 fn all_are_read(alloc: Global) -> mp4_codec::Result<bool> {
     let durations = durations(alloc)?;
     let rendering_offsets = rendering_offsets(alloc)?;
@@ -154,19 +175,15 @@ fn all_are_read(alloc: Global) -> mp4_codec::Result<bool> {
     let chunks = chunks(alloc)?;
     let sizes = sizes(alloc)?;
     let offsets = offsets(alloc)?;
-    file_is_read(
-        alloc,
-        &Tables {
-            durations: &durations,
-            rendering_offsets: Some(&rendering_offsets),
-            sync_samples: Some(&sync_samples),
-            chunks: &chunks,
-            size: 0,
-            count: SAMPLES,
-            sizes: &sizes,
-            offsets: Offsets::Near(&offsets),
-        },
-    )
+    let tables = tables_of(
+        &durations,
+        &rendering_offsets,
+        &sync_samples,
+        &chunks,
+        &sizes,
+        &offsets,
+    );
+    file_is_read(alloc, &tables)
 }
 
 #[test]
