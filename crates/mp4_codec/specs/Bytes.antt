@@ -1,6 +1,6 @@
 -- Fields as bytes, numbers the highest byte first (ISO/IEC 14496-12, 4.2): each is read from the front of
 -- the bytes and leaves what stands behind it.
-use Rattle.std.specs.Prelude.{◌≡◌, ℕ, zero, suc, ◌+◌, ◌<◌, ◌-◌, ◌*◌, ◌^◌, ℤ, List, [], ◌∷◌, ◌++◌, length, take, drop}
+use Rattle.std.specs.Prelude.{◌≡◌, ℕ, zero, suc, ◌+◌, ◌<◌, ◌≤◌, ◌-◌, ◌*◌, ◌^◌, ℤ, List, [], ◌∷◌, ◌++◌, length, take, drop}
 use Rattle.std.specs.Prelude.{Option}
 use Rattle.std.specs.Prelude.{Some, None, Result, Ok, Err, nat_lt, ◌==◌, if◌then◌else◌, replicate, take_while, not}
 use Rattle.std.specs.Prelude.{false}
@@ -73,6 +73,10 @@ versioned_at zero bytes = number_at 4 bytes
 versioned_at (suc zero) bytes = number_at 8 bytes
 versioned_at (suc (suc version)) bytes = Err invalid_data
 
+-- a number of eight bytes in version 1, and of four in any other, where the version was looked at before
+unfoldable pub sized_at : ℕ → Reader ℕ
+sized_at version bytes = if version == 1 then number_at 8 bytes else number_at 4 bytes
+
 -- a version that isn't 1 is written as 0
 unfoldable pub versioned : ℕ → ℕ → List ℕ
 versioned version x = if version == 1 then number 8 x else number 4 x
@@ -112,10 +116,11 @@ text_at bytes = do
   end ← bytes_at 1 text.1
   Ok (text.0, end.1)
 
--- what is read is n bytes long, and only bytes that are too few are refused
+-- what is read is n bytes long; bytes that are too few are refused, by one cause, and no others are
 pub record HasLength {A : Type 0} (read : Reader A) (n : ℕ) : Type 0 where
   pub moves : (bytes : List ℕ) (x : A) (rest : List ℕ) → read bytes ≡ Ok (x, rest) → length bytes ≡ n + length rest
   pub refuses : (bytes : List ℕ) (c : Cause) → read bytes ≡ Err c → c ≡ invalid_data
+  pub enough : (bytes : List ℕ) → n ≤ length bytes → (x : A × List ℕ) × (read bytes ≡ Ok x)
 
 -- what is written by write is read by read, for each value that fits
 pub record ReadsBack {A : Type 0} (read : Reader A) (write : A → List ℕ) (Fits : A → Type 0) : Type 0 where

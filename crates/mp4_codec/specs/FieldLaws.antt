@@ -20,7 +20,7 @@ use Rattle.mp4_codec.specs.Steps.{ok_is}
 use Rattle.mp4_codec.specs.declared.four_cc.FourCC.{FourCC}
 use Rattle.mp4_codec.specs.Bytes.{HasLength, ReadsBack, FitsVersion, IsCode, HasNoZero}
 use Rattle.mp4_codec.specs.Bytes.{coded, four_cc, four_cc_at, until_zero, Reader, ◌⧺◌, bytes_at, number_at, number}
-use Rattle.mp4_codec.specs.Bytes.{zeros, list_at, count_cause, int16_at, int16, int32_at, int32, versioned_at}
+use Rattle.mp4_codec.specs.Bytes.{zeros, list_at, count_cause, int16_at, int16, int32_at, int32, versioned_at, sized_at}
 use Rattle.mp4_codec.specs.Bytes.{versioned, version_refusal, value_refusal}
 
 long_enough : (xs rest : List ℕ) (n : ℕ) → length xs ≡ n → ltb (length (xs ++ rest)) n ≡ false
@@ -85,8 +85,12 @@ number-refuses n bytes c e = chosen (ltb (length bytes) n) e
     chosen true e = cc
     chosen false e = absurd cc
 
+number-enough : (n : ℕ) (bytes : List ℕ) → n ≤ length bytes → (x : ℕ × List ℕ) × (number_at n bytes ≡ Ok x)
+unfolding number_at
+number-enough n bytes h = ((big_number n (take n bytes), drop n bytes), rw (le-ltb _ _ h) refl)
+
 pub number-has_length : (n : ℕ) → HasLength (number_at n) n
-number-has_length n = record { moves = number-moves n; refuses = number-refuses n }
+number-has_length n = record { moves = number-moves n; refuses = number-refuses n; enough = number-enough n }
 
 abbrev seen_as : {A B : Type 0} → (A → B) → Result (A × List ℕ) Cause → Result (B × List ℕ) Cause
 seen_as {A} {B} see r = ◌>>=◌ {B = B × List ℕ} r (λ x. Ok (see x.0, x.1))
@@ -95,7 +99,11 @@ seen_as {A} {B} see r = ◌>>=◌ {B = B × List ℕ} r (λ x. Ok (see x.0, x.1)
 pub seen-has_length : {A B : Type 0} (read : Reader A) (n : ℕ) (see : A → B) → HasLength read n
     → HasLength (λ bytes. seen_as see (read bytes)) n
 seen-has_length {A} {B} read n see h =
-    record { moves = λ bytes. moved bytes (read bytes) refl; refuses = λ bytes. refused bytes (read bytes) refl }
+    record {
+      moves = λ bytes. moved bytes (read bytes) refl;
+      refuses = λ bytes. refused bytes (read bytes) refl;
+      enough = λ bytes fits. let x = h.enough bytes fits in ((see x.0.0, x.0.1), rw x.1 refl);
+    }
   where
     moved : (bytes : List ℕ) (r : Result (A × List ℕ) Cause) → read bytes ≡ r → (y : B) (rest : List ℕ)
         → seen_as see r ≡ Ok (y, rest) → length bytes ≡ n + length rest
@@ -116,8 +124,20 @@ and_then {A} {B} second r = ◌>>=◌ {B = B × List ℕ} r (λ x. second x.0 x.
 pub then-has_length : {A B : Type 0} (first : Reader A) (second : A → Reader B) (n m : ℕ) → HasLength first n
     → ((x : A) → HasLength (second x) m) → HasLength (λ bytes. and_then second (first bytes)) (n + m)
 then-has_length {A} {B} first second n m h k =
-    record { moves = λ bytes. moved bytes (first bytes) refl; refuses = λ bytes. refused bytes (first bytes) refl }
+    record {
+      moves = λ bytes. moved bytes (first bytes) refl;
+      refuses = λ bytes. refused bytes (first bytes) refl;
+      enough = whole;
+    }
   where
+    whole : (bytes : List ℕ) → n + m ≤ length bytes → (y : B × List ℕ) × (and_then second (first bytes) ≡ Ok y)
+    whole bytes fits =
+        let x = h.enough bytes (omega arith) in
+        let moved : length bytes ≡ n + length x.0.1 = h.moves bytes x.0.0 x.0.1 x.1 in
+        let left : m ≤ length x.0.1 = omega arith in
+        let y = (k x.0.0).enough x.0.1 left in
+        (y.0, rw x.1 y.1)
+
     moved : (bytes : List ℕ) (r : Result (A × List ℕ) Cause) → first bytes ≡ r → (y : B) (rest : List ℕ)
         → and_then second r ≡ Ok (y, rest) → length bytes ≡ n + m + length rest
     moved bytes (Ok x) is y rest e =
@@ -301,12 +321,21 @@ numbers_last n count xs e fits =
 pub zeros_last : (n : ℕ) → bytes_at n (zeros n) ≡ Ok (zeros n, [])
 zeros_last n = ap (bytes_at n) (sym (then_nothing (zeros n))) ∙ zeros_again n []
 
--- the length of a number of either version
-pub versioned-has_length : (version : ℕ) → HasLength (versioned_at version) (cond (eqb version 1) 8 4)
-unfolding versioned_at
-versioned-has_length zero = number-has_length 4
-versioned-has_length (suc zero) = number-has_length 8
-versioned-has_length (suc (suc version)) = record { moves = λ bytes x rest e. absurd cc; refuses = λ bytes c e. cc }
+-- the length of a number whose version was looked at
+pub sized-has_length : (version : ℕ) → HasLength (sized_at version) (cond (eqb version 1) 8 4)
+unfolding sized_at
+sized-has_length version = chosen (eqb version 1)
+  where
+    chosen : (b : Bool) → HasLength (λ bytes. cond b (number_at 8 bytes) (number_at 4 bytes)) (cond b 8 4)
+    chosen true = number-has_length 8
+    chosen false = number-has_length 4
+
+pub sized_again : (version x : ℕ) (rest : List ℕ) → FitsVersion version x
+    → sized_at version (versioned version x ⧺ rest) ≡ Ok (x, rest)
+unfolding sized_at versioned
+sized_again zero x rest h = number_again 4 x rest h
+sized_again (suc zero) x rest h = number_again 8 x rest h
+sized_again (suc (suc version)) x rest h = absurd h
 
 -- the bytes before the first zero are that many of the first
 pub take-until_zero : (bytes : List ℕ) → take (length (until_zero bytes)) bytes ≡ until_zero bytes
@@ -324,6 +353,36 @@ count_cause-refused read n h count bytes c e =
         → list_at read count bytes ≡ Err c
     chosen true short e = let same : invalid_data ≡ c = cc in list-short read n h count bytes (short refl) ∙ ap Err same
     chosen false short e = absurd cc
+
+one-more : {A : Type 0} (read : Reader A) (n count : ℕ) (bytes : List ℕ)
+    (others : List ℕ → Result (List A × List ℕ) Cause) → HasLength read n → suc count * n ≤ length bytes
+    → ((rest : List ℕ) → count * n ≤ length rest → (x : List A × List ℕ) × (others rest ≡ Ok x))
+    → (x : List A × List ℕ) × (listed others (read bytes) ≡ Ok x)
+one-more read n count bytes others h fits more =
+    let x = h.enough bytes (omega (arith, suc-mul count n)) in
+    let moved : length bytes ≡ n + length x.0.1 = h.moves bytes x.0.0 x.0.1 x.1 in
+    let left : count * n ≤ length x.0.1 = omega (arith, suc-mul count n) in
+    let y = more x.0.1 left in
+    ((x.0.0 ∷ y.0.0, y.0.1), rw (x.1, y.1) refl)
+
+-- a list that doesn't pass the end is read
+pub list-enough : {A : Type 0} (read : Reader A) (n : ℕ) → HasLength read n → (count : ℕ) (bytes : List ℕ)
+    → count * n ≤ length bytes → (x : List A × List ℕ) × (list_at read count bytes ≡ Ok x)
+unfolding list_at
+list-enough read n h zero bytes fits = (([], bytes), refl)
+list-enough read n h (suc count) bytes fits =
+    one-more read n count bytes (list_at read count) h fits (λ rest fewer. list-enough read n h count rest fewer)
+
+-- a list that has no such refusal is read
+pub count_cause-enough : {A : Type 0} (read : Reader A) (n : ℕ) → HasLength read n → (count : ℕ) (bytes : List ℕ)
+    → count_cause count n bytes ≡ None → (x : List A × List ℕ) × (list_at read count bytes ≡ Ok x)
+count_cause-enough read n h count bytes e =
+    chosen (ltb (length bytes) (count * n)) (ltb-false (length bytes) (count * n)) e
+  where
+    chosen : (b : Bool) → (b ≡ false → count * n ≤ length bytes) → cond b (Some invalid_data) None ≡ None
+        → (x : List _ × List ℕ) × (list_at read count bytes ≡ Ok x)
+    chosen true fits e = absurd cc
+    chosen false fits e = list-enough read n h count bytes (fits refl)
 
 -- a list that does not pass the end has no such refusal
 pub count_cause-none : (count n : ℕ) (bytes : List ℕ) → count * n ≤ length bytes → count_cause count n bytes ≡ None

@@ -9,6 +9,7 @@ pub mod Boxes
 pub mod PutLaws
 pub mod WriteLaws
 pub mod Children
+pub mod Early
 pub mod ChildrenLaws
 pub mod GatherLaws
 pub mod GatherLoop

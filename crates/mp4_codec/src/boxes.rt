@@ -2,9 +2,10 @@
 
 ghost use Rattle.std.specs.Prelude.{◌≡◌, ℕ, ◌+◌, ◌^◌, ◌<◌, List, length, Option, Result, Ok, OnOk};
 ghost use Rattle.mp4_codec.specs.declared.box_type.BoxType.{BoxType};
-ghost use Rattle.mp4_codec.specs.Cause.{Cause, Answers, AnswersCause, Checks, Refuses, fault_of};
+ghost use Rattle.mp4_codec.specs.Cause.{Cause, Answers, AnswersCause, Checks};
+ghost use Rattle.mp4_codec.specs.Early.{Early, Shows, early_at};
 ghost use Rattle.mp4_codec.specs.Bytes.{Appends};
-ghost use Rattle.mp4_codec.specs.Boxes.{size_around, payload_at, box_at, frame, write_cause, Writes, IsCanonical};
+ghost use Rattle.mp4_codec.specs.Boxes.{size_around, box_at, frame, write_cause, Writes, IsCanonical};
 
 use crate::box_type::BoxType;
 use crate::cursor::ByteCursor;
@@ -39,9 +40,13 @@ pub trait Mp4Box {
 pub trait ReadBox: Sized + Drop {
     ghost value: { List ℕ → Result Self Cause };
 
+    /// What a payload shows before memory is requested: where it shows a cause, just that cause is answered.
+    ghost early: { List ℕ → Early };
+
     /// The value of a payload.
     fn read_payload(alloc: Global, payload: &[u8]) -> Result<Self>
-        ensures { Answers (λ x. x) result (value payload.now) };
+        ensures value { Answers (λ x. x) result (value payload.now) }
+        ensures early { Shows (early payload.now) result };
 
     /// The box of this size whose payload stands at the cursor; the size counts a header of 8 bytes.
     ///
@@ -50,7 +55,7 @@ pub trait ReadBox: Sized + Drop {
     /// refusal at any place.
     fn read_box(alloc: Global, reader: &mut ByteCursor, size: u64) -> Result<Self>
         ensures value { Answers (λ x. (x, reader.new)) result (box_at value size reader.old) }
-        ensures missing { Refuses (fault_of (payload_at size reader.old)) result }
+        ensures early { Shows (early_at early size reader.old) result }
         ensures same { reader.new.bytes ≡ reader.old.bytes }
     {
         if size < HEADER_SIZE {

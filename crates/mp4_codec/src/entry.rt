@@ -2,7 +2,8 @@
 
 ghost use Rattle.std.specs.Prelude.{◌≡◌, ℕ, List, length, Result, Ok, OnOk, min, ◌^◌, ◌-◌, ◌<◌};
 ghost use Rattle.std.specs.List.{flat_map};
-ghost use Rattle.mp4_codec.specs.Cause.{Cause, Answers, Checks, Reads, Refuses};
+ghost use Rattle.mp4_codec.specs.Cause.{Cause, Answers, Checks, Reads};
+ghost use Rattle.mp4_codec.specs.Early.{Shows, refused_at_once};
 ghost use Rattle.mp4_codec.specs.Bytes.{Appends, ◌⧺◌, Reader, list_at, count_cause, number_at, number, four_cc_at, four_cc, IsCode, HasLength};
 ghost use Rattle.mp4_codec.specs.FieldLaws.{number_again, length-number, number-has_length, four_cc_again, length-four_cc, four_cc-has_length};
 
@@ -71,7 +72,7 @@ impl<'a> Fields<'a> {
     /// once.
     pub fn list<T: Entry>(&mut self, alloc: Global, version: u8, count: usize) -> Result<Items<T>>
         ensures value { Answers (λ xs. (xs, self.new)) result (list_at (T.at version) count self.old) }
-        ensures count { Refuses (count_cause count (T.bytes_each version) self.old) result }
+        ensures early { Shows (refused_at_once (list_at (T.at version) count self.old)) result }
     {
         self.check_count(count, T::size(version))?;
         self.entries(alloc, version, count)

@@ -2,7 +2,7 @@
 
 ghost use Rattle.std.specs.Prelude.{◌≡◌, ◌==◌, ◌≤◌, length, Ok, ℕ, List};
 ghost use Rattle.mp4_codec.specs.Cause.{Answers, Reads};
-ghost use Rattle.mp4_codec.specs.Bytes.{bytes_at, number_at, int16_at, int32_at, versioned_at, four_cc_at, until_zero, text_at};
+ghost use Rattle.mp4_codec.specs.Bytes.{bytes_at, number_at, int16_at, int32_at, versioned_at, sized_at, four_cc_at, until_zero, text_at};
 
 use crate::error::{Field, Malformed, Result};
 use crate::four_cc::FourCC;
@@ -148,6 +148,18 @@ impl<'a> Fields<'a> {
                 text: "an unknown version",
             }),
         }
+    }
+
+    /// A number of eight bytes in version 1 and of four in any other, where the version was looked at before.
+    #[tactic(auto, unfolding(crate::specs::Bytes::sized_at))]
+    pub fn sized(&mut self, version: u8) -> Field<u64>
+        ensures { Reads (λ n. (n, self.new)) result (sized_at version self.old) }
+    {
+        if version == 1 {
+            return self.u64();
+        }
+        let n = self.u32()?;
+        Ok(u64::from(n))
     }
 
     /// A code of four bytes.

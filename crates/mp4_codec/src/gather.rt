@@ -4,6 +4,7 @@ ghost use Rattle.std.specs.Prelude.{◌≡◌, ◌++◌, ◌∷◌, [], List, Op
 ghost use Rattle.mp4_codec.specs.BoxType.{IsNamed};
 ghost use Rattle.mp4_codec.specs.Cause.{Cause, Answers, Gives, unless, seen};
 ghost use Rattle.mp4_codec.specs.Children.{ChildBox, child_box, children, gathered, fault_in, last_of, all_of, with_last, with_next, needed, some_needed};
+ghost use Rattle.mp4_codec.specs.Early.{Early, Shows, early_last, early_next, early_gathered};
 ghost use Rattle.mp4_codec.specs.GatherLaws.{last_child-adds, all_children-adds};
 
 use crate::boxes::{Mp4Box, ReadBox};
@@ -15,9 +16,11 @@ use std::alloc::Global;
 /// The parts of a container, which its children give.
 ///
 /// `taken` says which parts a list of children gives, in words such as the last of a type; `fault` says
-/// why a child is refused.
+/// why a child is refused, and `early` what it shows before memory is requested.
 pub trait Gather: Sized + Drop {
     ghost fault: { ChildBox → Option Cause };
+
+    ghost early: { ChildBox → Early };
 
     ghost taken: { List ChildBox → Self };
 
@@ -30,7 +33,8 @@ pub trait Gather: Sized + Drop {
     /// Adds what one child gives.
     fn add(&mut self, alloc: Global, child: &Child) -> Result<()>
         requires { IsNamed child.now.name }
-        ensures { Answers (λ _. self.new) result (added self.old (child_box child.now)) };
+        ensures value { Answers (λ _. self.new) result (added self.old (child_box child.now)) }
+        ensures early { Shows (early (child_box child.now)) result };
 
     ghost adds: { (done : List ChildBox) (c : ChildBox) → added (taken done) c ≡ unless (fault c) (Ok (taken (done ++ c ∷ []))) };
 }
@@ -38,7 +42,8 @@ pub trait Gather: Sized + Drop {
 /// The parts that the children of a payload give: the first refused child in file order is the answer,
 /// then a tail that no child begins; else it is what all children give.
 pub fn gather_children<G: Gather>(alloc: Global, payload: &[u8]) -> Result<G>
-    ensures { Answers (λ g. g) result (gathered G.fault G.taken (children payload.now)) }
+    ensures value { Answers (λ g. g) result (gathered G.fault G.taken (children payload.now)) }
+    ensures early { Shows (early_gathered G.early (children payload.now)) result }
 {
     let mut parts = G::none(alloc);
     let mut children = Children::new(payload);
@@ -54,7 +59,8 @@ pub fn keep_last<B: Mp4Box + ReadBox>(
     child: &Child,
     last: &mut Option<B>,
 ) -> Result<()>
-    ensures { Answers (λ _. last.new) result (with_last B.KIND B.value (child_box child.now) last.old) }
+    ensures value { Answers (λ _. last.new) result (with_last B.KIND B.value (child_box child.now) last.old) }
+    ensures early { Shows (early_last B.KIND B.early (child_box child.now)) result }
 {
     if u32::from(child.name) == u32::from(B::KIND) {
         *last = Some(B::read_payload(alloc, child.payload)?);
@@ -69,7 +75,8 @@ pub fn keep_each<B: Mp4Box + ReadBox>(
     child: &Child,
     all: &mut Items<B>,
 ) -> Result<()>
-    ensures { Answers (λ _. all.new) result (with_next B.KIND B.value (child_box child.now) all.old) }
+    ensures value { Answers (λ _. all.new) result (with_next B.KIND B.value (child_box child.now) all.old) }
+    ensures early { Shows (early_next B.KIND B.early (child_box child.now)) result }
 {
     if u32::from(child.name) == u32::from(B::KIND) {
         all.push(B::read_payload(alloc, child.payload)?)?;
@@ -107,6 +114,8 @@ struct LastChild<B> {
 impl<B: Mp4Box + ReadBox> Gather for LastChild<B> {
     ghost fault = { fault_in B.KIND B.value };
 
+    ghost early = { early_last B.KIND B.early };
+
     ghost taken = { λ list. record { child = last_of B.KIND B.value list } };
 
     ghost added = { λ p c. seen (λ x. record { child = x }) (with_last B.KIND B.value c p.child) };
@@ -127,7 +136,8 @@ impl<B: Mp4Box + ReadBox> Gather for LastChild<B> {
 /// The last child of this type, and None where there is none. Other types are skipped; a child of the
 /// type that is refused refuses the payload, also where a later one would stand.
 pub fn last_child<B: Mp4Box + ReadBox>(alloc: Global, payload: &[u8]) -> Result<Option<B>>
-    ensures { Answers (λ b. b) result (gathered (fault_in B.KIND B.value) (last_of B.KIND B.value) (children payload.now)) }
+    ensures value { Answers (λ b. b) result (gathered (fault_in B.KIND B.value) (last_of B.KIND B.value) (children payload.now)) }
+    ensures early { Shows (early_gathered (early_last B.KIND B.early) (children payload.now)) result }
 {
     let LastChild { child } = gather_children::<LastChild<B>>(alloc, payload)?;
     Ok(child)
@@ -141,6 +151,8 @@ struct AllChildren<B> {
 
 impl<B: Mp4Box + ReadBox> Gather for AllChildren<B> {
     ghost fault = { fault_in B.KIND B.value };
+
+    ghost early = { early_next B.KIND B.early };
 
     ghost taken = { λ list. record { children = all_of B.KIND B.value list } };
 
@@ -164,7 +176,8 @@ impl<B: Mp4Box + ReadBox> Gather for AllChildren<B> {
 /// All children of this type, in order. Other types are skipped; the first that is refused refuses the
 /// payload.
 pub fn all_children<B: Mp4Box + ReadBox>(alloc: Global, payload: &[u8]) -> Result<Items<B>>
-    ensures { Answers (λ bs. bs) result (gathered (fault_in B.KIND B.value) (all_of B.KIND B.value) (children payload.now)) }
+    ensures value { Answers (λ bs. bs) result (gathered (fault_in B.KIND B.value) (all_of B.KIND B.value) (children payload.now)) }
+    ensures early { Shows (early_gathered (early_next B.KIND B.early) (children payload.now)) result }
 {
     let AllChildren { children } = gather_children::<AllChildren<B>>(alloc, payload)?;
     Ok(children)
