@@ -44,13 +44,15 @@ abbrev pub unless_refused : Option Cause → Early
 unless_refused None = succeeds
 unless_refused (Some c) = fails c
 
--- the box of this size behind the place, by what its payload shows
-abbrev pub early_of_payload : (List ℕ → Early) → Result (List ℕ × Cursor) Cause → Early
-early_of_payload early (Ok part) = early part.0
-early_of_payload early (Err c) = fails c
+-- a step that takes no memory, and what is shown after it
+infixl 10 ◌before◌
+abbrev pub ◌before◌ : {A : Type 0} → Result A Cause → (A → Early) → Early
+(Ok x) before next = next x
+(Err c) before next = fails c
 
+-- the box of this size at the place, by what its payload shows
 abbrev pub early_at : (List ℕ → Early) → ℕ → Cursor → Early
-early_at early size cursor = early_of_payload early (payload_at size cursor)
+early_at early size cursor = payload_at size cursor before λ part. early part.0
 
 -- a child of this type in the place of the last one; children of other types are not looked at
 abbrev pub early_last : BoxType → (List ℕ → Early) → ChildBox → Early

@@ -4,6 +4,7 @@ use Rattle.mp4_codec.specs.declared.box_type.BoxType.TheVariants.{DrefBox as dre
 use Rattle.mp4_codec.specs.Cause.{Cause, ◌>>=◌}
 use Rattle.mp4_codec.specs.Bytes.{number_at, until_zero, number, zeros, ◌⧺◌, HasNoZero}
 use Rattle.mp4_codec.specs.Boxes.{frame, optional, IsCanonical, no_refusal}
+use Rattle.mp4_codec.specs.Early.{Early, early_gathered, early_last, at_once, refused_at_once, ◌and_then◌, ◌before◌}
 use Rattle.mp4_codec.specs.Children.{children, gathered, fault_in, last_of, needed}
 use Rattle.mp4_leaf.specs.declared.dinf.UrlBox.{UrlBox}
 use Rattle.mp4_leaf.specs.declared.dinf.DrefBox.{DrefBox}
@@ -20,6 +21,9 @@ url_of payload = do
   version ← number_at 1 payload
   flags ← number_at 3 version.1
   Ok (record { version = version.0; flags = flags.0; location = until_zero flags.1 })
+
+abbrev pub url_early : List ℕ → Early
+url_early payload = refused_at_once (url_of payload)
 
 -- the payload that holds a reference
 unfoldable pub url_payload : UrlBox → List ℕ
@@ -50,6 +54,14 @@ dref_of payload = do
   count ← number_at 4 flags.1
   last_url ← gathered (fault_in url url_of) (last_of url url_of) (children count.1)
   Ok (record { version = version.0; flags = flags.0; url = last_url })
+
+-- its fields, and then its children
+unfoldable pub dref_early : List ℕ → Early
+dref_early payload =
+    number_at 1 payload before λ version.
+    number_at 3 version.1 before λ flags.
+    number_at 4 flags.1 before λ count.
+    early_gathered (early_last url url_early) (children count.1)
 
 -- how many references are written
 abbrev pub count_of : Option UrlBox → ℕ
@@ -84,6 +96,9 @@ dinf_of payload = do
   last_dref ← gathered (fault_in dref dref_of) (last_of dref dref_of) (children payload)
   references ← needed dref last_dref
   Ok (record { dref = references })
+
+unfoldable pub dinf_early : List ℕ → Early
+dinf_early payload = early_gathered (early_last dref dref_early) (children payload) and_then at_once (dinf_of payload)
 
 -- the payload that holds data information
 unfoldable pub dinf_payload : DinfBox → List ℕ

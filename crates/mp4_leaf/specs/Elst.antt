@@ -2,16 +2,17 @@
 use Rattle.std.specs.Prelude.{ℕ, ◌^◌, ◌<◌, List, [], length, Option, Result, Ok, ◌==◌, if◌then◌else◌}
 use Rattle.std.specs.List.{flat_map, AllByRecursion}
 use Rattle.mp4_codec.specs.Cause.{Cause, ◌>>=◌, ◌or◌, unless}
-use Rattle.mp4_codec.specs.Bytes.{Reader, number_at, versioned_at, list_at, number, versioned, ◌⧺◌, version_refusal}
+use Rattle.mp4_codec.specs.Bytes.{Reader, number_at, sized_at, list_at, number, versioned, ◌⧺◌, version_refusal}
 use Rattle.mp4_codec.specs.Bytes.{value_refusal, FitsVersion}
 use Rattle.mp4_codec.specs.Boxes.{all_refusal, IsCanonical}
 use Rattle.mp4_leaf.specs.declared.elst.ElstEntry.{ElstEntry}
 use Rattle.mp4_leaf.specs.declared.elst.ElstBox.{ElstBox}
 
+-- an entry of a version that was looked at: its duration and its time have 8 bytes in version 1, else 4
 unfoldable pub elst_entry_at : ℕ → Reader ElstEntry
 elst_entry_at version bytes = do
-  segment_duration ← versioned_at version bytes
-  media_time ← versioned_at version segment_duration.1
+  segment_duration ← sized_at version bytes
+  media_time ← sized_at version segment_duration.1
   media_rate ← number_at 2 media_time.1
   media_rate_fraction ← number_at 2 media_rate.1
   Ok (

@@ -4,12 +4,12 @@ use Rattle.std.proofs.Common.{None, Ok, refl, subst, ap, ◌∙◌, arith}
 use Rattle.std.specs.List.{flat_map, AllByRecursion}
 use Rattle.mp4_codec.specs.Cause.{◌>>=◌}
 use Rattle.mp4_codec.specs.WriteLaws.{is_written, or_parts}
-use Rattle.mp4_codec.specs.Bytes.{Reader, ◌⧺◌, number_at, versioned_at, version_refusal, value_refusal, HasLength}
+use Rattle.mp4_codec.specs.Bytes.{Reader, ◌⧺◌, number_at, sized_at, version_refusal, value_refusal, HasLength}
 use Rattle.mp4_codec.specs.Boxes.{all_refusal}
-use Rattle.mp4_codec.specs.FieldLaws.{FitsVersion-written, number_again, versioned_again}
+use Rattle.mp4_codec.specs.FieldLaws.{FitsVersion-written, number_again, sized_again}
 use Rattle.mp4_codec.specs.Bytes.{ReadsBack}
 use Rattle.mp4_codec.specs.FieldLaws.{list_last, number-has_length, seen-has_length, then-has_length, length-number}
-use Rattle.mp4_codec.specs.FieldLaws.{length-versioned, length-then, then_assoc, versioned-has_length}
+use Rattle.mp4_codec.specs.FieldLaws.{length-versioned, length-then, then_assoc, sized-has_length}
 use Rattle.mp4_codec.specs.ListLaws.{length-flat_map-same}
 use Rattle.mp4_leaf.specs.declared.elst.ElstEntry.{ElstEntry}
 use Rattle.mp4_leaf.specs.declared.elst.ElstBox.{ElstBox}
@@ -36,7 +36,7 @@ abbrev rate_at : ℕ → ℕ → Reader ElstEntry
 rate_at duration time bytes = number_at 2 bytes >>= λ rate. fraction_at duration time rate.0 rate.1
 
 abbrev time_at : ℕ → ℕ → Reader ElstEntry
-time_at version duration bytes = versioned_at version bytes >>= λ time. rate_at duration time.0 time.1
+time_at version duration bytes = sized_at version bytes >>= λ time. rate_at duration time.0 time.1
 
 pub elst_entry-has_length : (version : ℕ) → HasLength (elst_entry_at version) (elst_entry_length version)
 unfolding elst_entry_at
@@ -58,19 +58,19 @@ elst_entry-has_length version =
 
     with_time : (duration : ℕ) → HasLength (time_at version duration) (cond (eqb version 1) 8 4 + (2 + 2))
     with_time duration =
-        then-has_length (versioned_at version) (rate_at duration) _ _ (versioned-has_length version)
+        then-has_length (sized_at version) (rate_at duration) _ _ (sized-has_length version)
         (with_rate duration)
 
     whole : HasLength (elst_entry_at version) (cond (eqb version 1) 8 4 + (cond (eqb version 1) 8 4 + (2 + 2)))
-    whole = then-has_length (versioned_at version) (time_at version) _ _ (versioned-has_length version) with_time
+    whole = then-has_length (sized_at version) (time_at version) _ _ (sized-has_length version) with_time
 
 pub elst_entry_again : (version : ℕ) (e : ElstEntry) (rest : List ℕ) → FitsElstEntry version e
     → elst_entry_at version (elst_entry version e ⧺ rest) ≡ Ok (e, rest)
 unfolding elst_entry_at elst_entry
 elst_entry_again version e rest f =
     simp then_assoc (rw (
-      versioned_again version e.segment_duration _ f.segment_duration,
-      versioned_again version e.media_time _ f.media_time,
+      sized_again version e.segment_duration _ f.segment_duration,
+      sized_again version e.media_time _ f.media_time,
       number_again 2 e.media_rate _ f.media_rate,
       number_again 2 e.media_rate_fraction _ f.media_rate_fraction,
     ) refl)

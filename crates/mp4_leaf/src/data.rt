@@ -7,6 +7,7 @@ ghost use Rattle.mp4_codec.specs.declared.box_type.BoxType.TheVariants.{DataBox 
 ghost use Rattle.mp4_codec.specs.Boxes.{size_around, no_refusal};
 ghost use Rattle.mp4_codec.specs.Cause.{Gives};
 ghost use Rattle.mp4_leaf.specs.DataLaws.{data_again};
+ghost use Rattle.mp4_codec.specs.Early.{refused_at_once};
 
 use mp4_codec::{
     BoxType, Fields, InRange, Items, Mp4Box, Put, ReadBox, Result, TryClone, WriteBox, put_bytes,
@@ -148,6 +149,8 @@ impl Mp4Box for DataBox {
 
 impl ReadBox for DataBox {
     ghost value = { data_of };
+
+    ghost early = { λ payload. refused_at_once (data_of payload) };
 
     #[tactic(auto, unfolding(crate::specs::Data::data_of))]
     fn read_payload(alloc: Global, payload: &[u8]) -> Result<Self> {

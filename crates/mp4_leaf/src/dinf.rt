@@ -6,7 +6,7 @@ ghost use Rattle.mp4_leaf.specs.Dinf.{ended};
 ghost use Rattle.mp4_codec.specs.declared.box_type.BoxType.TheVariants.{UrlBox as url, DrefBox as dref, DinfBox as dinf};
 ghost use Rattle.mp4_codec.specs.Boxes.{size_around, no_refusal};
 ghost use Rattle.mp4_codec.specs.Cause.{Gives};
-ghost use Rattle.mp4_leaf.specs.Dinf.{url_payload, default_url, url_of, dref_payload, count_of, default_dref, dref_of, dinf_payload, default_dinf, dinf_of, IsInRangeUrl, RemarksUrl, IsInRangeDref, RemarksDref, IsInRangeDinf, RemarksDinf};
+ghost use Rattle.mp4_leaf.specs.Dinf.{url_payload, default_url, url_of, url_early, dref_payload, count_of, default_dref, dref_of, dref_early, dinf_payload, default_dinf, dinf_of, dinf_early, IsInRangeUrl, RemarksUrl, IsInRangeDref, RemarksDref, IsInRangeDinf, RemarksDinf};
 ghost use Rattle.mp4_leaf.specs.DinfLaws.{url_again, dref_again, dinf_again};
 
 use mp4_codec::{
@@ -103,6 +103,8 @@ impl Mp4Box for UrlBox {
 
 impl ReadBox for UrlBox {
     ghost value = { url_of };
+
+    ghost early = { url_early };
 
     #[tactic(auto, unfolding(crate::specs::Dinf::url_of))]
     fn read_payload(alloc: Global, payload: &[u8]) -> Result<Self> {
@@ -221,7 +223,9 @@ impl Mp4Box for DrefBox {
 impl ReadBox for DrefBox {
     ghost value = { dref_of };
 
-    #[tactic(auto, unfolding(crate::specs::Dinf::dref_of))]
+    ghost early = { dref_early };
+
+    #[tactic(auto, unfolding(crate::specs::Dinf::dref_of, crate::specs::Dinf::dref_early))]
     fn read_payload(alloc: Global, payload: &[u8]) -> Result<Self> {
         let mut fields = Fields::new(payload);
         let version = fields.u8()?;
@@ -323,7 +327,9 @@ impl Mp4Box for DinfBox {
 impl ReadBox for DinfBox {
     ghost value = { dinf_of };
 
-    #[tactic(auto, unfolding(crate::specs::Dinf::dinf_of))]
+    ghost early = { dinf_early };
+
+    #[tactic(auto, unfolding(crate::specs::Dinf::dinf_of, crate::specs::Dinf::dinf_early))]
     fn read_payload(alloc: Global, payload: &[u8]) -> Result<Self> {
         let Some(dref) = last_child(alloc, payload)? else {
             return Err(Error::BoxNotFound(BoxType::DrefBox));

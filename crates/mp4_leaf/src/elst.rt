@@ -6,6 +6,7 @@ ghost use Rattle.mp4_leaf.specs.Elst.{elst_entry_refusal, elst_entry_at, elst_en
 ghost use Rattle.mp4_leaf.specs.ElstLaws.{elst_entry_again, length-elst_entry, elst_entry-has_length, elst_again};
 ghost use Rattle.mp4_codec.specs.declared.box_type.BoxType.TheVariants.{ElstBox as elst};
 ghost use Rattle.mp4_codec.specs.Boxes.{size_around, all_refusal};
+ghost use Rattle.mp4_codec.specs.Early.{refused_at_once};
 
 use mp4_codec::{
     BoxType, DebugItem, Entry, Field, Fields, InRange, Items, Mp4Box, Put, ReadBox, Result,
@@ -82,8 +83,8 @@ impl Entry for ElstEntry {
 
     #[tactic(auto, unfolding(crate::specs::Elst::elst_entry_at))]
     fn read(fields: &mut Fields, version: u8) -> Field<ElstEntry> {
-        let segment_duration = fields.versioned(version)?;
-        let media_time = fields.versioned(version)?;
+        let segment_duration = fields.sized(version)?;
+        let media_time = fields.sized(version)?;
         let media_rate = fields.u16()?;
         let media_rate_fraction = fields.u16()?;
         Ok(ElstEntry {
@@ -187,6 +188,8 @@ impl Mp4Box for ElstBox {
 
 impl ReadBox for ElstBox {
     ghost value = { elst_of };
+
+    ghost early = { λ payload. refused_at_once (elst_of payload) };
 
     #[tactic(auto, unfolding(crate::specs::Elst::elst_of))]
     fn read_payload(alloc: Global, payload: &[u8]) -> Result<Self> {

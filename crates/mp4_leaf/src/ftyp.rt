@@ -6,6 +6,7 @@ ghost use Rattle.mp4_codec.specs.declared.box_type.BoxType.TheVariants.{FtypBox 
 ghost use Rattle.mp4_codec.specs.Boxes.{size_around, no_refusal};
 ghost use Rattle.mp4_leaf.specs.Ftyp.{ftyp_payload, default_ftyp, ftyp_of, IsInRangeFtyp, RemarksFtyp};
 ghost use Rattle.mp4_leaf.specs.FtypLaws.{ftyp_again};
+ghost use Rattle.mp4_codec.specs.Early.{refused_at_once};
 
 use mp4_codec::{
     BoxType, Fields, FourCC, InRange, Items, Mp4Box, Put, ReadBox, Result, TryClone, WriteBox,
@@ -89,6 +90,8 @@ impl Mp4Box for FtypBox {
 
 impl ReadBox for FtypBox {
     ghost value = { ftyp_of };
+
+    ghost early = { λ payload. refused_at_once (ftyp_of payload) };
 
     #[tactic(auto, unfolding(crate::specs::Ftyp::ftyp_of))]
     fn read_payload(alloc: Global, payload: &[u8]) -> Result<Self> {

@@ -6,6 +6,7 @@ ghost use Rattle.mp4_codec.specs.Boxes.{size_around, no_refusal};
 ghost use Rattle.mp4_codec.specs.Cause.{Gives};
 ghost use Rattle.mp4_leaf.specs.Hdlr.{hdlr_payload, default_hdlr, hdlr_of, IsInRangeHdlr, RemarksHdlr};
 ghost use Rattle.mp4_leaf.specs.HdlrLaws.{hdlr_again};
+ghost use Rattle.mp4_codec.specs.Early.{refused_at_once};
 
 use mp4_codec::{
     BoxType, Fields, FourCC, InRange, Items, Mp4Box, Put, ReadBox, Result, TryClone, WriteBox,
@@ -91,6 +92,8 @@ impl Mp4Box for HdlrBox {
 
 impl ReadBox for HdlrBox {
     ghost value = { hdlr_of };
+
+    ghost early = { λ payload. refused_at_once (hdlr_of payload) };
 
     #[tactic(auto, unfolding(crate::specs::Hdlr::hdlr_of))]
     fn read_payload(alloc: Global, payload: &[u8]) -> Result<Self> {

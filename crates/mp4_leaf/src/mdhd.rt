@@ -6,6 +6,7 @@ ghost use Rattle.mp4_codec.specs.Boxes.{size_around};
 ghost use Rattle.mp4_codec.specs.Cause.{Answers};
 ghost use Rattle.mp4_leaf.specs.Mdhd.{mdhd_payload, default_mdhd, mdhd_of, mdhd_refusal, IsInRangeMdhd, RemarksMdhd, stamp_of};
 ghost use Rattle.mp4_leaf.specs.MdhdLaws.{mdhd_again};
+ghost use Rattle.mp4_codec.specs.Early.{refused_at_once};
 
 use crate::language::{check_language, pack_language, unpack_language};
 use crate::times::{Stamp, check_times, put_stamp, read_stamp};
@@ -121,6 +122,8 @@ impl Mp4Box for MdhdBox {
 
 impl ReadBox for MdhdBox {
     ghost value = { mdhd_of };
+
+    ghost early = { λ payload. refused_at_once (mdhd_of payload) };
 
     #[tactic(auto, unfolding(crate::specs::Mdhd::mdhd_of))]
     fn read_payload(alloc: Global, payload: &[u8]) -> Result<Self> {

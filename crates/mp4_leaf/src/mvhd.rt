@@ -6,6 +6,7 @@ ghost use Rattle.mp4_codec.specs.declared.box_type.BoxType.TheVariants.{MvhdBox 
 ghost use Rattle.mp4_codec.specs.Boxes.{size_around};
 ghost use Rattle.mp4_leaf.specs.Mvhd.{playback_at, mvhd_payload, default_mvhd, mvhd_of, mvhd_refusal, IsInRangeMvhd, RemarksMvhd, stamp_of};
 ghost use Rattle.mp4_leaf.specs.MvhdLaws.{mvhd_again};
+ghost use Rattle.mp4_codec.specs.Early.{at_once};
 
 use crate::matrix::{Matrix, put_matrix, read_matrix};
 use crate::times::{Stamp, check_times, put_stamp, read_stamp};
@@ -151,6 +152,8 @@ impl Mp4Box for MvhdBox {
 
 impl ReadBox for MvhdBox {
     ghost value = { mvhd_of };
+
+    ghost early = { λ payload. at_once (mvhd_of payload) };
 
     #[tactic(auto, unfolding(crate::specs::Mvhd::mvhd_of))]
     fn read_payload(_alloc: Global, payload: &[u8]) -> Result<Self>

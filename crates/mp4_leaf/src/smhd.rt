@@ -6,6 +6,7 @@ ghost use Rattle.mp4_codec.specs.Boxes.{size_around, no_refusal};
 ghost use Rattle.mp4_leaf.specs.Smhd.{smhd_payload, default_smhd, smhd_of, IsInRangeSmhd, RemarksSmhd};
 ghost use Rattle.mp4_leaf.specs.SmhdLaws.{smhd_again};
 ghost use Rattle.mp4_codec.specs.Cause.{Gives};
+ghost use Rattle.mp4_codec.specs.Early.{at_once};
 
 use mp4_codec::{
     BoxType, Fields, FixedPointI8, InRange, Mp4Box, Put, ReadBox, Result, TryClone, WriteBox,
@@ -85,6 +86,8 @@ impl Mp4Box for SmhdBox {
 
 impl ReadBox for SmhdBox {
     ghost value = { smhd_of };
+
+    ghost early = { λ payload. at_once (smhd_of payload) };
 
     #[tactic(auto, unfolding(crate::specs::Smhd::smhd_of))]
     fn read_payload(_alloc: Global, payload: &[u8]) -> Result<Self>

@@ -6,6 +6,7 @@ ghost use Rattle.mp4_codec.specs.Boxes.{size_around};
 ghost use Rattle.mp4_leaf.specs.Tkhd.{presentation_at, tkhd_payload, default_tkhd, tkhd_of, tkhd_refusal, IsInRangeTkhd, RemarksTkhd, stamp_of};
 ghost use Rattle.mp4_leaf.specs.TkhdLaws.{tkhd_again};
 ghost use Rattle.mp4_codec.specs.Cause.{Gives, Reads};
+ghost use Rattle.mp4_codec.specs.Early.{at_once};
 
 use crate::matrix::{Matrix, put_matrix, read_matrix};
 use crate::times::{Stamp, check_times, put_stamp, read_stamp};
@@ -183,6 +184,8 @@ impl Mp4Box for TkhdBox {
 
 impl ReadBox for TkhdBox {
     ghost value = { tkhd_of };
+
+    ghost early = { λ payload. at_once (tkhd_of payload) };
 
     #[tactic(auto, unfolding(crate::specs::Tkhd::tkhd_of))]
     fn read_payload(_alloc: Global, payload: &[u8]) -> Result<Self>

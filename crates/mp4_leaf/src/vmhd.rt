@@ -6,6 +6,7 @@ ghost use Rattle.mp4_codec.specs.Boxes.{size_around, no_refusal};
 ghost use Rattle.mp4_leaf.specs.Vmhd.{vmhd_payload, default_vmhd, vmhd_of, IsInRangeVmhd, RemarksVmhd};
 ghost use Rattle.mp4_leaf.specs.VmhdLaws.{vmhd_again};
 ghost use Rattle.mp4_codec.specs.Cause.{Gives};
+ghost use Rattle.mp4_codec.specs.Early.{at_once};
 
 use mp4_codec::{
     BoxType, Fields, InRange, Mp4Box, Put, ReadBox, Result, TryClone, WriteBox, put_u8, put_u16,
@@ -120,6 +121,8 @@ impl Mp4Box for VmhdBox {
 
 impl ReadBox for VmhdBox {
     ghost value = { vmhd_of };
+
+    ghost early = { λ payload. at_once (vmhd_of payload) };
 
     #[tactic(auto, unfolding(crate::specs::Vmhd::vmhd_of))]
     fn read_payload(_alloc: Global, payload: &[u8]) -> Result<Self>
