@@ -179,6 +179,25 @@ list-short read n h (suc count) bytes short =
     one-short read n count bytes (list_at read count) h short (λ rest fewer. list-short read n h count rest fewer)
     (read bytes) refl
 
+-- a list is refused by one cause
+pub list-refuses : {A : Type 0} (read : Reader A) (n : ℕ) → HasLength read n → (count : ℕ) (bytes : List ℕ) (c : Cause)
+    → list_at read count bytes ≡ Err c → c ≡ invalid_data
+unfolding list_at
+list-refuses read n h zero bytes c e = absurd cc
+list-refuses {A} read n h (suc count) bytes c e =
+    by_first (λ rest d is_err. list-refuses read n h count rest d is_err) (read bytes) refl e
+  where
+    by_others : (first : A) (r : Result (List A × List ℕ) Cause) → ((d : Cause) → r ≡ Err d → d ≡ invalid_data)
+        → ◌>>=◌ {B = List A × List ℕ} r (λ more. Ok (first ∷ more.0, more.1)) ≡ Err c → c ≡ invalid_data
+    by_others first (Ok more) known e = absurd cc
+    by_others first (Err d) known e = let same : d ≡ c = cc in rw (← same) (known d refl)
+
+    by_first : ((rest : List ℕ) (d : Cause) → list_at read count rest ≡ Err d → d ≡ invalid_data)
+        → (r : Result (A × List ℕ) Cause) → read bytes ≡ r → listed (list_at read count) r ≡ Err c
+        → c ≡ invalid_data
+    by_first others (Ok x) is e = by_others x.0 (list_at read count x.1) (others x.1) e
+    by_first others (Err d) is e = let same : d ≡ c = cc in rw (← same) (h.refuses bytes d is)
+
 pub list_again : {A : Type 0} (read : Reader A) (write : A → List ℕ) (Fits : A → Type 0) → ReadsBack read write Fits
     → (xs : List A) (rest : List ℕ) → AllByRecursion Fits xs
     → list_at read (length xs) (flat_map write xs ⧺ rest) ≡ Ok (xs, rest)

@@ -10,6 +10,7 @@ pub mod PutLaws
 pub mod WriteLaws
 pub mod Children
 pub mod Early
+pub mod EarlyLaws
 pub mod ChildrenLaws
 pub mod GatherLaws
 pub mod GatherLoop

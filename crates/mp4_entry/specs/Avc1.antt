@@ -5,6 +5,7 @@ use Rattle.mp4_codec.specs.declared.box_type.BoxType.TheVariants.{AvcCBox as avc
 use Rattle.mp4_codec.specs.Cause.{Cause, ◌>>=◌}
 use Rattle.mp4_codec.specs.Bytes.{◌⧺◌}
 use Rattle.mp4_codec.specs.Boxes.{frame, IsCanonical}
+use Rattle.mp4_codec.specs.Early.{Early, early_gathered, early_last, at_once, refused_at_once, ◌and_then◌, ◌before◌}
 use Rattle.mp4_codec.specs.Children.{children, gathered, fault_in, last_of}
 use Rattle.mp4_entry.specs.declared.visual.Visual.{Visual}
 use Rattle.mp4_entry.specs.declared.avcc.AvcCBox.{AvcCBox}
@@ -33,6 +34,13 @@ avc1_of payload = do
   last_avcc ← gathered (fault_in avcc avcc_of) (last_of avcc avcc_of) (children begins.1)
   avcc_box ← required last_avcc
   Ok (avc1_with begins.0 avcc_box)
+
+-- what a payload shows of it before memory is requested: what it begins with, then its children
+unfoldable pub avc1_early : List ℕ → Early
+avc1_early payload =
+    visual_at payload before λ begins.
+    early_gathered (early_last avcc (λ child. refused_at_once (avcc_of child))) (children begins.1)
+    and_then at_once (avc1_of payload)
 
 -- what the entry begins with
 abbrev pub visual_of : Avc1Box → Visual

@@ -19,6 +19,24 @@ unit_at bytes = do
 unfoldable pub unit : NalUnit → List ℕ
 unit u = number 2 (length u.bytes) ⧺ u.bytes
 
+-- what is left behind so many sets
+abbrev pub behind_units : ℕ → List ℕ → Result (List ℕ) Cause
+behind_units count bytes = list_at unit_at count bytes >>= λ sets. Ok sets.1
+
+-- whether a payload holds a configuration: its sets are passed over
+unfoldable pub avcc_check : List ℕ → Result (Unit {0}) Cause
+avcc_check payload = do
+  configuration_version ← number_at 1 payload
+  profile ← number_at 1 configuration_version.1
+  compatibility ← number_at 1 profile.1
+  level ← number_at 1 compatibility.1
+  length_size ← number_at 1 level.1
+  sequence_count ← number_at 1 length_size.1
+  behind_sequence_sets ← behind_units (sequence_count.0 % 32) sequence_count.1
+  picture_count ← number_at 1 behind_sequence_sets
+  behind_picture_sets ← behind_units picture_count.0 picture_count.1
+  Ok tt
+
 -- the configuration that a payload holds, field by field: of the length's size the low two bits count, of the number of
 -- sequence parameter sets the low five; what follows the sets is skipped
 unfoldable pub avcc_of : List ℕ → Result AvcCBox Cause

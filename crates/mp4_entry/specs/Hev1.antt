@@ -4,6 +4,7 @@ use Rattle.mp4_codec.specs.declared.box_type.BoxType.TheVariants.{HvcCBox as hvc
 use Rattle.mp4_codec.specs.Cause.{Cause, ◌>>=◌}
 use Rattle.mp4_codec.specs.Bytes.{◌⧺◌}
 use Rattle.mp4_codec.specs.Boxes.{frame, IsCanonical, no_refusal}
+use Rattle.mp4_codec.specs.Early.{Early, early_gathered, early_last, at_once, refused_at_once, ◌and_then◌, ◌before◌}
 use Rattle.mp4_codec.specs.Children.{children, gathered, fault_in, last_of}
 use Rattle.mp4_entry.specs.declared.visual.Visual.{Visual}
 use Rattle.mp4_entry.specs.declared.hvcc.HvcCBox.{HvcCBox}
@@ -32,6 +33,13 @@ hev1_of payload = do
   last_hvcc ← gathered (fault_in hvcc hvcc_of) (last_of hvcc hvcc_of) (children begins.1)
   hvcc_box ← required last_hvcc
   Ok (hev1_with begins.0 hvcc_box)
+
+-- what a payload shows of it before memory is requested: what it begins with, then its children
+unfoldable pub hev1_early : List ℕ → Early
+hev1_early payload =
+    visual_at payload before λ begins.
+    early_gathered (early_last hvcc (λ child. refused_at_once (hvcc_of child))) (children begins.1)
+    and_then at_once (hev1_of payload)
 
 -- what the entry begins with
 abbrev pub visual_of : Hev1Box → Visual

@@ -41,10 +41,14 @@ abbrev pub or_wave_esds : List ℕ → Option EsdsBox → Result (Option EsdsBox
 or_wave_esds bytes (Some b) = Ok (Some b)
 or_wave_esds bytes None = last_payload wave bytes >>= wave_esds
 
+-- the last esds among children
+abbrev pub direct_esds : List ℕ → Result (Option EsdsBox) Cause
+direct_esds bytes = gathered (fault_in esds esds_of) (last_of esds esds_of) (children bytes)
+
 -- the esds among children: the last, and where there is none, that of the last wave
 unfoldable pub child_esds : List ℕ → Result (Option EsdsBox) Cause
 child_esds bytes = do
-  direct ← gathered (fault_in esds esds_of) (last_of esds esds_of) (children bytes)
+  direct ← direct_esds bytes
   or_wave_esds bytes direct
 
 -- the esds behind the fields: children stand there in sound version 0, and behind 16 bytes more in 1

@@ -5,6 +5,7 @@ use Rattle.mp4_codec.specs.declared.box_type.BoxType.TheVariants.{Mp4aBox as mp4
 use Rattle.mp4_codec.specs.Cause.{Cause, ◌>>=◌, seen}
 use Rattle.mp4_codec.specs.Bytes.{number_at, number, ◌⧺◌}
 use Rattle.mp4_codec.specs.Boxes.{frame, IsCanonical}
+use Rattle.mp4_codec.specs.Early.{Early, succeeds, at_once, ◌before◌}
 use Rattle.mp4_codec.specs.Children.{ChildBox, next_at, is_of}
 use Rattle.mp4_entry.specs.declared.config.MediaConfig.{MediaConfig}
 use Rattle.mp4_entry.specs.declared.config.MediaConfig.TheVariants.{AvcConfig as Avc, HevcConfig as Hevc}
@@ -16,9 +17,9 @@ use Rattle.mp4_entry.specs.declared.hev1.Hev1Box.{Hev1Box}
 use Rattle.mp4_entry.specs.declared.vp09.Vp09Box.{Vp09Box}
 use Rattle.mp4_entry.specs.declared.mp4a.Mp4aBox.{Mp4aBox}
 use Rattle.mp4_entry.specs.declared.tx3g.Tx3gBox.{Tx3gBox}
-use Rattle.mp4_entry.specs.Avc1.{avc1_of, avc1_payload, avc1_refusal, IsInRangeAvc1, RemarksAvc1, avc1_of_config}
-use Rattle.mp4_entry.specs.Hev1.{hev1_of, hev1_payload, IsInRangeHev1, RemarksHev1, hev1_of_config}
-use Rattle.mp4_entry.specs.Vp09.{vp09_of, vp09_payload, IsInRangeVp09, RemarksVp09, vp09_of_config}
+use Rattle.mp4_entry.specs.Avc1.{avc1_of, avc1_early, avc1_payload, avc1_refusal, IsInRangeAvc1, RemarksAvc1, avc1_of_config}
+use Rattle.mp4_entry.specs.Hev1.{hev1_of, hev1_early, hev1_payload, IsInRangeHev1, RemarksHev1, hev1_of_config}
+use Rattle.mp4_entry.specs.Vp09.{vp09_of, vp09_early, vp09_payload, IsInRangeVp09, RemarksVp09, vp09_of_config}
 use Rattle.mp4_entry.specs.Mp4a.{mp4a_of, mp4a_payload, mp4a_refusal, IsInRangeMp4a, RemarksMp4a, mp4a_of_config}
 use Rattle.mp4_entry.specs.Tx3g.{tx3g_of, tx3g_payload, IsInRangeTx3g, RemarksTx3g, default_tx3g}
 
@@ -68,6 +69,29 @@ stsd_of payload = do
   first ← next_at count.1
   entry ← entry_in first.0
   Ok (with_entry version.0 flags.0 entry)
+
+-- what a child shows before memory is requested
+unfoldable pub entry_early : ChildBox → Early
+entry_early c =
+    if is_of avc1 c then avc1_early c.1 else
+    if is_of hev1 c then hev1_early c.1 else
+    if is_of vp09 c then vp09_early c.1 else
+    if is_of mp4a c then at_once (mp4a_of c.1) else
+    if is_of tx3g c then at_once (tx3g_of c.1) else
+    succeeds
+
+abbrev pub first_early : Option ChildBox → Early
+first_early None = succeeds
+first_early (Some c) = entry_early c
+
+-- what a payload shows: its fields, and then its first entry
+unfoldable pub stsd_early : List ℕ → Early
+stsd_early payload =
+    number_at 1 payload before λ version.
+    number_at 3 version.1 before λ flags.
+    number_at 4 flags.1 before λ count.
+    next_at count.1 before λ first.
+    first_early first.0
 
 -- an entry that is there, or what comes after it
 abbrev pub present_or : {A : Type 0} → Option A → (A → SampleEntry) → SampleEntry → SampleEntry

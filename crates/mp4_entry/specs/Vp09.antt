@@ -4,6 +4,7 @@ use Rattle.mp4_codec.specs.declared.box_type.BoxType.TheVariants.{VpccBox as vpc
 use Rattle.mp4_codec.specs.Cause.{Cause, ◌>>=◌}
 use Rattle.mp4_codec.specs.Bytes.{◌⧺◌}
 use Rattle.mp4_codec.specs.Boxes.{frame, IsCanonical, no_refusal}
+use Rattle.mp4_codec.specs.Early.{Early, early_gathered, early_last, at_once, refused_at_once, ◌and_then◌, ◌before◌}
 use Rattle.mp4_codec.specs.Children.{children, gathered, fault_in, last_of}
 use Rattle.mp4_entry.specs.declared.visual.Visual.{Visual}
 use Rattle.mp4_entry.specs.declared.vpcc.VpccBox.{VpccBox}
@@ -32,6 +33,13 @@ vp09_of payload = do
   last_vpcc ← gathered (fault_in vpcc vpcc_of) (last_of vpcc vpcc_of) (children begins.1)
   vpcc_box ← required last_vpcc
   Ok (vp09_with begins.0 vpcc_box)
+
+-- what a payload shows of it before memory is requested: what it begins with, then its children
+unfoldable pub vp09_early : List ℕ → Early
+vp09_early payload =
+    visual_at payload before λ begins.
+    early_gathered (early_last vpcc (λ child. refused_at_once (vpcc_of child))) (children begins.1)
+    and_then at_once (vp09_of payload)
 
 -- what the entry begins with
 abbrev pub visual_of : Vp09Box → Visual

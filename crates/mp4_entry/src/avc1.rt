@@ -5,7 +5,7 @@ ghost use Rattle.mp4_codec.specs.declared.box_type.BoxType.TheVariants.{Avc1Box 
 ghost use Rattle.mp4_codec.specs.Cause.{Gives, Answers};
 ghost use Rattle.mp4_codec.specs.Boxes.{size_around};
 ghost use Rattle.mp4_entry.specs.declared.visual.Visual.{Visual};
-ghost use Rattle.mp4_entry.specs.Avc1.{avc1_of, avc1_payload, avc1_refusal, avc1_with, avc1_of_config, default_avc1, visual_of, IsInRangeAvc1, RemarksAvc1, IsInRangeAvcConfig};
+ghost use Rattle.mp4_entry.specs.Avc1.{avc1_of, avc1_early, avc1_payload, avc1_refusal, avc1_with, avc1_of_config, default_avc1, visual_of, IsInRangeAvc1, RemarksAvc1, IsInRangeAvcConfig};
 ghost use Rattle.mp4_entry.specs.Avc1Laws.{avc1_again};
 
 use crate::avcc::AvcCBox;
@@ -175,7 +175,9 @@ impl Mp4Box for Avc1Box {
 impl ReadBox for Avc1Box {
     ghost value = { avc1_of };
 
-    #[tactic(auto, unfolding(crate::specs::Avc1::avc1_of))]
+    ghost early = { avc1_early };
+
+    #[tactic(auto, unfolding(crate::specs::Avc1::avc1_of, crate::specs::Avc1::avc1_early))]
     fn read_payload(alloc: Global, payload: &[u8]) -> Result<Self> {
         let mut fields = Fields::new(payload);
         let visual = read_visual(&mut fields)?;

@@ -3,15 +3,16 @@
 ghost use Rattle.std.specs.Prelude.{◌≡◌, ◌-◌, ◌^◌, [], ◌∷◌, min, length, Ok, OnOk, unwrap_or, slice_get};
 ghost use Rattle.std.specs.List.{flat_map};
 ghost use Rattle.mp4_codec.specs.declared.box_type.BoxType.TheVariants.{AvcCBox as avcc};
-ghost use Rattle.mp4_codec.specs.Cause.{Gives, Answers, Checks};
+ghost use Rattle.mp4_codec.specs.Cause.{Gives, Answers, Checks, Reads};
 ghost use Rattle.mp4_codec.specs.Bytes.{Appends, number, list_at};
 ghost use Rattle.mp4_codec.specs.Boxes.{size_around, all_refusal};
-ghost use Rattle.mp4_entry.specs.Avcc.{unit_at, unit, unit_refusal, avcc_of, avcc_payload, avcc_refusal, default_avcc, avcc_of_sets, IsInRangeAvcC, IsInRangeNalUnit, RemarksAvcC};
+ghost use Rattle.mp4_entry.specs.Avcc.{unit_at, unit, unit_refusal, behind_units, avcc_check, avcc_of, avcc_payload, avcc_refusal, default_avcc, avcc_of_sets, IsInRangeAvcC, IsInRangeNalUnit, RemarksAvcC};
 ghost use Rattle.mp4_entry.specs.AvccLaws.{avcc_again};
+ghost use Rattle.mp4_codec.specs.Early.{refused_at_once};
 
 use crate::narrow::{check_most, put_low_u8, put_low_u16};
 use mp4_codec::{
-    BoxType, DebugItem, Fields, InRange, Items, Mp4Box, Put, ReadBox, Result, TryClone, WriteBox,
+    BoxType, DebugItem, Field, Fields, InRange, Items, Mp4Box, Put, ReadBox, Result, TryClone, WriteBox,
     put_bytes, put_u8,
 };
 use std::alloc::Global;
@@ -78,6 +79,36 @@ impl InRange for NalUnit {
     fn in_range(&self) {
         self.bytes.in_range();
     }
+}
+
+/// Passes over so many sets. The first that passes the end is `InvalidData`.
+#[tactic(auto, unfolding(crate::specs::Avcc::unit_at))]
+fn skip_units(fields: &mut Fields, count: u8) -> Field<()>
+    ensures { Reads (λ _. fields.new) result (behind_units count fields.old) }
+{
+    for _ in 0..count {
+        let length = fields.u16()?;
+        fields.bytes(length as usize)?;
+    }
+    Ok(())
+}
+
+/// Whether a payload holds a configuration: what refuses it is found without a request for memory.
+#[tactic(auto, unfolding(crate::specs::Avcc::avcc_check))]
+fn check_payload(payload: &[u8]) -> Field<()>
+    ensures { Reads (λ _. tt) result (avcc_check payload.now) }
+{
+    let mut fields = Fields::new(payload);
+    fields.u8()?;
+    fields.u8()?;
+    fields.u8()?;
+    fields.u8()?;
+    fields.u8()?;
+    let sequence_count = fields.u8()?;
+    skip_units(&mut fields, sequence_count % 32)?;
+    let picture_count = fields.u8()?;
+    skip_units(&mut fields, picture_count)?;
+    Ok(())
 }
 
 /// So many sets, one after the other. The first that passes the end is `InvalidData`.
@@ -263,8 +294,11 @@ impl Mp4Box for AvcCBox {
 impl ReadBox for AvcCBox {
     ghost value = { avcc_of };
 
-    #[tactic(auto, unfolding(crate::specs::Avcc::avcc_of))]
+    ghost early = { λ payload. refused_at_once (avcc_of payload) };
+
+    #[tactic(auto, using(crate::proofs::Units::checked), unfolding(crate::specs::Avcc::avcc_of))]
     fn read_payload(alloc: Global, payload: &[u8]) -> Result<Self> {
+        check_payload(payload)?;
         let mut fields = Fields::new(payload);
         let configuration_version = fields.u8()?;
         let avc_profile_indication = fields.u8()?;

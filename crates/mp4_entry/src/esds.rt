@@ -9,6 +9,7 @@ ghost use Rattle.mp4_entry.specs.Descriptor.{descriptor};
 ghost use Rattle.mp4_entry.specs.Esds.{bits, profile_in, profile_end, frequency_in, frequency_end, decoder_specific_of, decoder_config_of, es_descriptor_of, is_set, behind_id, behind_url, behind_options};
 ghost use Rattle.mp4_entry.specs.Esds.{esds_of, esds_payload, esds_refusal, specific_word, stream_byte, decoder_config, es_descriptor, specific_refusal, config_refusal, IsInRangeEsds, RemarksEsds, default_esds};
 ghost use Rattle.mp4_entry.specs.EsdsLaws.{esds_again};
+ghost use Rattle.mp4_codec.specs.Early.{at_once};
 
 use crate::descriptor::{Padded, first_body};
 use crate::narrow::{check_most, put_low_u8, put_low_u16};
@@ -389,6 +390,8 @@ impl Mp4Box for EsdsBox {
 
 impl ReadBox for EsdsBox {
     ghost value = { esds_of };
+
+    ghost early = { λ payload. at_once (esds_of payload) };
 
     #[tactic(auto, unfolding(crate::specs::Esds::esds_of))]
     fn read_payload(_alloc: Global, payload: &[u8]) -> Result<Self>

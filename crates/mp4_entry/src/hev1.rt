@@ -5,7 +5,7 @@ ghost use Rattle.mp4_codec.specs.declared.box_type.BoxType.TheVariants.{Hev1Box 
 ghost use Rattle.mp4_codec.specs.Cause.{Gives, Answers};
 ghost use Rattle.mp4_codec.specs.Boxes.{size_around, no_refusal};
 ghost use Rattle.mp4_entry.specs.declared.visual.Visual.{Visual};
-ghost use Rattle.mp4_entry.specs.Hev1.{hev1_of, hev1_payload, hev1_with, hev1_of_config, default_hev1, visual_of, IsInRangeHev1, RemarksHev1, IsInRangeHevcConfig};
+ghost use Rattle.mp4_entry.specs.Hev1.{hev1_of, hev1_early, hev1_payload, hev1_with, hev1_of_config, default_hev1, visual_of, IsInRangeHev1, RemarksHev1, IsInRangeHevcConfig};
 ghost use Rattle.mp4_entry.specs.Hev1Laws.{hev1_again};
 
 use crate::hvcc::HvcCBox;
@@ -166,7 +166,9 @@ impl Mp4Box for Hev1Box {
 impl ReadBox for Hev1Box {
     ghost value = { hev1_of };
 
-    #[tactic(auto, unfolding(crate::specs::Hev1::hev1_of))]
+    ghost early = { hev1_early };
+
+    #[tactic(auto, unfolding(crate::specs::Hev1::hev1_of, crate::specs::Hev1::hev1_early))]
     fn read_payload(alloc: Global, payload: &[u8]) -> Result<Self> {
         let mut fields = Fields::new(payload);
         let visual = read_visual(&mut fields)?;

@@ -6,6 +6,7 @@ ghost use Rattle.mp4_codec.specs.Cause.{Answers};
 ghost use Rattle.mp4_codec.specs.Boxes.{size_around, no_refusal};
 ghost use Rattle.mp4_entry.specs.Hvcc.{hvcc_of, hvcc_payload, default_hvcc, IsInRangeHvcC, RemarksHvcC};
 ghost use Rattle.mp4_entry.specs.HvccLaws.{hvcc_again};
+ghost use Rattle.mp4_codec.specs.Early.{refused_at_once};
 
 use mp4_codec::{
     BoxType, InRange, Items, Mp4Box, Put, ReadBox, Result, TryClone, WriteBox, put_bytes, put_u8,
@@ -76,6 +77,8 @@ impl Mp4Box for HvcCBox {
 
 impl ReadBox for HvcCBox {
     ghost value = { hvcc_of };
+
+    ghost early = { λ payload. refused_at_once (hvcc_of payload) };
 
     #[tactic(auto, unfolding(crate::specs::Hvcc::hvcc_of))]
     fn read_payload(alloc: Global, payload: &[u8]) -> Result<Self> {

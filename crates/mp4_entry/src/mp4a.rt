@@ -3,11 +3,12 @@
 ghost use Rattle.std.specs.Prelude.{◌≡◌, ◌+◌, length, Ok};
 ghost use Rattle.std.specs.Option.{option_map};
 ghost use Rattle.mp4_codec.specs.declared.box_type.BoxType.TheVariants.{EsdsBox as esds, Mp4aBox as mp4a};
-ghost use Rattle.mp4_codec.specs.Cause.{Answers, Gives};
+ghost use Rattle.mp4_codec.specs.Cause.{Gives};
 ghost use Rattle.mp4_codec.specs.Children.{child_box, with_last};
 ghost use Rattle.mp4_codec.specs.Boxes.{size_around};
-ghost use Rattle.mp4_entry.specs.Mp4a.{as_it_is, last_payload, found_esds, child_esds, versioned_esds, mp4a_of, mp4a_payload, mp4a_refusal, IsInRangeMp4a, RemarksMp4a, default_mp4a, samplerate_of, esds_of_config, mp4a_of_config, IsInRangeAacConfig};
+ghost use Rattle.mp4_entry.specs.Mp4a.{as_it_is, last_payload, found_esds, direct_esds, child_esds, versioned_esds, mp4a_of, mp4a_payload, mp4a_refusal, IsInRangeMp4a, RemarksMp4a, default_mp4a, samplerate_of, esds_of_config, mp4a_of_config, IsInRangeAacConfig};
 ghost use Rattle.mp4_entry.specs.Mp4aLaws.{mp4a_again};
+ghost use Rattle.mp4_codec.specs.Early.{at_once};
 
 use crate::audio_object_type::AudioObjectType;
 use crate::channel_config::ChannelConfig;
@@ -145,12 +146,20 @@ fn wave_esds(alloc: Global, wave: &[u8]) -> Result<Option<EsdsBox>>
     }
 }
 
+/// The last `esds` among children, which takes no memory.
+#[tactic(auto, using(crate::proofs::DirectEsds::direct_gives))]
+fn direct_esds(alloc: Global, bytes: &[u8]) -> Result<Option<EsdsBox>>
+    ensures { Gives (λ b. b) result (direct_esds bytes.now) }
+{
+    last_child::<EsdsBox>(alloc, bytes)
+}
+
 /// The `esds` among children: the last, or else that of the last `wave`.
 #[tactic(auto, unfolding(crate::specs::Mp4a::child_esds))]
 fn child_esds(alloc: Global, bytes: &[u8]) -> Result<Option<EsdsBox>>
-    ensures { Answers (λ b. b) result (child_esds bytes.now) }
+    ensures { Gives (λ b. b) result (child_esds bytes.now) }
 {
-    if let Some(direct) = last_child::<EsdsBox>(alloc, bytes)? {
+    if let Some(direct) = direct_esds(alloc, bytes)? {
         return Ok(Some(direct));
     }
     match last_payload(bytes, BoxType::WaveBox)? {
@@ -162,7 +171,7 @@ fn child_esds(alloc: Global, bytes: &[u8]) -> Result<Option<EsdsBox>>
 /// The `esds` behind the fields of an entry of this sound version.
 #[tactic(auto, unfolding(crate::specs::Mp4a::versioned_esds))]
 fn versioned_esds(alloc: Global, version: u16, fields: &mut Fields) -> Result<Option<EsdsBox>>
-    ensures { Answers (λ b. b) result (versioned_esds version fields.old) }
+    ensures { Gives (λ b. b) result (versioned_esds version fields.old) }
 {
     match version {
         0 => child_esds(alloc, fields.rest()),
@@ -258,8 +267,12 @@ impl Mp4Box for Mp4aBox {
 impl ReadBox for Mp4aBox {
     ghost value = { mp4a_of };
 
+    ghost early = { λ payload. at_once (mp4a_of payload) };
+
     #[tactic(auto, unfolding(crate::specs::Mp4a::mp4a_of))]
-    fn read_payload(alloc: Global, payload: &[u8]) -> Result<Self> {
+    fn read_payload(alloc: Global, payload: &[u8]) -> Result<Self>
+        ensures { Gives (λ x. x) result (mp4a_of payload.now) }
+    {
         let mut fields = Fields::new(payload);
         fields.bytes(6)?;
         let data_reference_index = fields.u16()?;

@@ -6,8 +6,9 @@ ghost use Rattle.mp4_codec.specs.Boxes.{size_around};
 ghost use Rattle.mp4_codec.specs.Bytes.{Appends};
 ghost use Rattle.mp4_codec.specs.Cause.{Answers, Checks, seen};
 ghost use Rattle.mp4_codec.specs.Children.{child_box};
-ghost use Rattle.mp4_entry.specs.Stsd.{stsd_payload, default_stsd, stsd_of, stsd_of_config, stsd_refusal, IsInRangeStsd, RemarksStsd, first_entry, with_entry, entry_of, avc_video, hevc_video, vp9_video, aac_sound, text, entry_bytes, entry_count, no_entry};
+ghost use Rattle.mp4_entry.specs.Stsd.{stsd_payload, default_stsd, stsd_of, stsd_early, stsd_of_config, stsd_refusal, IsInRangeStsd, RemarksStsd, first_entry, with_entry, entry_of, entry_early, avc_video, hevc_video, vp9_video, aac_sound, text, entry_bytes, entry_count, no_entry};
 ghost use Rattle.mp4_entry.specs.StsdLaws.{stsd_again};
+ghost use Rattle.mp4_codec.specs.Early.{Shows};
 
 use crate::avc1::Avc1Box;
 use crate::config::MediaConfig;
@@ -149,9 +150,10 @@ impl StsdBox {
     }
 
     /// The description whose first entry is this child.
-    #[tactic(auto, unfolding(crate::specs::Stsd::entry_of))]
+    #[tactic(auto, unfolding(crate::specs::Stsd::entry_of, crate::specs::Stsd::entry_early))]
     fn read_entry(alloc: Global, version: u8, flags: u32, child: &Child) -> Result<Self>
-        ensures { Answers (λ b. b) result (seen (with_entry version flags) (entry_of (child_box child.now))) }
+        ensures value { Answers (λ b. b) result (seen (with_entry version flags) (entry_of (child_box child.now))) }
+        ensures early { Shows (entry_early (child_box child.now)) result }
     {
         let code = u32::from(child.name);
         if code == u32::from(BoxType::Avc1Box) {
@@ -322,7 +324,9 @@ impl Mp4Box for StsdBox {
 impl ReadBox for StsdBox {
     ghost value = { stsd_of };
 
-    #[tactic(auto, unfolding(crate::specs::Stsd::stsd_of))]
+    ghost early = { stsd_early };
+
+    #[tactic(auto, unfolding(crate::specs::Stsd::stsd_of, crate::specs::Stsd::stsd_early))]
     fn read_payload(alloc: Global, payload: &[u8]) -> Result<Self> {
         let mut fields = Fields::new(payload);
         let version = fields.u8()?;

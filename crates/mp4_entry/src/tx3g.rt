@@ -6,6 +6,7 @@ ghost use Rattle.mp4_codec.specs.Boxes.{size_around, no_refusal};
 ghost use Rattle.mp4_codec.specs.Cause.{Gives};
 ghost use Rattle.mp4_entry.specs.Tx3g.{tx3g_payload, default_tx3g, tx3g_of, IsInRangeTx3g, RemarksTx3g};
 ghost use Rattle.mp4_entry.specs.Tx3gLaws.{tx3g_again};
+ghost use Rattle.mp4_codec.specs.Early.{at_once};
 
 use mp4_codec::{
     BoxType, Fields, InRange, Mp4Box, Put, ReadBox, Result, TryClone, WriteBox, put_bytes, put_u16,
@@ -114,6 +115,8 @@ impl Mp4Box for Tx3gBox {
 
 impl ReadBox for Tx3gBox {
     ghost value = { tx3g_of };
+
+    ghost early = { λ payload. at_once (tx3g_of payload) };
 
     #[tactic(auto, unfolding(crate::specs::Tx3g::tx3g_of))]
     fn read_payload(_alloc: Global, payload: &[u8]) -> Result<Self>

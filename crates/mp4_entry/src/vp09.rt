@@ -5,7 +5,7 @@ ghost use Rattle.mp4_codec.specs.declared.box_type.BoxType.TheVariants.{Vp09Box 
 ghost use Rattle.mp4_codec.specs.Cause.{Gives, Answers};
 ghost use Rattle.mp4_codec.specs.Boxes.{size_around, no_refusal};
 ghost use Rattle.mp4_entry.specs.declared.visual.Visual.{Visual};
-ghost use Rattle.mp4_entry.specs.Vp09.{vp09_of, vp09_payload, vp09_with, vp09_of_config, default_vp09, visual_of, IsInRangeVp09, RemarksVp09, IsInRangeVp9Config};
+ghost use Rattle.mp4_entry.specs.Vp09.{vp09_of, vp09_early, vp09_payload, vp09_with, vp09_of_config, default_vp09, visual_of, IsInRangeVp09, RemarksVp09, IsInRangeVp9Config};
 ghost use Rattle.mp4_entry.specs.Vp09Laws.{vp09_again};
 
 use crate::visual::{VISUAL_SIZE, Visual, put_visual, read_visual};
@@ -166,7 +166,9 @@ impl Mp4Box for Vp09Box {
 impl ReadBox for Vp09Box {
     ghost value = { vp09_of };
 
-    #[tactic(auto, unfolding(crate::specs::Vp09::vp09_of))]
+    ghost early = { vp09_early };
+
+    #[tactic(auto, unfolding(crate::specs::Vp09::vp09_of, crate::specs::Vp09::vp09_early))]
     fn read_payload(alloc: Global, payload: &[u8]) -> Result<Self> {
         let mut fields = Fields::new(payload);
         let visual = read_visual(&mut fields)?;

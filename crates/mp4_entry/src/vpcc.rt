@@ -6,6 +6,7 @@ ghost use Rattle.mp4_codec.specs.Cause.{Answers};
 ghost use Rattle.mp4_codec.specs.Boxes.{size_around, no_refusal};
 ghost use Rattle.mp4_entry.specs.Vpcc.{vpcc_of, vpcc_payload, default_vpcc, IsInRangeVpcc, RemarksVpcc};
 ghost use Rattle.mp4_entry.specs.VpccLaws.{vpcc_again};
+ghost use Rattle.mp4_codec.specs.Early.{refused_at_once};
 
 use mp4_codec::{
     BoxType, InRange, Items, Mp4Box, Put, ReadBox, Result, TryClone, WriteBox, put_bytes, put_u32,
@@ -76,6 +77,8 @@ impl Mp4Box for VpccBox {
 
 impl ReadBox for VpccBox {
     ghost value = { vpcc_of };
+
+    ghost early = { λ payload. refused_at_once (vpcc_of payload) };
 
     #[tactic(auto, unfolding(crate::specs::Vpcc::vpcc_of))]
     fn read_payload(alloc: Global, payload: &[u8]) -> Result<Self> {

@@ -68,4 +68,5 @@ optional-has_length {A} read n flag flags h = chosen (is_set flags flag)
           let same : bytes ≡ rest = ap (λ (y : Option A × List ℕ). y.1) (ok_is (None, bytes) (x, rest) e) in
           rw same (omega arith);
       refuses = λ bytes c e. absurd cc;
+      enough = λ bytes fits. ((None, bytes), refl);
     }

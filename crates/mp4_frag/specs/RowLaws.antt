@@ -14,12 +14,13 @@ use Rattle.mp4_codec.specs.Cause.{Cause, invalid_data, ◌>>=◌}
 use Rattle.mp4_codec.specs.Bytes.{Reader, number_at, number, list_at, count_cause, ◌⧺◌, HasLength, ReadsBack}
 use Rattle.mp4_codec.specs.FieldLaws.{length-number, length-then, then_assoc, list_last}
 use Rattle.mp4_codec.specs.FieldLaws.{number-has_length, seen-has_length, then-has_length, count_cause-refused}
+use Rattle.mp4_codec.specs.FieldLaws.{count_cause-enough}
 use Rattle.mp4_frag.specs.Optional.{is_set, optional_at, optional_field, flag_refusal}
 use Rattle.mp4_frag.specs.OptionalLaws.{length-optional_field, optional_again, optional-has_length, number_back}
 use Rattle.mp4_frag.specs.declared.rows.Row.{Row}
 use Rattle.mp4_frag.specs.declared.rows.Columns.{Columns}
 use Rattle.mp4_frag.specs.Rows.{row_at, row, field_length, row_length, no_columns, columns_at, row_of, rows}
-use Rattle.mp4_frag.specs.Rows.{longest, listed, column_refusal}
+use Rattle.mp4_frag.specs.Rows.{longest, listed, column_refusal, with_rows}
 
 -- LENGTHS
 
@@ -135,6 +136,14 @@ pub columns-short : (flags count : ℕ) (bytes : List ℕ) (c : Cause)
 unfolding columns_at
 columns-short flags count bytes c e =
     rw (count_cause-refused (row_at flags) (row_length flags) (row-has_length flags) count bytes c e) refl
+
+-- rows that don't pass the end are read
+pub columns-enough : (flags count : ℕ) (bytes : List ℕ) → count_cause count (row_length flags) bytes ≡ None
+    → (x : Columns × List ℕ) × (columns_at flags count bytes ≡ Ok x)
+unfolding columns_at
+columns-enough flags count bytes e =
+    let read = count_cause-enough (row_at flags) (row_length flags) (row-has_length flags) count bytes e in
+    ((with_rows no_columns read.0.0, read.0.1), rw read.1 refl)
 
 -- ROWS OF NOTHING
 

@@ -2,11 +2,12 @@
 
 ghost use Rattle.std.specs.Prelude.{◌≡◌, Ok, OnOk};
 ghost use Rattle.mp4_codec.specs.declared.box_type.BoxType.TheVariants.{EmsgBox as emsg};
-ghost use Rattle.mp4_codec.specs.Cause.{Answers, Checks, Gives, Refuses, fault_of};
+ghost use Rattle.mp4_codec.specs.Cause.{Answers, Checks, Gives};
 ghost use Rattle.mp4_codec.specs.Bytes.{Appends};
 ghost use Rattle.mp4_codec.specs.Boxes.{size_around};
 ghost use Rattle.mp4_frag.specs.Emsg.{emsg_payload, emsg_0_payload, emsg_1_payload, ended, only_refusal, default_emsg, emsg_of, emsg_0_of, emsg_1_of, emsg_refusal, IsInRangeEmsg, RemarksEmsg};
 ghost use Rattle.mp4_frag.specs.EmsgLaws.{emsg_again};
+ghost use Rattle.mp4_codec.specs.Early.{Shows, refused_at_once};
 
 use mp4_codec::{
     BoxType, DebugItem, Error, Fields, InRange, Items, Mp4Box, Put, ReadBox, Result, TryClone,
@@ -91,7 +92,7 @@ impl EmsgBox {
     #[tactic(auto, unfolding(crate::specs::Emsg::emsg_0_of))]
     fn read_version_0(alloc: Global, flags: u32, bytes: &[u8]) -> Result<Self>
         ensures value { Answers (λ x. x) result (emsg_0_of flags bytes.now) }
-        ensures early { Refuses (fault_of (emsg_0_of flags bytes.now)) result }
+        ensures early { Shows (refused_at_once (emsg_0_of flags bytes.now)) result }
     {
         let mut fields = Fields::new(bytes);
         let scheme_id_uri = fields.text()?;
@@ -119,7 +120,7 @@ impl EmsgBox {
     #[tactic(auto, unfolding(crate::specs::Emsg::emsg_1_of))]
     fn read_version_1(alloc: Global, flags: u32, bytes: &[u8]) -> Result<Self>
         ensures value { Answers (λ x. x) result (emsg_1_of flags bytes.now) }
-        ensures early { Refuses (fault_of (emsg_1_of flags bytes.now)) result }
+        ensures early { Shows (refused_at_once (emsg_1_of flags bytes.now)) result }
     {
         let mut fields = Fields::new(bytes);
         let timescale = fields.u32()?;
@@ -257,6 +258,8 @@ impl Mp4Box for EmsgBox {
 
 impl ReadBox for EmsgBox {
     ghost value = { emsg_of };
+
+    ghost early = { λ payload. refused_at_once (emsg_of payload) };
 
     #[tactic(auto, unfolding(crate::specs::Emsg::emsg_of))]
     fn read_payload(alloc: Global, payload: &[u8]) -> Result<Self> {

@@ -6,6 +6,7 @@ ghost use Rattle.mp4_codec.specs.Cause.{Gives};
 ghost use Rattle.mp4_codec.specs.Boxes.{size_around};
 ghost use Rattle.mp4_frag.specs.Mehd.{mehd_payload, default_mehd, mehd_of, mehd_refusal, IsInRangeMehd, RemarksMehd};
 ghost use Rattle.mp4_frag.specs.MehdLaws.{mehd_again};
+ghost use Rattle.mp4_codec.specs.Early.{at_once};
 
 use mp4_codec::{
     BoxType, Fields, InRange, Mp4Box, Put, ReadBox, Result, TryClone, WriteBox, check_value,
@@ -86,6 +87,8 @@ impl Mp4Box for MehdBox {
 
 impl ReadBox for MehdBox {
     ghost value = { mehd_of };
+
+    ghost early = { λ payload. at_once (mehd_of payload) };
 
     #[tactic(auto, unfolding(crate::specs::Mehd::mehd_of))]
     fn read_payload(_alloc: Global, payload: &[u8]) -> Result<Self>

@@ -6,6 +6,7 @@ ghost use Rattle.mp4_codec.specs.Cause.{Gives};
 ghost use Rattle.mp4_codec.specs.Boxes.{size_around, no_refusal};
 ghost use Rattle.mp4_frag.specs.Mfhd.{mfhd_payload, default_mfhd, mfhd_of, IsInRangeMfhd, RemarksMfhd};
 ghost use Rattle.mp4_frag.specs.MfhdLaws.{mfhd_again};
+ghost use Rattle.mp4_codec.specs.Early.{at_once};
 
 use mp4_codec::{
     BoxType, Fields, InRange, Mp4Box, Put, ReadBox, Result, TryClone, WriteBox, put_u8, put_u24,
@@ -85,6 +86,8 @@ impl Mp4Box for MfhdBox {
 
 impl ReadBox for MfhdBox {
     ghost value = { mfhd_of };
+
+    ghost early = { λ payload. at_once (mfhd_of payload) };
 
     #[tactic(auto, unfolding(crate::specs::Mfhd::mfhd_of))]
     fn read_payload(_alloc: Global, payload: &[u8]) -> Result<Self>

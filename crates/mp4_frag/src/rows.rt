@@ -3,9 +3,10 @@
 
 ghost use Rattle.std.specs.Prelude.{◌≡◌, ◌≤◌, [], ◌++◌, OnOk, IfOk};
 ghost use Rattle.std.specs.Option.{option_to_list};
-ghost use Rattle.mp4_codec.specs.Cause.{Answers, Checks, Gives, Reads, Refuses};
+ghost use Rattle.mp4_codec.specs.Cause.{Answers, Checks, Gives, Reads};
 ghost use Rattle.mp4_codec.specs.Bytes.{Appends, list_at, count_cause};
 ghost use Rattle.mp4_frag.specs.Rows.{row_at, row, field_length, row_length, with_row, no_columns, columns_after, columns_at, column_refusal};
+ghost use Rattle.mp4_codec.specs.Early.{Shows, refused_at_once};
 
 use crate::optional::{is_set, put_flagged, read_flagged};
 use mp4_codec::{Error, Field, Fields, Items, Put, Result};
@@ -198,7 +199,7 @@ impl Columns {
     /// each column grows once. Rows without numbers take no memory, and are not gone over.
     pub(crate) fn read(alloc: Global, fields: &mut Fields, flags: u32, count: u32) -> Result<Self>
         ensures value { Answers (λ x. (x, fields.new)) result (columns_at flags count fields.old) }
-        ensures count { Refuses (count_cause count (row_length flags) fields.old) result }
+        ensures early { Shows (refused_at_once (columns_at flags count fields.old)) result }
         ensures nothing { row_length flags ≡ 0 → Gives (λ x. (x, fields.new)) result (columns_at flags count fields.old) }
     {
         let each = row_size(flags);

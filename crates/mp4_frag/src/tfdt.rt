@@ -6,6 +6,7 @@ ghost use Rattle.mp4_codec.specs.Cause.{Gives};
 ghost use Rattle.mp4_codec.specs.Boxes.{size_around};
 ghost use Rattle.mp4_frag.specs.Tfdt.{tfdt_payload, default_tfdt, tfdt_of, tfdt_refusal, IsInRangeTfdt, RemarksTfdt};
 ghost use Rattle.mp4_frag.specs.TfdtLaws.{tfdt_again};
+ghost use Rattle.mp4_codec.specs.Early.{at_once};
 
 use mp4_codec::{
     BoxType, Fields, InRange, Mp4Box, Put, ReadBox, Result, TryClone, WriteBox, check_value,
@@ -87,6 +88,8 @@ impl Mp4Box for TfdtBox {
 
 impl ReadBox for TfdtBox {
     ghost value = { tfdt_of };
+
+    ghost early = { λ payload. at_once (tfdt_of payload) };
 
     #[tactic(auto, unfolding(crate::specs::Tfdt::tfdt_of))]
     fn read_payload(_alloc: Global, payload: &[u8]) -> Result<Self>

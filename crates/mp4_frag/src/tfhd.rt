@@ -6,6 +6,7 @@ ghost use Rattle.mp4_codec.specs.Cause.{Gives};
 ghost use Rattle.mp4_codec.specs.Boxes.{size_around};
 ghost use Rattle.mp4_frag.specs.Tfhd.{tfhd_payload, default_tfhd, tfhd_of, tfhd_refusal, IsInRangeTfhd, RemarksTfhd};
 ghost use Rattle.mp4_frag.specs.TfhdLaws.{tfhd_again};
+ghost use Rattle.mp4_codec.specs.Early.{at_once};
 
 use crate::optional::{check_flagged, how_many, put_flagged, read_flagged};
 use mp4_codec::{
@@ -129,6 +130,8 @@ impl Mp4Box for TfhdBox {
 
 impl ReadBox for TfhdBox {
     ghost value = { tfhd_of };
+
+    ghost early = { λ payload. at_once (tfhd_of payload) };
 
     #[tactic(auto, unfolding(crate::specs::Tfhd::tfhd_of))]
     fn read_payload(_alloc: Global, payload: &[u8]) -> Result<Self>

@@ -6,6 +6,7 @@ ghost use Rattle.mp4_codec.specs.Cause.{Gives};
 ghost use Rattle.mp4_codec.specs.Boxes.{size_around, no_refusal};
 ghost use Rattle.mp4_frag.specs.Trex.{trex_payload, default_trex, trex_of, IsInRangeTrex, RemarksTrex};
 ghost use Rattle.mp4_frag.specs.TrexLaws.{trex_again};
+ghost use Rattle.mp4_codec.specs.Early.{at_once};
 
 use mp4_codec::{
     BoxType, DebugItem, Fields, InRange, Mp4Box, Put, ReadBox, Result, TryClone, WriteBox, put_u8,
@@ -104,6 +105,8 @@ impl Mp4Box for TrexBox {
 
 impl ReadBox for TrexBox {
     ghost value = { trex_of };
+
+    ghost early = { λ payload. at_once (trex_of payload) };
 
     #[tactic(auto, unfolding(crate::specs::Trex::trex_of))]
     fn read_payload(_alloc: Global, payload: &[u8]) -> Result<Self>

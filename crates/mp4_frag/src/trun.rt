@@ -9,6 +9,7 @@ ghost use Rattle.mp4_codec.specs.Boxes.{size_around};
 ghost use Rattle.mp4_frag.specs.Rows.{row, rows, row_of, longest};
 ghost use Rattle.mp4_frag.specs.Trun.{trun_payload, columns_of, ListsNothing, default_trun, trun_of, trun_refusal, IsInRangeTrun, RemarksTrun};
 ghost use Rattle.mp4_frag.specs.TrunLaws.{members, trun_again};
+ghost use Rattle.mp4_codec.specs.Early.{Shows, refused_at_once};
 
 use crate::optional::{check_flagged, how_many, put_flagged, read_flagged};
 use crate::rows::{
@@ -180,10 +181,13 @@ impl Mp4Box for TrunBox {
 impl ReadBox for TrunBox {
     ghost value = { trun_of };
 
+    ghost early = { λ payload. refused_at_once (trun_of payload) };
+
     /// The run of a payload; it takes memory for lists alone.
     #[tactic(auto, unfolding(crate::specs::Trun::trun_of))]
     fn read_payload(alloc: Global, payload: &[u8]) -> Result<Self>
         ensures value { Answers (λ x. x) result (trun_of payload.now) }
+        ensures early { Shows (refused_at_once (trun_of payload.now)) result }
         ensures nothing { ListsNothing payload.now → Gives (λ x. x) result (trun_of payload.now) }
     {
         let mut fields = Fields::new(payload);

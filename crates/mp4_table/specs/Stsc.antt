@@ -2,8 +2,8 @@
 use Rattle.std.specs.Prelude.{◌≡◌, ℕ, ◌+◌, ◌-◌, ◌*◌, ◌^◌, ◌<◌, ◌≤◌, List, [], ◌∷◌, length, slice_index_or, Option}
 use Rattle.std.specs.Prelude.{Some, None, Result, Ok, Err, nat_lt, if◌then◌else◌}
 use Rattle.std.specs.List.{AllAdjacentBelow}
-use Rattle.mp4_codec.specs.Cause.{Cause, invalid_data, ◌>>=◌}
-use Rattle.mp4_codec.specs.Bytes.{Reader, number_at, number, ◌⧺◌}
+use Rattle.mp4_codec.specs.Cause.{Cause, invalid_data, ◌>>=◌, fault_of}
+use Rattle.mp4_codec.specs.Bytes.{Reader, number_at, list_at, number, ◌⧺◌}
 use Rattle.mp4_table.specs.declared.stsc.StscEntry.{StscEntry}
 use Rattle.mp4_table.specs.declared.stsc.StscBox.{StscBox}
 use Rattle.mp4_table.specs.Table.{table_of, table, IsInRangeTable}
@@ -70,6 +70,10 @@ numbered_after before (e ∷ es) = do
   first_sample ← first_sample_after before e.first_chunk
   others ← numbered_after (Some (with_first_sample first_sample e)) es
   Ok (with_first_sample first_sample e ∷ others)
+
+-- why so many runs are refused behind the run before them: they pass the end, or one of them can't be numbered
+abbrev pub runs_fault : Option StscEntry → ℕ → List ℕ → Option Cause
+runs_fault before count bytes = fault_of (list_at stsc_entry_at count bytes >>= λ runs. numbered_after before runs.0)
 
 -- the table of a payload
 unfoldable pub stsc_of : List ℕ → Result StscBox Cause

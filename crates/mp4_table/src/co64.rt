@@ -6,6 +6,7 @@ ghost use Rattle.mp4_codec.specs.Boxes.{size_around, no_refusal};
 ghost use Rattle.mp4_codec.specs.declared.box_type.BoxType.TheVariants.{Co64Box as co64};
 ghost use Rattle.mp4_table.specs.Co64.{co64_payload, default_co64, co64_of, IsInRangeCo64, RemarksCo64};
 ghost use Rattle.mp4_table.specs.Co64Laws.{co64_again};
+ghost use Rattle.mp4_codec.specs.Early.{refused_at_once};
 
 use crate::table::{put_table, read_table, table_size};
 use mp4_codec::{BoxType, InRange, Items, Mp4Box, Put, ReadBox, Result, TryClone, WriteBox};
@@ -84,6 +85,8 @@ impl Mp4Box for Co64Box {
 
 impl ReadBox for Co64Box {
     ghost value = { co64_of };
+
+    ghost early = { λ payload. refused_at_once (co64_of payload) };
 
     #[tactic(auto, unfolding(crate::specs::Co64::co64_of))]
     fn read_payload(alloc: Global, payload: &[u8]) -> Result<Self> {

@@ -6,6 +6,7 @@ ghost use Rattle.mp4_codec.specs.Boxes.{size_around, no_refusal};
 ghost use Rattle.mp4_codec.specs.declared.box_type.BoxType.TheVariants.{CttsBox as ctts};
 ghost use Rattle.mp4_table.specs.Ctts.{ctts_payload, default_ctts, ctts_entry_at, ctts_entry, IsInRangeCttsEntry, ctts_of, IsInRangeCtts, RemarksCtts};
 ghost use Rattle.mp4_table.specs.CttsLaws.{ctts_entry_again, length-ctts_entry, ctts_entry-has_length, ctts_again};
+ghost use Rattle.mp4_codec.specs.Early.{refused_at_once};
 
 use crate::table::{put_table, read_table, table_size};
 use mp4_codec::{
@@ -152,6 +153,8 @@ impl Mp4Box for CttsBox {
 
 impl ReadBox for CttsBox {
     ghost value = { ctts_of };
+
+    ghost early = { λ payload. refused_at_once (ctts_of payload) };
 
     #[tactic(auto, unfolding(crate::specs::Ctts::ctts_of))]
     fn read_payload(alloc: Global, payload: &[u8]) -> Result<Self> {

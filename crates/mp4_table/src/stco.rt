@@ -7,6 +7,7 @@ ghost use Rattle.mp4_codec.specs.Boxes.{size_around, no_refusal};
 ghost use Rattle.mp4_codec.specs.declared.box_type.BoxType.TheVariants.{StcoBox as stco};
 ghost use Rattle.mp4_table.specs.Stco.{stco_payload, default_stco, offsets_refusal, narrowed, narrowed_refusal, stco_of, IsInRangeStco, RemarksStco};
 ghost use Rattle.mp4_table.specs.StcoLaws.{stco_again};
+ghost use Rattle.mp4_codec.specs.Early.{refused_at_once};
 
 use crate::co64::Co64Box;
 use crate::table::{put_table, read_table, table_size};
@@ -121,6 +122,8 @@ impl Mp4Box for StcoBox {
 
 impl ReadBox for StcoBox {
     ghost value = { stco_of };
+
+    ghost early = { λ payload. refused_at_once (stco_of payload) };
 
     #[tactic(auto, unfolding(crate::specs::Stco::stco_of))]
     fn read_payload(alloc: Global, payload: &[u8]) -> Result<Self> {

@@ -1,11 +1,12 @@
 //! How many samples each chunk has.
 
 ghost use Rattle.std.specs.Prelude.{◌≡◌, None, Ok};
-ghost use Rattle.mp4_codec.specs.Cause.{Gives};
+ghost use Rattle.mp4_codec.specs.Cause.{Checks, Gives, fault_of};
 ghost use Rattle.mp4_codec.specs.Boxes.{size_around, no_refusal};
 ghost use Rattle.mp4_codec.specs.declared.box_type.BoxType.TheVariants.{StscBox as stsc};
-ghost use Rattle.mp4_table.specs.Stsc.{stsc_payload, first_sample_after, numbered_after, default_stsc, stsc_entry_at, stsc_entry, FitsStoredEntry, stsc_of, IsInRangeStscEntry, IsInRangeStsc, RemarksStsc};
+ghost use Rattle.mp4_table.specs.Stsc.{stsc_payload, first_sample_after, numbered_after, runs_fault, default_stsc, stsc_entry_at, stsc_entry, FitsStoredEntry, stsc_of, IsInRangeStscEntry, IsInRangeStsc, RemarksStsc};
 ghost use Rattle.mp4_table.specs.StscLaws.{stsc_entry_again, length-stsc_entry, stsc_entry-has_length, stsc_again};
+ghost use Rattle.mp4_codec.specs.Early.{refused_at_once};
 
 use crate::table::{put_table, read_table, table_size};
 use mp4_codec::{
@@ -131,6 +132,35 @@ fn numbered(stored: Items<StscEntry>) -> Result<Items<StscEntry>>
     Ok(Items::from(entries))
 }
 
+/// Whether so many runs are there and can be numbered.
+fn check_runs(fields: &mut Fields, count: u32) -> Result<()>
+    ensures { Checks result (runs_fault None count fields.old) }
+{
+    let mut before: Option<StscEntry> = None;
+    for _ in 0..count {
+        let entry = StscEntry::read(fields, 0)?;
+        let first_sample = first_sample_after(before, entry.first_chunk)?;
+        before = Some(StscEntry {
+            first_sample,
+            ..entry
+        });
+    }
+    Ok(())
+}
+
+/// Whether a payload holds a table: what refuses it, without a request for memory.
+#[tactic(auto, unfolding(crate::specs::Stsc::stsc_of, crate::specs::Table::table_of))]
+fn check_payload(payload: &[u8]) -> Result<()>
+    ensures { Checks result (fault_of (stsc_of payload.now)) }
+{
+    let mut fields = Fields::new(payload);
+    fields.u8()?;
+    fields.u24()?;
+    let count = fields.u32()?;
+    check_runs(&mut fields, count)?;
+    Ok(())
+}
+
 /// The sample-to-chunk table, `stsc`: how many samples each chunk of a track has (ISO/IEC 14496-12,
 /// 8.7.4).
 ///
@@ -209,8 +239,11 @@ impl Mp4Box for StscBox {
 impl ReadBox for StscBox {
     ghost value = { stsc_of };
 
-    #[tactic(auto, unfolding(crate::specs::Stsc::stsc_of))]
+    ghost early = { λ payload. refused_at_once (stsc_of payload) };
+
+    #[tactic(auto, using(crate::proofs::Runs::checked), unfolding(crate::specs::Stsc::stsc_of))]
     fn read_payload(alloc: Global, payload: &[u8]) -> Result<Self> {
+        check_payload(payload)?;
         let (version, flags, stored) = read_table(alloc, payload)?;
         let entries = numbered(stored)?;
         Ok(StscBox {

@@ -6,6 +6,7 @@ ghost use Rattle.mp4_codec.specs.Boxes.{size_around, no_refusal};
 ghost use Rattle.mp4_codec.specs.declared.box_type.BoxType.TheVariants.{StssBox as stss};
 ghost use Rattle.mp4_table.specs.Stss.{stss_payload, default_stss, stss_of, IsInRangeStss, RemarksStss};
 ghost use Rattle.mp4_table.specs.StssLaws.{stss_again};
+ghost use Rattle.mp4_codec.specs.Early.{refused_at_once};
 
 use crate::table::{put_table, read_table, table_size};
 use mp4_codec::{BoxType, InRange, Items, Mp4Box, Put, ReadBox, Result, TryClone, WriteBox};
@@ -85,6 +86,8 @@ impl Mp4Box for StssBox {
 
 impl ReadBox for StssBox {
     ghost value = { stss_of };
+
+    ghost early = { λ payload. refused_at_once (stss_of payload) };
 
     #[tactic(auto, unfolding(crate::specs::Stss::stss_of))]
     fn read_payload(alloc: Global, payload: &[u8]) -> Result<Self> {

@@ -6,6 +6,7 @@ ghost use Rattle.mp4_codec.specs.Boxes.{size_around};
 ghost use Rattle.mp4_codec.specs.declared.box_type.BoxType.TheVariants.{StszBox as stsz};
 ghost use Rattle.mp4_table.specs.Stsz.{stsz_payload, stsz_refusal, default_stsz, stsz_of, IsInRangeStsz, RemarksStsz};
 ghost use Rattle.mp4_table.specs.StszLaws.{stsz_again};
+ghost use Rattle.mp4_codec.specs.Early.{refused_at_once};
 
 use mp4_codec::{
     BoxType, Error, Fields, InRange, Items, Mp4Box, Put, ReadBox, Result, TryClone, WriteBox,
@@ -98,6 +99,8 @@ impl Mp4Box for StszBox {
 
 impl ReadBox for StszBox {
     ghost value = { stsz_of };
+
+    ghost early = { λ payload. refused_at_once (stsz_of payload) };
 
     #[tactic(auto, unfolding(crate::specs::Stsz::stsz_of))]
     fn read_payload(alloc: Global, payload: &[u8]) -> Result<Self> {

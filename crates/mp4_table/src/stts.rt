@@ -6,6 +6,7 @@ ghost use Rattle.mp4_codec.specs.Boxes.{size_around, no_refusal};
 ghost use Rattle.mp4_codec.specs.declared.box_type.BoxType.TheVariants.{SttsBox as stts};
 ghost use Rattle.mp4_table.specs.Stts.{stts_payload, default_stts, stts_entry_at, stts_entry, IsInRangeSttsEntry, stts_of, IsInRangeStts, RemarksStts};
 ghost use Rattle.mp4_table.specs.SttsLaws.{stts_entry_again, length-stts_entry, stts_entry-has_length, stts_again};
+ghost use Rattle.mp4_codec.specs.Early.{refused_at_once};
 
 use crate::table::{put_table, read_table, table_size};
 use mp4_codec::{
@@ -151,6 +152,8 @@ impl Mp4Box for SttsBox {
 
 impl ReadBox for SttsBox {
     ghost value = { stts_of };
+
+    ghost early = { λ payload. refused_at_once (stts_of payload) };
 
     #[tactic(auto, unfolding(crate::specs::Stts::stts_of))]
     fn read_payload(alloc: Global, payload: &[u8]) -> Result<Self> {

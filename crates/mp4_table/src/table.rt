@@ -5,14 +5,16 @@ ghost use Rattle.mp4_codec.specs.Cause.{Answers};
 ghost use Rattle.mp4_codec.specs.Boxes.{size_around};
 ghost use Rattle.mp4_codec.specs.Bytes.{Appends};
 ghost use Rattle.mp4_table.specs.Table.{table_of, table};
+ghost use Rattle.mp4_codec.specs.Early.{Shows, refused_at_once};
 
 use mp4_codec::{Entry, Fields, Items, Put, Result, list_size, put_list, put_u8, put_u24, put_u32};
 use std::alloc::Global;
 
-/// The version, the flags and the entries of a payload.
+/// The version, the flags and the entries of a payload. What refuses it is found before memory is requested.
 #[tactic(auto, unfolding(crate::specs::Table::table_of))]
 pub(crate) fn read_table<T: Entry>(alloc: Global, payload: &[u8]) -> Result<(u8, u32, Items<T>)>
-    ensures { Answers (λ table. table) result (table_of T.at payload.now) }
+    ensures value { Answers (λ table. table) result (table_of T.at payload.now) }
+    ensures early { Shows (refused_at_once (table_of T.at payload.now)) result }
 {
     let mut fields = Fields::new(payload);
     let version = fields.u8()?;
