@@ -35,8 +35,8 @@ enough : (flags count : ℕ) (bytes : List ℕ) → count_cause count (row_lengt
     → refused_at_once (columns_at flags count bytes) ≡ takes_memory
 enough flags count bytes e = let read = columns-enough flags count bytes e in rw read.1 refl
 
-pub returns-in_err-with_capacity-clause-early : goal.returns-in_err-with_capacity-clause-early
-returns-in_err-with_capacity-clause-early c =
+pub returns-in_err-columns-clause-early : goal.returns-in_err-columns-clause-early
+returns-in_err-columns-clause-early c =
     let none : count_cause c.args.count (row_length c.args.flags) c.args.fields.now ≡ None =
     rw c.row_size-each.ensures at c.in_ok-check_rows.ensures in
     rw (enough c.args.flags c.args.count c.args.fields.now none) tt
