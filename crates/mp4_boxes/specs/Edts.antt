@@ -3,6 +3,7 @@ use Rattle.std.specs.Prelude.{ℕ, List, Option, Some, None, Result, Ok, IfSome}
 use Rattle.mp4_codec.specs.declared.box_type.BoxType.TheVariants.{ElstBox as elst}
 use Rattle.mp4_codec.specs.Cause.{Cause, ◌>>=◌}
 use Rattle.mp4_codec.specs.Boxes.{optional, optional_refusal, IsCanonical}
+use Rattle.mp4_codec.specs.Early.{Early, succeeds, early_last, refused_at_once, ◌before◌}
 use Rattle.mp4_codec.specs.Children.{ChildBox, next_at, with_last}
 use Rattle.mp4_leaf.specs.declared.elst.ElstBox.{ElstBox}
 use Rattle.mp4_leaf.specs.Elst.{elst_of, elst_payload, elst_refusal, IsInRangeElst, RemarksElst}
@@ -19,6 +20,15 @@ edts_of payload = do
   first ← next_at payload
   edits ← edit_list first.0
   Ok (record { elst = edits })
+
+-- what the edit list shows before memory is requested
+abbrev pub edit_list_early : Option ChildBox → Early
+edit_list_early None = succeeds
+edit_list_early (Some c) = early_last elst (λ p. refused_at_once (elst_of p)) c
+
+-- what a payload shows before memory is requested: its first child
+unfoldable pub edts_early : List ℕ → Early
+edts_early payload = next_at payload before λ first. edit_list_early first.0
 
 -- the payload that holds edits
 unfoldable pub edts_payload : EdtsBox → List ℕ

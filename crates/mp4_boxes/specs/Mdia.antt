@@ -4,12 +4,13 @@ use Rattle.mp4_codec.specs.declared.box_type.BoxType.TheVariants.{MdhdBox as mdh
 use Rattle.mp4_codec.specs.Cause.{Cause, ◌>>=◌, ◌or◌}
 use Rattle.mp4_codec.specs.Bytes.{◌⧺◌}
 use Rattle.mp4_codec.specs.Boxes.{frame, IsCanonical}
+use Rattle.mp4_codec.specs.Early.{Early, early_gathered, early_last, at_once, refused_at_once, ◌and_then◌}
 use Rattle.mp4_codec.specs.Children.{ChildBox, children, gathered, fault_in, last_of, with_last, needed}
 use Rattle.mp4_leaf.specs.Mdhd.{mdhd_of, mdhd_payload, mdhd_refusal, IsInRangeMdhd, RemarksMdhd, default_mdhd}
 use Rattle.mp4_leaf.specs.Hdlr.{hdlr_of, hdlr_payload, IsInRangeHdlr, RemarksHdlr, default_hdlr}
 use Rattle.mp4_boxes.specs.declared.mdia.MdiaBox.{MdiaBox}
 use Rattle.mp4_boxes.specs.declared.mdia.MdiaParts.{MdiaParts}
-use Rattle.mp4_boxes.specs.Minf.{minf_of, minf_payload, minf_refusal, IsInRangeMinf, RemarksMinf, default_minf}
+use Rattle.mp4_boxes.specs.Minf.{minf_of, minf_early, minf_payload, minf_refusal, IsInRangeMinf, RemarksMinf, default_minf}
 
 -- why a child refuses the media
 unfoldable pub mdia_fault : ChildBox → Option Cause
@@ -35,6 +36,17 @@ mdia_of payload = do
   handler ← needed hdlr parts.hdlr
   information ← needed minf parts.minf
   Ok (record { mdhd = header; hdlr = handler; minf = information })
+
+-- what a child shows before memory is requested
+unfoldable pub mdia_child_early : ChildBox → Early
+mdia_child_early c =
+    early_last mdhd (λ p. refused_at_once (mdhd_of p)) c
+    and_then (early_last hdlr (λ p. refused_at_once (hdlr_of p)) c
+    and_then (early_last minf minf_early c))
+
+-- what a payload shows before memory is requested: its children, and then what is missing
+unfoldable pub mdia_early : List ℕ → Early
+mdia_early payload = early_gathered mdia_child_early (children payload) and_then at_once (mdia_of payload)
 
 -- the payload that holds media
 unfoldable pub mdia_payload : MdiaBox → List ℕ

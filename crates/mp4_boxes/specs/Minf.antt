@@ -5,13 +5,14 @@ use Rattle.mp4_codec.specs.declared.box_type.BoxType.TheVariants.{StblBox as stb
 use Rattle.mp4_codec.specs.Cause.{Cause, ◌>>=◌, ◌or◌}
 use Rattle.mp4_codec.specs.Bytes.{◌⧺◌}
 use Rattle.mp4_codec.specs.Boxes.{frame, optional, IsCanonical}
+use Rattle.mp4_codec.specs.Early.{Early, early_gathered, early_last, at_once, ◌and_then◌}
 use Rattle.mp4_codec.specs.Children.{ChildBox, children, gathered, fault_in, last_of, with_last, needed}
 use Rattle.mp4_leaf.specs.Vmhd.{vmhd_of, vmhd_payload, IsInRangeVmhd, RemarksVmhd}
 use Rattle.mp4_leaf.specs.Smhd.{smhd_of, smhd_payload, IsInRangeSmhd, RemarksSmhd}
-use Rattle.mp4_leaf.specs.Dinf.{dinf_of, dinf_payload, IsInRangeDinf, RemarksDinf, default_dinf}
+use Rattle.mp4_leaf.specs.Dinf.{dinf_of, dinf_early, dinf_payload, IsInRangeDinf, RemarksDinf, default_dinf}
 use Rattle.mp4_boxes.specs.declared.minf.MinfBox.{MinfBox}
 use Rattle.mp4_boxes.specs.declared.minf.MinfParts.{MinfParts}
-use Rattle.mp4_boxes.specs.Stbl.{stbl_of, stbl_payload, stbl_refusal, IsInRangeStbl, RemarksStbl, default_stbl}
+use Rattle.mp4_boxes.specs.Stbl.{stbl_of, stbl_early, stbl_payload, stbl_refusal, IsInRangeStbl, RemarksStbl, default_stbl}
 
 -- why a child refuses the media information
 unfoldable pub minf_fault : ChildBox → Option Cause
@@ -43,6 +44,18 @@ minf_of payload = do
   information ← needed dinf parts.dinf
   table ← needed stbl parts.stbl
   Ok (record { vmhd = parts.vmhd; smhd = parts.smhd; dinf = information; stbl = table })
+
+-- what a child shows before memory is requested
+unfoldable pub minf_child_early : ChildBox → Early
+minf_child_early c =
+    early_last vmhd (λ p. at_once (vmhd_of p)) c
+    and_then (early_last smhd (λ p. at_once (smhd_of p)) c
+    and_then (early_last dinf dinf_early c
+    and_then (early_last stbl stbl_early c)))
+
+-- what a payload shows before memory is requested: its children, and then what is missing
+unfoldable pub minf_early : List ℕ → Early
+minf_early payload = early_gathered minf_child_early (children payload) and_then at_once (minf_of payload)
 
 -- the payload that holds media information
 unfoldable pub minf_payload : MinfBox → List ℕ

@@ -6,13 +6,14 @@ use Rattle.mp4_codec.specs.declared.box_type.BoxType.TheVariants.{MetaBox as met
 use Rattle.mp4_codec.specs.Cause.{Cause, ◌>>=◌, ◌or◌}
 use Rattle.mp4_codec.specs.Bytes.{◌⧺◌}
 use Rattle.mp4_codec.specs.Boxes.{frame, optional, optional_refusal, all_frames, all_refusal, IsCanonical}
+use Rattle.mp4_codec.specs.Early.{Early, early_gathered, early_last, early_next, at_once, ◌and_then◌}
 use Rattle.mp4_codec.specs.Children.{ChildBox, children, gathered, fault_in, last_of, all_of, with_last, with_next}
 use Rattle.mp4_codec.specs.Children.{needed}
 use Rattle.mp4_leaf.specs.Mvhd.{mvhd_of, mvhd_payload, mvhd_refusal, IsInRangeMvhd, RemarksMvhd, default_mvhd}
-use Rattle.mp4_boxes.specs.Trak.{trak_of, trak_payload, trak_refusal, IsInRangeTrak, RemarksTrak}
-use Rattle.mp4_moof.specs.Mvex.{mvex_of, mvex_payload, mvex_refusal, IsInRangeMvex, RemarksMvex}
-use Rattle.mp4_meta.specs.Meta.{meta_of, meta_payload, IsInRangeMeta, RemarksMeta}
-use Rattle.mp4_meta.specs.Udta.{udta_of, udta_payload, IsInRangeUdta, RemarksUdta}
+use Rattle.mp4_boxes.specs.Trak.{trak_of, trak_early, trak_payload, trak_refusal, IsInRangeTrak, RemarksTrak}
+use Rattle.mp4_moof.specs.Mvex.{mvex_of, mvex_early, mvex_payload, mvex_refusal, IsInRangeMvex, RemarksMvex}
+use Rattle.mp4_meta.specs.Meta.{meta_of, meta_early, meta_payload, IsInRangeMeta, RemarksMeta}
+use Rattle.mp4_meta.specs.Udta.{udta_of, udta_early, udta_payload, IsInRangeUdta, RemarksUdta}
 use Rattle.mp4_boxes.specs.declared.moov.MoovBox.{MoovBox}
 use Rattle.mp4_boxes.specs.declared.moov.MoovParts.{MoovParts}
 
@@ -51,6 +52,19 @@ moov_of payload = do
   parts ← gathered moov_fault moov_taken (children payload)
   header ← needed mvhd parts.mvhd
   Ok (record { mvhd = header; traks = parts.traks; mvex = parts.mvex; meta = parts.meta; udta = parts.udta })
+
+-- what a child shows before memory is requested
+unfoldable pub moov_child_early : ChildBox → Early
+moov_child_early c =
+    early_last mvhd (λ p. at_once (mvhd_of p)) c
+    and_then (early_next trak trak_early c
+    and_then (early_last mvex mvex_early c
+    and_then (early_last meta meta_early c
+    and_then (early_last udta udta_early c))))
+
+-- what a payload shows before memory is requested: its children, and then what is missing
+unfoldable pub moov_early : List ℕ → Early
+moov_early payload = early_gathered moov_child_early (children payload) and_then at_once (moov_of payload)
 
 -- the payload that holds a movie
 unfoldable pub moov_payload : MoovBox → List ℕ

@@ -6,6 +6,7 @@ use Rattle.mp4_codec.specs.declared.box_type.BoxType.TheVariants.{StcoBox as stc
 use Rattle.mp4_codec.specs.Cause.{Cause, box2_not_found, ◌>>=◌, ◌or◌}
 use Rattle.mp4_codec.specs.Bytes.{◌⧺◌}
 use Rattle.mp4_codec.specs.Boxes.{frame, optional, IsCanonical}
+use Rattle.mp4_codec.specs.Early.{Early, early_gathered, early_last, at_once, refused_at_once, ◌and_then◌}
 use Rattle.mp4_codec.specs.Children.{ChildBox, children, gathered, fault_in, last_of, with_last, needed}
 use Rattle.mp4_entry.specs.declared.stsd.StsdBox.{StsdBox}
 use Rattle.mp4_table.specs.declared.stts.SttsBox.{SttsBox}
@@ -13,7 +14,7 @@ use Rattle.mp4_table.specs.declared.stsc.StscBox.{StscBox}
 use Rattle.mp4_table.specs.declared.stsz.StszBox.{StszBox}
 use Rattle.mp4_table.specs.declared.stco.StcoBox.{StcoBox}
 use Rattle.mp4_table.specs.declared.co64.Co64Box.{Co64Box}
-use Rattle.mp4_entry.specs.Stsd.{stsd_of, stsd_payload, stsd_refusal, IsInRangeStsd, RemarksStsd, default_stsd}
+use Rattle.mp4_entry.specs.Stsd.{stsd_of, stsd_early, stsd_payload, stsd_refusal, IsInRangeStsd, RemarksStsd, default_stsd}
 use Rattle.mp4_table.specs.Stts.{stts_of, stts_payload, IsInRangeStts, RemarksStts, default_stts}
 use Rattle.mp4_table.specs.Ctts.{ctts_of, ctts_payload, IsInRangeCtts, RemarksCtts}
 use Rattle.mp4_table.specs.Stss.{stss_of, stss_payload, IsInRangeStss, RemarksStss}
@@ -90,6 +91,22 @@ stbl_of payload = do
     stco = places.0;
     co64 = places.1;
   })
+
+-- what a child shows before memory is requested
+unfoldable pub stbl_child_early : ChildBox → Early
+stbl_child_early c =
+    early_last stsd stsd_early c
+    and_then (early_last stts (λ p. refused_at_once (stts_of p)) c
+    and_then (early_last ctts (λ p. refused_at_once (ctts_of p)) c
+    and_then (early_last stss (λ p. refused_at_once (stss_of p)) c
+    and_then (early_last stsc (λ p. refused_at_once (stsc_of p)) c
+    and_then (early_last stsz (λ p. refused_at_once (stsz_of p)) c
+    and_then (early_last stco (λ p. refused_at_once (stco_of p)) c
+    and_then (early_last co64 (λ p. refused_at_once (co64_of p)) c)))))))
+
+-- what a payload shows before memory is requested: its children, and then what is missing
+unfoldable pub stbl_early : List ℕ → Early
+stbl_early payload = early_gathered stbl_child_early (children payload) and_then at_once (stbl_of payload)
 
 -- the payload that holds a sample table
 unfoldable pub stbl_payload : StblBox → List ℕ

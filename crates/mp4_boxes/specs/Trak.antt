@@ -5,11 +5,12 @@ use Rattle.mp4_codec.specs.declared.box_type.BoxType.TheVariants.{MdiaBox as mdi
 use Rattle.mp4_codec.specs.Cause.{Cause, ◌>>=◌, ◌or◌}
 use Rattle.mp4_codec.specs.Bytes.{◌⧺◌}
 use Rattle.mp4_codec.specs.Boxes.{frame, optional, optional_refusal, IsCanonical}
+use Rattle.mp4_codec.specs.Early.{Early, early_gathered, early_last, at_once, ◌and_then◌}
 use Rattle.mp4_codec.specs.Children.{ChildBox, children, gathered, fault_in, last_of, with_last, needed}
 use Rattle.mp4_leaf.specs.Tkhd.{tkhd_of, tkhd_payload, tkhd_refusal, IsInRangeTkhd, RemarksTkhd, default_tkhd}
-use Rattle.mp4_boxes.specs.Edts.{edts_of, edts_payload, edts_refusal, IsInRangeEdts, RemarksEdts}
-use Rattle.mp4_meta.specs.Meta.{meta_of, meta_payload, IsInRangeMeta, RemarksMeta}
-use Rattle.mp4_boxes.specs.Mdia.{mdia_of, mdia_payload, mdia_refusal, IsInRangeMdia, RemarksMdia, default_mdia}
+use Rattle.mp4_boxes.specs.Edts.{edts_of, edts_early, edts_payload, edts_refusal, IsInRangeEdts, RemarksEdts}
+use Rattle.mp4_meta.specs.Meta.{meta_of, meta_early, meta_payload, IsInRangeMeta, RemarksMeta}
+use Rattle.mp4_boxes.specs.Mdia.{mdia_of, mdia_early, mdia_payload, mdia_refusal, IsInRangeMdia, RemarksMdia, default_mdia}
 use Rattle.mp4_boxes.specs.declared.trak.TrakBox.{TrakBox}
 use Rattle.mp4_boxes.specs.declared.trak.TrakParts.{TrakParts}
 
@@ -46,6 +47,18 @@ trak_of payload = do
   header ← needed tkhd parts.tkhd
   media ← needed mdia parts.mdia
   Ok (record { tkhd = header; edts = parts.edts; meta = parts.meta; mdia = media })
+
+-- what a child shows before memory is requested
+unfoldable pub trak_child_early : ChildBox → Early
+trak_child_early c =
+    early_last tkhd (λ p. at_once (tkhd_of p)) c
+    and_then (early_last edts edts_early c
+    and_then (early_last meta meta_early c
+    and_then (early_last mdia mdia_early c)))
+
+-- what a payload shows before memory is requested: its children, and then what is missing
+unfoldable pub trak_early : List ℕ → Early
+trak_early payload = early_gathered trak_child_early (children payload) and_then at_once (trak_of payload)
 
 -- the payload that holds a track
 unfoldable pub trak_payload : TrakBox → List ℕ

@@ -4,7 +4,7 @@ ghost use Rattle.std.specs.Prelude.{◌≡◌, Ok};
 ghost use Rattle.mp4_codec.specs.declared.box_type.BoxType.TheVariants.{EdtsBox as edts};
 ghost use Rattle.mp4_codec.specs.Cause.{Gives};
 ghost use Rattle.mp4_codec.specs.Boxes.{size_around};
-ghost use Rattle.mp4_boxes.specs.Edts.{edts_payload, default_edts, edts_of, edts_refusal, IsInRangeEdts, RemarksEdts};
+ghost use Rattle.mp4_boxes.specs.Edts.{edts_payload, default_edts, edts_of, edts_early, edts_refusal, IsInRangeEdts, RemarksEdts};
 ghost use Rattle.mp4_boxes.specs.EdtsLaws.{edts_again};
 
 use mp4_codec::{
@@ -81,7 +81,9 @@ impl Mp4Box for EdtsBox {
 impl ReadBox for EdtsBox {
     ghost value = { edts_of };
 
-    #[tactic(auto, unfolding(crate::specs::Edts::edts_of))]
+    ghost early = { edts_early };
+
+    #[tactic(auto, unfolding(crate::specs::Edts::edts_of, edts_early, crate::specs::Edts::edts_early))]
     fn read_payload(alloc: Global, payload: &[u8]) -> Result<Self> {
         match Children::new(payload).next_child()? {
             None => Ok(EdtsBox { elst: None }),

@@ -4,7 +4,7 @@ ghost use Rattle.std.specs.Prelude.{◌≡◌, Ok};
 ghost use Rattle.mp4_codec.specs.declared.box_type.BoxType.TheVariants.{MdiaBox as mdia};
 ghost use Rattle.mp4_codec.specs.Cause.{Answers};
 ghost use Rattle.mp4_codec.specs.Boxes.{size_around};
-ghost use Rattle.mp4_boxes.specs.Mdia.{mdia_payload, default_mdia, mdia_fault, mdia_taken, mdia_added, mdia_of, mdia_refusal, IsInRangeMdia, RemarksMdia};
+ghost use Rattle.mp4_boxes.specs.Mdia.{mdia_payload, default_mdia, mdia_fault, mdia_child_early, mdia_taken, mdia_added, mdia_of, mdia_early, mdia_refusal, IsInRangeMdia, RemarksMdia};
 ghost use Rattle.mp4_boxes.specs.MdiaLaws.{mdia_adds, mdia_again};
 
 use crate::minf::MinfBox;
@@ -83,6 +83,8 @@ struct MdiaParts {
 impl Gather for MdiaParts {
     ghost fault = { mdia_fault };
 
+    ghost early = { mdia_child_early };
+
     ghost taken = { mdia_taken };
 
     ghost added = { mdia_added };
@@ -98,7 +100,7 @@ impl Gather for MdiaParts {
         }
     }
 
-    #[tactic(auto, unfolding(crate::specs::Mdia::mdia_added))]
+    #[tactic(auto, unfolding(crate::specs::Mdia::mdia_added, crate::specs::Mdia::mdia_child_early))]
     fn add(&mut self, alloc: Global, child: &Child) -> Result<()> {
         keep_last(alloc, child, &mut self.mdhd)?;
         keep_last(alloc, child, &mut self.hdlr)?;
@@ -132,7 +134,9 @@ impl Mp4Box for MdiaBox {
 impl ReadBox for MdiaBox {
     ghost value = { mdia_of };
 
-    #[tactic(auto, using(crate::proofs::Media::mdia_of_steps))]
+    ghost early = { mdia_early };
+
+    #[tactic(auto, using(crate::proofs::Media::mdia_of_steps), unfolding(crate::specs::Mdia::mdia_early))]
     fn read_payload(alloc: Global, payload: &[u8]) -> Result<Self> {
         let MdiaParts { mdhd, hdlr, minf } = gather_children(alloc, payload)?;
         let (mdhd, hdlr, minf) = required_three(mdhd, hdlr, minf)?;

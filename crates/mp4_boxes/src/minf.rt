@@ -4,7 +4,7 @@ ghost use Rattle.std.specs.Prelude.{◌≡◌, Ok};
 ghost use Rattle.mp4_codec.specs.declared.box_type.BoxType.TheVariants.{MinfBox as minf};
 ghost use Rattle.mp4_codec.specs.Cause.{Gives};
 ghost use Rattle.mp4_codec.specs.Boxes.{size_around};
-ghost use Rattle.mp4_boxes.specs.Minf.{minf_payload, default_minf, minf_fault, minf_taken, minf_added, minf_of, minf_refusal, IsInRangeMinf, RemarksMinf};
+ghost use Rattle.mp4_boxes.specs.Minf.{minf_payload, default_minf, minf_fault, minf_child_early, minf_taken, minf_added, minf_of, minf_early, minf_refusal, IsInRangeMinf, RemarksMinf};
 ghost use Rattle.mp4_boxes.specs.MinfLaws.{minf_adds, minf_again};
 
 use crate::parts::required_two;
@@ -90,6 +90,8 @@ struct MinfParts {
 impl Gather for MinfParts {
     ghost fault = { minf_fault };
 
+    ghost early = { minf_child_early };
+
     ghost taken = { minf_taken };
 
     ghost added = { minf_added };
@@ -106,7 +108,7 @@ impl Gather for MinfParts {
         }
     }
 
-    #[tactic(auto, unfolding(crate::specs::Minf::minf_added))]
+    #[tactic(auto, unfolding(crate::specs::Minf::minf_added, crate::specs::Minf::minf_child_early))]
     fn add(&mut self, alloc: Global, child: &Child) -> Result<()> {
         keep_last(alloc, child, &mut self.vmhd)?;
         keep_last(alloc, child, &mut self.smhd)?;
@@ -142,7 +144,9 @@ impl Mp4Box for MinfBox {
 impl ReadBox for MinfBox {
     ghost value = { minf_of };
 
-    #[tactic(auto, using(crate::proofs::Tables::minf_of_steps))]
+    ghost early = { minf_early };
+
+    #[tactic(auto, using(crate::proofs::Tables::minf_of_steps), unfolding(crate::specs::Minf::minf_early))]
     fn read_payload(alloc: Global, payload: &[u8]) -> Result<Self> {
         let MinfParts {
             vmhd,

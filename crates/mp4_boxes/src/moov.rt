@@ -4,7 +4,7 @@ ghost use Rattle.std.specs.Prelude.{◌≡◌, Ok};
 ghost use Rattle.mp4_codec.specs.declared.box_type.BoxType.TheVariants.{MoovBox as moov};
 ghost use Rattle.mp4_codec.specs.Cause.{Gives};
 ghost use Rattle.mp4_codec.specs.Boxes.{size_around};
-ghost use Rattle.mp4_boxes.specs.Moov.{moov_payload, default_moov, moov_fault, moov_taken, moov_added, moov_of, moov_refusal, IsInRangeMoov, RemarksMoov};
+ghost use Rattle.mp4_boxes.specs.Moov.{moov_payload, default_moov, moov_fault, moov_child_early, moov_taken, moov_added, moov_of, moov_early, moov_refusal, IsInRangeMoov, RemarksMoov};
 ghost use Rattle.mp4_boxes.specs.MoovLaws.{moov_adds, moov_again};
 
 use crate::trak::TrakBox;
@@ -103,6 +103,8 @@ struct MoovParts {
 impl Gather for MoovParts {
     ghost fault = { moov_fault };
 
+    ghost early = { moov_child_early };
+
     ghost taken = { moov_taken };
 
     ghost added = { moov_added };
@@ -120,7 +122,7 @@ impl Gather for MoovParts {
         }
     }
 
-    #[tactic(auto, unfolding(crate::specs::Moov::moov_added))]
+    #[tactic(auto, unfolding(crate::specs::Moov::moov_added, crate::specs::Moov::moov_child_early))]
     fn add(&mut self, alloc: Global, child: &Child) -> Result<()> {
         keep_last(alloc, child, &mut self.mvhd)?;
         keep_each(alloc, child, &mut self.traks)?;
@@ -158,7 +160,9 @@ impl Mp4Box for MoovBox {
 impl ReadBox for MoovBox {
     ghost value = { moov_of };
 
-    #[tactic(auto, unfolding(crate::specs::Moov::moov_of))]
+    ghost early = { moov_early };
+
+    #[tactic(auto, unfolding(crate::specs::Moov::moov_of, crate::specs::Moov::moov_early))]
     fn read_payload(alloc: Global, payload: &[u8]) -> Result<Self> {
         let MoovParts {
             mvhd,

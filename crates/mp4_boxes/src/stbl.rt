@@ -4,7 +4,7 @@ ghost use Rattle.std.specs.Prelude.{◌≡◌, Ok};
 ghost use Rattle.mp4_codec.specs.declared.box_type.BoxType.TheVariants.{StblBox as stbl};
 ghost use Rattle.mp4_codec.specs.Cause.{Gives};
 ghost use Rattle.mp4_codec.specs.Boxes.{size_around};
-ghost use Rattle.mp4_boxes.specs.Stbl.{stbl_payload, default_stbl, stbl_fault, stbl_taken, stbl_added, stbl_of, stbl_refusal, needed_places, IsInRangeStbl, RemarksStbl};
+ghost use Rattle.mp4_boxes.specs.Stbl.{stbl_payload, default_stbl, stbl_fault, stbl_child_early, stbl_taken, stbl_added, stbl_of, stbl_early, stbl_refusal, needed_places, IsInRangeStbl, RemarksStbl};
 ghost use Rattle.mp4_boxes.specs.StblLaws.{stbl_adds, stbl_again};
 
 use crate::parts::required_four;
@@ -139,6 +139,8 @@ struct StblParts {
 impl Gather for StblParts {
     ghost fault = { stbl_fault };
 
+    ghost early = { stbl_child_early };
+
     ghost taken = { stbl_taken };
 
     ghost added = { stbl_added };
@@ -159,7 +161,7 @@ impl Gather for StblParts {
         }
     }
 
-    #[tactic(auto, unfolding(crate::specs::Stbl::stbl_added))]
+    #[tactic(auto, unfolding(crate::specs::Stbl::stbl_added, crate::specs::Stbl::stbl_child_early))]
     fn add(&mut self, alloc: Global, child: &Child) -> Result<()> {
         keep_last(alloc, child, &mut self.stsd)?;
         keep_last(alloc, child, &mut self.stts)?;
@@ -203,7 +205,9 @@ impl Mp4Box for StblBox {
 impl ReadBox for StblBox {
     ghost value = { stbl_of };
 
-    #[tactic(auto, using(crate::proofs::Tables::stbl_of_steps))]
+    ghost early = { stbl_early };
+
+    #[tactic(auto, using(crate::proofs::Tables::stbl_of_steps), unfolding(crate::specs::Stbl::stbl_early))]
     fn read_payload(alloc: Global, payload: &[u8]) -> Result<Self> {
         let StblParts {
             stsd,

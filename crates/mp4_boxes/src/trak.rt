@@ -4,7 +4,7 @@ ghost use Rattle.std.specs.Prelude.{◌≡◌, Ok};
 ghost use Rattle.mp4_codec.specs.declared.box_type.BoxType.TheVariants.{TrakBox as trak};
 ghost use Rattle.mp4_codec.specs.Cause.{Answers};
 ghost use Rattle.mp4_codec.specs.Boxes.{size_around};
-ghost use Rattle.mp4_boxes.specs.Trak.{trak_payload, default_trak, trak_fault, trak_taken, trak_added, trak_of, trak_refusal, IsInRangeTrak, RemarksTrak};
+ghost use Rattle.mp4_boxes.specs.Trak.{trak_payload, default_trak, trak_fault, trak_child_early, trak_taken, trak_added, trak_of, trak_early, trak_refusal, IsInRangeTrak, RemarksTrak};
 ghost use Rattle.mp4_boxes.specs.TrakLaws.{trak_adds, trak_again};
 
 use crate::edts::EdtsBox;
@@ -95,6 +95,8 @@ struct TrakParts {
 impl Gather for TrakParts {
     ghost fault = { trak_fault };
 
+    ghost early = { trak_child_early };
+
     ghost taken = { trak_taken };
 
     ghost added = { trak_added };
@@ -111,7 +113,7 @@ impl Gather for TrakParts {
         }
     }
 
-    #[tactic(auto, unfolding(crate::specs::Trak::trak_added))]
+    #[tactic(auto, unfolding(crate::specs::Trak::trak_added, crate::specs::Trak::trak_child_early))]
     fn add(&mut self, alloc: Global, child: &Child) -> Result<()> {
         keep_last(alloc, child, &mut self.tkhd)?;
         keep_last(alloc, child, &mut self.edts)?;
@@ -147,7 +149,9 @@ impl Mp4Box for TrakBox {
 impl ReadBox for TrakBox {
     ghost value = { trak_of };
 
-    #[tactic(auto, using(crate::proofs::Media::trak_of_steps))]
+    ghost early = { trak_early };
+
+    #[tactic(auto, using(crate::proofs::Media::trak_of_steps), unfolding(crate::specs::Trak::trak_early))]
     fn read_payload(alloc: Global, payload: &[u8]) -> Result<Self> {
         let TrakParts {
             tkhd,

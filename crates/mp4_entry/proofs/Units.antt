@@ -82,3 +82,18 @@ pub check-passes : (payload : List ℕ) (u : Unit {0}) → avcc_check payload �
 check-passes payload u e = passed (avcc_of payload) u (sym (check-is payload) ∙ e)
 
 pub ruleset checked = (check-refuses, check-passes)
+
+-- one set, by its length and its bytes
+pub one_read : (bytes mid part rest : List ℕ) (n : ℕ) → number_at 2 bytes ≡ Ok (n, mid)
+    → bytes_at n mid ≡ Ok (part, rest) → unit_at bytes ≡ Ok (record { bytes = part }, rest)
+unfolding unit_at
+one_read bytes mid part rest n e f = rw (e, f) refl
+
+pub no_length : (bytes : List ℕ) (c : Cause) → number_at 2 bytes ≡ Err c → unit_at bytes ≡ Err c
+unfolding unit_at
+no_length bytes c e = rw e refl
+
+pub too_short : (bytes mid : List ℕ) (n : ℕ) (c : Cause) → number_at 2 bytes ≡ Ok (n, mid) → bytes_at n mid ≡ Err c
+    → unit_at bytes ≡ Err c
+unfolding unit_at
+too_short bytes mid n c e f = rw (e, f) refl

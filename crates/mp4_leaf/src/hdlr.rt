@@ -58,6 +58,22 @@ impl HdlrBox {
     }
 }
 
+impl HdlrBox {
+    /// The handler type that a payload says; what refuses the payload is found without a request for memory.
+    #[tactic(auto, unfolding(crate::specs::Hdlr::hdlr_of))]
+    pub fn handler_type_of(payload: &[u8]) -> Result<FourCC>
+        ensures { Gives (λ t. t) result (seen (λ b. b.handler_type) (hdlr_of payload.now)) }
+    {
+        let mut fields = Fields::new(payload);
+        fields.u8()?;
+        fields.u24()?;
+        fields.bytes(4)?;
+        let handler_type = fields.four_cc()?;
+        fields.bytes(12)?;
+        Ok(handler_type)
+    }
+}
+
 impl TryClone for HdlrBox {
     fn try_clone(&self) -> Result<Self> {
         Ok(HdlrBox {

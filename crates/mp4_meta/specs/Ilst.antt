@@ -6,6 +6,8 @@ use Rattle.mp4_codec.specs.declared.box_type.BoxType.TheVariants.{DayBox, CovrBo
 use Rattle.mp4_codec.specs.Cause.{Cause, ◌>>=◌, ◌or◌}
 use Rattle.mp4_codec.specs.Bytes.{◌⧺◌}
 use Rattle.mp4_codec.specs.Boxes.{frame, optional, no_refusal, IsCanonical}
+use Rattle.mp4_codec.specs.Early.{Early, takes_memory, early_gathered, early_last, at_once, refused_at_once}
+use Rattle.mp4_codec.specs.Early.{◌and_then◌}
 use Rattle.mp4_codec.specs.Children.{ChildBox, children, gathered, fault_in, last_of, with_last, needed}
 use Rattle.mp4_leaf.specs.Data.{data_of, data_payload, IsInRangeData, RemarksData, default_data}
 use Rattle.mp4_meta.specs.declared.metadata_key.MetadataKey.{MetadataKey}
@@ -20,6 +22,12 @@ item_of payload = do
   last ← gathered (fault_in data_box data_of) (last_of data_box data_of) (children payload)
   value ← needed data_box last
   Ok (record { item = value })
+
+-- what a payload shows of an item before memory is requested: its children, and then that the value is missing
+unfoldable pub item_early : List ℕ → Early
+item_early payload =
+    early_gathered (early_last data_box (λ p. refused_at_once (data_of p))) (children payload)
+    and_then at_once (item_of payload)
 
 -- the payload that holds an item
 unfoldable pub item_payload : IlstItemBox → List ℕ
@@ -95,6 +103,18 @@ unfoldable pub ilst_of : List ℕ → Result IlstBox Cause
 ilst_of payload = do
   parts ← gathered ilst_fault ilst_taken (children payload)
   Ok (record { items = parts.title ∷ parts.year ∷ parts.poster ∷ parts.summary ∷ [] })
+
+-- what a child shows before memory is requested
+unfoldable pub ilst_child_early : ChildBox → Early
+ilst_child_early c =
+    early_last NameBox item_early c
+    and_then (early_last DayBox item_early c
+    and_then (early_last CovrBox item_early c
+    and_then early_last DescBox item_early c))
+
+-- what a payload shows before memory is requested: its children; the map of the items takes memory
+unfoldable pub ilst_early : List ℕ → Early
+ilst_early payload = early_gathered ilst_child_early (children payload) and_then takes_memory
 
 -- the payload that holds a list
 unfoldable pub ilst_payload : IlstBox → List ℕ

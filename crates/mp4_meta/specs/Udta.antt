@@ -3,15 +3,20 @@ use Rattle.std.specs.Prelude.{ℕ, List, None, Result, Ok, IfSome}
 use Rattle.mp4_codec.specs.declared.box_type.BoxType.TheVariants.{MetaBox as meta}
 use Rattle.mp4_codec.specs.Cause.{Cause, ◌>>=◌}
 use Rattle.mp4_codec.specs.Boxes.{optional, no_refusal, IsCanonical}
+use Rattle.mp4_codec.specs.Early.{Early, early_gathered, early_last}
 use Rattle.mp4_codec.specs.Children.{children, gathered, fault_in, last_of}
 use Rattle.mp4_meta.specs.declared.udta.UdtaBox.{UdtaBox}
-use Rattle.mp4_meta.specs.Meta.{meta_of, meta_payload, IsInRangeMeta, RemarksMeta}
+use Rattle.mp4_meta.specs.Meta.{meta_of, meta_early, meta_payload, IsInRangeMeta, RemarksMeta}
 
 -- the user data that a payload holds: the last metadata
 unfoldable pub udta_of : List ℕ → Result UdtaBox Cause
 udta_of payload = do
   last ← gathered (fault_in meta meta_of) (last_of meta meta_of) (children payload)
   Ok (record { meta = last })
+
+-- what a payload shows before memory is requested: its children
+unfoldable pub udta_early : List ℕ → Early
+udta_early payload = early_gathered (early_last meta meta_early) (children payload)
 
 -- the payload that holds user data
 unfoldable pub udta_payload : UdtaBox → List ℕ

@@ -4,11 +4,12 @@ ghost use Rattle.std.specs.Prelude.{◌≡◌, ◌+◌, ◌-◌, ◌<◌, ◌^�
 ghost use Rattle.std.specs.Option.{option_copied};
 ghost use Rattle.mp4_codec.specs.declared.box_type.BoxType.TheVariants.{IlstBox as ilst};
 ghost use Rattle.mp4_codec.specs.Cause.{Answers, Gives};
+ghost use Rattle.mp4_codec.specs.Early.{Shows, early_last};
 ghost use Rattle.mp4_codec.specs.Bytes.{Appends};
 ghost use Rattle.mp4_codec.specs.Boxes.{frame, size_around, no_refusal};
 ghost use Rattle.mp4_codec.specs.Children.{child_box, with_last};
 ghost use Rattle.mp4_codec.specs.KeyedItems.{no_items};
-ghost use Rattle.mp4_meta.specs.Ilst.{item_type, item_of, item_payload, default_item, item_at, item_frame, items_with, IsInRangeItem, ilst_fault, ilst_taken, ilst_added, ilst_of, ilst_payload, IsInRangeIlst, RemarksIlst, default_ilst};
+ghost use Rattle.mp4_meta.specs.Ilst.{item_type, item_of, item_early, item_payload, default_item, item_at, item_frame, items_with, IsInRangeItem, ilst_fault, ilst_child_early, ilst_taken, ilst_added, ilst_of, ilst_early, ilst_payload, IsInRangeIlst, RemarksIlst, default_ilst};
 ghost use Rattle.mp4_meta.specs.IlstLaws.{ilst_adds, ilst_again};
 
 use crate::metadata_key::MetadataKey;
@@ -59,7 +60,9 @@ impl InRange for IlstItemBox {
 impl ReadBox for IlstItemBox {
     ghost value = { item_of };
 
-    #[tactic(auto, unfolding(crate::specs::Ilst::item_of))]
+    ghost early = { item_early };
+
+    #[tactic(auto, unfolding(crate::specs::Ilst::item_of, crate::specs::Ilst::item_early))]
     fn read_payload(alloc: Global, payload: &[u8]) -> Result<Self> {
         let last = last_child::<DataBox>(alloc, payload)?;
         let item = required(last)?;
@@ -86,7 +89,8 @@ fn keep_item(
     key: MetadataKey,
     last: &mut Option<IlstItemBox>,
 ) -> Result<()>
-    ensures { Answers (λ _. last.new) result (with_last (item_type key) item_of (child_box child.now) last.old) }
+    ensures value { Answers (λ _. last.new) result (with_last (item_type key) item_of (child_box child.now) last.old) }
+    ensures early { Shows (early_last (item_type key) item_early (child_box child.now)) result }
 {
     if u32::from(child.name) == u32::from(type_of(key)) {
         *last = Some(IlstItemBox::read_payload(alloc, child.payload)?);
@@ -245,6 +249,8 @@ struct IlstParts {
 impl Gather for IlstParts {
     ghost fault = { ilst_fault };
 
+    ghost early = { ilst_child_early };
+
     ghost taken = { ilst_taken };
 
     ghost added = { ilst_added };
@@ -261,7 +267,7 @@ impl Gather for IlstParts {
         }
     }
 
-    #[tactic(auto, unfolding(crate::specs::Ilst::ilst_added))]
+    #[tactic(auto, unfolding(crate::specs::Ilst::ilst_added, crate::specs::Ilst::ilst_child_early))]
     fn add(&mut self, alloc: Global, child: &Child) -> Result<()> {
         keep_item(alloc, child, MetadataKey::Title, &mut self.title)?;
         keep_item(alloc, child, MetadataKey::Year, &mut self.year)?;
@@ -298,7 +304,9 @@ impl Mp4Box for IlstBox {
 impl ReadBox for IlstBox {
     ghost value = { ilst_of };
 
-    #[tactic(auto, unfolding(crate::specs::Ilst::ilst_of, crate::specs::Ilst::item_at, crate::specs::Ilst::items_with))]
+    ghost early = { ilst_early };
+
+    #[tactic(auto, unfolding(crate::specs::Ilst::ilst_of, crate::specs::Ilst::ilst_early, crate::specs::Ilst::item_at, crate::specs::Ilst::items_with))]
     fn read_payload(alloc: Global, payload: &[u8]) -> Result<Self> {
         let IlstParts {
             title,

@@ -3,7 +3,7 @@
 ghost use Rattle.std.specs.Prelude.{◌≡◌};
 ghost use Rattle.mp4_codec.specs.declared.box_type.BoxType.TheVariants.{UdtaBox as udta};
 ghost use Rattle.mp4_codec.specs.Boxes.{size_around, no_refusal};
-ghost use Rattle.mp4_meta.specs.Udta.{udta_of, udta_payload, IsInRangeUdta, RemarksUdta, default_udta};
+ghost use Rattle.mp4_meta.specs.Udta.{udta_of, udta_early, udta_payload, IsInRangeUdta, RemarksUdta, default_udta};
 ghost use Rattle.mp4_meta.specs.UdtaLaws.{udta_again};
 
 use crate::meta::MetaBox;
@@ -79,7 +79,9 @@ impl Mp4Box for UdtaBox {
 impl ReadBox for UdtaBox {
     ghost value = { udta_of };
 
-    #[tactic(auto, unfolding(crate::specs::Udta::udta_of))]
+    ghost early = { udta_early };
+
+    #[tactic(auto, unfolding(crate::specs::Udta::udta_of, crate::specs::Udta::udta_early))]
     fn read_payload(alloc: Global, payload: &[u8]) -> Result<Self> {
         let meta = last_child::<MetaBox>(alloc, payload)?;
         Ok(UdtaBox { meta })

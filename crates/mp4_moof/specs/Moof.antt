@@ -5,10 +5,11 @@ use Rattle.mp4_codec.specs.declared.box_type.BoxType.TheVariants.{MfhdBox as mfh
 use Rattle.mp4_codec.specs.Cause.{Cause, ◌>>=◌, ◌or◌}
 use Rattle.mp4_codec.specs.Bytes.{◌⧺◌}
 use Rattle.mp4_codec.specs.Boxes.{frame, all_frames, all_refusal, IsCanonical}
+use Rattle.mp4_codec.specs.Early.{Early, early_gathered, early_last, early_next, at_once, ◌and_then◌}
 use Rattle.mp4_codec.specs.Children.{ChildBox, children, gathered, fault_in, last_of, all_of, with_last, with_next}
 use Rattle.mp4_codec.specs.Children.{needed}
 use Rattle.mp4_frag.specs.Mfhd.{mfhd_of, mfhd_payload, IsInRangeMfhd, RemarksMfhd, default_mfhd}
-use Rattle.mp4_moof.specs.Traf.{traf_of, traf_payload, traf_refusal, IsInRangeTraf, RemarksTraf}
+use Rattle.mp4_moof.specs.Traf.{traf_of, traf_early, traf_payload, traf_refusal, IsInRangeTraf, RemarksTraf}
 use Rattle.mp4_moof.specs.declared.moof.MoofBox.{MoofBox}
 use Rattle.mp4_moof.specs.declared.moof.MoofParts.{MoofParts}
 
@@ -33,6 +34,16 @@ moof_of payload = do
   parts ← gathered moof_fault moof_taken (children payload)
   header ← needed mfhd parts.mfhd
   Ok (record { mfhd = header; trafs = parts.trafs })
+
+-- what a child shows before memory is requested
+unfoldable pub moof_child_early : ChildBox → Early
+moof_child_early c =
+    early_last mfhd (λ p. at_once (mfhd_of p)) c
+    and_then (early_next traf traf_early c)
+
+-- what a payload shows before memory is requested: its children, and then what is missing
+unfoldable pub moof_early : List ℕ → Early
+moof_early payload = early_gathered moof_child_early (children payload) and_then at_once (moof_of payload)
 
 -- the payload that holds a movie fragment
 unfoldable pub moof_payload : MoofBox → List ℕ

@@ -5,6 +5,7 @@ use Rattle.mp4_codec.specs.declared.box_type.BoxType.TheVariants.{MehdBox as meh
 use Rattle.mp4_codec.specs.Cause.{Cause, ◌>>=◌, ◌or◌}
 use Rattle.mp4_codec.specs.Bytes.{◌⧺◌}
 use Rattle.mp4_codec.specs.Boxes.{optional, optional_refusal, all_frames, IsCanonical}
+use Rattle.mp4_codec.specs.Early.{Early, early_gathered, early_last, early_next, at_once, ◌and_then◌}
 use Rattle.mp4_codec.specs.Children.{ChildBox, children, gathered, fault_in, last_of, all_of, with_last, with_next}
 use Rattle.mp4_codec.specs.Children.{some_needed}
 use Rattle.mp4_frag.specs.Mehd.{mehd_of, mehd_payload, mehd_refusal, IsInRangeMehd, RemarksMehd}
@@ -33,6 +34,16 @@ mvex_of payload = do
   parts ← gathered mvex_fault mvex_taken (children payload)
   defaults ← some_needed trex parts.trexs
   Ok (record { mehd = parts.mehd; trexs = defaults })
+
+-- what a child shows before memory is requested
+unfoldable pub mvex_child_early : ChildBox → Early
+mvex_child_early c =
+    early_last mehd (λ p. at_once (mehd_of p)) c
+    and_then (early_next trex (λ p. at_once (trex_of p)) c)
+
+-- what a payload shows before memory is requested: its children, and then what is missing
+unfoldable pub mvex_early : List ℕ → Early
+mvex_early payload = early_gathered mvex_child_early (children payload) and_then at_once (mvex_of payload)
 
 -- the payload that holds the box
 unfoldable pub mvex_payload : MvexBox → List ℕ

@@ -5,6 +5,7 @@ use Rattle.mp4_codec.specs.declared.box_type.BoxType.TheVariants.{TfhdBox as tfh
 use Rattle.mp4_codec.specs.Cause.{Cause, ◌>>=◌, ◌or◌}
 use Rattle.mp4_codec.specs.Bytes.{◌⧺◌}
 use Rattle.mp4_codec.specs.Boxes.{frame, optional, optional_refusal, all_frames, all_refusal, IsCanonical}
+use Rattle.mp4_codec.specs.Early.{Early, early_gathered, early_last, early_next, at_once, refused_at_once, ◌and_then◌}
 use Rattle.mp4_codec.specs.Children.{ChildBox, children, gathered, fault_in, last_of, all_of, with_last, with_next}
 use Rattle.mp4_codec.specs.Children.{needed}
 use Rattle.mp4_frag.specs.Tfhd.{tfhd_of, tfhd_payload, tfhd_refusal, IsInRangeTfhd, RemarksTfhd, default_tfhd}
@@ -39,6 +40,17 @@ traf_of payload = do
   parts ← gathered traf_fault traf_taken (children payload)
   header ← needed tfhd parts.tfhd
   Ok (record { tfhd = header; tfdt = parts.tfdt; truns = parts.truns })
+
+-- what a child shows before memory is requested
+unfoldable pub traf_child_early : ChildBox → Early
+traf_child_early c =
+    early_last tfhd (λ p. at_once (tfhd_of p)) c
+    and_then (early_last tfdt (λ p. at_once (tfdt_of p)) c
+    and_then (early_next trun (λ p. refused_at_once (trun_of p)) c))
+
+-- what a payload shows before memory is requested: its children, and then what is missing
+unfoldable pub traf_early : List ℕ → Early
+traf_early payload = early_gathered traf_child_early (children payload) and_then at_once (traf_of payload)
 
 -- the payload that holds a fragment
 unfoldable pub traf_payload : TrafBox → List ℕ

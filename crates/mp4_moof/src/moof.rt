@@ -4,7 +4,7 @@ ghost use Rattle.std.specs.Prelude.{◌≡◌, Ok};
 ghost use Rattle.mp4_codec.specs.declared.box_type.BoxType.TheVariants.{MoofBox as moof};
 ghost use Rattle.mp4_codec.specs.Cause.{Gives};
 ghost use Rattle.mp4_codec.specs.Boxes.{size_around};
-ghost use Rattle.mp4_moof.specs.Moof.{moof_payload, default_moof, moof_fault, moof_taken, moof_added, moof_of, moof_refusal, IsInRangeMoof, RemarksMoof};
+ghost use Rattle.mp4_moof.specs.Moof.{moof_payload, default_moof, moof_fault, moof_child_early, moof_taken, moof_added, moof_of, moof_early, moof_refusal, IsInRangeMoof, RemarksMoof};
 ghost use Rattle.mp4_moof.specs.MoofLaws.{moof_adds, moof_again};
 
 use crate::traf::TrafBox;
@@ -78,6 +78,8 @@ struct MoofParts {
 impl Gather for MoofParts {
     ghost fault = { moof_fault };
 
+    ghost early = { moof_child_early };
+
     ghost taken = { moof_taken };
 
     ghost added = { moof_added };
@@ -92,7 +94,7 @@ impl Gather for MoofParts {
         }
     }
 
-    #[tactic(auto, unfolding(crate::specs::Moof::moof_added))]
+    #[tactic(auto, unfolding(crate::specs::Moof::moof_added, crate::specs::Moof::moof_child_early))]
     fn add(&mut self, alloc: Global, child: &Child) -> Result<()> {
         keep_last(alloc, child, &mut self.mfhd)?;
         keep_each(alloc, child, &mut self.trafs)?;
@@ -124,7 +126,9 @@ impl Mp4Box for MoofBox {
 impl ReadBox for MoofBox {
     ghost value = { moof_of };
 
-    #[tactic(auto, unfolding(crate::specs::Moof::moof_of))]
+    ghost early = { moof_early };
+
+    #[tactic(auto, unfolding(crate::specs::Moof::moof_of, crate::specs::Moof::moof_early))]
     fn read_payload(alloc: Global, payload: &[u8]) -> Result<Self> {
         let MoofParts { mfhd, trafs } = gather_children(alloc, payload)?;
         let mfhd = required(mfhd)?;

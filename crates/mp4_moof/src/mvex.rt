@@ -4,7 +4,7 @@ ghost use Rattle.std.specs.Prelude.{◌≡◌, Ok};
 ghost use Rattle.mp4_codec.specs.declared.box_type.BoxType.TheVariants.{MvexBox as mvex};
 ghost use Rattle.mp4_codec.specs.Cause.{Gives};
 ghost use Rattle.mp4_codec.specs.Boxes.{size_around};
-ghost use Rattle.mp4_moof.specs.Mvex.{mvex_payload, default_mvex, mvex_fault, mvex_taken, mvex_added, mvex_of, mvex_refusal, IsInRangeMvex, RemarksMvex};
+ghost use Rattle.mp4_moof.specs.Mvex.{mvex_payload, default_mvex, mvex_fault, mvex_child_early, mvex_taken, mvex_added, mvex_of, mvex_early, mvex_refusal, IsInRangeMvex, RemarksMvex};
 ghost use Rattle.mp4_moof.specs.MvexLaws.{mvex_adds, mvex_again};
 
 use mp4_codec::{
@@ -76,6 +76,8 @@ struct MvexParts {
 impl Gather for MvexParts {
     ghost fault = { mvex_fault };
 
+    ghost early = { mvex_child_early };
+
     ghost taken = { mvex_taken };
 
     ghost added = { mvex_added };
@@ -90,7 +92,7 @@ impl Gather for MvexParts {
         }
     }
 
-    #[tactic(auto, unfolding(crate::specs::Mvex::mvex_added))]
+    #[tactic(auto, unfolding(crate::specs::Mvex::mvex_added, crate::specs::Mvex::mvex_child_early))]
     fn add(&mut self, alloc: Global, child: &Child) -> Result<()> {
         keep_last(alloc, child, &mut self.mehd)?;
         keep_each(alloc, child, &mut self.trexs)?;
@@ -122,7 +124,9 @@ impl Mp4Box for MvexBox {
 impl ReadBox for MvexBox {
     ghost value = { mvex_of };
 
-    #[tactic(auto, unfolding(crate::specs::Mvex::mvex_of))]
+    ghost early = { mvex_early };
+
+    #[tactic(auto, unfolding(crate::specs::Mvex::mvex_of, crate::specs::Mvex::mvex_early))]
     fn read_payload(alloc: Global, payload: &[u8]) -> Result<Self> {
         let MvexParts { mehd, trexs } = gather_children(alloc, payload)?;
         let trexs = some_required(trexs)?;

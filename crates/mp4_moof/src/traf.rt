@@ -4,7 +4,7 @@ ghost use Rattle.std.specs.Prelude.{◌≡◌, Ok};
 ghost use Rattle.mp4_codec.specs.declared.box_type.BoxType.TheVariants.{TrafBox as traf};
 ghost use Rattle.mp4_codec.specs.Cause.{Gives};
 ghost use Rattle.mp4_codec.specs.Boxes.{size_around};
-ghost use Rattle.mp4_moof.specs.Traf.{traf_payload, default_traf, traf_fault, traf_taken, traf_added, traf_of, traf_refusal, IsInRangeTraf, RemarksTraf};
+ghost use Rattle.mp4_moof.specs.Traf.{traf_payload, default_traf, traf_fault, traf_child_early, traf_taken, traf_added, traf_of, traf_early, traf_refusal, IsInRangeTraf, RemarksTraf};
 ghost use Rattle.mp4_moof.specs.TrafLaws.{traf_adds, traf_again};
 
 use mp4_codec::{
@@ -83,6 +83,8 @@ struct TrafParts {
 impl Gather for TrafParts {
     ghost fault = { traf_fault };
 
+    ghost early = { traf_child_early };
+
     ghost taken = { traf_taken };
 
     ghost added = { traf_added };
@@ -98,7 +100,7 @@ impl Gather for TrafParts {
         }
     }
 
-    #[tactic(auto, unfolding(crate::specs::Traf::traf_added))]
+    #[tactic(auto, unfolding(crate::specs::Traf::traf_added, crate::specs::Traf::traf_child_early))]
     fn add(&mut self, alloc: Global, child: &Child) -> Result<()> {
         keep_last(alloc, child, &mut self.tfhd)?;
         keep_last(alloc, child, &mut self.tfdt)?;
@@ -132,7 +134,9 @@ impl Mp4Box for TrafBox {
 impl ReadBox for TrafBox {
     ghost value = { traf_of };
 
-    #[tactic(auto, unfolding(crate::specs::Traf::traf_of))]
+    ghost early = { traf_early };
+
+    #[tactic(auto, unfolding(crate::specs::Traf::traf_of, crate::specs::Traf::traf_early))]
     fn read_payload(alloc: Global, payload: &[u8]) -> Result<Self> {
         let TrafParts { tfhd, tfdt, truns } = gather_children(alloc, payload)?;
         let tfhd = required(tfhd)?;
