@@ -1,13 +1,13 @@
 -- One child more: what the parts of a container take of a list of children, the fold that makes them, and the first
 -- fault.
 use Rattle.std.proofs.Common.{◌≡◌, ℕ, Bool, true, false, cond, List, [], ◌∷◌, ◌++◌, Option, Some, None, Result, Ok}
-use Rattle.std.proofs.Common.{Err, refl, sym, ap, subst, ◌∙◌, append_assoc}
+use Rattle.std.proofs.Common.{Err, refl, sym, ap, subst, ◌∙◌, append_assoc, map}
 use Rattle.std.proofs.lemmas.List.{append-nil}
 use Rattle.std.specs.Prelude.{IfSome}
 use Rattle.std.specs.List.{AllByRecursion}
-use Rattle.std.specs.Option.{option_to_list}
+use Rattle.std.specs.Option.{option_to_list, option_map}
 use Rattle.mp4_codec.specs.declared.box_type.BoxType.{BoxType}
-use Rattle.mp4_codec.specs.Cause.{Cause, ◌>>=◌, ◌or◌, unless, fault_of}
+use Rattle.mp4_codec.specs.Cause.{Cause, ◌>>=◌, ◌or◌, unless, fault_of, seen}
 use Rattle.mp4_codec.specs.Children.{ChildBox, is_of, value_of, given_by, fault_in, all_of, last, last_of, tail_fault}
 use Rattle.mp4_codec.specs.Children.{first_fault, gathered, with_last, with_next, needed}
 use Rattle.mp4_codec.specs.Steps.{ok_is}
@@ -131,6 +131,57 @@ last_of-holds P t value holds cs = of_last (all_of t value cs) (all_of-holds P t
     of_last [] h = tt
     of_last (x ∷ []) h = h.0
     of_last (x ∷ y ∷ ys) h = of_last (y ∷ ys) h.1
+
+-- A VALUE, SEEN IN ANOTHER WAY
+
+module _ {A B : Type 0} (t : BoxType) (value : List ℕ → Result A Cause) (view : A → B) where
+  abbrev other_value : List ℕ → Result B Cause
+  other_value payload = seen view (value payload)
+
+  fault_in-seen : (c : ChildBox) → fault_in t other_value c ≡ fault_in t value c
+  fault_in-seen c = chosen (is_of t c) (value c.1)
+    where
+      chosen : (b : Bool) (r : Result A Cause) → cond b (fault_of (seen view r)) None ≡ cond b (fault_of r) None
+      chosen true (Ok x) = refl
+      chosen true (Err e) = refl
+      chosen false r = refl
+
+  first_fault-seen : (cs : List ChildBox) (tail : List ℕ)
+      → first_fault (fault_in t other_value) cs tail ≡ first_fault (fault_in t value) cs tail
+  unfolding first_fault
+  first_fault-seen [] tail = refl
+  first_fault-seen (c ∷ cs) tail = rw (fault_in-seen c, first_fault-seen cs tail) refl
+
+  all_of-seen : (cs : List ChildBox) → all_of t other_value cs ≡ map view (all_of t value cs)
+  unfolding all_of
+  all_of-seen [] = refl
+  all_of-seen (c ∷ cs) = chosen (is_of t c) (value c.1) (all_of-seen cs)
+    where
+      chosen : (b : Bool) (r : Result A Cause) → all_of t other_value cs ≡ map view (all_of t value cs)
+          → option_to_list (cond b (value_of (seen view r)) None) ++ all_of t other_value cs
+          ≡ map view (option_to_list (cond b (value_of r) None) ++ all_of t value cs)
+      chosen true (Ok x) e = ap (λ (ys : List B). view x ∷ ys) e
+      chosen true (Err f) e = e
+      chosen false r e = e
+
+  last-map : (xs : List A) → last (map view xs) ≡ option_map view (last xs)
+  last-map [] = refl
+  last-map (x ∷ []) = refl
+  last-map (x ∷ y ∷ ys) = last-map (y ∷ ys)
+
+  -- what is read of the last child of a type, seen in another way
+  pub last-seen : (list : List ChildBox × List ℕ)
+      → gathered (fault_in t other_value) (last_of t other_value) list
+      ≡ seen (option_map view) (gathered (fault_in t value) (last_of t value) list)
+  unfolding last_of
+  last-seen list =
+      rw (first_fault-seen list.0 list.1, all_of-seen list.0, last-map (all_of t value list.0))
+      (chosen (first_fault (fault_in t value) list.0 list.1) (last (all_of t value list.0)))
+    where
+      chosen : (refusal : Option Cause) (o : Option A)
+          → unless refusal (Ok (option_map view o)) ≡ seen (option_map view) (unless refusal (Ok o))
+      chosen None o = refl
+      chosen (Some c) o = refl
 
 unless-ok : {P : Type 0} (fault : Option Cause) (parts taken : P) → unless fault (Ok taken) ≡ Ok parts → taken ≡ parts
 unless-ok None parts taken e = ok_is taken parts e

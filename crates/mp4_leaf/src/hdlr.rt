@@ -3,7 +3,7 @@
 ghost use Rattle.std.specs.Prelude.{◌≡◌, Ok};
 ghost use Rattle.mp4_codec.specs.declared.box_type.BoxType.TheVariants.{HdlrBox as hdlr};
 ghost use Rattle.mp4_codec.specs.Boxes.{size_around, no_refusal};
-ghost use Rattle.mp4_codec.specs.Cause.{Gives};
+ghost use Rattle.mp4_codec.specs.Cause.{Gives, seen};
 ghost use Rattle.mp4_leaf.specs.Hdlr.{hdlr_payload, default_hdlr, hdlr_of, IsInRangeHdlr, RemarksHdlr};
 ghost use Rattle.mp4_leaf.specs.HdlrLaws.{hdlr_again};
 ghost use Rattle.mp4_codec.specs.Early.{refused_at_once};
@@ -42,6 +42,20 @@ impl HdlrBox {
         })
     }
 
+    /// The handler type that a payload says; what refuses the payload is found without a request for memory.
+    #[tactic(auto, unfolding(crate::specs::Hdlr::hdlr_of))]
+    pub fn handler_type_of(payload: &[u8]) -> Result<FourCC>
+        ensures { Gives (λ t. t) result (seen (λ b. b.handler_type) (hdlr_of payload.now)) }
+    {
+        let mut fields = Fields::new(payload);
+        fields.u8()?;
+        fields.u24()?;
+        fields.bytes(4)?;
+        let handler_type = fields.four_cc()?;
+        fields.bytes(12)?;
+        Ok(handler_type)
+    }
+
     /// `hdlr`.
     pub fn get_type(&self) -> BoxType
         ensures { result ≡ hdlr }
@@ -55,22 +69,6 @@ impl HdlrBox {
         ensures { result ≡ size_around (hdlr_payload self.now) }
     {
         (self.name.len() as u64).saturating_add(33)
-    }
-}
-
-impl HdlrBox {
-    /// The handler type that a payload says; what refuses the payload is found without a request for memory.
-    #[tactic(auto, unfolding(crate::specs::Hdlr::hdlr_of))]
-    pub fn handler_type_of(payload: &[u8]) -> Result<FourCC>
-        ensures { Gives (λ t. t) result (seen (λ b. b.handler_type) (hdlr_of payload.now)) }
-    {
-        let mut fields = Fields::new(payload);
-        fields.u8()?;
-        fields.u24()?;
-        fields.bytes(4)?;
-        let handler_type = fields.four_cc()?;
-        fields.bytes(12)?;
-        Ok(handler_type)
     }
 }
 

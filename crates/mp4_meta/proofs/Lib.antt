@@ -3,3 +3,4 @@ pub mod Items
 pub mod MetaSizes
 pub mod Numerals
 pub mod Sizes
+pub mod Handlers

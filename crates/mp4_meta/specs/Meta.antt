@@ -5,16 +5,18 @@ use Rattle.std.specs.Int.{w32, from_be_bytes}
 use Rattle.std.specs.List.{AllByRecursion, filter, flat_map}
 use Rattle.mp4_codec.specs.declared.box_type.BoxType.TheVariants.{HdlrBox as hdlr, IlstBox as ilst, MetaBox as meta}
 use Rattle.mp4_codec.specs.BoxType.{code_of, IsNamed}
-use Rattle.mp4_codec.specs.Cause.{Cause, unsupported_version, ◌>>=◌}
+use Rattle.mp4_codec.specs.Cause.{Cause, unsupported_version, ◌>>=◌, seen}
 use Rattle.mp4_codec.specs.Bytes.{number_at, zeros, ◌⧺◌, coded}
 use Rattle.mp4_codec.specs.Boxes.{frame, optional, no_refusal, IsCanonical}
+use Rattle.mp4_codec.specs.Early.{Early, succeeds, takes_memory, early_gathered, early_last, ◌before◌}
 use Rattle.mp4_codec.specs.Children.{ChildBox, children, gathered, is_of, fault_in, last_of, needed}
+use Rattle.mp4_codec.specs.declared.four_cc.FourCC.{FourCC}
 use Rattle.mp4_leaf.specs.declared.hdlr.HdlrBox.{HdlrBox}
 use Rattle.mp4_leaf.specs.Hdlr.{hdlr_of, hdlr_payload, IsInRangeHdlr, RemarksHdlr, default_hdlr}
 use Rattle.mp4_meta.specs.declared.meta.MetaBox.{MetaBox}
 use Rattle.mp4_meta.specs.declared.meta.MetaBox.TheVariants.{Mdir, Unknown}
 use Rattle.mp4_meta.specs.declared.meta.OtherChildren.{OtherChildren}
-use Rattle.mp4_meta.specs.Ilst.{ilst_of, ilst_payload, IsInRangeIlst, RemarksIlst}
+use Rattle.mp4_meta.specs.Ilst.{ilst_of, ilst_early, ilst_payload, IsInRangeIlst, RemarksIlst}
 
 -- the bytes begin with the type hdlr
 abbrev pub names_hdlr : List ℕ → Bool
@@ -52,20 +54,56 @@ others cs = filter (λ c. not (is_of hdlr c)) cs
 unfoldable pub others_added : OtherChildren → ChildBox → Result OtherChildren Cause
 others_added p c = if is_of hdlr c then Ok p else Ok (record { children = p.children ++ c ∷ [] })
 
+-- children that are copied take memory
+abbrev pub others_early : ChildBox → Early
+others_early c = if is_of hdlr c then succeeds else takes_memory
+
 -- no child is refused
 abbrev pub no_fault : ChildBox → Option Cause
 no_fault c = None
+
+-- the type of a handler, and that which a handler's payload says
+abbrev pub handler_type_in : HdlrBox → FourCC
+handler_type_in handler = handler.handler_type
+
+abbrev pub type_in : List ℕ → Result FourCC Cause
+type_in payload = seen handler_type_in (hdlr_of payload)
+
+-- the type of the last handler among children
+abbrev pub last_type : List ℕ → Result (Option FourCC) Cause
+last_type body = gathered (fault_in hdlr type_in) (last_of hdlr type_in) (children body)
+
+-- the same, where one has to be there
+abbrev pub last_handler_type : List ℕ → Result FourCC Cause
+last_handler_type body = last_type body >>= needed hdlr
+
+-- the handler among children: the last one, which has to be there
+abbrev pub last_handler : List ℕ → Result HdlrBox Cause
+last_handler body = gathered (fault_in hdlr hdlr_of) (last_of hdlr hdlr_of) (children body) >>= needed hdlr
+
+-- the metadata of a handler: with mdir the last list of items, with any other all children but the handler
+abbrev pub meta_with : List ℕ → HdlrBox → Result MetaBox Cause
+meta_with body handler =
+    if is_mdir handler
+    then (gathered (fault_in ilst ilst_of) (last_of ilst ilst_of) (children body) >>= λ list. Ok (Mdir list))
+    else (gathered no_fault others (children body) >>= λ cs. Ok (Unknown handler cs))
 
 -- The metadata that a payload holds: a handler has to be there. With handler mdir it is the last list of items; with any
 -- other handler all children but the handler, as they are.
 unfoldable pub meta_of : List ℕ → Result MetaBox Cause
 meta_of payload = do
   body ← meta_body payload
-  last ← gathered (fault_in hdlr hdlr_of) (last_of hdlr hdlr_of) (children body)
-  handler ← needed hdlr last
-  if is_mdir handler
-      then (gathered (fault_in ilst ilst_of) (last_of ilst ilst_of) (children body) >>= λ list. Ok (Mdir list))
-      else (gathered no_fault others (children body) >>= λ cs. Ok (Unknown handler cs))
+  handler ← last_handler body
+  meta_with body handler
+
+-- what the children of a handler show before memory is requested
+abbrev pub early_with : List ℕ → HdlrBox → Early
+early_with body handler =
+    if is_mdir handler then early_gathered (early_last ilst ilst_early) (children body) else takes_memory
+
+-- what a payload shows before memory is requested: its form, each handler, and with mdir the list of items
+unfoldable pub meta_early : List ℕ → Early
+meta_early payload = meta_body payload before λ body. last_handler body before λ handler. early_with body handler
 
 -- the boxes of these children, one after the other
 unfoldable pub child_frames : List ChildBox → List ℕ

@@ -1,6 +1,6 @@
 //! The list of metadata items.
 
-ghost use Rattle.std.specs.Prelude.{◌≡◌, ◌+◌, ◌-◌, ◌<◌, ◌^◌, min, length, OnOk, Ok, None, IfSome};
+ghost use Rattle.std.specs.Prelude.{◌≡◌, [], ◌∷◌, ◌+◌, ◌-◌, ◌<◌, ◌^◌, min, length, OnOk, Ok, None, IfSome};
 ghost use Rattle.std.specs.Option.{option_copied};
 ghost use Rattle.mp4_codec.specs.declared.box_type.BoxType.TheVariants.{IlstBox as ilst};
 ghost use Rattle.mp4_codec.specs.Cause.{Answers, Gives};
@@ -246,6 +246,27 @@ struct IlstParts {
     summary: Option<IlstItemBox>,
 }
 
+impl IlstParts {
+    /// The map of the items that are there.
+    #[tactic(auto, unfolding(crate::specs::Ilst::item_at, crate::specs::Ilst::items_with))]
+    fn items(self, alloc: Global) -> Result<KeyedItems<MetadataKey, IlstItemBox>>
+        ensures { Answers (λ items. items) result (Ok (self.title ∷ self.year ∷ self.poster ∷ self.summary ∷ [])) }
+    {
+        let IlstParts {
+            title,
+            year,
+            poster,
+            summary,
+        } = self;
+        let items = KeyedItems::new(alloc);
+        let items = with_key(items, MetadataKey::Title, title)?;
+        let items = with_key(items, MetadataKey::Year, year)?;
+        let items = with_key(items, MetadataKey::Poster, poster)?;
+        let items = with_key(items, MetadataKey::Summary, summary)?;
+        Ok(items)
+    }
+}
+
 impl Gather for IlstParts {
     ghost fault = { ilst_fault };
 
@@ -306,19 +327,10 @@ impl ReadBox for IlstBox {
 
     ghost early = { ilst_early };
 
-    #[tactic(auto, unfolding(crate::specs::Ilst::ilst_of, crate::specs::Ilst::ilst_early, crate::specs::Ilst::item_at, crate::specs::Ilst::items_with))]
+    #[tactic(auto, unfolding(crate::specs::Ilst::ilst_of, crate::specs::Ilst::ilst_early))]
     fn read_payload(alloc: Global, payload: &[u8]) -> Result<Self> {
-        let IlstParts {
-            title,
-            year,
-            poster,
-            summary,
-        } = gather_children(alloc, payload)?;
-        let items = KeyedItems::new(alloc);
-        let items = with_key(items, MetadataKey::Title, title)?;
-        let items = with_key(items, MetadataKey::Year, year)?;
-        let items = with_key(items, MetadataKey::Poster, poster)?;
-        let items = with_key(items, MetadataKey::Summary, summary)?;
+        let parts = gather_children::<IlstParts>(alloc, payload)?;
+        let items = parts.items(alloc)?;
         Ok(IlstBox { items })
     }
 }

@@ -2,11 +2,14 @@
 
 ghost use Rattle.std.specs.Prelude.{◌≡◌, ◌+◌, ◌-◌, ◌<◌, ◌^◌, min, length, OnOk, Ok};
 ghost use Rattle.std.specs.List.{AllByRecursion};
-ghost use Rattle.mp4_codec.specs.declared.box_type.BoxType.TheVariants.{MetaBox as meta};
-ghost use Rattle.mp4_codec.specs.Cause.{Gives};
+ghost use Rattle.mp4_codec.specs.declared.box_type.BoxType.TheVariants.{HdlrBox as hdlr, MetaBox as meta};
+ghost use Rattle.mp4_codec.specs.Cause.{Gives, seen};
+ghost use Rattle.mp4_codec.specs.Early.{unless_refused};
+ghost use Rattle.mp4_codec.specs.Children.{fault_in, last_of, with_last};
+ghost use Rattle.mp4_codec.specs.GatherLaws.{last_child-adds};
 ghost use Rattle.mp4_codec.specs.Bytes.{Appends};
 ghost use Rattle.mp4_codec.specs.Boxes.{frame, size_around, no_refusal};
-ghost use Rattle.mp4_meta.specs.Meta.{names_hdlr, meta_body, is_mdir, mdir_handler, child_frames, others, others_added, no_fault, HasCode, meta_of, meta_payload, IsInRangeMeta, RemarksMeta, default_meta};
+ghost use Rattle.mp4_meta.specs.Meta.{names_hdlr, meta_body, mdir_handler, type_in, last_type, last_handler_type, others_early, meta_early, child_frames, others, others_added, no_fault, HasCode, meta_of, meta_payload, IsInRangeMeta, RemarksMeta, default_meta};
 ghost use Rattle.mp4_meta.specs.MetaLaws.{others_adds, meta_again};
 
 use crate::ilst::IlstBox;
@@ -115,6 +118,56 @@ fn children_of(payload: &[u8]) -> Result<&[u8]>
     Err(Error::UnsupportedBoxVersion(BoxType::MetaBox, version))
 }
 
+/// The handler type of the last handler among children.
+#[derive(Drop)]
+struct LastHandler {
+    handler_type: Option<FourCC>,
+}
+
+impl Gather for LastHandler {
+    ghost fault = { fault_in hdlr type_in };
+
+    ghost early = { λ c. unless_refused (fault_in hdlr type_in c) };
+
+    ghost taken = { λ list. record { handler_type = last_of hdlr type_in list } };
+
+    ghost added = { λ p c. seen (λ x. record { handler_type = x }) (with_last hdlr type_in c p.handler_type) };
+
+    ghost adds = { last_child-adds hdlr type_in (λ x. record { handler_type = x }) };
+
+    #[tactic(auto, unfolding(mp4_codec::specs::Children::last_of, mp4_codec::specs::Children::all_of))]
+    fn none(_alloc: Global) -> Self {
+        LastHandler { handler_type: None }
+    }
+
+    fn add(&mut self, _alloc: Global, child: &Child) -> Result<()> {
+        if u32::from(child.name) == u32::from(BoxType::HdlrBox) {
+            self.handler_type = Some(HdlrBox::handler_type_of(child.payload)?);
+            return Ok(());
+        }
+        Ok(())
+    }
+}
+
+/// The handler type of the last handler among children: each is looked at, and no memory is requested.
+#[tactic(auto, using(crate::proofs::Handlers::handler_types))]
+fn last_type(alloc: Global, body: &[u8]) -> Result<Option<FourCC>>
+    ensures { Gives (λ t. t) result (last_type body.now) }
+{
+    let LastHandler { handler_type } = gather_children(alloc, body)?;
+    Ok(handler_type)
+}
+
+/// The handler type of metadata; `BoxNotFound(HdlrBox)` where it has no handler.
+fn handler_type(alloc: Global, body: &[u8]) -> Result<FourCC>
+    ensures { Gives (λ t. t) result (last_handler_type body.now) }
+{
+    match last_type(alloc, body)? {
+        None => Err(Error::BoxNotFound(BoxType::HdlrBox)),
+        Some(handler_type) => Ok(handler_type),
+    }
+}
+
 /// The children that are not the handler.
 #[derive(Drop)]
 struct OtherChildren {
@@ -123,6 +176,8 @@ struct OtherChildren {
 
 impl Gather for OtherChildren {
     ghost fault = { no_fault };
+
+    ghost early = { others_early };
 
     ghost taken = { λ list. record { children = others list } };
 
@@ -249,15 +304,17 @@ impl Mp4Box for MetaBox {
 impl ReadBox for MetaBox {
     ghost value = { meta_of };
 
-    #[tactic(auto, unfolding(crate::specs::Meta::meta_of))]
+    ghost early = { meta_early };
+
+    #[tactic(auto, using(crate::proofs::Handlers::handlers), unfolding(crate::specs::Meta::meta_of, crate::specs::Meta::meta_early))]
     fn read_payload(alloc: Global, payload: &[u8]) -> Result<Self> {
         let body = children_of(payload)?;
-        let last = last_child::<HdlrBox>(alloc, body)?;
-        let hdlr = required(last)?;
-        if u32::from(hdlr.handler_type) == MDIR {
+        if u32::from(handler_type(alloc, body)?) == MDIR {
             let ilst = last_child::<IlstBox>(alloc, body)?;
             return Ok(MetaBox::Mdir { ilst });
         }
+        let last = last_child::<HdlrBox>(alloc, body)?;
+        let hdlr = required(last)?;
         let OtherChildren { children } = gather_children(alloc, body)?;
         Ok(MetaBox::Unknown { hdlr, children })
     }
