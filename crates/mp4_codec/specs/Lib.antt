@@ -21,3 +21,4 @@ pub mod WrittenChildren
 pub mod WrittenParts
 pub mod KeyedItems
 pub mod KeyedItemLaws
+pub mod ExactTest
