@@ -1,5 +1,7 @@
 //! The value of a metadata item.
 
+ghost use Rattle.mp4_codec.specs.ExactTest.{by_law, by_test, exact_enum, field_tests};
+ghost use Rattle.mp4_leaf.specs.contracts.data.DataType.{enum as data_types};
 ghost use Rattle.std.specs.Prelude.{◌≡◌, Ok};
 ghost use Rattle.mp4_leaf.specs.declared.data.DataType.TheVariants.{Binary};
 ghost use Rattle.mp4_leaf.specs.Data.{data_type, data_code, data_payload, default_data, data_of, IsInRangeData, RemarksData, IsInRangeDataType};
@@ -9,8 +11,8 @@ ghost use Rattle.mp4_codec.specs.Cause.{Gives};
 ghost use Rattle.mp4_leaf.specs.DataLaws.{data_again};
 
 use mp4_codec::{
-    BoxType, Fields, InRange, Items, Mp4Box, Put, ReadBox, Result, TryClone, WriteBox, put_bytes,
-    put_u32, put_zeros,
+    BoxType, ExactEq, Fields, InRange, Items, Mp4Box, Put, ReadBox, Result, TryClone, WriteBox,
+    put_bytes, put_u32, put_zeros,
 };
 use std::alloc::Global;
 
@@ -27,6 +29,10 @@ pub enum DataType {
     TempoCpil,
     /// Any other number. One of the four above is written, but not read again as it is.
     Other(u32),
+}
+
+impl ExactEq for DataType {
+    ghost exact = { exact_enum data_types (Prim.search field_tests) };
 }
 
 impl Default for DataType {
@@ -88,6 +94,10 @@ impl From<DataType> for u32 {
 pub struct DataBox {
     pub data_type: DataType,
     pub bytes: Items<u8>,
+}
+
+impl ExactEq for DataBox {
+    ghost exact = { by_test (Prim.hlevel (field_tests, by_law (exact_enum data_types (Prim.search field_tests)))) };
 }
 
 impl DataBox {
