@@ -1,5 +1,6 @@
 //! How many samples each chunk has.
 
+ghost use Rattle.mp4_codec.specs.ExactTest.{by_test, field_tests};
 ghost use Rattle.std.specs.Prelude.{◌≡◌, None, Ok};
 ghost use Rattle.mp4_codec.specs.Cause.{Gives};
 ghost use Rattle.mp4_codec.specs.Boxes.{size_around, no_refusal};
@@ -9,8 +10,8 @@ ghost use Rattle.mp4_table.specs.StscLaws.{stsc_entry_again, length-stsc_entry, 
 
 use crate::table::{put_table, read_table, table_size};
 use mp4_codec::{
-    BoxType, DebugItem, Entry, Error, Field, Fields, InRange, Items, Mp4Box, Put, ReadBox, Result,
-    TryClone, WriteBox, put_u32,
+    BoxType, DebugItem, Entry, Error, ExactEq, Field, Fields, InRange, Items, Mp4Box, Put, ReadBox,
+    Result, TryClone, WriteBox, put_u32,
 };
 use std::alloc::Global;
 
@@ -27,6 +28,10 @@ pub struct StscEntry {
     /// The number of the run's first sample, counted from 1. It isn't stored: an entry that is read
     /// alone has 0, reading the box finds it, and writing leaves it out.
     pub first_sample: u32,
+}
+
+impl ExactEq for StscEntry {
+    ghost exact = { by_test (Prim.hlevel field_tests) };
 }
 
 impl DebugItem for StscEntry {}
@@ -145,6 +150,10 @@ pub struct StscBox {
     pub flags: u32,
     /// The chunks in runs that have equally many samples.
     pub entries: Items<StscEntry>,
+}
+
+impl ExactEq for StscBox {
+    ghost exact = { by_test (Prim.hlevel field_tests) };
 }
 
 impl StscBox {
