@@ -1,16 +1,21 @@
 //! The types of coded sound.
 
+ghost use Rattle.mp4_codec.specs.ExactTest.{by_test, field_tests};
 ghost use Rattle.std.specs.Prelude.{◌≡◌, ◌<◌, ◌^◌};
 ghost use Rattle.mp4_codec.specs.Cause.{Gives};
 ghost use Rattle.mp4_entry.specs.AudioObjectType.{object_type_of};
 
-use mp4_codec::{Error, InRange, Result};
+use mp4_codec::{Error, ExactEq, InRange, Result};
 
 /// The type of coded sound, by its number: 1 to 95 without 31, which stands for the numbers from 32 on where it is
 /// written (ISO/IEC 14496-3, 1.5.1). 2 is AAC of low complexity. It is made of a number alone, which is looked at.
 #[derive(Clone, Copy, Debug, PartialEq, Eq)]
 pub struct AudioObjectType {
     number: u8,
+}
+
+impl ExactEq for AudioObjectType {
+    ghost exact = { by_test (Prim.hlevel field_tests) };
 }
 
 impl AudioObjectType {

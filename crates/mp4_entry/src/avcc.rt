@@ -1,5 +1,6 @@
 //! What a decoder of AVC video is started with.
 
+ghost use Rattle.mp4_codec.specs.ExactTest.{by_test, field_tests};
 ghost use Rattle.std.specs.Prelude.{◌≡◌, ◌-◌, ◌^◌, [], ◌∷◌, min, length, Ok, OnOk, unwrap_or, slice_get};
 ghost use Rattle.std.specs.List.{flat_map};
 ghost use Rattle.mp4_codec.specs.declared.box_type.BoxType.TheVariants.{AvcCBox as avcc};
@@ -11,8 +12,8 @@ ghost use Rattle.mp4_entry.specs.AvccLaws.{avcc_again};
 
 use crate::narrow::{check_most, put_low_u8, put_low_u16};
 use mp4_codec::{
-    BoxType, DebugItem, Fields, InRange, Items, Mp4Box, Put, ReadBox, Result, TryClone, WriteBox,
-    put_bytes, put_u8,
+    BoxType, DebugItem, ExactEq, Fields, InRange, Items, Mp4Box, Put, ReadBox, Result, TryClone,
+    WriteBox, put_bytes, put_u8,
 };
 use std::alloc::Global;
 
@@ -22,6 +23,10 @@ use std::alloc::Global;
 #[derive(Debug, PartialEq, Eq, Drop)]
 pub struct NalUnit {
     pub bytes: Items<u8>,
+}
+
+impl ExactEq for NalUnit {
+    ghost exact = { by_test (Prim.hlevel field_tests) };
 }
 
 impl DebugItem for NalUnit {}
@@ -163,6 +168,10 @@ pub struct AvcCBox {
     pub length_size_minus_one: u8,
     pub sequence_parameter_sets: Items<NalUnit>,
     pub picture_parameter_sets: Items<NalUnit>,
+}
+
+impl ExactEq for AvcCBox {
+    ghost exact = { by_test (Prim.hlevel field_tests) };
 }
 
 impl AvcCBox {
