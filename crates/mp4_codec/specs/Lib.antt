@@ -23,3 +23,4 @@ pub mod WrittenChildren
 pub mod WrittenParts
 pub mod KeyedItems
 pub mod KeyedItemLaws
+pub mod ExactTest

@@ -1,9 +1,12 @@
 //! The types of boxes (ISO/IEC 14496-12, 4.2).
 
+ghost use Rattle.mp4_codec.specs.ExactTest.{exact_enum, field_tests};
+ghost use Rattle.mp4_codec.specs.contracts.box_type.BoxType.{enum as box_types};
 ghost use Rattle.std.specs.Prelude.{◌≡◌};
 ghost use Rattle.mp4_codec.specs.BoxType.{code_of, box_type};
 ghost use Rattle.mp4_codec.specs.Bytes.{coded};
 
+use crate::exact_eq::ExactEq;
 use crate::four_cc::{FourCC, write_code};
 use std::fmt;
 
@@ -71,6 +74,10 @@ pub enum BoxType {
     DayBox,
     /// A code that has no name above. What is read is never a named type encoded so.
     UnknownBox(u32),
+}
+
+impl ExactEq for BoxType {
+    ghost exact = { exact_enum box_types (Prim.search field_tests) };
 }
 
 impl From<BoxType> for u32 {

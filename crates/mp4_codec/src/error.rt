@@ -1,9 +1,12 @@
 //! Why a call is refused.
 
+ghost use denote.Enum.Bare.{same_true};
+ghost use Rattle.mp4_codec.specs.contracts.error.Limit.{the_type as limits};
 ghost use Rattle.std.specs.Prelude.{◌≡◌};
 ghost use Rattle.mp4_codec.specs.declared.error.Error.TheVariants.{InvalidData, OutOfMemory};
 
 use crate::box_type::BoxType;
+use crate::exact_eq::ExactEq;
 use std::alloc::{AllocError, AllocFailed};
 use std::fmt;
 use std::fmt::Write;
@@ -24,6 +27,10 @@ pub enum Limit {
     BoxSize,
     /// A number that has to fit its field or its answer.
     Value,
+}
+
+impl ExactEq for Limit {
+    ghost exact = { same_true limits tt };
 }
 
 impl Limit {

@@ -2,10 +2,12 @@
 //!
 //! The high half of the bits is the whole part, and the low half counts fractions of it.
 
+ghost use Rattle.mp4_codec.specs.ExactTest.{by_test, field_tests};
 ghost use Rattle.std.specs.Prelude.{◌≡◌, ◌*◌, ◌/◌, pos, ◌*ℤ◌, ◌+ℤ◌, ◌≤ℤ◌, ◌<ℤ◌, Ok};
 ghost use Rattle.mp4_codec.specs.Cause.{Gives};
 
 use crate::error::Result;
+use crate::exact_eq::ExactEq;
 use crate::try_clone::TryClone;
 use std::fmt;
 use std::fmt::Debug;
@@ -15,6 +17,10 @@ use std::fmt::Debug;
 pub struct FixedPointU8 {
     /// How many 256ths it is.
     pub raw: u16,
+}
+
+impl ExactEq for FixedPointU8 {
+    ghost exact = { by_test (Prim.hlevel field_tests) };
 }
 
 impl FixedPointU8 {
@@ -71,6 +77,10 @@ pub struct FixedPointI8 {
     pub raw: i16,
 }
 
+impl ExactEq for FixedPointI8 {
+    ghost exact = { by_test (Prim.hlevel field_tests) };
+}
+
 impl FixedPointI8 {
     /// A whole number.
     pub fn new(whole: i8) -> Self
@@ -124,6 +134,10 @@ impl TryClone for FixedPointI8 {
 pub struct FixedPointU16 {
     /// How many 65536ths it is.
     pub raw: u32,
+}
+
+impl ExactEq for FixedPointU16 {
+    ghost exact = { by_test (Prim.hlevel field_tests) };
 }
 
 impl FixedPointU16 {

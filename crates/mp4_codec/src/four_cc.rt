@@ -1,11 +1,13 @@
 //! Codes of four bytes.
 
+ghost use Rattle.mp4_codec.specs.ExactTest.{by_test, field_tests};
 ghost use Rattle.std.specs.Prelude.{◌≡◌, replicate};
 ghost use Rattle.std.specs.Int.{w32, from_be_bytes};
 ghost use Rattle.mp4_codec.specs.Cause.{Gives};
 ghost use Rattle.mp4_codec.specs.Bytes.{coded, four_cc_of};
 
 use crate::error::Error;
+use crate::exact_eq::ExactEq;
 use crate::items::DebugItem;
 use std::fmt;
 use std::fmt::{Debug, Write};
@@ -16,6 +18,10 @@ use std::str::FromStr;
 pub struct FourCC {
     /// The bytes, in the order of the file.
     pub value: [u8; 4],
+}
+
+impl ExactEq for FourCC {
+    ghost exact = { by_test (Prim.hlevel field_tests) };
 }
 
 impl Default for FourCC {

@@ -1,5 +1,7 @@
 //! The header of a box (ISO/IEC 14496-12, 4.2).
 
+ghost use Rattle.mp4_codec.specs.ExactTest.{by_law, by_test, field_tests};
+ghost use Rattle.mp4_codec.specs.contracts.box_type.BoxTypeExactEq.TheImpl.Laws.{lawful as box_type_laws};
 ghost use Rattle.std.specs.Prelude.{◌≡◌, ◌≤◌, ◌+◌, ◌⊎◌, length, OnOk, IfOk};
 ghost use Rattle.mp4_codec.specs.Cause.{Gives, AnswersCause, Checks};
 ghost use Rattle.mp4_codec.specs.Cursor.{header_saying, header_behind, header_at};
@@ -10,6 +12,7 @@ ghost use Rattle.mp4_codec.specs.Boxes.{Writes, header_cause, header_spelling};
 use crate::box_type::BoxType;
 use crate::cursor::ByteCursor;
 use crate::error::{Error, Limit, Result};
+use crate::exact_eq::ExactEq;
 use byteorder::{BigEndian, ByteOrder};
 
 /// The bytes of a header with a 32-bit size.
@@ -33,6 +36,10 @@ const LARGE: u32 = 1;
 pub struct BoxHeader {
     pub name: BoxType,
     pub size: u64,
+}
+
+impl ExactEq for BoxHeader {
+    ghost exact = { by_test (Prim.hlevel (field_tests, by_law box_type_laws.exact)) };
 }
 
 /// Whether a header of this size can be written: 0 for an open end, or 8 and more within 32 bits.

@@ -1,11 +1,13 @@
 //! Texts, which contracts see as the lists of their bytes.
 
+ghost use Rattle.mp4_codec.specs.ExactTest.{list, number};
 ghost use Rattle.std.specs.Prelude.{◌≡◌, ◌==◌, [], ◌++◌, length, string_bytes, OnOk, OnErr, IfOk, Ok, ℕ, List, nat_eq};
 ghost use Rattle.std.specs.Cmp.{partial_equiv_from_equiv};
 ghost use Rattle.std.specs.Cmp.Lexicographic.{pointwise, nat_list_eq_equiv};
 ghost use Rattle.mp4_codec.specs.Cause.{Answers};
 
 use crate::error::Result;
+use crate::exact_eq::ExactEq;
 use crate::try_clone::TryClone;
 use std::alloc::{AllocError, Global};
 use std::fmt;
@@ -104,6 +106,10 @@ impl PartialEq for Text {
 
 impl Eq for Text {
     ghost laws = { nat_list_eq_equiv };
+}
+
+impl ExactEq for Text {
+    ghost exact = { (list number).exact };
 }
 
 impl Debug for Text {

@@ -7,12 +7,25 @@ use crate::box_type::BoxType;
 use crate::error::Result;
 use crate::four_cc::FourCC;
 use crate::items::Items;
+use std::alloc::Global;
 
 /// A value that is copied where there is memory for it. It stands for `Clone`.
 pub trait TryClone: Sized + Drop {
     /// An equal value. It is refused by `OutOfMemory` alone.
     fn try_clone(&self) -> Result<Self>
         ensures { Answers (λ x. x) result (Ok self.now) };
+
+    /// A list of equal values. It is refused by `OutOfMemory` alone. Bytes are copied all at once, other values one
+    /// after the other.
+    fn try_clone_all(alloc: Global, values: &[Self]) -> Result<Items<Self>>
+        ensures { Answers (λ x. x) result (Ok values.now) }
+    {
+        let mut copies = Items::with_capacity(alloc, values.len())?;
+        for value in values {
+            copies.push(value.try_clone()?)?;
+        }
+        Ok(copies)
+    }
 }
 
 impl TryClone for u8 {
@@ -20,6 +33,10 @@ impl TryClone for u8 {
         ensures { Gives (λ x. x) result (Ok self.now) }
     {
         Ok(*self)
+    }
+
+    fn try_clone_all(alloc: Global, values: &[u8]) -> Result<Items<u8>> {
+        Ok(Items::from(values.to_vec(alloc)?))
     }
 }
 
@@ -85,11 +102,7 @@ impl<T: TryClone> TryClone for Option<T> {
 
 impl<T: TryClone> TryClone for Items<T> {
     fn try_clone(&self) -> Result<Items<T>> {
-        let mut copies = Items::with_capacity(self.allocator(), self.len())?;
-        for item in self.as_slice() {
-            copies.push(item.try_clone()?)?;
-        }
-        Ok(copies)
+        T::try_clone_all(self.allocator(), self.as_slice())
     }
 }
 

@@ -23,9 +23,9 @@ avc_refusal c =
     if nat_lt (length c.seq_param_set) 4 then Some unrepresentable else
     (past 0xffff (length c.seq_param_set) or past 0xffff (length c.pic_param_set))
 
--- a type of sound is written in five bits, of which all ones are an escape
+-- a type of sound is written where it is 1 to 30: it has five bits, of which all ones are an escape
 abbrev pub aac_refusal : AacConfig → Option Cause
-aac_refusal c = past 30 c.profile.number
+aac_refusal c = if nat_lt c.profile.number 1 then Some unrepresentable else past 30 c.profile.number
 
 -- why an entry of a configuration is not written
 abbrev pub media_refusal : MediaConfig → Option Cause

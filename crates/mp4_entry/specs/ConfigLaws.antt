@@ -37,7 +37,7 @@ use Rattle.mp4_entry.specs.Mp4a.{mp4a_payload, mp4a_refusal, mp4a_of_config}
 use Rattle.mp4_entry.specs.Mp4aLaws.{mp4a_of_config_size}
 use Rattle.mp4_entry.specs.Tx3g.{tx3g_payload, default_tx3g}
 use Rattle.mp4_entry.specs.Tx3gLaws.{length-tx3g_payload}
-use Rattle.mp4_entry.specs.Config.{avc_refusal, media_refusal, entry_length}
+use Rattle.mp4_entry.specs.Config.{avc_refusal, aac_refusal, media_refusal, entry_length}
 use Rattle.mp4_entry.specs.Stsd.{entry_bytes, entry_of_config, stsd_of_config, stsd_payload, stsd_refusal}
 use Rattle.mp4_entry.specs.StsdLaws.{length-stsd_payload}
 
@@ -106,9 +106,16 @@ few_channels Five = refl
 few_channels FiveOne = refl
 few_channels SevenOne = refl
 
-mp4a_sound : (c : AacConfig) → past 30 c.profile.number ≡ None → mp4a_refusal (mp4a_of_config c) ≡ None
+few_types : (n : ℕ) → cond (ltb n 1) (Some unrepresentable) (past 30 n) ≡ None → past 30 n ≡ None
+few_types n e = chosen (ltb n 1) e
+  where
+    chosen : (b : Bool) → cond b (Some unrepresentable) (past 30 n) ≡ None → past 30 n ≡ None
+    chosen true e = absurd cc
+    chosen false e = e
+
+mp4a_sound : (c : AacConfig) → aac_refusal c ≡ None → mp4a_refusal (mp4a_of_config c) ≡ None
 unfolding mp4a_refusal esds_refusal
-mp4a_sound c e = rw (e, few_frequencies c.freq_index, few_channels c.chan_conf) refl
+mp4a_sound c e = rw (few_types c.profile.number e, few_frequencies c.freq_index, few_channels c.chan_conf) refl
 
 sound : (c : MediaConfig) → media_refusal c ≡ None → stsd_refusal (stsd_of_config c) ≡ None
 sound (Avc c) e = avc1_sound c (have_room c e)

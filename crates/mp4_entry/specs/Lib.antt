@@ -6,6 +6,7 @@ pub mod MediaType
 pub mod SampleFreqIndex
 pub mod ChannelConfig
 pub mod AudioObjectType
+pub mod AudioObjectTypeLaws
 pub mod AvcProfile
 pub mod Visual
 pub mod VisualLaws

@@ -2,7 +2,8 @@
 
 ghost use Rattle.std.specs.Prelude.{◌≡◌, ◌<◌, ◌^◌};
 ghost use Rattle.mp4_codec.specs.Cause.{Gives};
-ghost use Rattle.mp4_entry.specs.AudioObjectType.{object_type_of};
+ghost use Rattle.mp4_entry.specs.AudioObjectType.{IsObjectType, object_type_of};
+ghost use Rattle.std.proofs.Props.{props};
 
 use mp4_codec::{Error, InRange, Result};
 
@@ -11,12 +12,14 @@ use mp4_codec::{Error, InRange, Result};
 #[derive(Clone, Copy, Debug, PartialEq, Eq)]
 pub struct AudioObjectType {
     number: u8,
+    ghost is_type: { IsObjectType number } by { Prim.hlevel props },
 }
 
 impl AudioObjectType {
     /// The number, 1 to 95 and not 31.
     pub fn number(self) -> u8
-        ensures { result ≡ self.number }
+        ensures value { result ≡ self.number }
+        ensures is_type { IsObjectType result }
     {
         self.number
     }

@@ -1,5 +1,7 @@
 //! The sample entry of AVC video.
 
+ghost use Rattle.mp4_codec.specs.ExactTest.{by_law, by_test, field_tests};
+ghost use Rattle.mp4_entry.specs.contracts.avcc.AvcCBoxExactEq.TheImpl.Laws.{lawful as avcc_laws};
 ghost use Rattle.std.specs.Prelude.{◌≡◌, ◌+◌, length, Ok, IfOk};
 ghost use Rattle.mp4_codec.specs.declared.box_type.BoxType.TheVariants.{Avc1Box as avc1};
 ghost use Rattle.mp4_codec.specs.Cause.{Gives, Answers};
@@ -11,8 +13,8 @@ ghost use Rattle.mp4_entry.specs.Avc1Laws.{avc1_again};
 use crate::avcc::AvcCBox;
 use crate::visual::{VISUAL_SIZE, Visual, put_visual, read_visual};
 use mp4_codec::{
-    BoxType, Error, Fields, FixedPointU16, InRange, Items, Mp4Box, Put, ReadBox, Result, TryClone,
-    WriteBox, last_child,
+    BoxType, Error, ExactEq, Fields, FixedPointU16, InRange, Items, Mp4Box, Put, ReadBox, Result,
+    TryClone, WriteBox, last_child,
 };
 use std::alloc::Global;
 
@@ -40,6 +42,10 @@ pub struct Avc1Box {
     pub avcc: AvcCBox,
 }
 
+impl ExactEq for Avc1Box {
+    ghost exact = { by_test (Prim.hlevel (field_tests, by_law avcc_laws.exact)) };
+}
+
 /// What the entry of a track of AVC video is made from.
 #[derive(Debug, PartialEq, Eq, Drop)]
 pub struct AvcConfig {
@@ -51,6 +57,10 @@ pub struct AvcConfig {
     pub seq_param_set: Items<u8>,
     /// A picture parameter set, a NAL unit without a start code.
     pub pic_param_set: Items<u8>,
+}
+
+impl ExactEq for AvcConfig {
+    ghost exact = { by_test (Prim.hlevel field_tests) };
 }
 
 impl TryClone for AvcConfig {

@@ -1,10 +1,12 @@
 //! The profiles of AVC video.
 
+ghost use denote.Enum.Bare.{same_true};
+ghost use Rattle.mp4_entry.specs.contracts.avc_profile.AvcProfile.{the_type as avc_profiles};
 ghost use Rattle.std.specs.Prelude.{◌≡◌};
 ghost use Rattle.mp4_codec.specs.Cause.{Gives};
 ghost use Rattle.mp4_entry.specs.AvcProfile.{avc_profile_of};
 
-use mp4_codec::{Error, Result};
+use mp4_codec::{Error, ExactEq, Result};
 
 /// A profile of AVC video (ISO/IEC 14496-10, Annex A).
 #[derive(Clone, Copy, Debug, PartialEq, Eq)]
@@ -19,6 +21,10 @@ pub enum AvcProfile {
     AvcExtended,
     /// 100.
     AvcHigh,
+}
+
+impl ExactEq for AvcProfile {
+    ghost exact = { same_true avc_profiles tt };
 }
 
 impl TryFrom<(u8, u8)> for AvcProfile {

@@ -1,5 +1,6 @@
 //! What a decoder of AVC video is started with.
 
+ghost use Rattle.mp4_codec.specs.ExactTest.{by_test, field_tests};
 ghost use Rattle.std.specs.Prelude.{◌≡◌, ◌-◌, ◌^◌, [], ◌∷◌, min, length, Ok, OnOk, unwrap_or, slice_get};
 ghost use Rattle.std.specs.List.{flat_map};
 ghost use Rattle.mp4_codec.specs.declared.box_type.BoxType.TheVariants.{AvcCBox as avcc};
@@ -12,7 +13,7 @@ ghost use Rattle.mp4_codec.specs.Early.{refused_at_once};
 
 use crate::narrow::{check_most, put_low_u8, put_low_u16};
 use mp4_codec::{
-    BoxType, DebugItem, Field, Fields, InRange, Items, Mp4Box, Put, ReadBox, Result, TryClone, WriteBox,
+    BoxType, DebugItem, ExactEq, Field, Fields, InRange, Items, Mp4Box, Put, ReadBox, Result, TryClone, WriteBox,
     put_bytes, put_u8,
 };
 use std::alloc::Global;
@@ -23,6 +24,10 @@ use std::alloc::Global;
 #[derive(Debug, PartialEq, Eq, Drop)]
 pub struct NalUnit {
     pub bytes: Items<u8>,
+}
+
+impl ExactEq for NalUnit {
+    ghost exact = { by_test (Prim.hlevel field_tests) };
 }
 
 impl DebugItem for NalUnit {}
@@ -194,6 +199,10 @@ pub struct AvcCBox {
     pub length_size_minus_one: u8,
     pub sequence_parameter_sets: Items<NalUnit>,
     pub picture_parameter_sets: Items<NalUnit>,
+}
+
+impl ExactEq for AvcCBox {
+    ghost exact = { by_test (Prim.hlevel field_tests) };
 }
 
 impl AvcCBox {

@@ -1,10 +1,12 @@
 //! The channels of sound.
 
+ghost use denote.Enum.Bare.{same_true};
+ghost use Rattle.mp4_entry.specs.contracts.channel_config.ChannelConfig.{the_type as channel_configs};
 ghost use Rattle.std.specs.Prelude.{◌≡◌};
 ghost use Rattle.mp4_codec.specs.Cause.{Gives};
 ghost use Rattle.mp4_entry.specs.ChannelConfig.{channel_number, channel_config_of};
 
-use mp4_codec::{Error, Result};
+use mp4_codec::{Error, ExactEq, Result};
 
 /// The channels of a sound track, by their number (ISO/IEC 14496-3, 1.6.3.5).
 #[derive(Clone, Copy, Debug, PartialEq, Eq)]
@@ -23,6 +25,10 @@ pub enum ChannelConfig {
     FiveOne,
     /// 7: those six, and two further out in front.
     SevenOne,
+}
+
+impl ExactEq for ChannelConfig {
+    ghost exact = { same_true channel_configs tt };
 }
 
 impl ChannelConfig {

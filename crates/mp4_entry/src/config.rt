@@ -1,5 +1,12 @@
 //! What the sample entry of a track is made from.
 
+ghost use Rattle.mp4_codec.specs.ExactTest.{by_law, exact_enum, field_tests};
+ghost use Rattle.mp4_entry.specs.contracts.avc1.AvcConfigExactEq.TheImpl.Laws.{lawful as avc_config_laws};
+ghost use Rattle.mp4_entry.specs.contracts.hev1.HevcConfigExactEq.TheImpl.Laws.{lawful as hevc_config_laws};
+ghost use Rattle.mp4_entry.specs.contracts.vp09.Vp9ConfigExactEq.TheImpl.Laws.{lawful as vp9_config_laws};
+ghost use Rattle.mp4_entry.specs.contracts.mp4a.AacConfigExactEq.TheImpl.Laws.{lawful as aac_config_laws};
+ghost use Rattle.mp4_entry.specs.contracts.tx3g.TtxtConfigExactEq.TheImpl.Laws.{lawful as ttxt_config_laws};
+ghost use Rattle.mp4_entry.specs.contracts.config.MediaConfig.{enum as media_configs};
 ghost use Rattle.std.specs.Prelude.{◌≡◌, Ok};
 ghost use Rattle.mp4_codec.specs.Cause.{Answers, Checks};
 ghost use Rattle.mp4_entry.specs.Config.{media_refusal, avc_refusal, track_type_in, media_type_in, IsInRangeMediaConfig};
@@ -11,7 +18,7 @@ use crate::mp4a::AacConfig;
 use crate::track_type::TrackType;
 use crate::tx3g::TtxtConfig;
 use crate::vp09::Vp9Config;
-use mp4_codec::{Error, InRange, Result, TryClone};
+use mp4_codec::{Error, ExactEq, InRange, Result, TryClone};
 
 /// The longest parameter set, whose length has 16 bits.
 const LONGEST_SET: usize = 65_535;
@@ -24,6 +31,10 @@ pub enum MediaConfig {
     Vp9Config(Vp9Config),
     AacConfig(AacConfig),
     TtxtConfig(TtxtConfig),
+}
+
+impl ExactEq for MediaConfig {
+    ghost exact = { exact_enum media_configs (Prim.search (field_tests, by_law avc_config_laws.exact, by_law hevc_config_laws.exact, by_law vp9_config_laws.exact, by_law aac_config_laws.exact, by_law ttxt_config_laws.exact)) };
 }
 
 /// Whether the parameter sets of AVC video have an encoding.
@@ -47,18 +58,18 @@ impl MediaConfig {
     /// Whether an entry of it can be written.
     ///
     /// `Unrepresentable` for a sequence parameter set of AVC video under 4 bytes, which hasn't its profile and level, or
-    /// over 65,535, then for a picture parameter set over 65,535 bytes; and for a type of sound over 30, which has no
-    /// place in its five bits. Nothing else is refused.
+    /// over 65,535, then for a picture parameter set over 65,535 bytes; and for a type of sound that isn't 1 to 30,
+    /// which has no place in its five bits. Nothing else is refused.
     pub fn check(&self) -> Result<()>
         ensures { Checks result (media_refusal self.now) }
     {
         match self {
             MediaConfig::AvcConfig(config) => check_avc(config),
             MediaConfig::AacConfig(config) => {
-                if config.profile.number() > 30 {
-                    return Err(Error::Unrepresentable("a type of sound over 30"));
+                match config.profile.number() {
+                    1..=30 => Ok(()),
+                    _ => Err(Error::Unrepresentable("a type of sound that isn't 1 to 30")),
                 }
-                Ok(())
             }
             _ => Ok(()),
         }

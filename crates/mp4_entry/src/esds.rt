@@ -1,6 +1,8 @@
 //! What an MPEG-4 audio decoder is started with.
 
-ghost use Rattle.std.specs.Prelude.{◌≡◌, ◌≤◌, ◌+◌, ◌^◌, Ok, OnOk};
+ghost use Rattle.mp4_codec.specs.ExactTest.{by_law, by_test, field_tests};
+ghost use Rattle.mp4_entry.specs.declared.esds.SLConfigDescriptor.{SLConfigDescriptor};
+ghost use Rattle.std.specs.Prelude.{◌≡◌, ◌≤◌, ◌+◌, ◌^◌, Ok, OnOk, refl, true};
 ghost use Rattle.mp4_codec.specs.declared.box_type.BoxType.TheVariants.{EsdsBox as esds};
 ghost use Rattle.mp4_codec.specs.Cause.{Checks, Gives};
 ghost use Rattle.mp4_codec.specs.Bytes.{Appends, number};
@@ -14,8 +16,8 @@ ghost use Rattle.mp4_codec.specs.Early.{at_once};
 use crate::descriptor::{Padded, first_body};
 use crate::narrow::{check_most, put_low_u8, put_low_u16};
 use mp4_codec::{
-    BoxType, Fields, InRange, Mp4Box, Put, ReadBox, Result, TryClone, WriteBox, put_u8, put_u16,
-    put_u24, put_u32,
+    BoxType, ExactEq, Fields, InRange, Mp4Box, Put, ReadBox, Result, TryClone, WriteBox, put_u8,
+    put_u16, put_u24, put_u32,
 };
 use std::alloc::Global;
 
@@ -29,6 +31,10 @@ pub struct DecoderSpecificDescriptor {
     pub freq_index: u8,
     /// The number of the channels' arrangement, 1 to 7; 0 says that it stands elsewhere. It is written up to 15.
     pub chan_conf: u8,
+}
+
+impl ExactEq for DecoderSpecificDescriptor {
+    ghost exact = { by_test (Prim.hlevel field_tests) };
 }
 
 /// The decoder of a stream (ISO/IEC 14496-1, 7.2.6.6).
@@ -49,10 +55,18 @@ pub struct DecoderConfigDescriptor {
     pub dec_specific: DecoderSpecificDescriptor,
 }
 
+impl ExactEq for DecoderConfigDescriptor {
+    ghost exact = { by_test (Prim.hlevel field_tests) };
+}
+
 /// The synchronization layer of a stream (ISO/IEC 14496-1, 7.3.2.3). It isn't looked at; written is the one that is
 /// predefined for MP4 files.
 #[derive(Clone, Copy, Debug, PartialEq, Eq)]
 pub struct SLConfigDescriptor {}
+
+impl ExactEq for SLConfigDescriptor {
+    ghost exact = { λ x y h. refl };
+}
 
 /// An elementary stream (ISO/IEC 14496-1, 7.2.6.5).
 #[derive(Clone, Copy, Debug, PartialEq, Eq)]
@@ -61,6 +75,10 @@ pub struct ESDescriptor {
     pub es_id: u16,
     pub dec_config: DecoderConfigDescriptor,
     pub sl_config: SLConfigDescriptor,
+}
+
+impl ExactEq for ESDescriptor {
+    ghost exact = { by_test (Prim.hlevel (field_tests, by_law {K = SLConfigDescriptor} {E = λ x y. true} (λ x y h. refl))) };
 }
 
 /// The elementary stream descriptor of a sound track, `esds` (ISO/IEC 14496-14, 5.6).
@@ -75,6 +93,10 @@ pub struct EsdsBox {
     /// The low 24 bits are written.
     pub flags: u32,
     pub es_desc: ESDescriptor,
+}
+
+impl ExactEq for EsdsBox {
+    ghost exact = { by_test (Prim.hlevel (field_tests, by_law {K = SLConfigDescriptor} {E = λ x y. true} (λ x y h. refl))) };
 }
 
 /// Of a word of 48 bits, so many behind the first ones.

@@ -1,5 +1,7 @@
 //! The sample entry of HEVC video.
 
+ghost use Rattle.mp4_codec.specs.ExactTest.{by_law, by_test, field_tests};
+ghost use Rattle.mp4_entry.specs.contracts.hvcc.HvcCBoxExactEq.TheImpl.Laws.{lawful as hvcc_laws};
 ghost use Rattle.std.specs.Prelude.{◌≡◌, ◌+◌, length, Ok, IfOk};
 ghost use Rattle.mp4_codec.specs.declared.box_type.BoxType.TheVariants.{Hev1Box as hev1};
 ghost use Rattle.mp4_codec.specs.Cause.{Gives, Answers};
@@ -11,8 +13,8 @@ ghost use Rattle.mp4_entry.specs.Hev1Laws.{hev1_again};
 use crate::hvcc::HvcCBox;
 use crate::visual::{VISUAL_SIZE, Visual, put_visual, read_visual};
 use mp4_codec::{
-    BoxType, Error, Fields, FixedPointU16, InRange, Mp4Box, Put, ReadBox, Result, TryClone,
-    WriteBox, last_child,
+    BoxType, Error, ExactEq, Fields, FixedPointU16, InRange, Mp4Box, Put, ReadBox, Result,
+    TryClone, WriteBox, last_child,
 };
 use std::alloc::Global;
 
@@ -40,6 +42,10 @@ pub struct Hev1Box {
     pub hvcc: HvcCBox,
 }
 
+impl ExactEq for Hev1Box {
+    ghost exact = { by_test (Prim.hlevel (field_tests, by_law hvcc_laws.exact)) };
+}
+
 /// What the entry of a track of HEVC video is made from.
 #[derive(Debug, PartialEq, Eq, Drop)]
 pub struct HevcConfig {
@@ -47,6 +53,10 @@ pub struct HevcConfig {
     pub width: u16,
     /// Pixels.
     pub height: u16,
+}
+
+impl ExactEq for HevcConfig {
+    ghost exact = { by_test (Prim.hlevel field_tests) };
 }
 
 impl TryClone for HevcConfig {

@@ -1,5 +1,6 @@
 //! What a decoder of HEVC video is started with.
 
+ghost use Rattle.mp4_codec.specs.ExactTest.{by_test, field_tests};
 ghost use Rattle.std.specs.Prelude.{◌≡◌, Ok};
 ghost use Rattle.mp4_codec.specs.declared.box_type.BoxType.TheVariants.{HvcCBox as hvcc};
 ghost use Rattle.mp4_codec.specs.Cause.{Answers};
@@ -9,8 +10,8 @@ ghost use Rattle.mp4_entry.specs.HvccLaws.{hvcc_again};
 ghost use Rattle.mp4_codec.specs.Early.{refused_at_once};
 
 use mp4_codec::{
-    BoxType, InRange, Items, Mp4Box, Put, ReadBox, Result, TryClone, WriteBox, put_bytes, put_u8,
-    put_zeros,
+    BoxType, ExactEq, InRange, Items, Mp4Box, Put, ReadBox, Result, TryClone, WriteBox, put_bytes,
+    put_u8, put_zeros,
 };
 use std::alloc::Global;
 
@@ -18,6 +19,10 @@ use std::alloc::Global;
 #[derive(Debug, PartialEq, Eq, Drop)]
 pub struct HvcCBox {
     pub raw: Items<u8>,
+}
+
+impl ExactEq for HvcCBox {
+    ghost exact = { by_test (Prim.hlevel field_tests) };
 }
 
 impl HvcCBox {

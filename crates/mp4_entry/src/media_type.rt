@@ -1,9 +1,11 @@
 //! The codings of media.
 
+ghost use denote.Enum.Bare.{same_true};
+ghost use Rattle.mp4_entry.specs.contracts.media_type.MediaType.{the_type as media_types};
 ghost use Rattle.std.specs.Prelude.{◌≡◌};
 ghost use Rattle.mp4_entry.specs.MediaType.{entry_type};
 
-use mp4_codec::BoxType;
+use mp4_codec::{BoxType, ExactEq};
 
 /// How the samples of a track are coded, which the type of its sample entry says.
 #[derive(Clone, Copy, Debug, PartialEq, Eq)]
@@ -18,6 +20,10 @@ pub enum MediaType {
     AAC,
     /// Timed text by 3GPP TS 26.245, in an entry `tx3g`.
     TTXT,
+}
+
+impl ExactEq for MediaType {
+    ghost exact = { same_true media_types tt };
 }
 
 impl From<MediaType> for BoxType {

@@ -1,5 +1,10 @@
 //! The sample entry of MPEG-4 audio.
 
+ghost use Rattle.mp4_codec.specs.ExactTest.{by_law, by_test, field_tests};
+ghost use Rattle.mp4_entry.specs.contracts.esds.EsdsBoxExactEq.TheImpl.Laws.{lawful as esds_laws};
+ghost use Rattle.mp4_entry.specs.AudioObjectTypeLaws.{exact_object_type};
+ghost use Rattle.mp4_entry.specs.contracts.sample_freq_index.SampleFreqIndexExactEq.TheImpl.Laws.{lawful as sample_freq_index_laws};
+ghost use Rattle.mp4_entry.specs.contracts.channel_config.ChannelConfigExactEq.TheImpl.Laws.{lawful as channel_config_laws};
 ghost use Rattle.std.specs.Prelude.{◌≡◌, ◌+◌, length, Ok};
 ghost use Rattle.std.specs.Option.{option_map};
 ghost use Rattle.mp4_codec.specs.declared.box_type.BoxType.TheVariants.{EsdsBox as esds, Mp4aBox as mp4a};
@@ -17,9 +22,9 @@ use crate::esds::{
 };
 use crate::sample_freq_index::SampleFreqIndex;
 use mp4_codec::{
-    BoxType, Child, Children, Fields, FixedPointU16, InRange, Mp4Box, Put, ReadBox, Result,
-    TryClone, WriteBox, check_optional, last_child, optional_size, put_optional, put_u16, put_u32,
-    put_zeros,
+    BoxType, Child, Children, ExactEq, Fields, FixedPointU16, InRange, Mp4Box, Put, ReadBox,
+    Result, TryClone, WriteBox, check_optional, last_child, optional_size, put_optional, put_u16,
+    put_u32, put_zeros,
 };
 use std::alloc::Global;
 
@@ -44,6 +49,10 @@ pub struct Mp4aBox {
     pub esds: Option<EsdsBox>,
 }
 
+impl ExactEq for Mp4aBox {
+    ghost exact = { by_test (Prim.hlevel (field_tests, by_law esds_laws.exact)) };
+}
+
 /// What the entry of a track of AAC sound is made from.
 #[derive(Clone, Copy, Debug, PartialEq, Eq)]
 pub struct AacConfig {
@@ -53,6 +62,14 @@ pub struct AacConfig {
     pub profile: AudioObjectType,
     pub freq_index: SampleFreqIndex,
     pub chan_conf: ChannelConfig,
+}
+
+impl ExactEq for AudioObjectType {
+    ghost exact = { exact_object_type };
+}
+
+impl ExactEq for AacConfig {
+    ghost exact = { by_test (Prim.hlevel (field_tests, by_law exact_object_type, by_law sample_freq_index_laws.exact, by_law channel_config_laws.exact)) };
 }
 
 impl TryClone for AacConfig {

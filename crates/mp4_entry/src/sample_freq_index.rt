@@ -1,10 +1,12 @@
 //! The sampling frequencies of sound.
 
+ghost use denote.Enum.Bare.{same_true};
+ghost use Rattle.mp4_entry.specs.contracts.sample_freq_index.SampleFreqIndex.{the_type as sample_freq_indexes};
 ghost use Rattle.std.specs.Prelude.{◌≡◌};
 ghost use Rattle.mp4_codec.specs.Cause.{Gives};
 ghost use Rattle.mp4_entry.specs.SampleFreqIndex.{freq_number, freq_index_of, hertz};
 
-use mp4_codec::{Error, Result};
+use mp4_codec::{Error, ExactEq, Result};
 
 /// A sampling frequency that has an index (ISO/IEC 14496-3, 1.6.3.4). Each is named by its hertz.
 #[derive(Clone, Copy, Debug, PartialEq, Eq)]
@@ -22,6 +24,10 @@ pub enum SampleFreqIndex {
     Freq11025,
     Freq8000,
     Freq7350,
+}
+
+impl ExactEq for SampleFreqIndex {
+    ghost exact = { same_true sample_freq_indexes tt };
 }
 
 impl SampleFreqIndex {

@@ -1,5 +1,11 @@
 //! The sample description.
 
+ghost use Rattle.mp4_codec.specs.ExactTest.{by_law, by_test, field_tests};
+ghost use Rattle.mp4_entry.specs.contracts.avc1.Avc1BoxExactEq.TheImpl.Laws.{lawful as avc1_laws};
+ghost use Rattle.mp4_entry.specs.contracts.hev1.Hev1BoxExactEq.TheImpl.Laws.{lawful as hev1_laws};
+ghost use Rattle.mp4_entry.specs.contracts.vp09.Vp09BoxExactEq.TheImpl.Laws.{lawful as vp09_laws};
+ghost use Rattle.mp4_entry.specs.contracts.mp4a.Mp4aBoxExactEq.TheImpl.Laws.{lawful as mp4a_laws};
+ghost use Rattle.mp4_entry.specs.contracts.tx3g.Tx3gBoxExactEq.TheImpl.Laws.{lawful as tx3g_laws};
 ghost use Rattle.std.specs.Prelude.{◌≡◌, ◌-◌, ◌<◌, ◌^◌, Ok, OnOk, length, min};
 ghost use Rattle.mp4_codec.specs.declared.box_type.BoxType.TheVariants.{StsdBox as stsd};
 ghost use Rattle.mp4_codec.specs.Boxes.{size_around};
@@ -17,8 +23,8 @@ use crate::mp4a::Mp4aBox;
 use crate::tx3g::Tx3gBox;
 use crate::vp09::Vp09Box;
 use mp4_codec::{
-    BoxType, Child, Children, Fields, InRange, Mp4Box, Put, ReadBox, Result, TryClone, WriteBox,
-    four_copies, put_u8, put_u24, put_u32,
+    BoxType, Child, Children, ExactEq, Fields, InRange, Mp4Box, Put, ReadBox, Result, TryClone,
+    WriteBox, four_copies, put_u8, put_u24, put_u32,
 };
 use std::alloc::Global;
 
@@ -44,6 +50,10 @@ pub struct StsdBox {
     pub mp4a: Option<Mp4aBox>,
     /// Timed text.
     pub tx3g: Option<Tx3gBox>,
+}
+
+impl ExactEq for StsdBox {
+    ghost exact = { by_test (Prim.hlevel (field_tests, by_law avc1_laws.exact, by_law hev1_laws.exact, by_law vp09_laws.exact, by_law mp4a_laws.exact, by_law tx3g_laws.exact)) };
 }
 
 impl StsdBox {

@@ -1,11 +1,13 @@
 //! The kinds of tracks.
 
+ghost use denote.Enum.Bare.{same_true};
+ghost use Rattle.mp4_entry.specs.contracts.track_type.TrackType.{the_type as track_types};
 ghost use Rattle.std.specs.Prelude.{◌≡◌};
 ghost use Rattle.mp4_codec.specs.Cause.{Gives};
 ghost use Rattle.mp4_codec.specs.Bytes.{coded};
 ghost use Rattle.mp4_entry.specs.TrackType.{handler_number, track_type_of};
 
-use mp4_codec::{Error, FourCC, Result};
+use mp4_codec::{Error, ExactEq, FourCC, Result};
 use std::fmt;
 
 /// The kind of a track, which its handler says (ISO/IEC 14496-12, 8.4.3).
@@ -17,6 +19,10 @@ pub enum TrackType {
     Audio,
     /// `sbtl`.
     Subtitle,
+}
+
+impl ExactEq for TrackType {
+    ghost exact = { same_true track_types tt };
 }
 
 impl TryFrom<&FourCC> for TrackType {

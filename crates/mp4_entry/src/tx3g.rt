@@ -1,6 +1,7 @@
 //! The sample entry of timed text.
 
-ghost use Rattle.std.specs.Prelude.{◌≡◌, Ok};
+ghost use Rattle.mp4_codec.specs.ExactTest.{by_test, field_tests};
+ghost use Rattle.std.specs.Prelude.{◌≡◌, Ok, refl};
 ghost use Rattle.mp4_codec.specs.declared.box_type.BoxType.TheVariants.{Tx3gBox as tx3g};
 ghost use Rattle.mp4_codec.specs.Boxes.{size_around, no_refusal};
 ghost use Rattle.mp4_codec.specs.Cause.{Gives};
@@ -9,14 +10,18 @@ ghost use Rattle.mp4_entry.specs.Tx3gLaws.{tx3g_again};
 ghost use Rattle.mp4_codec.specs.Early.{at_once};
 
 use mp4_codec::{
-    BoxType, Fields, InRange, Mp4Box, Put, ReadBox, Result, TryClone, WriteBox, put_bytes, put_u16,
-    put_zeros,
+    BoxType, ExactEq, Fields, InRange, Mp4Box, Put, ReadBox, Result, TryClone, WriteBox, put_bytes,
+    put_u16, put_zeros,
 };
 use std::alloc::Global;
 
 /// How a text track is begun; there is nothing to choose.
 #[derive(Clone, Copy, Debug, PartialEq, Eq)]
 pub struct TtxtConfig {}
+
+impl ExactEq for TtxtConfig {
+    ghost exact = { λ x y h. refl };
+}
 
 impl TryClone for TtxtConfig {
     fn try_clone(&self) -> Result<Self>
@@ -43,6 +48,10 @@ pub struct Tx3gBox {
     /// text box (top, left, bottom, right, 2 bytes each), and the style (first and last character, font, 2 bytes each;
     /// face, size; red, green, blue, opacity).
     pub raw: [u8; 30],
+}
+
+impl ExactEq for Tx3gBox {
+    ghost exact = { by_test (Prim.hlevel field_tests) };
 }
 
 impl Tx3gBox {

@@ -1,5 +1,7 @@
 //! The sample entry of VP9 video.
 
+ghost use Rattle.mp4_codec.specs.ExactTest.{by_law, by_test, field_tests};
+ghost use Rattle.mp4_entry.specs.contracts.vpcc.VpccBoxExactEq.TheImpl.Laws.{lawful as vpcc_laws};
 ghost use Rattle.std.specs.Prelude.{◌≡◌, ◌+◌, length, Ok, IfOk};
 ghost use Rattle.mp4_codec.specs.declared.box_type.BoxType.TheVariants.{Vp09Box as vp09};
 ghost use Rattle.mp4_codec.specs.Cause.{Gives, Answers};
@@ -11,8 +13,8 @@ ghost use Rattle.mp4_entry.specs.Vp09Laws.{vp09_again};
 use crate::visual::{VISUAL_SIZE, Visual, put_visual, read_visual};
 use crate::vpcc::VpccBox;
 use mp4_codec::{
-    BoxType, Error, Fields, FixedPointU16, InRange, Mp4Box, Put, ReadBox, Result, TryClone,
-    WriteBox, last_child,
+    BoxType, Error, ExactEq, Fields, FixedPointU16, InRange, Mp4Box, Put, ReadBox, Result,
+    TryClone, WriteBox, last_child,
 };
 use std::alloc::Global;
 
@@ -40,6 +42,10 @@ pub struct Vp09Box {
     pub vpcc: VpccBox,
 }
 
+impl ExactEq for Vp09Box {
+    ghost exact = { by_test (Prim.hlevel (field_tests, by_law vpcc_laws.exact)) };
+}
+
 /// What the entry of a track of VP9 video is made from.
 #[derive(Debug, PartialEq, Eq, Drop)]
 pub struct Vp9Config {
@@ -47,6 +53,10 @@ pub struct Vp9Config {
     pub width: u16,
     /// Pixels.
     pub height: u16,
+}
+
+impl ExactEq for Vp9Config {
+    ghost exact = { by_test (Prim.hlevel field_tests) };
 }
 
 impl TryClone for Vp9Config {

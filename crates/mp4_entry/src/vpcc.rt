@@ -1,5 +1,6 @@
 //! What a decoder of VP9 video is started with.
 
+ghost use Rattle.mp4_codec.specs.ExactTest.{by_test, field_tests};
 ghost use Rattle.std.specs.Prelude.{◌≡◌, Ok};
 ghost use Rattle.mp4_codec.specs.declared.box_type.BoxType.TheVariants.{VpccBox as vpcc};
 ghost use Rattle.mp4_codec.specs.Cause.{Answers};
@@ -9,7 +10,8 @@ ghost use Rattle.mp4_entry.specs.VpccLaws.{vpcc_again};
 ghost use Rattle.mp4_codec.specs.Early.{refused_at_once};
 
 use mp4_codec::{
-    BoxType, InRange, Items, Mp4Box, Put, ReadBox, Result, TryClone, WriteBox, put_bytes, put_u32,
+    BoxType, ExactEq, InRange, Items, Mp4Box, Put, ReadBox, Result, TryClone, WriteBox, put_bytes,
+    put_u32,
 };
 use std::alloc::Global;
 
@@ -17,6 +19,10 @@ use std::alloc::Global;
 #[derive(Debug, PartialEq, Eq, Drop)]
 pub struct VpccBox {
     pub raw: Items<u8>,
+}
+
+impl ExactEq for VpccBox {
+    ghost exact = { by_test (Prim.hlevel field_tests) };
 }
 
 impl VpccBox {

@@ -1,5 +1,6 @@
 //! The event message.
 
+ghost use Rattle.mp4_codec.specs.ExactTest.{by_test, field_tests};
 ghost use Rattle.std.specs.Prelude.{◌≡◌, Ok, OnOk};
 ghost use Rattle.mp4_codec.specs.declared.box_type.BoxType.TheVariants.{EmsgBox as emsg};
 ghost use Rattle.mp4_codec.specs.Cause.{Answers, Checks, Gives};
@@ -10,8 +11,8 @@ ghost use Rattle.mp4_frag.specs.EmsgLaws.{emsg_again};
 ghost use Rattle.mp4_codec.specs.Early.{Shows, refused_at_once};
 
 use mp4_codec::{
-    BoxType, DebugItem, Error, Fields, InRange, Items, Mp4Box, Put, ReadBox, Result, TryClone,
-    WriteBox, put_bytes, put_u8, put_u24, put_u32, put_u64, put_zeros,
+    BoxType, DebugItem, Error, ExactEq, Fields, InRange, Items, Mp4Box, Put, ReadBox, Result,
+    TryClone, WriteBox, put_bytes, put_u8, put_u24, put_u32, put_u64, put_zeros,
 };
 use std::alloc::Global;
 
@@ -43,6 +44,10 @@ pub struct EmsgBox {
     pub value: Items<u8>,
     /// The body of the message, as the scheme says.
     pub message_data: Items<u8>,
+}
+
+impl ExactEq for EmsgBox {
+    ghost exact = { by_test (Prim.hlevel field_tests) };
 }
 
 impl DebugItem for EmsgBox {}

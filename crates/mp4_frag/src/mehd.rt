@@ -1,5 +1,6 @@
 //! How long a movie with its fragments is.
 
+ghost use Rattle.mp4_codec.specs.ExactTest.{by_test, field_tests};
 ghost use Rattle.std.specs.Prelude.{◌≡◌, Ok};
 ghost use Rattle.mp4_codec.specs.declared.box_type.BoxType.TheVariants.{MehdBox as mehd};
 ghost use Rattle.mp4_codec.specs.Cause.{Gives};
@@ -9,8 +10,8 @@ ghost use Rattle.mp4_frag.specs.MehdLaws.{mehd_again};
 ghost use Rattle.mp4_codec.specs.Early.{at_once};
 
 use mp4_codec::{
-    BoxType, Fields, InRange, Mp4Box, Put, ReadBox, Result, TryClone, WriteBox, check_value,
-    check_version, put_u8, put_u24, put_versioned,
+    BoxType, ExactEq, Fields, InRange, Mp4Box, Put, ReadBox, Result, TryClone, WriteBox,
+    check_value, check_version, put_u8, put_u24, put_versioned,
 };
 use std::alloc::Global;
 
@@ -25,6 +26,10 @@ pub struct MehdBox {
     pub flags: u32,
     /// Ticks of the movie's timescale; the longest track's.
     pub fragment_duration: u64,
+}
+
+impl ExactEq for MehdBox {
+    ghost exact = { by_test (Prim.hlevel field_tests) };
 }
 
 impl MehdBox {

@@ -1,5 +1,6 @@
 //! The movie fragment header.
 
+ghost use Rattle.mp4_codec.specs.ExactTest.{by_test, field_tests};
 ghost use Rattle.std.specs.Prelude.{◌≡◌, Ok};
 ghost use Rattle.mp4_codec.specs.declared.box_type.BoxType.TheVariants.{MfhdBox as mfhd};
 ghost use Rattle.mp4_codec.specs.Cause.{Gives};
@@ -9,8 +10,8 @@ ghost use Rattle.mp4_frag.specs.MfhdLaws.{mfhd_again};
 ghost use Rattle.mp4_codec.specs.Early.{at_once};
 
 use mp4_codec::{
-    BoxType, Fields, InRange, Mp4Box, Put, ReadBox, Result, TryClone, WriteBox, put_u8, put_u24,
-    put_u32,
+    BoxType, ExactEq, Fields, InRange, Mp4Box, Put, ReadBox, Result, TryClone, WriteBox, put_u8,
+    put_u24, put_u32,
 };
 use std::alloc::Global;
 
@@ -24,6 +25,10 @@ pub struct MfhdBox {
     pub flags: u32,
     /// The number of the fragment, which grows from one fragment to the next; 1 in the first of most files.
     pub sequence_number: u32,
+}
+
+impl ExactEq for MfhdBox {
+    ghost exact = { by_test (Prim.hlevel field_tests) };
 }
 
 impl MfhdBox {

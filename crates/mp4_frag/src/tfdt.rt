@@ -1,5 +1,6 @@
 //! When a track's part of a movie fragment begins.
 
+ghost use Rattle.mp4_codec.specs.ExactTest.{by_test, field_tests};
 ghost use Rattle.std.specs.Prelude.{◌≡◌, Ok};
 ghost use Rattle.mp4_codec.specs.declared.box_type.BoxType.TheVariants.{TfdtBox as tfdt};
 ghost use Rattle.mp4_codec.specs.Cause.{Gives};
@@ -9,8 +10,8 @@ ghost use Rattle.mp4_frag.specs.TfdtLaws.{tfdt_again};
 ghost use Rattle.mp4_codec.specs.Early.{at_once};
 
 use mp4_codec::{
-    BoxType, Fields, InRange, Mp4Box, Put, ReadBox, Result, TryClone, WriteBox, check_value,
-    check_version, put_u8, put_u24, put_versioned,
+    BoxType, ExactEq, Fields, InRange, Mp4Box, Put, ReadBox, Result, TryClone, WriteBox,
+    check_value, check_version, put_u8, put_u24, put_versioned,
 };
 use std::alloc::Global;
 
@@ -26,6 +27,10 @@ pub struct TfdtBox {
     pub flags: u32,
     /// Ticks of the media's timescale: the sum of the durations of all samples before.
     pub base_media_decode_time: u64,
+}
+
+impl ExactEq for TfdtBox {
+    ghost exact = { by_test (Prim.hlevel field_tests) };
 }
 
 impl TfdtBox {

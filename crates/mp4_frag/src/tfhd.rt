@@ -1,5 +1,6 @@
 //! The track fragment header.
 
+ghost use Rattle.mp4_codec.specs.ExactTest.{by_test, field_tests};
 ghost use Rattle.std.specs.Prelude.{◌≡◌, Ok};
 ghost use Rattle.mp4_codec.specs.declared.box_type.BoxType.TheVariants.{TfhdBox as tfhd};
 ghost use Rattle.mp4_codec.specs.Cause.{Gives};
@@ -10,8 +11,8 @@ ghost use Rattle.mp4_codec.specs.Early.{at_once};
 
 use crate::optional::{check_flagged, how_many, put_flagged, read_flagged};
 use mp4_codec::{
-    BoxType, Fields, InRange, Mp4Box, Put, ReadBox, Result, TryClone, WriteBox, put_u8, put_u24,
-    put_u32,
+    BoxType, ExactEq, Fields, InRange, Mp4Box, Put, ReadBox, Result, TryClone, WriteBox, put_u8,
+    put_u24, put_u32,
 };
 use std::alloc::Global;
 
@@ -53,6 +54,10 @@ pub struct TfhdBox {
     pub default_sample_size: Option<u32>,
     /// By flag 0x20: sample flags (ISO/IEC 14496-12, 8.8.3.1); bit 0x10000 is set where the sample is no sync sample.
     pub default_sample_flags: Option<u32>,
+}
+
+impl ExactEq for TfhdBox {
+    ghost exact = { by_test (Prim.hlevel field_tests) };
 }
 
 impl TfhdBox {

@@ -1,5 +1,6 @@
 //! The defaults of a track in movie fragments.
 
+ghost use Rattle.mp4_codec.specs.ExactTest.{by_test, field_tests};
 ghost use Rattle.std.specs.Prelude.{◌≡◌, Ok};
 ghost use Rattle.mp4_codec.specs.declared.box_type.BoxType.TheVariants.{TrexBox as trex};
 ghost use Rattle.mp4_codec.specs.Cause.{Gives};
@@ -9,8 +10,8 @@ ghost use Rattle.mp4_frag.specs.TrexLaws.{trex_again};
 ghost use Rattle.mp4_codec.specs.Early.{at_once};
 
 use mp4_codec::{
-    BoxType, DebugItem, Fields, InRange, Mp4Box, Put, ReadBox, Result, TryClone, WriteBox, put_u8,
-    put_u24, put_u32,
+    BoxType, DebugItem, ExactEq, Fields, InRange, Mp4Box, Put, ReadBox, Result, TryClone, WriteBox,
+    put_u8, put_u24, put_u32,
 };
 use std::alloc::Global;
 
@@ -33,6 +34,10 @@ pub struct TrexBox {
     pub default_sample_size: u32,
     /// Sample flags (ISO/IEC 14496-12, 8.8.3.1); bit 0x10000 is set where the sample is no sync sample.
     pub default_sample_flags: u32,
+}
+
+impl ExactEq for TrexBox {
+    ghost exact = { by_test (Prim.hlevel field_tests) };
 }
 
 impl DebugItem for TrexBox {}

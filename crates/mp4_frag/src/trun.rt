@@ -1,5 +1,6 @@
 //! The track fragment run.
 
+ghost use Rattle.mp4_codec.specs.ExactTest.{by_test, field_tests};
 ghost use Rattle.std.specs.Prelude.{◌≡◌, ◌-◌, ◌^◌, length, min, Ok, OnOk};
 ghost use Rattle.std.specs.List.{flat_map};
 ghost use Rattle.mp4_codec.specs.declared.box_type.BoxType.TheVariants.{TrunBox as trun};
@@ -16,8 +17,8 @@ use crate::rows::{
     COMPOSITION_OFFSETS, Columns, DURATIONS, Row, SAMPLE_FLAGS, SIZES, check_column,
 };
 use mp4_codec::{
-    BoxType, DebugItem, Fields, InRange, Items, Mp4Box, Put, ReadBox, Result, TryClone, WriteBox,
-    put_u8, put_u24, put_u32,
+    BoxType, DebugItem, ExactEq, Fields, InRange, Items, Mp4Box, Put, ReadBox, Result, TryClone,
+    WriteBox, put_u8, put_u24, put_u32,
 };
 use std::alloc::Global;
 
@@ -54,6 +55,10 @@ pub struct TrunBox {
     pub sample_flags: Items<u32>,
     /// By flag 0x800: the composition offset of each sample, in ticks of the media's timescale, as its 32 bits stand.
     pub sample_cts: Items<u32>,
+}
+
+impl ExactEq for TrunBox {
+    ghost exact = { by_test (Prim.hlevel field_tests) };
 }
 
 impl DebugItem for TrunBox {}

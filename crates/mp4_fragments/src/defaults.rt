@@ -1,8 +1,10 @@
 //! What the samples of fragments have where nothing else is said of them.
 
+ghost use Rattle.mp4_codec.specs.ExactTest.{by_test, field_tests};
 ghost use Rattle.std.specs.Prelude.{◌≡◌};
 ghost use Rattle.mp4_fragments.specs.Defaults.{no_defaults, defaults_of_trex, defaults_in};
 
+use mp4_codec::ExactEq;
 use mp4_frag::TrexBox;
 use mp4_moof::TrafBox;
 
@@ -15,6 +17,10 @@ pub struct SampleDefaults {
     pub size: u32,
     /// Sample flags; bit 0x10000 is set where the sample is no sync sample.
     pub flags: u32,
+}
+
+impl ExactEq for SampleDefaults {
+    ghost exact = { by_test (Prim.hlevel field_tests) };
 }
 
 impl SampleDefaults {

@@ -1,5 +1,7 @@
 //! A member of a track's fragments by its number.
 
+ghost use Rattle.mp4_codec.specs.ExactTest.{by_law, by_test, field_tests};
+ghost use Rattle.mp4_fragments.specs.contracts.members.MemberExactEq.TheImpl.Laws.{lawful as member_laws};
 ghost use Rattle.std.specs.Prelude.{◌≡◌, ℕ, ◌-◌, ◌^◌, ◌<◌, List, length, min, slice_get, IfSome, Option};
 ghost use Rattle.std.specs.Option.{option_map, option_and_then};
 ghost use Rattle.std.specs.List.{sum_by};
@@ -11,6 +13,7 @@ ghost use Rattle.mp4_fragments.specs.Index.{Find, Indexes, IsRight, member_in, p
 use crate::defaults::SampleDefaults;
 use crate::index::{RunEntry, RunIndex};
 use crate::members::{Member, nth_member};
+use mp4_codec::ExactEq;
 use mp4_frag::TrunBox;
 use mp4_moof::TrafBox;
 use mp4_search::last_at_most;
@@ -20,6 +23,10 @@ use mp4_search::last_at_most;
 pub struct FoundMember {
     pub member: Member,
     pub comparisons: u32,
+}
+
+impl ExactEq for FoundMember {
+    ghost exact = { by_test (Prim.hlevel (field_tests, by_law member_laws.exact)) };
 }
 
 /// Run `i` of fragment `t` of a track, and what its members have where it says nothing.

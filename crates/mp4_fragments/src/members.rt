@@ -1,5 +1,6 @@
 //! The members of a run.
 
+ghost use Rattle.mp4_codec.specs.ExactTest.{by_test, field_tests};
 ghost use Rattle.std.specs.Prelude.{◌≡◌};
 ghost use Rattle.mp4_fragments.specs.Members.{member_of, flags_of};
 ghost use Rattle.mp4_fragments.specs.Checkpoints.{AreCheckpoints};
@@ -7,7 +8,7 @@ ghost use Rattle.mp4_fragments.specs.Checkpoints.{AreCheckpoints};
 use crate::beginnings::at_by_checkpoints;
 use crate::defaults::SampleDefaults;
 use crate::values::value_at;
-use mp4_codec::DebugItem;
+use mp4_codec::{DebugItem, ExactEq};
 use mp4_frag::TrunBox;
 
 /// The flag of a sample that can't be decoded without those before it (ISO/IEC 14496-12, 8.8.3.1).
@@ -19,6 +20,10 @@ const IS_NO_SYNC_SAMPLE: u32 = 0x10000;
 pub struct Beginning {
     pub place: Option<u64>,
     pub time: Option<u64>,
+}
+
+impl ExactEq for Beginning {
+    ghost exact = { by_test (Prim.hlevel field_tests) };
 }
 
 impl DebugItem for Beginning {}
@@ -36,6 +41,10 @@ pub struct Member {
     pub rendering_offset: i32,
     /// Whether it can be decoded without the samples before it.
     pub is_sync: bool,
+}
+
+impl ExactEq for Member {
+    ghost exact = { by_test (Prim.hlevel field_tests) };
 }
 
 /// The sample flags of member `j`.

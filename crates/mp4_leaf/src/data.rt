@@ -1,5 +1,7 @@
 //! The value of a metadata item.
 
+ghost use Rattle.mp4_codec.specs.ExactTest.{by_law, by_test, exact_enum, field_tests};
+ghost use Rattle.mp4_leaf.specs.contracts.data.DataType.{enum as data_types};
 ghost use Rattle.std.specs.Prelude.{◌≡◌, Ok};
 ghost use Rattle.mp4_leaf.specs.declared.data.DataType.TheVariants.{Binary};
 ghost use Rattle.mp4_leaf.specs.Data.{data_type, data_code, data_payload, default_data, data_of, IsInRangeData, RemarksData, IsInRangeDataType};
@@ -10,8 +12,8 @@ ghost use Rattle.mp4_leaf.specs.DataLaws.{data_again};
 ghost use Rattle.mp4_codec.specs.Early.{refused_at_once};
 
 use mp4_codec::{
-    BoxType, Fields, InRange, Items, Mp4Box, Put, ReadBox, Result, TryClone, WriteBox, put_bytes,
-    put_u32, put_zeros,
+    BoxType, ExactEq, Fields, InRange, Items, Mp4Box, Put, ReadBox, Result, TryClone, WriteBox,
+    put_bytes, put_u32, put_zeros,
 };
 use std::alloc::Global;
 
@@ -28,6 +30,10 @@ pub enum DataType {
     TempoCpil,
     /// Any other number. One of the four above is written, but not read again as it is.
     Other(u32),
+}
+
+impl ExactEq for DataType {
+    ghost exact = { exact_enum data_types (Prim.search field_tests) };
 }
 
 impl Default for DataType {
@@ -89,6 +95,10 @@ impl From<DataType> for u32 {
 pub struct DataBox {
     pub data_type: DataType,
     pub bytes: Items<u8>,
+}
+
+impl ExactEq for DataBox {
+    ghost exact = { by_test (Prim.hlevel (field_tests, by_law (exact_enum data_types (Prim.search field_tests)))) };
 }
 
 impl DataBox {

@@ -1,5 +1,6 @@
 //! Where the media of a track lies: data information, data references, and their only kind that is kept.
 
+ghost use Rattle.mp4_codec.specs.ExactTest.{by_test, field_tests};
 ghost use Rattle.std.specs.Prelude.{OnOk, ◌≡◌, Ok};
 ghost use Rattle.mp4_codec.specs.Bytes.{Appends};
 ghost use Rattle.mp4_leaf.specs.Dinf.{ended};
@@ -10,8 +11,9 @@ ghost use Rattle.mp4_leaf.specs.Dinf.{url_payload, default_url, url_of, url_earl
 ghost use Rattle.mp4_leaf.specs.DinfLaws.{url_again, dref_again, dinf_again};
 
 use mp4_codec::{
-    BoxType, Error, Fields, InRange, Items, Mp4Box, Put, ReadBox, Result, TryClone, WriteBox,
-    last_child, optional_size, put_bytes, put_optional, put_u8, put_u24, put_u32, put_zeros,
+    BoxType, Error, ExactEq, Fields, InRange, Items, Mp4Box, Put, ReadBox, Result, TryClone,
+    WriteBox, last_child, optional_size, put_bytes, put_optional, put_u8, put_u24, put_u32,
+    put_zeros,
 };
 use std::alloc::Global;
 
@@ -26,6 +28,10 @@ pub struct UrlBox {
     pub flags: u32,
     /// The URL, in UTF-8. One with a zero byte is written, but not read again as it is.
     pub location: Items<u8>,
+}
+
+impl ExactEq for UrlBox {
+    ghost exact = { by_test (Prim.hlevel field_tests) };
 }
 
 /// Adds a location.
@@ -151,6 +157,10 @@ pub struct DrefBox {
     pub url: Option<UrlBox>,
 }
 
+impl ExactEq for DrefBox {
+    ghost exact = { by_test (Prim.hlevel field_tests) };
+}
+
 impl DrefBox {
     /// One reference, to media in the same file.
     pub fn default(alloc: Global) -> Result<Self>
@@ -268,6 +278,10 @@ impl WriteBox for DrefBox {
 #[derive(Debug, PartialEq, Eq, Drop)]
 pub struct DinfBox {
     pub dref: DrefBox,
+}
+
+impl ExactEq for DinfBox {
+    ghost exact = { by_test (Prim.hlevel field_tests) };
 }
 
 impl DinfBox {

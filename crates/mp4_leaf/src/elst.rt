@@ -1,5 +1,6 @@
 //! The edit list.
 
+ghost use Rattle.mp4_codec.specs.ExactTest.{by_test, field_tests};
 ghost use Rattle.std.specs.Prelude.{◌≡◌, Ok};
 ghost use Rattle.mp4_codec.specs.Cause.{Checks, Gives};
 ghost use Rattle.mp4_leaf.specs.Elst.{elst_entry_refusal, elst_entry_at, elst_entry, FitsElstEntry, elst_entry_length, elst_payload, elst_refusal, default_elst, elst_of, IsInRangeElst, RemarksElst, IsInRangeElstEntry};
@@ -9,9 +10,9 @@ ghost use Rattle.mp4_codec.specs.Boxes.{size_around, all_refusal};
 ghost use Rattle.mp4_codec.specs.Early.{refused_at_once};
 
 use mp4_codec::{
-    BoxType, DebugItem, Entry, Field, Fields, InRange, Items, Mp4Box, Put, ReadBox, Result,
-    TryClone, WriteBox, check_value, check_version, list_size, put_list, put_u8, put_u16, put_u24,
-    put_u32, put_versioned,
+    BoxType, DebugItem, Entry, ExactEq, Field, Fields, InRange, Items, Mp4Box, Put, ReadBox,
+    Result, TryClone, WriteBox, check_value, check_version, list_size, put_list, put_u8, put_u16,
+    put_u24, put_u32, put_versioned,
 };
 use std::alloc::Global;
 
@@ -27,6 +28,10 @@ pub struct ElstEntry {
     pub media_rate: u16,
     /// 65536ths of the speed.
     pub media_rate_fraction: u16,
+}
+
+impl ExactEq for ElstEntry {
+    ghost exact = { by_test (Prim.hlevel field_tests) };
 }
 
 impl DebugItem for ElstEntry {}
@@ -115,6 +120,10 @@ pub struct ElstBox {
     pub flags: u32,
     /// The edits, in the order in which they are shown. A count past the payload is `InvalidData`.
     pub entries: Items<ElstEntry>,
+}
+
+impl ExactEq for ElstBox {
+    ghost exact = { by_test (Prim.hlevel field_tests) };
 }
 
 impl ElstBox {

@@ -1,5 +1,6 @@
 //! The file type.
 
+ghost use Rattle.mp4_codec.specs.ExactTest.{by_test, field_tests};
 ghost use Rattle.std.specs.Prelude.{◌≡◌, Ok};
 ghost use Rattle.mp4_codec.specs.Cause.{Gives};
 ghost use Rattle.mp4_codec.specs.declared.box_type.BoxType.TheVariants.{FtypBox as ftyp};
@@ -9,8 +10,8 @@ ghost use Rattle.mp4_leaf.specs.FtypLaws.{ftyp_again};
 ghost use Rattle.mp4_codec.specs.Early.{refused_at_once};
 
 use mp4_codec::{
-    BoxType, Fields, FourCC, InRange, Items, Mp4Box, Put, ReadBox, Result, TryClone, WriteBox,
-    list_size, put_four_cc, put_list, put_u32,
+    BoxType, ExactEq, Fields, FourCC, InRange, Items, Mp4Box, Put, ReadBox, Result, TryClone,
+    WriteBox, list_size, put_four_cc, put_list, put_u32,
 };
 use std::alloc::Global;
 
@@ -26,6 +27,10 @@ pub struct FtypBox {
     /// The version of the major brand, which it alone gives a meaning.
     pub minor_version: u32,
     pub compatible_brands: Items<FourCC>,
+}
+
+impl ExactEq for FtypBox {
+    ghost exact = { by_test (Prim.hlevel field_tests) };
 }
 
 impl FtypBox {

@@ -1,5 +1,6 @@
 //! The handler.
 
+ghost use Rattle.mp4_codec.specs.ExactTest.{by_test, field_tests};
 ghost use Rattle.std.specs.Prelude.{◌≡◌, Ok};
 ghost use Rattle.mp4_codec.specs.declared.box_type.BoxType.TheVariants.{HdlrBox as hdlr};
 ghost use Rattle.mp4_codec.specs.Boxes.{size_around, no_refusal};
@@ -9,8 +10,8 @@ ghost use Rattle.mp4_leaf.specs.HdlrLaws.{hdlr_again};
 ghost use Rattle.mp4_codec.specs.Early.{refused_at_once};
 
 use mp4_codec::{
-    BoxType, Fields, FourCC, InRange, Items, Mp4Box, Put, ReadBox, Result, TryClone, WriteBox,
-    put_bytes, put_four_cc, put_u8, put_u24, put_zeros,
+    BoxType, ExactEq, Fields, FourCC, InRange, Items, Mp4Box, Put, ReadBox, Result, TryClone,
+    WriteBox, put_bytes, put_four_cc, put_u8, put_u24, put_zeros,
 };
 use std::alloc::Global;
 
@@ -27,6 +28,10 @@ pub struct HdlrBox {
     pub handler_type: FourCC,
     /// A name for people, in UTF-8. One with a zero byte is written, but not read again as it is.
     pub name: Items<u8>,
+}
+
+impl ExactEq for HdlrBox {
+    ghost exact = { by_test (Prim.hlevel field_tests) };
 }
 
 impl HdlrBox {

@@ -1,11 +1,12 @@
 //! The matrix of a movie or a track.
 
+ghost use Rattle.mp4_codec.specs.ExactTest.{by_test, field_tests};
 ghost use Rattle.std.specs.Prelude.{OnOk, ◌≡◌, Ok};
 ghost use Rattle.mp4_codec.specs.Bytes.{Appends};
 ghost use Rattle.mp4_codec.specs.Cause.{Gives, Reads};
 ghost use Rattle.mp4_leaf.specs.Matrix.{matrix_at, matrix, unity, IsInRangeMatrix};
 
-use mp4_codec::{Field, Fields, InRange, Put, Result, TryClone, put_i32};
+use mp4_codec::{ExactEq, Field, Fields, InRange, Put, Result, TryClone, put_i32};
 
 /// Where the picture is placed: a 3 by 3 matrix, row by row (ISO/IEC 14496-12, 6.2.2).
 ///
@@ -21,6 +22,10 @@ pub struct Matrix {
     pub x: i32,
     pub y: i32,
     pub w: i32,
+}
+
+impl ExactEq for Matrix {
+    ghost exact = { by_test (Prim.hlevel field_tests) };
 }
 
 impl Default for Matrix {

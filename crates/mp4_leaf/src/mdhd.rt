@@ -1,5 +1,6 @@
 //! The media header.
 
+ghost use Rattle.mp4_codec.specs.ExactTest.{by_test, field_tests};
 ghost use Rattle.std.specs.Prelude.{◌≡◌, Ok};
 ghost use Rattle.mp4_codec.specs.declared.box_type.BoxType.TheVariants.{MdhdBox as mdhd};
 ghost use Rattle.mp4_codec.specs.Boxes.{size_around};
@@ -11,8 +12,8 @@ ghost use Rattle.mp4_codec.specs.Early.{refused_at_once};
 use crate::language::{check_language, pack_language, unpack_language};
 use crate::times::{Stamp, check_times, put_stamp, read_stamp};
 use mp4_codec::{
-    BoxType, Fields, InRange, Mp4Box, Put, ReadBox, Result, Text, TryClone, WriteBox, put_u16,
-    put_u32, put_versioned, put_zeros,
+    BoxType, ExactEq, Fields, InRange, Mp4Box, Put, ReadBox, Result, Text, TryClone, WriteBox,
+    put_u16, put_u32, put_versioned, put_zeros,
 };
 use std::alloc::Global;
 
@@ -36,6 +37,10 @@ pub struct MdhdBox {
     /// The ISO 639-2/T code, as `eng`, or `und` where there is none. What isn't three characters of
     /// U+0060 to U+007F is not written, but `Unrepresentable`.
     pub language: Text,
+}
+
+impl ExactEq for MdhdBox {
+    ghost exact = { by_test (Prim.hlevel field_tests) };
 }
 
 impl MdhdBox {

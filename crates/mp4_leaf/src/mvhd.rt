@@ -1,5 +1,7 @@
 //! The movie header.
 
+ghost use Rattle.mp4_codec.specs.ExactTest.{by_law, by_test, field_tests};
+ghost use Rattle.mp4_leaf.specs.contracts.matrix.MatrixExactEq.TheImpl.Laws.{lawful as matrix_laws};
 ghost use Rattle.std.specs.Prelude.{◌≡◌, Ok};
 ghost use Rattle.mp4_codec.specs.Cause.{Gives, Reads};
 ghost use Rattle.mp4_codec.specs.declared.box_type.BoxType.TheVariants.{MvhdBox as mvhd};
@@ -11,8 +13,8 @@ ghost use Rattle.mp4_codec.specs.Early.{at_once};
 use crate::matrix::{Matrix, put_matrix, read_matrix};
 use crate::times::{Stamp, check_times, put_stamp, read_stamp};
 use mp4_codec::{
-    BoxType, Field, Fields, FixedPointU8, FixedPointU16, InRange, Mp4Box, Put, ReadBox, Result,
-    TryClone, WriteBox, put_u16, put_u32, put_versioned, put_zeros,
+    BoxType, ExactEq, Field, Fields, FixedPointU8, FixedPointU16, InRange, Mp4Box, Put, ReadBox,
+    Result, TryClone, WriteBox, put_u16, put_u32, put_versioned, put_zeros,
 };
 use std::alloc::Global;
 
@@ -40,6 +42,10 @@ pub struct MvhdBox {
     pub matrix: Matrix,
     /// A number above all track ids, for the next track that is added.
     pub next_track_id: u32,
+}
+
+impl ExactEq for MvhdBox {
+    ghost exact = { by_test (Prim.hlevel (field_tests, by_law matrix_laws.exact)) };
 }
 
 /// How a movie is played: how fast, how loud, and where it is shown.

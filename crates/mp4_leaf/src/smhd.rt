@@ -1,5 +1,6 @@
 //! The sound media header.
 
+ghost use Rattle.mp4_codec.specs.ExactTest.{by_test, field_tests};
 ghost use Rattle.std.specs.Prelude.{◌≡◌, Ok};
 ghost use Rattle.mp4_codec.specs.declared.box_type.BoxType.TheVariants.{SmhdBox as smhd};
 ghost use Rattle.mp4_codec.specs.Boxes.{size_around, no_refusal};
@@ -9,8 +10,8 @@ ghost use Rattle.mp4_codec.specs.Cause.{Gives};
 ghost use Rattle.mp4_codec.specs.Early.{at_once};
 
 use mp4_codec::{
-    BoxType, Fields, FixedPointI8, InRange, Mp4Box, Put, ReadBox, Result, TryClone, WriteBox,
-    put_i16, put_u8, put_u24, put_zeros,
+    BoxType, ExactEq, Fields, FixedPointI8, InRange, Mp4Box, Put, ReadBox, Result, TryClone,
+    WriteBox, put_i16, put_u8, put_u24, put_zeros,
 };
 use std::alloc::Global;
 
@@ -24,6 +25,10 @@ pub struct SmhdBox {
     pub flags: u32,
     /// -1.0 is all left, 0 the centre, 1.0 all right.
     pub balance: FixedPointI8,
+}
+
+impl ExactEq for SmhdBox {
+    ghost exact = { by_test (Prim.hlevel field_tests) };
 }
 
 impl SmhdBox {

@@ -1,5 +1,7 @@
 //! The track header.
 
+ghost use Rattle.mp4_codec.specs.ExactTest.{by_law, by_test, field_tests};
+ghost use Rattle.mp4_leaf.specs.contracts.matrix.MatrixExactEq.TheImpl.Laws.{lawful as matrix_laws};
 ghost use Rattle.std.specs.Prelude.{◌≡◌, ◌*◌, Ok};
 ghost use Rattle.mp4_codec.specs.declared.box_type.BoxType.TheVariants.{TkhdBox as tkhd};
 ghost use Rattle.mp4_codec.specs.Boxes.{size_around};
@@ -11,8 +13,8 @@ ghost use Rattle.mp4_codec.specs.Early.{at_once};
 use crate::matrix::{Matrix, put_matrix, read_matrix};
 use crate::times::{Stamp, check_times, put_stamp, read_stamp};
 use mp4_codec::{
-    BoxType, Field, Fields, FixedPointU8, FixedPointU16, InRange, Mp4Box, Put, ReadBox, Result,
-    TryClone, WriteBox, put_u16, put_u32, put_versioned, put_zeros,
+    BoxType, ExactEq, Field, Fields, FixedPointU8, FixedPointU16, InRange, Mp4Box, Put, ReadBox,
+    Result, TryClone, WriteBox, put_u16, put_u32, put_versioned, put_zeros,
 };
 use std::alloc::Global;
 
@@ -45,6 +47,10 @@ pub struct TkhdBox {
     pub width: FixedPointU16,
     /// The height to show the track at, in pixels.
     pub height: FixedPointU16,
+}
+
+impl ExactEq for TkhdBox {
+    ghost exact = { by_test (Prim.hlevel (field_tests, by_law matrix_laws.exact)) };
 }
 
 /// How a track is presented: beside which others, how loud, where and how large.

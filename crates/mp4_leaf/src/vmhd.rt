@@ -1,5 +1,6 @@
 //! The video media header.
 
+ghost use Rattle.mp4_codec.specs.ExactTest.{by_test, field_tests};
 ghost use Rattle.std.specs.Prelude.{◌≡◌, Ok};
 ghost use Rattle.mp4_codec.specs.declared.box_type.BoxType.TheVariants.{VmhdBox as vmhd};
 ghost use Rattle.mp4_codec.specs.Boxes.{size_around, no_refusal};
@@ -9,8 +10,8 @@ ghost use Rattle.mp4_codec.specs.Cause.{Gives};
 ghost use Rattle.mp4_codec.specs.Early.{at_once};
 
 use mp4_codec::{
-    BoxType, Fields, InRange, Mp4Box, Put, ReadBox, Result, TryClone, WriteBox, put_u8, put_u16,
-    put_u24,
+    BoxType, ExactEq, Fields, InRange, Mp4Box, Put, ReadBox, Result, TryClone, WriteBox, put_u8,
+    put_u16, put_u24,
 };
 use std::alloc::Global;
 
@@ -20,6 +21,10 @@ pub struct RgbColor {
     pub red: u16,
     pub green: u16,
     pub blue: u16,
+}
+
+impl ExactEq for RgbColor {
+    ghost exact = { by_test (Prim.hlevel field_tests) };
 }
 
 impl Default for RgbColor {
@@ -55,6 +60,10 @@ pub struct VmhdBox {
     pub graphics_mode: u16,
     /// The colour that the graphics mode may use.
     pub op_color: RgbColor,
+}
+
+impl ExactEq for VmhdBox {
+    ghost exact = { by_test (Prim.hlevel field_tests) };
 }
 
 impl VmhdBox {

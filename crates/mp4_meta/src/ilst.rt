@@ -1,5 +1,7 @@
 //! The list of metadata items.
 
+ghost use Rattle.mp4_codec.specs.ExactTest.{by_law, by_test, field_tests};
+ghost use Rattle.mp4_leaf.specs.contracts.data.DataBoxExactEq.TheImpl.Laws.{lawful as data_laws};
 ghost use Rattle.std.specs.Prelude.{◌≡◌, [], ◌∷◌, ◌+◌, ◌-◌, ◌<◌, ◌^◌, min, length, OnOk, Ok, None, IfSome};
 ghost use Rattle.std.specs.Option.{option_copied};
 ghost use Rattle.mp4_codec.specs.declared.box_type.BoxType.TheVariants.{IlstBox as ilst};
@@ -14,8 +16,8 @@ ghost use Rattle.mp4_meta.specs.IlstLaws.{ilst_adds, ilst_again};
 
 use crate::metadata_key::MetadataKey;
 use mp4_codec::{
-    BoxType, Child, Gather, HEADER_SIZE, InRange, KeyedItems, Mp4Box, Put, ReadBox, Result,
-    TryClone, WriteBox, gather_children, last_child, put_u32, required,
+    BoxType, Child, ExactEq, Gather, HEADER_SIZE, InRange, KeyedItems, Mp4Box, Put, ReadBox,
+    Result, TryClone, WriteBox, gather_children, last_child, put_u32, required,
 };
 use mp4_leaf::DataBox;
 use std::alloc::Global;
@@ -28,6 +30,10 @@ use std::alloc::Global;
 pub struct IlstItemBox {
     /// The value: the last such child, which is required.
     pub item: DataBox,
+}
+
+impl ExactEq for IlstItemBox {
+    ghost exact = { by_test (Prim.hlevel (field_tests, by_law data_laws.exact)) };
 }
 
 impl IlstItemBox {
@@ -197,6 +203,10 @@ fn with_key(
 pub struct IlstBox {
     /// At each key the last item of its type. They are written in the order Title, Year, Poster, Summary.
     pub items: KeyedItems<MetadataKey, IlstItemBox>,
+}
+
+impl ExactEq for IlstBox {
+    ghost exact = { by_test (Prim.hlevel (field_tests, by_law data_laws.exact)) };
 }
 
 impl IlstBox {

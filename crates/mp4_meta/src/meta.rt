@@ -1,5 +1,10 @@
 //! Metadata.
 
+ghost use Rattle.mp4_codec.specs.ExactTest.{by_law, exact_enum, field_tests, list, number, pair};
+ghost use Rattle.mp4_meta.specs.contracts.ilst.IlstBoxExactEq.TheImpl.Laws.{lawful as ilst_laws};
+ghost use Rattle.mp4_leaf.specs.contracts.hdlr.HdlrBoxExactEq.TheImpl.Laws.{lawful as hdlr_laws};
+ghost use Rattle.mp4_codec.specs.contracts.box_type.BoxTypeExactEq.TheImpl.Laws.{lawful as box_type_laws};
+ghost use Rattle.mp4_meta.specs.contracts.meta.MetaBox.{enum as meta_boxes};
 ghost use Rattle.std.specs.Prelude.{◌≡◌, ◌+◌, ◌-◌, ◌<◌, ◌^◌, min, length, OnOk, Ok};
 ghost use Rattle.std.specs.List.{AllByRecursion};
 ghost use Rattle.mp4_codec.specs.declared.box_type.BoxType.TheVariants.{HdlrBox as hdlr, MetaBox as meta};
@@ -14,9 +19,9 @@ ghost use Rattle.mp4_meta.specs.MetaLaws.{others_adds, meta_again};
 
 use crate::ilst::IlstBox;
 use mp4_codec::{
-    BoxType, Child, Error, Fields, FourCC, Gather, HEADER_SIZE, InRange, Items, Mp4Box, Put,
-    ReadBox, Result, TryClone, WriteBox, gather_children, last_child, optional_size, put_bytes,
-    put_optional, put_u32, put_zeros, required,
+    BoxType, Child, Error, ExactEq, Fields, FourCC, Gather, HEADER_SIZE, InRange, Items, Mp4Box,
+    Put, ReadBox, Result, TryClone, WriteBox, gather_children, last_child, optional_size,
+    put_bytes, put_optional, put_u32, put_zeros, required,
 };
 use mp4_leaf::HdlrBox;
 use std::alloc::Global;
@@ -45,6 +50,10 @@ pub enum MetaBox {
         /// named type given as `UnknownBox`, is written, but not read again as it is.
         children: Items<(BoxType, Items<u8>)>,
     },
+}
+
+impl ExactEq for MetaBox {
+    ghost exact = { exact_enum meta_boxes (Prim.search (field_tests, by_law ilst_laws.exact, by_law hdlr_laws.exact, list (pair (by_law box_type_laws.exact) (list number)))) };
 }
 
 impl MetaBox {

@@ -1,9 +1,11 @@
 //! The keys of metadata.
 
+ghost use denote.Enum.Bare.{same_true};
+ghost use Rattle.mp4_meta.specs.contracts.metadata_key.MetadataKey.{the_type as metadata_keys};
 ghost use Rattle.std.specs.Prelude.{◌≡◌, true, [], ◌∷◌, refl};
 ghost use Rattle.mp4_meta.specs.declared.metadata_key.MetadataKey.TheVariants.{Title, Year, Poster, Summary};
 
-use mp4_codec::Key;
+use mp4_codec::{ExactEq, Key};
 
 /// What an item of metadata is about.
 #[derive(Debug, Clone, Copy, PartialEq, Eq, Hash)]
@@ -16,6 +18,10 @@ pub enum MetadataKey {
     Poster,
     /// A description, in an item of type `desc`.
     Summary,
+}
+
+impl ExactEq for MetadataKey {
+    ghost exact = { same_true metadata_keys tt };
 }
 
 impl Key for MetadataKey {

@@ -1,5 +1,7 @@
 //! User data.
 
+ghost use Rattle.mp4_codec.specs.ExactTest.{by_law, by_test, field_tests};
+ghost use Rattle.mp4_meta.specs.contracts.meta.MetaBoxExactEq.TheImpl.Laws.{lawful as meta_laws};
 ghost use Rattle.std.specs.Prelude.{◌≡◌};
 ghost use Rattle.mp4_codec.specs.declared.box_type.BoxType.TheVariants.{UdtaBox as udta};
 ghost use Rattle.mp4_codec.specs.Boxes.{size_around, no_refusal};
@@ -8,8 +10,8 @@ ghost use Rattle.mp4_meta.specs.UdtaLaws.{udta_again};
 
 use crate::meta::MetaBox;
 use mp4_codec::{
-    BoxType, HEADER_SIZE, InRange, Mp4Box, Put, ReadBox, Result, TryClone, WriteBox, last_child,
-    optional_size, put_optional,
+    BoxType, ExactEq, HEADER_SIZE, InRange, Mp4Box, Put, ReadBox, Result, TryClone, WriteBox,
+    last_child, optional_size, put_optional,
 };
 use std::alloc::Global;
 
@@ -21,6 +23,10 @@ use std::alloc::Global;
 pub struct UdtaBox {
     /// The metadata: the last such child.
     pub meta: Option<MetaBox>,
+}
+
+impl ExactEq for UdtaBox {
+    ghost exact = { by_test (Prim.hlevel (field_tests, by_law meta_laws.exact)) };
 }
 
 impl Default for UdtaBox {

@@ -1,5 +1,8 @@
 //! The fragment of a movie.
 
+ghost use Rattle.mp4_codec.specs.ExactTest.{by_law, by_test, field_tests};
+ghost use Rattle.mp4_frag.specs.contracts.mfhd.MfhdBoxExactEq.TheImpl.Laws.{lawful as mfhd_laws};
+ghost use Rattle.mp4_moof.specs.contracts.traf.TrafBoxExactEq.TheImpl.Laws.{lawful as traf_laws};
 ghost use Rattle.std.specs.Prelude.{◌≡◌, Ok};
 ghost use Rattle.mp4_codec.specs.declared.box_type.BoxType.TheVariants.{MoofBox as moof};
 ghost use Rattle.mp4_codec.specs.Cause.{Gives};
@@ -9,9 +12,9 @@ ghost use Rattle.mp4_moof.specs.MoofLaws.{moof_adds, moof_again};
 
 use crate::traf::TrafBox;
 use mp4_codec::{
-    BoxType, Child, DebugItem, Gather, HEADER_SIZE, InRange, Items, Mp4Box, Put, ReadBox, Result,
-    TryClone, WriteBox, all_size, check_all, gather_children, keep_each, keep_last, put_all,
-    required,
+    BoxType, Child, DebugItem, ExactEq, Gather, HEADER_SIZE, InRange, Items, Mp4Box, Put, ReadBox,
+    Result, TryClone, WriteBox, all_size, check_all, gather_children, keep_each, keep_last,
+    put_all, required,
 };
 use mp4_frag::MfhdBox;
 use std::alloc::Global;
@@ -26,6 +29,10 @@ pub struct MoofBox {
     pub mfhd: MfhdBox,
     /// The fragments of tracks, in file order.
     pub trafs: Items<TrafBox>,
+}
+
+impl ExactEq for MoofBox {
+    ghost exact = { by_test (Prim.hlevel (field_tests, by_law mfhd_laws.exact, by_law traf_laws.exact)) };
 }
 
 impl DebugItem for MoofBox {}

@@ -1,16 +1,22 @@
 //! The search in numbers that rise.
 
+ghost use Rattle.mp4_codec.specs.ExactTest.{by_test, field_tests};
 ghost use Rattle.std.specs.Prelude.{◌≡◌, ℕ, ◌<◌, ◌≤◌, length, slice_index, IfSome, IfNone};
 ghost use Rattle.std.specs.List.Sorted.{IsNonDecreasing};
 ghost use Rattle.mp4_search.specs.Search.{IsLastAtMost, IsFew, comparisons_in};
 
 use crate::counted::{Readings, SearchedNumbers};
+use mp4_codec::ExactEq;
 
 /// A number and its index.
 #[derive(Clone, Copy, Debug, PartialEq, Eq)]
 pub struct Found {
     pub index: usize,
     pub number: u32,
+}
+
+impl ExactEq for Found {
+    ghost exact = { by_test (Prim.hlevel field_tests) };
 }
 
 /// The last of the numbers that is at most `key`, and how many of them were compared with it.

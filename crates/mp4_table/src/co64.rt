@@ -1,5 +1,6 @@
 //! Where chunks lie, in large files.
 
+ghost use Rattle.mp4_codec.specs.ExactTest.{by_test, field_tests};
 ghost use Rattle.std.specs.Prelude.{◌≡◌, Ok};
 ghost use Rattle.mp4_codec.specs.Cause.{Gives};
 ghost use Rattle.mp4_codec.specs.Boxes.{size_around, no_refusal};
@@ -9,7 +10,9 @@ ghost use Rattle.mp4_table.specs.Co64Laws.{co64_again};
 ghost use Rattle.mp4_codec.specs.Early.{refused_at_once};
 
 use crate::table::{put_table, read_table, table_size};
-use mp4_codec::{BoxType, InRange, Items, Mp4Box, Put, ReadBox, Result, TryClone, WriteBox};
+use mp4_codec::{
+    BoxType, ExactEq, InRange, Items, Mp4Box, Put, ReadBox, Result, TryClone, WriteBox,
+};
 use std::alloc::Global;
 
 /// The chunk offset table of large files, `co64`: where each chunk of a track lies, in 64 bits
@@ -22,6 +25,10 @@ pub struct Co64Box {
     pub flags: u32,
     /// The bytes of the file before each chunk.
     pub entries: Items<u64>,
+}
+
+impl ExactEq for Co64Box {
+    ghost exact = { by_test (Prim.hlevel field_tests) };
 }
 
 impl Co64Box {

@@ -1,5 +1,6 @@
 //! How much later than it is decoded a sample is shown.
 
+ghost use Rattle.mp4_codec.specs.ExactTest.{by_test, field_tests};
 ghost use Rattle.std.specs.Prelude.{◌≡◌, Ok};
 ghost use Rattle.mp4_codec.specs.Cause.{Gives};
 ghost use Rattle.mp4_codec.specs.Boxes.{size_around, no_refusal};
@@ -10,8 +11,8 @@ ghost use Rattle.mp4_codec.specs.Early.{refused_at_once};
 
 use crate::table::{put_table, read_table, table_size};
 use mp4_codec::{
-    BoxType, DebugItem, Entry, Field, Fields, InRange, Items, Mp4Box, Put, ReadBox, Result,
-    TryClone, WriteBox, put_i32, put_u32,
+    BoxType, DebugItem, Entry, ExactEq, Field, Fields, InRange, Items, Mp4Box, Put, ReadBox,
+    Result, TryClone, WriteBox, put_i32, put_u32,
 };
 use std::alloc::Global;
 
@@ -23,6 +24,10 @@ pub struct CttsEntry {
     /// The composition time of each less its decode time, in ticks of the media's timescale; signed in
     /// version 0 too.
     pub sample_offset: i32,
+}
+
+impl ExactEq for CttsEntry {
+    ghost exact = { by_test (Prim.hlevel field_tests) };
 }
 
 impl DebugItem for CttsEntry {}
@@ -90,6 +95,10 @@ pub struct CttsBox {
     pub flags: u32,
     /// The samples in runs of one offset.
     pub entries: Items<CttsEntry>,
+}
+
+impl ExactEq for CttsBox {
+    ghost exact = { by_test (Prim.hlevel field_tests) };
 }
 
 impl CttsBox {

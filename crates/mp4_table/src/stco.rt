@@ -1,5 +1,6 @@
 //! Where chunks lie.
 
+ghost use Rattle.mp4_codec.specs.ExactTest.{by_test, field_tests};
 ghost use Rattle.std.specs.Prelude.{◌≡◌, ◌-◌, ◌^◌, Ok, IfOk, nat_lt};
 ghost use Rattle.std.specs.List.{list_any};
 ghost use Rattle.mp4_codec.specs.Cause.{Answers, AnswersCause, Gives};
@@ -11,7 +12,9 @@ ghost use Rattle.mp4_codec.specs.Early.{refused_at_once};
 
 use crate::co64::Co64Box;
 use crate::table::{put_table, read_table, table_size};
-use mp4_codec::{BoxType, Error, InRange, Items, Mp4Box, Put, ReadBox, Result, TryClone, WriteBox};
+use mp4_codec::{
+    BoxType, Error, ExactEq, InRange, Items, Mp4Box, Put, ReadBox, Result, TryClone, WriteBox,
+};
 use std::alloc::Global;
 
 /// Whether an offset passes 2^32 - 1.
@@ -46,6 +49,10 @@ pub struct StcoBox {
     pub flags: u32,
     /// The bytes of the file before each chunk.
     pub entries: Items<u32>,
+}
+
+impl ExactEq for StcoBox {
+    ghost exact = { by_test (Prim.hlevel field_tests) };
 }
 
 impl StcoBox {

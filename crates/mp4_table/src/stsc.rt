@@ -1,5 +1,6 @@
 //! How many samples each chunk has.
 
+ghost use Rattle.mp4_codec.specs.ExactTest.{by_test, field_tests};
 ghost use Rattle.std.specs.Prelude.{◌≡◌, None, Ok};
 ghost use Rattle.mp4_codec.specs.Cause.{Checks, Gives, fault_of};
 ghost use Rattle.mp4_codec.specs.Boxes.{size_around, no_refusal};
@@ -10,8 +11,8 @@ ghost use Rattle.mp4_codec.specs.Early.{refused_at_once};
 
 use crate::table::{put_table, read_table, table_size};
 use mp4_codec::{
-    BoxType, DebugItem, Entry, Error, Field, Fields, InRange, Items, Mp4Box, Put, ReadBox, Result,
-    TryClone, WriteBox, put_u32,
+    BoxType, DebugItem, Entry, Error, ExactEq, Field, Fields, InRange, Items, Mp4Box, Put, ReadBox,
+    Result, TryClone, WriteBox, put_u32,
 };
 use std::alloc::Global;
 
@@ -28,6 +29,10 @@ pub struct StscEntry {
     /// The number of the run's first sample, counted from 1. It isn't stored: an entry that is read
     /// alone has 0, reading the box finds it, and writing leaves it out.
     pub first_sample: u32,
+}
+
+impl ExactEq for StscEntry {
+    ghost exact = { by_test (Prim.hlevel field_tests) };
 }
 
 impl DebugItem for StscEntry {}
@@ -175,6 +180,10 @@ pub struct StscBox {
     pub flags: u32,
     /// The chunks in runs that have equally many samples.
     pub entries: Items<StscEntry>,
+}
+
+impl ExactEq for StscBox {
+    ghost exact = { by_test (Prim.hlevel field_tests) };
 }
 
 impl StscBox {

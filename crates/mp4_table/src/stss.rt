@@ -1,5 +1,6 @@
 //! Which samples are sync samples.
 
+ghost use Rattle.mp4_codec.specs.ExactTest.{by_test, field_tests};
 ghost use Rattle.std.specs.Prelude.{◌≡◌, Ok};
 ghost use Rattle.mp4_codec.specs.Cause.{Gives};
 ghost use Rattle.mp4_codec.specs.Boxes.{size_around, no_refusal};
@@ -9,7 +10,9 @@ ghost use Rattle.mp4_table.specs.StssLaws.{stss_again};
 ghost use Rattle.mp4_codec.specs.Early.{refused_at_once};
 
 use crate::table::{put_table, read_table, table_size};
-use mp4_codec::{BoxType, InRange, Items, Mp4Box, Put, ReadBox, Result, TryClone, WriteBox};
+use mp4_codec::{
+    BoxType, ExactEq, InRange, Items, Mp4Box, Put, ReadBox, Result, TryClone, WriteBox,
+};
 use std::alloc::Global;
 
 /// The sync sample table, `stss`: from which samples a track can be played (ISO/IEC 14496-12, 8.6.2).
@@ -23,6 +26,10 @@ pub struct StssBox {
     pub flags: u32,
     /// The numbers of the sync samples, counted from 1. They rise, which is not tested.
     pub entries: Items<u32>,
+}
+
+impl ExactEq for StssBox {
+    ghost exact = { by_test (Prim.hlevel field_tests) };
 }
 
 impl StssBox {

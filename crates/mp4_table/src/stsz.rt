@@ -1,5 +1,6 @@
 //! How long samples are.
 
+ghost use Rattle.mp4_codec.specs.ExactTest.{by_test, field_tests};
 ghost use Rattle.std.specs.Prelude.{◌≡◌, Ok};
 ghost use Rattle.mp4_codec.specs.Cause.{Checks, Gives};
 ghost use Rattle.mp4_codec.specs.Boxes.{size_around};
@@ -9,8 +10,8 @@ ghost use Rattle.mp4_table.specs.StszLaws.{stsz_again};
 ghost use Rattle.mp4_codec.specs.Early.{refused_at_once};
 
 use mp4_codec::{
-    BoxType, Error, Fields, InRange, Items, Mp4Box, Put, ReadBox, Result, TryClone, WriteBox,
-    list_size, put_list, put_u8, put_u24, put_u32,
+    BoxType, Error, ExactEq, Fields, InRange, Items, Mp4Box, Put, ReadBox, Result, TryClone,
+    WriteBox, list_size, put_list, put_u8, put_u24, put_u32,
 };
 use std::alloc::Global;
 
@@ -30,6 +31,10 @@ pub struct StszBox {
     pub sample_count: u32,
     /// The bytes of each sample, where `sample_size` is 0; else none.
     pub sample_sizes: Items<u32>,
+}
+
+impl ExactEq for StszBox {
+    ghost exact = { by_test (Prim.hlevel field_tests) };
 }
 
 impl StszBox {

@@ -1,5 +1,6 @@
 //! How long samples last.
 
+ghost use Rattle.mp4_codec.specs.ExactTest.{by_test, field_tests};
 ghost use Rattle.std.specs.Prelude.{◌≡◌, Ok};
 ghost use Rattle.mp4_codec.specs.Cause.{Gives};
 ghost use Rattle.mp4_codec.specs.Boxes.{size_around, no_refusal};
@@ -10,8 +11,8 @@ ghost use Rattle.mp4_codec.specs.Early.{refused_at_once};
 
 use crate::table::{put_table, read_table, table_size};
 use mp4_codec::{
-    BoxType, DebugItem, Entry, Field, Fields, InRange, Items, Mp4Box, Put, ReadBox, Result,
-    TryClone, WriteBox, put_u32,
+    BoxType, DebugItem, Entry, ExactEq, Field, Fields, InRange, Items, Mp4Box, Put, ReadBox,
+    Result, TryClone, WriteBox, put_u32,
 };
 use std::alloc::Global;
 
@@ -22,6 +23,10 @@ pub struct SttsEntry {
     pub sample_count: u32,
     /// How long each lasts, in ticks of the media's timescale.
     pub sample_delta: u32,
+}
+
+impl ExactEq for SttsEntry {
+    ghost exact = { by_test (Prim.hlevel field_tests) };
 }
 
 impl DebugItem for SttsEntry {}
@@ -89,6 +94,10 @@ pub struct SttsBox {
     pub flags: u32,
     /// The samples in runs of one duration.
     pub entries: Items<SttsEntry>,
+}
+
+impl ExactEq for SttsBox {
+    ghost exact = { by_test (Prim.hlevel field_tests) };
 }
 
 impl SttsBox {
