@@ -10,6 +10,7 @@ ghost use Rattle.mp4_codec.specs.Boxes.{size_around, box_at, frame, write_cause,
 use crate::box_type::BoxType;
 use crate::cursor::ByteCursor;
 use crate::error::{Error, Limit, Result};
+use crate::exact_eq::ExactEq;
 use crate::header::HEADER_SIZE;
 use crate::in_range::InRange;
 use crate::put::{Put, put_u32};
@@ -67,7 +68,7 @@ pub trait ReadBox: Sized + Drop {
 }
 
 /// A box that can be written.
-pub trait WriteBox: Mp4Box + ReadBox + InRange {
+pub trait WriteBox: Mp4Box + ReadBox + InRange + ExactEq {
     /// Why a value is not written, whatever its size.
     ghost refusal: { Self → Option Cause };
 
