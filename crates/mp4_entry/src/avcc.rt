@@ -80,7 +80,8 @@ impl InRange for NalUnit {
     }
 }
 
-/// So many sets, one after the other. The first that passes the end is `InvalidData`.
+/// So many sets, one after the other, in a list with room for these alone. The first that passes the end is
+/// `InvalidData`.
 fn read_units(alloc: Global, fields: &mut Fields, count: u8) -> Result<Items<NalUnit>>
     ensures { Answers (λ units. (units, fields.new)) result (list_at unit_at count fields.old) }
 {
@@ -89,6 +90,7 @@ fn read_units(alloc: Global, fields: &mut Fields, count: u8) -> Result<Items<Nal
         let unit = NalUnit::read(alloc, fields)?;
         units.push(unit)?;
     }
+    units.shrink_to_fit();
     Ok(units)
 }
 

@@ -28,4 +28,5 @@ loop-preserved c =
 pub returns : goal.returns
 returns c =
     let total = list_at unit_at c.args.count c.args.fields.now in
-    is_done unit_at c.loop.units c.args.count c.loop.counter c.loop.fields total c.loop-test.false c.loop.invariant
+    rw c.shrink_to_fit.ensures
+    (is_done unit_at c.loop.units c.args.count c.loop.counter c.loop.fields total c.loop-test.false c.loop.invariant)
