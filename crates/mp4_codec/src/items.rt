@@ -118,6 +118,19 @@ impl<T> Items<T> {
         self.items.as_slice().iter()
     }
 
+    /// Room for one more at the end. A list that is full grows by half of its length, and by one at least, so
+    /// that a short list, as most are, takes no more memory than its values need.
+    fn reserve_one(&mut self) -> std::result::Result<(), AllocError>
+        ensures { self.new ≡ self.old }
+    {
+        let len = self.items.len();
+        if len < self.items.capacity() {
+            return Ok(());
+        }
+        self.items.reserve_exact((len / 2).max(1))?;
+        Ok(())
+    }
+
     /// Adds one at the end.
     pub fn push(&mut self, value: T) -> std::result::Result<(), AllocError>
     where
@@ -125,6 +138,7 @@ impl<T> Items<T> {
         ensures ok { OnOk result (self.new ≡ self.old ++ value ∷ []) }
         ensures err { OnErr result (self.new ≡ self.old) }
     {
+        self.reserve_one()?;
         self.items.push(value)?;
         Ok(())
     }

@@ -116,11 +116,11 @@ fn check_payload(payload: &[u8]) -> Field<()>
     Ok(())
 }
 
-/// So many sets, one after the other. The first that passes the end is `InvalidData`.
+/// So many sets, one after the other, in a list that grows once. The first that passes the end is `InvalidData`.
 fn read_units(alloc: Global, fields: &mut Fields, count: u8) -> Result<Items<NalUnit>>
     ensures { Answers (λ units. (units, fields.new)) result (list_at unit_at count fields.old) }
 {
-    let mut units = Items::new(alloc);
+    let mut units = Items::with_capacity(alloc, count as usize)?;
     for _ in 0..count {
         let unit = NalUnit::read(alloc, fields)?;
         units.push(unit)?;

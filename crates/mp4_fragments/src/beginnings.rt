@@ -79,7 +79,8 @@ pub(crate) fn at_later_member(
     }
 }
 
-/// Where every 64th member of a run with listed sizes or durations begins, from the 64th on.
+/// Where every 64th member of a run with listed sizes or durations begins, from the 64th on, in a list that
+/// grows once.
 pub(crate) fn checkpoints(
     alloc: Global,
     run: &TrunBox,
@@ -89,16 +90,17 @@ pub(crate) fn checkpoints(
     ensures right { IfOk result (λ checks. AreCheckpoints run.now defaults first checks) }
     ensures every { IfOk result (λ checks. 0 < length run.now.sample_sizes + length run.now.sample_durations → length checks ≡ run.now.sample_count / 64) }
 {
-    let mut checks = Items::new(alloc);
     if run.sample_sizes.is_empty() && run.sample_durations.is_empty() {
-        return Ok(checks);
+        return Ok(Items::new(alloc));
     }
-    if run.sample_count < BETWEEN_CHECKPOINTS {
-        return Ok(checks);
+    let count = run.sample_count / BETWEEN_CHECKPOINTS;
+    if count == 0 {
+        return Ok(Items::new(alloc));
     }
+    let mut checks = Items::with_capacity(alloc, count as usize)?;
     let mut at = at_member(run, defaults, first, BETWEEN_CHECKPOINTS);
     checks.push(at)?;
-    for q in 1..run.sample_count / BETWEEN_CHECKPOINTS {
+    for q in 1..count {
         let from = BETWEEN_CHECKPOINTS * q;
         at = at_later_member(run, defaults, at, from, from + BETWEEN_CHECKPOINTS);
         checks.push(at)?;

@@ -36,19 +36,21 @@ pub struct RunIndex {
 }
 
 impl RunIndex {
-    /// No runs.
-    pub(crate) fn new(alloc: Global) -> Self
-        ensures counts { result.counts ≡ [] }
-        ensures entries { result.entries ≡ [] }
-        ensures before { result.before ≡ 0 }
-        ensures total { result.total ≡ 0 }
+    /// No runs, with room for so many.
+    pub(crate) fn with_capacity(alloc: Global, runs: usize) -> Result<Self, AllocError>
+        ensures counts { IfOk result (λ index. index.counts ≡ []) }
+        ensures entries { IfOk result (λ index. index.entries ≡ []) }
+        ensures before { IfOk result (λ index. index.before ≡ 0) }
+        ensures total { IfOk result (λ index. index.total ≡ 0) }
     {
-        RunIndex {
-            counts: SearchedNumbers::new(Vec::new(alloc)),
-            entries: Items::new(alloc),
+        let counts = Vec::with_capacity(alloc, runs)?;
+        let entries = Items::with_capacity(alloc, runs)?;
+        Ok(RunIndex {
+            counts: SearchedNumbers::new(counts),
+            entries,
             before: 0,
             total: 0,
-        }
+        })
     }
 
     /// One more run, of `count` members.

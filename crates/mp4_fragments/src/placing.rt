@@ -1,6 +1,7 @@
 //! One pass over the fragments of a track, which places its runs.
 
-ghost use Rattle.std.specs.Prelude.{◌≡◌, ℕ, ◌<◌, List, length, IfOk, Some, fold, zip};
+ghost use Rattle.std.specs.Prelude.{◌≡◌, ℕ, ◌-◌, ◌^◌, ◌<◌, List, length, min, IfOk, Some, fold, zip};
+ghost use Rattle.std.specs.List.{sum_by};
 ghost use Rattle.mp4_fragments.specs.Bases.{data_begins};
 ghost use Rattle.mp4_fragments.specs.Defaults.{defaults_in};
 ghost use Rattle.mp4_fragments.specs.Fragments.{begins, first_time, has_members, with_run, with_traf, placed_runs};
@@ -138,8 +139,20 @@ fn add_trafs(
     Ok(at)
 }
 
-/// The index of a track's runs: those of its fragments, which have these bases. Its samples before the fragments end at
-/// `end`, in ticks of its timescale. No member is written out. Refused only where memory runs out.
+/// How many runs these fragments have; it stops at 2^64 - 1.
+fn count_runs(trafs: &[TrafBox]) -> usize
+    ensures { result ≡ min (sum_by (λ t. length t.truns) trafs.now) (2 ^ 64 - 1) }
+{
+    let mut count: usize = 0;
+    for traf in trafs {
+        count = count.saturating_add(traf.truns.len());
+    }
+    count
+}
+
+/// The index of a track's runs: those of its fragments, which have these bases. Its samples before the
+/// fragments end at `end`, in ticks of its timescale. No member is written out, and the lists of runs grow
+/// once. Refused only where memory runs out.
 #[tactic(auto, unfolding(crate::specs::Fragments::placed_runs))]
 pub fn index_of(
     alloc: Global,
@@ -151,7 +164,7 @@ pub fn index_of(
     requires { length bases.now ≡ length trafs.now }
     ensures { IfOk result (λ index. Indexes (run_at trafs.now track) (placed_runs track end trafs.now bases.now) index) }
 {
-    let mut index = RunIndex::new(alloc);
+    let mut index = RunIndex::with_capacity(alloc, count_runs(trafs))?;
     let first = Beginning {
         place: None,
         time: Some(end),

@@ -1,14 +1,14 @@
 -- What a search in sums, first samples or sync numbers says of the tables.
-use Rattle.std.proofs.Common.{◌≡◌, ℕ, zero, suc, ◌+◌, ◌-◌, ◌<◌, ◌≤◌, false, List}
+use Rattle.std.proofs.Common.{◌≡◌, ℕ, zero, suc, ◌+◌, ◌-◌, ◌*◌, ◌^◌, ◌<◌, ◌≤◌, false, List}
 use Rattle.std.proofs.Common.{length, get_or, take, map, sum, Some, None, sym, ap, ◌∙◌, arith, add-one}
 use Rattle.std.proofs.Common.{⊎_elim}
 use Rattle.std.specs.Prelude.{nat_le, ◌==◌, slice_index, slice_range}
-use Rattle.std.specs.List.{list_any}
+use Rattle.std.specs.List.{list_any, All}
 use Rattle.std.specs.List.Sorted.{IsNonDecreasing, IsStrictlyIncreasing}
 use Rattle.std.proofs.Math.Seq.{take-add}
 use Rattle.std.proofs.lemmas.Bool.{le-leb, lt-leb, cases_lt, cases_eq, eq-eqb, ne_eqb}
 use Rattle.std.proofs.lemmas.List.{get_or_default, get_or-map, length-map}
-use Rattle.std.proofs.lemmas.List.Sums.{sum_by-append}
+use Rattle.std.proofs.lemmas.List.Sums.{sum_by-append, sum_by-le, sum_by_more_le}
 use Rattle.std.proofs.lemmas.List.Folds.{list_any_none, list_any_at}
 use Rattle.mp4_table.specs.declared.stsc.StscEntry.{StscEntry}
 use Rattle.mp4_table.specs.Chunks.{last_where}
@@ -116,4 +116,20 @@ sums_between xs sums first k s h1 h2 h3 =
       s.each (first - 1) (omega arith),
       s.each (k - 1) (omega arith),
       sum-slice_range xs (first - 1) (k - 1) (omega arith),
+    )
+
+-- what comes before the last size and the last itself are small together, where each size has 32 bits
+pub total-small : (xs sums : List ℕ) (before n : ℕ) → SumsBefore (λ s. s) xs sums
+    → All (λ x. x ≤ 2 ^ 32 - 1) xs → 0 < length xs
+    → before ≡ slice_index sums (length xs - 1) - slice_index sums 0
+    → n ≡ slice_index xs (length xs - 1) → before + n ≤ length xs * (2 ^ 32 - 1)
+total-small xs sums before n s small some e f =
+    let last : length xs - 1 < length xs = omega arith in
+    omega (
+      arith,
+      e,
+      f,
+      s.each (length xs - 1) last,
+      sum_by_more_le (λ x. x) xs (length xs - 1) 0 last,
+      sum_by-le (λ x. x) (2 ^ 32 - 1) xs small,
     )

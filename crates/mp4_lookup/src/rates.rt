@@ -2,6 +2,7 @@
 
 ghost use Rattle.std.specs.Prelude.{◌≡◌, ◌<◌, ◌^◌, sum, IfOk};
 ghost use Rattle.mp4_codec.specs.Cause.{Gives};
+ghost use Rattle.mp4_search.specs.Sums.{SumsBefore};
 ghost use Rattle.mp4_lookup.specs.Rates.{sample_count_of, frame_rate_of, total_size_of, measured_bitrate_of, declared_bitrate, bitrate_of};
 ghost use Rattle.mp4_lookup.specs.TrackRuns.{track_runs};
 
@@ -9,6 +10,7 @@ use crate::headers::MICROSECONDS;
 use crate::track::Mp4Track;
 use mp4_codec::{Error, Limit, Result};
 use mp4_entry::Mp4aBox;
+use mp4_search::RunningSizes;
 
 /// Milliseconds in a second.
 const MILLISECONDS: u64 = 1000;
@@ -93,7 +95,7 @@ impl Mp4Track {
             let count = self.sample_count()?;
             return Ok(u128::from(stsz.sample_size) * u128::from(count));
         }
-        Ok(sum_of(stsz.sample_sizes.as_slice()))
+        Ok(sum_of(stsz.sample_sizes.as_slice(), &self.index.size_sums))
     }
 }
 
@@ -107,14 +109,17 @@ fn average_of(entry: &Mp4aBox) -> u32
     }
 }
 
-/// The sum of these sizes.
-fn sum_of(sizes: &[u32]) -> u128
+/// The sum of these sizes, by the running sums before each of them.
+fn sum_of(sizes: &[u32], sums: &RunningSizes) -> u128
+    requires { SumsBefore (λ s. s) sizes.now sums.now }
     ensures sum { result ≡ sum sizes.now }
     ensures small { result < 2 ^ 95 }
 {
-    let mut sum: u128 = 0;
-    for size in sizes {
-        sum += u128::from(*size);
+    let count = sizes.len();
+    if count == 0 {
+        return 0;
     }
-    sum
+    let (before, readings) = sums.between(0, count - 1);
+    let _read = readings.count();
+    before + u128::from(sizes[count - 1])
 }

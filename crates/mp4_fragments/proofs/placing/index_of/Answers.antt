@@ -9,6 +9,6 @@ pub returns : goal.returns
 unfolding placed_runs
 returns c =
     let find = run_at c.args.trafs.now c.args.track in
-    let empty = c.new-index.ensures in
+    let empty = c.in_ok-index.ensures in
     c.in_ok-add_trafs.ensures.index find [] (knows_all c.args.trafs.now c.args.track)
-    (Indexes-none find c.new-index.result empty.counts empty.entries empty.before empty.total)
+    (Indexes-none find _ empty.counts empty.entries empty.before empty.total)
