@@ -13,8 +13,8 @@ ghost use Rattle.mp4_codec.specs.Early.{refused_at_once};
 
 use crate::narrow::{check_most, put_low_u8, put_low_u16};
 use mp4_codec::{
-    BoxType, DebugItem, ExactEq, Field, Fields, InRange, Items, Mp4Box, Put, ReadBox, Result, TryClone, WriteBox,
-    put_bytes, put_u8,
+    BoxType, DebugItem, ExactEq, Field, Fields, InRange, Items, Mp4Box, Put, ReadBox, Result,
+    TryClone, WriteBox, put_bytes, put_u8,
 };
 use std::alloc::Global;
 

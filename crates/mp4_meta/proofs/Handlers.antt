@@ -60,6 +60,7 @@ pub its_handler : (body : List ℕ) (t : FourCC) → last_handler_type body ≡ 
 its_handler body t e = found (last_handler body) t (sym (type_is body) ∙ e)
 
 pub ruleset handlers = (no_handler, its_handler)
+
 pub ruleset handler_types = (types_give)
 
 -- two answers of one call are the same

@@ -20,9 +20,9 @@ returns-in_err-child g c =
     let broken = breaks c.loop-parts.children (cause_of c.in_err-child.field-0.0) c.in_err-child.ensures.value in
     rw (p.1, p.2) (record {
       value = inr (breaks_off g.G.Gather.fault g.G.Gather.taken c.loop-parts.parts c.loop-parts.children
-      c.args.payload.now (cause_of c.in_err-child.field-0.0) broken c.loop-parts.invariant.given);
+          c.args.payload.now (cause_of c.in_err-child.field-0.0) broken c.loop-parts.invariant.given);
       early = early.breaks_off g.G.Gather.early c.loop-parts.children c.args.payload.now _ c.in_err-child.field-0.0
-      broken c.loop-parts.invariant.early;
+          broken c.loop-parts.invariant.early;
     })
 
 pub loop-parts-preserved : goal.loop-parts-preserved
@@ -33,10 +33,10 @@ loop-parts-preserved g c =
     let begun = begins c.loop-parts.children child c.next_child.new.self next in
     record {
       given = takes g.G.Gather.fault g.G.Gather.taken g.G.Gather.added g.met.G.Gather.adds c.loop-parts.parts
-      c.add.new.self c.loop-parts.children c.next_child.new.self c.args.payload.now child begun shorter
-      c.in_ok-add.ensures.value c.loop-parts.invariant.given;
+          c.add.new.self c.loop-parts.children c.next_child.new.self c.args.payload.now child begun shorter
+          c.in_ok-add.ensures.value c.loop-parts.invariant.given;
       early = early.takes g.G.Gather.early c.loop-parts.children c.args.payload.now child c.next_child.new.self
-      c.in_ok-add.field-0 begun shorter c.in_ok-add.ensures.early c.loop-parts.invariant.early;
+          c.in_ok-add.field-0 begun shorter c.in_ok-add.ensures.early c.loop-parts.invariant.early;
     }
 
 pub returns-in_err-add : goal.returns-in_err-add
@@ -53,7 +53,7 @@ returns-in_err-add g c =
             (cause_of c.in_err-add.field-0.0) begun fault c.loop-parts.invariant.given)
       ];
       early = early.refuses g.G.Gather.early c.loop-parts.children c.args.payload.now _ _ child c.next_child.new.self
-      c.in_err-add.field-0.0 begun c.in_err-add.ensures.early c.loop-parts.invariant.early;
+          c.in_err-add.field-0.0 begun c.in_err-add.ensures.early c.loop-parts.invariant.early;
     })
 
 pub returns : goal.returns
@@ -62,7 +62,7 @@ returns g c =
     let ended = ends c.loop-parts.children c.next_child.new.self next in
     record {
       value = is_done g.G.Gather.fault g.G.Gather.taken c.loop-parts.parts c.loop-parts.children c.args.payload.now
-      ended c.loop-parts.invariant.given;
+          ended c.loop-parts.invariant.given;
       early = early.is_done g.G.Gather.early c.loop-parts.children c.args.payload.now c.loop-parts.parts ended
-      c.loop-parts.invariant.early;
+          c.loop-parts.invariant.early;
     }
