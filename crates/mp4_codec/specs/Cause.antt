@@ -71,12 +71,6 @@ AnswersCause None (Err e) = e ≡ OutOfMemory
 AnswersCause (Some c) (Ok x) = ⊥
 AnswersCause (Some c) (Err e) = c ≡ cause_of e
 
--- Where a cause holds, the call answers just that, and never that memory ran out.
-abbrev pub Refuses : {X : Type 0} → Option Cause → Result X Error → Type 0
-Refuses None result = Unit {0}
-Refuses (Some c) (Ok x) = ⊥
-Refuses (Some c) (Err e) = c ≡ cause_of e
-
 -- a step, and where it is not refused, the next
 infixl 10 ◌>>=◌
 abbrev pub ◌>>=◌ : {A B : Type 0} → Result A Cause → (A → Result B Cause) → Result B Cause
