@@ -5,10 +5,12 @@ ghost use Rattle.mp4_codec.specs.declared.box_type.BoxType.TheVariants.{FreeBox 
 ghost use Rattle.mp4_codec.specs.Boxes.{no_refusal};
 ghost use Rattle.mp4_codec.specs.Bytes.{number_at, number};
 ghost use Rattle.mp4_codec.specs.Cause.{◌>>=◌};
+ghost use Rattle.mp4_codec.specs.Early.{at_once};
+ghost use Rattle.mp4_codec.specs.ExactTest.{by_test, field_tests};
 ghost use Rattle.mp4_codec.specs.FieldLaws.{number_last};
 
 use mp4_codec::{
-    BoxType, Fields, InRange, Mp4Box, Put, ReadBox, Result, TryClone, WriteBox, put_u32,
+    BoxType, ExactEq, Fields, InRange, Mp4Box, Put, ReadBox, Result, TryClone, WriteBox, put_u32,
 };
 use std::alloc::Global;
 
@@ -16,6 +18,10 @@ use std::alloc::Global;
 #[derive(Debug, PartialEq, Eq, Drop)]
 pub struct Number {
     pub value: u32,
+}
+
+impl ExactEq for Number {
+    ghost exact = { by_test (Prim.hlevel field_tests) };
 }
 
 impl TryClone for Number {
@@ -47,6 +53,8 @@ impl Mp4Box for Number {
 
 impl ReadBox for Number {
     ghost value = { λ payload. number_at 4 payload >>= λ n. Ok (record { value = n.0 }) };
+
+    ghost early = { λ payload. at_once (number_at 4 payload) };
 
     fn read_payload(_alloc: Global, payload: &[u8]) -> Result<Self> {
         let mut fields = Fields::new(payload);
