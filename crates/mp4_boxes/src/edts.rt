@@ -83,7 +83,7 @@ impl ReadBox for EdtsBox {
 
     ghost early = { edts_early };
 
-    #[tactic(auto, unfolding(crate::specs::Edts::edts_of, edts_early, crate::specs::Edts::edts_early))]
+    #[tactic(auto, unfolding(crate::specs::Edts::edts_of, crate::specs::Edts::edts_early))]
     fn read_payload(alloc: Global, payload: &[u8]) -> Result<Self> {
         match Children::new(payload).next_child()? {
             None => Ok(EdtsBox { elst: None }),
