@@ -3,8 +3,9 @@
 
 ghost use Rattle.std.specs.Prelude.{◌≡◌, ◌+◌, ◌^◌, ◌<◌, ◌≤◌, ◌++◌, Ok, None, length, map, fold, max, take, drop, OnOk, OnErr, IfOk, IfErr};
 ghost use Rattle.std.specs.List.{All};
-ghost use Rattle.mp4_codec.specs.Cause.{Answers, AnswersCause, Checks};
-ghost use Rattle.mp4_codec.specs.Boxes.{Writes, frame, size_around, size_cause, write_cause};
+ghost use Rattle.mp4_codec.specs.Cause.{Answers, Checks};
+ghost use Rattle.mp4_codec.specs.Bytes.{Appends};
+ghost use Rattle.mp4_codec.specs.Boxes.{frame, size_around, size_cause, write_cause};
 ghost use Rattle.mp4_boxes.specs.Moov.{moov_payload, moov_refusal};
 ghost use Rattle.mp4_mux.specs.Mdat.{mdat_header_of};
 ghost use Rattle.mp4_mux.specs.TrackHeaders.{movie_duration};
@@ -16,7 +17,7 @@ use crate::mdat::{MDAT_HEADER_SIZE, mdat_header};
 use crate::track_headers::{mvhd_box, mvhd_size};
 use crate::track_writer::TrackWriter;
 use mp4_boxes::{MoovBox, TrakBox};
-use mp4_codec::{Error, Items, Limit, Result, WriteBox};
+use mp4_codec::{Error, Items, Limit, Put, Result, WriteBox};
 use std::alloc::{AllocError, Global};
 
 /// How long the longest of the tracks is, in ticks of the movie; 0 where there is none.
@@ -116,13 +117,15 @@ fn movie_box(alloc: Global, timescale: u32, tracks: &[TrackWriter], end: u64) ->
     })
 }
 
-/// Adds a box at the end of a buffer, as `write_box` does, and drops it. The caller, which owns it no longer, has nothing
-/// to drop.
-fn write_owned<B: WriteBox>(value: B, out: &mut Vec<u8>) -> Result<u64>
-    ensures cause { AnswersCause (write_cause (B.payload value) (B.refusal value)) result }
-    ensures bytes { Writes out.old.items out.new.items result (frame B.KIND (B.payload value)) }
+/// Adds a box at the end of a buffer, which grows once, and drops it. The caller, which owns it no longer,
+/// has nothing to drop. Where a request for memory is refused, the buffer may hold a part of the box.
+fn put_owned<B: WriteBox>(value: B, out: &mut Vec<u8>) -> Put
+    requires { write_cause (B.payload value) (B.refusal value) ≡ None }
+    ensures { OnOk result (Appends out.old.items out.new.items (frame B.KIND (B.payload value))) }
 {
-    value.write_box(out)
+    out.reserve_exact(value.box_size() as usize)?;
+    value.put_box(out)?;
+    Ok(())
 }
 
 /// Adds the movie box at the end of a buffer. Refused by `OutOfMemory` alone; the buffer may then hold a part of it.
@@ -136,7 +139,7 @@ pub fn put_movie(out: &mut Vec<u8>, timescale: u32, tracks: &[TrackWriter], end:
     ensures memory { IfErr result (λ e. e ≡ Error.OutOfMemory) }
 {
     let movie = movie_box(*out.allocator(), timescale, tracks, end)?;
-    write_owned(movie, out)?;
+    put_owned(movie, out)?;
     Ok(())
 }
 
