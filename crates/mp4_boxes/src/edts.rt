@@ -1,5 +1,7 @@
 //! The edits of a track.
 
+ghost use Rattle.mp4_codec.specs.ExactTest.{by_law, by_test, field_tests};
+ghost use Rattle.mp4_leaf.specs.contracts.elst.ElstBoxExactEq.TheImpl.Laws.{lawful as elst_laws};
 ghost use Rattle.std.specs.Prelude.{◌≡◌, Ok};
 ghost use Rattle.mp4_codec.specs.declared.box_type.BoxType.TheVariants.{EdtsBox as edts};
 ghost use Rattle.mp4_codec.specs.Cause.{Gives};
@@ -8,8 +10,8 @@ ghost use Rattle.mp4_boxes.specs.Edts.{edts_payload, default_edts, edts_of, edts
 ghost use Rattle.mp4_boxes.specs.EdtsLaws.{edts_again};
 
 use mp4_codec::{
-    BoxType, Children, HEADER_SIZE, InRange, Mp4Box, Put, ReadBox, Result, TryClone, WriteBox,
-    check_optional, keep_last, optional_size, put_optional,
+    BoxType, Children, ExactEq, HEADER_SIZE, InRange, Mp4Box, Put, ReadBox, Result, TryClone,
+    WriteBox, check_optional, keep_last, optional_size, put_optional,
 };
 use mp4_leaf::ElstBox;
 use std::alloc::Global;
@@ -23,6 +25,10 @@ use std::alloc::Global;
 pub struct EdtsBox {
     /// The edit list.
     pub elst: Option<ElstBox>,
+}
+
+impl ExactEq for EdtsBox {
+    ghost exact = { by_test (Prim.hlevel (field_tests, by_law elst_laws.exact)) };
 }
 
 impl EdtsBox {

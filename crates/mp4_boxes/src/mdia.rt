@@ -1,5 +1,9 @@
 //! The media of a track.
 
+ghost use Rattle.mp4_codec.specs.ExactTest.{by_law, by_test, field_tests};
+ghost use Rattle.mp4_leaf.specs.contracts.mdhd.MdhdBoxExactEq.TheImpl.Laws.{lawful as mdhd_laws};
+ghost use Rattle.mp4_leaf.specs.contracts.hdlr.HdlrBoxExactEq.TheImpl.Laws.{lawful as hdlr_laws};
+ghost use Rattle.mp4_boxes.specs.contracts.minf.MinfBoxExactEq.TheImpl.Laws.{lawful as minf_laws};
 ghost use Rattle.std.specs.Prelude.{◌≡◌, Ok};
 ghost use Rattle.mp4_codec.specs.declared.box_type.BoxType.TheVariants.{MdiaBox as mdia};
 ghost use Rattle.mp4_codec.specs.Cause.{Answers};
@@ -10,8 +14,8 @@ ghost use Rattle.mp4_boxes.specs.MdiaLaws.{mdia_adds, mdia_again};
 use crate::minf::MinfBox;
 use crate::parts::required_three;
 use mp4_codec::{
-    BoxType, Child, Gather, HEADER_SIZE, InRange, Mp4Box, Put, ReadBox, Result, TryClone, WriteBox,
-    gather_children, keep_last,
+    BoxType, Child, ExactEq, Gather, HEADER_SIZE, InRange, Mp4Box, Put, ReadBox, Result, TryClone,
+    WriteBox, gather_children, keep_last,
 };
 use mp4_leaf::{HdlrBox, MdhdBox};
 use std::alloc::Global;
@@ -29,6 +33,10 @@ pub struct MdiaBox {
     pub hdlr: HdlrBox,
     /// What the media are made of, which is required.
     pub minf: MinfBox,
+}
+
+impl ExactEq for MdiaBox {
+    ghost exact = { by_test (Prim.hlevel (field_tests, by_law mdhd_laws.exact, by_law hdlr_laws.exact, by_law minf_laws.exact)) };
 }
 
 impl MdiaBox {

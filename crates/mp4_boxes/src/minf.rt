@@ -1,5 +1,10 @@
 //! The information of a track's media.
 
+ghost use Rattle.mp4_codec.specs.ExactTest.{by_law, by_test, field_tests};
+ghost use Rattle.mp4_leaf.specs.contracts.vmhd.VmhdBoxExactEq.TheImpl.Laws.{lawful as vmhd_laws};
+ghost use Rattle.mp4_leaf.specs.contracts.smhd.SmhdBoxExactEq.TheImpl.Laws.{lawful as smhd_laws};
+ghost use Rattle.mp4_leaf.specs.contracts.dinf.DinfBoxExactEq.TheImpl.Laws.{lawful as dinf_laws};
+ghost use Rattle.mp4_boxes.specs.contracts.stbl.StblBoxExactEq.TheImpl.Laws.{lawful as stbl_laws};
 ghost use Rattle.std.specs.Prelude.{◌≡◌, Ok};
 ghost use Rattle.mp4_codec.specs.declared.box_type.BoxType.TheVariants.{MinfBox as minf};
 ghost use Rattle.mp4_codec.specs.Cause.{Gives};
@@ -10,8 +15,8 @@ ghost use Rattle.mp4_boxes.specs.MinfLaws.{minf_adds, minf_again};
 use crate::parts::required_two;
 use crate::stbl::StblBox;
 use mp4_codec::{
-    BoxType, Child, Gather, HEADER_SIZE, InRange, Mp4Box, Put, ReadBox, Result, TryClone, WriteBox,
-    four_copies, gather_children, keep_last, optional_size, put_optional,
+    BoxType, Child, ExactEq, Gather, HEADER_SIZE, InRange, Mp4Box, Put, ReadBox, Result, TryClone,
+    WriteBox, four_copies, gather_children, keep_last, optional_size, put_optional,
 };
 use mp4_leaf::{DinfBox, SmhdBox, VmhdBox};
 use std::alloc::Global;
@@ -31,6 +36,10 @@ pub struct MinfBox {
     pub dinf: DinfBox,
     /// The samples, which are required.
     pub stbl: StblBox,
+}
+
+impl ExactEq for MinfBox {
+    ghost exact = { by_test (Prim.hlevel (field_tests, by_law vmhd_laws.exact, by_law smhd_laws.exact, by_law dinf_laws.exact, by_law stbl_laws.exact)) };
 }
 
 impl MinfBox {

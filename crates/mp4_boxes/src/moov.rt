@@ -1,5 +1,11 @@
 //! The movie.
 
+ghost use Rattle.mp4_codec.specs.ExactTest.{by_law, by_test, field_tests};
+ghost use Rattle.mp4_leaf.specs.contracts.mvhd.MvhdBoxExactEq.TheImpl.Laws.{lawful as mvhd_laws};
+ghost use Rattle.mp4_boxes.specs.contracts.trak.TrakBoxExactEq.TheImpl.Laws.{lawful as trak_laws};
+ghost use Rattle.mp4_moof.specs.contracts.mvex.MvexBoxExactEq.TheImpl.Laws.{lawful as mvex_laws};
+ghost use Rattle.mp4_meta.specs.contracts.meta.MetaBoxExactEq.TheImpl.Laws.{lawful as meta_laws};
+ghost use Rattle.mp4_meta.specs.contracts.udta.UdtaBoxExactEq.TheImpl.Laws.{lawful as udta_laws};
 ghost use Rattle.std.specs.Prelude.{◌≡◌, Ok};
 ghost use Rattle.mp4_codec.specs.declared.box_type.BoxType.TheVariants.{MoovBox as moov};
 ghost use Rattle.mp4_codec.specs.Cause.{Gives};
@@ -9,9 +15,9 @@ ghost use Rattle.mp4_boxes.specs.MoovLaws.{moov_adds, moov_again};
 
 use crate::trak::TrakBox;
 use mp4_codec::{
-    BoxType, Child, Gather, HEADER_SIZE, InRange, Items, Mp4Box, Put, ReadBox, Result, TryClone,
-    WriteBox, all_size, check_all, check_optional, four_copies, gather_children, keep_each,
-    keep_last, optional_size, put_all, put_optional, required,
+    BoxType, Child, ExactEq, Gather, HEADER_SIZE, InRange, Items, Mp4Box, Put, ReadBox, Result,
+    TryClone, WriteBox, all_size, check_all, check_optional, four_copies, gather_children,
+    keep_each, keep_last, optional_size, put_all, put_optional, required,
 };
 use mp4_leaf::MvhdBox;
 use mp4_meta::{MetaBox, UdtaBox};
@@ -35,6 +41,10 @@ pub struct MoovBox {
     pub meta: Option<MetaBox>,
     /// The user data, where a title and the like stand.
     pub udta: Option<UdtaBox>,
+}
+
+impl ExactEq for MoovBox {
+    ghost exact = { by_test (Prim.hlevel (field_tests, by_law mvhd_laws.exact, by_law trak_laws.exact, by_law mvex_laws.exact, by_law meta_laws.exact, by_law udta_laws.exact)) };
 }
 
 impl MoovBox {

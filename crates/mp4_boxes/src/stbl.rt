@@ -1,5 +1,14 @@
 //! The sample table of a track.
 
+ghost use Rattle.mp4_codec.specs.ExactTest.{by_law, by_test, field_tests};
+ghost use Rattle.mp4_entry.specs.contracts.stsd.StsdBoxExactEq.TheImpl.Laws.{lawful as stsd_laws};
+ghost use Rattle.mp4_table.specs.contracts.stts.SttsBoxExactEq.TheImpl.Laws.{lawful as stts_laws};
+ghost use Rattle.mp4_table.specs.contracts.ctts.CttsBoxExactEq.TheImpl.Laws.{lawful as ctts_laws};
+ghost use Rattle.mp4_table.specs.contracts.stss.StssBoxExactEq.TheImpl.Laws.{lawful as stss_laws};
+ghost use Rattle.mp4_table.specs.contracts.stsc.StscBoxExactEq.TheImpl.Laws.{lawful as stsc_laws};
+ghost use Rattle.mp4_table.specs.contracts.stsz.StszBoxExactEq.TheImpl.Laws.{lawful as stsz_laws};
+ghost use Rattle.mp4_table.specs.contracts.stco.StcoBoxExactEq.TheImpl.Laws.{lawful as stco_laws};
+ghost use Rattle.mp4_table.specs.contracts.co64.Co64BoxExactEq.TheImpl.Laws.{lawful as co64_laws};
 ghost use Rattle.std.specs.Prelude.{◌≡◌, Ok};
 ghost use Rattle.mp4_codec.specs.declared.box_type.BoxType.TheVariants.{StblBox as stbl};
 ghost use Rattle.mp4_codec.specs.Cause.{Gives};
@@ -9,8 +18,8 @@ ghost use Rattle.mp4_boxes.specs.StblLaws.{stbl_adds, stbl_again};
 
 use crate::parts::required_four;
 use mp4_codec::{
-    BoxType, Child, Error, Gather, HEADER_SIZE, InRange, Mp4Box, Put, ReadBox, Result, TryClone,
-    WriteBox, four_copies, gather_children, keep_last, optional_size, put_optional,
+    BoxType, Child, Error, ExactEq, Gather, HEADER_SIZE, InRange, Mp4Box, Put, ReadBox, Result,
+    TryClone, WriteBox, four_copies, gather_children, keep_last, optional_size, put_optional,
 };
 use mp4_entry::StsdBox;
 use mp4_table::{Co64Box, CttsBox, StcoBox, StscBox, StssBox, StszBox, SttsBox};
@@ -43,6 +52,10 @@ pub struct StblBox {
     pub stco: Option<StcoBox>,
     /// Where chunks lie, in 64 bits.
     pub co64: Option<Co64Box>,
+}
+
+impl ExactEq for StblBox {
+    ghost exact = { by_test (Prim.hlevel (field_tests, by_law stsd_laws.exact, by_law stts_laws.exact, by_law ctts_laws.exact, by_law stss_laws.exact, by_law stsc_laws.exact, by_law stsz_laws.exact, by_law stco_laws.exact, by_law co64_laws.exact)) };
 }
 
 /// Both tables of the places of chunks, of which one has to be there; `Box2NotFound(StcoBox, Co64Box)`

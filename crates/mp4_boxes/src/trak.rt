@@ -1,5 +1,10 @@
 //! A track of a movie.
 
+ghost use Rattle.mp4_codec.specs.ExactTest.{by_law, by_test, field_tests};
+ghost use Rattle.mp4_leaf.specs.contracts.tkhd.TkhdBoxExactEq.TheImpl.Laws.{lawful as tkhd_laws};
+ghost use Rattle.mp4_boxes.specs.contracts.edts.EdtsBoxExactEq.TheImpl.Laws.{lawful as edts_laws};
+ghost use Rattle.mp4_meta.specs.contracts.meta.MetaBoxExactEq.TheImpl.Laws.{lawful as meta_laws};
+ghost use Rattle.mp4_boxes.specs.contracts.mdia.MdiaBoxExactEq.TheImpl.Laws.{lawful as mdia_laws};
 ghost use Rattle.std.specs.Prelude.{◌≡◌, Ok};
 ghost use Rattle.mp4_codec.specs.declared.box_type.BoxType.TheVariants.{TrakBox as trak};
 ghost use Rattle.mp4_codec.specs.Cause.{Answers};
@@ -11,7 +16,7 @@ use crate::edts::EdtsBox;
 use crate::mdia::MdiaBox;
 use crate::parts::required_two;
 use mp4_codec::{
-    BoxType, Child, DebugItem, Gather, HEADER_SIZE, InRange, Mp4Box, Put, ReadBox, Result,
+    BoxType, Child, DebugItem, ExactEq, Gather, HEADER_SIZE, InRange, Mp4Box, Put, ReadBox, Result,
     TryClone, WriteBox, check_optional, four_copies, gather_children, keep_last, optional_size,
     put_optional,
 };
@@ -34,6 +39,10 @@ pub struct TrakBox {
     pub meta: Option<MetaBox>,
     /// The media: its kind, and where its samples lie; it is required.
     pub mdia: MdiaBox,
+}
+
+impl ExactEq for TrakBox {
+    ghost exact = { by_test (Prim.hlevel (field_tests, by_law tkhd_laws.exact, by_law edts_laws.exact, by_law meta_laws.exact, by_law mdia_laws.exact)) };
 }
 
 impl DebugItem for TrakBox {}

@@ -1,11 +1,14 @@
 //! What a movie is begun with, and what a track is added with.
 
+ghost use Rattle.mp4_codec.specs.ExactTest.{by_law, by_test, field_tests};
+ghost use Rattle.mp4_entry.specs.contracts.track_type.TrackTypeExactEq.TheImpl.Laws.{lawful as track_type_laws};
+ghost use Rattle.mp4_entry.specs.contracts.config.MediaConfigExactEq.TheImpl.Laws.{lawful as media_config_laws};
 ghost use Rattle.std.specs.Prelude.{Ok};
 ghost use Rattle.mp4_codec.specs.Cause.{Answers, Checks};
 ghost use Rattle.mp4_entry.specs.declared.config.MediaConfig.TheVariants.{AvcConfig as Avc, HevcConfig as Hevc, Vp9Config as Vp9, AacConfig as Aac, TtxtConfig as Ttxt};
 ghost use Rattle.mp4_mux.specs.Config.{IsInRangeConfig, IsInRangeTrackConfig, config_cause, track_config_of};
 
-use mp4_codec::{Error, FourCC, InRange, Items, Result, Text, TryClone};
+use mp4_codec::{Error, ExactEq, FourCC, InRange, Items, Result, Text, TryClone};
 use mp4_entry::{AacConfig, AvcConfig, HevcConfig, MediaConfig, TrackType, TtxtConfig, Vp9Config};
 use mp4_leaf::check_language;
 use std::alloc::Global;
@@ -21,6 +24,10 @@ pub struct Mp4Config {
     pub compatible_brands: Items<FourCC>,
     /// Ticks in a second, of the movie's durations (8.2.2). 0 is accepted: then all durations in these ticks are 0.
     pub timescale: u32,
+}
+
+impl ExactEq for Mp4Config {
+    ghost exact = { by_test (Prim.hlevel field_tests) };
 }
 
 impl TryClone for Mp4Config {
@@ -56,6 +63,10 @@ pub struct TrackConfig {
     pub language: Text,
     /// How its samples are coded.
     pub media_conf: MediaConfig,
+}
+
+impl ExactEq for TrackConfig {
+    ghost exact = { by_test (Prim.hlevel (field_tests, by_law track_type_laws.exact, by_law media_config_laws.exact)) };
 }
 
 impl TrackConfig {

@@ -1,8 +1,9 @@
 //! What the tables of a track say of a sample.
 
+ghost use Rattle.mp4_codec.specs.ExactTest.{by_test, field_tests};
 ghost use Rattle.mp4_mux.specs.SampleInfos.{IsInRangeSampleInfo};
 
-use mp4_codec::InRange;
+use mp4_codec::{ExactEq, InRange};
 
 /// What the tables of a track say of a sample, but for where it lies (ISO/IEC 14496-12, 8.6 and 8.7.3).
 #[derive(Clone, Copy, Debug, PartialEq, Eq)]
@@ -15,6 +16,10 @@ pub struct SampleInfo {
     pub rendering_offset: i32,
     /// Whether it is a sync sample.
     pub is_sync: bool,
+}
+
+impl ExactEq for SampleInfo {
+    ghost exact = { by_test (Prim.hlevel field_tests) };
 }
 
 impl InRange for SampleInfo {

@@ -4,4 +4,4 @@
 
 mod sample;
 
-pub use sample::{Comparisons, Mp4Sample, SamplePlace, SampleRef};
+pub use sample::{Comparisons, Mp4Sample, SamplePlace, SampleRef, is_equal_sample};

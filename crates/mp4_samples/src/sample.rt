@@ -1,6 +1,11 @@
 //! Samples, and where they lie (ISO/IEC 14496-12, 8.6 and 8.7).
 
+ghost use Rattle.mp4_codec.specs.ExactTest.{by_test, field_tests};
+ghost use Rattle.std.specs.Prelude.{◌≡◌, ◌↔◌, IsTrue};
+ghost use Rattle.mp4_samples.specs.Samples.{lent_sample};
+
 use bytes::Bytes;
+use mp4_codec::ExactEq;
 
 /// A sample that holds its bytes.
 ///
@@ -20,6 +25,10 @@ pub struct Mp4Sample {
     pub bytes: Bytes,
 }
 
+impl ExactEq for Mp4Sample {
+    ghost exact = { by_test (Prim.hlevel field_tests) };
+}
+
 /// A sample whose bytes are lent by the file that it was found in.
 ///
 /// Times are in ticks of the track's timescale.
@@ -36,6 +45,14 @@ pub struct SampleRef<'a> {
     pub is_sync: bool,
     /// What it is made of.
     pub bytes: &'a [u8],
+}
+
+/// Whether two samples are the same in each field and hold the same bytes, as `==` answers, wherever the bytes lie.
+#[tactic(auto, using(crate::proofs::LentSamples::lent_samples_compare))]
+pub fn is_equal_sample(first: &SampleRef, second: &SampleRef) -> bool
+    ensures { IsTrue result ↔ (lent_sample first.now ≡ lent_sample second.now) }
+{
+    first == second
 }
 
 /// Where a sample lies in the file, when it is decoded and shown, and what it cost to find it.
@@ -62,6 +79,10 @@ pub struct SamplePlace {
     pub size_reads: u32,
 }
 
+impl ExactEq for SamplePlace {
+    ghost exact = { by_test (Prim.hlevel field_tests) };
+}
+
 /// How many numbers each search compared with the sample's, 0 for a table that isn't there.
 #[derive(Debug, Clone, Copy, PartialEq, Eq)]
 pub struct Comparisons {
@@ -75,4 +96,8 @@ pub struct Comparisons {
     pub stss: u32,
     /// Running counts of the runs of fragments, 0 for a sample of the movie box.
     pub runs: u32,
+}
+
+impl ExactEq for Comparisons {
+    ghost exact = { by_test (Prim.hlevel field_tests) };
 }
