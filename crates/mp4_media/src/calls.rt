@@ -1,5 +1,9 @@
 //! Calls of a writer as data, and lists of them.
 
+ghost use Rattle.mp4_codec.specs.ExactTest.{by_law, exact_enum, field_tests};
+ghost use Rattle.mp4_mux.specs.contracts.config.TrackConfigExactEq.TheImpl.Laws.{lawful as track_config_laws};
+ghost use Rattle.mp4_samples.specs.contracts.sample.Mp4SampleExactEq.TheImpl.Laws.{lawful as mp4_sample_laws};
+ghost use Rattle.mp4_media.specs.contracts.calls.WriterCall.{enum as writer_calls};
 ghost use Rattle.std.specs.Prelude.{◌≡◌, ◌≤◌, [], length, true, vec_capacity, vec_len, IfErr, IfOk, OnErr};
 ghost use Rattle.std.specs.List.{AllByRecursion};
 ghost use Rattle.mp4_codec.specs.Cause.{AnswersCause};
@@ -8,7 +12,7 @@ ghost use Rattle.mp4_media.specs.Finished.{Opens};
 ghost use Rattle.mp4_media.specs.WriterCalls.{call_of, calls_of};
 
 use crate::writer::Mp4Writer;
-use mp4_codec::{Error, InRange, Result};
+use mp4_codec::{Error, ExactEq, InRange, Result};
 use mp4_mux::TrackConfig;
 use mp4_samples::Mp4Sample;
 
@@ -21,6 +25,10 @@ pub enum WriterCall {
     WriteSample(u32, Mp4Sample),
     /// [`Mp4Writer::write_end`].
     WriteEnd,
+}
+
+impl ExactEq for WriterCall {
+    ghost exact = { exact_enum writer_calls (Prim.search (field_tests, by_law track_config_laws.exact, by_law mp4_sample_laws.exact)) };
 }
 
 impl InRange for WriterCall {

@@ -12,14 +12,14 @@ mod writer;
 
 // Framing, and what boxes are made with.
 pub use mp4_codec::{
-    BoxHeader, BoxType, ByteCursor, Child, Children, Entry, Error, Fields, FixedPointI8,
+    BoxHeader, BoxType, ByteCursor, Child, Children, Entry, Error, ExactEq, Fields, FixedPointI8,
     FixedPointU8, FixedPointU16, FourCC, Gather, HEADER_EXT_SIZE, HEADER_SIZE, InRange, Items, Key,
     KeyedItems, Limit, Mp4Box, OPEN_END, Put, ReadBox, Result, Text, TryClone, WriteBox,
     all_children, all_size, check_all, check_optional, check_value, check_version, code_again,
-    frame_has_its_head, gather_children, header_says_its_box, insertion_changes_one_key, keep_each,
-    keep_last, last_child, list_size, optional_size, payload_has_its_children, put_all, put_bytes,
-    put_four_cc, put_i16, put_i32, put_list, put_optional, put_u8, put_u16, put_u24, put_u32,
-    put_u64, put_versioned, put_zeros, refused_head_says_why, required, some_required,
+    frame_has_its_head, gather_children, header_says_its_box, insertion_changes_one_key, is_equal,
+    keep_each, keep_last, last_child, list_size, optional_size, payload_has_its_children, put_all,
+    put_bytes, put_four_cc, put_i16, put_i32, put_list, put_optional, put_u8, put_u16, put_u24,
+    put_u32, put_u64, put_versioned, put_zeros, refused_head_says_why, required, some_required,
     what_is_written_reads_back,
 };
 
@@ -64,7 +64,7 @@ pub use mp4_mux::{
     described_samples_are_found, file_type, file_type_size, finish, interleavings_accept_the_same,
     mdat_header, movie_size, pending_bytes, put_movie,
 };
-pub use mp4_samples::{Comparisons, Mp4Sample, SamplePlace, SampleRef};
+pub use mp4_samples::{Comparisons, Mp4Sample, SamplePlace, SampleRef, is_equal_sample};
 pub use mp4_search::{Found, Readings, RunningSizes, SearchedNumbers, last_at_most};
 pub use reader::{Mp4Reader, read_mp4};
 pub use round_trip::{FoundSample, RoundTrip, SampleQuery, find_sample, write_and_read};

@@ -43,7 +43,7 @@ answers_same x y same =
     both_true ((unsigned_Decides x.duration y.duration).1 (ap (λ (s : TimedSample). s.sample.duration) same)) (
     both_true ((signed_Decides x.rendering_offset y.rendering_offset).1 (ap (λ (s : TimedSample). s.sample.rendering_offset) same)) (
     both_true (same_flag x.is_sync y.is_sync (ap (λ (s : TimedSample). s.sample.is_sync) same))
-      ((bytes_decides x.bytes.now y.bytes.now).1 (ap (λ (s : TimedSample). s.sample.bytes) same)))))
+    ((bytes_decides x.bytes.now y.bytes.now).1 (ap (λ (s : TimedSample). s.sample.bytes) same)))))
 
 pub lent_samples_compare : (x y : SampleRef) (r : Bool) → r ≡ answer x y → IsTrue r ↔ (lent_sample x ≡ lent_sample y)
 lent_samples_compare x y r e = (λ h. ap sample_with (compares_parts x y (sym e ∙ h)), λ same. e ∙ answers_same x y same)
