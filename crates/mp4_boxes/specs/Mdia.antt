@@ -10,7 +10,8 @@ use Rattle.mp4_leaf.specs.Mdhd.{mdhd_of, mdhd_payload, mdhd_refusal, IsInRangeMd
 use Rattle.mp4_leaf.specs.Hdlr.{hdlr_of, hdlr_payload, IsInRangeHdlr, RemarksHdlr, default_hdlr}
 use Rattle.mp4_boxes.specs.declared.mdia.MdiaBox.{MdiaBox}
 use Rattle.mp4_boxes.specs.declared.mdia.MdiaParts.{MdiaParts}
-use Rattle.mp4_boxes.specs.Minf.{minf_of, minf_early, minf_payload, minf_refusal, IsInRangeMinf, RemarksMinf, default_minf}
+use Rattle.mp4_boxes.specs.Minf.{minf_of, minf_early, minf_payload}
+use Rattle.mp4_boxes.specs.Minf.{minf_refusal, IsInRangeMinf, RemarksMinf, default_minf}
 
 -- why a child refuses the media
 unfoldable pub mdia_fault : ChildBox → Option Cause

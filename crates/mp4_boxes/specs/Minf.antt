@@ -12,7 +12,8 @@ use Rattle.mp4_leaf.specs.Smhd.{smhd_of, smhd_payload, IsInRangeSmhd, RemarksSmh
 use Rattle.mp4_leaf.specs.Dinf.{dinf_of, dinf_early, dinf_payload, IsInRangeDinf, RemarksDinf, default_dinf}
 use Rattle.mp4_boxes.specs.declared.minf.MinfBox.{MinfBox}
 use Rattle.mp4_boxes.specs.declared.minf.MinfParts.{MinfParts}
-use Rattle.mp4_boxes.specs.Stbl.{stbl_of, stbl_early, stbl_payload, stbl_refusal, IsInRangeStbl, RemarksStbl, default_stbl}
+use Rattle.mp4_boxes.specs.Stbl.{stbl_of, stbl_early, stbl_payload}
+use Rattle.mp4_boxes.specs.Stbl.{stbl_refusal, IsInRangeStbl, RemarksStbl, default_stbl}
 
 -- why a child refuses the media information
 unfoldable pub minf_fault : ChildBox → Option Cause

@@ -14,7 +14,8 @@ use Rattle.mp4_table.specs.declared.stsc.StscBox.{StscBox}
 use Rattle.mp4_table.specs.declared.stsz.StszBox.{StszBox}
 use Rattle.mp4_table.specs.declared.stco.StcoBox.{StcoBox}
 use Rattle.mp4_table.specs.declared.co64.Co64Box.{Co64Box}
-use Rattle.mp4_entry.specs.Stsd.{stsd_of, stsd_early, stsd_payload, stsd_refusal, IsInRangeStsd, RemarksStsd, default_stsd}
+use Rattle.mp4_entry.specs.Stsd.{stsd_of, stsd_early, stsd_payload}
+use Rattle.mp4_entry.specs.Stsd.{stsd_refusal, IsInRangeStsd, RemarksStsd, default_stsd}
 use Rattle.mp4_table.specs.Stts.{stts_of, stts_payload, IsInRangeStts, RemarksStts, default_stts}
 use Rattle.mp4_table.specs.Ctts.{ctts_of, ctts_payload, IsInRangeCtts, RemarksCtts}
 use Rattle.mp4_table.specs.Stss.{stss_of, stss_payload, IsInRangeStss, RemarksStss}

@@ -10,7 +10,8 @@ use Rattle.mp4_codec.specs.Children.{ChildBox, children, gathered, fault_in, las
 use Rattle.mp4_leaf.specs.Tkhd.{tkhd_of, tkhd_payload, tkhd_refusal, IsInRangeTkhd, RemarksTkhd, default_tkhd}
 use Rattle.mp4_boxes.specs.Edts.{edts_of, edts_early, edts_payload, edts_refusal, IsInRangeEdts, RemarksEdts}
 use Rattle.mp4_meta.specs.Meta.{meta_of, meta_early, meta_payload, IsInRangeMeta, RemarksMeta}
-use Rattle.mp4_boxes.specs.Mdia.{mdia_of, mdia_early, mdia_payload, mdia_refusal, IsInRangeMdia, RemarksMdia, default_mdia}
+use Rattle.mp4_boxes.specs.Mdia.{mdia_of, mdia_early, mdia_payload}
+use Rattle.mp4_boxes.specs.Mdia.{mdia_refusal, IsInRangeMdia, RemarksMdia, default_mdia}
 use Rattle.mp4_boxes.specs.declared.trak.TrakBox.{TrakBox}
 use Rattle.mp4_boxes.specs.declared.trak.TrakParts.{TrakParts}
 
