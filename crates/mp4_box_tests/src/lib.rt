@@ -6,6 +6,8 @@
 #[cfg(test)]
 mod asserts;
 #[cfg(test)]
+mod equality;
+#[cfg(test)]
 mod large_tables;
 #[cfg(test)]
 mod laws;
