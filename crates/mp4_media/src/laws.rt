@@ -1,4 +1,4 @@
-//! What follows for movies that were written and opened again. Each function here does nothing; its contract is a law.
+//! Laws: what follows from the definitions alone. Each function here does nothing; its contract is a law.
 
 ghost use Rattle.std.specs.Prelude.{◌≡◌, ◌<◌, ◌+◌, ◌^◌, ℕ, List, [], Ok, Result, Some, length};
 ghost use Rattle.mp4_codec.specs.declared.error.Error.{Error};
@@ -8,6 +8,25 @@ ghost use Rattle.mp4_mux.specs.Writing.{AcceptedTrack, whole_of};
 ghost use Rattle.mp4_media.specs.Finished.{Opens};
 ghost use Rattle.mp4_media.specs.declared.reader.Mp4Reader.{Mp4Reader};
 ghost use Rattle.mp4_media.specs.RoundTrip.{HasExactly, IsOpening, OpensAs, sample_read, samples_counted};
+
+pub use mp4_boxes::read_tables_have_first_samples;
+pub use mp4_codec::{
+    code_again, frame_has_its_head, header_says_its_box, insertion_changes_one_key,
+    payload_has_its_children, refused_head_says_why, what_is_written_reads_back,
+};
+pub use mp4_entry::{
+    configurations_are_written, numbers_have_one_value, values_have_their_numbers,
+};
+pub use mp4_lookup::rule_is_plain_expansion;
+pub use mp4_meta::equal_keys_hash_alike;
+pub use mp4_mux::{
+    an_end_closes_one_chunk_a_track, an_end_writes_the_accepted_samples,
+    calls_accept_their_samples, chunks_are_just_full, described_samples_are_found,
+    interleavings_accept_the_same,
+};
+pub use mp4_table::{
+    entries_are_no_fewer_than_turns, entries_have_first_samples, runs_are_no_fewer_than_turns,
+};
 
 /// The bytes of a writer that was begun in an empty buffer, and whose end was Ok, open as a movie that has exactly the
 /// tracks and samples that its calls accepted, or memory runs out.

@@ -11,9 +11,9 @@ ghost use Rattle.mp4_script.specs.Script.{called, calls_in, standard_config, sta
 
 use crate::commands::{call_of, command_in};
 use crate::lines::Lines;
-use mp4_media::{
-    Error, FourCC, InRange, Items, Mp4Config, Mp4Writer, WriterCall, written_movies_are_read_back,
-};
+use mp4_media::framing::InRange;
+use mp4_media::laws::written_movies_are_read_back;
+use mp4_media::{Error, FourCC, Items, Mp4Config, Mp4Writer, WriterCall};
 use std::alloc::Global;
 use thiserror::Error as ThisError;
 
