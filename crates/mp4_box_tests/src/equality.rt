@@ -71,11 +71,16 @@ fn headers_that_differ_in_a_field_are_unequal(rt: HostRuntime) {
         7,
         tells::<SmhdBox>(alloc, b"\0\0\0\x10smhd\0\0\0\0\0\0\0\0", 13),
     );
-    check(&rt, 8, tells::<ElstBox>(alloc, &FULL_MOVIE[224..252], 27));
-    check(&rt, 9, tells::<UrlBox>(alloc, &FULL_MOVIE[413..425], 11));
-    check(&rt, 10, tells::<DrefBox>(alloc, &FULL_MOVIE[397..425], 27));
-    check(&rt, 11, tells::<DinfBox>(alloc, &FULL_MOVIE[389..425], 35));
-    check(&rt, 12, tells::<DataBox>(alloc, &FULL_MOVIE[808..826], 17));
+}
+
+#[test]
+fn leaves_that_differ_in_a_field_are_unequal(rt: HostRuntime) {
+    let alloc = rt.alloc();
+    check(&rt, 1, tells::<ElstBox>(alloc, &FULL_MOVIE[224..252], 27));
+    check(&rt, 2, tells::<UrlBox>(alloc, &FULL_MOVIE[413..425], 11));
+    check(&rt, 3, tells::<DrefBox>(alloc, &FULL_MOVIE[397..425], 27));
+    check(&rt, 4, tells::<DinfBox>(alloc, &FULL_MOVIE[389..425], 35));
+    check(&rt, 5, tells::<DataBox>(alloc, &FULL_MOVIE[808..826], 17));
 }
 
 #[test]
@@ -85,10 +90,15 @@ fn tables_that_differ_in_a_field_are_unequal(rt: HostRuntime) {
     check(&rt, 2, tells::<StssBox>(alloc, &FULL_MOVIE[519..547], 27));
     check(&rt, 3, tells::<StscBox>(alloc, &FULL_MOVIE[547..587], 27));
     check(&rt, 4, tells::<StszBox>(alloc, &FULL_MOVIE[587..619], 31));
-    check(&rt, 5, tells::<StcoBox>(alloc, &FULL_MOVIE[619..643], 23));
+}
+
+#[test]
+fn tables_of_places_that_differ_are_unequal(rt: HostRuntime) {
+    let alloc = rt.alloc();
+    check(&rt, 1, tells::<StcoBox>(alloc, &FULL_MOVIE[619..643], 23));
     check(
         &rt,
-        6,
+        2,
         tells::<Co64Box>(
             alloc,
             b"\0\0\0\x18co64\0\0\0\0\0\0\0\x01\0\0\0\0\0\0\0\x30",
@@ -97,15 +107,15 @@ fn tables_that_differ_in_a_field_are_unequal(rt: HostRuntime) {
     );
     check(
         &rt,
-        7,
+        3,
         tells::<CttsBox>(
             alloc,
             b"\0\0\0\x18ctts\0\0\0\0\0\0\0\x01\0\0\0\x03\xff\xff\xff\x9c",
             20,
         ),
     );
-    check(&rt, 8, tells::<StsdBox>(alloc, &FULL_MOVIE[433..495], 61));
-    check(&rt, 9, tells::<Tx3gBox>(alloc, &FULL_MOVIE[449..495], 45));
+    check(&rt, 4, tells::<StsdBox>(alloc, &FULL_MOVIE[433..495], 61));
+    check(&rt, 5, tells::<Tx3gBox>(alloc, &FULL_MOVIE[449..495], 45));
 }
 
 #[test]
@@ -117,30 +127,45 @@ fn fragments_that_differ_in_a_field_are_unequal(rt: HostRuntime) {
     check(&rt, 4, tells::<TrunBox>(alloc, &FRAGMENT[64..88], 23));
     check(&rt, 5, tells::<TrafBox>(alloc, &FRAGMENT[24..88], 63));
     check(&rt, 6, tells::<MoofBox>(alloc, &FRAGMENT, 151));
-    check(&rt, 7, tells::<TrexBox>(alloc, &FULL_MOVIE[651..683], 31));
-    check(&rt, 8, tells::<MvexBox>(alloc, &FULL_MOVIE[643..683], 39));
-    check(
-        &rt,
-        9,
-        tells::<MehdBox>(alloc, b"\0\0\0\x10mehd\0\0\0\0\0\0\0\x05", 15),
-    );
-    let emsg = b"\0\0\0\x23emsg\0\0\0\0a\0bc\0\0\0\0\x01\0\0\0\x02\0\0\0\x03\0\0\0\x04de";
-    check(&rt, 10, tells::<EmsgBox>(alloc, emsg, 34));
 }
 
 #[test]
-fn containers_that_differ_in_a_field_are_unequal(rt: HostRuntime) {
+fn boxes_of_fragmented_movies_that_differ_are_unequal(rt: HostRuntime) {
+    let alloc = rt.alloc();
+    check(&rt, 1, tells::<TrexBox>(alloc, &FULL_MOVIE[651..683], 31));
+    check(&rt, 2, tells::<MvexBox>(alloc, &FULL_MOVIE[643..683], 39));
+    check(
+        &rt,
+        3,
+        tells::<MehdBox>(alloc, b"\0\0\0\x10mehd\0\0\0\0\0\0\0\x05", 15),
+    );
+    let emsg = b"\0\0\0\x23emsg\0\0\0\0a\0bc\0\0\0\0\x01\0\0\0\x02\0\0\0\x03\0\0\0\x04de";
+    check(&rt, 4, tells::<EmsgBox>(alloc, emsg, 34));
+}
+
+#[test]
+fn movies_that_differ_in_a_field_are_unequal(rt: HostRuntime) {
     let alloc = rt.alloc();
     check(&rt, 1, tells::<MoovBox>(alloc, &FULL_MOVIE, 642));
     check(&rt, 2, tells::<TrakBox>(alloc, &FULL_MOVIE[116..643], 526));
-    check(&rt, 3, tells::<MdiaBox>(alloc, &FULL_MOVIE[308..643], 334));
-    check(&rt, 4, tells::<MinfBox>(alloc, &FULL_MOVIE[381..643], 261));
-    check(&rt, 5, tells::<StblBox>(alloc, &FULL_MOVIE[425..643], 217));
-    check(&rt, 6, tells::<EdtsBox>(alloc, &FULL_MOVIE[216..252], 35));
-    check(&rt, 7, tells::<MetaBox>(alloc, &FULL_MOVIE[683..739], 55));
-    check(&rt, 8, tells::<MetaBox>(alloc, &FULL_MOVIE[747..855], 107));
-    check(&rt, 9, tells::<IlstBox>(alloc, &FULL_MOVIE[792..855], 62));
-    check(&rt, 10, tells::<UdtaBox>(alloc, &FULL_MOVIE[739..855], 115));
+}
+
+#[test]
+fn media_that_differ_in_a_field_are_unequal(rt: HostRuntime) {
+    let alloc = rt.alloc();
+    check(&rt, 1, tells::<MdiaBox>(alloc, &FULL_MOVIE[308..643], 334));
+    check(&rt, 2, tells::<MinfBox>(alloc, &FULL_MOVIE[381..643], 261));
+    check(&rt, 3, tells::<StblBox>(alloc, &FULL_MOVIE[425..643], 217));
+}
+
+#[test]
+fn metadata_that_differs_is_unequal(rt: HostRuntime) {
+    let alloc = rt.alloc();
+    check(&rt, 1, tells::<EdtsBox>(alloc, &FULL_MOVIE[216..252], 35));
+    check(&rt, 2, tells::<MetaBox>(alloc, &FULL_MOVIE[683..739], 55));
+    check(&rt, 3, tells::<MetaBox>(alloc, &FULL_MOVIE[747..855], 107));
+    check(&rt, 4, tells::<IlstBox>(alloc, &FULL_MOVIE[792..855], 62));
+    check(&rt, 5, tells::<UdtaBox>(alloc, &FULL_MOVIE[739..855], 115));
 }
 
 /// Whether entries of AVC whose configurations differ are unequal.
@@ -211,43 +236,73 @@ fn numbers_and_names_that_differ_are_unequal(rt: HostRuntime) {
     differ(&rt, 12, one, other);
 }
 
-/// Whether lists, texts and maps that differ in one value are unequal.
-fn lists_differ(alloc: Global) -> Result<bool> {
+/// A list of one byte.
+fn list(alloc: Global, byte: u8) -> Result<Items<u8>> {
     let mut list = Items::with_capacity(alloc, 1)?;
-    list.push(1u64)?;
-    let mut map = KeyedItems::new(alloc);
-    map.insert(MetadataKey::Title, 1u8)?;
-    let lists = are_apart(&Items::new(alloc), &list);
-    let maps = are_apart(&KeyedItems::new(alloc), &map);
-    let texts = are_apart(&Text::from_str(alloc, "a")?, &Text::from_str(alloc, "b")?);
-    Ok(lists && maps && texts)
+    list.push(byte)?;
+    Ok(list)
 }
 
-/// Whether configurations that differ in a parameter set are unequal, alone and as those of a medium, and so are the
-/// parameter sets.
-fn parameter_sets_differ(alloc: Global) -> Result<bool> {
-    let one = AvcConfig {
+/// A map of one title.
+fn map(alloc: Global, title: u8) -> Result<KeyedItems<MetadataKey, u8>> {
+    let mut map = KeyedItems::new(alloc);
+    map.insert(MetadataKey::Title, title)?;
+    Ok(map)
+}
+
+/// Whether lists that differ in a byte or their length are unequal.
+fn lists_differ(alloc: Global) -> Result<bool> {
+    let one = list(alloc, 1)?;
+    Ok(are_apart(&one, &list(alloc, 2)?) && are_apart(&one, &Items::new(alloc)))
+}
+
+/// Whether maps that differ in a value are unequal.
+fn maps_differ(alloc: Global) -> Result<bool> {
+    Ok(are_apart(&map(alloc, 1)?, &map(alloc, 2)?))
+}
+
+/// Whether texts that differ in a letter are unequal.
+fn texts_differ(alloc: Global) -> Result<bool> {
+    Ok(are_apart(&Text::from_str(alloc, "a")?, &Text::from_str(alloc, "b")?))
+}
+
+/// A configuration of AVC whose picture parameter set is a byte.
+fn avc(alloc: Global, byte: u8) -> Result<AvcConfig> {
+    Ok(AvcConfig {
         width: 1,
         height: 2,
         seq_param_set: Items::new(alloc),
-        pic_param_set: Items::new(alloc),
-    };
-    let mut other = one.try_clone()?;
-    other.pic_param_set.push(3)?;
-    let first = NalUnit {
-        bytes: one.pic_param_set.try_clone()?,
-    };
-    let second = NalUnit {
-        bytes: other.pic_param_set.try_clone()?,
-    };
-    let parts = are_apart(&one, &other) && are_apart(&first, &second);
-    let (one, other) = (MediaConfig::AvcConfig(one), MediaConfig::AvcConfig(other));
-    Ok(parts && are_apart(&one, &other))
+        pic_param_set: list(alloc, byte)?,
+    })
+}
+
+/// A parameter set of a byte.
+fn unit(alloc: Global, byte: u8) -> Result<NalUnit> {
+    Ok(NalUnit {
+        bytes: list(alloc, byte)?,
+    })
+}
+
+/// Whether configurations of AVC that differ in a parameter set are unequal.
+fn avc_configurations_differ(alloc: Global) -> Result<bool> {
+    Ok(are_apart(&avc(alloc, 1)?, &avc(alloc, 2)?))
+}
+
+/// Whether parameter sets that differ in a byte are unequal.
+fn parameter_sets_differ(alloc: Global) -> Result<bool> {
+    Ok(are_apart(&unit(alloc, 1)?, &unit(alloc, 2)?))
 }
 
 #[test]
 fn lists_that_differ_are_unequal(rt: HostRuntime) {
     check(&rt, 1, lists_differ(rt.alloc()));
+    check(&rt, 2, maps_differ(rt.alloc()));
+    check(&rt, 3, texts_differ(rt.alloc()));
+}
+
+#[test]
+fn parameter_sets_that_differ_are_unequal(rt: HostRuntime) {
+    check(&rt, 1, avc_configurations_differ(rt.alloc()));
     check(&rt, 2, parameter_sets_differ(rt.alloc()));
 }
 
@@ -317,20 +372,22 @@ fn parts_of_boxes_that_differ_are_unequal(rt: HostRuntime) {
     );
 }
 
-/// A configuration of HEVC of a width and a height.
-fn hevc(size: (u16, u16)) -> HevcConfig {
-    HevcConfig {
-        width: size.0,
-        height: size.1,
-    }
+/// A configuration of HEVC of a width.
+fn hevc(width: u16) -> HevcConfig {
+    HevcConfig { width, height: 2 }
 }
 
-/// A configuration of VP9 of a width and a height.
-fn vp9(size: (u16, u16)) -> Vp9Config {
-    Vp9Config {
-        width: size.0,
-        height: size.1,
-    }
+/// A configuration of VP9 of a width.
+fn vp9(width: u16) -> Vp9Config {
+    Vp9Config { width, height: 2 }
+}
+
+/// Whether kinds of audio objects that differ are unequal.
+fn audio_object_types_differ() -> Result<bool> {
+    Ok(are_apart(
+        &AudioObjectType::try_from(2)?,
+        &AudioObjectType::try_from(5)?,
+    ))
 }
 
 #[test]
@@ -342,13 +399,11 @@ fn configurations_that_differ_are_unequal(rt: HostRuntime) {
     let (one, other) = (SampleFreqIndex::Freq48000, SampleFreqIndex::Freq44100);
     differ(&rt, 5, one, other);
     differ(&rt, 6, MetadataKey::Title, MetadataKey::Year);
-    let (one, other) = (AudioObjectType::try_from(2), AudioObjectType::try_from(5));
-    if let (Ok(one), Ok(other)) = (one, other) {
-        differ(&rt, 7, one, other);
-    }
-    let (one, other) = ((1, 2), (2, 2));
-    differ(&rt, 8, hevc(one), hevc(other));
-    differ(&rt, 9, vp9(one), vp9(other));
+    check(&rt, 7, audio_object_types_differ());
+    differ(&rt, 8, hevc(1), hevc(2));
+    differ(&rt, 9, vp9(1), vp9(2));
+    let one = MediaConfig::HevcConfig(hevc(1));
+    differ(&rt, 10, one, MediaConfig::HevcConfig(hevc(2)));
 }
 
 #[test]

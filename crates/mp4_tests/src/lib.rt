@@ -8,6 +8,8 @@ mod asked;
 #[cfg(test)]
 mod asserts;
 #[cfg(test)]
+mod equality;
+#[cfg(test)]
 mod large_sample;
 #[cfg(test)]
 mod long_lists;
