@@ -1,6 +1,7 @@
 //! Where a sample lies: its entry of stsc, its chunk, and the sizes before it in the chunk (ISO/IEC 14496-12,
 //! 8.7.3 to 8.7.5).
 
+ghost use Rattle.mp4_codec.specs.ExactTest.{by_test, field_tests};
 ghost use Rattle.std.specs.Prelude.{◌≡◌, ℕ, ◌+◌, ◌-◌, ◌<◌, ◌≤◌, map, length, sum, slice_get, slice_range, option_map, IfOk, IfSome, OnOk};
 ghost use Rattle.mp4_codec.specs.Cause.{Gives};
 ghost use Rattle.mp4_table.specs.Stsc.{HasFirstSamples};
@@ -13,7 +14,7 @@ ghost use Rattle.mp4_lookup.specs.Rule.{entry_for, chunk_for, within_64_bits, sp
 
 use crate::index::TrackIndex;
 use mp4_boxes::StblBox;
-use mp4_codec::{Error, Result};
+use mp4_codec::{Error, ExactEq, Result};
 use mp4_search::{RunningSizes, SearchedNumbers, last_at_most};
 use mp4_table::{StscEntry, StszBox};
 
@@ -24,6 +25,10 @@ pub struct Spot {
     pub size: u32,
     pub comparisons: u32,
     pub size_reads: u32,
+}
+
+impl ExactEq for Spot {
+    ghost exact = { by_test (Prim.hlevel field_tests) };
 }
 
 /// The last entry whose first sample is at most `k`, and how many comparisons found it.
