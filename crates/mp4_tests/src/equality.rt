@@ -50,7 +50,10 @@ fn tracks_differ(alloc: Global) -> Result<bool> {
 fn samples_differ(alloc: Global) -> Result<bool> {
     let (one, other) = (sample(alloc, b"abc")?, sample(alloc, b"abd")?);
     let samples = are_apart(&one, &other);
-    let (one, other) = (WriterCall::WriteSample(1, one), WriterCall::WriteSample(1, other));
+    let (one, other) = (
+        WriterCall::WriteSample(1, one),
+        WriterCall::WriteSample(1, other),
+    );
     Ok(samples && are_apart(&one, &other))
 }
 
