@@ -13,7 +13,7 @@ else_then f (inr b) = inr (f b)
 
 pub returns-in_err-unit : goal.returns-in_err-unit
 returns-in_err-unit c =
-    let p = err_from_is_err_and c.from_residual.result c.from_residual.ensures.1 in
+    let p = err_from_is_err_and c.from_residual-in_err-unit.result c.from_residual-in_err-unit.ensures.1 in
     let total = list_at unit_at c.args.count c.args.fields.now in
     rw (p.1, p.2) (else_then (λ refused. ends unit_at (cause_of c.in_err-unit.field-0.0) c.loop.units c.args.count
     c.loop.counter c.loop.fields total c.loop-test.true refused c.loop.invariant) c.in_err-unit.ensures)
