@@ -1,0 +1,151 @@
+//! Files of movie fragments.
+
+use crate::files::{put_file_type, put_movie_header, put_track};
+use crate::parts::{Names, Parts, SOUND, VIDEO};
+use crate::seek::{PICTURE, SEQUENCE};
+use crate::tables::Lists;
+use mp4_plain_movies::calls::Media;
+use mp4_plain_movies::listed_calls::{SMALL, STEREO};
+use mp4_plain_movies::plain_bytes::{begin_box, end_box, put, put_pair};
+use mp4_plain_movies::random::Random;
+use std::alloc::{AllocError, Global};
+
+/// What the fragments of a file are like.
+#[derive(Clone, Copy)]
+pub struct Shape {
+    /// How many there are.
+    pub fragments: u32,
+    /// The fewest samples of a track in each, and how many more it may have, at least 1.
+    pub fewest: u32,
+    pub more: u32,
+    /// Whether durations, sample flags and composition offsets are listed beside the sizes.
+    pub lists_all: bool,
+}
+
+/// The movie box of a file of fragments: two tracks without samples, and their defaults.
+fn put_movie(alloc: Global, bytes: &mut Vec<u8>, parts: &Parts) -> Result<(), AllocError> {
+    let movie = begin_box(bytes, b"moov")?;
+    put_movie_header(bytes)?;
+    let none = Lists::new(alloc);
+    let media = Media::Avc(SMALL, &SEQUENCE, &PICTURE);
+    let names = Names {
+        id: 1,
+        handler: VIDEO,
+        timescale: 1000,
+        duration: 0,
+    };
+    put_track(bytes, parts, &names, &media, &none)?;
+    let names = Names {
+        id: 2,
+        handler: SOUND,
+        timescale: 48000,
+        duration: 0,
+    };
+    put_track(bytes, parts, &names, &Media::Aac(STEREO), &none)?;
+    let extends = begin_box(bytes, b"mvex")?;
+    for id in 1..=2 {
+        bytes.extend_from_slice(b"\0\0\0\x20trex\0\0\0\0")?;
+        put_pair(bytes, id, 1)?;
+        put_pair(bytes, 40, 16)?;
+        put(bytes, 0x10000)?;
+    }
+    end_box(bytes, extends);
+    end_box(bytes, movie);
+    Ok(())
+}
+
+/// A run of so many samples; the answer is how many bytes they have.
+fn put_run(
+    bytes: &mut Vec<u8>,
+    random: &mut Random,
+    count: u32,
+    offset: u32,
+    lists_all: bool,
+) -> Result<u32, AllocError> {
+    let start = begin_box(bytes, b"trun")?;
+    put_pair(bytes, if lists_all { 0xf01 } else { 0x205 }, count)?;
+    put(bytes, offset)?;
+    if !lists_all {
+        put(bytes, 0x2000000)?;
+    }
+    let mut sum = 0u32;
+    for _ in 0..count {
+        let size = random.below(24);
+        sum = sum.wrapping_add(size);
+        if lists_all {
+            put_pair(bytes, random.below(80), size)?;
+            put_pair(
+                bytes,
+                random.below(2).wrapping_mul(0x10000),
+                random.below(160),
+            )?;
+        } else {
+            put(bytes, size)?;
+        }
+    }
+    end_box(bytes, start);
+    Ok(sum)
+}
+
+/// A track's part of a fragment, whose first sample is decoded then.
+fn put_part(
+    bytes: &mut Vec<u8>,
+    random: &mut Random,
+    id: u32,
+    time: u64,
+    count: u32,
+    offset: u32,
+    lists_all: bool,
+) -> Result<u32, AllocError> {
+    let start = begin_box(bytes, b"traf")?;
+    bytes.extend_from_slice(b"\0\0\0\x10tfhd\0\x02\0\0")?;
+    put(bytes, id)?;
+    bytes.extend_from_slice(b"\0\0\0\x14tfdt\x01\0\0\0")?;
+    bytes.extend_from_slice(&time.to_be_bytes())?;
+    let sum = put_run(bytes, random, count, offset, lists_all)?;
+    end_box(bytes, start);
+    Ok(sum)
+}
+
+/// A fragment, and its data.
+fn put_fragment(
+    bytes: &mut Vec<u8>,
+    random: &mut Random,
+    pattern: &[u8],
+    number: u32,
+    shape: &Shape,
+) -> Result<(), AllocError> {
+    let time = u64::from(number).wrapping_mul(4000);
+    let start = begin_box(bytes, b"moof")?;
+    bytes.extend_from_slice(b"\0\0\0\x10mfhd\0\0\0\0")?;
+    put(bytes, number)?;
+    let count = shape.fewest.wrapping_add(random.below(shape.more));
+    let first = put_part(bytes, random, 1, time, count, 1000, shape.lists_all)?;
+    let count = shape.fewest.wrapping_add(random.below(shape.more));
+    let second = put_part(bytes, random, 2, time, count, 2000, shape.lists_all)?;
+    end_box(bytes, start);
+    let data = begin_box(bytes, b"mdat")?;
+    let length = first.wrapping_add(second) as usize;
+    bytes.extend_from_slice(pattern.get(..length).unwrap_or(pattern))?;
+    end_box(bytes, data);
+    Ok(())
+}
+
+/// A file of fragments of this shape.
+pub fn fragmented_file(
+    alloc: Global,
+    random: &mut Random,
+    parts: &Parts,
+    pattern: &[u8],
+    shape: &Shape,
+) -> Result<Vec<u8>, AllocError> {
+    let mut bytes = Vec::new(alloc);
+    put_file_type(&mut bytes)?;
+    put_movie(alloc, &mut bytes, parts)?;
+    for number in 1..=shape.fragments {
+        put_fragment(&mut bytes, random, pattern, number, shape)?;
+    }
+    bytes.extend_from_slice(b"\0\x01\0\x08free")?;
+    bytes.extend_from_slice(pattern)?;
+    Ok(bytes)
+}

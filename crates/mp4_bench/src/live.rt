@@ -1,0 +1,59 @@
+//! A player of live streams or a packager: files of movie fragments are opened, and their samples read in order and at
+//! random.
+
+use crate::digest::Digest;
+use crate::files::pattern;
+use crate::fragments::{Shape, fragmented_file};
+use crate::parts::Parts;
+use crate::seek::{add_at_random, add_in_order};
+use mp4_media::{Result, read_mp4};
+use mp4_plain_movies::random::Random;
+use std::alloc::Global;
+
+const TRACKS: u32 = 2;
+
+/// Files for each thousandth of the job that is done: fragments of some seconds, of one sample a track, and few fragments
+/// of many samples.
+fn shapes(parts: u32) -> [Shape; 3] {
+    [
+        Shape {
+            fragments: parts.wrapping_mul(15),
+            fewest: 50,
+            more: 50,
+            lists_all: false,
+        },
+        Shape {
+            fragments: parts.wrapping_mul(75),
+            fewest: 1,
+            more: 1,
+            lists_all: false,
+        },
+        Shape {
+            fragments: 3,
+            fewest: parts.wrapping_mul(90),
+            more: 100,
+            lists_all: true,
+        },
+    ]
+}
+
+/// Opens a file of fragments, and adds its samples: those of the first track in order, those of the second at random.
+fn add_file(alloc: Global, file: &[u8], seed: u32, digest: &mut Digest) -> Result<()> {
+    let movie = read_mp4(alloc, file)?;
+    digest.add(movie.size());
+    digest.add(u64::from(movie.sample_count(1)?));
+    add_in_order(&movie, 1, digest)?;
+    add_at_random(&movie, TRACKS, seed, digest)
+}
+
+/// Reads files of fragments.
+pub fn live(alloc: Global, seed: u32, parts: u32, digest: &mut Digest) -> Result<()> {
+    let mut random = Random::new(u64::from(seed));
+    let boxes = Parts::new(alloc)?;
+    let pattern = pattern(alloc, &mut random)?;
+    for shape in shapes(parts) {
+        let file = fragmented_file(alloc, &mut random, &boxes, &pattern, &shape)?;
+        add_file(alloc, &file, random.next(), digest)?;
+    }
+    Ok(())
+}

@@ -1,0 +1,105 @@
+//! Whole jobs that users of the library wait for, on inputs of real shape that a seed settles. A run prints a digest of all
+//! that its job answers, and no times: docs/PERF.md says how they are measured.
+#![tactic(auto)]
+
+mod digest;
+mod files;
+mod fragments;
+mod list;
+mod live;
+mod parts;
+mod record;
+mod scan;
+mod script;
+mod seek;
+mod tables;
+
+use crate::digest::Digest;
+use mp4_media::{Error, Result};
+use mp4_script::decimal_in;
+use std::alloc::Global;
+use std::process::ExitCode;
+use std::{env, io};
+
+const USAGE: &[u8] =
+    b"usage: mp4_bench all | seek | list | scan | live | record | script [SEED [PARTS]]\n";
+
+/// How large a job is where nothing is said: the whole of it.
+const WHOLE: u32 = 1000;
+
+/// The arguments behind the program's name. Where one of them isn't UTF-8 the answer is an empty list, which is no job.
+fn arguments(rt: &HostRuntime) -> Result<Vec<String>> {
+    match env::args(rt) {
+        Ok(args) => Ok(args.skip(1).collect(rt.alloc())?),
+        Err(error) if error.kind() == io::ErrorKind::OutOfMemory => Err(Error::OutOfMemory),
+        Err(_) => Ok(Vec::new(rt.alloc())),
+    }
+}
+
+/// The number that an argument says, or another where there is none.
+fn number_in(arguments: &[String], index: usize, otherwise: u32) -> u32 {
+    match arguments.get(index) {
+        Some(digits) => decimal_in(digits.as_bytes()).unwrap_or(otherwise),
+        None => otherwise,
+    }
+}
+
+/// Does each of the jobs, as large as so many thousandths of it.
+fn run_all(alloc: Global, seed: u32, parts: u32, digest: &mut Digest) -> Result<()> {
+    seek::seek(alloc, seed, parts, digest)?;
+    list::list(alloc, seed, parts, digest)?;
+    scan::scan(alloc, seed, parts, digest)?;
+    live::live(alloc, seed, parts, digest)?;
+    record::record(alloc, seed, parts, digest)?;
+    script::script(alloc, seed, parts, digest)
+}
+
+/// Does the job of this name, as large as so many thousandths of it, and answers whether there is such a job.
+fn run_job(alloc: Global, name: &str, seed: u32, parts: u32, digest: &mut Digest) -> Result<bool> {
+    match name {
+        "all" => run_all(alloc, seed, parts, digest)?,
+        "seek" => seek::seek(alloc, seed, parts, digest)?,
+        "list" => list::list(alloc, seed, parts, digest)?,
+        "scan" => scan::scan(alloc, seed, parts, digest)?,
+        "live" => live::live(alloc, seed, parts, digest)?,
+        "record" => record::record(alloc, seed, parts, digest)?,
+        "script" => script::script(alloc, seed, parts, digest)?,
+        _ => return Ok(false),
+    }
+    Ok(true)
+}
+
+/// Does the job that the arguments say: its name, its seed, and how many thousandths of it are done.
+fn run(rt: &HostRuntime, digest: &mut Digest) -> Result<bool> {
+    let arguments = arguments(rt)?;
+    let seed = number_in(&arguments, 1, 1);
+    let parts = number_in(&arguments, 2, WHOLE);
+    match arguments.get(0) {
+        Some(name) => run_job(rt.alloc(), name.as_str(), seed, parts, digest),
+        None => Ok(false),
+    }
+}
+
+/// Prints the digest of a job that was done.
+fn print_digest(rt: &HostRuntime, digest: &Digest) -> io::Result<()> {
+    let value = digest.value();
+    println!(rt; "{value:016x}")
+}
+
+fn main(rt: HostRuntime) -> ExitCode {
+    let mut digest = Digest::new();
+    match run(&rt, &mut digest) {
+        Ok(true) => match print_digest(&rt, &digest) {
+            Ok(()) => ExitCode::SUCCESS,
+            Err(_) => ExitCode::FAILURE,
+        },
+        Ok(false) => {
+            let _ = rt.stderr().write_all(USAGE);
+            ExitCode::FAILURE
+        }
+        Err(_) => {
+            let _ = rt.stderr().write_all(b"mp4_bench: a job was refused\n");
+            ExitCode::FAILURE
+        }
+    }
+}

@@ -1,0 +1,85 @@
+//! The boxes of a track that are the same in each file but for a number or two.
+
+use mp4_plain_movies::nested::{DINF, HDLR, MDHD, TKHD};
+use mp4_plain_movies::plain_bytes::put_over;
+use mp4_plain_movies::spelled::hex;
+use std::alloc::{AllocError, Global};
+
+/// Where the id stands in a track header.
+const ID_IN_TKHD: usize = 20;
+
+/// Where the timescale stands in a media header.
+const TIMESCALE_IN_MDHD: usize = 20;
+
+/// Where the duration stands in a media header.
+const DURATION_IN_MDHD: usize = 24;
+
+/// Where the handler stands in its box.
+const HANDLER_IN_HDLR: usize = 16;
+
+/// The boxes of a track that each file has.
+#[derive(Drop)]
+pub struct Parts {
+    tkhd: Vec<u8>,
+    mdhd: Vec<u8>,
+    hdlr: Vec<u8>,
+    dinf: Vec<u8>,
+}
+
+/// What a track is called by, and how its time is counted.
+#[derive(Clone, Copy)]
+pub struct Names {
+    pub id: u32,
+    /// The number of the four bytes of its handler.
+    pub handler: u32,
+    /// Ticks in a second.
+    pub timescale: u32,
+    /// In these ticks.
+    pub duration: u32,
+}
+
+/// The handler `vide`.
+pub const VIDEO: u32 = 0x7669_6465;
+
+/// The handler `soun`.
+pub const SOUND: u32 = 0x736f_756e;
+
+/// The handler `sbtl`.
+pub const TEXT: u32 = 0x7362_746c;
+
+impl Parts {
+    pub fn new(alloc: Global) -> Result<Self, AllocError> {
+        Ok(Parts {
+            tkhd: hex(alloc, TKHD)?,
+            mdhd: hex(alloc, MDHD)?,
+            hdlr: hex(alloc, HDLR)?,
+            dinf: hex(alloc, DINF)?,
+        })
+    }
+
+    pub fn put_track_header(&self, bytes: &mut Vec<u8>, names: &Names) -> Result<(), AllocError> {
+        let start = bytes.len();
+        bytes.extend_from_slice(&self.tkhd)?;
+        put_over(bytes, start.wrapping_add(ID_IN_TKHD), names.id);
+        Ok(())
+    }
+
+    pub fn put_media_headers(&self, bytes: &mut Vec<u8>, names: &Names) -> Result<(), AllocError> {
+        let start = bytes.len();
+        bytes.extend_from_slice(&self.mdhd)?;
+        put_over(
+            bytes,
+            start.wrapping_add(TIMESCALE_IN_MDHD),
+            names.timescale,
+        );
+        put_over(bytes, start.wrapping_add(DURATION_IN_MDHD), names.duration);
+        let start = bytes.len();
+        bytes.extend_from_slice(&self.hdlr)?;
+        put_over(bytes, start.wrapping_add(HANDLER_IN_HDLR), names.handler);
+        Ok(())
+    }
+
+    pub fn put_data_information(&self, bytes: &mut Vec<u8>) -> Result<(), AllocError> {
+        bytes.extend_from_slice(&self.dinf)
+    }
+}
