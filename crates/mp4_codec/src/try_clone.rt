@@ -15,8 +15,8 @@ pub trait TryClone: Sized + Drop {
     fn try_clone(&self) -> Result<Self>
         ensures { Answers (λ x. x) result (Ok self.now) };
 
-    /// A list of equal values. It is refused by `OutOfMemory` alone. Bytes are copied all at once, other values one
-    /// after the other.
+    /// A list of equal values. It is refused by `OutOfMemory` alone. Values that are copied by their bytes, as numbers
+    /// are, are copied all at once, others one after the other.
     fn try_clone_all(alloc: Global, values: &[Self]) -> Result<Items<Self>>
         ensures { Answers (λ x. x) result (Ok values.now) }
     {
@@ -36,7 +36,7 @@ impl TryClone for u8 {
     }
 
     fn try_clone_all(alloc: Global, values: &[u8]) -> Result<Items<u8>> {
-        Ok(Items::from(values.to_vec(alloc)?))
+        Ok(Items::from(Vec::from_slice(alloc, values)?))
     }
 }
 
@@ -46,6 +46,10 @@ impl TryClone for u16 {
     {
         Ok(*self)
     }
+
+    fn try_clone_all(alloc: Global, values: &[u16]) -> Result<Items<u16>> {
+        Ok(Items::from(Vec::from_slice(alloc, values)?))
+    }
 }
 
 impl TryClone for u32 {
@@ -53,6 +57,10 @@ impl TryClone for u32 {
         ensures { Gives (λ x. x) result (Ok self.now) }
     {
         Ok(*self)
+    }
+
+    fn try_clone_all(alloc: Global, values: &[u32]) -> Result<Items<u32>> {
+        Ok(Items::from(Vec::from_slice(alloc, values)?))
     }
 }
 
@@ -62,6 +70,10 @@ impl TryClone for u64 {
     {
         Ok(*self)
     }
+
+    fn try_clone_all(alloc: Global, values: &[u64]) -> Result<Items<u64>> {
+        Ok(Items::from(Vec::from_slice(alloc, values)?))
+    }
 }
 
 impl TryClone for FourCC {
@@ -70,6 +82,10 @@ impl TryClone for FourCC {
     {
         Ok(*self)
     }
+
+    fn try_clone_all(alloc: Global, values: &[FourCC]) -> Result<Items<FourCC>> {
+        Ok(Items::from(Vec::from_slice(alloc, values)?))
+    }
 }
 
 impl TryClone for BoxType {
@@ -77,6 +93,10 @@ impl TryClone for BoxType {
         ensures { Gives (λ x. x) result (Ok self.now) }
     {
         Ok(*self)
+    }
+
+    fn try_clone_all(alloc: Global, values: &[BoxType]) -> Result<Items<BoxType>> {
+        Ok(Items::from(Vec::from_slice(alloc, values)?))
     }
 }
 

@@ -54,6 +54,10 @@ impl TryClone for ElstEntry {
     {
         Ok(*self)
     }
+
+    fn try_clone_all(alloc: Global, values: &[Self]) -> Result<Items<Self>> {
+        Ok(Items::from(Vec::from_slice(alloc, values)?))
+    }
 }
 
 impl InRange for ElstEntry {

@@ -38,6 +38,10 @@ impl TryClone for CttsEntry {
     {
         Ok(*self)
     }
+
+    fn try_clone_all(alloc: Global, values: &[Self]) -> Result<Items<Self>> {
+        Ok(Items::from(Vec::from_slice(alloc, values)?))
+    }
 }
 
 impl InRange for CttsEntry {

@@ -43,6 +43,10 @@ impl TryClone for StscEntry {
     {
         Ok(*self)
     }
+
+    fn try_clone_all(alloc: Global, values: &[Self]) -> Result<Items<Self>> {
+        Ok(Items::from(Vec::from_slice(alloc, values)?))
+    }
 }
 
 impl InRange for StscEntry {
