@@ -3,6 +3,7 @@ pub mod BoxTypeLaws
 pub mod Cause
 pub mod Steps
 pub mod Bytes
+pub mod Blocks
 pub mod FieldLaws
 pub mod Cursor
 pub mod Boxes

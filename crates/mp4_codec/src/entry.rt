@@ -1,12 +1,13 @@
 //! The entries of a box's list.
 
-ghost use Rattle.std.specs.Prelude.{◌≡◌, ℕ, List, length, Result, Ok, OnOk, min, ◌^◌, ◌-◌, ◌<◌};
+ghost use Rattle.std.specs.Prelude.{◌≡◌, ℕ, List, length, Result, Ok, OnOk, min, ◌^◌, ◌-◌, ◌*◌, ◌<◌, ◌≤◌};
 ghost use Rattle.std.specs.List.{flat_map};
 ghost use Rattle.mp4_codec.specs.Cause.{Cause, Answers, Checks, Reads};
 ghost use Rattle.mp4_codec.specs.Early.{Shows, refused_at_once};
 ghost use Rattle.mp4_codec.specs.Bytes.{Appends, ◌⧺◌, Reader, list_at, count_cause, number_at, number, four_cc_at, four_cc, IsCode, HasLength};
 ghost use Rattle.mp4_codec.specs.FieldLaws.{number_again, length-number, number-has_length, four_cc_again, length-four_cc, four_cc-has_length};
 
+use crate::block::read_blocks;
 use crate::error::{Error, Field, Result};
 use crate::fields::Fields;
 use crate::four_cc::FourCC;
@@ -33,6 +34,24 @@ pub trait Entry: Copy {
     fn read(fields: &mut Fields, version: u8) -> Field<Self>
         ensures { Reads (λ x. (x, fields.new)) result (at version fields.old) };
 
+    /// The next entries, so many, where the bytes of all of them are there; the list grows once.
+    fn read_all(
+        alloc: Global,
+        fields: &mut Fields,
+        version: u8,
+        count: usize,
+    ) -> Result<Items<Self>>
+        requires { count * bytes_each version ≤ length fields.old }
+        ensures { Answers (λ xs. (xs, fields.new)) result (list_at (at version) count fields.old) }
+    {
+        let mut items = Vec::with_capacity(alloc, count)?;
+        for _ in 0..count {
+            let item = Self::read(fields, version)?;
+            items.push_reserved(item);
+        }
+        Ok(Items::from(items))
+    }
+
     /// Adds the entry at the end of a buffer.
     fn put(self, out: &mut Vec<u8>, version: u8) -> Put
         ensures { OnOk result (Appends out.old.items out.new.items (spelled version self)) };
@@ -56,18 +75,6 @@ impl<'a> Fields<'a> {
         Ok(())
     }
 
-    /// So many entries, in a list that grows once.
-    fn entries<T: Entry>(&mut self, alloc: Global, version: u8, count: usize) -> Result<Items<T>>
-        ensures { Answers (λ xs. (xs, self.new)) result (list_at (T.at version) count self.old) }
-    {
-        let mut items = Items::with_capacity(alloc, count)?;
-        for _ in 0..count {
-            let item = T::read(self, version)?;
-            items.push(item)?;
-        }
-        Ok(items)
-    }
-
     /// So many entries. Where they pass the end they are `InvalidData`, before memory is requested; else the list grows
     /// once.
     pub fn list<T: Entry>(&mut self, alloc: Global, version: u8, count: usize) -> Result<Items<T>>
@@ -75,7 +82,7 @@ impl<'a> Fields<'a> {
         ensures early { Shows (refused_at_once (list_at (T.at version) count self.old)) result }
     {
         self.check_count(count, T::size(version))?;
-        self.entries(alloc, version, count)
+        T::read_all(alloc, self, version, count)
     }
 }
 
@@ -119,6 +126,15 @@ impl Entry for u32 {
         fields.u32()
     }
 
+    fn read_all(
+        alloc: Global,
+        fields: &mut Fields,
+        _version: u8,
+        count: usize,
+    ) -> Result<Items<u32>> {
+        read_blocks(alloc, fields, count)
+    }
+
     fn put(self, out: &mut Vec<u8>, _version: u8) -> Put {
         put_u32(out, self)
     }
@@ -145,6 +161,15 @@ impl Entry for u64 {
 
     fn read(fields: &mut Fields, _version: u8) -> Field<u64> {
         fields.u64()
+    }
+
+    fn read_all(
+        alloc: Global,
+        fields: &mut Fields,
+        _version: u8,
+        count: usize,
+    ) -> Result<Items<u64>> {
+        read_blocks(alloc, fields, count)
     }
 
     fn put(self, out: &mut Vec<u8>, _version: u8) -> Put {

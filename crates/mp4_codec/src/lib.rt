@@ -2,6 +2,7 @@
 //! of a box, and what boxes are made with.
 #![tactic(auto)]
 
+mod block;
 mod box_type;
 mod boxes;
 mod check;
@@ -24,6 +25,7 @@ mod put;
 mod text;
 mod try_clone;
 
+pub use block::{Block, read_blocks};
 pub use box_type::{BoxType, code_again};
 pub use boxes::{Mp4Box, ReadBox, WriteBox};
 pub use check::{check_value, check_version};

@@ -7,12 +7,13 @@ ghost use Rattle.mp4_codec.specs.Boxes.{size_around, no_refusal};
 ghost use Rattle.mp4_codec.specs.declared.box_type.BoxType.TheVariants.{CttsBox as ctts};
 ghost use Rattle.mp4_table.specs.Ctts.{ctts_payload, default_ctts, ctts_entry_at, ctts_entry, IsInRangeCttsEntry, ctts_of, IsInRangeCtts, RemarksCtts};
 ghost use Rattle.mp4_table.specs.CttsLaws.{ctts_entry_again, length-ctts_entry, ctts_entry-has_length, ctts_again};
+ghost use Rattle.mp4_table.specs.EntryBlocks.{ctts_entry_in};
 ghost use Rattle.mp4_codec.specs.Early.{refused_at_once};
 
 use crate::table::{put_table, read_table, table_size};
 use mp4_codec::{
-    BoxType, DebugItem, Entry, ExactEq, Field, Fields, InRange, Items, Mp4Box, Put, ReadBox,
-    Result, TryClone, WriteBox, put_i32, put_u32,
+    Block, BoxType, DebugItem, Entry, ExactEq, Field, Fields, InRange, Items, Mp4Box, Put, ReadBox,
+    Result, TryClone, WriteBox, put_i32, put_u32, read_blocks,
 };
 use std::alloc::Global;
 
@@ -53,6 +54,21 @@ impl InRange for CttsEntry {
     }
 }
 
+impl Block for CttsEntry {
+    ghost SIZE = { 8 };
+
+    const SIZE: usize = 8;
+
+    ghost in_block = { ctts_entry_in };
+
+    fn from_block(block: &[u8]) -> Self {
+        CttsEntry {
+            sample_count: u32::from_block(&block[..4]),
+            sample_offset: i32::from_block(&block[4..]),
+        }
+    }
+}
+
 impl Entry for CttsEntry {
     ghost at = { λ _. ctts_entry_at };
 
@@ -80,6 +96,15 @@ impl Entry for CttsEntry {
             sample_count,
             sample_offset,
         })
+    }
+
+    fn read_all(
+        alloc: Global,
+        fields: &mut Fields,
+        _version: u8,
+        count: usize,
+    ) -> Result<Items<Self>> {
+        read_blocks(alloc, fields, count)
     }
 
     fn put(self, out: &mut Vec<u8>, _version: u8) -> Put {

@@ -7,12 +7,13 @@ ghost use Rattle.mp4_codec.specs.Boxes.{size_around, no_refusal};
 ghost use Rattle.mp4_codec.specs.declared.box_type.BoxType.TheVariants.{StscBox as stsc};
 ghost use Rattle.mp4_table.specs.Stsc.{stsc_payload, first_sample_after, numbered_after, runs_fault, default_stsc, stsc_entry_at, stsc_entry, FitsStoredEntry, stsc_of, IsInRangeStscEntry, IsInRangeStsc, RemarksStsc};
 ghost use Rattle.mp4_table.specs.StscLaws.{stsc_entry_again, length-stsc_entry, stsc_entry-has_length, stsc_again};
+ghost use Rattle.mp4_table.specs.EntryBlocks.{stsc_entry_in};
 ghost use Rattle.mp4_codec.specs.Early.{refused_at_once};
 
 use crate::table::{put_table, read_table, table_size};
 use mp4_codec::{
-    BoxType, DebugItem, Entry, Error, ExactEq, Field, Fields, InRange, Items, Mp4Box, Put, ReadBox,
-    Result, TryClone, WriteBox, put_u32,
+    Block, BoxType, DebugItem, Entry, Error, ExactEq, Field, Fields, InRange, Items, Mp4Box, Put,
+    ReadBox, Result, TryClone, WriteBox, put_u32, read_blocks,
 };
 use std::alloc::Global;
 
@@ -60,6 +61,23 @@ impl InRange for StscEntry {
     }
 }
 
+impl Block for StscEntry {
+    ghost SIZE = { 12 };
+
+    const SIZE: usize = 12;
+
+    ghost in_block = { stsc_entry_in };
+
+    fn from_block(block: &[u8]) -> Self {
+        StscEntry {
+            first_chunk: u32::from_block(&block[..4]),
+            samples_per_chunk: u32::from_block(&block[4..8]),
+            sample_description_index: u32::from_block(&block[8..]),
+            first_sample: 0,
+        }
+    }
+}
+
 impl Entry for StscEntry {
     ghost at = { λ _. stsc_entry_at };
 
@@ -90,6 +108,15 @@ impl Entry for StscEntry {
             sample_description_index,
             first_sample: 0,
         })
+    }
+
+    fn read_all(
+        alloc: Global,
+        fields: &mut Fields,
+        _version: u8,
+        count: usize,
+    ) -> Result<Items<Self>> {
+        read_blocks(alloc, fields, count)
     }
 
     fn put(self, out: &mut Vec<u8>, _version: u8) -> Put {

@@ -7,12 +7,13 @@ ghost use Rattle.mp4_codec.specs.Boxes.{size_around, no_refusal};
 ghost use Rattle.mp4_codec.specs.declared.box_type.BoxType.TheVariants.{SttsBox as stts};
 ghost use Rattle.mp4_table.specs.Stts.{stts_payload, default_stts, stts_entry_at, stts_entry, IsInRangeSttsEntry, stts_of, IsInRangeStts, RemarksStts};
 ghost use Rattle.mp4_table.specs.SttsLaws.{stts_entry_again, length-stts_entry, stts_entry-has_length, stts_again};
+ghost use Rattle.mp4_table.specs.EntryBlocks.{stts_entry_in};
 ghost use Rattle.mp4_codec.specs.Early.{refused_at_once};
 
 use crate::table::{put_table, read_table, table_size};
 use mp4_codec::{
-    BoxType, DebugItem, Entry, ExactEq, Field, Fields, InRange, Items, Mp4Box, Put, ReadBox,
-    Result, TryClone, WriteBox, put_u32,
+    Block, BoxType, DebugItem, Entry, ExactEq, Field, Fields, InRange, Items, Mp4Box, Put, ReadBox,
+    Result, TryClone, WriteBox, put_u32, read_blocks,
 };
 use std::alloc::Global;
 
@@ -52,6 +53,21 @@ impl InRange for SttsEntry {
     }
 }
 
+impl Block for SttsEntry {
+    ghost SIZE = { 8 };
+
+    const SIZE: usize = 8;
+
+    ghost in_block = { stts_entry_in };
+
+    fn from_block(block: &[u8]) -> Self {
+        SttsEntry {
+            sample_count: u32::from_block(&block[..4]),
+            sample_delta: u32::from_block(&block[4..]),
+        }
+    }
+}
+
 impl Entry for SttsEntry {
     ghost at = { λ _. stts_entry_at };
 
@@ -79,6 +95,15 @@ impl Entry for SttsEntry {
             sample_count,
             sample_delta,
         })
+    }
+
+    fn read_all(
+        alloc: Global,
+        fields: &mut Fields,
+        _version: u8,
+        count: usize,
+    ) -> Result<Items<Self>> {
+        read_blocks(alloc, fields, count)
     }
 
     fn put(self, out: &mut Vec<u8>, _version: u8) -> Put {
