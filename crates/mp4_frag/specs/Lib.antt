@@ -3,6 +3,7 @@ pub mod Optional
 pub mod OptionalLaws
 pub mod Rows
 pub mod RowLaws
+pub mod RowColumns
 pub mod Mfhd
 pub mod MfhdLaws
 pub mod Tfhd

@@ -1,15 +1,15 @@
 //! What a run says of its samples one by one: a row of numbers for each sample, kept as a column for each kind of
 //! number.
 
-ghost use Rattle.std.specs.Prelude.{◌≡◌, ◌≤◌, [], ◌++◌, OnOk, IfOk};
-ghost use Rattle.std.specs.Option.{option_to_list};
-ghost use Rattle.mp4_codec.specs.Cause.{Answers, Checks, Gives, Reads};
-ghost use Rattle.mp4_codec.specs.Bytes.{Appends, list_at, count_cause};
-ghost use Rattle.mp4_frag.specs.Rows.{row_at, row, field_length, row_length, with_row, no_columns, columns_after, columns_at, column_refusal};
+ghost use Rattle.std.specs.Prelude.{◌≡◌, ◌≤◌, ◌+◌, ◌*◌, length, OnOk, IfOk};
+ghost use Rattle.mp4_codec.specs.Cause.{Answers, Checks, Gives};
+ghost use Rattle.mp4_codec.specs.Bytes.{Appends, count_cause};
+ghost use Rattle.mp4_frag.specs.Rows.{row, field_length, row_length, no_columns, columns_at, column_refusal};
+ghost use Rattle.mp4_frag.specs.RowColumns.{numbers_at, column, columns_in};
 ghost use Rattle.mp4_codec.specs.Early.{Shows, refused_at_once};
 
-use crate::optional::{is_set, put_flagged, read_flagged};
-use mp4_codec::{Error, Field, Fields, Items, Put, Result};
+use crate::optional::{is_set, put_flagged};
+use mp4_codec::{Block, Error, Fields, Items, Put, Result};
 use std::alloc::{AllocError, Global};
 
 /// The flag of durations.
@@ -34,23 +34,6 @@ pub(crate) struct Row {
 }
 
 impl Row {
-    /// The next row.
-    #[tactic(auto, unfolding(crate::specs::Rows::row_at))]
-    fn read(fields: &mut Fields, flags: u32) -> Field<Row>
-        ensures { Reads (λ x. (x, fields.new)) result (row_at flags fields.old) }
-    {
-        let duration = read_flagged(fields, DURATIONS, flags)?;
-        let size = read_flagged(fields, SIZES, flags)?;
-        let sample_flags = read_flagged(fields, SAMPLE_FLAGS, flags)?;
-        let cts = read_flagged(fields, COMPOSITION_OFFSETS, flags)?;
-        Ok(Row {
-            duration,
-            size,
-            flags: sample_flags,
-            cts,
-        })
-    }
-
     /// Adds the numbers of the row that are there.
     pub(crate) fn put(self, out: &mut Vec<u8>) -> Put
         ensures { OnOk result (Appends out.old.items out.new.items (row self)) }
@@ -109,30 +92,48 @@ pub(crate) fn check_column(flag: u32, flags: u32, count: u32, column: &Items<u32
     Ok(())
 }
 
-/// An empty column, with room for so many numbers where its flag is set.
-fn empty_column(
+/// The numbers at a place of each of so many rows.
+fn numbers_at(
     alloc: Global,
+    rows: &[u8],
+    place: usize,
+    each: usize,
+    count: usize,
+) -> std::result::Result<Items<u32>, AllocError>
+    requires inside { place + 4 ≤ each }
+    requires enough { count * each ≤ length rows.now }
+    ensures { IfOk result (λ numbers. numbers ≡ numbers_at place each count rows.now) }
+{
+    let mut numbers = Vec::with_capacity(alloc, count)?;
+    let mut rest = rows;
+    for _ in 0..count {
+        let (row, after) = rest.split_at(each);
+        numbers.push_reserved(u32::from_block(&row[place..place + 4]));
+        rest = after;
+    }
+    Ok(Items::from(numbers))
+}
+
+/// A column of so many rows: their numbers at a place where its flag is set, else none.
+#[tactic(auto, unfolding(crate::specs::RowColumns::column))]
+fn column(
+    alloc: Global,
+    rows: &[u8],
     flag: u32,
     flags: u32,
-    count: u32,
+    place: usize,
+    each: usize,
+    count: usize,
 ) -> std::result::Result<Items<u32>, AllocError>
-    ensures { IfOk result (λ column. column ≡ []) }
+    requires inside { place + field_length flag flags ≤ each }
+    requires enough { count * each ≤ length rows.now }
+    ensures { IfOk result (λ numbers. numbers ≡ column flag flags place each count rows.now) }
 {
     if is_set(flags, flag) {
-        Items::with_capacity(alloc, count as usize)
+        numbers_at(alloc, rows, place, each, count)
     } else {
         Ok(Items::new(alloc))
     }
-}
-
-/// Adds a number at the end of a column, where there is one.
-fn push_some(column: &mut Items<u32>, number: Option<u32>) -> Put
-    ensures { OnOk result (column.new ≡ column.old ++ option_to_list number) }
-{
-    if let Some(n) = number {
-        column.push(n)?;
-    }
-    Ok(())
 }
 
 /// The numbers of a run's samples, by their kinds.
@@ -157,42 +158,41 @@ impl Columns {
         }
     }
 
-    /// No numbers, with room for those of so many rows.
-    fn with_capacity(alloc: Global, flags: u32, count: u32) -> std::result::Result<Self, AllocError>
-        ensures { IfOk result (λ columns. columns ≡ no_columns) }
+    /// The columns of so many rows, where all of them are there. Each column is read by itself, so that no number is
+    /// tested for; these are the columns of the rows that are read one after the other.
+    #[tactic(auto, unfolding(crate::specs::Rows::row_length))]
+    fn of_rows(
+        alloc: Global,
+        rows: &[u8],
+        flags: u32,
+        count: u32,
+    ) -> std::result::Result<Self, AllocError>
+        requires { count * row_length flags ≤ length rows.now }
+        ensures { IfOk result (λ columns. columns ≡ columns_in flags count rows.now) }
     {
-        let durations = empty_column(alloc, DURATIONS, flags, count)?;
-        let sizes = empty_column(alloc, SIZES, flags, count)?;
-        let sample_flags = empty_column(alloc, SAMPLE_FLAGS, flags, count)?;
-        let cts = empty_column(alloc, COMPOSITION_OFFSETS, flags, count)?;
+        let each = row_size(flags) as usize;
+        let count = count as usize;
+        let size_place = field_size(DURATIONS, flags) as usize;
+        let flags_place = size_place + field_size(SIZES, flags) as usize;
+        let cts_place = flags_place + field_size(SAMPLE_FLAGS, flags) as usize;
+        let durations = column(alloc, rows, DURATIONS, flags, 0, each, count)?;
+        let sizes = column(alloc, rows, SIZES, flags, size_place, each, count)?;
+        let sample_flags = column(alloc, rows, SAMPLE_FLAGS, flags, flags_place, each, count)?;
+        let cts = column(
+            alloc,
+            rows,
+            COMPOSITION_OFFSETS,
+            flags,
+            cts_place,
+            each,
+            count,
+        )?;
         Ok(Columns {
             durations,
             sizes,
             flags: sample_flags,
             cts,
         })
-    }
-
-    /// Adds the numbers of a row, each to its column.
-    fn add(&mut self, row: Row) -> Put
-        ensures { OnOk result (self.new ≡ with_row self.old row) }
-    {
-        push_some(&mut self.durations, row.duration)?;
-        push_some(&mut self.sizes, row.size)?;
-        push_some(&mut self.flags, row.flags)?;
-        push_some(&mut self.cts, row.cts)?;
-        Ok(())
-    }
-
-    /// Adds the numbers of the next rows.
-    fn add_rows(&mut self, fields: &mut Fields, flags: u32, count: u32) -> Result<()>
-        ensures { Answers (λ _. (self.new, fields.new)) result (columns_after self.old (list_at (row_at flags) count fields.old)) }
-    {
-        for _ in 0..count {
-            let row = Row::read(fields, flags)?;
-            self.add(row)?;
-        }
-        Ok(())
     }
 
     /// The columns of the next rows. Where they pass the end they are `InvalidData`, before memory is requested; else
@@ -207,8 +207,10 @@ impl Columns {
             return Ok(Columns::new(alloc));
         }
         check_rows(fields, count, each)?;
-        let mut columns = Columns::with_capacity(alloc, flags, count)?;
-        columns.add_rows(fields, flags, count)?;
+        let rows = fields.rest();
+        let columns = Columns::of_rows(alloc, rows, flags, count)?;
+        let (_, after) = rows.split_at(count as usize * each as usize);
+        *fields = Fields::new(after);
         Ok(columns)
     }
 }

@@ -1,9 +1,10 @@
-use Rattle.std.proofs.Common.{◌≡◌, ℕ, List, Some, None, inr, refl, sym, ◌∙◌, rules}
+use Rattle.std.proofs.Common.{◌≡◌, ℕ, List, Some, None, inr, refl, sym, ◌∙◌}
 use Rattle.std.proofs.lemmas.Result.{err_from_is_err_and}
 use Rattle.mp4_codec.specs.Cause.{cause_of}
 use Rattle.mp4_codec.specs.Bytes.{count_cause}
 use Rattle.mp4_frag.specs.Rows.{row_length, columns_at}
 use Rattle.mp4_frag.specs.RowLaws.{columns-nothing, columns-short, columns-enough}
+use Rattle.mp4_frag.proofs.ColumnLaws.{columns_at-rows, count_cause-fits}
 use Rattle.mp4_codec.specs.Early.{takes_memory, refused_at_once}
 use Rattle.mp4_frag.proofs.rows.Columns.read.Goals as goal
 
@@ -41,22 +42,21 @@ returns-in_err-columns-clause-early c =
     rw c.row_size-each.ensures at c.in_ok-check_rows.ensures in
     rw (enough c.args.flags c.args.count c.args.fields.now none) tt
 
-pub returns-in_err-add_rows-clause-early : goal.returns-in_err-add_rows-clause-early
-returns-in_err-add_rows-clause-early c =
-    let none : count_cause c.args.count (row_length c.args.flags) c.args.fields.now ≡ None =
-    rw c.row_size-each.ensures at c.in_ok-check_rows.ensures in
-    rw (enough c.args.flags c.args.count c.args.fields.now none) tt
-
 pub returns-clause-early : goal.returns-clause-early
 returns-clause-early c =
     let none : count_cause c.args.count (row_length c.args.flags) c.args.fields.now ≡ None =
     rw c.row_size-each.ensures at c.in_ok-check_rows.ensures in
     rw (enough c.args.flags c.args.count c.args.fields.now none) tt
 
-pub returns-in_err-add_rows-clause-value : goal.returns-in_err-add_rows-clause-value
-unfolding columns_at
-returns-in_err-add_rows-clause-value c = search rules
-
 pub returns-clause-value : goal.returns-clause-value
-unfolding columns_at
-returns-clause-value c = search rules
+returns-clause-value c =
+    let none : count_cause c.args.count (row_length c.args.flags) c.args.fields.now ≡ None =
+    rw c.row_size-each.ensures at c.in_ok-check_rows.ensures in
+    rw (
+      columns_at-rows c.args.flags c.args.count c.args.fields.now (count_cause-fits _ _ _ none),
+      c.in_ok-columns.ensures,
+      c.new-2.ensures,
+      c.split_at.ensures.back,
+      c.rest-rows.ensures,
+      c.row_size-each.ensures,
+    ) refl
