@@ -1,6 +1,6 @@
 //! Lists of values, which contracts see as lists.
 
-ghost use Rattle.std.specs.Prelude.{◌≡◌, ◌==◌, ◌<◌, ◌^◌, [], ◌∷◌, ◌++◌, length, slice_get, OnOk, OnErr, IfOk, List};
+ghost use Rattle.std.specs.Prelude.{◌≡◌, ◌==◌, ◌<◌, ◌^◌, [], ◌∷◌, ◌++◌, length, slice_get, OnOk, OnErr, IfOk, List, vec_len, vec_capacity};
 ghost use Rattle.std.specs.Option.{option_copied};
 ghost use Rattle.std.specs.Slice.Iter.{iter_rest};
 ghost use Rattle.std.specs.Iterator.Adapters.{IterYieldsInOrder};
@@ -118,30 +118,32 @@ impl<T> Items<T> {
         self.items.as_slice().iter()
     }
 
-    /// Room for one more at the end. A list that is full grows by half of its length, and by one at least, so
-    /// that a short list, as most are, takes no more memory than its values need.
-    fn reserve_one(&mut self) -> std::result::Result<(), AllocError>
-        ensures { self.new ≡ self.old }
-    {
-        let len = self.items.len();
-        if len < self.items.capacity() {
-            return Ok(());
-        }
-        self.items.reserve_exact((len / 2).max(1))?;
-        Ok(())
-    }
-
     /// Adds one at the end.
+    #[inline]
     pub fn push(&mut self, value: T) -> std::result::Result<(), AllocError>
     where
         T: Drop,
         ensures ok { OnOk result (self.new ≡ self.old ++ value ∷ []) }
         ensures err { OnErr result (self.new ≡ self.old) }
     {
-        self.reserve_one()?;
-        self.items.push(value)?;
+        if self.items.len() >= self.items.capacity() {
+            grow(&mut self.items)?;
+        }
+        self.items.push_reserved(value);
         Ok(())
     }
+}
+
+/// Room for one more at the end of a full list. It grows by half of its length, and by one at least, so that a short
+/// list, as most are, takes no more memory than its values need. It is apart so that what a push tests is inlined.
+#[cold]
+#[inline(never)]
+fn grow<T>(items: &mut Vec<T>) -> std::result::Result<(), AllocError>
+    ensures same { items.new.items ≡ items.old.items }
+    ensures room { OnOk result (vec_len items.new < vec_capacity items.new) }
+{
+    let len = items.len();
+    items.reserve_exact((len / 2).max(1))
 }
 
 impl<T> From<Vec<T>> for Items<T> {
