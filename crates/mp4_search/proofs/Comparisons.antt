@@ -14,12 +14,15 @@ unfolding comparisons_in
 all_left numbers key = record { steps = length numbers; enough = omega arith; left = omega arith }
 
 -- one comparison more: what is left stands behind the number in the middle
-pub behind : (numbers : List ℕ) (key low high compared : ℕ) → AreLeft numbers key low high compared → low < high
-    → slice_index numbers (low + (high - low) / 2) ≤ key
-    → AreLeft numbers key (low + (high - low) / 2 + 1) high (compared + 1)
+pub behind : (numbers : List ℕ) (key low high middle compared : ℕ) → AreLeft numbers key low high compared → low < high
+    → middle ≡ low + (high - low) / 2 → slice_index numbers middle ≤ key
+    → AreLeft numbers key (middle + 1) high (compared + 1)
 unfolding comparisons_between
-behind numbers key low high compared a h small = step a.steps a.enough a.left
+behind numbers key low high middle compared a h half at_most = rw half (step a.steps a.enough a.left)
   where
+    small : slice_index numbers (low + (high - low) / 2) ≤ key
+    small = rw half at at_most
+
     step : (n : ℕ) → high - low ≤ n
         → compared + comparisons_between n numbers key low high ≡ comparisons_in numbers key
         → AreLeft numbers key (low + (high - low) / 2 + 1) high (compared + 1)
@@ -31,12 +34,15 @@ behind numbers key low high compared a h small = step a.steps a.enough a.left
     }
 
 -- one comparison more: what is left stands before the number in the middle
-pub before : (numbers : List ℕ) (key low high compared : ℕ) → AreLeft numbers key low high compared → low < high
-    → key < slice_index numbers (low + (high - low) / 2)
-    → AreLeft numbers key low (low + (high - low) / 2) (compared + 1)
+pub before : (numbers : List ℕ) (key low high middle compared : ℕ) → AreLeft numbers key low high compared → low < high
+    → middle ≡ low + (high - low) / 2 → key < slice_index numbers middle
+    → AreLeft numbers key low middle (compared + 1)
 unfolding comparisons_between
-before numbers key low high compared a h large = step a.steps a.enough a.left
+before numbers key low high middle compared a h half above = rw half (step a.steps a.enough a.left)
   where
+    large : key < slice_index numbers (low + (high - low) / 2)
+    large = rw half at above
+
     step : (n : ℕ) → high - low ≤ n
         → compared + comparisons_between n numbers key low high ≡ comparisons_in numbers key
         → AreLeft numbers key low (low + (high - low) / 2) (compared + 1)

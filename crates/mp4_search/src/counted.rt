@@ -65,6 +65,14 @@ impl SearchedNumbers {
         self.numbers.len()
     }
 
+    /// The place behind the last number. Two places have a sum of 64 bits.
+    pub(crate) fn end(&self) -> usize
+        ensures value { result ≡ length self.now }
+        ensures small { result < 2 ^ 63 }
+    {
+        self.numbers.len()
+    }
+
     /// Adds a number at the end.
     pub fn push(&mut self, number: u32) -> Result<(), AllocError>
         ensures { OnOk result (self.new ≡ self.old ++ number ∷ []) }

@@ -28,21 +28,29 @@ pub fn last_at_most(numbers: &SearchedNumbers, key: u32) -> (Option<Found>, Read
     ensures few { IsFew result.1 (length numbers.now) }
 {
     let mut readings = Readings::new();
-    let mut found: Option<Found> = None;
+    // The number before `low`, once one was at most the key; what was found is made of both behind the loop.
+    let mut last: Option<u32> = None;
     let mut low: usize = 0;
-    let mut high = numbers.len();
+    let mut high = numbers.end();
     while low < high {
-        let middle = low + (high - low) / 2;
+        // This is `low + (high - low) / 2` in two instructions in place of four, since no two places pass 64 bits together.
+        let middle = (low + high) / 2;
         let number = numbers.read(middle, &mut readings);
         if number <= key {
-            found = Some(Found {
-                index: middle,
-                number,
-            });
+            last = Some(number);
             low = middle + 1;
         } else {
             high = middle;
         }
     }
-    (found, readings)
+    match last {
+        Some(number) => {
+            let found = Found {
+                index: low - 1,
+                number,
+            };
+            (Some(found), readings)
+        }
+        None => (None, readings),
+    }
 }

@@ -4,14 +4,14 @@ use Rattle.mp4_search.specs.Digits.{digits}
 use Rattle.mp4_search.proofs.Comparisons.{AreLeft}
 use Rattle.mp4_search.proofs.search.last_at_most.Given as goal
 
--- What is found stands before low and is at most the key. What stands from high on is above it. The digits of what is
+-- The last number that was at most the key stands before low. What stands from high on is above it. The digits of what is
 -- left pay for what is to come, and so many comparisons are left.
 abbrev pub invariant-loop-low : goal.invariant-loop-low
 invariant-loop-low l = record {
   ordered : l.low ≤ l.high;
   inside : l.high ≤ length l.numbers;
-  found : MatchOption l.found (l.low ≡ 0) (λ f. (f.index + 1 ≡ l.low)
-      × (f.number ≡ slice_index l.numbers f.index) × (f.number ≤ l.key));
+  last : MatchOption l.last (l.low ≡ 0)
+      (λ n. (1 ≤ l.low) × (n ≡ slice_index l.numbers (l.low - 1)) × (n ≤ l.key));
   above : (j : ℕ) → l.high ≤ j → j < length l.numbers → l.key < slice_index l.numbers j;
   paid : l.readings + digits (l.high - l.low) ≤ digits (length l.numbers);
   untouched : l.readings ≡ 0 → l.high - l.low ≡ length l.numbers;
