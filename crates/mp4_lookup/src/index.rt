@@ -1,6 +1,7 @@
 //! What is kept beside the tables of a track, so that its samples are found fast.
 
-ghost use Rattle.std.specs.Prelude.{◌≡◌, ℕ, ◌*◌, ◌^◌, ◌<◌, ◌↔◌, IfOk, OnOk, IsTrue};
+ghost use Rattle.std.specs.Prelude.{◌≡◌, ℕ, ◌*◌, ◌^◌, ◌<◌, ◌↔◌, false, IfOk, OnOk, IsTrue};
+ghost use Rattle.mp4_lookup.specs.Sums.{IsInOrder};
 ghost use Rattle.std.specs.List.{All};
 ghost use Rattle.std.specs.List.Sorted.{IsStrictlyIncreasing};
 ghost use Rattle.mp4_samples.specs.Tables.{ctts_runs, sync_numbers};
@@ -30,6 +31,8 @@ pub struct TrackIndex {
     pub sync_rises: bool,
     /// The numbers of stss.
     pub sync_numbers: SearchedNumbers,
+    /// The numbers of stss in rising order, where they don't strictly rise in stss; else nothing, and no memory.
+    pub sync_sorted: Vec<u32>,
     /// How many bytes come before each sample, where sizes are listed.
     pub size_sums: RunningSizes,
 }
@@ -50,6 +53,7 @@ pub fn index_of(alloc: Global, stbl: &StblBox) -> Result<TrackIndex, AllocError>
     let numbers = numbers_of_stss(&stbl.stss);
     let sync_rises = rises(numbers);
     let sync_numbers = Vec::from_slice(alloc, numbers)?;
+    let sync_sorted = in_order_unless(sync_rises, alloc, numbers)?;
     let size_sums = sizes_before(alloc, stbl.stsz.sample_sizes.as_slice())?;
     Ok(TrackIndex {
         first_samples: SearchedNumbers::new(first_samples),
@@ -58,6 +62,7 @@ pub fn index_of(alloc: Global, stbl: &StblBox) -> Result<TrackIndex, AllocError>
         ctts_counts: SearchedNumbers::new(ctts_counts),
         sync_rises,
         sync_numbers: SearchedNumbers::new(sync_numbers),
+        sync_sorted,
         size_sums: RunningSizes::new(size_sums),
     })
 }
@@ -119,4 +124,17 @@ fn rises(numbers: &[u32]) -> bool
         }
     }
     true
+}
+
+/// The same numbers in rising order, unless they rise as they are: then nothing, and no memory is taken. So a sample is
+/// found among them by a search, where all of them were looked at.
+fn in_order_unless(rises: bool, alloc: Global, numbers: &[u32]) -> Result<Vec<u32>, AllocError>
+    ensures { IfOk result (λ sorted. rises ≡ false → IsInOrder numbers.now sorted.items) }
+{
+    if rises {
+        return Ok(Vec::new(alloc));
+    }
+    let mut sorted = Vec::from_slice(alloc, numbers)?;
+    sorted.sort_unstable();
+    Ok(sorted)
 }

@@ -1,6 +1,6 @@
 //! When a sample is decoded and shown, and whether it is a sync sample (ISO/IEC 14496-12, 8.6.1 and 8.6.2).
 
-ghost use Rattle.std.specs.Prelude.{◌≡◌, ℕ, ◌+◌, ◌-◌, ◌<◌, ◌≤◌, pos, length, get_or, IfOk, IsTrue, ◌==◌, ◌↔◌, if◌then◌else◌};
+ghost use Rattle.std.specs.Prelude.{◌≡◌, ℕ, ◌+◌, ◌-◌, ◌<◌, ◌≤◌, pos, length, get_or, IfOk, IsTrue, ◌==◌, ◌↔◌, false, if◌then◌else◌};
 ghost use Rattle.std.specs.List.{list_any};
 ghost use Rattle.std.specs.List.Sorted.{IsStrictlyIncreasing};
 ghost use Rattle.mp4_codec.specs.Cause.{Gives};
@@ -9,7 +9,7 @@ ghost use Rattle.mp4_table.specs.Starts.{start_of};
 ghost use Rattle.mp4_search.specs.Search.{IsFew, comparisons_in};
 ghost use Rattle.mp4_search.specs.Sums.{CountsBefore};
 ghost use Rattle.mp4_lookup.specs.Costs.{sync_comparisons};
-ghost use Rattle.mp4_lookup.specs.Sums.{TimesBefore};
+ghost use Rattle.mp4_lookup.specs.Sums.{IsInOrder, TimesBefore};
 ghost use Rattle.mp4_samples.specs.Tables.{is_sync_at, sync_numbers};
 ghost use Rattle.mp4_lookup.specs.Rule.{time_at};
 
@@ -84,17 +84,17 @@ pub fn rendering_offset_at(runs: &[CttsEntry], counts: &SearchedNumbers, k: u32)
     (run.sample_offset, comparisons)
 }
 
-/// Whether the numbers contain `k`, and how many comparisons showed it. Numbers that don't
-/// strictly rise are all looked at, and count as no comparison.
-fn contains(numbers: &[u32], rises: bool, searched: &SearchedNumbers, k: u32) -> (bool, u32)
-    requires rises { IsTrue rises → IsStrictlyIncreasing numbers.now }
-    requires same { searched.now ≡ numbers.now }
-    ensures value { result.0 ≡ list_any (λ n. n == k) numbers.now }
+/// Whether the numbers contain `k`, and how many comparisons showed it. Where the numbers don't strictly rise, the same
+/// numbers in rising order are searched, which counts as no comparison.
+fn contains(searched: &SearchedNumbers, rises: bool, sorted: &[u32], k: u32) -> (bool, u32)
+    requires rises { IsTrue rises → IsStrictlyIncreasing searched.now }
+    requires sorted { rises ≡ false → IsInOrder searched.now sorted.now }
+    ensures value { result.0 ≡ list_any (λ n. n == k) searched.now }
     ensures counted { result.1 ≡ (if rises then comparisons_in searched.now k else 0) }
-    ensures few { IsTrue rises → IsFew result.1 (length numbers.now) }
+    ensures few { IsTrue rises → IsFew result.1 (length searched.now) }
 {
     if !rises {
-        return (numbers.contains(&k), 0);
+        return (sorted.binary_search(&k).is_ok(), 0);
     }
     let (found, readings) = last_at_most(searched, k);
     let comparisons = readings.count();
@@ -108,16 +108,17 @@ fn contains(numbers: &[u32], rises: bool, searched: &SearchedNumbers, k: u32) ->
 pub fn is_sync(stss: &Option<StssBox>, index: &TrackIndex, k: u32) -> (bool, u32)
     requires rises { IsTrue index.now.sync_rises ↔ IsStrictlyIncreasing (sync_numbers stss.now) }
     requires sync { index.now.sync_numbers ≡ sync_numbers stss.now }
+    requires sorted { index.now.sync_rises ≡ false → IsInOrder (sync_numbers stss.now) index.now.sync_sorted.items }
     ensures value { result.0 ≡ is_sync_at stss.now k }
     ensures counted { result.1 ≡ sync_comparisons index.now k }
     ensures few { IsStrictlyIncreasing (sync_numbers stss.now) → IsFew result.1 (length (sync_numbers stss.now)) }
 {
     match stss {
         None => (true, 0),
-        Some(stss) => contains(
-            stss.entries.as_slice(),
-            index.sync_rises,
+        Some(_) => contains(
             &index.sync_numbers,
+            index.sync_rises,
+            index.sync_sorted.as_slice(),
             k,
         ),
     }
