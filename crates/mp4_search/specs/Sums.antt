@@ -14,3 +14,7 @@ SumsBefore f xs sums = RunningSums (λ n. n) f xs sums
 -- the sums as far as 32 bits go, and the largest number of 32 bits past that
 abbrev pub CountsBefore : {X : Type 0} → (X → ℕ) → List X → List ℕ → Type 0
 CountsBefore f xs counts = RunningSums (λ n. min (2 ^ 32 - 1) n) f xs counts
+
+-- the sums as far as 64 bits go, and the largest number of 64 bits past that
+abbrev pub SumsBefore64 : {X : Type 0} → (X → ℕ) → List X → List ℕ → Type 0
+SumsBefore64 f xs sums = RunningSums (λ n. min (2 ^ 64 - 1) n) f xs sums

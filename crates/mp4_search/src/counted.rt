@@ -140,3 +140,51 @@ impl RunningSizes {
         (upto - from, readings)
     }
 }
+
+/// Running sums as `RunningSizes`, in half the memory: they stop at 2^64 - 1, which the sum of fewer than 2^32 sizes of
+/// 32 bits never reaches.
+#[derive(Debug, Drop)]
+pub struct CappedSums {
+    sums: Vec<u64>,
+}
+
+impl Model for CappedSums {
+    ghost use Rattle.std.specs.Prelude.{List, ℕ};
+
+    ghost Value = { List ℕ };
+
+    ghost view = { λ s. s.sums.items };
+}
+
+impl CappedSums {
+    pub fn new(sums: Vec<u64>) -> Self
+        ensures { result ≡ sums.items }
+    {
+        CappedSums { sums }
+    }
+
+    /// The sum at an index, which counts from 0. This counts as one reading.
+    fn read(&self, index: usize, readings: &mut Readings) -> u64
+        requires within { index < length self.now }
+        requires room { readings.old < 2 ^ 32 - 1 }
+        ensures number { result ≡ slice_index self.now index }
+        ensures counted { readings.new ≡ readings.old + 1 }
+    {
+        readings.count += 1;
+        self.sums[index]
+    }
+
+    /// How much the sum grows from `first` up to `last`, counted from 0, and how many sums were read: 2.
+    pub fn between(&self, first: usize, last: usize) -> (u64, Readings)
+        requires first { first < length self.now }
+        requires last { last < length self.now }
+        requires order { slice_index self.now first ≤ slice_index self.now last }
+        ensures sum { result.0 ≡ slice_index self.now last - slice_index self.now first }
+        ensures counted { result.1 ≡ 2 }
+    {
+        let mut readings = Readings::new();
+        let upto = self.read(last, &mut readings);
+        let from = self.read(first, &mut readings);
+        (upto - from, readings)
+    }
+}

@@ -4,5 +4,5 @@
 mod counted;
 mod search;
 
-pub use counted::{Readings, RunningSizes, SearchedNumbers};
+pub use counted::{CappedSums, Readings, RunningSizes, SearchedNumbers};
 pub use search::{Found, last_at_most};
