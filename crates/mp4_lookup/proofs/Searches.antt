@@ -9,15 +9,16 @@ use Rattle.std.specs.Ordering.{nat_cmp}
 use Rattle.std.specs.Result.{MatchResult, is_ok}
 use Rattle.std.proofs.Math.Seq.{take-add}
 use Rattle.std.proofs.lemmas.Bool.{le-leb, lt-leb, cases_lt, cases_eq, eq-eqb, ne_eqb}
-use Rattle.std.proofs.lemmas.List.{get_or_default, get_or-map, length-map}
-use Rattle.std.proofs.lemmas.List.Sums.{sum_by-append, sum_by-le, sum_by_more_le}
+use Rattle.std.proofs.lemmas.List.{get_or_default, get_or-map, length-map, length-take}
+use Rattle.std.proofs.lemmas.List.Elements.{All-take}
+use Rattle.std.proofs.lemmas.List.Sums.{sum_by-append, sum_by-le}
 use Rattle.std.proofs.lemmas.List.Folds.{list_any_none, list_any_at}
 use Rattle.std.proofs.lemmas.List.Sorted.{searched}
 use Rattle.mp4_table.specs.declared.stsc.StscEntry.{StscEntry}
 use Rattle.mp4_table.specs.Chunks.{last_where}
 use Rattle.mp4_table.specs.Stsc.{HasFirstSamples}
 use Rattle.mp4_search.specs.Search.{IsLastAtMost}
-use Rattle.mp4_search.specs.Sums.{SumsBefore}
+use Rattle.mp4_search.specs.Sums.{SumsBefore64}
 use Rattle.mp4_lookup.specs.Sums.{IsInOrder}
 use Rattle.mp4_samples.specs.LastLaws.{last_where_is, last_where_none}
 use Rattle.mp4_lookup.specs.EntryLaws.{first_samples_climb}
@@ -127,30 +128,23 @@ first_sample_found entries k i d at =
     let within : i < length entries = rw length-map at at.within in
     (within, rw (← get_or-map (λ (e : StscEntry). e.first_sample) entries i d 0 within) at.small)
 
--- the same, read off the sums
-pub sums_between : (xs sums : List ℕ) (first k : ℕ) → SumsBefore (λ s. s) xs sums → 1 ≤ first → first ≤ k
-    → k ≤ length xs → slice_index sums (first - 1) + sum (slice_range xs (first - 1) (k - 1))
-    ≡ slice_index sums (k - 1)
-sums_between xs sums first k s h1 h2 h3 =
+-- so many bytes as samples of sizes of 32 bits have
+size_before : (xs : List ℕ) (i : ℕ) → All (λ x. x < 2 ^ 32) xs → sum (take i xs) ≤ i * (2 ^ 32 - 1)
+size_before xs i small =
+    let most = sum_by-le (λ x. x) (2 ^ 32 - 1) (take i xs)
+    (λ k d h. omega (arith, All-take (λ x. x < 2 ^ 32) i xs small k d h)) in
+    omega (arith, most, length-take i xs)
+
+-- the same, read off the sums: those before numbers of 32 bits stay below 2 ^ 64
+pub sums_between : (xs sums : List ℕ) (first k : ℕ) → SumsBefore64 (λ s. s) xs sums → All (λ x. x < 2 ^ 32) xs
+    → 1 ≤ first → first ≤ k → k ≤ length xs → k < 2 ^ 32
+    → slice_index sums (first - 1) + sum (slice_range xs (first - 1) (k - 1)) ≡ slice_index sums (k - 1)
+sums_between xs sums first k s small h1 h2 h3 h4 =
     omega (
       arith,
       s.each (first - 1) (omega arith),
       s.each (k - 1) (omega arith),
+      size_before xs (first - 1) small,
+      size_before xs (k - 1) small,
       sum-slice_range xs (first - 1) (k - 1) (omega arith),
-    )
-
--- what comes before the last size and the last itself are small together, where each size has 32 bits
-pub total-small : (xs sums : List ℕ) (before n : ℕ) → SumsBefore (λ s. s) xs sums
-    → All (λ x. x ≤ 2 ^ 32 - 1) xs → 0 < length xs
-    → before ≡ slice_index sums (length xs - 1) - slice_index sums 0
-    → n ≡ slice_index xs (length xs - 1) → before + n ≤ length xs * (2 ^ 32 - 1)
-total-small xs sums before n s small some e f =
-    let last : length xs - 1 < length xs = omega arith in
-    omega (
-      arith,
-      e,
-      f,
-      s.each (length xs - 1) last,
-      sum_by_more_le (λ x. x) xs (length xs - 1) 0 last,
-      sum_by-le (λ x. x) (2 ^ 32 - 1) xs small,
     )

@@ -4,8 +4,8 @@ use Rattle.std.specs.List.Sorted.{IsStrictlyIncreasing}
 use Rattle.mp4_boxes.specs.declared.stbl.StblBox.{StblBox}
 use Rattle.mp4_lookup.specs.declared.index.TrackIndex.{TrackIndex}
 use Rattle.mp4_samples.specs.Tables.{ctts_runs, sync_numbers}
-use Rattle.mp4_search.specs.Sums.{SumsBefore, CountsBefore}
-use Rattle.mp4_lookup.specs.Sums.{IsInOrder, TimesBefore}
+use Rattle.mp4_search.specs.Sums.{CountsBefore}
+use Rattle.mp4_lookup.specs.Sums.{IsInOrder, SizesBefore, TimesBefore}
 
 -- the index of these tables
 pub record IsIndexOf (t : StblBox) (index : TrackIndex) : Type 0 where
@@ -15,4 +15,4 @@ pub record IsIndexOf (t : StblBox) (index : TrackIndex) : Type 0 where
   pub rises : IsTrue index.sync_rises ↔ IsStrictlyIncreasing (sync_numbers t.stss)
   pub sync : index.sync_numbers ≡ sync_numbers t.stss
   pub sorted : index.sync_rises ≡ false → IsInOrder (sync_numbers t.stss) index.sync_sorted.items
-  pub sizes : SumsBefore (λ s. s) t.stsz.sample_sizes index.size_sums
+  pub sizes : SizesBefore t.stsz.sample_sizes index.size_sums index.size_total

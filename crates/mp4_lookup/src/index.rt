@@ -1,22 +1,23 @@
 //! What is kept beside the tables of a track, so that its samples are found fast.
 
-ghost use Rattle.std.specs.Prelude.{◌≡◌, ℕ, ◌*◌, ◌^◌, ◌<◌, ◌↔◌, false, IfOk, OnOk, IsTrue};
-ghost use Rattle.mp4_lookup.specs.Sums.{IsInOrder};
+ghost use Rattle.std.specs.Prelude.{◌≡◌, ℕ, ◌-◌, ◌*◌, ◌^◌, ◌<◌, ◌↔◌, false, min, IfOk, OnOk, IsTrue};
+ghost use Rattle.mp4_lookup.specs.Sums.{IsInOrder, SizesBefore};
 ghost use Rattle.std.specs.List.{All};
 ghost use Rattle.std.specs.List.Sorted.{IsStrictlyIncreasing};
 ghost use Rattle.mp4_samples.specs.Tables.{ctts_runs, sync_numbers};
-ghost use Rattle.mp4_search.specs.Sums.{SumsBefore};
+ghost use Rattle.mp4_search.specs.Sums.{SumsBefore64};
 ghost use Rattle.mp4_lookup.specs.Index.{IsIndexOf};
 
 use crate::runs::counts_before;
 use mp4_boxes::StblBox;
-use mp4_search::{RunningSizes, SearchedNumbers};
+use mp4_search::{CappedSums, SearchedNumbers};
 use mp4_table::{CttsBox, CttsEntry, StssBox, SttsEntry};
 use std::alloc::{AllocError, Global};
 
 /// Running sums beside the tables of a track: at most one for each entry of a table.
 ///
-/// Counts of samples stop at 2^32 - 1, which no number of a sample passes.
+/// Counts of samples stop at 2^32 - 1, which no number of a sample passes; and so times and bytes stop at 2^64 - 1, which
+/// fewer than 2^32 durations or sizes of 32 bits don't reach.
 #[derive(Debug, Drop)]
 pub struct TrackIndex {
     /// The first sample of each entry of stsc.
@@ -24,7 +25,7 @@ pub struct TrackIndex {
     /// How many samples come before each run of stts.
     pub stts_counts: SearchedNumbers,
     /// How many ticks come before each run of stts.
-    pub stts_times: Vec<u128>,
+    pub stts_times: Vec<u64>,
     /// How many samples come before each run of ctts.
     pub ctts_counts: SearchedNumbers,
     /// Whether the numbers of stss strictly rise.
@@ -34,7 +35,9 @@ pub struct TrackIndex {
     /// The numbers of stss in rising order, where they don't strictly rise in stss; else nothing, and no memory.
     pub sync_sorted: Vec<u32>,
     /// How many bytes come before each sample, where sizes are listed.
-    pub size_sums: RunningSizes,
+    pub size_sums: CappedSums,
+    /// How many bytes all samples have together, where sizes are listed.
+    pub size_total: u128,
 }
 
 /// Makes the index of the tables.
@@ -54,7 +57,7 @@ pub fn index_of(alloc: Global, stbl: &StblBox) -> Result<TrackIndex, AllocError>
     let sync_rises = rises(numbers);
     let sync_numbers = Vec::from_slice(alloc, numbers)?;
     let sync_sorted = in_order_unless(sync_rises, alloc, numbers)?;
-    let size_sums = sizes_before(alloc, stbl.stsz.sample_sizes.as_slice())?;
+    let (size_sums, size_total) = sizes_before(alloc, stbl.stsz.sample_sizes.as_slice())?;
     Ok(TrackIndex {
         first_samples: SearchedNumbers::new(first_samples),
         stts_counts: SearchedNumbers::new(stts_counts),
@@ -63,7 +66,8 @@ pub fn index_of(alloc: Global, stbl: &StblBox) -> Result<TrackIndex, AllocError>
         sync_rises,
         sync_numbers: SearchedNumbers::new(sync_numbers),
         sync_sorted,
-        size_sums: RunningSizes::new(size_sums),
+        size_sums: CappedSums::new(size_sums),
+        size_total,
     })
 }
 
@@ -87,31 +91,43 @@ fn numbers_of_stss(stss: &Option<StssBox>) -> &[u32]
     }
 }
 
-/// How many ticks come before each run of stts.
-fn times_before(alloc: Global, runs: &[SttsEntry]) -> Result<Vec<u128>, AllocError>
-    ensures sums { IfOk result (λ times. SumsBefore (λ r. r.sample_count * r.sample_delta) runs.now times.items) }
+/// How many ticks come before each run of stts. A count of them stops at 2^64 - 1.
+fn times_before(alloc: Global, runs: &[SttsEntry]) -> Result<Vec<u64>, AllocError>
+    ensures sums { IfOk result (λ times. SumsBefore64 (λ r. r.sample_count * r.sample_delta) runs.now times.items) }
     ensures small { OnOk result (All (λ r. r.sample_delta < 2 ^ 32) runs.now) }
 {
     let mut times = Vec::with_capacity(alloc, runs.len())?;
-    let mut time: u128 = 0;
+    let mut time: u64 = 0;
     for run in runs {
         times.push(time)?;
-        time += u128::from(run.sample_count) * u128::from(run.sample_delta);
+        time = time.saturating_add(u64::from(run.sample_count) * u64::from(run.sample_delta));
     }
     Ok(times)
 }
 
-/// How many bytes come before each sample of these sizes.
-fn sizes_before(alloc: Global, sizes: &[u32]) -> Result<Vec<u128>, AllocError>
-    ensures { IfOk result (λ sums. SumsBefore (λ s. s) sizes.now sums.items) }
+/// How many bytes come before each sample of these sizes, and how many all have together. A count before a sample stops
+/// at 2^64 - 1.
+fn sizes_before(alloc: Global, sizes: &[u32]) -> Result<(Vec<u64>, u128), AllocError>
+    ensures { IfOk result (λ x. SizesBefore sizes.now x.0.items x.1) }
 {
     let mut sums = Vec::with_capacity(alloc, sizes.len())?;
-    let mut sum: u128 = 0;
+    let mut total: u128 = 0;
     for size in sizes {
-        sums.push(sum)?;
-        sum += u128::from(*size);
+        sums.push(within_64_bits(total))?;
+        total += u128::from(*size);
     }
-    Ok(sums)
+    Ok((sums, total))
+}
+
+/// A number as far as 64 bits go, and the largest of them past that.
+fn within_64_bits(number: u128) -> u64
+    ensures { result ≡ min (2 ^ 64 - 1) number }
+{
+    if number > u128::from(u64::MAX) {
+        u64::MAX
+    } else {
+        number as u64
+    }
 }
 
 /// Whether each number is above the one before.

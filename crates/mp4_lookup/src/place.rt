@@ -2,11 +2,12 @@
 //! 8.7.3 to 8.7.5).
 
 ghost use Rattle.mp4_codec.specs.ExactTest.{by_test, field_tests};
-ghost use Rattle.std.specs.Prelude.{◌≡◌, ℕ, ◌+◌, ◌-◌, ◌<◌, ◌≤◌, map, length, sum, slice_get, slice_range, option_map, IfOk, IfSome, OnOk};
+ghost use Rattle.std.specs.Prelude.{◌≡◌, ℕ, ◌+◌, ◌-◌, ◌^◌, ◌<◌, ◌≤◌, map, length, sum, slice_get, slice_range, option_map, IfOk, IfSome, OnOk};
 ghost use Rattle.mp4_codec.specs.Cause.{Gives};
 ghost use Rattle.mp4_table.specs.Stsc.{HasFirstSamples};
 ghost use Rattle.mp4_search.specs.Search.{IsFew, comparisons_in};
-ghost use Rattle.mp4_search.specs.Sums.{SumsBefore};
+ghost use Rattle.mp4_search.specs.Sums.{SumsBefore64};
+ghost use Rattle.std.specs.List.{All};
 ghost use Rattle.mp4_samples.specs.Tables.{chunk_offsets, sizes};
 ghost use Rattle.mp4_lookup.specs.Index.{IsIndexOf};
 ghost use Rattle.mp4_lookup.specs.Costs.{AreFewSizeReads};
@@ -15,7 +16,7 @@ ghost use Rattle.mp4_lookup.specs.Rule.{entry_for, chunk_for, within_64_bits, sp
 use crate::index::TrackIndex;
 use mp4_boxes::StblBox;
 use mp4_codec::{Error, ExactEq, Result};
-use mp4_search::{RunningSizes, SearchedNumbers, last_at_most};
+use mp4_search::{CappedSums, SearchedNumbers, last_at_most};
 use mp4_table::{StscEntry, StszBox};
 
 /// Where a sample lies, and what it cost to find it.
@@ -108,29 +109,30 @@ fn size_at(stsz: &StszBox, k: u32) -> Option<u32>
 
 /// The sum of the sizes of the samples from `first` up to `k`, and how many running sums were read.
 #[tactic(auto, unfolding(mp4_samples::specs::Tables::sizes))]
-fn size_between(stsz: &StszBox, sums: &RunningSizes, first: u32, k: u32) -> (u128, u32)
+fn size_between(stsz: &StszBox, sums: &CappedSums, first: u32, k: u32) -> (u64, u32)
     requires from { 1 ≤ first }
     requires to { first ≤ k }
     requires there { k ≤ length (sizes stsz.now k) }
-    requires sums { SumsBefore (λ s. s) stsz.now.sample_sizes sums.now }
+    requires sums { SumsBefore64 (λ s. s) stsz.now.sample_sizes sums.now }
+    requires small { All (λ s. s < 2 ^ 32) stsz.now.sample_sizes }
     ensures sum { result.0 ≡ sum (slice_range (sizes stsz.now k) (first - 1) (k - 1)) }
     ensures one_size { 0 < stsz.now.sample_size → result.1 ≡ 0 }
     ensures listed { stsz.now.sample_size ≡ 0 → result.1 ≡ 2 }
 {
     if stsz.sample_size > 0 {
-        return (u128::from(k - first) * u128::from(stsz.sample_size), 0);
+        return (u64::from(k - first) * u64::from(stsz.sample_size), 0);
     }
     let (sum, readings) = sums.between(first as usize - 1, k as usize - 1);
     (sum, readings.count())
 }
 
 /// A place, if it is within 64 bits: so many bytes behind the beginning of a chunk.
-fn place_within(chunk_offset: u64, earlier: u128) -> Result<u64>
+fn place_within(chunk_offset: u64, earlier: u64) -> Result<u64>
     ensures { Gives (λ place. place) result (within_64_bits (chunk_offset + earlier)) }
 {
-    match u128::from(chunk_offset).checked_add(earlier) {
-        Some(place) if place <= u128::from(u64::MAX) => Ok(place as u64),
-        _ => Err(Error::InvalidData("a place passes 64 bits")),
+    match chunk_offset.checked_add(earlier) {
+        Some(place) => Ok(place),
+        None => Err(Error::InvalidData("a place passes 64 bits")),
     }
 }
 

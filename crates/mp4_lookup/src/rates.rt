@@ -1,8 +1,7 @@
 //! How many samples a track has, and how many samples and bits in a second (ISO/IEC 14496-12, 8.4.2, 8.5.2 and 8.7.3).
 
-ghost use Rattle.std.specs.Prelude.{◌≡◌, ◌<◌, ◌^◌, sum, IfOk};
+ghost use Rattle.std.specs.Prelude.{◌≡◌, ◌<◌, ◌^◌, IfOk};
 ghost use Rattle.mp4_codec.specs.Cause.{Gives};
-ghost use Rattle.mp4_search.specs.Sums.{SumsBefore};
 ghost use Rattle.mp4_lookup.specs.Rates.{sample_count_of, frame_rate_of, total_size_of, measured_bitrate_of, declared_bitrate, bitrate_of};
 ghost use Rattle.mp4_lookup.specs.TrackRuns.{track_runs};
 
@@ -10,7 +9,6 @@ use crate::headers::MICROSECONDS;
 use crate::track::Mp4Track;
 use mp4_codec::{Error, Limit, Result};
 use mp4_entry::Mp4aBox;
-use mp4_search::RunningSizes;
 
 /// Milliseconds in a second.
 const MILLISECONDS: u64 = 1000;
@@ -95,7 +93,7 @@ impl Mp4Track {
             let count = self.sample_count()?;
             return Ok(u128::from(stsz.sample_size) * u128::from(count));
         }
-        Ok(sum_of(stsz.sample_sizes.as_slice(), &self.index.size_sums))
+        Ok(self.index.size_total)
     }
 }
 
@@ -107,19 +105,4 @@ fn average_of(entry: &Mp4aBox) -> u32
         Some(esds) => esds.es_desc.dec_config.avg_bitrate,
         None => 0,
     }
-}
-
-/// The sum of these sizes, by the running sums before each of them.
-fn sum_of(sizes: &[u32], sums: &RunningSizes) -> u128
-    requires { SumsBefore (λ s. s) sizes.now sums.now }
-    ensures sum { result ≡ sum sizes.now }
-    ensures small { result < 2 ^ 95 }
-{
-    let count = sizes.len();
-    if count == 0 {
-        return 0;
-    }
-    let (before, readings) = sums.between(0, count - 1);
-    let _read = readings.count();
-    before + u128::from(sizes[count - 1])
 }

@@ -38,7 +38,7 @@ pub fn end_after(runs: &[SttsEntry], count: u32) -> u64
 pub fn time_at(
     runs: &[SttsEntry],
     counts: &SearchedNumbers,
-    times: &[u128],
+    times: &[u64],
     track_id: u32,
     k: u32,
 ) -> Result<(u32, u64, u32)>
@@ -58,8 +58,8 @@ pub fn time_at(
     if further >= run.sample_count {
         return Err(Error::EntryInStblNotFound(track_id, BoxType::SttsBox, k));
     }
-    let start = times[found.index] + u128::from(further) * u128::from(run.sample_delta);
-    Ok((run.sample_delta, start as u64, comparisons))
+    let start = times[found.index] + u64::from(further) * u64::from(run.sample_delta);
+    Ok((run.sample_delta, start, comparisons))
 }
 
 /// How much later than it is decoded sample `k` is shown, and how many comparisons found it: 0 past the

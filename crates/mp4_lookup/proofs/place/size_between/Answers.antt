@@ -14,7 +14,8 @@ between-sum-requires-clause-order c =
     let there = rw (sizes_are_listed z c.args.k c.if-stsz-gt0.false) at c.requires.there in
     omega (
       arith,
-      sums_between z.sample_sizes c.args.sums.now c.args.first c.args.k c.requires.sums c.requires.from c.requires.to there,
+      sums_between z.sample_sizes c.args.sums.now c.args.first c.args.k c.requires.sums c.requires.small
+          c.requires.from c.requires.to there (omega arith),
     )
 
 pub returns-clause-sum : goal.returns-clause-sum
@@ -25,5 +26,6 @@ returns-clause-sum c =
     rw listed (omega (
       arith,
       c.between-sum.ensures.sum,
-      sums_between z.sample_sizes c.args.sums.now c.args.first c.args.k c.requires.sums c.requires.from c.requires.to there,
+      sums_between z.sample_sizes c.args.sums.now c.args.first c.args.k c.requires.sums c.requires.small
+          c.requires.from c.requires.to there (omega arith),
     ))

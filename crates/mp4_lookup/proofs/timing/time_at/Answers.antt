@@ -1,4 +1,5 @@
-use Rattle.std.proofs.Common.{◌+◌, ◌-◌, ◌*◌, ◌^◌, ◌<◌, get_or, refl, arith, ◌∙◌}
+use Rattle.std.proofs.Common.{◌≡◌, ◌+◌, ◌-◌, ◌*◌, ◌^◌, ◌<◌, get_or, take, refl, arith, ◌∙◌}
+use Rattle.std.specs.List.{sum_by}
 use Rattle.mp4_table.specs.declared.stts.SttsEntry.{SttsEntry}
 use Rattle.mp4_search.specs.SumLaws.{counts_rise, before_found, past_found, none_found}
 use Rattle.mp4_lookup.proofs.Times.{time_at_in, time_at_past}
@@ -26,6 +27,18 @@ returns-then-further-run-clause-time c =
     c.requires.sums.counts (omega arith) found.0 (omega (arith, found.1, c.if-further-run.true)) in
     time_at_past c.args.runs.now c.args.track_id c.args.k (i + 1) _ c.requires.first past.0 refl past.1
 
+-- what comes before the run that was found is below 2 ^ 64, and so it was kept as it is
+begins : (c : After-from-2) → get_or c.args.times.now c.in-Some.found.index 0
+    ≡ sum_by (λ (r : SttsEntry). r.sample_count * r.sample_delta) (take c.in-Some.found.index c.args.runs.now)
+begins c =
+    let runs = c.args.runs.now in
+    let i = c.in-Some.found.index in
+    let found = rw c.in-Some.is at c.last_at_most-found.ensures.found in
+    let sums = c.requires.sums in
+    let before = before_found (λ (r : SttsEntry). r.sample_count) runs c.args.counts.now (c.args.k - 1) i sums.counts
+    (omega arith) found.0 in
+    omega (arith, sums.times.each i before.0, ticks_before runs i sums.small, before.2)
+
 -- the sample begins before 64 bits end
 start_small : (c : After-from-2)
     → get_or c.args.times.now c.in-Some.found.index 0 + c.from.result * c.from-2.result < 2 ^ 64
@@ -40,14 +53,11 @@ start_small c =
     let ticks = ticks_before runs i sums.small in
     rw (c.from.ensures, c.from-2.ensures)
     (start_fits c.in-Some.found.number (get_or c.args.times.now i 0) c.args.k (get_or runs i d).sample_delta
-    (omega (arith, ticks, sums.times.each i before.0, found.1, before.1)) (sums.small i d before.0)
+    (omega (arith, ticks, begins c, found.1, before.1)) (sums.small i d before.0)
     (omega (arith, found.1, before.1, before.2)) (omega arith))
 
 pub overflow_add-start : goal.overflow_add-start
 overflow_add-start c = omega (arith, start_small (goal.at.overflow_add-start c).After-from-2)
-
-pub overflow_cast-result : goal.overflow_cast-result
-overflow_cast-result c = omega (arith, start_small (goal.at.overflow_cast-result c).After-from-2)
 
 pub returns-clause-time : goal.returns-clause-time
 returns-clause-time c =
@@ -57,8 +67,7 @@ returns-clause-time c =
     let found = rw c.in-Some.is at c.last_at_most-found.ensures.found in
     let before = before_found (λ (r : SttsEntry). r.sample_count) runs c.args.counts.now (c.args.k - 1) i
     c.requires.sums.counts (omega arith) found.0 in
-    let ticks = c.requires.sums.times.each i before.0 in
     rw (c.from.ensures, c.from-2.ensures)
     (time_at_in runs c.args.track_id c.args.k i c.in-Some.found.number (get_or c.args.times.now i 0) d c.requires.first
-    before.0 (found.1 ∙ before.1) ticks (omega (arith, found.1, before.1, before.2))
+    before.0 (found.1 ∙ before.1) (begins (goal.at.returns-clause-time c).After-from-2) (omega (arith, found.1, before.1, before.2))
     (omega (arith, c.if-further-run.false)))
