@@ -1,6 +1,7 @@
 //! Values that a run lists, or that are one number for all its members.
 
-ghost use Rattle.std.specs.Prelude.{◌≡◌, ℕ, ◌+◌, ◌-◌, ◌*◌, ◌^◌, ◌≤◌, ◌⊎◌, get_or};
+ghost use Rattle.std.specs.Prelude.{◌≡◌, ℕ, ◌+◌, ◌-◌, ◌*◌, ◌^◌, ◌<◌, ◌≤◌, get_or, length};
+ghost use Rattle.std.specs.List.{sum};
 ghost use Rattle.mp4_fragments.specs.Numbers.{sum_of_first};
 
 /// The value of member `j`.
@@ -13,20 +14,17 @@ pub fn value_at(values: &[u32], default_value: u32, j: u32) -> u32
     }
 }
 
-/// Where the values that are listed end between two numbers.
-fn listed_end(len: usize, from: u32, to: u32) -> u32
-    requires { from ≤ to }
-    ensures from { from ≤ result }
-    ensures to { result ≤ to }
-    ensures listed { (len ≤ result) ⊎ (result ≡ to) }
+/// The sum of values that are listed. The loop goes over the slice itself, so that several values are added at once.
+fn sum_listed(values: &[u32]) -> u64
+    requires { length values.now < 2 ^ 32 }
+    ensures sum { result ≡ sum values.now }
+    ensures few { result ≤ length values.now * (2 ^ 32 - 1) }
 {
-    if len < from as usize {
-        return from;
+    let mut total: u64 = 0;
+    for value in values {
+        total += u64::from(*value);
     }
-    if len < to as usize {
-        return len as u32;
-    }
-    to
+    total
 }
 
 /// The sum of the values from one number up to another. Only values that are listed are walked.
@@ -34,13 +32,10 @@ pub fn sum_between(values: &[u32], default_value: u32, from: u32, to: u32) -> u6
     requires { from ≤ to }
     ensures { sum_of_first from values.now default_value + result ≡ sum_of_first to values.now default_value }
 {
-    let end = listed_end(values.len(), from, to);
-    let rest = u64::from(to - end) * u64::from(default_value);
-    let mut sum: u64 = 0;
-    for j in from..end {
-        sum += u64::from(value_at(values, default_value, j));
-    }
-    sum + rest
+    let start = values.len().min(from as usize);
+    let end = values.len().min(to as usize);
+    let unlisted = u64::from(to - from) - (end - start) as u64;
+    sum_listed(&values[start..end]) + unlisted * u64::from(default_value)
 }
 
 /// The sum of the first `n` values.
