@@ -1,14 +1,31 @@
 -- A text is cut at its first line feed.
 use Rattle.std.proofs.Common.{◌≡◌, ℕ, ◌+◌, ◌-◌, ◌<◌, ◌≤◌, Bool, true, false, cond, eqb, not, List, [], ◌∷◌, length}
-use Rattle.std.proofs.Common.{take, drop, refl, ap, ◌∙◌, arith, length-drop}
+use Rattle.std.proofs.Common.{take, drop, refl, sym, ap, ◌∙◌, arith, length-drop}
 use Rattle.std.specs.List.{position_or_len, slice_split, onto_first}
 use Rattle.std.proofs.lemmas.List.{take_all}
-use Rattle.std.proofs.lemmas.List.Sums.{prefix_len-le-length, count_by-le-length}
+use Rattle.std.specs.Prelude.{slice_index}
+use Rattle.std.proofs.lemmas.List.Sums.{prefix_len-le-length, count_by-le-length, position_or_len_is}
+use Rattle.memchr.specs.Find.{Nowhere, NoneBefore, Passes}
 use Rattle.std.proofs.lemmas.List.Splits.{slice_split_first, slice_split-cons_no, length-slice_split}
 use Rattle.mp4_script.specs.Lines.{lines_of}
 
 abbrev is_feed : ℕ → Bool
 is_feed byte = eqb byte 10
+
+never_true : (b : Bool) → (b ≡ true → ⊥) → b ≡ false
+never_true true never = absurd (never refl)
+never_true false never = refl
+
+-- the first place that holds a line feed is the length of the first line
+pub first_feed : (text : List ℕ) (place : ℕ) → NoneBefore (Passes is_feed text) 0 (length text) place
+    → Passes is_feed text place → place ≡ position_or_len is_feed text
+first_feed text place h feed =
+    sym (position_or_len_is is_feed text place 0 (omega (arith, h.high)) (λ k l. never_true _ (h.before k (omega arith) l)) (λ l. feed))
+
+-- without one the text is the first line
+pub no_feed : (text : List ℕ) → Nowhere (Passes is_feed text) 0 (length text) → length text ≡ position_or_len is_feed text
+no_feed text none =
+    sym (position_or_len_is is_feed text (length text) 0 (omega arith) (λ k l. never_true _ (none k (omega arith) l)) (λ l. absurd (omega (arith, l))))
 
 -- what stands before a line feed is a line, and what stands behind it are the others
 pub cut_line : (text : List ℕ) (end : ℕ) → end ≡ position_or_len is_feed text → end < length text

@@ -1,61 +1,57 @@
--- The number that decimal digits write is what std's parse gives.
-use Rattle.std.proofs.Common.{◌≡◌, ◌≢◌, ℕ, zero, suc, ◌^◌, ◌<◌, ◌≤◌, Bool, true, false, cond, eqb, ltb, List, [], ◌∷◌}
-use Rattle.std.proofs.Common.{length, get_or, Some, None, Result, Ok, Err, refl, sym, ap, ◌∙◌, arith, lit<}
-use Rattle.std.proofs.lemmas.Bool.{eqb-false, ne_eqb, le-ltb, lt-ltb, ltb-true}
-use Rattle.std.proofs.lemmas.Str.{IsUtf8-from_ascii}
-use Rattle.std.proofs.lemmas.Str.Parse.{IsNumeralModel, numerals_by_weight, tells_all_ascii_digits, parse_plain}
-use Rattle.std.specs.Prelude.{slice_index}
-use Rattle.std.specs.Result.{OkIff, result_ok}
-use Rattle.std.specs.Str.{IsUtf8, all_ascii_digits}
-use Rattle.std.specs.Str.Parse.{ParsesUnsigned}
-use Rattle.mp4_meta.specs.Metadata.{decimal_value, numeral}
-use Rattle.mp4_script.specs.Commands.{decimal_in}
+-- The value of decimal digits, with one digit more.
+use Rattle.std.proofs.Common.{◌≡◌, ℕ, ◌+◌, ◌-◌, ◌*◌, ◌^◌, ◌<◌, ◌≤◌, Bool, true, false, ◌&&◌, List, [], ◌∷◌, ◌++◌, length, take, get_or, refl, sym, ap, ◌∙◌, arith, length-append, zero, suc}
+use Rattle.std.proofs.lemmas.List.{take_more}
+use Rattle.std.proofs.lemmas.Nat.{pow-add}
+use Rattle.std.proofs.lemmas.Str.Parse.{tells_all_ascii_digits}
+use Rattle.std.specs.Char.{is_ascii_digit}
+use Rattle.std.specs.Str.{all_ascii_digits}
+use Rattle.mp4_meta.specs.Metadata.{decimal_value}
 
-abbrev AreDigits : List ℕ → Type 0
-AreDigits ds = all_ascii_digits ds ≡ true
+one_digit_more : (xs : List ℕ) (c : ℕ) → decimal_value (xs ++ c ∷ []) ≡ decimal_value xs * 10 + (c - 48)
+one_digit_more [] c = omega arith
+one_digit_more (x ∷ xs) c =
+    let power : 10 ^ length (xs ++ c ∷ []) ≡ 10 ^ length xs * 10 = ap (λ n. 10 ^ n) (length-append xs (c ∷ [])) ∙ pow-add 10 (length xs) 1 in
+    let product : (x - 48) * (10 ^ length xs * 10) ≡ (x - 48) * 10 ^ length xs * 10 = grind arith in
+    let rest = one_digit_more xs c in
+    rw (power, rest, product) (omega arith)
 
-model : IsNumeralModel AreDigits decimal_value
-model =
-    numerals_by_weight AreDigits tells_all_ascii_digits decimal_value
-    (record { empty = refl; more = λ c cs k. refl })
+and_true : (b : Bool) → (b && true) ≡ b
+and_true true = refl
+and_true false = refl
 
--- what is asked of digits
-abbrev Fits : List ℕ → Type 0
-Fits ds = AreDigits ds × (0 < length ds) × (decimal_value ds < 2 ^ 32)
+and_and : (a b c : Bool) → (a && (b && c)) ≡ (a && b && c)
+and_and true b c = refl
+and_and false b c = refl
 
--- of one to ten bytes
-module _ (ds : List ℕ) (few : length ds ≤ 10) where
-  is_number : Fits ds → decimal_in ds ≡ Some (decimal_value ds)
-  unfolding decimal_in numeral
-  is_number f = rw (le-ltb 10 (length ds) few, ne_eqb (length ds) 0 (λ e. omega (arith, e, f.1)), f.0, lt-ltb _ _ f.2) refl
+digits_more : (xs : List ℕ) (c : ℕ) → all_ascii_digits (xs ++ c ∷ []) ≡ (all_ascii_digits xs && is_ascii_digit c)
+digits_more [] c = and_true (is_ascii_digit c)
+digits_more (x ∷ xs) c = ap (λ b. is_ascii_digit x && b) (digits_more xs c) ∙ and_and (is_ascii_digit x) (all_ascii_digits xs) (is_ascii_digit c)
 
-  no_number : (Fits ds → ⊥) → decimal_in ds ≡ None
-  unfolding decimal_in numeral
-  no_number unfit =
-      rw (le-ltb 10 (length ds) few)
-      (chosen (eqb (length ds) 0) (all_ascii_digits ds) (ltb (decimal_value ds) (2 ^ 32))
-      (λ z a f. unfit (a, omega (arith, eqb-false (length ds) 0 z), ltb-true _ _ f)))
-    where
-      chosen : (z a f : Bool) → (z ≡ false → a ≡ true → f ≡ true → ⊥)
-          → cond z None (cond a (cond f (Some (decimal_value ds)) None) None) ≡ None
-      chosen true a f none = refl
-      chosen false false f none = refl
-      chosen false true false none = refl
-      chosen false true true none = absurd (none refl refl refl)
+and_false : (b : Bool) → (b && false) ≡ false
+and_false true = refl
+and_false false = refl
 
-  pub parsed : {E : Type 0} (r : Result ℕ E) → ParsesUnsigned 32 10 ds r → get_or ds 0 0 ≢ 43
-      → result_ok r ≡ decimal_in ds
-  parsed {E} r h plain = by r (parse_plain model 32 ds r h plain)
-    where
-      by : (q : Result ℕ E) → OkIff q (Fits ds) (decimal_value ds) → result_ok q ≡ decimal_in ds
-      by (Ok n) p = ap Some p.1 ∙ sym (is_number p.0)
-      by (Err e) p = sym (no_number p)
+-- a digit's value is below 10
+pub digit_small : (c : ℕ) → is_ascii_digit c ≡ true → c - 48 < 10
+digit_small c digit =
+    let parts = tells_all_ascii_digits.parts c [] (and_true (is_ascii_digit c) ∙ digit) in omega (arith, parts.0.1)
 
-  ascii_digits : (cs : List ℕ) → AreDigits cs → (i : ℕ) → slice_index cs i < 128
-  ascii_digits [] a i = lit< tt
-  ascii_digits (c ∷ cs) a zero = let k = tells_all_ascii_digits.parts c cs a in omega (arith, k.0.1)
-  ascii_digits (c ∷ cs) a (suc i) = let k = tells_all_ascii_digits.parts c cs a in ascii_digits cs k.1 i
+-- with one place more ten times as many values fit
+pub ten_times : (i : ℕ) → 10 ^ (i + 1) ≡ 10 ^ i * 10
+ten_times i = pow-add 10 i 1
 
-  -- what is not UTF-8 is no number
-  pub not_text : (IsUtf8 ds → ⊥) → None ≡ decimal_in ds
-  not_text other = sym (no_number (λ f. other (IsUtf8-from_ascii ds (ascii_digits ds f.0))))
+-- with the digit at place i
+pub value_more : (xs : List ℕ) (i : ℕ) → i < length xs
+    → decimal_value (take (i + 1) xs) ≡ decimal_value (take i xs) * 10 + (get_or xs i 0 - 48)
+value_more xs i h = ap decimal_value (take_more xs i 0 h) ∙ one_digit_more (take i xs) (get_or xs i 0)
+
+pub are_digits_more : (xs : List ℕ) (i : ℕ) → i < length xs → all_ascii_digits (take i xs) ≡ true
+    → is_ascii_digit (get_or xs i 0) ≡ true → all_ascii_digits (take (i + 1) xs) ≡ true
+are_digits_more xs i h before digit =
+    ap all_ascii_digits (take_more xs i 0 h) ∙ digits_more (take i xs) (get_or xs i 0) ∙ rw (before, digit) refl
+
+pub no_digit : (xs : List ℕ) (i : ℕ) → i < length xs → is_ascii_digit (get_or xs i 0) ≡ false
+    → all_ascii_digits xs ≡ false
+no_digit [] i h fails = elim h [ ]
+no_digit (x ∷ xs) zero h fails = rw (fails) refl
+no_digit (x ∷ xs) (suc i) h fails = rw (no_digit xs i (omega (arith, h)) fails) (and_false (is_ascii_digit x))

@@ -1,4 +1,5 @@
 pub mod Cutting
+pub mod Digits
 pub mod Decimals
 pub mod Steps
 pub mod Standard

@@ -1,25 +1,23 @@
 //! The commands of scripts: what a line that isn't empty asks of the writer.
 
-ghost use Rattle.std.specs.Prelude.{◌≡◌, Ok, length, option_map};
+ghost use Rattle.std.specs.Prelude.{◌≡◌, ◌≤◌, Ok, length, option_map, true, false, IfSome, IfNone};
 ghost use Rattle.std.specs.List.{position_or_len};
+ghost use Rattle.std.specs.Str.{all_ascii_digits};
 ghost use Rattle.mp4_codec.specs.Cause.{Answers};
 ghost use Rattle.mp4_media.specs.WriterCalls.{call_of};
+ghost use Rattle.mp4_meta.specs.Metadata.{decimal_value};
 ghost use Rattle.mp4_script.specs.Commands.{command_call, command_in, cut_at_space, decimal_in, offset_in, sample_in, sample_call, sync_in, text_config};
 
 use crate::lines::length_before;
 use bytes::Bytes;
 use mp4_media::{Mp4Sample, Result, TrackConfig, TtxtConfig, WriterCall};
 use std::alloc::Global;
-use std::str;
 
 /// The byte between the fields of a line.
 const SPACE: u8 = b' ';
 
 /// The most digits that a number has.
 const MOST_DIGITS: usize = 10;
-
-/// What `parse` takes before the digits of a number, and scripts don't.
-const PLUS: u8 = b'+';
 
 /// What a number below 0 begins with.
 const MINUS: &[u8] = b"-";
@@ -61,18 +59,37 @@ fn cut_at_space(line: &[u8]) -> Option<(&[u8], &[u8])>
     }
 }
 
+/// The number that so few decimal digits write, and None where one of the bytes is no digit. That is what `parse` gives of
+/// digits, without a look at their encoding before.
+fn value_of(digits: &[u8]) -> Option<u64>
+    requires { length digits.now ≤ 10 }
+    ensures value { IfSome result (λ n. n ≡ decimal_value digits.now) }
+    ensures digits { IfSome result (λ n. all_ascii_digits digits.now ≡ true) }
+    ensures none { IfNone result (all_ascii_digits digits.now ≡ false) }
+{
+    let mut value: u64 = 0;
+    for digit in digits {
+        if !digit.is_ascii_digit() {
+            return None;
+        }
+        value = value * 10 + u64::from(*digit - b'0');
+    }
+    Some(value)
+}
+
 /// The number that one to ten decimal digits write, where it has 32 bits.
 #[tactic(auto, unfolding(crate::specs::Commands::decimal_in, mp4_meta::specs::Metadata::numeral))]
 pub fn decimal_in(digits: &[u8]) -> Option<u32>
     ensures { result ≡ decimal_in digits.now }
 {
-    if digits.is_empty() || digits.len() > MOST_DIGITS || digits[0] == PLUS {
+    if digits.is_empty() || digits.len() > MOST_DIGITS {
         return None;
     }
-    match str::from_utf8(digits) {
-        Ok(text) => text.parse::<u32>().ok(),
-        Err(_) => None,
+    let value = value_of(digits)?;
+    if value > u64::from(u32::MAX) {
+        return None;
     }
+    Some(value as u32)
 }
 
 /// The number that such digits write, behind a minus or without one, where it has 32 bits with its sign.

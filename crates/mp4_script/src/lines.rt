@@ -4,6 +4,8 @@ ghost use Rattle.std.specs.Prelude.{◌≡◌, [], ◌∷◌, ◌==◌, ◌≤�
 ghost use Rattle.std.specs.List.{position_or_len};
 ghost use Rattle.mp4_script.specs.Lines.{lines_of, lines_left};
 
+use memchr::memchr;
+
 /// The byte at the end of a line.
 const LINE_FEED: u8 = b'\n';
 
@@ -21,6 +23,17 @@ pub(crate) fn length_before(text: &[u8], end: u8) -> usize
     text.iter().take_while(|byte| **byte != end).count()
 }
 
+/// How many bytes stand before the first line feed, or how many there are: as [`length_before`] answers, but found many bytes
+/// at a time, since lines may be long.
+fn line_length(text: &[u8]) -> usize
+    ensures { result ≡ position_or_len (λ byte. byte == 10) text.now }
+{
+    match memchr(LINE_FEED, text) {
+        Some(place) => place,
+        None => text.len(),
+    }
+}
+
 impl<'a> Lines<'a> {
     pub fn new(text: &'a [u8]) -> Self
         ensures { lines_left result ≡ lines_of text.now }
@@ -34,7 +47,7 @@ impl<'a> Lines<'a> {
         ensures end { IfNone result (lines_left self.new ≡ []) }
     {
         let text = self.rest?;
-        let end = length_before(text, LINE_FEED);
+        let end = line_length(text);
         if end < text.len() {
             self.rest = Some(&text[end + 1..]);
             Some(&text[..end])

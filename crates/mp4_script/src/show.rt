@@ -5,13 +5,18 @@ use crate::samples::write_samples;
 use crate::script::{ScriptFault, run_script};
 use mp4_media::{Mp4Reader, Result, read_mp4};
 use std::alloc::Global;
-use std::fmt::Write;
 
-/// Writes the lines of the samples of all tracks, by their ids.
-fn write_all_samples(alloc: Global, text: &mut String, movie: &Mp4Reader) -> Result<()> {
+/// Writes the lines of the samples of all tracks of a file, by their ids.
+fn write_all_samples(
+    alloc: Global,
+    text: &mut Vec<u8>,
+    movie: &Mp4Reader,
+    file: &[u8],
+) -> Result<()> {
     for id in track_ids(alloc, movie)?.iter() {
-        writeln!(text, "samples {id}")?;
-        write_samples(text, movie, *id)?;
+        let line = format!(in alloc; "samples {id}\n")?;
+        text.extend_from_slice(line.as_bytes())?;
+        write_samples(text, movie, file, *id)?;
     }
     Ok(())
 }
@@ -21,8 +26,9 @@ fn described(alloc: Global, file: &[u8]) -> Result<Vec<u8>> {
     let movie = read_mp4(alloc, file)?;
     let mut text = String::new(alloc);
     write_info(alloc, &mut text, &movie)?;
-    write_all_samples(alloc, &mut text, &movie)?;
-    Ok(text.into_bytes())
+    let mut text = text.into_bytes();
+    write_all_samples(alloc, &mut text, &movie, file)?;
+    Ok(text)
 }
 
 /// The lines that describe the movie that a script makes, without a file, and then those of the samples of each track, by

@@ -6,9 +6,9 @@ use Rattle.mp4_script.proofs.lines.Lines.next_line.Goals as goal
 pub returns-then-end-text-clause-line : goal.returns-then-end-text-clause-line
 returns-then-end-text-clause-line c =
     ap (λ rest. lines_left (record { rest = rest })) c.in_ok-text.was
-    ∙ cut_line c.in_ok-text.text.now c.length_before-end.result c.length_before-end.ensures c.if-end-text.true
+    ∙ cut_line c.in_ok-text.text.now c.line_length-end.result c.line_length-end.ensures c.if-end-text.true
 
 pub returns-else-end-text-clause-line : goal.returns-else-end-text-clause-line
 returns-else-end-text-clause-line c =
     ap (λ rest. lines_left (record { rest = rest })) c.in_ok-text.was
-    ∙ whole_line c.in_ok-text.text.now c.length_before-end.result c.length_before-end.ensures c.if-end-text.false
+    ∙ whole_line c.in_ok-text.text.now c.line_length-end.result c.line_length-end.ensures c.if-end-text.false
