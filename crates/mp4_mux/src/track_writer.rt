@@ -27,6 +27,13 @@ use mp4_samples::Mp4Sample;
 use std::alloc::{AllocError, Global};
 use std::marker::Model;
 
+/// A duration in ticks of the track, and what it is in ticks of the movie, rounded down.
+#[derive(Clone, Copy, Debug)]
+struct ConvertedDuration {
+    duration: u32,
+    ticks: u64,
+}
+
 /// A track that is being written: what its tables say of its samples, its chunks, and the samples that no chunk has yet.
 #[derive(Debug, Drop)]
 pub struct TrackWriter {
@@ -42,6 +49,9 @@ pub struct TrackWriter {
     durations: Durations,
     /// How many samples stand in chunks.
     closed: u32,
+    /// The duration of the sample that was added last, converted: most samples last as long as the one before, and a
+    /// division is slow.
+    last: ConvertedDuration,
 }
 
 impl Model for TrackWriter {
@@ -80,6 +90,10 @@ impl TrackWriter {
             pending_duration: 0,
             durations: Durations { media: 0, movie: 0 },
             closed: 0,
+            last: ConvertedDuration {
+                duration: 0,
+                ticks: 0,
+            },
         }
     }
 }
@@ -120,11 +134,21 @@ impl TrackWriter {
         self.samples.len() as u32
     }
 
+    /// A duration in ticks of the movie, rounded down, as [`movie_ticks`] answers it.
+    fn ticks_of(&self, duration: u32) -> u64
+        ensures { result ≡ duration * self.now.movie_timescale / self.now.config.timescale }
+    {
+        if duration == self.last.duration {
+            return self.last.ticks;
+        }
+        movie_ticks(duration, self.movie_timescale, self.config.timescale)
+    }
+
     /// Whether its duration in ticks of the movie stays within 64 bits with one more sample of this duration.
     fn has_room(&self, duration: u32) -> bool
         ensures { IsTrue result ↔ (ticks self.now duration < 2 ^ 64) }
     {
-        let more = movie_ticks(duration, self.movie_timescale, self.config.timescale);
+        let more = self.ticks_of(duration);
         more <= u64::MAX - self.durations.movie
     }
 
@@ -139,7 +163,7 @@ impl TrackWriter {
         let info = info_of(sample);
         info.in_range();
         let duration = info.duration as u64;
-        let movie = movie_ticks(info.duration, self.movie_timescale, self.config.timescale);
+        let movie = self.ticks_of(info.duration);
         self.samples.push(info)?;
         if let Err(e) = self.pending.extend_from_slice(sample.bytes.as_slice()) {
             let _ = self.samples.take_last();
@@ -148,6 +172,10 @@ impl TrackWriter {
         self.pending_duration += duration;
         self.durations.media += duration;
         self.durations.movie += movie;
+        self.last = ConvertedDuration {
+            duration: info.duration,
+            ticks: movie,
+        };
         Ok(())
     }
 
