@@ -2,6 +2,7 @@
 
 ghost use Rattle.std.specs.Prelude.{◌≡◌, ℕ, ◌+◌, ◌-◌, ◌^◌, ◌<◌, ◌≤◌, [], ◌∷◌, ◌++◌, length, slice_index, OnOk};
 
+use crate::slope::Slope;
 use mp4_codec::Items;
 use std::alloc::AllocError;
 use std::marker::Model;
@@ -40,6 +41,9 @@ impl Readings {
 #[derive(Debug, Drop)]
 pub struct SearchedNumbers {
     numbers: Items<u32>,
+    /// By which the place of a number is guessed. It is read off the first and the last number, and says nothing of those
+    /// between.
+    slope: Slope,
 }
 
 impl Model for SearchedNumbers {
@@ -54,8 +58,10 @@ impl SearchedNumbers {
     pub fn new(numbers: Vec<u32>) -> Self
         ensures { result ≡ numbers.items }
     {
+        let slope = Slope::of(numbers.as_slice());
         SearchedNumbers {
             numbers: Items::from(numbers),
+            slope,
         }
     }
 
@@ -78,7 +84,13 @@ impl SearchedNumbers {
         ensures { OnOk result (self.new ≡ self.old ++ number ∷ []) }
     {
         self.numbers.push(number)?;
+        self.slope = Slope::of(self.numbers.as_slice());
         Ok(())
+    }
+
+    /// The index at which the last number that is at most `key` is expected: a guess.
+    pub(crate) fn expected(&self, key: u32) -> usize {
+        self.slope.place(key)
     }
 
     /// The number at an index, which counts from 0. This counts as one reading.

@@ -2,7 +2,10 @@
 #![tactic(auto)]
 
 mod counted;
+mod near;
 mod search;
+mod slope;
 
 pub use counted::{CappedSums, Readings, RunningSizes, SearchedNumbers};
+pub use near::{last_at_most_by, last_at_most_near};
 pub use search::{Found, last_at_most};

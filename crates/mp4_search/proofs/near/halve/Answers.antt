@@ -1,0 +1,44 @@
+use Rattle.std.proofs.Common.{◌≡◌, ◌+◌, ◌-◌, ◌/◌, refl, arith}
+use Rattle.mp4_search.proofs.Digits.{digits_half, digits_64}
+use Rattle.mp4_search.proofs.near.halve.Goals as goal
+
+pub read-number-requires-clause-room : goal.read-number-requires-clause-room
+read-number-requires-clause-room c =
+    let between = c.args.between in
+    omega (
+      arith,
+      c.loop-low.invariant.paid,
+      c.requires.room,
+      digits_64 (between.high - between.low) (omega (arith, c.requires.between.inside)),
+    )
+
+pub loop-low-preserved-then-number-key : goal.loop-low-preserved-then-number-key
+loop-low-preserved-then-number-key c =
+    let l = c.loop-low in
+    let middle = (l.low + (l.high - l.low) / 2) in
+    let one_before : middle + 1 - 1 ≡ middle = omega arith in
+    let paid = digits_half (l.high - (middle + 1)) (l.high - l.low) (omega arith) (omega arith) in
+    record {
+      between = record {
+        ordered = omega arith;
+        inside = l.invariant.between.inside;
+        before = λ h. (rw one_before c.read-number.ensures.number, omega arith);
+        above = l.invariant.between.above;
+      };
+      paid = omega (arith, paid, l.invariant.paid);
+    }
+
+pub loop-low-preserved : goal.loop-low-preserved
+loop-low-preserved c =
+    let l = c.loop-low in
+    let middle = (l.low + (l.high - l.low) / 2) in
+    let paid = digits_half (middle - l.low) (l.high - l.low) (omega arith) (omega arith) in
+    record {
+      between = record {
+        ordered = omega arith;
+        inside = omega (arith, l.invariant.between.inside);
+        before = l.invariant.between.before;
+        above = λ j h k. omega (arith, c.read-number.ensures.number, c.requires.rises middle j 0 h k);
+      };
+      paid = omega (arith, paid, l.invariant.paid);
+    }
