@@ -2,10 +2,11 @@
 
 ghost use Rattle.mp4_codec.specs.ExactTest.{by_law, by_test, field_tests};
 ghost use Rattle.mp4_fragments.specs.contracts.members.MemberExactEq.TheImpl.Laws.{lawful as member_laws};
-ghost use Rattle.std.specs.Prelude.{◌≡◌, ℕ, ◌-◌, ◌^◌, ◌<◌, List, length, min, slice_get, IfSome, Option};
+ghost use Rattle.std.specs.Prelude.{◌≡◌, ℕ, ◌+◌, ◌-◌, ◌^◌, ◌<◌, ◌≤◌, false, List, length, min, slice_get, IfSome, Option};
 ghost use Rattle.std.specs.Option.{option_map, option_and_then};
 ghost use Rattle.std.specs.List.{sum_by};
 ghost use Rattle.mp4_moof.specs.declared.traf.TrafBox.{TrafBox};
+ghost use Rattle.mp4_search.specs.Digits.{digits};
 ghost use Rattle.mp4_search.specs.Search.{IsFew, comparisons_in};
 ghost use Rattle.mp4_fragments.specs.Members.{PlacedRun, all_members};
 ghost use Rattle.mp4_fragments.specs.Index.{Find, Indexes, IsRight, member_in, placed_at, run_at, runs_of};
@@ -16,7 +17,7 @@ use crate::members::{Member, nth_member};
 use mp4_codec::ExactEq;
 use mp4_frag::TrunBox;
 use mp4_moof::TrafBox;
-use mp4_search::last_at_most;
+use mp4_search::last_at_most_by;
 
 /// A member, and how many numbers were compared to find its run.
 #[derive(Clone, Copy, Debug, PartialEq, Eq)]
@@ -75,7 +76,42 @@ impl RunIndex {
         ensures counted { IfSome result (λ x. x.comparisons ≡ comparisons_in self.now.counts number) }
         ensures comparisons { IfSome result (λ x. IsFew x.comparisons (length (runs_of trafs.now track self.now))) }
     {
-        let (found, readings) = last_at_most(&self.counts, number);
+        self.find_by(trafs, track, number, false)
+    }
+
+    /// The member that [`find`](RunIndex::find) answers, found faster: the runs are searched from the one at which it is
+    /// expected, where all had as many members. At most seven numbers more are compared than the number of the runs has
+    /// binary digits.
+    pub fn find_by_guess(
+        &self,
+        trafs: &[TrafBox],
+        track: SampleDefaults,
+        number: u32,
+    ) -> Option<FoundMember>
+        requires number { number < 2 ^ 32 - 1 }
+        requires indexed { Indexes (run_at trafs.now track) (runs_of trafs.now track self.now) self.now }
+        ensures member { option_map (λ x. x.member) result ≡ slice_get (all_members (runs_of trafs.now track self.now)) number }
+        ensures comparisons { IfSome result (λ x. x.comparisons ≤ digits (length (runs_of trafs.now track self.now)) + 7) }
+    {
+        self.find_by(trafs, track, number, true)
+    }
+
+    /// The answer of `find` and of `find_by_guess`.
+    fn find_by(
+        &self,
+        trafs: &[TrafBox],
+        track: SampleDefaults,
+        number: u32,
+        by_guess: bool,
+    ) -> Option<FoundMember>
+        requires number { number < 2 ^ 32 - 1 }
+        requires indexed { Indexes (run_at trafs.now track) (runs_of trafs.now track self.now) self.now }
+        ensures member { option_map (λ x. x.member) result ≡ slice_get (all_members (runs_of trafs.now track self.now)) number }
+        ensures counted { by_guess ≡ false → IfSome result (λ x. x.comparisons ≡ comparisons_in self.now.counts number) }
+        ensures comparisons { by_guess ≡ false → IfSome result (λ x. IsFew x.comparisons (length (runs_of trafs.now track self.now))) }
+        ensures near { IfSome result (λ x. x.comparisons ≤ digits (length (runs_of trafs.now track self.now)) + 7) }
+    {
+        let (found, readings) = last_at_most_by(&self.counts, number, by_guess);
         let comparisons = readings.count();
         let Some(found) = found else {
             return None;

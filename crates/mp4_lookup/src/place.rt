@@ -2,9 +2,10 @@
 //! 8.7.3 to 8.7.5).
 
 ghost use Rattle.mp4_codec.specs.ExactTest.{by_test, field_tests};
-ghost use Rattle.std.specs.Prelude.{◌≡◌, ℕ, ◌+◌, ◌-◌, ◌^◌, ◌<◌, ◌≤◌, map, length, sum, slice_get, slice_range, option_map, IfOk, IfSome, OnOk};
+ghost use Rattle.std.specs.Prelude.{◌≡◌, ℕ, ◌+◌, ◌-◌, ◌^◌, ◌<◌, ◌≤◌, false, map, length, sum, slice_get, slice_range, option_map, IfOk, IfSome, OnOk};
 ghost use Rattle.mp4_codec.specs.Cause.{Gives};
 ghost use Rattle.mp4_table.specs.Stsc.{HasFirstSamples};
+ghost use Rattle.mp4_search.specs.Digits.{digits};
 ghost use Rattle.mp4_search.specs.Search.{IsFew, comparisons_in};
 ghost use Rattle.mp4_search.specs.Sums.{SumsBefore64};
 ghost use Rattle.std.specs.List.{All};
@@ -16,7 +17,7 @@ ghost use Rattle.mp4_lookup.specs.Rule.{entry_for, chunk_for, within_64_bits, sp
 use crate::index::TrackIndex;
 use mp4_boxes::StblBox;
 use mp4_codec::{Error, ExactEq, Result};
-use mp4_search::{CappedSums, SearchedNumbers, last_at_most};
+use mp4_search::{CappedSums, SearchedNumbers, last_at_most_by};
 use mp4_table::{StscEntry, StszBox};
 
 /// Where a sample lies, and what it cost to find it.
@@ -32,25 +33,28 @@ impl ExactEq for Spot {
     ghost exact = { by_test (Prim.hlevel field_tests) };
 }
 
-/// The last entry whose first sample is at most `k`, and how many comparisons found it.
+/// The last entry whose first sample is at most `k`, and how many comparisons found it, of a search by halves or by a
+/// guess.
 #[tactic(auto, unfolding(crate::specs::Rule::entry_for))]
 fn entry_at(
     entries: &[StscEntry],
     first_samples: &SearchedNumbers,
     k: u32,
+    by_guess: bool,
 ) -> Result<(StscEntry, u32)>
     requires firsts { HasFirstSamples entries.now }
     requires index { first_samples.now ≡ map (λ e. e.first_sample) entries.now }
     ensures entry { Gives (λ x. x.0) result (entry_for entries.now k) }
     ensures counts { OnOk result (1 ≤ k) }
     ensures usable { IfOk result (λ x. (1 ≤ x.0.first_sample) × (x.0.first_sample ≤ k) × (1 ≤ x.0.samples_per_chunk)) }
-    ensures counted { IfOk result (λ x. x.1 ≡ comparisons_in first_samples.now k) }
-    ensures few { IfOk result (λ x. IsFew x.1 (length entries.now)) }
+    ensures counted { by_guess ≡ false → IfOk result (λ x. x.1 ≡ comparisons_in first_samples.now k) }
+    ensures few { by_guess ≡ false → IfOk result (λ x. IsFew x.1 (length entries.now)) }
+    ensures near { IfOk result (λ x. x.1 ≤ digits (length entries.now) + 7) }
 {
     if k == 0 {
         return Err(Error::InvalidData("samples are numbered from 1"));
     }
-    let (found, readings) = last_at_most(first_samples, k);
+    let (found, readings) = last_at_most_by(first_samples, k, by_guess);
     let comparisons = readings.count();
     let Some(found) = found else {
         return Err(Error::InvalidData("stsc has no entry for the sample"));
@@ -170,17 +174,28 @@ fn spot_by(
     }))
 }
 
-/// Where sample `k` lies, and its size.
+/// Where sample `k` lies, and its size, by a search by halves or by a guess.
 #[tactic(auto, unfolding(crate::specs::Rule::spot_at))]
-pub fn spot_at(stbl: &StblBox, index: &TrackIndex, k: u32) -> Result<Option<Spot>>
+pub fn spot_at(
+    stbl: &StblBox,
+    index: &TrackIndex,
+    k: u32,
+    by_guess: bool,
+) -> Result<Option<Spot>>
     requires firsts { HasFirstSamples stbl.now.stsc.entries }
     requires index { IsIndexOf stbl.now index.now }
     ensures spot { Gives (λ s. option_map (λ s. (s.offset, s.size)) s) result (spot_at stbl.now k) }
     ensures counts { OnOk result (1 ≤ k) }
-    ensures counted { IfOk result (λ s. IfSome s (λ s. s.comparisons ≡ comparisons_in index.now.first_samples k)) }
-    ensures few { IfOk result (λ s. IfSome s (λ s. IsFew s.comparisons (length stbl.now.stsc.entries))) }
+    ensures counted { by_guess ≡ false → IfOk result (λ s. IfSome s (λ s. s.comparisons ≡ comparisons_in index.now.first_samples k)) }
+    ensures few { by_guess ≡ false → IfOk result (λ s. IfSome s (λ s. IsFew s.comparisons (length stbl.now.stsc.entries))) }
+    ensures near { IfOk result (λ s. IfSome s (λ s. s.comparisons ≤ digits (length stbl.now.stsc.entries) + 7)) }
     ensures size_reads { IfOk result (λ s. IfSome s (λ s. AreFewSizeReads stbl.now s.size_reads)) }
 {
-    let (entry, comparisons) = entry_at(stbl.stsc.entries.as_slice(), &index.first_samples, k)?;
+    let (entry, comparisons) = entry_at(
+        stbl.stsc.entries.as_slice(),
+        &index.first_samples,
+        k,
+        by_guess,
+    )?;
     spot_by(stbl, index, &entry, comparisons, k)
 }

@@ -6,6 +6,7 @@ ghost use Rattle.std.specs.List.Sorted.{IsStrictlyIncreasing};
 ghost use Rattle.mp4_codec.specs.Cause.{Gives};
 ghost use Rattle.mp4_table.specs.Runs.{durations, rendering_offsets};
 ghost use Rattle.mp4_table.specs.Starts.{start_of};
+ghost use Rattle.mp4_search.specs.Digits.{digits};
 ghost use Rattle.mp4_search.specs.Search.{IsFew, comparisons_in};
 ghost use Rattle.mp4_search.specs.Sums.{CountsBefore};
 ghost use Rattle.mp4_lookup.specs.Costs.{sync_comparisons};
@@ -15,7 +16,7 @@ ghost use Rattle.mp4_lookup.specs.Rule.{time_at};
 
 use crate::index::TrackIndex;
 use mp4_codec::{BoxType, Error, Result};
-use mp4_search::{SearchedNumbers, last_at_most};
+use mp4_search::{SearchedNumbers, last_at_most_by};
 use mp4_table::{CttsEntry, StssBox, SttsEntry};
 
 /// When so many samples of these runs have lasted, or all, where there are fewer.
@@ -34,21 +35,23 @@ pub fn end_after(runs: &[SttsEntry], count: u32) -> u64
     end
 }
 
-/// Duration and start of sample `k`, and how many comparisons found them.
+/// Duration and start of sample `k`, and how many comparisons found them, of a search by halves or by a guess.
 pub fn time_at(
     runs: &[SttsEntry],
     counts: &SearchedNumbers,
     times: &[u64],
     track_id: u32,
     k: u32,
+    by_guess: bool,
 ) -> Result<(u32, u64, u32)>
     requires first { 1 ≤ k }
     requires sums { TimesBefore runs.now counts.now times.now }
     ensures time { Gives (λ t. (t.0, t.1)) result (time_at runs.now track_id k) }
-    ensures counted { IfOk result (λ t. t.2 ≡ comparisons_in counts.now (k - 1)) }
-    ensures few { IfOk result (λ t. IsFew t.2 (length runs.now)) }
+    ensures counted { by_guess ≡ false → IfOk result (λ t. t.2 ≡ comparisons_in counts.now (k - 1)) }
+    ensures few { by_guess ≡ false → IfOk result (λ t. IsFew t.2 (length runs.now)) }
+    ensures near { IfOk result (λ t. t.2 ≤ digits (length runs.now) + 7) }
 {
-    let (found, readings) = last_at_most(counts, k - 1);
+    let (found, readings) = last_at_most_by(counts, k - 1, by_guess);
     let comparisons = readings.count();
     let Some(found) = found else {
         return Err(Error::EntryInStblNotFound(track_id, BoxType::SttsBox, k));
@@ -62,16 +65,22 @@ pub fn time_at(
     Ok((run.sample_delta, start, comparisons))
 }
 
-/// How much later than it is decoded sample `k` is shown, and how many comparisons found it: 0 past the
-/// runs.
-pub fn rendering_offset_at(runs: &[CttsEntry], counts: &SearchedNumbers, k: u32) -> (i32, u32)
+/// How much later than it is decoded sample `k` is shown, and how many comparisons found it, of a search by halves or by
+/// a guess: 0 past the runs.
+pub fn rendering_offset_at(
+    runs: &[CttsEntry],
+    counts: &SearchedNumbers,
+    k: u32,
+    by_guess: bool,
+) -> (i32, u32)
     requires first { 1 ≤ k }
     requires sums { CountsBefore (λ r. r.sample_count) runs.now counts.now }
     ensures value { result.0 ≡ get_or (rendering_offsets runs.now) (k - 1) (pos 0) }
-    ensures counted { result.1 ≡ comparisons_in counts.now (k - 1) }
-    ensures few { IsFew result.1 (length runs.now) }
+    ensures counted { by_guess ≡ false → result.1 ≡ comparisons_in counts.now (k - 1) }
+    ensures few { by_guess ≡ false → IsFew result.1 (length runs.now) }
+    ensures near { result.1 ≤ digits (length runs.now) + 7 }
 {
-    let (found, readings) = last_at_most(counts, k - 1);
+    let (found, readings) = last_at_most_by(counts, k - 1, by_guess);
     let comparisons = readings.count();
     let Some(found) = found else {
         return (0, comparisons);
@@ -86,17 +95,24 @@ pub fn rendering_offset_at(runs: &[CttsEntry], counts: &SearchedNumbers, k: u32)
 
 /// Whether the numbers contain `k`, and how many comparisons showed it. Where the numbers don't strictly rise, the same
 /// numbers in rising order are searched, which counts as no comparison.
-fn contains(searched: &SearchedNumbers, rises: bool, sorted: &[u32], k: u32) -> (bool, u32)
+fn contains(
+    searched: &SearchedNumbers,
+    rises: bool,
+    sorted: &[u32],
+    k: u32,
+    by_guess: bool,
+) -> (bool, u32)
     requires rises { IsTrue rises → IsStrictlyIncreasing searched.now }
     requires sorted { rises ≡ false → IsInOrder searched.now sorted.now }
     ensures value { result.0 ≡ list_any (λ n. n == k) searched.now }
-    ensures counted { result.1 ≡ (if rises then comparisons_in searched.now k else 0) }
-    ensures few { IsTrue rises → IsFew result.1 (length searched.now) }
+    ensures counted { by_guess ≡ false → result.1 ≡ (if rises then comparisons_in searched.now k else 0) }
+    ensures few { by_guess ≡ false → IsTrue rises → IsFew result.1 (length searched.now) }
+    ensures near { result.1 ≤ digits (length searched.now) + 7 }
 {
     if !rises {
         return (sorted.binary_search(&k).is_ok(), 0);
     }
-    let (found, readings) = last_at_most(searched, k);
+    let (found, readings) = last_at_most_by(searched, k, by_guess);
     let comparisons = readings.count();
     match found {
         None => (false, comparisons),
@@ -105,13 +121,19 @@ fn contains(searched: &SearchedNumbers, rises: bool, sorted: &[u32], k: u32) -> 
 }
 
 /// Whether sample `k` is a sync sample, and how many comparisons showed it.
-pub fn is_sync(stss: &Option<StssBox>, index: &TrackIndex, k: u32) -> (bool, u32)
+pub fn is_sync(
+    stss: &Option<StssBox>,
+    index: &TrackIndex,
+    k: u32,
+    by_guess: bool,
+) -> (bool, u32)
     requires rises { IsTrue index.now.sync_rises ↔ IsStrictlyIncreasing (sync_numbers stss.now) }
     requires sync { index.now.sync_numbers ≡ sync_numbers stss.now }
     requires sorted { index.now.sync_rises ≡ false → IsInOrder (sync_numbers stss.now) index.now.sync_sorted.items }
     ensures value { result.0 ≡ is_sync_at stss.now k }
-    ensures counted { result.1 ≡ sync_comparisons index.now k }
-    ensures few { IsStrictlyIncreasing (sync_numbers stss.now) → IsFew result.1 (length (sync_numbers stss.now)) }
+    ensures counted { by_guess ≡ false → result.1 ≡ sync_comparisons index.now k }
+    ensures few { by_guess ≡ false → IsStrictlyIncreasing (sync_numbers stss.now) → IsFew result.1 (length (sync_numbers stss.now)) }
+    ensures near { result.1 ≤ digits (length (sync_numbers stss.now)) + 7 }
 {
     match stss {
         None => (true, 0),
@@ -120,6 +142,7 @@ pub fn is_sync(stss: &Option<StssBox>, index: &TrackIndex, k: u32) -> (bool, u32
             index.sync_rises,
             index.sync_sorted.as_slice(),
             k,
+            by_guess,
         ),
     }
 }

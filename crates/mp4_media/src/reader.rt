@@ -294,7 +294,7 @@ impl<'a> Mp4Reader<'a> {
     fn lent(&self, track_id: u32, k: u32) -> Result<Option<SampleRef<'a>>>
         ensures { Gives (λ s. option_map lent_sample s) result (sample_in self.now.bytes.now self.now.tracks track_id k) }
     {
-        let Some(place) = self.track(track_id)?.locate(k)? else {
+        let Some(place) = self.track(track_id)?.locate_by_guess(k)? else {
             return Ok(None);
         };
         let mut cursor = ByteCursor::new(self.bytes);

@@ -3,4 +3,7 @@
 pub use mp4_fragments::{
     Beginning, FoundMember, Member, RunIndex, SampleDefaults, index_of, traf_base, traf_end,
 };
-pub use mp4_search::{CappedSums, Found, Readings, RunningSizes, SearchedNumbers, last_at_most};
+pub use mp4_search::{
+    CappedSums, Found, Readings, RunningSizes, SearchedNumbers, last_at_most, last_at_most_by,
+    last_at_most_near,
+};

@@ -16,7 +16,7 @@ const LINE: usize = 148;
 ///
 /// The sample is looked up once, where reading it first and then asking for its place would do it twice.
 fn place_of(track: &Mp4Track, file: &[u8], k: u32) -> Result<Option<SamplePlace>> {
-    let Some(place) = track.locate(k)? else {
+    let Some(place) = track.locate_by_guess(k)? else {
         return Ok(None);
     };
     let mut cursor = ByteCursor::new(file);

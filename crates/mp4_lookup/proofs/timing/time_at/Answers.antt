@@ -7,14 +7,14 @@ use Rattle.mp4_lookup.proofs.Sums.{ticks_before, start_fits}
 use Rattle.mp4_lookup.proofs.timing.time_at.Goals as goal
 use Rattle.mp4_lookup.proofs.timing.time_at.Goals.{After-from-2}
 
-pub last_at_most-found-requires : goal.last_at_most-found-requires
-last_at_most-found-requires c =
+pub last_at_most_by-found-requires : goal.last_at_most_by-found-requires
+last_at_most_by-found-requires c =
     counts_rise (λ (r : SttsEntry). r.sample_count) c.args.runs.now c.args.counts.now c.requires.sums.counts
 
 pub returns-in_default-clause-time : goal.returns-in_default-clause-time
 returns-in_default-clause-time c =
     let none = none_found (λ (r : SttsEntry). r.sample_count) c.args.runs.now c.args.counts.now (c.args.k - 1)
-    c.requires.sums.counts (rw c.in_default.is at c.last_at_most-found.ensures.none) in
+    c.requires.sums.counts (rw c.in_default.is at c.last_at_most_by-found.ensures.none) in
     time_at_past c.args.runs.now c.args.track_id c.args.k 0 0 c.requires.first (omega (arith, none)) refl
     (omega arith)
 
@@ -22,7 +22,7 @@ pub returns-then-further-run-clause-time : goal.returns-then-further-run-clause-
 returns-then-further-run-clause-time c =
     let d : SttsEntry = record { sample_count = 0; sample_delta = 0 } in
     let i = c.in-Some.found.index in
-    let found = rw c.in-Some.is at c.last_at_most-found.ensures.found in
+    let found = rw c.in-Some.is at c.last_at_most_by-found.ensures.found in
     let past = past_found (λ (r : SttsEntry). r.sample_count) c.args.runs.now c.args.counts.now (c.args.k - 1) i d
     c.requires.sums.counts (omega arith) found.0 (omega (arith, found.1, c.if-further-run.true)) in
     time_at_past c.args.runs.now c.args.track_id c.args.k (i + 1) _ c.requires.first past.0 refl past.1
@@ -33,7 +33,7 @@ begins : (c : After-from-2) → get_or c.args.times.now c.in-Some.found.index 0
 begins c =
     let runs = c.args.runs.now in
     let i = c.in-Some.found.index in
-    let found = rw c.in-Some.is at c.last_at_most-found.ensures.found in
+    let found = rw c.in-Some.is at c.last_at_most_by-found.ensures.found in
     let sums = c.requires.sums in
     let before = before_found (λ (r : SttsEntry). r.sample_count) runs c.args.counts.now (c.args.k - 1) i sums.counts
     (omega arith) found.0 in
@@ -46,7 +46,7 @@ start_small c =
     let d : SttsEntry = record { sample_count = 0; sample_delta = 0 } in
     let runs = c.args.runs.now in
     let i = c.in-Some.found.index in
-    let found = rw c.in-Some.is at c.last_at_most-found.ensures.found in
+    let found = rw c.in-Some.is at c.last_at_most_by-found.ensures.found in
     let sums = c.requires.sums in
     let before = before_found (λ (r : SttsEntry). r.sample_count) runs c.args.counts.now (c.args.k - 1) i sums.counts
     (omega arith) found.0 in
@@ -64,7 +64,7 @@ returns-clause-time c =
     let d : SttsEntry = record { sample_count = 0; sample_delta = 0 } in
     let runs = c.args.runs.now in
     let i = c.in-Some.found.index in
-    let found = rw c.in-Some.is at c.last_at_most-found.ensures.found in
+    let found = rw c.in-Some.is at c.last_at_most_by-found.ensures.found in
     let before = before_found (λ (r : SttsEntry). r.sample_count) runs c.args.counts.now (c.args.k - 1) i
     c.requires.sums.counts (omega arith) found.0 in
     rw (c.from.ensures, c.from-2.ensures)
