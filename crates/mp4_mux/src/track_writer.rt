@@ -25,17 +25,18 @@ use mp4_boxes::TrakBox;
 use mp4_codec::{Error, InRange, Limit};
 use mp4_samples::Mp4Sample;
 use std::alloc::{AllocError, Global};
+use std::fmt;
 use std::marker::Model;
 
 /// A duration in ticks of the track, and what it is in ticks of the movie, rounded down.
-#[derive(Clone, Copy, Debug)]
+#[derive(Clone, Copy)]
 struct ConvertedDuration {
     duration: u32,
     ticks: u64,
 }
 
 /// A track that is being written: what its tables say of its samples, its chunks, and the samples that no chunk has yet.
-#[derive(Debug, Drop)]
+#[derive(Drop)]
 pub struct TrackWriter {
     config: TrackConfig,
     /// Ticks in a second, of the movie.
@@ -60,6 +61,22 @@ impl Model for TrackWriter {
     ghost view = { track_view };
 
     ghost invariant = { IsTrackWriter };
+}
+
+/// Without `last`, which spares a division and says nothing more of the track.
+impl fmt::Debug for TrackWriter {
+    fn fmt<W: fmt::Write>(&self, f: &mut fmt::Formatter<W>) -> fmt::Result {
+        f.debug_struct("TrackWriter")
+            .field("config", &self.config)
+            .field("movie_timescale", &self.movie_timescale)
+            .field("samples", &self.samples)
+            .field("chunks", &self.chunks)
+            .field("pending", &self.pending)
+            .field("pending_duration", &self.pending_duration)
+            .field("durations", &self.durations)
+            .field("closed", &self.closed)
+            .finish()
+    }
 }
 
 /// What the tables say of a sample.

@@ -5,6 +5,7 @@ ghost use Rattle.std.specs.Prelude.{◌≡◌, ℕ, ◌+◌, ◌-◌, ◌^◌, �
 use crate::slope::Slope;
 use mp4_codec::Items;
 use std::alloc::AllocError;
+use std::fmt;
 use std::marker::Model;
 
 /// How many numbers were read by one call. Only the calls of this crate that read numbers make one, with all readings of
@@ -155,7 +156,7 @@ impl RunningSizes {
 
 /// Running sums as `RunningSizes`, in half the memory: they stop at 2^64 - 1, which the sum of fewer than 2^32 sizes of
 /// 32 bits never reaches.
-#[derive(Debug, Drop)]
+#[derive(Drop)]
 pub struct CappedSums {
     sums: Vec<u64>,
 }
@@ -198,5 +199,14 @@ impl CappedSums {
         let upto = self.read(last, &mut readings);
         let from = self.read(first, &mut readings);
         (upto - from, readings)
+    }
+}
+
+/// As a `RunningSizes` with the same sums is written.
+impl fmt::Debug for CappedSums {
+    fn fmt<W: fmt::Write>(&self, f: &mut fmt::Formatter<W>) -> fmt::Result {
+        f.debug_struct("RunningSizes")
+            .field("sums", &self.sums)
+            .finish()
     }
 }
