@@ -176,12 +176,7 @@ fn spot_by(
 
 /// Where sample `k` lies, and its size, by a search by halves or by a guess.
 #[tactic(auto, unfolding(crate::specs::Rule::spot_at))]
-pub fn spot_at(
-    stbl: &StblBox,
-    index: &TrackIndex,
-    k: u32,
-    by_guess: bool,
-) -> Result<Option<Spot>>
+pub fn spot_at(stbl: &StblBox, index: &TrackIndex, k: u32, by_guess: bool) -> Result<Option<Spot>>
     requires firsts { HasFirstSamples stbl.now.stsc.entries }
     requires index { IsIndexOf stbl.now index.now }
     ensures spot { Gives (λ s. option_map (λ s. (s.offset, s.size)) s) result (spot_at stbl.now k) }

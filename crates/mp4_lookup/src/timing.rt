@@ -121,12 +121,7 @@ fn contains(
 }
 
 /// Whether sample `k` is a sync sample, and how many comparisons showed it.
-pub fn is_sync(
-    stss: &Option<StssBox>,
-    index: &TrackIndex,
-    k: u32,
-    by_guess: bool,
-) -> (bool, u32)
+pub fn is_sync(stss: &Option<StssBox>, index: &TrackIndex, k: u32, by_guess: bool) -> (bool, u32)
     requires rises { IsTrue index.now.sync_rises ↔ IsStrictlyIncreasing (sync_numbers stss.now) }
     requires sync { index.now.sync_numbers ≡ sync_numbers stss.now }
     requires sorted { index.now.sync_rises ≡ false → IsInOrder (sync_numbers stss.now) index.now.sync_sorted.items }

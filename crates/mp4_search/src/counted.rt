@@ -39,7 +39,7 @@ impl Readings {
 }
 
 /// Numbers that are searched: only a search reads them, one at a time.
-#[derive(Debug, Drop)]
+#[derive(Drop)]
 pub struct SearchedNumbers {
     numbers: Items<u32>,
     /// By which the place of a number is guessed. It is read off the first and the last number, and says nothing of those
@@ -103,6 +103,15 @@ impl SearchedNumbers {
     {
         readings.count += 1;
         self.numbers.as_slice()[index]
+    }
+}
+
+/// Without `slope`, which the numbers give.
+impl fmt::Debug for SearchedNumbers {
+    fn fmt<W: fmt::Write>(&self, f: &mut fmt::Formatter<W>) -> fmt::Result {
+        f.debug_struct("SearchedNumbers")
+            .field("numbers", &self.numbers)
+            .finish()
     }
 }
 

@@ -10,6 +10,7 @@ use crate::search::{Found, last_at_most};
 
 /// How far from the place that is expected numbers are looked at, before the rest is halved.
 const FAR: usize = 16;
+
 const FARTHER: usize = 256;
 
 /// What is left of a search: the numbers before `low` are at most the key, and `last` is the one right before it; the
@@ -71,17 +72,18 @@ fn look_around(
     ensures less { result.high - result.low ≤ between.high - between.low }
     ensures counted { readings.new ≤ readings.old + 2 }
 {
-    let behind = look(numbers, key, between, index.wrapping_add(distance), readings);
+    let behind = look(
+        numbers,
+        key,
+        between,
+        index.wrapping_add(distance),
+        readings,
+    );
     look(numbers, key, behind, index.wrapping_sub(distance), readings)
 }
 
 /// Looks at the number in the middle of those that are left, until none is left.
-fn halve(
-    numbers: &SearchedNumbers,
-    key: u32,
-    between: Between,
-    readings: &mut Readings,
-) -> Between
+fn halve(numbers: &SearchedNumbers, key: u32, between: Between, readings: &mut Readings) -> Between
     requires rises { IsNonDecreasing numbers.now }
     requires between { IsBetween numbers.now key between.low between.high between.last }
     requires room { readings.old < 2 ^ 31 }

@@ -2,7 +2,7 @@
 
 /// The straight line from the first to the last of some numbers, by which the place of a number among them is guessed: a
 /// guess says where a search begins, and nothing of what it finds.
-#[derive(Clone, Copy, Debug)]
+#[derive(Clone, Copy)]
 pub(crate) struct Slope {
     first: u32,
     /// How many places the numbers go on for each 1 that they rise, times 2^32; it is at most 2^32.

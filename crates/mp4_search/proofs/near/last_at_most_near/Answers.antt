@@ -10,7 +10,7 @@ returns-then-end-eq0-clause-few c =
       c.halve-end.ensures.counted,
       c.looked_near-near.ensures.counted,
       digits_grow (near.high - near.low) (length c.args.numbers.now)
-      (omega (arith, c.looked_near-near.ensures.between.inside)),
+          (omega (arith, c.looked_near-near.ensures.between.inside)),
     )
 
 pub returns-clause-few : goal.returns-clause-few
@@ -21,5 +21,5 @@ returns-clause-few c =
       c.halve-end.ensures.counted,
       c.looked_near-near.ensures.counted,
       digits_grow (near.high - near.low) (length c.args.numbers.now)
-      (omega (arith, c.looked_near-near.ensures.between.inside)),
+          (omega (arith, c.looked_near-near.ensures.between.inside)),
     )
