@@ -13,7 +13,6 @@ use mp4_boxes::StblBox;
 use mp4_search::{CappedSums, SearchedNumbers};
 use mp4_table::{CttsBox, CttsEntry, StssBox, SttsEntry};
 use std::alloc::{AllocError, Global};
-use std::fmt;
 
 /// Running sums beside the tables of a track: at most one for each entry of a table.
 ///
@@ -39,21 +38,6 @@ pub struct TrackIndex {
     pub size_sums: CappedSums,
     /// How many bytes all samples have together, where sizes are listed.
     pub size_total: u128,
-}
-
-/// Without `sync_sorted` and `size_total`, which the tables' numbers and sizes give.
-impl fmt::Debug for TrackIndex {
-    fn fmt<W: fmt::Write>(&self, f: &mut fmt::Formatter<W>) -> fmt::Result {
-        f.debug_struct("TrackIndex")
-            .field("first_samples", &self.first_samples)
-            .field("stts_counts", &self.stts_counts)
-            .field("stts_times", &self.stts_times)
-            .field("ctts_counts", &self.ctts_counts)
-            .field("sync_rises", &self.sync_rises)
-            .field("sync_numbers", &self.sync_numbers)
-            .field("size_sums", &self.size_sums)
-            .finish()
-    }
 }
 
 /// Makes the index of the tables.

@@ -13,6 +13,7 @@ mod lookup;
 mod place;
 mod rates;
 mod runs;
+mod shown;
 mod time;
 mod timing;
 mod track;
