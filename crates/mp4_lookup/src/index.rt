@@ -107,7 +107,26 @@ fn times_before(alloc: Global, runs: &[SttsEntry]) -> Result<Vec<u64>, AllocErro
 
 /// How many bytes come before each sample of these sizes, and how many all have together. A count before a sample stops
 /// at 2^64 - 1.
+///
+/// So many bytes as 32 bits number samples never reach that: then the counts are added up in 64 bits, and each is put
+/// into room that is there.
 fn sizes_before(alloc: Global, sizes: &[u32]) -> Result<(Vec<u64>, u128), AllocError>
+    ensures { IfOk result (λ x. SizesBefore sizes.now x.0.items x.1) }
+{
+    if sizes.len() > u32::MAX as usize {
+        return many_sizes_before(alloc, sizes);
+    }
+    let mut sums = Vec::with_capacity(alloc, sizes.len())?;
+    let mut total: u64 = 0;
+    for size in sizes {
+        sums.push_reserved(total);
+        total += u64::from(*size);
+    }
+    Ok((sums, u128::from(total)))
+}
+
+/// The same of any number of sizes.
+fn many_sizes_before(alloc: Global, sizes: &[u32]) -> Result<(Vec<u64>, u128), AllocError>
     ensures { IfOk result (λ x. SizesBefore sizes.now x.0.items x.1) }
 {
     let mut sums = Vec::with_capacity(alloc, sizes.len())?;

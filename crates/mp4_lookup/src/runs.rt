@@ -38,7 +38,7 @@ pub fn counts_before<R: Run>(alloc: Global, runs: &[R]) -> Result<Vec<u32>, Allo
     let mut counts = Vec::with_capacity(alloc, runs.len())?;
     let mut count: u32 = 0;
     for run in runs {
-        counts.push(count)?;
+        counts.push_reserved(count);
         count = count.saturating_add(run.sample_count());
     }
     Ok(counts)
