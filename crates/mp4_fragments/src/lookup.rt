@@ -79,9 +79,9 @@ impl RunIndex {
         self.find_by(trafs, track, number, false)
     }
 
-    /// The member that [`find`](RunIndex::find) answers, found faster: the runs are searched from the one at which it is
-    /// expected, where all had as many members. At most seven numbers more are compared than the number of the runs has
-    /// binary digits.
+    /// The member that [`find`](RunIndex::find) answers, found faster: the search begins at the run in which the member is
+    /// expected if all runs have as many. At most seven numbers more are compared than the number of the runs has binary
+    /// digits.
     pub fn find_by_guess(
         &self,
         trafs: &[TrafBox],

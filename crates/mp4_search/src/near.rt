@@ -134,9 +134,9 @@ fn looked_near(numbers: &SearchedNumbers, key: u32, readings: &mut Readings) -> 
 /// The last of the numbers that is at most `key`, and how many of them were compared with it, as [`last_at_most`] finds
 /// it: but the search begins where the answer is expected on the straight line from the first number to the last.
 ///
-/// Two numbers are compared where they rise evenly, and a few more where the answer is not far from there; else it is
-/// found by halves, after at most seven comparisons. So an interpolation search begins, and this one keeps the bound of a
-/// search by halves.
+/// It is over after a look or two where the numbers rise evenly, and after a few more where the answer is not far from
+/// there; else the answer is found by halves, after at most seven comparisons. So an interpolation search begins, and this
+/// one keeps the bound of a search by halves.
 pub fn last_at_most_near(numbers: &SearchedNumbers, key: u32) -> (Option<Found>, Readings)
     requires { IsNonDecreasing numbers.now }
     ensures found { IfSome result.0 (λ f. IsLastAtMost numbers.now key f.index × (f.number ≡ slice_index numbers.now f.index)) }

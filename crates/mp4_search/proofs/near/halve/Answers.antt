@@ -1,4 +1,4 @@
-use Rattle.std.proofs.Common.{◌≡◌, ◌+◌, ◌-◌, ◌/◌, refl, arith}
+use Rattle.std.proofs.Common.{◌≡◌, ◌+◌, ◌-◌, ◌/◌, arith}
 use Rattle.mp4_search.proofs.Digits.{digits_half, digits_64}
 use Rattle.mp4_search.proofs.near.halve.Goals as goal
 

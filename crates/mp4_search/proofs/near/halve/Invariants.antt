@@ -1,4 +1,4 @@
-use Rattle.std.proofs.Common.{◌-◌, ◌+◌, ◌<◌, ◌≤◌}
+use Rattle.std.proofs.Common.{◌-◌, ◌+◌, ◌≤◌}
 use Rattle.mp4_search.specs.Digits.{digits}
 use Rattle.mp4_search.specs.Search.{IsBetween}
 use Rattle.mp4_search.proofs.near.halve.Given as goal
