@@ -1,25 +1,21 @@
 -- What a search in sums, first samples or sync numbers says of the tables.
 use Rattle.std.proofs.Common.{◌≡◌, ℕ, zero, suc, ◌+◌, ◌-◌, ◌*◌, ◌^◌, ◌<◌, ◌≤◌, false, List}
-use Rattle.std.proofs.Common.{length, get_or, take, map, sum, Some, None, Result, Ok, Err, sym, ap, ◌∙◌, arith, add-one}
+use Rattle.std.proofs.Common.{length, get_or, take, map, sum, Some, None, sym, ap, ◌∙◌, arith, add-one}
 use Rattle.std.proofs.Common.{⊎_elim}
 use Rattle.std.specs.Prelude.{nat_le, ◌==◌, slice_index, slice_range}
 use Rattle.std.specs.List.{list_any, All}
-use Rattle.std.specs.List.Sorted.{IsNonDecreasing, IsStrictlyIncreasing, IsBinarySearchResult}
-use Rattle.std.specs.Ordering.{nat_cmp}
-use Rattle.std.specs.Result.{MatchResult, is_ok}
+use Rattle.std.specs.List.Sorted.{IsNonDecreasing, IsStrictlyIncreasing}
 use Rattle.std.proofs.Math.Seq.{take-add}
 use Rattle.std.proofs.lemmas.Bool.{le-leb, lt-leb, cases_lt, cases_eq, eq-eqb, ne_eqb}
 use Rattle.std.proofs.lemmas.List.{get_or_default, get_or-map, length-map, length-take}
 use Rattle.std.proofs.lemmas.List.Elements.{All-take}
 use Rattle.std.proofs.lemmas.List.Sums.{sum_by-append, sum_by-le}
 use Rattle.std.proofs.lemmas.List.Folds.{list_any_none, list_any_at}
-use Rattle.std.proofs.lemmas.List.Sorted.{searched}
 use Rattle.mp4_table.specs.declared.stsc.StscEntry.{StscEntry}
 use Rattle.mp4_table.specs.Chunks.{last_where}
 use Rattle.mp4_table.specs.Stsc.{HasFirstSamples}
 use Rattle.mp4_search.specs.Search.{IsLastAtMost}
 use Rattle.mp4_search.specs.Sums.{SumsBefore64}
-use Rattle.mp4_lookup.specs.Sums.{IsInOrder}
 use Rattle.mp4_samples.specs.LastLaws.{last_where_is, last_where_none}
 use Rattle.mp4_lookup.specs.EntryLaws.{first_samples_climb}
 
@@ -92,23 +88,6 @@ pub list_any-searched_none : (xs : List ℕ) (key : ℕ) → ((j : ℕ) → j < 
 list_any-searched_none xs key above =
     list_any_none (λ n. n == key) xs
     (λ j d h. rw (get_or_default xs j d 0 h) (ne_eqb _ _ (λ e. omega (arith, above j h, e))))
-
--- what std's search answers in the same numbers in rising order
-pub is_ok-searched : (xs ys : List ℕ) (key : ℕ) (r : Result ℕ ℕ) → IsInOrder xs ys
-    → IsBinarySearchResult (λ y. nat_cmp y key) ys r → is_ok r ≡ list_any (λ n. n == key) xs
-is_ok-searched xs ys key r order at =
-    answer r (searched ys key r at (λ i j h k. order.rises i j 0 h k))
-    ∙ order.same key
-  where
-    answer : (r : Result ℕ ℕ) → MatchResult r (λ i. (i < length ys) × (get_or ys i 0 ≡ key))
-        (λ i. (i ≤ length ys) × ((k : ℕ) → k < i → get_or ys k 0 < key)
-        × ((k : ℕ) → i ≤ k → k < length ys → key < get_or ys k 0))
-        → is_ok r ≡ list_any (λ n. n == key) ys
-    answer (Ok i) h = sym (list_any_at (λ n. n == key) ys i 0 h.0 (eq-eqb _ _ h.1))
-    answer (Err i) h =
-        sym (list_any_none (λ n. n == key) ys (λ j d q. rw (get_or_default ys j d 0 q) (ne_eqb _ _ (λ e.
-        ⊎_elim (λ (before : j < i). omega (arith, h.1 j before, e))
-        (λ (from : i ≤ j). omega (arith, h.2 j from q, e)) (cases_lt j i)))))
 
 -- sizes
 

@@ -12,7 +12,7 @@ use Rattle.mp4_lookup.specs.Tracks.{is_of_movie}
 use Rattle.mp4_search.specs.Digits.{digits}
 use Rattle.mp4_search.specs.Search.{IsFew, comparisons_in}
 
--- how many numbers of stss are compared with k: none where they don't strictly rise, since a sorted copy is then searched
+-- how many numbers of stss are compared with k: none where they don't strictly rise, since all are then looked at
 abbrev pub sync_comparisons : TrackIndex → ℕ → ℕ
 sync_comparisons index k = if index.sync_rises then comparisons_in index.sync_numbers k else 0
 

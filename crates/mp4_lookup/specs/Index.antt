@@ -14,5 +14,5 @@ pub record IsIndexOf (t : StblBox) (index : TrackIndex) : Type 0 where
   pub ctts : CountsBefore (λ r. r.sample_count) (ctts_runs t.ctts) index.ctts_counts
   pub rises : IsTrue index.sync_rises ↔ IsStrictlyIncreasing (sync_numbers t.stss)
   pub sync : index.sync_numbers ≡ sync_numbers t.stss
-  pub sorted : index.sync_rises ≡ false → IsInOrder (sync_numbers t.stss) index.sync_sorted.items
+  pub sorted : index.sync_rises ≡ false → IsInOrder (sync_numbers t.stss) index.sync_sorted
   pub sizes : SizesBefore t.stsz.sample_sizes index.size_sums index.size_total

@@ -1,6 +1,7 @@
 pub mod Time
 pub mod Rule
 pub mod Sums
+pub mod InOrder
 pub mod Index
 pub mod Costs
 pub mod Tracks

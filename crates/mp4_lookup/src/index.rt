@@ -8,6 +8,7 @@ ghost use Rattle.mp4_samples.specs.Tables.{ctts_runs, sync_numbers};
 ghost use Rattle.mp4_search.specs.Sums.{SumsBefore64};
 ghost use Rattle.mp4_lookup.specs.Index.{IsIndexOf};
 
+use crate::by_digits::in_order;
 use crate::runs::counts_before;
 use mp4_boxes::StblBox;
 use mp4_search::{CappedSums, SearchedNumbers};
@@ -33,7 +34,7 @@ pub struct TrackIndex {
     /// The numbers of stss.
     pub sync_numbers: SearchedNumbers,
     /// The numbers of stss in rising order, where they don't strictly rise in stss; else nothing, and no memory.
-    pub sync_sorted: Vec<u32>,
+    pub sync_sorted: SearchedNumbers,
     /// How many bytes come before each sample, where sizes are listed.
     pub size_sums: CappedSums,
     /// How many bytes all samples have together, where sizes are listed.
@@ -65,7 +66,7 @@ pub fn index_of(alloc: Global, stbl: &StblBox) -> Result<TrackIndex, AllocError>
         ctts_counts: SearchedNumbers::new(ctts_counts),
         sync_rises,
         sync_numbers: SearchedNumbers::new(sync_numbers),
-        sync_sorted,
+        sync_sorted: SearchedNumbers::new(sync_sorted),
         size_sums: CappedSums::new(size_sums),
         size_total,
     })
@@ -161,15 +162,12 @@ fn rises(numbers: &[u32]) -> bool
     true
 }
 
-/// The same numbers in rising order, unless they rise as they are: then nothing, and no memory is taken. So a sample is
-/// found among them by a search, where all of them were looked at.
+/// The same numbers in rising order, unless they rise as they are: then nothing, and no memory is taken.
 fn in_order_unless(rises: bool, alloc: Global, numbers: &[u32]) -> Result<Vec<u32>, AllocError>
     ensures { IfOk result (λ sorted. rises ≡ false → IsInOrder numbers.now sorted.items) }
 {
     if rises {
         return Ok(Vec::new(alloc));
     }
-    let mut sorted = Vec::from_slice(alloc, numbers)?;
-    sorted.sort_unstable();
-    Ok(sorted)
+    in_order(alloc, numbers)
 }

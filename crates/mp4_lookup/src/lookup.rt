@@ -11,6 +11,7 @@ ghost use Rattle.mp4_samples.specs.Tables.{tables_of};
 ghost use Rattle.mp4_lookup.specs.Tracks.{is_of_movie, member_place, answer_at};
 ghost use Rattle.mp4_lookup.specs.TrackRuns.{track_runs};
 
+use crate::guess::place_by_guess;
 use crate::locate::place_at;
 use crate::track::Mp4Track;
 use mp4_codec::{Error, Result};
@@ -38,9 +39,10 @@ impl Mp4Track {
         self.answer(k, false)
     }
 
-    /// What [`locate`](Mp4Track::locate) answers, found faster: each table is searched from the entry at which the sample
-    /// is expected, where all entries stood for as many samples. The comparisons are those of this search: two in a table
-    /// whose entries stand for equally many samples, and never more than seven past the bound of `locate`.
+    /// What [`locate`](Mp4Track::locate) answers, found faster: in each table the search begins at the entry in which the
+    /// sample is expected if all entries stand for as many. The comparisons are those of this search, in each table at most
+    /// seven more than the number of its entries has binary digits; where the numbers of stss don't strictly rise, a sorted
+    /// copy of them is searched.
     ///
     /// Refused as `locate`, with the same errors.
     pub fn locate_by_guess(&self, k: u32) -> Result<Option<SamplePlace>>
@@ -66,7 +68,12 @@ impl Mp4Track {
     {
         let stbl = &self.trak.mdia.minf.stbl;
         if self.trafs.is_empty() || k <= stbl.stsz.sample_count {
-            place_at(stbl, &self.index, self.trak.tkhd.track_id, k, by_guess)
+            let track_id = self.trak.tkhd.track_id;
+            if by_guess {
+                place_by_guess(stbl, &self.index, track_id, k)
+            } else {
+                place_at(stbl, &self.index, track_id, k)
+            }
         } else {
             self.added_at(k - stbl.stsz.sample_count - 1, by_guess)
         }

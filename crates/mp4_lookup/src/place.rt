@@ -174,9 +174,28 @@ fn spot_by(
     }))
 }
 
-/// Where sample `k` lies, and its size, by a search by halves or by a guess.
+/// Where sample `k` lies, and its size.
 #[tactic(auto, unfolding(crate::specs::Rule::spot_at))]
-pub fn spot_at(stbl: &StblBox, index: &TrackIndex, k: u32, by_guess: bool) -> Result<Option<Spot>>
+pub fn spot_at(stbl: &StblBox, index: &TrackIndex, k: u32) -> Result<Option<Spot>>
+    requires firsts { HasFirstSamples stbl.now.stsc.entries }
+    requires index { IsIndexOf stbl.now index.now }
+    ensures spot { Gives (λ s. option_map (λ s. (s.offset, s.size)) s) result (spot_at stbl.now k) }
+    ensures counts { OnOk result (1 ≤ k) }
+    ensures counted { IfOk result (λ s. IfSome s (λ s. s.comparisons ≡ comparisons_in index.now.first_samples k)) }
+    ensures few { IfOk result (λ s. IfSome s (λ s. IsFew s.comparisons (length stbl.now.stsc.entries))) }
+    ensures size_reads { IfOk result (λ s. IfSome s (λ s. AreFewSizeReads stbl.now s.size_reads)) }
+{
+    searched_spot(stbl, index, k, false)
+}
+
+/// The answer of `spot_at`, of a search by halves or by a guess.
+#[tactic(auto, unfolding(crate::specs::Rule::spot_at))]
+pub fn searched_spot(
+    stbl: &StblBox,
+    index: &TrackIndex,
+    k: u32,
+    by_guess: bool,
+) -> Result<Option<Spot>>
     requires firsts { HasFirstSamples stbl.now.stsc.entries }
     requires index { IsIndexOf stbl.now index.now }
     ensures spot { Gives (λ s. option_map (λ s. (s.offset, s.size)) s) result (spot_at stbl.now k) }

@@ -10,13 +10,13 @@ ghost use Rattle.mp4_search.specs.Digits.{digits};
 ghost use Rattle.mp4_search.specs.Search.{IsFew, comparisons_in};
 ghost use Rattle.mp4_search.specs.Sums.{CountsBefore};
 ghost use Rattle.mp4_lookup.specs.Costs.{sync_comparisons};
-ghost use Rattle.mp4_lookup.specs.Sums.{IsInOrder, TimesBefore};
+ghost use Rattle.mp4_lookup.specs.Sums.{TimesBefore};
 ghost use Rattle.mp4_samples.specs.Tables.{is_sync_at, sync_numbers};
 ghost use Rattle.mp4_lookup.specs.Rule.{time_at};
 
 use crate::index::TrackIndex;
 use mp4_codec::{BoxType, Error, Result};
-use mp4_search::{SearchedNumbers, last_at_most_by};
+use mp4_search::{SearchedNumbers, last_at_most, last_at_most_by};
 use mp4_table::{CttsEntry, StssBox, SttsEntry};
 
 /// When so many samples of these runs have lasted, or all, where there are fewer.
@@ -35,8 +35,25 @@ pub fn end_after(runs: &[SttsEntry], count: u32) -> u64
     end
 }
 
-/// Duration and start of sample `k`, and how many comparisons found them, of a search by halves or by a guess.
+/// Duration and start of sample `k`, and how many comparisons found them.
 pub fn time_at(
+    runs: &[SttsEntry],
+    counts: &SearchedNumbers,
+    times: &[u64],
+    track_id: u32,
+    k: u32,
+) -> Result<(u32, u64, u32)>
+    requires first { 1 ≤ k }
+    requires sums { TimesBefore runs.now counts.now times.now }
+    ensures time { Gives (λ t. (t.0, t.1)) result (time_at runs.now track_id k) }
+    ensures counted { IfOk result (λ t. t.2 ≡ comparisons_in counts.now (k - 1)) }
+    ensures few { IfOk result (λ t. IsFew t.2 (length runs.now)) }
+{
+    searched_time(runs, counts, times, track_id, k, false)
+}
+
+/// The answer of `time_at`, of a search by halves or by a guess.
+pub fn searched_time(
     runs: &[SttsEntry],
     counts: &SearchedNumbers,
     times: &[u64],
@@ -65,9 +82,20 @@ pub fn time_at(
     Ok((run.sample_delta, start, comparisons))
 }
 
-/// How much later than it is decoded sample `k` is shown, and how many comparisons found it, of a search by halves or by
-/// a guess: 0 past the runs.
-pub fn rendering_offset_at(
+/// How much later than it is decoded sample `k` is shown, and how many comparisons found it: 0 past the
+/// runs.
+pub fn rendering_offset_at(runs: &[CttsEntry], counts: &SearchedNumbers, k: u32) -> (i32, u32)
+    requires first { 1 ≤ k }
+    requires sums { CountsBefore (λ r. r.sample_count) runs.now counts.now }
+    ensures value { result.0 ≡ get_or (rendering_offsets runs.now) (k - 1) (pos 0) }
+    ensures counted { result.1 ≡ comparisons_in counts.now (k - 1) }
+    ensures few { IsFew result.1 (length runs.now) }
+{
+    searched_rendering_offset(runs, counts, k, false)
+}
+
+/// The answer of `rendering_offset_at`, of a search by halves or by a guess.
+pub fn searched_rendering_offset(
     runs: &[CttsEntry],
     counts: &SearchedNumbers,
     k: u32,
@@ -93,26 +121,19 @@ pub fn rendering_offset_at(
     (run.sample_offset, comparisons)
 }
 
-/// Whether the numbers contain `k`, and how many comparisons showed it. Where the numbers don't strictly rise, the same
-/// numbers in rising order are searched, which counts as no comparison.
-fn contains(
-    searched: &SearchedNumbers,
-    rises: bool,
-    sorted: &[u32],
-    k: u32,
-    by_guess: bool,
-) -> (bool, u32)
-    requires rises { IsTrue rises → IsStrictlyIncreasing searched.now }
-    requires sorted { rises ≡ false → IsInOrder searched.now sorted.now }
-    ensures value { result.0 ≡ list_any (λ n. n == k) searched.now }
-    ensures counted { by_guess ≡ false → result.1 ≡ (if rises then comparisons_in searched.now k else 0) }
-    ensures few { by_guess ≡ false → IsTrue rises → IsFew result.1 (length searched.now) }
-    ensures near { result.1 ≤ digits (length searched.now) + 7 }
+/// Whether the numbers contain `k`, and how many comparisons showed it. Numbers that don't
+/// strictly rise are all looked at, and count as no comparison.
+fn contains(numbers: &[u32], rises: bool, searched: &SearchedNumbers, k: u32) -> (bool, u32)
+    requires rises { IsTrue rises → IsStrictlyIncreasing numbers.now }
+    requires same { searched.now ≡ numbers.now }
+    ensures value { result.0 ≡ list_any (λ n. n == k) numbers.now }
+    ensures counted { result.1 ≡ (if rises then comparisons_in searched.now k else 0) }
+    ensures few { IsTrue rises → IsFew result.1 (length numbers.now) }
 {
     if !rises {
-        return (sorted.binary_search(&k).is_ok(), 0);
+        return (numbers.contains(&k), 0);
     }
-    let (found, readings) = last_at_most_by(searched, k, by_guess);
+    let (found, readings) = last_at_most(searched, k);
     let comparisons = readings.count();
     match found {
         None => (false, comparisons),
@@ -121,23 +142,20 @@ fn contains(
 }
 
 /// Whether sample `k` is a sync sample, and how many comparisons showed it.
-pub fn is_sync(stss: &Option<StssBox>, index: &TrackIndex, k: u32, by_guess: bool) -> (bool, u32)
+pub fn is_sync(stss: &Option<StssBox>, index: &TrackIndex, k: u32) -> (bool, u32)
     requires rises { IsTrue index.now.sync_rises ↔ IsStrictlyIncreasing (sync_numbers stss.now) }
     requires sync { index.now.sync_numbers ≡ sync_numbers stss.now }
-    requires sorted { index.now.sync_rises ≡ false → IsInOrder (sync_numbers stss.now) index.now.sync_sorted.items }
     ensures value { result.0 ≡ is_sync_at stss.now k }
-    ensures counted { by_guess ≡ false → result.1 ≡ sync_comparisons index.now k }
-    ensures few { by_guess ≡ false → IsStrictlyIncreasing (sync_numbers stss.now) → IsFew result.1 (length (sync_numbers stss.now)) }
-    ensures near { result.1 ≤ digits (length (sync_numbers stss.now)) + 7 }
+    ensures counted { result.1 ≡ sync_comparisons index.now k }
+    ensures few { IsStrictlyIncreasing (sync_numbers stss.now) → IsFew result.1 (length (sync_numbers stss.now)) }
 {
     match stss {
         None => (true, 0),
-        Some(_) => contains(
-            &index.sync_numbers,
+        Some(stss) => contains(
+            stss.entries.as_slice(),
             index.sync_rises,
-            index.sync_sorted.as_slice(),
+            &index.sync_numbers,
             k,
-            by_guess,
         ),
     }
 }

@@ -9,6 +9,6 @@ nothing_compared true numbers k e = rw e refl
 nothing_compared false numbers k e = refl
 
 pub returns-in-None-clause-counted : goal.returns-in-None-clause-counted
-returns-in-None-clause-counted c = λ by_halves.
+returns-in-None-clause-counted c =
     let index = c.args.index.now in
     nothing_compared index.sync_rises index.sync_numbers c.args.k (rw c.in-None.is at c.requires.sync)

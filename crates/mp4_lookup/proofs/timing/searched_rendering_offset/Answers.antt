@@ -4,7 +4,7 @@ use Rattle.std.proofs.lemmas.Int.{to_z-of_z}
 use Rattle.mp4_table.specs.declared.ctts.CttsEntry.{CttsEntry}
 use Rattle.mp4_search.specs.SumLaws.{counts_rise, before_found, past_found, none_found}
 use Rattle.mp4_lookup.proofs.Times.{value_in, value_past}
-use Rattle.mp4_lookup.proofs.timing.rendering_offset_at.Goals as goal
+use Rattle.mp4_lookup.proofs.timing.searched_rendering_offset.Goals as goal
 
 pub last_at_most_by-found-requires : goal.last_at_most_by-found-requires
 last_at_most_by-found-requires c =

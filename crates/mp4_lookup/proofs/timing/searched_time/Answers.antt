@@ -4,8 +4,8 @@ use Rattle.mp4_table.specs.declared.stts.SttsEntry.{SttsEntry}
 use Rattle.mp4_search.specs.SumLaws.{counts_rise, before_found, past_found, none_found}
 use Rattle.mp4_lookup.proofs.Times.{time_at_in, time_at_past}
 use Rattle.mp4_lookup.proofs.Sums.{ticks_before, start_fits}
-use Rattle.mp4_lookup.proofs.timing.time_at.Goals as goal
-use Rattle.mp4_lookup.proofs.timing.time_at.Goals.{After-from-2}
+use Rattle.mp4_lookup.proofs.timing.searched_time.Goals as goal
+use Rattle.mp4_lookup.proofs.timing.searched_time.Goals.{After-from-2}
 
 pub last_at_most_by-found-requires : goal.last_at_most_by-found-requires
 last_at_most_by-found-requires c =

@@ -1,0 +1,7 @@
+use Rattle.mp4_lookup.proofs.Searches.{strictly_rise}
+use Rattle.mp4_lookup.proofs.guess.is_sync.Goals as goal
+
+pub contains-requires : goal.contains-requires
+contains-requires c =
+    let index = c.args.index.now in
+    strictly_rise index.sync_numbers (rw c.requires.sync (c.requires.rises.0 c.if-index.true))
