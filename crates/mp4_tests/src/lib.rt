@@ -12,6 +12,8 @@ mod equality;
 #[cfg(test)]
 mod large_sample;
 #[cfg(test)]
+mod listed;
+#[cfg(test)]
 mod long_lists;
 #[cfg(test)]
 mod million_members;
@@ -39,6 +41,10 @@ mod reader_files;
 mod refused_memory;
 #[cfg(test)]
 mod round_trip;
+#[cfg(test)]
+mod shown;
+#[cfg(test)]
+mod shown_writers;
 #[cfg(test)]
 mod taste;
 #[cfg(test)]

@@ -1,0 +1,232 @@
+//! What `{:?}` shows of tracks, of writers and of numbers that are searched: their types write it themselves, and it is what
+//! types of these fields alone show, which derive it.
+
+use crate::asserts::check;
+use crate::tracks::holds_of;
+use mp4_boxes::{StblBox, TrakBox};
+use mp4_codec::{Items, Result};
+use mp4_fragments::SampleDefaults;
+use mp4_lookup::Mp4Track as Track;
+use mp4_media::TrafBox;
+use mp4_media::searching::{CappedSums, SearchedNumbers as Numbers};
+use mp4_plain_movies::random::Random;
+use mp4_plain_movies::random_tables::{RandomTables, break_one, put_all};
+use mp4_table::{CttsBox, CttsEntry, StssBox, SttsEntry};
+use std::alloc::Global;
+
+#[derive(Debug, Drop)]
+struct SearchedNumbers {
+    numbers: Items<u32>,
+}
+
+#[derive(Debug, Drop)]
+struct RunningSizes {
+    sums: Vec<u128>,
+}
+
+#[derive(Debug, Drop)]
+struct TrackIndex {
+    first_samples: SearchedNumbers,
+    stts_counts: SearchedNumbers,
+    stts_times: Vec<u128>,
+    ctts_counts: SearchedNumbers,
+    sync_rises: bool,
+    sync_numbers: SearchedNumbers,
+    size_sums: RunningSizes,
+}
+
+#[derive(Debug, Drop)]
+struct RunIndex {
+    counts: SearchedNumbers,
+    entries: Items<u32>,
+    before: u32,
+    total: u64,
+}
+
+/// A track without fragments.
+#[derive(Debug, Drop)]
+struct Mp4Track<'a> {
+    trak: &'a TrakBox,
+    trafs: &'a Items<TrafBox>,
+    default_sample_duration: u32,
+    index: TrackIndex,
+    defaults: SampleDefaults,
+    runs: RunIndex,
+}
+
+fn searched(numbers: Vec<u32>) -> SearchedNumbers {
+    SearchedNumbers {
+        numbers: Items::from(numbers),
+    }
+}
+
+/// How many samples come before each run of stts.
+fn stts_counts(alloc: Global, runs: &[SttsEntry]) -> Result<Vec<u32>> {
+    let mut counts = Vec::with_capacity(alloc, runs.len())?;
+    let mut count: u32 = 0;
+    for run in runs {
+        counts.push(count)?;
+        count = count.saturating_add(run.sample_count);
+    }
+    Ok(counts)
+}
+
+/// How many samples come before each run of ctts.
+fn ctts_counts(alloc: Global, runs: &[CttsEntry]) -> Result<Vec<u32>> {
+    let mut counts = Vec::with_capacity(alloc, runs.len())?;
+    let mut count: u32 = 0;
+    for run in runs {
+        counts.push(count)?;
+        count = count.saturating_add(run.sample_count);
+    }
+    Ok(counts)
+}
+
+/// How many ticks come before each run of stts.
+fn times_before(alloc: Global, runs: &[SttsEntry]) -> Result<Vec<u128>> {
+    let mut times = Vec::with_capacity(alloc, runs.len())?;
+    let mut time: u128 = 0;
+    for run in runs {
+        times.push(time)?;
+        time = time.wrapping_add(u128::from(run.sample_count) * u128::from(run.sample_delta));
+    }
+    Ok(times)
+}
+
+/// How many bytes come before each sample of these sizes.
+fn sizes_before(alloc: Global, sizes: &[u32]) -> Result<Vec<u128>> {
+    let mut sums = Vec::with_capacity(alloc, sizes.len())?;
+    let mut sum: u128 = 0;
+    for size in sizes {
+        sums.push(sum)?;
+        sum = sum.wrapping_add(u128::from(*size));
+    }
+    Ok(sums)
+}
+
+/// Whether each number is above the one before.
+fn rises(numbers: &[u32]) -> bool {
+    for i in 1..numbers.len() {
+        if numbers[i] <= numbers[i - 1] {
+            return false;
+        }
+    }
+    true
+}
+
+fn runs_of_ctts(ctts: &Option<CttsBox>) -> &[CttsEntry] {
+    match ctts {
+        None => &[],
+        Some(ctts) => ctts.entries.as_slice(),
+    }
+}
+
+fn numbers_of_stss(stss: &Option<StssBox>) -> &[u32] {
+    match stss {
+        None => &[],
+        Some(stss) => stss.entries.as_slice(),
+    }
+}
+
+fn index_of(alloc: Global, stbl: &StblBox) -> Result<TrackIndex> {
+    let first_samples = stbl
+        .stsc
+        .entries
+        .iter()
+        .map(|entry| entry.first_sample)
+        .collect(alloc)?;
+    let stts_counts = stts_counts(alloc, stbl.stts.entries.as_slice())?;
+    let stts_times = times_before(alloc, stbl.stts.entries.as_slice())?;
+    let ctts_counts = ctts_counts(alloc, runs_of_ctts(&stbl.ctts))?;
+    let numbers = numbers_of_stss(&stbl.stss);
+    let sync_rises = rises(numbers);
+    let sync_numbers = Vec::from_slice(alloc, numbers)?;
+    let sums = sizes_before(alloc, stbl.stsz.sample_sizes.as_slice())?;
+    Ok(TrackIndex {
+        first_samples: searched(first_samples),
+        stts_counts: searched(stts_counts),
+        stts_times,
+        ctts_counts: searched(ctts_counts),
+        sync_rises,
+        sync_numbers: searched(sync_numbers),
+        size_sums: RunningSizes { sums },
+    })
+}
+
+/// The same track, of types that derive what is shown.
+fn derived(alloc: Global, track: &Track) -> Result<Mp4Track<'_>> {
+    Ok(Mp4Track {
+        trak: &track.trak,
+        trafs: &track.trafs,
+        default_sample_duration: track.default_sample_duration,
+        index: index_of(alloc, &track.trak.mdia.minf.stbl)?,
+        defaults: SampleDefaults::none(),
+        runs: RunIndex {
+            counts: searched(Vec::new(alloc)),
+            entries: Items::new(alloc),
+            before: 0,
+            total: 0,
+        },
+    })
+}
+
+/// Whether a track without fragments is shown as the derived text shows it, on one line and on many.
+fn track_is_shown(alloc: Global, track: &Track) -> Result<bool> {
+    let derived = derived(alloc, track)?;
+    Ok(
+        format!(in alloc; "{track:?}")? == format!(in alloc; "{derived:?}")?
+            && format!(in alloc; "{track:#?}")? == format!(in alloc; "{derived:#?}")?,
+    )
+}
+
+/// Whether the track of a seed is shown so. Some of its tables are broken, and in some the ticks before a run pass 64 bits.
+fn random_track_is_shown(alloc: Global, seed: u64) -> Result<bool> {
+    let mut random = Random::new(seed);
+    let mut tables = RandomTables::new(alloc);
+    let count = put_all(&mut tables, &mut random)?;
+    for _ in 0..random.byte() % 32 {
+        break_one(&mut tables, &mut random, count)?;
+    }
+    holds_of(alloc, &tables.with(&mut random, count), |track| {
+        matches!(track_is_shown(alloc, track), Ok(true))
+    })
+}
+
+#[test]
+fn three_hundred_tracks_are_shown_as_derived(rt: HostRuntime) {
+    for seed in 0..300 {
+        check(&rt, seed, random_track_is_shown(rt.alloc(), seed));
+    }
+}
+
+/// Whether so many random numbers, to be searched and as sums, are shown as derived.
+fn numbers_are_shown(alloc: Global, seed: u64) -> Result<bool> {
+    let mut random = Random::new(seed);
+    let mut numbers = Vec::new(alloc);
+    let mut sums = Vec::new(alloc);
+    let mut wide_sums = Vec::new(alloc);
+    for _ in 0..random.byte() % 20 {
+        let number = random.next();
+        let sum = u64::from(number) * u64::from(random.next());
+        numbers.push(number)?;
+        sums.push(sum)?;
+        wide_sums.push(u128::from(sum))?;
+    }
+    let derived = searched(Vec::from_slice(alloc, numbers.as_slice())?);
+    let numbers = Numbers::new(numbers);
+    let derived_sums = RunningSizes { sums: wide_sums };
+    let sums = CappedSums::new(sums);
+    Ok(
+        format!(in alloc; "{numbers:?}")? == format!(in alloc; "{derived:?}")?
+            && format!(in alloc; "{numbers:#?}")? == format!(in alloc; "{derived:#?}")?
+            && format!(in alloc; "{sums:?}")? == format!(in alloc; "{derived_sums:?}")?
+            && format!(in alloc; "{sums:#?}")? == format!(in alloc; "{derived_sums:#?}")?,
+    )
+}
+
+#[test]
+fn a_hundred_lists_of_numbers_are_shown_as_derived(rt: HostRuntime) {
+    for seed in 0..100 {
+        check(&rt, seed, numbers_are_shown(rt.alloc(), seed));
+    }
+}
