@@ -75,12 +75,13 @@ impl TrackWriter {
     /// The pending samples stand in a chunk that begins there; the answer is where it ends.
     fn close(&mut self, offset: u64) -> Result<u64> {
         let end = offset.wrapping_add(self.pending.len() as u64);
+        let samples = self.sample_count();
         self.chunks.push(ChunkPlace {
             first: self.closed,
-            count: self.sample_count().wrapping_sub(self.closed),
+            count: samples.wrapping_sub(self.closed),
             offset,
         })?;
-        self.closed = self.sample_count();
+        self.closed = samples;
         self.pending.clear();
         self.pending_duration = 0;
         Ok(end)
