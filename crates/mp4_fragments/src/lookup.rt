@@ -79,9 +79,9 @@ impl RunIndex {
         self.find_by(trafs, track, number, false)
     }
 
-    /// The member that [`find`](RunIndex::find) answers, found faster: the search begins at the run in which the member is
-    /// expected if all runs have as many. At most seven numbers more are compared than the number of the runs has binary
-    /// digits.
+    /// The member that [`find`](RunIndex::find) answers, found faster: the search begins at the run in which the member
+    /// is expected if all runs have as many. At most four numbers more are compared than the number of the runs has
+    /// binary digits.
     pub fn find_by_guess(
         &self,
         trafs: &[TrafBox],
@@ -91,7 +91,7 @@ impl RunIndex {
         requires number { number < 2 ^ 32 - 1 }
         requires indexed { Indexes (run_at trafs.now track) (runs_of trafs.now track self.now) self.now }
         ensures member { option_map (λ x. x.member) result ≡ slice_get (all_members (runs_of trafs.now track self.now)) number }
-        ensures comparisons { IfSome result (λ x. x.comparisons ≤ digits (length (runs_of trafs.now track self.now)) + 7) }
+        ensures comparisons { IfSome result (λ x. x.comparisons ≤ digits (length (runs_of trafs.now track self.now)) + 4) }
     {
         self.find_by(trafs, track, number, true)
     }
@@ -109,7 +109,7 @@ impl RunIndex {
         ensures member { option_map (λ x. x.member) result ≡ slice_get (all_members (runs_of trafs.now track self.now)) number }
         ensures counted { by_guess ≡ false → IfSome result (λ x. x.comparisons ≡ comparisons_in self.now.counts number) }
         ensures comparisons { by_guess ≡ false → IfSome result (λ x. IsFew x.comparisons (length (runs_of trafs.now track self.now))) }
-        ensures near { IfSome result (λ x. x.comparisons ≤ digits (length (runs_of trafs.now track self.now)) + 7) }
+        ensures near { IfSome result (λ x. x.comparisons ≤ digits (length (runs_of trafs.now track self.now)) + 4) }
     {
         let (found, readings) = last_at_most_by(&self.counts, number, by_guess);
         let comparisons = readings.count();

@@ -47,13 +47,13 @@ pub record AreFew (t : StblBox) (c : Comparisons) : Type 0 where
   pub unsorted : (IsStrictlyIncreasing (sync_numbers t.stss) → ⊥) → c.stss ≡ 0
   pub runs : c.runs ≡ 0
 
--- In each table at most seven comparisons more than the number of its entries has binary digits; no run of a fragment is
--- looked at.
+-- In each table at most four comparisons more than the number of its entries has binary digits; no run of a fragment
+-- is looked at.
 pub record AreFewByGuess (t : StblBox) (c : Comparisons) : Type 0 where
-  pub stsc : c.stsc ≤ digits (length t.stsc.entries) + 7
-  pub stts : c.stts ≤ digits (length t.stts.entries) + 7
-  pub ctts : c.ctts ≤ digits (length (ctts_runs t.ctts)) + 7
-  pub stss : c.stss ≤ digits (length (sync_numbers t.stss)) + 7
+  pub stsc : c.stsc ≤ digits (length t.stsc.entries) + 4
+  pub stts : c.stts ≤ digits (length t.stts.entries) + 4
+  pub ctts : c.ctts ≤ digits (length (ctts_runs t.ctts)) + 4
+  pub stss : c.stss ≤ digits (length (sync_numbers t.stss)) + 4
   pub runs : c.runs ≡ 0
 
 -- A sample that a fragment adds is found by a search in the runs alone: at least one comparison, and at most as many as the
@@ -66,13 +66,13 @@ pub record AreFewForMember (placed : List PlacedRun) (c : Comparisons) : Type 0 
   pub some_runs : 1 ≤ c.runs
   pub runs : c.runs ≤ digits (length placed)
 
--- the same by a guess: at most seven comparisons more
+-- the same by a guess: at most four comparisons more
 pub record AreFewForMemberByGuess (placed : List PlacedRun) (c : Comparisons) : Type 0 where
   pub stsc : c.stsc ≡ 0
   pub stts : c.stts ≡ 0
   pub ctts : c.ctts ≡ 0
   pub stss : c.stss ≡ 0
-  pub runs : c.runs ≤ digits (length placed) + 7
+  pub runs : c.runs ≤ digits (length placed) + 4
 
 -- no running size is read where all samples have one size, else two are
 pub record AreFewSizeReads (t : StblBox) (reads : ℕ) : Type 0 where

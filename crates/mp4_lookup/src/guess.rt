@@ -27,7 +27,7 @@ use mp4_table::StssBox;
 fn contains(numbers: &SearchedNumbers, k: u32) -> (bool, u32)
     requires { IsNonDecreasing numbers.now }
     ensures value { result.0 ≡ list_any (λ n. n == k) numbers.now }
-    ensures near { result.1 ≤ digits (length numbers.now) + 7 }
+    ensures near { result.1 ≤ digits (length numbers.now) + 4 }
 {
     let (found, readings) = last_at_most_near(numbers, k);
     let comparisons = readings.count();
@@ -37,14 +37,14 @@ fn contains(numbers: &SearchedNumbers, k: u32) -> (bool, u32)
     }
 }
 
-/// Whether sample `k` is a sync sample, as `is_sync` answers it, and how many comparisons showed it. Where the numbers of
-/// stss don't strictly rise, the same numbers in rising order are searched, where `is_sync` looks at all of them.
+/// Whether sample `k` is a sync sample, as `is_sync` answers it, and how many comparisons showed it. Where the numbers
+/// of stss don't strictly rise, the same numbers in rising order are searched, where `is_sync` looks at all of them.
 fn is_sync(stss: &Option<StssBox>, index: &TrackIndex, k: u32) -> (bool, u32)
     requires rises { IsTrue index.now.sync_rises ↔ IsStrictlyIncreasing (sync_numbers stss.now) }
     requires sync { index.now.sync_numbers ≡ sync_numbers stss.now }
     requires sorted { index.now.sync_rises ≡ false → IsInOrder (sync_numbers stss.now) index.now.sync_sorted }
     ensures value { result.0 ≡ is_sync_at stss.now k }
-    ensures near { result.1 ≤ digits (length (sync_numbers stss.now)) + 7 }
+    ensures near { result.1 ≤ digits (length (sync_numbers stss.now)) + 4 }
 {
     if stss.is_none() {
         return (true, 0);

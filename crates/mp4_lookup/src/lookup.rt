@@ -39,10 +39,10 @@ impl Mp4Track {
         self.answer(k, false)
     }
 
-    /// What [`locate`](Mp4Track::locate) answers, found faster: in each table the search begins at the entry in which the
-    /// sample is expected if all entries stand for as many. The comparisons are those of this search, in each table at most
-    /// seven more than the number of its entries has binary digits; where the numbers of stss don't strictly rise, a sorted
-    /// copy of them is searched.
+    /// What [`locate`](Mp4Track::locate) answers, found faster: in each table the search begins at the entry in which
+    /// the sample is expected if all entries stand for as many. The comparisons are those of this search, in each table
+    /// at most four more than the number of its entries has binary digits; where the numbers of stss don't strictly
+    /// rise, a sorted copy of them is searched.
     ///
     /// Refused as `locate`, with the same errors.
     pub fn locate_by_guess(&self, k: u32) -> Result<Option<SamplePlace>>

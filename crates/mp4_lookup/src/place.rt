@@ -49,7 +49,7 @@ fn entry_at(
     ensures usable { IfOk result (λ x. (1 ≤ x.0.first_sample) × (x.0.first_sample ≤ k) × (1 ≤ x.0.samples_per_chunk)) }
     ensures counted { by_guess ≡ false → IfOk result (λ x. x.1 ≡ comparisons_in first_samples.now k) }
     ensures few { by_guess ≡ false → IfOk result (λ x. IsFew x.1 (length entries.now)) }
-    ensures near { IfOk result (λ x. x.1 ≤ digits (length entries.now) + 7) }
+    ensures near { IfOk result (λ x. x.1 ≤ digits (length entries.now) + 4) }
 {
     if k == 0 {
         return Err(Error::InvalidData("samples are numbered from 1"));
@@ -202,7 +202,7 @@ pub fn searched_spot(
     ensures counts { OnOk result (1 ≤ k) }
     ensures counted { by_guess ≡ false → IfOk result (λ s. IfSome s (λ s. s.comparisons ≡ comparisons_in index.now.first_samples k)) }
     ensures few { by_guess ≡ false → IfOk result (λ s. IfSome s (λ s. IsFew s.comparisons (length stbl.now.stsc.entries))) }
-    ensures near { IfOk result (λ s. IfSome s (λ s. s.comparisons ≤ digits (length stbl.now.stsc.entries) + 7)) }
+    ensures near { IfOk result (λ s. IfSome s (λ s. s.comparisons ≤ digits (length stbl.now.stsc.entries) + 4)) }
     ensures size_reads { IfOk result (λ s. IfSome s (λ s. AreFewSizeReads stbl.now s.size_reads)) }
 {
     let (entry, comparisons) = entry_at(

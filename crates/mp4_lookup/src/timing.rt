@@ -66,7 +66,7 @@ pub fn searched_time(
     ensures time { Gives (λ t. (t.0, t.1)) result (time_at runs.now track_id k) }
     ensures counted { by_guess ≡ false → IfOk result (λ t. t.2 ≡ comparisons_in counts.now (k - 1)) }
     ensures few { by_guess ≡ false → IfOk result (λ t. IsFew t.2 (length runs.now)) }
-    ensures near { IfOk result (λ t. t.2 ≤ digits (length runs.now) + 7) }
+    ensures near { IfOk result (λ t. t.2 ≤ digits (length runs.now) + 4) }
 {
     let (found, readings) = last_at_most_by(counts, k - 1, by_guess);
     let comparisons = readings.count();
@@ -106,7 +106,7 @@ pub fn searched_rendering_offset(
     ensures value { result.0 ≡ get_or (rendering_offsets runs.now) (k - 1) (pos 0) }
     ensures counted { by_guess ≡ false → result.1 ≡ comparisons_in counts.now (k - 1) }
     ensures few { by_guess ≡ false → IsFew result.1 (length runs.now) }
-    ensures near { result.1 ≤ digits (length runs.now) + 7 }
+    ensures near { result.1 ≤ digits (length runs.now) + 4 }
 {
     let (found, readings) = last_at_most_by(counts, k - 1, by_guess);
     let comparisons = readings.count();

@@ -59,8 +59,8 @@ fn cut_at_space(line: &[u8]) -> Option<(&[u8], &[u8])>
     }
 }
 
-/// The number that so few decimal digits write, and None where one of the bytes is no digit. That is what `parse` gives of
-/// digits, without a look at their encoding before.
+/// The number that so few decimal digits write, and None where one of the bytes is no digit. That is what `parse` gives
+/// of digits, without a look at their encoding before.
 fn value_of(digits: &[u8]) -> Option<u64>
     requires { length digits.now ≤ 10 }
     ensures value { IfSome result (λ n. n ≡ decimal_value digits.now) }

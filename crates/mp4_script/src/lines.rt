@@ -23,11 +23,14 @@ pub(crate) fn length_before(text: &[u8], end: u8) -> usize
     text.iter().take_while(|byte| **byte != end).count()
 }
 
-/// How many bytes stand before the first line feed, or how many there are: as [`length_before`] answers, but found many bytes
-/// at a time, since lines may be long.
+/// How many bytes stand before the first line feed, or how many there are: as [`length_before`] answers, but found many
+/// bytes at a time, since lines may be long. Empty lines are many in some texts, and are found by their one byte.
 fn line_length(text: &[u8]) -> usize
     ensures { result ≡ position_or_len (λ byte. byte == 10) text.now }
 {
+    if text.first() == Some(&LINE_FEED) {
+        return 0;
+    }
     match memchr(LINE_FEED, text) {
         Some(place) => place,
         None => text.len(),

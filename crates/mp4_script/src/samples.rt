@@ -11,8 +11,8 @@ use std::alloc::{AllocError, Global};
 /// Room for the longest line: seven numbers of at most 20 digits, a minus, and a byte behind each number.
 const LINE: usize = 148;
 
-/// Where a sample that can be read lies: None where there is none. `EndOfData` where it doesn't lie whole in the file, as
-/// reading it answers.
+/// Where a sample that can be read lies: None where there is none. `EndOfData` where it doesn't lie whole in the file,
+/// as reading it answers.
 ///
 /// The sample is looked up once, where reading it first and then asking for its place would do it twice.
 fn place_of(track: &Mp4Track, file: &[u8], k: u32) -> Result<Option<SamplePlace>> {
@@ -38,8 +38,8 @@ fn put_number(line: &mut [u8; LINE], end: usize, number: u64, behind: u8) -> usi
     write_digits(number, line, end - 1)
 }
 
-/// Writes a number, behind a minus where it is below 0, and a space behind it, which end at `end`, and answers where they
-/// begin.
+/// Writes a number, behind a minus where it is below 0, and a space behind it, which end at `end`, and answers where
+/// they begin.
 fn put_offset(line: &mut [u8; LINE], end: usize, offset: i32) -> usize
     requires room { 22 ≤ end }
     requires within { end ≤ 148 }

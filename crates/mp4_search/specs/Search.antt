@@ -1,6 +1,6 @@
 -- Search in numbers that rise.
 use Rattle.std.specs.Prelude.{◌≡◌, ℕ, zero, suc, ◌+◌, ◌-◌, ◌/◌, ◌<◌, ◌≤◌, nat_lt, nat_le, List, length, slice_index}
-use Rattle.std.specs.Prelude.{if◌then◌else◌}
+use Rattle.std.specs.Prelude.{if◌then◌else◌, Option, MatchOption}
 use Rattle.mp4_search.specs.Digits.{digits}
 
 -- the number at i is the last that is at most the key
@@ -9,12 +9,12 @@ pub record IsLastAtMost (numbers : List ℕ) (key i : ℕ) : Type 0 where
   pub small : slice_index numbers i ≤ key
   pub later : (j : ℕ) → i < j → j < length numbers → key < slice_index numbers j
 
--- What a search has found out while it goes on: the last that is at most the key, if there is one, stands before `high` and
--- not before `low - 1`, where the number is `last`.
-pub record IsBetween (numbers : List ℕ) (key low high last : ℕ) : Type 0 where
+-- What a search has found out while it goes on: the last that is at most the key, if there is one, stands before `high`
+-- and not before `low - 1`, where the number is `last`; that is None where `low` is 0.
+pub record IsBetween (numbers : List ℕ) (key low high : ℕ) (last : Option ℕ) : Type 0 where
   pub ordered : low ≤ high
   pub inside : high ≤ length numbers
-  pub before : 0 < low → (last ≡ slice_index numbers (low - 1)) × (last ≤ key)
+  pub before : MatchOption last (low ≡ 0) (λ n. (1 ≤ low) × (n ≡ slice_index numbers (low - 1)) × (n ≤ key))
   pub above : (j : ℕ) → high ≤ j → j < length numbers → key < slice_index numbers j
 
 -- so many comparisons in a table of n entries: at most as many as n has binary digits, and at least one if it has an

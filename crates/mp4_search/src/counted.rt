@@ -8,8 +8,8 @@ use std::alloc::AllocError;
 use std::fmt;
 use std::marker::Model;
 
-/// How many numbers were read by one call. Only the calls of this crate that read numbers make one, with all readings of
-/// theirs in it, and it can't be dropped: whoever makes such a call takes the count.
+/// How many numbers were read by one call. Only the calls of this crate that read numbers make one, with all readings
+/// of theirs in it, and it can't be dropped: whoever makes such a call takes the count.
 #[derive(Debug)]
 pub struct Readings {
     count: u32,
@@ -42,8 +42,7 @@ impl Readings {
 #[derive(Drop)]
 pub struct SearchedNumbers {
     numbers: Items<u32>,
-    /// By which the place of a number is guessed. It is read off the first and the last number, and says nothing of those
-    /// between.
+    /// By which the place of a number is guessed. It says nothing of what the numbers are.
     slope: Slope,
 }
 
@@ -85,13 +84,15 @@ impl SearchedNumbers {
         ensures { OnOk result (self.new ≡ self.old ++ number ∷ []) }
     {
         self.numbers.push(number)?;
-        self.slope = Slope::of(self.numbers.as_slice());
+        self.slope = self.slope.further(self.numbers.as_slice());
         Ok(())
     }
 
-    /// The index at which the last number that is at most `key` is expected: a guess.
-    pub(crate) fn expected(&self, key: u32) -> usize {
-        self.slope.place(key)
+    /// The index at which the last number that is at most `key` is expected: a guess. None where no guess is worth its
+    /// looks.
+    pub(crate) fn expected(&self, key: u32) -> Option<usize> {
+        let place = self.slope.place(key)?;
+        Some(place.min(self.numbers.len().saturating_sub(1)))
     }
 
     /// The number at an index, which counts from 0. This counts as one reading.

@@ -8,18 +8,18 @@ ghost use Rattle.mp4_search.specs.Search.{IsBetween, IsFew, IsLastAtMost, compar
 use crate::counted::{Readings, SearchedNumbers};
 use crate::search::{Found, last_at_most};
 
-/// How far from the place that is expected numbers are looked at, before the rest is halved.
+/// How far from the place that is expected numbers are looked at beside its neighbours, before the rest is halved.
 const FAR: usize = 16;
 
 const FARTHER: usize = 256;
 
-/// What is left of a search: the numbers before `low` are at most the key, and `last` is the one right before it; the
-/// numbers from `high` on are above the key.
+/// What is left of a search: the numbers before `low` are at most the key, and `last` is the one right before it, if
+/// there is one; the numbers from `high` on are above the key.
 #[derive(Clone, Copy)]
 struct Between {
     low: usize,
     high: usize,
-    last: u32,
+    last: Option<u32>,
 }
 
 /// Looks at the number at an index, where it is among those that are left.
@@ -45,7 +45,7 @@ fn look(
         Between {
             low: index + 1,
             high: between.high,
-            last: number,
+            last: Some(number),
         }
     } else {
         Between {
@@ -56,30 +56,58 @@ fn look(
     }
 }
 
-/// Looks at the numbers so many places behind and before an index, where they are among those that are left.
-fn look_around(
+/// Looks behind an index, whose number is at most the key: farther and farther, up to the first number that is above
+/// it.
+fn look_behind(
     numbers: &SearchedNumbers,
     key: u32,
-    between: Between,
+    at: Between,
     index: usize,
-    distance: usize,
     readings: &mut Readings,
 ) -> Between
     requires rises { IsNonDecreasing numbers.now }
-    requires between { IsBetween numbers.now key between.low between.high between.last }
-    requires room { readings.old < 2 ^ 32 - 2 }
+    requires between { IsBetween numbers.now key at.low at.high at.last }
+    requires room { readings.old < 2 ^ 32 - 3 }
     ensures between { IsBetween numbers.now key result.low result.high result.last }
-    ensures less { result.high - result.low ≤ between.high - between.low }
-    ensures counted { readings.new ≤ readings.old + 2 }
+    ensures less { result.high - result.low ≤ at.high - at.low }
+    ensures counted { readings.new ≤ readings.old + 3 }
 {
-    let behind = look(
-        numbers,
-        key,
-        between,
-        index.wrapping_add(distance),
-        readings,
-    );
-    look(numbers, key, behind, index.wrapping_sub(distance), readings)
+    let beside = look(numbers, key, at, index.wrapping_add(1), readings);
+    if beside.high < at.high {
+        return beside;
+    }
+    let far = look(numbers, key, beside, index.wrapping_add(FAR), readings);
+    if far.high < at.high {
+        return far;
+    }
+    look(numbers, key, far, index.wrapping_add(FARTHER), readings)
+}
+
+/// Looks before an index, whose number is above the key: farther and farther, up to the first number that is at most
+/// the key.
+fn look_before(
+    numbers: &SearchedNumbers,
+    key: u32,
+    at: Between,
+    index: usize,
+    readings: &mut Readings,
+) -> Between
+    requires rises { IsNonDecreasing numbers.now }
+    requires between { IsBetween numbers.now key at.low at.high at.last }
+    requires room { readings.old < 2 ^ 32 - 3 }
+    ensures between { IsBetween numbers.now key result.low result.high result.last }
+    ensures less { result.high - result.low ≤ at.high - at.low }
+    ensures counted { readings.new ≤ readings.old + 3 }
+{
+    let beside = look(numbers, key, at, index.wrapping_sub(1), readings);
+    if beside.low > at.low {
+        return beside;
+    }
+    let far = look(numbers, key, beside, index.wrapping_sub(FAR), readings);
+    if far.low > at.low {
+        return far;
+    }
+    look(numbers, key, far, index.wrapping_sub(FARTHER), readings)
 }
 
 /// Looks at the number in the middle of those that are left, until none is left.
@@ -100,7 +128,9 @@ fn halve(numbers: &SearchedNumbers, key: u32, between: Between, readings: &mut R
         let middle = low + (high - low) / 2;
         let number = numbers.read(middle, readings);
         if number <= key {
-            last = number;
+            // As an option it makes the compiler branch here and not select: that is faster where keys come in order,
+            // since one search goes the way of the search before.
+            last = Some(number);
             low = middle + 1;
         } else {
             high = middle;
@@ -109,51 +139,56 @@ fn halve(numbers: &SearchedNumbers, key: u32, between: Between, readings: &mut R
     Between { low, high, last }
 }
 
-/// What is left after the looks at the index where the answer is expected, and around it: nothing, where it is there.
+/// What is left after a look at the index where the answer is expected, and looks to the side on which it lies:
+/// nothing, where it is there. All is left where no guess is worth its looks.
 fn looked_near(numbers: &SearchedNumbers, key: u32, readings: &mut Readings) -> Between
     requires rises { IsNonDecreasing numbers.now }
     requires room { readings.old ≡ 0 }
     ensures between { IsBetween numbers.now key result.low result.high result.last }
-    ensures counted { readings.new ≤ 7 }
+    ensures counted { readings.new ≤ 4 }
 {
     let all = Between {
         low: 0,
         high: numbers.len(),
-        last: 0,
+        last: None,
     };
-    let index = numbers.expected(key);
+    let Some(index) = numbers.expected(key) else {
+        return all;
+    };
     let at = look(numbers, key, all, index, readings);
-    let beside = look_around(numbers, key, at, index, 1, readings);
-    if beside.low >= beside.high {
-        return beside;
+    if at.low > all.low {
+        look_behind(numbers, key, at, index, readings)
+    } else {
+        look_before(numbers, key, at, index, readings)
     }
-    let far = look_around(numbers, key, beside, index, FAR, readings);
-    look_around(numbers, key, far, index, FARTHER, readings)
 }
 
-/// The last of the numbers that is at most `key`, and how many of them were compared with it, as [`last_at_most`] finds
-/// it: but the search begins where the answer is expected on the straight line from the first number to the last.
+/// The last of the numbers that is at most `key`, and how many of them were compared with it, as [`last_at_most`]
+/// finds it: but where the numbers lie near the straight line from the first to the last, the search begins where the
+/// answer is expected on it.
 ///
 /// It is over after a look or two where the numbers rise evenly, and after a few more where the answer is not far from
-/// there; else the answer is found by halves, after at most seven comparisons. So an interpolation search begins, and this
-/// one keeps the bound of a search by halves.
+/// there; else the answer is found by halves, after at most four comparisons. So an interpolation search begins, and
+/// this one keeps the bound of a search by halves.
 pub fn last_at_most_near(numbers: &SearchedNumbers, key: u32) -> (Option<Found>, Readings)
     requires { IsNonDecreasing numbers.now }
     ensures found { IfSome result.0 (λ f. IsLastAtMost numbers.now key f.index × (f.number ≡ slice_index numbers.now f.index)) }
     ensures none { IfNone result.0 ((j : ℕ) → j < length numbers.now → key < slice_index numbers.now j) }
-    ensures few { result.1 ≤ digits (length numbers.now) + 7 }
+    ensures few { result.1 ≤ digits (length numbers.now) + 4 }
 {
     let mut readings = Readings::new();
     let near = looked_near(numbers, key, &mut readings);
     let end = halve(numbers, key, near, &mut readings);
-    if end.low == 0 {
-        return (None, readings);
+    match end.last {
+        Some(number) => {
+            let found = Found {
+                index: end.low - 1,
+                number,
+            };
+            (Some(found), readings)
+        }
+        None => (None, readings),
     }
-    let found = Found {
-        index: end.low - 1,
-        number: end.last,
-    };
-    (Some(found), readings)
 }
 
 /// The last of the numbers that is at most `key`, and how many of them were compared with it: by
@@ -168,7 +203,7 @@ pub fn last_at_most_by(
     ensures none { IfNone result.0 ((j : ℕ) → j < length numbers.now → key < slice_index numbers.now j) }
     ensures counted { by_guess ≡ false → result.1 ≡ comparisons_in numbers.now key }
     ensures few { by_guess ≡ false → IsFew result.1 (length numbers.now) }
-    ensures near { result.1 ≤ digits (length numbers.now) + 7 }
+    ensures near { result.1 ≤ digits (length numbers.now) + 4 }
 {
     if by_guess {
         last_at_most_near(numbers, key)

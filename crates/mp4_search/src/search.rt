@@ -33,7 +33,8 @@ pub fn last_at_most(numbers: &SearchedNumbers, key: u32) -> (Option<Found>, Read
     let mut low: usize = 0;
     let mut high = numbers.end();
     while low < high {
-        // This is `low + (high - low) / 2` in two instructions in place of four, since no two places pass 64 bits together.
+        // This is `low + (high - low) / 2` in two instructions in place of four, since no two places pass 64 bits
+        // together.
         let middle = (low + high) / 2;
         let number = numbers.read(middle, &mut readings);
         if number <= key {

@@ -1,5 +1,5 @@
-//! The lists of samples beside the plain program: each sample is read, its place is asked for, and its seven numbers are
-//! written one after the other.
+//! The lists of samples beside the plain program: each sample is read, its place is asked for, and its seven numbers
+//! are written one after the other.
 
 use crate::asserts::check;
 use crate::plain_files::{PlainFile, put_boxes};
@@ -83,8 +83,8 @@ fn are_listed(alloc: Global, file: &[u8]) -> bool {
     all
 }
 
-/// Whether the samples of the random tables of a seed are listed so. Some tables are broken, and some chunks lie past the
-/// end of the file.
+/// Whether the samples of the random tables of a seed are listed so. Some tables are broken, and some chunks lie past
+/// the end of the file.
 fn tables_are_listed(alloc: Global, seed: u64) -> Result<bool> {
     let mut random = Random::new(seed);
     let mut tables = RandomTables::new(alloc);

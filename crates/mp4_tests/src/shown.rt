@@ -1,5 +1,5 @@
-//! What `{:?}` shows of tracks, of writers and of numbers that are searched: their types write it themselves, and it is what
-//! types of these fields alone show, which derive it.
+//! What `{:?}` shows of tracks, of writers and of numbers that are searched: their types write it themselves, and it
+//! is what types of these fields alone show, which derive it.
 
 use crate::asserts::check;
 use crate::tracks::holds_of;
@@ -60,26 +60,27 @@ fn searched(numbers: Vec<u32>) -> SearchedNumbers {
     }
 }
 
-/// How many samples come before each run of stts.
-fn stts_counts(alloc: Global, runs: &[SttsEntry]) -> Result<Vec<u32>> {
-    let mut counts = Vec::with_capacity(alloc, runs.len())?;
+/// How many samples come before each run, of runs of so many samples.
+fn counts_before(alloc: Global, sample_counts: &[u32]) -> Result<Vec<u32>> {
+    let mut counts = Vec::with_capacity(alloc, sample_counts.len())?;
     let mut count: u32 = 0;
-    for run in runs {
+    for sample_count in sample_counts {
         counts.push(count)?;
-        count = count.saturating_add(run.sample_count);
+        count = count.saturating_add(*sample_count);
     }
     Ok(counts)
 }
 
+/// How many samples come before each run of stts.
+fn stts_counts(alloc: Global, runs: &[SttsEntry]) -> Result<Vec<u32>> {
+    let sample_counts: Vec<u32> = runs.iter().map(|run| run.sample_count).collect(alloc)?;
+    counts_before(alloc, &sample_counts)
+}
+
 /// How many samples come before each run of ctts.
 fn ctts_counts(alloc: Global, runs: &[CttsEntry]) -> Result<Vec<u32>> {
-    let mut counts = Vec::with_capacity(alloc, runs.len())?;
-    let mut count: u32 = 0;
-    for run in runs {
-        counts.push(count)?;
-        count = count.saturating_add(run.sample_count);
-    }
-    Ok(counts)
+    let sample_counts: Vec<u32> = runs.iter().map(|run| run.sample_count).collect(alloc)?;
+    counts_before(alloc, &sample_counts)
 }
 
 /// How many ticks come before each run of stts.
@@ -179,7 +180,8 @@ fn track_is_shown(alloc: Global, track: &Track) -> Result<bool> {
     )
 }
 
-/// Whether the track of a seed is shown so. Some of its tables are broken, and in some the ticks before a run pass 64 bits.
+/// Whether the track of a seed is shown so. Some of its tables are broken, and in some the ticks before a run pass 64
+/// bits.
 fn random_track_is_shown(alloc: Global, seed: u64) -> Result<bool> {
     let mut random = Random::new(seed);
     let mut tables = RandomTables::new(alloc);

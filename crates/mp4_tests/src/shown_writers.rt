@@ -1,5 +1,5 @@
-//! What `{:?}` shows of the tracks of a writer: their type writes it itself, and it is what a type of these fields alone shows,
-//! which derives it.
+//! What `{:?}` shows of the tracks of a writer: their type writes it itself, and it is what a type of these fields
+//! alone shows, which derives it.
 
 use crate::asserts::check;
 use crate::writer_calls::{config_of, media_track};

@@ -22,7 +22,7 @@ loop-low-preserved-then-number-key c =
       between = record {
         ordered = omega arith;
         inside = l.invariant.between.inside;
-        before = λ h. (rw one_before c.read-number.ensures.number, omega arith);
+        before = (omega arith, rw one_before c.read-number.ensures.number, omega arith);
         above = l.invariant.between.above;
       };
       paid = omega (arith, paid, l.invariant.paid);

@@ -4,8 +4,8 @@ use Rattle.mp4_search.proofs.Digits.{digits_grow}
 use Rattle.mp4_search.proofs.near.last_at_most_near.Goals as goal
 use Rattle.mp4_search.proofs.near.last_at_most_near.Goals.{After-halve-end}
 
--- seven looks at most, and then no more than all numbers would take by halves
-few_in_all : (c : After-halve-end) → c.halve-end.new.readings ≤ digits (length c.args.numbers.now) + 7
+-- four looks at most, and then no more than all numbers would take by halves
+few_in_all : (c : After-halve-end) → c.halve-end.new.readings ≤ digits (length c.args.numbers.now) + 4
 few_in_all c =
     let near = c.looked_near-near.result in
     omega (
@@ -16,8 +16,8 @@ few_in_all c =
           (omega (arith, c.looked_near-near.ensures.between.inside)),
     )
 
-pub returns-then-end-eq0-clause-few : goal.returns-then-end-eq0-clause-few
-returns-then-end-eq0-clause-few c = few_in_all (goal.at.returns-then-end-eq0-clause-few c).After-halve-end
+pub returns-in-Some-clause-few : goal.returns-in-Some-clause-few
+returns-in-Some-clause-few c = few_in_all (goal.at.returns-in-Some-clause-few c).After-halve-end
 
-pub returns-clause-few : goal.returns-clause-few
-returns-clause-few c = few_in_all (goal.at.returns-clause-few c).After-halve-end
+pub returns-in-None-clause-few : goal.returns-in-None-clause-few
+returns-in-None-clause-few c = few_in_all (goal.at.returns-in-None-clause-few c).After-halve-end

@@ -4,8 +4,8 @@ use Rattle.mp4_search.specs.Digits.{digits}
 use Rattle.mp4_search.proofs.Comparisons.{AreLeft}
 use Rattle.mp4_search.proofs.search.last_at_most.Given as goal
 
--- The last number that was at most the key stands before low. What stands from high on is above it. The digits of what is
--- left pay for what is to come, and so many comparisons are left.
+-- The last number that was at most the key stands before low. What stands from high on is above it. The digits of
+-- what is left pay for what is to come, and so many comparisons are left.
 abbrev pub invariant-loop-low : goal.invariant-loop-low
 invariant-loop-low l = record {
   ordered : l.low ≤ l.high;
