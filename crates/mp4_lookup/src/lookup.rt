@@ -56,6 +56,7 @@ impl Mp4Track {
     }
 
     /// The answer of `locate` and of `locate_by_guess`.
+    #[inline(always)]
     #[tactic(auto, unfolding(crate::specs::Tracks::answer_at, crate::specs::Costs::comparisons_of))]
     fn answer(&self, k: u32, by_guess: bool) -> Result<Option<SamplePlace>>
         ensures rule { Gives (λ p. option_map place_of p) result (answer_at self.now.trak self.now.trafs (track_runs self.now) k) }
@@ -80,6 +81,7 @@ impl Mp4Track {
     }
 
     /// Where the sample with this number lies among those that fragments add; it counts from 0.
+    #[inline(always)]
     fn added_at(&self, number: u32, by_guess: bool) -> Result<Option<SamplePlace>>
         requires { number < 2 ^ 32 - 1 }
         ensures rule { Gives (λ p. option_map place_of p) result (member_place (slice_get (all_members (track_runs self.now)) number)) }

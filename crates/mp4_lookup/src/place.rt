@@ -35,6 +35,7 @@ impl ExactEq for Spot {
 
 /// The last entry whose first sample is at most `k`, and how many comparisons found it, of a search by halves or by a
 /// guess.
+#[inline(always)]
 #[tactic(auto, unfolding(crate::specs::Rule::entry_for))]
 fn entry_at(
     entries: &[StscEntry],
@@ -189,6 +190,7 @@ pub fn spot_at(stbl: &StblBox, index: &TrackIndex, k: u32) -> Result<Option<Spot
 }
 
 /// The answer of `spot_at`, of a search by halves or by a guess.
+#[inline(always)]
 #[tactic(auto, unfolding(crate::specs::Rule::spot_at))]
 pub fn searched_spot(
     stbl: &StblBox,

@@ -53,6 +53,7 @@ pub fn time_at(
 }
 
 /// The answer of `time_at`, of a search by halves or by a guess.
+#[inline(always)]
 pub fn searched_time(
     runs: &[SttsEntry],
     counts: &SearchedNumbers,
@@ -95,6 +96,7 @@ pub fn rendering_offset_at(runs: &[CttsEntry], counts: &SearchedNumbers, k: u32)
 }
 
 /// The answer of `rendering_offset_at`, of a search by halves or by a guess.
+#[inline(always)]
 pub fn searched_rendering_offset(
     runs: &[CttsEntry],
     counts: &SearchedNumbers,

@@ -84,7 +84,9 @@ impl SearchedNumbers {
         ensures { OnOk result (self.new ≡ self.old ++ number ∷ []) }
     {
         self.numbers.push(number)?;
-        self.slope = self.slope.further(self.numbers.as_slice());
+        if self.slope.is_outgrown(self.numbers.len()) {
+            self.slope = Slope::of(self.numbers.as_slice());
+        }
         Ok(())
     }
 

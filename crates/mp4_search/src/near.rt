@@ -7,6 +7,7 @@ ghost use Rattle.mp4_search.specs.Search.{IsBetween, IsFew, IsLastAtMost, compar
 
 use crate::counted::{Readings, SearchedNumbers};
 use crate::search::{Found, last_at_most};
+use crate::slope::FEW;
 
 /// How far from the place that is expected numbers are looked at beside its neighbours, before the rest is halved.
 const FAR: usize = 16;
@@ -140,8 +141,13 @@ fn halve(numbers: &SearchedNumbers, key: u32, between: Between, readings: &mut R
 }
 
 /// What is left after a look at the index where the answer is expected, and looks to the side on which it lies:
-/// nothing, where it is there. All is left where no guess is worth its looks.
-fn looked_near(numbers: &SearchedNumbers, key: u32, readings: &mut Readings) -> Between
+/// nothing, where it is there.
+fn looked_near(
+    numbers: &SearchedNumbers,
+    key: u32,
+    index: usize,
+    readings: &mut Readings,
+) -> Between
     requires rises { IsNonDecreasing numbers.now }
     requires room { readings.old ≡ 0 }
     ensures between { IsBetween numbers.now key result.low result.high result.last }
@@ -152,9 +158,6 @@ fn looked_near(numbers: &SearchedNumbers, key: u32, readings: &mut Readings) -> 
         high: numbers.len(),
         last: None,
     };
-    let Some(index) = numbers.expected(key) else {
-        return all;
-    };
     let at = look(numbers, key, all, index, readings);
     if at.low > all.low {
         look_behind(numbers, key, at, index, readings)
@@ -163,21 +166,16 @@ fn looked_near(numbers: &SearchedNumbers, key: u32, readings: &mut Readings) -> 
     }
 }
 
-/// The last of the numbers that is at most `key`, and how many of them were compared with it, as [`last_at_most`]
-/// finds it: but where the numbers lie near the straight line from the first to the last, the search begins where the
-/// answer is expected on it.
-///
-/// It is over after a look or two where the numbers rise evenly, and after a few more where the answer is not far from
-/// there; else the answer is found by halves, after at most four comparisons. So an interpolation search begins, and
-/// this one keeps the bound of a search by halves.
-pub fn last_at_most_near(numbers: &SearchedNumbers, key: u32) -> (Option<Found>, Readings)
+/// What [`last_at_most`] finds, begun at the index where it is expected.
+#[inline(never)]
+fn last_at_most_from(numbers: &SearchedNumbers, key: u32, index: usize) -> (Option<Found>, Readings)
     requires { IsNonDecreasing numbers.now }
     ensures found { IfSome result.0 (λ f. IsLastAtMost numbers.now key f.index × (f.number ≡ slice_index numbers.now f.index)) }
     ensures none { IfNone result.0 ((j : ℕ) → j < length numbers.now → key < slice_index numbers.now j) }
     ensures few { result.1 ≤ digits (length numbers.now) + 4 }
 {
     let mut readings = Readings::new();
-    let near = looked_near(numbers, key, &mut readings);
+    let near = looked_near(numbers, key, index, &mut readings);
     let end = halve(numbers, key, near, &mut readings);
     match end.last {
         Some(number) => {
@@ -191,8 +189,46 @@ pub fn last_at_most_near(numbers: &SearchedNumbers, key: u32) -> (Option<Found>,
     }
 }
 
+/// [`last_at_most`] as a function of its own. Inlined in a longer one its loop is compiled to select and not to branch,
+/// which is slower where keys come in order and halves are many.
+#[inline(never)]
+fn last_at_most_apart(numbers: &SearchedNumbers, key: u32) -> (Option<Found>, Readings)
+    requires { IsNonDecreasing numbers.now }
+    ensures found { IfSome result.0 (λ f. IsLastAtMost numbers.now key f.index × (f.number ≡ slice_index numbers.now f.index)) }
+    ensures none { IfNone result.0 ((j : ℕ) → j < length numbers.now → key < slice_index numbers.now j) }
+    ensures few { IsFew result.1 (length numbers.now) }
+{
+    last_at_most(numbers, key)
+}
+
+/// The last of the numbers that is at most `key`, and how many of them were compared with it, as [`last_at_most`]
+/// finds it: but where the numbers lie near the straight line from the first to the last, the search begins where the
+/// answer is expected on it.
+///
+/// It is over after a look or two where the numbers rise evenly, and after a few more where the answer is not far from
+/// there; else the answer is found by halves, after at most four comparisons. So an interpolation search begins, and
+/// this one keeps the bound of a search by halves.
+#[inline(always)]
+pub fn last_at_most_near(numbers: &SearchedNumbers, key: u32) -> (Option<Found>, Readings)
+    requires { IsNonDecreasing numbers.now }
+    ensures found { IfSome result.0 (λ f. IsLastAtMost numbers.now key f.index × (f.number ≡ slice_index numbers.now f.index)) }
+    ensures none { IfNone result.0 ((j : ℕ) → j < length numbers.now → key < slice_index numbers.now j) }
+    ensures few { result.1 ≤ digits (length numbers.now) + 4 }
+{
+    // Few numbers are searched in the caller's own code: a call would take as long as the search.
+    if numbers.len() <= FEW {
+        return last_at_most(numbers, key);
+    }
+    match numbers.expected(key) {
+        None => last_at_most_apart(numbers, key),
+        Some(index) => last_at_most_from(numbers, key, index),
+    }
+}
+
 /// The last of the numbers that is at most `key`, and how many of them were compared with it: by
-/// [`last_at_most_near`] where a guess is asked for, else by [`last_at_most`].
+/// [`last_at_most_near`] where a guess is asked for, else by [`last_at_most`]. It is inlined, as are the steps of a
+/// look-up that are told whether to guess, so that nothing tests for it where the outermost caller says it.
+#[inline(always)]
 pub fn last_at_most_by(
     numbers: &SearchedNumbers,
     key: u32,

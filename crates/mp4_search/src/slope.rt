@@ -1,7 +1,7 @@
 //! Where a number is expected among numbers that rise.
 
 /// So many numbers are found by halves as soon as by a guess.
-const FEW: usize = 2;
+pub(crate) const FEW: usize = 7;
 
 /// At how many places, less one, the numbers are compared with their line.
 const PARTS: usize = 8;
@@ -37,7 +37,7 @@ impl Slope {
         let last = numbers.last().copied().unwrap_or(0);
         let rise = u64::from(last.saturating_sub(first));
         // It is rounded up, so that a number of the line itself isn't placed before its own place.
-        let places = if rise == 0 {
+        let places = if rise == 0 || numbers.len() <= FEW {
             0
         } else {
             (((numbers.len() - 1) as u64).min(rise) << 32) / rise + 1
@@ -46,7 +46,9 @@ impl Slope {
             first,
             places,
             is_near: true,
-            next_drawing: numbers.len().saturating_add(numbers.len() / 4 + 1),
+            next_drawing: numbers
+                .len()
+                .saturating_add((numbers.len() / 2).max(FEW) + 1),
         }
     }
 
@@ -68,14 +70,10 @@ impl Slope {
         true
     }
 
-    /// The line of these numbers, which begin with those of this line. It is drawn anew once they are a quarter more
-    /// than when it was drawn, so that of many numbers that are added few draw it.
-    pub fn further(self, numbers: &[u32]) -> Self {
-        if numbers.len() < self.next_drawing {
-            self
-        } else {
-            Slope::of(numbers)
-        }
+    /// Whether the line is to be drawn anew, now that there are so many numbers: once they are half as many again as
+    /// when it was drawn, so that of many numbers that are added few draw it.
+    pub fn is_outgrown(self, len: usize) -> bool {
+        len >= self.next_drawing
     }
 
     /// The place of a number on the line.

@@ -1,8 +1,8 @@
 use Rattle.std.proofs.Common.{◌≤◌, ◌+◌, ◌-◌, length, arith}
 use Rattle.mp4_search.specs.Digits.{digits}
 use Rattle.mp4_search.proofs.Digits.{digits_grow}
-use Rattle.mp4_search.proofs.near.last_at_most_near.Goals as goal
-use Rattle.mp4_search.proofs.near.last_at_most_near.Goals.{After-halve-end}
+use Rattle.mp4_search.proofs.near.last_at_most_from.Goals as goal
+use Rattle.mp4_search.proofs.near.last_at_most_from.Goals.{After-halve-end}
 
 -- four looks at most, and then no more than all numbers would take by halves
 few_in_all : (c : After-halve-end) → c.halve-end.new.readings ≤ digits (length c.args.numbers.now) + 4
