@@ -91,9 +91,7 @@ impl RunIndex {
         requires number { number < 2 ^ 32 - 1 }
         requires indexed { Indexes (run_at trafs.now track) (runs_of trafs.now track self.now) self.now }
         ensures member { option_map (λ x. x.member) result ≡ slice_get (all_members (runs_of trafs.now track self.now)) number }
-        ensures comparisons {
-            IfSome result (λ x. x.comparisons ≤ digits (length (runs_of trafs.now track self.now)) + 4)
-        }
+        ensures comparisons { IfSome result (λ x. x.comparisons ≤ digits (length (runs_of trafs.now track self.now)) + 4) }
     {
         self.find_by(trafs, track, number, true)
     }

@@ -24,17 +24,27 @@ pub(crate) fn length_before(text: &[u8], end: u8) -> usize
 }
 
 /// How many bytes stand before the first line feed, or how many there are: as [`length_before`] answers, but found many
-/// bytes at a time, since lines may be long. Empty lines are many in some texts, and are found by their one byte.
+/// bytes at a time, since lines may be long. It is a call of its own, so that a loop over lines keeps its variables in
+/// registers.
+#[inline(never)]
+fn length_by_memchr(text: &[u8]) -> usize
+    ensures { result ≡ position_or_len (λ byte. byte == 10) text.now }
+{
+    match memchr(LINE_FEED, text) {
+        Some(place) => place,
+        None => text.len(),
+    }
+}
+
+/// How many bytes stand before the first line feed, or how many there are. Empty lines are many in some texts, and are
+/// found by their one byte.
 fn line_length(text: &[u8]) -> usize
     ensures { result ≡ position_or_len (λ byte. byte == 10) text.now }
 {
     if text.first() == Some(&LINE_FEED) {
         return 0;
     }
-    match memchr(LINE_FEED, text) {
-        Some(place) => place,
-        None => text.len(),
-    }
+    length_by_memchr(text)
 }
 
 impl<'a> Lines<'a> {

@@ -1,5 +1,5 @@
 use Rattle.mp4_script.proofs.Cutting.{first_feed, no_feed}
-use Rattle.mp4_script.proofs.lines.line_length.Goals as goal
+use Rattle.mp4_script.proofs.lines.length_by_memchr.Goals as goal
 
 pub returns-in-Some : goal.returns-in-Some
 returns-in-Some c = first_feed c.args.text.now c.in-Some.place c.in-Some.ensures.0 c.in-Some.ensures.1
