@@ -2,12 +2,11 @@
 
 ghost use Rattle.mp4_codec.specs.ExactTest.{by_law, by_test, field_tests};
 ghost use Rattle.mp4_fragments.specs.contracts.members.MemberExactEq.TheImpl.Laws.{lawful as member_laws};
-ghost use Rattle.std.specs.Prelude.{◌≡◌, ℕ, ◌+◌, ◌-◌, ◌^◌, ◌<◌, ◌≤◌, false, List, length, min, slice_get, IfSome, Option};
+ghost use Rattle.std.specs.Prelude.{◌≡◌, ℕ, ◌-◌, ◌^◌, ◌<◌, false, List, length, min, slice_get, IfSome, Option};
 ghost use Rattle.std.specs.Option.{option_map, option_and_then};
 ghost use Rattle.std.specs.List.{sum_by};
 ghost use Rattle.mp4_moof.specs.declared.traf.TrafBox.{TrafBox};
-ghost use Rattle.mp4_search.specs.Digits.{digits};
-ghost use Rattle.mp4_search.specs.Search.{IsFew, comparisons_in};
+ghost use Rattle.mp4_search.specs.Search.{IsCountByGuess, IsFew, IsFewByGuess, comparisons_in};
 ghost use Rattle.mp4_fragments.specs.Members.{PlacedRun, all_members};
 ghost use Rattle.mp4_fragments.specs.Index.{Find, Indexes, IsRight, member_in, placed_at, run_at, runs_of};
 
@@ -79,9 +78,10 @@ impl RunIndex {
         self.find_by(trafs, track, number, false)
     }
 
-    /// The member that [`find`](RunIndex::find) answers, found faster: the search begins at the run in which the member
-    /// is expected if all runs have as many. At most four numbers more are compared than the number of the runs has
-    /// binary digits.
+    /// The member that [`find`](RunIndex::find) answers, mostly found faster: where the runs have about as many members
+    /// each, and are more than a few, the search begins at the run in which the member is expected. The comparisons are
+    /// those of the search that was made: at least one, and at most four more than the number of the runs has binary
+    /// digits.
     pub fn find_by_guess(
         &self,
         trafs: &[TrafBox],
@@ -91,7 +91,9 @@ impl RunIndex {
         requires number { number < 2 ^ 32 - 1 }
         requires indexed { Indexes (run_at trafs.now track) (runs_of trafs.now track self.now) self.now }
         ensures member { option_map (λ x. x.member) result ≡ slice_get (all_members (runs_of trafs.now track self.now)) number }
-        ensures comparisons { IfSome result (λ x. x.comparisons ≤ digits (length (runs_of trafs.now track self.now)) + 4) }
+        ensures counted { IfSome result (λ x. IsCountByGuess self.now.counts number x.comparisons) }
+        ensures comparisons { IfSome result
+            (λ x. IsFewByGuess x.comparisons (length (runs_of trafs.now track self.now))) }
     {
         self.find_by(trafs, track, number, true)
     }
@@ -109,8 +111,10 @@ impl RunIndex {
         requires indexed { Indexes (run_at trafs.now track) (runs_of trafs.now track self.now) self.now }
         ensures member { option_map (λ x. x.member) result ≡ slice_get (all_members (runs_of trafs.now track self.now)) number }
         ensures counted { by_guess ≡ false → IfSome result (λ x. x.comparisons ≡ comparisons_in self.now.counts number) }
-        ensures comparisons { by_guess ≡ false → IfSome result (λ x. IsFew x.comparisons (length (runs_of trafs.now track self.now))) }
-        ensures near { IfSome result (λ x. x.comparisons ≤ digits (length (runs_of trafs.now track self.now)) + 4) }
+        ensures comparisons { by_guess ≡ false → IfSome result
+            (λ x. IsFew x.comparisons (length (runs_of trafs.now track self.now))) }
+        ensures near_counted { IfSome result (λ x. IsCountByGuess self.now.counts number x.comparisons) }
+        ensures near { IfSome result (λ x. IsFewByGuess x.comparisons (length (runs_of trafs.now track self.now))) }
     {
         let (found, readings) = last_at_most_by(&self.counts, number, by_guess);
         let comparisons = readings.count();

@@ -3,29 +3,36 @@ use Rattle.std.proofs.Common.{◌≡◌, ℕ, zero, suc, ◌+◌, ◌-◌, ◌/�
 use Rattle.std.proofs.lemmas.Bool.{lt-ltb, le-ltb, le-leb, lt-leb}
 use Rattle.mp4_search.specs.Search.{comparisons_between, comparisons_in}
 
--- after so many comparisons, what is left between two places makes the others, in steps that are enough
-pub record AreLeft (numbers : List ℕ) (key low high compared : ℕ) : Type 0 where
+-- after so many comparisons, what is left between two places makes the others of all, in steps that are enough
+pub record AreLeft (numbers : List ℕ) (key low high compared all : ℕ) : Type 0 where
   pub steps : ℕ
   pub enough : high - low ≤ steps
-  pub left : compared + comparisons_between steps numbers key low high ≡ comparisons_in numbers key
+  pub left : compared + comparisons_between steps numbers key low high ≡ all
 
-pub all_left : (numbers : List ℕ) (key : ℕ) → AreLeft numbers key 0 (length numbers) 0
+pub all_left : (numbers : List ℕ) (key : ℕ) → AreLeft numbers key 0 (length numbers) 0 (comparisons_in numbers key)
 unfolding comparisons_in
 all_left numbers key = record { steps = length numbers; enough = omega arith; left = omega arith }
 
+-- what is left of some numbers, after so many comparisons
+pub these_left : (numbers : List ℕ) (key low high compared : ℕ)
+    → AreLeft numbers key low high compared (compared + comparisons_between (high - low) numbers key low high)
+these_left numbers key low high compared =
+    record { steps = high - low; enough = omega arith; left = omega arith }
+
 -- one comparison more: what is left stands behind the number in the middle
-pub behind : (numbers : List ℕ) (key low high middle compared : ℕ) → AreLeft numbers key low high compared → low < high
+pub behind : (numbers : List ℕ) (key low high middle compared all : ℕ)
+    → AreLeft numbers key low high compared all → low < high
     → middle ≡ low + (high - low) / 2 → slice_index numbers middle ≤ key
-    → AreLeft numbers key (middle + 1) high (compared + 1)
+    → AreLeft numbers key (middle + 1) high (compared + 1) all
 unfolding comparisons_between
-behind numbers key low high middle compared a h half at_most = rw half (step a.steps a.enough a.left)
+behind numbers key low high middle compared all a h half at_most = rw half (step a.steps a.enough a.left)
   where
     small : slice_index numbers (low + (high - low) / 2) ≤ key
     small = rw half at at_most
 
     step : (n : ℕ) → high - low ≤ n
-        → compared + comparisons_between n numbers key low high ≡ comparisons_in numbers key
-        → AreLeft numbers key (low + (high - low) / 2 + 1) high (compared + 1)
+        → compared + comparisons_between n numbers key low high ≡ all
+        → AreLeft numbers key (low + (high - low) / 2 + 1) high (compared + 1) all
     step zero enough left = absurd (omega (arith, h, enough))
     step (suc n) enough left = record {
       steps = n;
@@ -34,18 +41,19 @@ behind numbers key low high middle compared a h half at_most = rw half (step a.s
     }
 
 -- one comparison more: what is left stands before the number in the middle
-pub before : (numbers : List ℕ) (key low high middle compared : ℕ) → AreLeft numbers key low high compared → low < high
+pub before : (numbers : List ℕ) (key low high middle compared all : ℕ)
+    → AreLeft numbers key low high compared all → low < high
     → middle ≡ low + (high - low) / 2 → key < slice_index numbers middle
-    → AreLeft numbers key low middle (compared + 1)
+    → AreLeft numbers key low middle (compared + 1) all
 unfolding comparisons_between
-before numbers key low high middle compared a h half above = rw half (step a.steps a.enough a.left)
+before numbers key low high middle compared all a h half above = rw half (step a.steps a.enough a.left)
   where
     large : key < slice_index numbers (low + (high - low) / 2)
     large = rw half at above
 
     step : (n : ℕ) → high - low ≤ n
-        → compared + comparisons_between n numbers key low high ≡ comparisons_in numbers key
-        → AreLeft numbers key low (low + (high - low) / 2) (compared + 1)
+        → compared + comparisons_between n numbers key low high ≡ all
+        → AreLeft numbers key low (low + (high - low) / 2) (compared + 1) all
     step zero enough left = absurd (omega (arith, h, enough))
     step (suc n) enough left = record {
       steps = n;
@@ -54,12 +62,11 @@ before numbers key low high middle compared a h half above = rw half (step a.ste
     }
 
 -- nothing is left
-pub none_left : (numbers : List ℕ) (key low high compared : ℕ) → AreLeft numbers key low high compared → high ≤ low
-    → compared ≡ comparisons_in numbers key
+pub none_left : (numbers : List ℕ) (key low high compared all : ℕ) → AreLeft numbers key low high compared all
+    → high ≤ low → compared ≡ all
 unfolding comparisons_between
-none_left numbers key low high compared a h = step a.steps a.left
+none_left numbers key low high compared all a h = step a.steps a.left
   where
-    step : (n : ℕ) → compared + comparisons_between n numbers key low high ≡ comparisons_in numbers key
-        → compared ≡ comparisons_in numbers key
+    step : (n : ℕ) → compared + comparisons_between n numbers key low high ≡ all → compared ≡ all
     step zero left = omega (arith, left)
     step (suc n) left = let e = rw (le-ltb low high h) at left in omega (arith, e)

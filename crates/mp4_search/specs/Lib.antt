@@ -1,3 +1,4 @@
+pub mod BitSet
 pub mod Digits
 pub mod Search
 pub mod Sums

@@ -1,6 +1,6 @@
 //! Numbers of which each reading is counted.
 
-ghost use Rattle.std.specs.Prelude.{◌≡◌, ℕ, ◌+◌, ◌-◌, ◌^◌, ◌<◌, ◌≤◌, [], ◌∷◌, ◌++◌, length, slice_index, OnOk};
+ghost use Rattle.std.specs.Prelude.{◌≡◌, ℕ, ◌+◌, ◌-◌, ◌^◌, ◌<◌, ◌≤◌, [], ◌∷◌, ◌++◌, length, slice_index, IfSome, OnOk};
 
 use crate::slope::Slope;
 use mp4_codec::Items;
@@ -29,6 +29,14 @@ impl Readings {
         Readings { count: 0 }
     }
 
+    /// One reading more.
+    pub(crate) fn add_one(&mut self)
+        requires room { self.old < 2 ^ 32 - 1 }
+        ensures counted { self.new ≡ self.old + 1 }
+    {
+        self.count += 1;
+    }
+
     /// How many they are.
     pub fn count(self) -> u32
         ensures { result ≡ self }
@@ -38,11 +46,12 @@ impl Readings {
     }
 }
 
-/// Numbers that are searched: only a search reads them, one at a time.
+/// Numbers that are searched: nothing that is found rests on a number that a search didn't read, and it reads them one
+/// at a time and counts each. The line by which a place is guessed is drawn from some of them beforehand, uncounted.
 #[derive(Drop)]
 pub struct SearchedNumbers {
     numbers: Items<u32>,
-    /// By which the place of a number is guessed. It says nothing of what the numbers are.
+    /// By which the place of a number is guessed. No contract says anything of it.
     slope: Slope,
 }
 
@@ -55,6 +64,7 @@ impl Model for SearchedNumbers {
 }
 
 impl SearchedNumbers {
+    /// These numbers. Their line is drawn from as many of them as the root of how many there are, about.
     pub fn new(numbers: Vec<u32>) -> Self
         ensures { result ≡ numbers.items }
     {
@@ -92,9 +102,15 @@ impl SearchedNumbers {
 
     /// The index at which the last number that is at most `key` is expected: a guess. None where no guess is worth its
     /// looks.
-    pub(crate) fn expected(&self, key: u32) -> Option<usize> {
-        let place = self.slope.place(key)?;
-        Some(place.min(self.numbers.len().saturating_sub(1)))
+    pub(crate) fn expected(&self, key: u32) -> Option<usize>
+        requires some { 0 < length self.now }
+        ensures within { IfSome result (λ i. i < length self.now) }
+        ensures small { IfSome result (λ i. i < 2 ^ 63) }
+    {
+        match self.slope.place(key) {
+            None => None,
+            Some(place) => Some(place.min(self.numbers.len() - 1)),
+        }
     }
 
     /// The number at an index, which counts from 0. This counts as one reading.
@@ -109,7 +125,7 @@ impl SearchedNumbers {
     }
 }
 
-/// Without `slope`, which the numbers give.
+/// Without `slope`, which depends on how the numbers came in too.
 impl fmt::Debug for SearchedNumbers {
     fn fmt<W: fmt::Write>(&self, f: &mut fmt::Formatter<W>) -> fmt::Result {
         f.debug_struct("SearchedNumbers")
@@ -118,7 +134,8 @@ impl fmt::Debug for SearchedNumbers {
     }
 }
 
-/// Running sums of sizes: for each, the sum of those before it. Only a difference of two of them is answered.
+/// Running sums of sizes: for each, the sum of those before it. Only a difference of two of them is answered. The
+/// library keeps [`CappedSums`], which take half the memory; this is for sums past 64 bits.
 #[derive(Debug, Drop)]
 pub struct RunningSizes {
     sums: Vec<u128>,
@@ -208,9 +225,9 @@ impl CappedSums {
         ensures counted { result.1 ≡ 2 }
     {
         let mut readings = Readings::new();
-        let upto = self.read(last, &mut readings);
-        let from = self.read(first, &mut readings);
-        (upto - from, readings)
+        let end = self.read(last, &mut readings);
+        let begin = self.read(first, &mut readings);
+        (end - begin, readings)
     }
 }
 

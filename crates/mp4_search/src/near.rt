@@ -3,7 +3,9 @@
 ghost use Rattle.std.specs.Prelude.{◌≡◌, ℕ, ◌+◌, ◌-◌, ◌^◌, ◌<◌, ◌≤◌, false, length, slice_index, IfSome, IfNone};
 ghost use Rattle.std.specs.List.Sorted.{IsNonDecreasing};
 ghost use Rattle.mp4_search.specs.Digits.{digits};
-ghost use Rattle.mp4_search.specs.Search.{IsBetween, IsFew, IsLastAtMost, comparisons_in};
+ghost use Rattle.mp4_search.specs.Search.{IsBetween, IsCountByGuess, IsFew, IsFewByGuess, IsLastAtMost};
+ghost use Rattle.mp4_search.specs.Search.{all_of, after_earlier_looks, after_later_looks, after_look, after_looks_near};
+ghost use Rattle.mp4_search.specs.Search.{comparisons_between, comparisons_from, comparisons_in, left_of};
 
 use crate::counted::{Readings, SearchedNumbers};
 use crate::search::{Found, last_at_most};
@@ -24,6 +26,7 @@ struct Between {
 }
 
 /// Looks at the number at an index, where it is among those that are left.
+#[tactic(auto, unfolding(crate::specs::Search::after_look))]
 fn look(
     numbers: &SearchedNumbers,
     key: u32,
@@ -35,8 +38,16 @@ fn look(
     requires between { IsBetween numbers.now key between.low between.high between.last }
     requires room { readings.old < 2 ^ 32 - 1 }
     ensures between { IsBetween numbers.now key result.low result.high result.last }
+    ensures counted { left_of result.low result.high readings.new
+        ≡ after_look numbers.now key index (left_of between.low between.high readings.old) }
     ensures less { result.high - result.low ≤ between.high - between.low }
-    ensures counted { readings.new ≤ readings.old + 1 }
+    ensures from { between.low ≤ result.low }
+    ensures upto { result.high < between.high → result.high ≤ index }
+    ensures after { between.low < result.low → index < result.low }
+    ensures parted { index < between.high → result.low ≤ index → result.high ≤ index }
+    ensures seen { between.low ≤ index → index < between.high → readings.new ≡ readings.old + 1 }
+    ensures some { readings.old ≤ readings.new }
+    ensures few { readings.new ≤ readings.old + 1 }
 {
     if index < between.low || index >= between.high {
         return between;
@@ -57,9 +68,9 @@ fn look(
     }
 }
 
-/// Looks behind an index, whose number is at most the key: farther and farther, up to the first number that is above
+/// Looks after an index, whose number is at most the key: farther and farther, up to the first number that is above
 /// it.
-fn look_behind(
+fn look_later(
     numbers: &SearchedNumbers,
     key: u32,
     at: Between,
@@ -68,25 +79,30 @@ fn look_behind(
 ) -> Between
     requires rises { IsNonDecreasing numbers.now }
     requires between { IsBetween numbers.now key at.low at.high at.last }
+    requires small { index < 2 ^ 63 }
     requires room { readings.old < 2 ^ 32 - 3 }
     ensures between { IsBetween numbers.now key result.low result.high result.last }
+    ensures counted { left_of result.low result.high readings.new
+        ≡ after_later_looks numbers.now key index (left_of at.low at.high readings.old) }
     ensures less { result.high - result.low ≤ at.high - at.low }
-    ensures counted { readings.new ≤ readings.old + 3 }
+    ensures from { at.low ≤ result.low }
+    ensures some { readings.old ≤ readings.new }
+    ensures few { readings.new ≤ readings.old + 3 }
 {
-    let beside = look(numbers, key, at, index.wrapping_add(1), readings);
+    let beside = look(numbers, key, at, index + 1, readings);
     if beside.high < at.high {
         return beside;
     }
-    let far = look(numbers, key, beside, index.wrapping_add(FAR), readings);
+    let far = look(numbers, key, beside, index + FAR, readings);
     if far.high < at.high {
         return far;
     }
-    look(numbers, key, far, index.wrapping_add(FARTHER), readings)
+    look(numbers, key, far, index + FARTHER, readings)
 }
 
 /// Looks before an index, whose number is above the key: farther and farther, up to the first number that is at most
 /// the key.
-fn look_before(
+fn look_earlier(
     numbers: &SearchedNumbers,
     key: u32,
     at: Between,
@@ -97,18 +113,54 @@ fn look_before(
     requires between { IsBetween numbers.now key at.low at.high at.last }
     requires room { readings.old < 2 ^ 32 - 3 }
     ensures between { IsBetween numbers.now key result.low result.high result.last }
+    ensures counted { left_of result.low result.high readings.new
+        ≡ after_earlier_looks numbers.now key index (left_of at.low at.high readings.old) }
     ensures less { result.high - result.low ≤ at.high - at.low }
-    ensures counted { readings.new ≤ readings.old + 3 }
+    ensures some { readings.old ≤ readings.new }
+    ensures few { readings.new ≤ readings.old + 3 }
 {
-    let beside = look(numbers, key, at, index.wrapping_sub(1), readings);
+    let beside = look(numbers, key, at, index.saturating_sub(1), readings);
     if beside.low > at.low {
         return beside;
     }
-    let far = look(numbers, key, beside, index.wrapping_sub(FAR), readings);
+    let far = look(numbers, key, beside, index.saturating_sub(FAR), readings);
     if far.low > at.low {
         return far;
     }
-    look(numbers, key, far, index.wrapping_sub(FARTHER), readings)
+    look(numbers, key, far, index.saturating_sub(FARTHER), readings)
+}
+
+/// What is left after a look at the index where the answer is expected, and looks to the side on which it lies:
+/// nothing, where it is there.
+///
+/// The definition of the count looks to both sides: what isn't left any more is not looked at, so one side is enough.
+#[tactic(auto, unfolding(crate::specs::Search::after_looks_near))]
+fn looked_near(
+    numbers: &SearchedNumbers,
+    key: u32,
+    index: usize,
+    readings: &mut Readings,
+) -> Between
+    requires rises { IsNonDecreasing numbers.now }
+    requires within { index < length numbers.now }
+    requires small { index < 2 ^ 63 }
+    requires room { readings.old ≡ 0 }
+    ensures between { IsBetween numbers.now key result.low result.high result.last }
+    ensures counted { left_of result.low result.high readings.new ≡ after_looks_near numbers.now key index }
+    ensures some { 1 ≤ readings.new }
+    ensures few { readings.new ≤ 4 }
+{
+    let all = Between {
+        low: 0,
+        high: numbers.len(),
+        last: None,
+    };
+    let at = look(numbers, key, all, index, readings);
+    if at.low > all.low {
+        look_later(numbers, key, at, index, readings)
+    } else {
+        look_earlier(numbers, key, at, index, readings)
+    }
 }
 
 /// Looks at the number in the middle of those that are left, until none is left.
@@ -118,7 +170,9 @@ fn halve(numbers: &SearchedNumbers, key: u32, between: Between, readings: &mut R
     requires room { readings.old < 2 ^ 31 }
     ensures between { IsBetween numbers.now key result.low result.high result.last }
     ensures done { result.low ≡ result.high }
-    ensures counted { readings.new ≤ readings.old + digits (between.high - between.low) }
+    ensures counted { readings.new ≡ readings.old
+        + comparisons_between (between.high - between.low) numbers.now key between.low between.high }
+    ensures few { readings.new ≤ readings.old + digits (between.high - between.low) }
 {
     let Between {
         mut low,
@@ -129,8 +183,8 @@ fn halve(numbers: &SearchedNumbers, key: u32, between: Between, readings: &mut R
         let middle = low + (high - low) / 2;
         let number = numbers.read(middle, readings);
         if number <= key {
-            // As an option it makes the compiler branch here and not select: that is faster where keys come in order,
-            // since one search goes the way of the search before.
+            // An option, since the compiler then branches here and doesn't select: one search among keys that come in
+            // order goes the way of the search before, and branches are foreseen.
             last = Some(number);
             low = middle + 1;
         } else {
@@ -140,39 +194,18 @@ fn halve(numbers: &SearchedNumbers, key: u32, between: Between, readings: &mut R
     Between { low, high, last }
 }
 
-/// What is left after a look at the index where the answer is expected, and looks to the side on which it lies:
-/// nothing, where it is there.
-fn looked_near(
-    numbers: &SearchedNumbers,
-    key: u32,
-    index: usize,
-    readings: &mut Readings,
-) -> Between
-    requires rises { IsNonDecreasing numbers.now }
-    requires room { readings.old ≡ 0 }
-    ensures between { IsBetween numbers.now key result.low result.high result.last }
-    ensures counted { readings.new ≤ 4 }
-{
-    let all = Between {
-        low: 0,
-        high: numbers.len(),
-        last: None,
-    };
-    let at = look(numbers, key, all, index, readings);
-    if at.low > all.low {
-        look_behind(numbers, key, at, index, readings)
-    } else {
-        look_before(numbers, key, at, index, readings)
-    }
-}
-
 /// What [`last_at_most`] finds, begun at the index where it is expected.
 #[inline(never)]
+#[tactic(auto, unfolding(crate::specs::Search::comparisons_from))]
 fn last_at_most_from(numbers: &SearchedNumbers, key: u32, index: usize) -> (Option<Found>, Readings)
-    requires { IsNonDecreasing numbers.now }
-    ensures found { IfSome result.0 (λ f. IsLastAtMost numbers.now key f.index × (f.number ≡ slice_index numbers.now f.index)) }
+    requires rises { IsNonDecreasing numbers.now }
+    requires within { index < length numbers.now }
+    requires small { index < 2 ^ 63 }
+    ensures found { IfSome result.0
+        (λ f. IsLastAtMost numbers.now key f.index × (f.number ≡ slice_index numbers.now f.index)) }
     ensures none { IfNone result.0 ((j : ℕ) → j < length numbers.now → key < slice_index numbers.now j) }
-    ensures few { result.1 ≤ digits (length numbers.now) + 4 }
+    ensures counted { result.1 ≡ comparisons_from numbers.now key index }
+    ensures few { IsFewByGuess result.1 (length numbers.now) }
 {
     let mut readings = Readings::new();
     let near = looked_near(numbers, key, index, &mut readings);
@@ -194,8 +227,10 @@ fn last_at_most_from(numbers: &SearchedNumbers, key: u32, index: usize) -> (Opti
 #[inline(never)]
 fn last_at_most_apart(numbers: &SearchedNumbers, key: u32) -> (Option<Found>, Readings)
     requires { IsNonDecreasing numbers.now }
-    ensures found { IfSome result.0 (λ f. IsLastAtMost numbers.now key f.index × (f.number ≡ slice_index numbers.now f.index)) }
+    ensures found { IfSome result.0
+        (λ f. IsLastAtMost numbers.now key f.index × (f.number ≡ slice_index numbers.now f.index)) }
     ensures none { IfNone result.0 ((j : ℕ) → j < length numbers.now → key < slice_index numbers.now j) }
+    ensures counted { result.1 ≡ comparisons_in numbers.now key }
     ensures few { IsFew result.1 (length numbers.now) }
 {
     last_at_most(numbers, key)
@@ -208,12 +243,16 @@ fn last_at_most_apart(numbers: &SearchedNumbers, key: u32) -> (Option<Found>, Re
 /// It is over after a look or two where the numbers rise evenly, and after a few more where the answer is not far from
 /// there; else the answer is found by halves, after at most four comparisons. So an interpolation search begins, and
 /// this one keeps the bound of a search by halves.
+///
+/// The count is that of the search that was made: by halves, or from some index on.
 #[inline(always)]
 pub fn last_at_most_near(numbers: &SearchedNumbers, key: u32) -> (Option<Found>, Readings)
     requires { IsNonDecreasing numbers.now }
-    ensures found { IfSome result.0 (λ f. IsLastAtMost numbers.now key f.index × (f.number ≡ slice_index numbers.now f.index)) }
+    ensures found { IfSome result.0
+        (λ f. IsLastAtMost numbers.now key f.index × (f.number ≡ slice_index numbers.now f.index)) }
     ensures none { IfNone result.0 ((j : ℕ) → j < length numbers.now → key < slice_index numbers.now j) }
-    ensures few { result.1 ≤ digits (length numbers.now) + 4 }
+    ensures counted { IsCountByGuess numbers.now key result.1 }
+    ensures few { IsFewByGuess result.1 (length numbers.now) }
 {
     // Few numbers are searched in the caller's own code: a call would take as long as the search.
     if numbers.len() <= FEW {
@@ -226,8 +265,8 @@ pub fn last_at_most_near(numbers: &SearchedNumbers, key: u32) -> (Option<Found>,
 }
 
 /// The last of the numbers that is at most `key`, and how many of them were compared with it: by
-/// [`last_at_most_near`] where a guess is asked for, else by [`last_at_most`]. It is inlined, as are the steps of a
-/// look-up that are told whether to guess, so that nothing tests for it where the outermost caller says it.
+/// [`last_at_most_near`] where `by_guess` is set, else by [`last_at_most`]. It is inlined, as are the steps of a
+/// look-up that pass the flag on, so that none of them tests it where the outermost caller sets it.
 #[inline(always)]
 pub fn last_at_most_by(
     numbers: &SearchedNumbers,
@@ -235,11 +274,13 @@ pub fn last_at_most_by(
     by_guess: bool,
 ) -> (Option<Found>, Readings)
     requires { IsNonDecreasing numbers.now }
-    ensures found { IfSome result.0 (λ f. IsLastAtMost numbers.now key f.index × (f.number ≡ slice_index numbers.now f.index)) }
+    ensures found { IfSome result.0
+        (λ f. IsLastAtMost numbers.now key f.index × (f.number ≡ slice_index numbers.now f.index)) }
     ensures none { IfNone result.0 ((j : ℕ) → j < length numbers.now → key < slice_index numbers.now j) }
     ensures counted { by_guess ≡ false → result.1 ≡ comparisons_in numbers.now key }
     ensures few { by_guess ≡ false → IsFew result.1 (length numbers.now) }
-    ensures near { result.1 ≤ digits (length numbers.now) + 4 }
+    ensures near_counted { IsCountByGuess numbers.now key result.1 }
+    ensures near { IsFewByGuess result.1 (length numbers.now) }
 {
     if by_guess {
         last_at_most_near(numbers, key)

@@ -3,15 +3,28 @@
 /// So many numbers are found by halves as soon as by a guess.
 pub(crate) const FEW: usize = 7;
 
-/// At how many places, less one, the numbers are compared with their line.
-const PARTS: usize = 8;
+/// How far apart the places are at which numbers are compared with their line, in parts of 2^32 of how many numbers
+/// there are, beginning anew past the last. It is the golden section: it spreads any number of places evenly, and no
+/// numbers that repeat keep step with it.
+const STEP: u32 = 0x9e37_79b9;
+
+/// The root of a number, rounded down to a power of 2.
+fn root_of(number: usize) -> usize {
+    let digits = usize::BITS - number.leading_zeros();
+    1usize.wrapping_shl(digits.saturating_sub(1) / 2)
+}
+
+/// The index that lies so many parts of 2^32 of the way through so many numbers.
+fn place_at(len: usize, part: u32) -> usize {
+    ((len as u128 * u128::from(part)) >> 32) as usize
+}
 
 /// The straight line from the first to the last of some numbers, by which the place of a number among them is guessed:
 /// a guess says where a search begins, and nothing of what it finds.
 #[derive(Clone, Copy)]
 pub(crate) struct Slope {
     first: u32,
-    /// How many places the numbers go on for each 1 that they rise, times 2^32; it is at most 2^32.
+    /// How many places the numbers go on for each 1 that they rise, times 2^32; it is at most 2^32 + 1.
     places: u64,
     /// Whether the numbers lie near the line and are not few. Else a guess would only add to a search by halves.
     is_near: bool,
@@ -20,7 +33,7 @@ pub(crate) struct Slope {
 }
 
 impl Slope {
-    /// The line of these numbers.
+    /// The line of these numbers. Some of them are read for it, which counts as no reading of a search.
     pub fn of(numbers: &[u32]) -> Self {
         let line = Slope::from_ends(numbers);
         Slope {
@@ -52,22 +65,30 @@ impl Slope {
         }
     }
 
-    /// Whether the numbers are not few, and those at each eighth are no farther from their places on the line than
-    /// the root of how many numbers there are. Numbers that rise by steps of chance seldom stray farther.
+    /// Whether the numbers are not few, and lie near the line at some places among them: about as many as the root of
+    /// how many numbers there are, spread over all.
     fn is_near(self, numbers: &[u32]) -> bool {
         if numbers.len() <= FEW {
             return false;
         }
-        for part in 1..PARTS {
-            let index = (numbers.len() / PARTS).saturating_mul(part);
-            if let Some(number) = numbers.get(index) {
-                let distance = self.on_line(*number).abs_diff(index);
-                if distance.saturating_mul(distance) > numbers.len() {
-                    return false;
-                }
+        let mut part: u32 = 0;
+        for _ in 0..root_of(numbers.len()).max(FEW) {
+            part = part.wrapping_add(STEP);
+            if self.strays(numbers, place_at(numbers.len(), part)) {
+                return false;
             }
         }
         true
+    }
+
+    /// Whether the number at an index is farther from its place on the line than the root of how many numbers there
+    /// are. Numbers that rise by steps of chance seldom stray farther.
+    fn strays(self, numbers: &[u32], index: usize) -> bool {
+        let Some(number) = numbers.get(index) else {
+            return false;
+        };
+        let distance = self.on_line(*number).abs_diff(index);
+        distance.saturating_mul(distance) > numbers.len()
     }
 
     /// Whether the line is to be drawn anew, now that there are so many numbers: once they are half as many again as

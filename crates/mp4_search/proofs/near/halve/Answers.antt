@@ -1,4 +1,5 @@
 use Rattle.std.proofs.Common.{◌≡◌, ◌+◌, ◌-◌, ◌/◌, arith}
+use Rattle.mp4_search.proofs.Comparisons.{these_left, behind, before, none_left}
 use Rattle.mp4_search.proofs.Digits.{digits_half, digits_64}
 use Rattle.mp4_search.proofs.near.halve.Goals as goal
 
@@ -26,6 +27,8 @@ loop-low-preserved-then-number-key c =
         above = l.invariant.between.above;
       };
       paid = omega (arith, paid, l.invariant.paid);
+      left = rw c.read-number.ensures.counted (behind c.args.numbers.now c.args.key l.low l.high middle l.readings _
+          l.invariant.left (omega arith) (omega arith) (omega (arith, c.read-number.ensures.number)));
     }
 
 pub loop-low-preserved : goal.loop-low-preserved
@@ -41,4 +44,20 @@ loop-low-preserved c =
         above = λ j h k. omega (arith, c.read-number.ensures.number, c.requires.rises middle j 0 h k);
       };
       paid = omega (arith, paid, l.invariant.paid);
+      left = rw c.read-number.ensures.counted (before c.args.numbers.now c.args.key l.low l.high middle l.readings _
+          l.invariant.left (omega arith) (omega arith) (omega (arith, c.read-number.ensures.number)));
     }
+
+pub loop-low-init : goal.loop-low-init
+loop-low-init c =
+    let between = c.args.between in
+    record {
+      between = c.requires.between;
+      paid = omega arith;
+      left = these_left c.args.numbers.now c.args.key between.low between.high c.args.readings.now;
+    }
+
+pub returns-clause-counted : goal.returns-clause-counted
+returns-clause-counted c =
+    let l = c.loop-low in
+    none_left c.args.numbers.now c.args.key l.low l.high l.readings _ l.invariant.left (omega arith)

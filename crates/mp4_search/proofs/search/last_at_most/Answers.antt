@@ -1,5 +1,6 @@
 use Rattle.std.proofs.Common.{◌≡◌, ◌+◌, ◌-◌, ◌/◌, length, refl, arith}
 use Rattle.mp4_search.proofs.Comparisons.{all_left, behind, before, none_left}
+use Rattle.mp4_search.specs.Search.{comparisons_in}
 use Rattle.mp4_search.proofs.Digits.{digits_grow, digits_half, digits_64}
 use Rattle.mp4_search.proofs.search.last_at_most.Goals as goal
 
@@ -21,7 +22,7 @@ loop-low-preserved-then-number-key c =
       paid = omega (arith, paid);
       untouched = λ e. omega arith;
       left = rw c.read-number.ensures.counted (behind c.args.numbers.now c.args.key l.low l.high middle l.readings
-          l.invariant.left (omega arith) (omega arith) (omega (arith, c.read-number.ensures.number)));
+          (comparisons_in c.args.numbers.now c.args.key) l.invariant.left (omega arith) (omega arith) (omega (arith, c.read-number.ensures.number)));
     }
 
 pub loop-low-preserved : goal.loop-low-preserved
@@ -37,7 +38,7 @@ loop-low-preserved c =
       paid = omega (arith, paid);
       untouched = λ e. omega arith;
       left = rw c.read-number.ensures.counted (before c.args.numbers.now c.args.key l.low l.high middle l.readings
-          l.invariant.left (omega arith) (omega arith) (omega (arith, c.read-number.ensures.number)));
+          (comparisons_in c.args.numbers.now c.args.key) l.invariant.left (omega arith) (omega arith) (omega (arith, c.read-number.ensures.number)));
     }
 
 pub loop-low-init : goal.loop-low-init
@@ -54,9 +55,11 @@ loop-low-init c = rw (c.end-high.ensures.value, c.new-readings.ensures) (record 
 pub returns-in-Some-clause-counted : goal.returns-in-Some-clause-counted
 returns-in-Some-clause-counted c =
     let l = c.loop-low in
-    none_left c.args.numbers.now c.args.key l.low l.high l.readings l.invariant.left (omega arith)
+    none_left c.args.numbers.now c.args.key l.low l.high l.readings
+    (comparisons_in c.args.numbers.now c.args.key) l.invariant.left (omega arith)
 
 pub returns-in-None-clause-counted : goal.returns-in-None-clause-counted
 returns-in-None-clause-counted c =
     let l = c.loop-low in
-    none_left c.args.numbers.now c.args.key l.low l.high l.readings l.invariant.left (omega arith)
+    none_left c.args.numbers.now c.args.key l.low l.high l.readings
+    (comparisons_in c.args.numbers.now c.args.key) l.invariant.left (omega arith)

@@ -1,6 +1,7 @@
 use Rattle.std.proofs.Common.{◌-◌, ◌≡◌, ℕ, ◌<◌, ◌≤◌, length, slice_index, ◌+◌}
 use Rattle.std.specs.Prelude.{MatchOption}
 use Rattle.mp4_search.specs.Digits.{digits}
+use Rattle.mp4_search.specs.Search.{comparisons_in}
 use Rattle.mp4_search.proofs.Comparisons.{AreLeft}
 use Rattle.mp4_search.proofs.search.last_at_most.Given as goal
 
@@ -15,7 +16,7 @@ invariant-loop-low l = record {
   above : (j : ℕ) → l.high ≤ j → j < length l.numbers → l.key < slice_index l.numbers j;
   paid : l.readings + digits (l.high - l.low) ≤ digits (length l.numbers);
   untouched : l.readings ≡ 0 → l.high - l.low ≡ length l.numbers;
-  left : AreLeft l.numbers l.key l.low l.high l.readings;
+  left : AreLeft l.numbers l.key l.low l.high l.readings (comparisons_in l.numbers l.key);
 }
 
 abbrev pub decreases-loop-low : goal.decreases-loop-low
