@@ -135,9 +135,7 @@ impl<T> Items<T> {
 }
 
 /// Room for one more at the end of a full list. It grows by half of its length, and by one at least, so that a short
-/// list, as most are, takes no more memory than its values need. It is apart so that what a push tests is inlined.
-#[cold]
-#[inline(never)]
+/// list, as most are, takes no more memory than its values need.
 fn grow<T>(items: &mut Vec<T>) -> std::result::Result<(), AllocError>
     ensures same { items.new.items ≡ items.old.items }
     ensures room { OnOk result (vec_len items.new < vec_capacity items.new) }
