@@ -109,7 +109,7 @@ pub(crate) fn checkpoints(
 }
 
 /// Where member `j` of a run begins, from the last checkpoint that isn't behind it; the first begins at `first`. It is
-/// part of each look-up of a member, where a call of its own takes about as long as the sums.
+/// inlined, since each look-up of a member asks for it.
 #[inline(always)]
 pub(crate) fn at_by_checkpoints(
     run: &TrunBox,

@@ -23,8 +23,6 @@ with_push f i b more = record f {
   bytes = f.bytes ++ b;
   pending_duration = f.pending_duration + i.duration;
   durations = record { media = f.durations.media + i.duration; movie = f.durations.movie + more };
-  converted = i.duration;
-  converted_ticks = more;
 }
 
 whole_sample : (s : Sample) → sample_at (info_of s) s.bytes ≡ s
@@ -87,7 +85,6 @@ module _ (f : TrackFields) (h : IsTrack f) where
         few = h.few;
         counted = h.counted;
         some_per_chunk = h.some_per_chunk;
-        converts = m;
       }
 
   -- what fields say with one more sample: it is pending
@@ -170,7 +167,6 @@ module _ (f : TrackFields) (h : IsTrack f) (is : List SampleInfo) (i : SampleInf
     few = h.few;
     counted = h.counted;
     some_per_chunk = h.some_per_chunk;
-    converts = h.converts;
   }
 
   pub view-pop : (more : ℕ) → building_of (without more) ≡ popped (building_of f)
@@ -253,7 +249,6 @@ module _ (f : TrackFields) (h : IsTrack f) where
       );
       some_per_chunk = All-push (λ (x : ChunkPlace). 1 ≤ x.count) f.chunks c h.some_per_chunk
           (omega (arith, ap (λ (x : ChunkPlace). x.count) e, some));
-      converts = h.converts;
     }
 
     pub view-close : (offset : ℕ) → c ≡ pending_place (building_of f) offset

@@ -81,9 +81,6 @@ pub record TrackFields : Type 0 where
   pub durations : Durations
   -- how many samples stand in chunks
   pub closed_count : ℕ
-  -- a duration, and what it is in ticks of the movie
-  pub converted : ℕ
-  pub converted_ticks : ℕ
 
 -- the track that fields say
 abbrev pub building_of : TrackFields → Building
@@ -111,7 +108,6 @@ pub record IsTrack (f : TrackFields) : Type 0 where
   pub few : length f.chunks ≤ f.closed_count
   pub counted : sum_by (λ c. c.count) f.chunks ≡ f.closed_count
   pub some_per_chunk : All (λ c. 1 ≤ c.count) f.chunks
-  pub converts : f.converted_ticks ≡ f.converted * f.movie_timescale / f.config.timescale
 
 -- why a track has no room for a sample: the sample is too long, or the track has as many as it may, or would last too
 -- long in ticks of the movie

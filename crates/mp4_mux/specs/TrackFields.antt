@@ -13,8 +13,6 @@ fields_of w =
       pending_duration = w.pending_duration;
       durations = w.durations;
       closed_count = w.closed;
-      converted = w.last.duration;
-      converted_ticks = w.last.ticks;
     }
 
 abbrev pub track_view : Inside → Building

@@ -25,18 +25,10 @@ use mp4_boxes::TrakBox;
 use mp4_codec::{Error, InRange, Limit};
 use mp4_samples::Mp4Sample;
 use std::alloc::{AllocError, Global};
-use std::fmt;
 use std::marker::Model;
 
-/// A duration in ticks of the track, and what it is in ticks of the movie, rounded down.
-#[derive(Clone, Copy)]
-struct ConvertedDuration {
-    duration: u32,
-    ticks: u64,
-}
-
 /// A track that is being written: what its tables say of its samples, its chunks, and the samples that no chunk has yet.
-#[derive(Drop)]
+#[derive(Debug, Drop)]
 pub struct TrackWriter {
     config: TrackConfig,
     /// Ticks in a second, of the movie.
@@ -50,9 +42,6 @@ pub struct TrackWriter {
     durations: Durations,
     /// How many samples stand in chunks.
     closed: u32,
-    /// The duration of the sample that was added last, converted: most samples last as long as the one before, and a
-    /// division is slow.
-    last: ConvertedDuration,
 }
 
 impl Model for TrackWriter {
@@ -61,22 +50,6 @@ impl Model for TrackWriter {
     ghost view = { track_view };
 
     ghost invariant = { IsTrackWriter };
-}
-
-/// Without `last`, which spares a division and says nothing more of the track.
-impl fmt::Debug for TrackWriter {
-    fn fmt<W: fmt::Write>(&self, f: &mut fmt::Formatter<W>) -> fmt::Result {
-        f.debug_struct("TrackWriter")
-            .field("config", &self.config)
-            .field("movie_timescale", &self.movie_timescale)
-            .field("samples", &self.samples)
-            .field("chunks", &self.chunks)
-            .field("pending", &self.pending)
-            .field("pending_duration", &self.pending_duration)
-            .field("durations", &self.durations)
-            .field("closed", &self.closed)
-            .finish()
-    }
 }
 
 /// What the tables say of a sample.
@@ -107,10 +80,6 @@ impl TrackWriter {
             pending_duration: 0,
             durations: Durations { media: 0, movie: 0 },
             closed: 0,
-            last: ConvertedDuration {
-                duration: 0,
-                ticks: 0,
-            },
         }
     }
 }
@@ -151,21 +120,11 @@ impl TrackWriter {
         self.samples.len() as u32
     }
 
-    /// A duration in ticks of the movie, rounded down, as [`movie_ticks`] answers it.
-    fn ticks_of(&self, duration: u32) -> u64
-        ensures { result ≡ duration * self.now.movie_timescale / self.now.config.timescale }
-    {
-        if duration == self.last.duration {
-            return self.last.ticks;
-        }
-        movie_ticks(duration, self.movie_timescale, self.config.timescale)
-    }
-
     /// Whether its duration in ticks of the movie stays within 64 bits with one more sample of this duration.
     fn has_room(&self, duration: u32) -> bool
         ensures { IsTrue result ↔ (ticks self.now duration < 2 ^ 64) }
     {
-        let more = self.ticks_of(duration);
+        let more = movie_ticks(duration, self.movie_timescale, self.config.timescale);
         more <= u64::MAX - self.durations.movie
     }
 
@@ -180,7 +139,7 @@ impl TrackWriter {
         let info = info_of(sample);
         info.in_range();
         let duration = info.duration as u64;
-        let movie = self.ticks_of(info.duration);
+        let movie = movie_ticks(info.duration, self.movie_timescale, self.config.timescale);
         self.samples.push(info)?;
         if let Err(e) = self.pending.extend_from_slice(sample.bytes.as_slice()) {
             let _ = self.samples.take_last();
@@ -189,10 +148,6 @@ impl TrackWriter {
         self.pending_duration += duration;
         self.durations.media += duration;
         self.durations.movie += movie;
-        self.last = ConvertedDuration {
-            duration: info.duration,
-            ticks: movie,
-        };
         Ok(())
     }
 

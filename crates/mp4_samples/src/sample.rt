@@ -92,8 +92,8 @@ pub struct Comparisons {
     pub stts: u32,
     /// Running counts of ctts.
     pub ctts: u32,
-    /// Numbers of stss; 0 where they don't strictly rise, since all are then looked at. A lookup by a guess compares
-    /// numbers of a sorted copy there.
+    /// Numbers of stss; 0 where they don't strictly rise, since all are then looked at. A lookup by a guess looks at one
+    /// bit there, which counts as 1.
     pub stss: u32,
     /// Running counts of the runs of fragments, 0 for a sample of the movie box.
     pub runs: u32,

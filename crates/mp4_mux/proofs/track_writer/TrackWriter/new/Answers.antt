@@ -22,7 +22,6 @@ invariant_of-result c = rw (c.new.ensures.items, c.new-2.ensures.items, c.new-3.
   few = omega arith;
   counted = refl;
   some_per_chunk = All-nil (λ (x : ChunkPlace). 1 ≤ x.count);
-  converts = omega arith;
 }
 
 pub returns : goal.returns

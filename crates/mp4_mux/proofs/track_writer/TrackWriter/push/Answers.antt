@@ -26,15 +26,14 @@ invariant_of-self-2 c =
     let i = c.info_of-info.result in
     let room = rw (← c.self.view_is) at c.requires.room in
     let lasts = ap (λ (j : SampleInfo). j.duration) c.info_of-info.ensures in
-    let converted = rw (← c.self.view_is) at c.ticks_of-movie.ensures in
     rw (c.in_ok-push.ensures.items, c.in_default.ensures.items, c.as_slice.ensures)
     (is_track-push (fields_of c.self.inside) c.self.invariant i c.in_range.ensures
-    (rw (← c.self.view_is) at c.requires.count) c.args.sample.now.bytes c.ticks_of-movie.result
-    (ap (λ (j : SampleInfo). j.size) c.info_of-info.ensures) converted
-    (rw (converted, lasts) room))
+    (rw (← c.self.view_is) at c.requires.count) c.args.sample.now.bytes c.movie_ticks-movie.result
+    (ap (λ (j : SampleInfo). j.size) c.info_of-info.ensures) c.movie_ticks-movie.ensures
+    (rw (c.movie_ticks-movie.ensures, lasts) room))
 
 pub returns-clause-ok : goal.returns-clause-ok
 returns-clause-ok c =
     rw (← c.self.view_is, c.in_ok-push.ensures.items, c.in_default.ensures.items, c.as_slice.ensures)
     (view-push (fields_of c.self.inside) c.self.invariant c.info_of-info.result (sample_of c.args.sample.now)
-    c.ticks_of-movie.result c.info_of-info.ensures)
+    c.movie_ticks-movie.result c.info_of-info.ensures)
