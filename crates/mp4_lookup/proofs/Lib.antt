@@ -1,4 +1,3 @@
 pub mod Times
 pub mod Searches
 pub mod Sums
-pub mod InOrder

@@ -1,5 +1,5 @@
 -- How many numbers a lookup compares and reads, and how few they are.
-use Rattle.std.specs.Prelude.{◌≡◌, ℕ, ◌+◌, ◌-◌, ◌<◌, ◌≤◌, List, length, if◌then◌else◌}
+use Rattle.std.specs.Prelude.{◌≡◌, ℕ, ◌+◌, ◌-◌, ◌<◌, ◌≤◌, false, List, length, IsTrue, if◌then◌else◌}
 use Rattle.std.specs.List.Sorted.{IsStrictlyIncreasing}
 use Rattle.mp4_boxes.specs.declared.stbl.StblBox.{StblBox}
 use Rattle.mp4_fragments.specs.declared.index.RunIndex.{RunIndex}
@@ -10,13 +10,14 @@ use Rattle.mp4_lookup.specs.declared.track.Mp4Track.{Mp4Track}
 use Rattle.mp4_samples.specs.Tables.{ctts_runs, sync_numbers, tables_of}
 use Rattle.mp4_lookup.specs.Tracks.{is_of_movie}
 use Rattle.mp4_search.specs.Digits.{digits}
-use Rattle.mp4_search.specs.Search.{IsFew, comparisons_in}
+use Rattle.mp4_search.specs.BitSet.{looks_at_bit}
+use Rattle.mp4_search.specs.Search.{IsCountByGuess, IsFew, IsFewByGuess, comparisons_in}
 
--- how many numbers of stss are compared with k: none where they don't strictly rise, since all are then looked at
+-- how many numbers of stss `locate` compares with k: none where they don't strictly rise, since all are then looked at
 abbrev pub sync_comparisons : TrackIndex → ℕ → ℕ
 sync_comparisons index k = if index.sync_rises then comparisons_in index.sync_numbers k else 0
 
--- how many numbers the lookup of sample k compares: those of one search in each table, and none elsewhere
+-- how many numbers `locate` compares for sample k: those of one search by halves in each table, and none elsewhere
 abbrev pub comparisons_at : TrackIndex → ℕ → Comparisons
 comparisons_at index k = record {
   stsc = comparisons_in index.first_samples k;
@@ -31,7 +32,7 @@ abbrev pub comparisons_in_runs : RunIndex → ℕ → Comparisons
 comparisons_in_runs index number =
     record { stsc = 0; stts = 0; ctts = 0; stss = 0; runs = comparisons_in index.counts number }
 
--- how many numbers the lookup of sample k of a track compares
+-- how many numbers `locate` compares for sample k of a track
 unfoldable pub comparisons_of : Mp4Track → ℕ → Comparisons
 comparisons_of t k =
     if is_of_movie t.trak t.trafs k then comparisons_at t.index k else
@@ -47,13 +48,32 @@ pub record AreFew (t : StblBox) (c : Comparisons) : Type 0 where
   pub unsorted : (IsStrictlyIncreasing (sync_numbers t.stss) → ⊥) → c.stss ≡ 0
   pub runs : c.runs ≡ 0
 
--- In each table at most four comparisons more than the number of its entries has binary digits; no run of a fragment
--- is looked at.
+-- How many numbers the lookup of sample k by a guess compares: in each table those of one search, by halves or from
+-- some entry on. Where the numbers of stss don't strictly rise, one look at the bit of k, and none where it has no bit,
+-- since all numbers are then looked at.
+pub record AreByGuess (index : TrackIndex) (k : ℕ) (c : Comparisons) : Type 0 where
+  pub stsc : IsCountByGuess index.first_samples k c.stsc
+  pub stts : IsCountByGuess index.stts_counts (k - 1) c.stts
+  pub ctts : IsCountByGuess index.ctts_counts (k - 1) c.ctts
+  pub stss : IsTrue index.sync_rises → IsCountByGuess index.sync_numbers k c.stss
+  pub unsorted : index.sync_rises ≡ false → c.stss ≡ looks_at_bit index.sync_bits k
+  pub runs : c.runs ≡ 0
+
+-- how many numbers the lookup of sample k of a track by a guess compares: those of one search in the runs, where a
+-- fragment adds the sample
+pub record AreOfGuess (t : Mp4Track) (k : ℕ) (c : Comparisons) : Type 0 where
+  pub tables : IsTrue (is_of_movie t.trak t.trafs k) → AreByGuess t.index k c
+  pub runs : is_of_movie t.trak t.trafs k ≡ false
+      → IsCountByGuess t.runs.counts (k - (tables_of t.trak).stsz.sample_count - 1) c.runs
+
+-- In each table at most four comparisons more than the number of its entries has binary digits, and at least one if it
+-- has an entry; in stss where it strictly rises, and at most one where it doesn't. No run of a fragment is looked at.
 pub record AreFewByGuess (t : StblBox) (c : Comparisons) : Type 0 where
-  pub stsc : c.stsc ≤ digits (length t.stsc.entries) + 4
-  pub stts : c.stts ≤ digits (length t.stts.entries) + 4
-  pub ctts : c.ctts ≤ digits (length (ctts_runs t.ctts)) + 4
-  pub stss : c.stss ≤ digits (length (sync_numbers t.stss)) + 4
+  pub stsc : IsFewByGuess c.stsc (length t.stsc.entries)
+  pub stts : IsFewByGuess c.stts (length t.stts.entries)
+  pub ctts : IsFewByGuess c.ctts (length (ctts_runs t.ctts))
+  pub stss : IsStrictlyIncreasing (sync_numbers t.stss) → IsFewByGuess c.stss (length (sync_numbers t.stss))
+  pub unsorted : (IsStrictlyIncreasing (sync_numbers t.stss) → ⊥) → c.stss ≤ 1
   pub runs : c.runs ≡ 0
 
 -- A sample that a fragment adds is found by a search in the runs alone: at least one comparison, and at most as many as the
@@ -66,12 +86,13 @@ pub record AreFewForMember (placed : List PlacedRun) (c : Comparisons) : Type 0 
   pub some_runs : 1 ≤ c.runs
   pub runs : c.runs ≤ digits (length placed)
 
--- the same by a guess: at most four comparisons more
+-- the same by a guess: at least one comparison, and at most four more
 pub record AreFewForMemberByGuess (placed : List PlacedRun) (c : Comparisons) : Type 0 where
   pub stsc : c.stsc ≡ 0
   pub stts : c.stts ≡ 0
   pub ctts : c.ctts ≡ 0
   pub stss : c.stss ≡ 0
+  pub some_runs : 1 ≤ c.runs
   pub runs : c.runs ≤ digits (length placed) + 4
 
 -- no running size is read where all samples have one size, else two are

@@ -1,11 +1,12 @@
 -- What is kept beside the tables of a track, so that its samples are found fast.
-use Rattle.std.specs.Prelude.{◌≡◌, ◌↔◌, false, map, IsTrue}
+use Rattle.std.specs.Prelude.{◌≡◌, ◌↔◌, map, IsTrue}
 use Rattle.std.specs.List.Sorted.{IsStrictlyIncreasing}
 use Rattle.mp4_boxes.specs.declared.stbl.StblBox.{StblBox}
 use Rattle.mp4_lookup.specs.declared.index.TrackIndex.{TrackIndex}
 use Rattle.mp4_samples.specs.Tables.{ctts_runs, sync_numbers}
+use Rattle.mp4_search.specs.BitSet.{AreBitsOf}
 use Rattle.mp4_search.specs.Sums.{CountsBefore}
-use Rattle.mp4_lookup.specs.Sums.{IsInOrder, SizesBefore, TimesBefore}
+use Rattle.mp4_lookup.specs.Sums.{SizesBefore, TimesBefore}
 
 -- the index of these tables
 pub record IsIndexOf (t : StblBox) (index : TrackIndex) : Type 0 where
@@ -14,5 +15,5 @@ pub record IsIndexOf (t : StblBox) (index : TrackIndex) : Type 0 where
   pub ctts : CountsBefore (λ r. r.sample_count) (ctts_runs t.ctts) index.ctts_counts
   pub rises : IsTrue index.sync_rises ↔ IsStrictlyIncreasing (sync_numbers t.stss)
   pub sync : index.sync_numbers ≡ sync_numbers t.stss
-  pub sorted : index.sync_rises ≡ false → IsInOrder (sync_numbers t.stss) index.sync_sorted
+  pub bits : AreBitsOf (sync_numbers t.stss) index.sync_bits
   pub sizes : SizesBefore t.stsz.sample_sizes index.size_sums index.size_total

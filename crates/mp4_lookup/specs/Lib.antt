@@ -1,7 +1,6 @@
 pub mod Time
 pub mod Rule
 pub mod Sums
-pub mod InOrder
 pub mod Index
 pub mod Costs
 pub mod Tracks

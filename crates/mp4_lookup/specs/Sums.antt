@@ -1,8 +1,7 @@
 -- What is kept beside a table: running sums of stts, which say for each run how many samples and ticks come before it
--- (ISO/IEC 14496-12, 8.6.1.2), and of sizes; and the numbers of a table in rising order.
-use Rattle.std.specs.Prelude.{◌≡◌, ℕ, ◌*◌, ◌^◌, ◌<◌, List, length, sum, ◌==◌}
-use Rattle.std.specs.List.{All, list_any}
-use Rattle.std.specs.List.Sorted.{IsNonDecreasing}
+-- (ISO/IEC 14496-12, 8.6.1.2), and of sizes.
+use Rattle.std.specs.Prelude.{◌≡◌, ℕ, ◌*◌, ◌^◌, ◌<◌, List, sum}
+use Rattle.std.specs.List.{All}
 use Rattle.mp4_table.specs.declared.stts.SttsEntry.{SttsEntry}
 use Rattle.mp4_search.specs.Sums.{CountsBefore, SumsBefore64}
 
@@ -18,9 +17,3 @@ pub record SizesBefore (sizes sums : List ℕ) (total : ℕ) : Type 0 where
   pub all : total ≡ sum sizes
   pub few : total < 2 ^ 95
   pub small : All (λ s. s < 2 ^ 32) sizes
-
--- as many numbers in rising order, and the same
-pub record IsInOrder (numbers sorted : List ℕ) : Type 0 where
-  pub many : length sorted ≡ length numbers
-  pub same : (k : ℕ) → list_any (λ n. n == k) sorted ≡ list_any (λ n. n == k) numbers
-  pub rises : IsNonDecreasing sorted

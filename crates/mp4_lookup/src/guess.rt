@@ -1,18 +1,18 @@
-//! The lookup of a sample by its number, in the tables of a track, where each search begins at the entry at which the
+//! The lookup of a sample by its number, in the tables of a track, where a search may begin at the entry at which the
 //! sample is expected.
 
-ghost use Rattle.std.specs.Prelude.{◌≡◌, ℕ, ◌+◌, ◌≤◌, false, length, option_map, IfOk, IfSome, IsTrue, ◌==◌, ◌↔◌};
+ghost use Rattle.std.specs.Prelude.{◌≡◌, ℕ, ◌<◌, false, length, option_map, IfOk, IfSome, IsTrue, ◌==◌, ◌↔◌};
 ghost use Rattle.std.specs.List.{list_any};
 ghost use Rattle.std.specs.List.Sorted.{IsNonDecreasing, IsStrictlyIncreasing};
 ghost use Rattle.mp4_codec.specs.Cause.{Gives};
 ghost use Rattle.mp4_table.specs.Stsc.{HasFirstSamples};
 ghost use Rattle.mp4_samples.specs.Places.{place_of};
 ghost use Rattle.mp4_samples.specs.Tables.{is_sync_at, sync_numbers};
-ghost use Rattle.mp4_search.specs.Digits.{digits};
+ghost use Rattle.mp4_search.specs.BitSet.{AreBitsOf, looks_at_bit};
+ghost use Rattle.mp4_search.specs.Search.{IsCountByGuess, IsFewByGuess};
 ghost use Rattle.mp4_lookup.specs.Index.{IsIndexOf};
-ghost use Rattle.mp4_lookup.specs.Costs.{AreFewByGuess, AreFewSizeReads};
+ghost use Rattle.mp4_lookup.specs.Costs.{AreByGuess, AreFewByGuess, AreFewSizeReads};
 ghost use Rattle.mp4_lookup.specs.Rule.{rule};
-ghost use Rattle.mp4_lookup.specs.Sums.{IsInOrder};
 
 use crate::index::{TrackIndex, runs_of_ctts};
 use crate::place::searched_spot;
@@ -20,14 +20,15 @@ use crate::timing::{searched_rendering_offset, searched_time};
 use mp4_boxes::StblBox;
 use mp4_codec::Result;
 use mp4_samples::{Comparisons, SamplePlace};
-use mp4_search::{SearchedNumbers, last_at_most_near};
+use mp4_search::{BitSet, SearchedNumbers, last_at_most_near};
 use mp4_table::StssBox;
 
 /// Whether the numbers contain `k`, and how many comparisons showed it.
 fn contains(numbers: &SearchedNumbers, k: u32) -> (bool, u32)
     requires { IsNonDecreasing numbers.now }
     ensures value { result.0 ≡ list_any (λ n. n == k) numbers.now }
-    ensures near { result.1 ≤ digits (length numbers.now) + 4 }
+    ensures counted { IsCountByGuess numbers.now k result.1 }
+    ensures few { IsFewByGuess result.1 (length numbers.now) }
 {
     let (found, readings) = last_at_most_near(numbers, k);
     let comparisons = readings.count();
@@ -37,22 +38,39 @@ fn contains(numbers: &SearchedNumbers, k: u32) -> (bool, u32)
     }
 }
 
+/// Whether `k` is one of some numbers of which this is a set, and how many looks showed it: one at its bit. Where it has
+/// none all numbers are looked at, and count as no look.
+fn contains_bit(numbers: &[u32], bits: &BitSet, k: u32) -> (bool, u32)
+    requires { AreBitsOf numbers.now bits.now }
+    ensures value { result.0 ≡ list_any (λ n. n == k) numbers.now }
+    ensures counted { result.1 ≡ looks_at_bit bits.now k }
+{
+    let (known, readings) = bits.contains(k);
+    let looks = readings.count();
+    match known {
+        Some(is_one) => (is_one, looks),
+        None => (numbers.contains(&k), looks),
+    }
+}
+
 /// Whether sample `k` is a sync sample, as `is_sync` answers it, and how many comparisons showed it. Where the numbers
-/// of stss don't strictly rise, the same numbers in rising order are searched, where `is_sync` looks at all of them.
+/// of stss don't strictly rise, the bit of `k` is looked at, where `is_sync` looks at all of them.
 fn is_sync(stss: &Option<StssBox>, index: &TrackIndex, k: u32) -> (bool, u32)
     requires rises { IsTrue index.now.sync_rises ↔ IsStrictlyIncreasing (sync_numbers stss.now) }
     requires sync { index.now.sync_numbers ≡ sync_numbers stss.now }
-    requires sorted { index.now.sync_rises ≡ false → IsInOrder (sync_numbers stss.now) index.now.sync_sorted }
+    requires bits { AreBitsOf (sync_numbers stss.now) index.now.sync_bits }
     ensures value { result.0 ≡ is_sync_at stss.now k }
-    ensures near { result.1 ≤ digits (length (sync_numbers stss.now)) + 4 }
+    ensures counted { IsTrue index.now.sync_rises → IsCountByGuess index.now.sync_numbers k result.1 }
+    ensures few { IsTrue index.now.sync_rises → IsFewByGuess result.1 (length (sync_numbers stss.now)) }
+    ensures unsorted { index.now.sync_rises ≡ false → result.1 ≡ looks_at_bit index.now.sync_bits k }
 {
-    if stss.is_none() {
+    let Some(stss) = stss else {
         return (true, 0);
-    }
+    };
     if index.sync_rises {
         contains(&index.sync_numbers, k)
     } else {
-        contains(&index.sync_sorted, k)
+        contains_bit(stss.entries.as_slice(), &index.sync_bits, k)
     }
 }
 
@@ -67,6 +85,7 @@ pub fn place_by_guess(
     requires firsts { HasFirstSamples stbl.now.stsc.entries }
     requires index { IsIndexOf stbl.now index.now }
     ensures rule { Gives (λ p. option_map place_of p) result (rule stbl.now track_id k) }
+    ensures counted { IfOk result (λ p. IfSome p (λ p. AreByGuess index.now k p.comparisons)) }
     ensures comparisons { IfOk result (λ p. IfSome p (λ p. AreFewByGuess stbl.now p.comparisons)) }
     ensures size_reads { IfOk result (λ p. IfSome p (λ p. AreFewSizeReads stbl.now p.size_reads)) }
 {

@@ -1,21 +1,21 @@
 //! What is kept beside the tables of a track, so that its samples are found fast.
 
-ghost use Rattle.std.specs.Prelude.{◌≡◌, ℕ, ◌-◌, ◌*◌, ◌^◌, ◌<◌, ◌↔◌, false, min, IfOk, OnOk, IsTrue};
-ghost use Rattle.mp4_lookup.specs.Sums.{IsInOrder, SizesBefore};
+ghost use Rattle.std.specs.Prelude.{◌≡◌, ℕ, ◌-◌, ◌*◌, ◌^◌, ◌<◌, ◌↔◌, min, IfOk, OnOk, IsTrue};
+ghost use Rattle.mp4_lookup.specs.Sums.{SizesBefore};
 ghost use Rattle.std.specs.List.{All};
 ghost use Rattle.std.specs.List.Sorted.{IsStrictlyIncreasing};
 ghost use Rattle.mp4_samples.specs.Tables.{ctts_runs, sync_numbers};
+ghost use Rattle.mp4_search.specs.BitSet.{AreBitsOf};
 ghost use Rattle.mp4_search.specs.Sums.{SumsBefore64};
 ghost use Rattle.mp4_lookup.specs.Index.{IsIndexOf};
 
-use crate::by_digits::in_order;
 use crate::runs::counts_before;
 use mp4_boxes::StblBox;
-use mp4_search::{CappedSums, SearchedNumbers};
+use mp4_search::{BitSet, CappedSums, SearchedNumbers};
 use mp4_table::{CttsBox, CttsEntry, StssBox, SttsEntry};
 use std::alloc::{AllocError, Global};
 
-/// Running sums beside the tables of a track: at most one for each entry of a table.
+/// Beside the tables of a track: running sums, one for each entry of a table, and what else is searched.
 ///
 /// Counts of samples stop at 2^32 - 1, which no number of a sample passes; and so times and bytes stop at 2^64 - 1,
 /// which fewer than 2^32 durations or sizes of 32 bits don't reach.
@@ -33,8 +33,8 @@ pub struct TrackIndex {
     pub sync_rises: bool,
     /// The numbers of stss.
     pub sync_numbers: SearchedNumbers,
-    /// The numbers of stss in rising order, where they don't strictly rise in stss; else nothing, and no memory.
-    pub sync_sorted: SearchedNumbers,
+    /// A bit for each number of stss, where they don't strictly rise; else nothing, and no memory.
+    pub sync_bits: BitSet,
     /// How many bytes come before each sample, where sizes are listed.
     pub size_sums: CappedSums,
     /// How many bytes all samples have together, where sizes are listed.
@@ -57,7 +57,7 @@ pub fn index_of(alloc: Global, stbl: &StblBox) -> Result<TrackIndex, AllocError>
     let numbers = numbers_of_stss(&stbl.stss);
     let sync_rises = rises(numbers);
     let sync_numbers = Vec::from_slice(alloc, numbers)?;
-    let sync_sorted = in_order_unless(sync_rises, alloc, numbers)?;
+    let sync_bits = bits_unless(sync_rises, alloc, numbers, stbl.stsz.sample_sizes.len())?;
     let (size_sums, size_total) = sizes_before(alloc, stbl.stsz.sample_sizes.as_slice())?;
     Ok(TrackIndex {
         first_samples: SearchedNumbers::new(first_samples),
@@ -66,7 +66,7 @@ pub fn index_of(alloc: Global, stbl: &StblBox) -> Result<TrackIndex, AllocError>
         ctts_counts: SearchedNumbers::new(ctts_counts),
         sync_rises,
         sync_numbers: SearchedNumbers::new(sync_numbers),
-        sync_sorted: SearchedNumbers::new(sync_sorted),
+        sync_bits,
         size_sums: CappedSums::new(size_sums),
         size_total,
     })
@@ -162,12 +162,25 @@ fn rises(numbers: &[u32]) -> bool
     true
 }
 
-/// The same numbers in rising order, unless they rise as they are: then nothing, and no memory is taken.
-fn in_order_unless(rises: bool, alloc: Global, numbers: &[u32]) -> Result<Vec<u32>, AllocError>
-    ensures { IfOk result (λ sorted. rises ≡ false → IsInOrder numbers.now sorted.items) }
+/// How many bits a set of numbers has at most for each of them: so many that it takes no more memory than they do.
+const BITS_A_NUMBER: usize = 32;
+
+/// A bit for each number of stss, in a track that lists the sizes of so many samples, unless the numbers rise: then
+/// nothing, and no memory is taken.
+///
+/// The numbers of the listed samples have their bit, and so has each up to 32 times as many as there are in stss. So the
+/// bits take at most as much memory as stss, or a bit for each size, and are made in one pass over the numbers.
+fn bits_unless(
+    rises: bool,
+    alloc: Global,
+    numbers: &[u32],
+    sizes: usize,
+) -> Result<BitSet, AllocError>
+    ensures { IfOk result (AreBitsOf numbers.now) }
 {
     if rises {
-        return Ok(Vec::new(alloc));
+        return Ok(BitSet::new(alloc));
     }
-    in_order(alloc, numbers)
+    let limit = numbers.len().saturating_mul(BITS_A_NUMBER).max(sizes);
+    BitSet::of(alloc, numbers, limit)
 }

@@ -3,7 +3,6 @@
 //! are coded, and how many there are in a second (8.3 to 8.5).
 #![tactic(auto)]
 
-mod by_digits;
 mod codec;
 mod guess;
 mod headers;

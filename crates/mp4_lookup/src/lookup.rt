@@ -1,13 +1,15 @@
 //! Where the samples of a track lie, by their numbers: those of the movie box first, then those that fragments add
 //! (ISO/IEC 14496-12, 8.6, 8.7 and 8.8).
 
-ghost use Rattle.std.specs.Prelude.{◌≡◌, ◌-◌, ◌^◌, ◌<◌, false, length, min, option_map, slice_get, IfOk, IfSome, IsTrue};
+ghost use Rattle.std.specs.Prelude.{◌≡◌, ◌-◌, ◌^◌, ◌<◌, true, false, length, min, option_map, slice_get, IfOk, IfSome, IsTrue};
 ghost use Rattle.mp4_codec.specs.Cause.{Gives};
 ghost use Rattle.mp4_fragments.specs.Members.{all_members};
 ghost use Rattle.mp4_samples.specs.Places.{place_of};
 ghost use Rattle.mp4_samples.specs.Plain.{Consistent, plain_at};
-ghost use Rattle.mp4_lookup.specs.Costs.{AreFew, AreFewByGuess, AreFewForMember, AreFewForMemberByGuess, AreFewSizeReads, comparisons_in_runs, comparisons_of};
+ghost use Rattle.mp4_lookup.specs.Costs.{AreFew, AreFewForMember, AreFewSizeReads, comparisons_in_runs, comparisons_of};
+ghost use Rattle.mp4_lookup.specs.Costs.{AreFewByGuess, AreFewForMemberByGuess, AreOfGuess};
 ghost use Rattle.mp4_samples.specs.Tables.{tables_of};
+ghost use Rattle.mp4_search.specs.Search.{IsCountByGuess};
 ghost use Rattle.mp4_lookup.specs.Tracks.{is_of_movie, member_place, answer_at};
 ghost use Rattle.mp4_lookup.specs.TrackRuns.{track_runs};
 
@@ -39,15 +41,19 @@ impl Mp4Track {
         self.answer(k, false)
     }
 
-    /// What [`locate`](Mp4Track::locate) answers, found faster: in each table the search begins at the entry in which
-    /// the sample is expected if all entries stand for as many. The comparisons are those of this search, in each table
-    /// at most four more than the number of its entries has binary digits; where the numbers of stss don't strictly
-    /// rise, a sorted copy of them is searched.
+    /// What [`locate`](Mp4Track::locate) answers, mostly found faster: in a table of more than a few entries, which
+    /// stand for about as many samples each, the search begins at the entry in which the sample is expected.
+    ///
+    /// The comparisons are those of the search that was made: in each table at least one where it has an entry, and at
+    /// most four more than the number of its entries has binary digits. Where the numbers of stss don't strictly rise,
+    /// a bit says whether the sample is one of them, which counts as one comparison; where `k` has no bit, being far
+    /// above them, all are looked at, as `locate` does, and count as none.
     ///
     /// Refused as `locate`, with the same errors.
     pub fn locate_by_guess(&self, k: u32) -> Result<Option<SamplePlace>>
         ensures rule { Gives (λ p. option_map place_of p) result (answer_at self.now.trak self.now.trafs (track_runs self.now) k) }
         ensures plain { IsTrue (is_of_movie self.now.trak self.now.trafs k) → Consistent (tables_of self.now.trak) → Gives (λ p. option_map place_of p) result (plain_at (tables_of self.now.trak) k) }
+        ensures counted { IfOk result (λ p. IfSome p (λ p. AreOfGuess self.now k p.comparisons)) }
         ensures comparisons { IsTrue (is_of_movie self.now.trak self.now.trafs k) → IfOk result (λ p. IfSome p (λ p. AreFewByGuess (tables_of self.now.trak) p.comparisons)) }
         ensures size_reads { IsTrue (is_of_movie self.now.trak self.now.trafs k) → IfOk result (λ p. IfSome p (λ p. AreFewSizeReads (tables_of self.now.trak) p.size_reads)) }
         ensures added { is_of_movie self.now.trak self.now.trafs k ≡ false → IfOk result (λ p. IfSome p (λ p. AreFewForMemberByGuess (track_runs self.now) p.comparisons × (p.size_reads ≡ 0))) }
@@ -62,7 +68,8 @@ impl Mp4Track {
         ensures rule { Gives (λ p. option_map place_of p) result (answer_at self.now.trak self.now.trafs (track_runs self.now) k) }
         ensures counted { by_guess ≡ false → IfOk result (λ p. IfSome p (λ p. p.comparisons ≡ comparisons_of self.now k)) }
         ensures comparisons { by_guess ≡ false → IsTrue (is_of_movie self.now.trak self.now.trafs k) → IfOk result (λ p. IfSome p (λ p. AreFew (tables_of self.now.trak) p.comparisons)) }
-        ensures near { IsTrue (is_of_movie self.now.trak self.now.trafs k) → IfOk result (λ p. IfSome p (λ p. AreFewByGuess (tables_of self.now.trak) p.comparisons)) }
+        ensures near_counted { by_guess ≡ true → IfOk result (λ p. IfSome p (λ p. AreOfGuess self.now k p.comparisons)) }
+        ensures near { by_guess ≡ true → IsTrue (is_of_movie self.now.trak self.now.trafs k) → IfOk result (λ p. IfSome p (λ p. AreFewByGuess (tables_of self.now.trak) p.comparisons)) }
         ensures size_reads { IsTrue (is_of_movie self.now.trak self.now.trafs k) → IfOk result (λ p. IfSome p (λ p. AreFewSizeReads (tables_of self.now.trak) p.size_reads)) }
         ensures added { by_guess ≡ false → is_of_movie self.now.trak self.now.trafs k ≡ false → IfOk result (λ p. IfSome p (λ p. AreFewForMember (track_runs self.now) p.comparisons × (p.size_reads ≡ 0))) }
         ensures added_near { is_of_movie self.now.trak self.now.trafs k ≡ false → IfOk result (λ p. IfSome p (λ p. AreFewForMemberByGuess (track_runs self.now) p.comparisons × (p.size_reads ≡ 0))) }
@@ -87,6 +94,7 @@ impl Mp4Track {
         ensures rule { Gives (λ p. option_map place_of p) result (member_place (slice_get (all_members (track_runs self.now)) number)) }
         ensures counted { by_guess ≡ false → IfOk result (λ p. IfSome p (λ p. p.comparisons ≡ comparisons_in_runs self.now.runs number)) }
         ensures comparisons { by_guess ≡ false → IfOk result (λ p. IfSome p (λ p. AreFewForMember (track_runs self.now) p.comparisons)) }
+        ensures near_counted { IfOk result (λ p. IfSome p (λ p. IsCountByGuess self.now.runs.counts number p.comparisons.runs)) }
         ensures near { IfOk result (λ p. IfSome p (λ p. AreFewForMemberByGuess (track_runs self.now) p.comparisons)) }
         ensures size_reads { IfOk result (λ p. IfSome p (λ p. p.size_reads ≡ 0)) }
     {

@@ -5,8 +5,7 @@ ghost use Rattle.mp4_codec.specs.ExactTest.{by_test, field_tests};
 ghost use Rattle.std.specs.Prelude.{◌≡◌, ℕ, ◌+◌, ◌-◌, ◌^◌, ◌<◌, ◌≤◌, false, map, length, sum, slice_get, slice_range, option_map, IfOk, IfSome, OnOk};
 ghost use Rattle.mp4_codec.specs.Cause.{Gives};
 ghost use Rattle.mp4_table.specs.Stsc.{HasFirstSamples};
-ghost use Rattle.mp4_search.specs.Digits.{digits};
-ghost use Rattle.mp4_search.specs.Search.{IsFew, comparisons_in};
+ghost use Rattle.mp4_search.specs.Search.{IsCountByGuess, IsFew, IsFewByGuess, comparisons_in};
 ghost use Rattle.mp4_search.specs.Sums.{SumsBefore64};
 ghost use Rattle.std.specs.List.{All};
 ghost use Rattle.mp4_samples.specs.Tables.{chunk_offsets, sizes};
@@ -50,7 +49,8 @@ fn entry_at(
     ensures usable { IfOk result (λ x. (1 ≤ x.0.first_sample) × (x.0.first_sample ≤ k) × (1 ≤ x.0.samples_per_chunk)) }
     ensures counted { by_guess ≡ false → IfOk result (λ x. x.1 ≡ comparisons_in first_samples.now k) }
     ensures few { by_guess ≡ false → IfOk result (λ x. IsFew x.1 (length entries.now)) }
-    ensures near { IfOk result (λ x. x.1 ≤ digits (length entries.now) + 4) }
+    ensures near_counted { IfOk result (λ x. IsCountByGuess first_samples.now k x.1) }
+    ensures near { IfOk result (λ x. IsFewByGuess x.1 (length entries.now)) }
 {
     if k == 0 {
         return Err(Error::InvalidData("samples are numbered from 1"));
@@ -204,7 +204,9 @@ pub fn searched_spot(
     ensures counts { OnOk result (1 ≤ k) }
     ensures counted { by_guess ≡ false → IfOk result (λ s. IfSome s (λ s. s.comparisons ≡ comparisons_in index.now.first_samples k)) }
     ensures few { by_guess ≡ false → IfOk result (λ s. IfSome s (λ s. IsFew s.comparisons (length stbl.now.stsc.entries))) }
-    ensures near { IfOk result (λ s. IfSome s (λ s. s.comparisons ≤ digits (length stbl.now.stsc.entries) + 4)) }
+    ensures near_counted { IfOk result
+        (λ s. IfSome s (λ s. IsCountByGuess index.now.first_samples k s.comparisons)) }
+    ensures near { IfOk result (λ s. IfSome s (λ s. IsFewByGuess s.comparisons (length stbl.now.stsc.entries))) }
     ensures size_reads { IfOk result (λ s. IfSome s (λ s. AreFewSizeReads stbl.now s.size_reads)) }
 {
     let (entry, comparisons) = entry_at(

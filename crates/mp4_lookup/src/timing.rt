@@ -6,8 +6,7 @@ ghost use Rattle.std.specs.List.Sorted.{IsStrictlyIncreasing};
 ghost use Rattle.mp4_codec.specs.Cause.{Gives};
 ghost use Rattle.mp4_table.specs.Runs.{durations, rendering_offsets};
 ghost use Rattle.mp4_table.specs.Starts.{start_of};
-ghost use Rattle.mp4_search.specs.Digits.{digits};
-ghost use Rattle.mp4_search.specs.Search.{IsFew, comparisons_in};
+ghost use Rattle.mp4_search.specs.Search.{IsCountByGuess, IsFew, IsFewByGuess, comparisons_in};
 ghost use Rattle.mp4_search.specs.Sums.{CountsBefore};
 ghost use Rattle.mp4_lookup.specs.Costs.{sync_comparisons};
 ghost use Rattle.mp4_lookup.specs.Sums.{TimesBefore};
@@ -67,7 +66,8 @@ pub fn searched_time(
     ensures time { Gives (λ t. (t.0, t.1)) result (time_at runs.now track_id k) }
     ensures counted { by_guess ≡ false → IfOk result (λ t. t.2 ≡ comparisons_in counts.now (k - 1)) }
     ensures few { by_guess ≡ false → IfOk result (λ t. IsFew t.2 (length runs.now)) }
-    ensures near { IfOk result (λ t. t.2 ≤ digits (length runs.now) + 4) }
+    ensures near_counted { IfOk result (λ t. IsCountByGuess counts.now (k - 1) t.2) }
+    ensures near { IfOk result (λ t. IsFewByGuess t.2 (length runs.now)) }
 {
     let (found, readings) = last_at_most_by(counts, k - 1, by_guess);
     let comparisons = readings.count();
@@ -108,7 +108,8 @@ pub fn searched_rendering_offset(
     ensures value { result.0 ≡ get_or (rendering_offsets runs.now) (k - 1) (pos 0) }
     ensures counted { by_guess ≡ false → result.1 ≡ comparisons_in counts.now (k - 1) }
     ensures few { by_guess ≡ false → IsFew result.1 (length runs.now) }
-    ensures near { result.1 ≤ digits (length runs.now) + 4 }
+    ensures near_counted { IsCountByGuess counts.now (k - 1) result.1 }
+    ensures near { IsFewByGuess result.1 (length runs.now) }
 {
     let (found, readings) = last_at_most_by(counts, k - 1, by_guess);
     let comparisons = readings.count();

@@ -76,9 +76,8 @@ impl<'a> Drop for Mp4Reader<'a> {
     }
 }
 
-/// Opens a file of `size` bytes of which this was found. It is a call of its own, so that its variables don't lie on the
-/// stack below those of the search for boxes: together they pass the 32 KB of a processor's first cache, and a small
-/// file took a tenth longer.
+/// Opens a file of `size` bytes of which this was found. It is a call of its own, so that its variables don't lie on
+/// the stack below those of the search for boxes: together they pass a processor's first cache.
 #[inline(never)]
 #[tactic(auto, unfolding(mp4_boxes::specs::Needed::two_needed))]
 fn open_found<'a>(alloc: Global, found: Found, bytes: &'a [u8], size: u64) -> Result<Mp4Reader<'a>>

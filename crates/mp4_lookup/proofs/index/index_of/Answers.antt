@@ -12,6 +12,6 @@ returns c = record {
   ctts = search rules;
   rises = search rules;
   sync = search rules;
-  sorted = search rules;
+  bits = search rules;
   sizes = search rules;
 }
