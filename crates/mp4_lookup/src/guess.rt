@@ -1,5 +1,5 @@
-//! The lookup of a sample by its number, in the tables of a track, where a search may begin at the entry at which the
-//! sample is expected.
+//! The lookup of a sample by its number, in the tables of a track, where a search may begin at the entry at
+//! which the sample is expected.
 
 ghost use Rattle.std.specs.Prelude.{◌≡◌, ℕ, ◌<◌, false, length, option_map, IfOk, IfSome, IsTrue, ◌==◌, ◌↔◌};
 ghost use Rattle.std.specs.List.{list_any};
@@ -38,8 +38,8 @@ fn contains(numbers: &SearchedNumbers, k: u32) -> (bool, u32)
     }
 }
 
-/// Whether `k` is one of some numbers of which this is a set, and how many looks showed it: one at its bit. Where it has
-/// none all numbers are looked at, and count as no look.
+/// Whether `k` is one of some numbers of which this is a set, and how many looks showed it: one at its bit.
+/// Where it has none all numbers are looked at, and count as no look.
 fn contains_bit(numbers: &[u32], bits: &BitSet, k: u32) -> (bool, u32)
     requires { AreBitsOf numbers.now bits.now }
     ensures value { result.0 ≡ list_any (λ n. n == k) numbers.now }
@@ -53,8 +53,8 @@ fn contains_bit(numbers: &[u32], bits: &BitSet, k: u32) -> (bool, u32)
     }
 }
 
-/// Whether sample `k` is a sync sample, as `is_sync` answers it, and how many comparisons showed it. Where the numbers
-/// of stss don't strictly rise, the bit of `k` is looked at, where `is_sync` looks at all of them.
+/// Whether sample `k` is a sync sample, as `is_sync` of `timing` answers it, and how many comparisons showed
+/// it. Where the numbers of stss don't strictly rise, that one looks at all of them, and this at the bit of `k`.
 fn is_sync(stss: &Option<StssBox>, index: &TrackIndex, k: u32) -> (bool, u32)
     requires rises { IsTrue index.now.sync_rises ↔ IsStrictlyIncreasing (sync_numbers stss.now) }
     requires sync { index.now.sync_numbers ≡ sync_numbers stss.now }

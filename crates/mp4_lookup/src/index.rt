@@ -165,11 +165,11 @@ fn rises(numbers: &[u32]) -> bool
 /// How many bits a set of numbers has at most for each of them: so many that it takes no more memory than they do.
 const BITS_A_NUMBER: usize = 32;
 
-/// A bit for each number of stss, in a track that lists the sizes of so many samples, unless the numbers rise: then
-/// nothing, and no memory is taken.
+/// A bit for each number of stss, in a track that lists the sizes of so many samples, unless the numbers rise:
+/// then nothing, and no memory is taken.
 ///
-/// The numbers of the listed samples have their bit, and so has each up to 32 times as many as there are in stss. So the
-/// bits take at most as much memory as stss, or a bit for each size, and are made in one pass over the numbers.
+/// Each sample with a listed size has its bit, and so has each number up to 32 times as many as stss has. So
+/// the bits take at most as much memory as stss, or a bit for each size, and are made in one pass.
 fn bits_unless(
     rises: bool,
     alloc: Global,

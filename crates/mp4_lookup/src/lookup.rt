@@ -1,7 +1,8 @@
 //! Where the samples of a track lie, by their numbers: those of the movie box first, then those that fragments add
 //! (ISO/IEC 14496-12, 8.6, 8.7 and 8.8).
 
-ghost use Rattle.std.specs.Prelude.{◌≡◌, ◌-◌, ◌^◌, ◌<◌, true, false, length, min, option_map, slice_get, IfOk, IfSome, IsTrue};
+ghost use Rattle.std.specs.Prelude.{◌≡◌, ◌-◌, ◌^◌, ◌<◌, true, false, length, min, option_map, slice_get};
+ghost use Rattle.std.specs.Prelude.{IfOk, IfSome, IsTrue};
 ghost use Rattle.mp4_codec.specs.Cause.{Gives};
 ghost use Rattle.mp4_fragments.specs.Members.{all_members};
 ghost use Rattle.mp4_samples.specs.Places.{place_of};
@@ -68,8 +69,10 @@ impl Mp4Track {
         ensures rule { Gives (λ p. option_map place_of p) result (answer_at self.now.trak self.now.trafs (track_runs self.now) k) }
         ensures counted { by_guess ≡ false → IfOk result (λ p. IfSome p (λ p. p.comparisons ≡ comparisons_of self.now k)) }
         ensures comparisons { by_guess ≡ false → IsTrue (is_of_movie self.now.trak self.now.trafs k) → IfOk result (λ p. IfSome p (λ p. AreFew (tables_of self.now.trak) p.comparisons)) }
-        ensures near_counted { by_guess ≡ true → IfOk result (λ p. IfSome p (λ p. AreOfGuess self.now k p.comparisons)) }
-        ensures near { by_guess ≡ true → IsTrue (is_of_movie self.now.trak self.now.trafs k) → IfOk result (λ p. IfSome p (λ p. AreFewByGuess (tables_of self.now.trak) p.comparisons)) }
+        ensures near_counted { by_guess ≡ true
+            → IfOk result (λ p. IfSome p (λ p. AreOfGuess self.now k p.comparisons)) }
+        ensures near { by_guess ≡ true → IsTrue (is_of_movie self.now.trak self.now.trafs k)
+            → IfOk result (λ p. IfSome p (λ p. AreFewByGuess (tables_of self.now.trak) p.comparisons)) }
         ensures size_reads { IsTrue (is_of_movie self.now.trak self.now.trafs k) → IfOk result (λ p. IfSome p (λ p. AreFewSizeReads (tables_of self.now.trak) p.size_reads)) }
         ensures added { by_guess ≡ false → is_of_movie self.now.trak self.now.trafs k ≡ false → IfOk result (λ p. IfSome p (λ p. AreFewForMember (track_runs self.now) p.comparisons × (p.size_reads ≡ 0))) }
         ensures added_near { is_of_movie self.now.trak self.now.trafs k ≡ false → IfOk result (λ p. IfSome p (λ p. AreFewForMemberByGuess (track_runs self.now) p.comparisons × (p.size_reads ≡ 0))) }
