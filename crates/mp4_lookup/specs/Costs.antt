@@ -51,7 +51,7 @@ pub record AreFew (t : StblBox) (c : Comparisons) : Type 0 where
 -- How many numbers the lookup of sample k by a guess compares: in each table those of one search, by halves or from
 -- some entry on. Where the numbers of stss don't strictly rise, one look at the bit of k, and none where it has no bit,
 -- since all numbers are then looked at.
-pub record AreByGuess (index : TrackIndex) (k : ℕ) (c : Comparisons) : Type 0 where
+pub record AreCountsByGuess (index : TrackIndex) (k : ℕ) (c : Comparisons) : Type 0 where
   pub stsc : IsCountByGuess index.first_samples k c.stsc
   pub stts : IsCountByGuess index.stts_counts (k - 1) c.stts
   pub ctts : IsCountByGuess index.ctts_counts (k - 1) c.ctts
@@ -61,8 +61,8 @@ pub record AreByGuess (index : TrackIndex) (k : ℕ) (c : Comparisons) : Type 0 
 
 -- how many numbers the lookup of sample k of a track by a guess compares: those of one search in the runs, where a
 -- fragment adds the sample
-pub record AreOfGuess (t : Mp4Track) (k : ℕ) (c : Comparisons) : Type 0 where
-  pub tables : IsTrue (is_of_movie t.trak t.trafs k) → AreByGuess t.index k c
+pub record AreTrackCountsByGuess (t : Mp4Track) (k : ℕ) (c : Comparisons) : Type 0 where
+  pub tables : IsTrue (is_of_movie t.trak t.trafs k) → AreCountsByGuess t.index k c
   pub runs : is_of_movie t.trak t.trafs k ≡ false
       → IsCountByGuess t.runs.counts (k - (tables_of t.trak).stsz.sample_count - 1) c.runs
 

@@ -11,7 +11,7 @@ ghost use Rattle.mp4_samples.specs.Tables.{is_sync_at, sync_numbers};
 ghost use Rattle.mp4_search.specs.BitSet.{AreBitsOf, looks_at_bit};
 ghost use Rattle.mp4_search.specs.Search.{IsCountByGuess, IsFewByGuess};
 ghost use Rattle.mp4_lookup.specs.Index.{IsIndexOf};
-ghost use Rattle.mp4_lookup.specs.Costs.{AreByGuess, AreFewByGuess, AreFewSizeReads};
+ghost use Rattle.mp4_lookup.specs.Costs.{AreCountsByGuess, AreFewByGuess, AreFewSizeReads};
 ghost use Rattle.mp4_lookup.specs.Rule.{rule};
 
 use crate::index::{TrackIndex, runs_of_ctts};
@@ -85,7 +85,7 @@ pub fn place_by_guess(
     requires firsts { HasFirstSamples stbl.now.stsc.entries }
     requires index { IsIndexOf stbl.now index.now }
     ensures rule { Gives (λ p. option_map place_of p) result (rule stbl.now track_id k) }
-    ensures counted { IfOk result (λ p. IfSome p (λ p. AreByGuess index.now k p.comparisons)) }
+    ensures counted { IfOk result (λ p. IfSome p (λ p. AreCountsByGuess index.now k p.comparisons)) }
     ensures comparisons { IfOk result (λ p. IfSome p (λ p. AreFewByGuess stbl.now p.comparisons)) }
     ensures size_reads { IfOk result (λ p. IfSome p (λ p. AreFewSizeReads stbl.now p.size_reads)) }
 {

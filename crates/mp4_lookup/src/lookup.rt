@@ -8,7 +8,7 @@ ghost use Rattle.mp4_fragments.specs.Members.{all_members};
 ghost use Rattle.mp4_samples.specs.Places.{place_of};
 ghost use Rattle.mp4_samples.specs.Plain.{Consistent, plain_at};
 ghost use Rattle.mp4_lookup.specs.Costs.{AreFew, AreFewForMember, AreFewSizeReads, comparisons_in_runs, comparisons_of};
-ghost use Rattle.mp4_lookup.specs.Costs.{AreFewByGuess, AreFewForMemberByGuess, AreOfGuess};
+ghost use Rattle.mp4_lookup.specs.Costs.{AreFewByGuess, AreFewForMemberByGuess, AreTrackCountsByGuess};
 ghost use Rattle.mp4_samples.specs.Tables.{tables_of};
 ghost use Rattle.mp4_search.specs.Search.{IsCountByGuess};
 ghost use Rattle.mp4_lookup.specs.Tracks.{is_of_movie, member_place, answer_at};
@@ -54,7 +54,7 @@ impl Mp4Track {
     pub fn locate_by_guess(&self, k: u32) -> Result<Option<SamplePlace>>
         ensures rule { Gives (λ p. option_map place_of p) result (answer_at self.now.trak self.now.trafs (track_runs self.now) k) }
         ensures plain { IsTrue (is_of_movie self.now.trak self.now.trafs k) → Consistent (tables_of self.now.trak) → Gives (λ p. option_map place_of p) result (plain_at (tables_of self.now.trak) k) }
-        ensures counted { IfOk result (λ p. IfSome p (λ p. AreOfGuess self.now k p.comparisons)) }
+        ensures counted { IfOk result (λ p. IfSome p (λ p. AreTrackCountsByGuess self.now k p.comparisons)) }
         ensures comparisons { IsTrue (is_of_movie self.now.trak self.now.trafs k) → IfOk result (λ p. IfSome p (λ p. AreFewByGuess (tables_of self.now.trak) p.comparisons)) }
         ensures size_reads { IsTrue (is_of_movie self.now.trak self.now.trafs k) → IfOk result (λ p. IfSome p (λ p. AreFewSizeReads (tables_of self.now.trak) p.size_reads)) }
         ensures added { is_of_movie self.now.trak self.now.trafs k ≡ false → IfOk result (λ p. IfSome p (λ p. AreFewForMemberByGuess (track_runs self.now) p.comparisons × (p.size_reads ≡ 0))) }
@@ -70,7 +70,7 @@ impl Mp4Track {
         ensures counted { by_guess ≡ false → IfOk result (λ p. IfSome p (λ p. p.comparisons ≡ comparisons_of self.now k)) }
         ensures comparisons { by_guess ≡ false → IsTrue (is_of_movie self.now.trak self.now.trafs k) → IfOk result (λ p. IfSome p (λ p. AreFew (tables_of self.now.trak) p.comparisons)) }
         ensures near_counted { by_guess ≡ true
-            → IfOk result (λ p. IfSome p (λ p. AreOfGuess self.now k p.comparisons)) }
+            → IfOk result (λ p. IfSome p (λ p. AreTrackCountsByGuess self.now k p.comparisons)) }
         ensures near { by_guess ≡ true → IsTrue (is_of_movie self.now.trak self.now.trafs k)
             → IfOk result (λ p. IfSome p (λ p. AreFewByGuess (tables_of self.now.trak) p.comparisons)) }
         ensures size_reads { IsTrue (is_of_movie self.now.trak self.now.trafs k) → IfOk result (λ p. IfSome p (λ p. AreFewSizeReads (tables_of self.now.trak) p.size_reads)) }
