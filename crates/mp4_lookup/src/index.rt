@@ -169,7 +169,7 @@ const BITS_A_NUMBER: usize = 32;
 /// then nothing, and no memory is taken.
 ///
 /// Each sample with a listed size has its bit, and so has each number up to 32 times as many as stss has. So
-/// the bits take at most as much memory as stss, or a bit for each size, and are made in one pass.
+/// the bits take at most as much memory as stss, or a bit for each size, and two passes over stss make them.
 fn bits_unless(
     rises: bool,
     alloc: Global,
