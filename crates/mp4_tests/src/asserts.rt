@@ -20,3 +20,8 @@ pub fn holds(rt: &impl Abort, case: impl Display + Drop, statement: bool) {
 pub fn same<T: PartialEq + Debug + Drop>(rt: &impl Abort, value: T, expected: T) {
     assert_eq!(rt; value, expected);
 }
+
+/// Ends the test and prints how many there are of these, unless they are so many.
+pub fn at_least(rt: &impl Abort, what: &str, count: u32, least: u32) {
+    assert!(rt; count >= least, "{count} {what}, and not {least}");
+}

@@ -10,6 +10,8 @@ mod asserts;
 #[cfg(test)]
 mod equality;
 #[cfg(test)]
+mod guessed_numbers;
+#[cfg(test)]
 mod large_sample;
 #[cfg(test)]
 mod listed;
@@ -23,6 +25,8 @@ mod million_samples;
 mod plain_files;
 #[cfg(test)]
 mod plain_fragments;
+#[cfg(test)]
+mod plain_lists;
 #[cfg(test)]
 mod random_files;
 #[cfg(test)]

@@ -63,16 +63,29 @@ pub struct PlainFragment {
 }
 
 /// Where and when a sample begins.
-#[derive(Clone, Copy)]
-struct Spot {
+#[derive(Clone, Copy, Debug)]
+pub struct Beginning {
     place: Option<u64>,
     time: Option<u64>,
+}
+
+/// What a track keeps of a run of one of its parts of fragments.
+#[derive(Debug, Drop)]
+pub struct RunEntry {
+    /// Where its first sample begins.
+    at: Beginning,
+    /// Where every 64th sample begins, from the 65th on, if the run lists sizes or durations.
+    pub checks: Vec<Beginning>,
+    /// The number of its part among those of the track, counted from 0.
+    traf: usize,
+    /// Its number in the part, counted from 0.
+    run: usize,
 }
 
 /// A sample that a fragment adds.
 #[derive(Clone, Copy)]
 struct PlainSample {
-    spot: Spot,
+    at: Beginning,
     size: u32,
     duration: u32,
     rendering_offset: i32,
@@ -82,7 +95,7 @@ struct PlainSample {
 impl PlainSample {
     /// What its number is answered with.
     fn answer(&self) -> Result<Option<WalkedPlace>> {
-        let (Some(offset), Some(start_time)) = (self.spot.place, self.spot.time) else {
+        let (Some(offset), Some(start_time)) = (self.at.place, self.at.time) else {
             return Err(Error::InvalidData("the sample is nowhere"));
         };
         Ok(Some(WalkedPlace {
@@ -101,11 +114,15 @@ impl PlainSample {
 pub struct PlainTrack {
     pub id: u32,
     /// What the movie says of its samples.
-    values: PlainValues,
+    pub values: PlainValues,
     /// When its samples have lasted.
     end: Option<u64>,
-    is_named: bool,
+    /// How many parts of fragments it has.
+    parts: usize,
     samples: Vec<PlainSample>,
+    /// How many samples come before each run.
+    pub counts: Vec<u32>,
+    pub runs: Vec<RunEntry>,
 }
 
 impl PlainTrack {
@@ -117,7 +134,7 @@ impl PlainTrack {
     /// What a number of the track is answered with, whose movie box has these tables.
     pub fn answer(&self, stbl: &StblBox, k: u32) -> Result<Option<WalkedPlace>> {
         let count = stbl.stsz.sample_count;
-        if k <= count || !self.is_named {
+        if k <= count || self.parts == 0 {
             return walk(stbl, self.id, k);
         }
         match self
@@ -146,59 +163,85 @@ fn behind(place: Option<u64>, distance: u32) -> Option<u64> {
 }
 
 /// Adds a sample of these values to a track. The answer is where the next one begins.
-fn add_sample(track: &mut PlainTrack, values: &PlainValues, spot: Spot) -> Result<Spot> {
+fn add_sample(track: &mut PlainTrack, values: &PlainValues, at: Beginning) -> Result<Beginning> {
     let size = values.size.unwrap_or(0);
     let duration = values.duration.unwrap_or(0);
     track.samples.push(PlainSample {
-        spot,
+        at,
         size,
         duration,
         rendering_offset: values.composition_offset.unwrap_or(0).cast_signed(),
         is_sync: values.flags.unwrap_or(0) / 0x1_0000 % 2 == 0,
     })?;
-    Ok(Spot {
-        place: behind(spot.place, size),
-        time: behind(spot.time, duration),
+    Ok(Beginning {
+        place: behind(at.place, size),
+        time: behind(at.time, duration),
     })
 }
 
-/// Adds the samples of a run to a track, of which all have these values where they say no others. The answer is where the
-/// next one begins.
-fn add_run(
+/// Adds the samples of a run to a track, of which all have these values where they say no others. The answer is
+/// where the next one begins. Where every 64th ends is kept, if it says its size or its duration itself.
+fn add_samples(
     track: &mut PlainTrack,
     run: &PlainRun,
     values: &PlainValues,
-    first: Spot,
-) -> Result<Spot> {
-    let mut spot = first;
+    first: Beginning,
+    checks: &mut Vec<Beginning>,
+) -> Result<Beginning> {
+    let mut at = first;
     let mut first_flags = run.first_flags;
+    let mut count = 0u32;
     for member in run.members.as_slice() {
         let own = member.or(values).or(&track.values);
         let flags = first_flags.or(own.flags);
         first_flags = None;
-        spot = add_sample(track, &PlainValues { flags, ..own }, spot)?;
+        at = add_sample(track, &PlainValues { flags, ..own }, at)?;
+        count = count.wrapping_add(1);
+        if count % 64 == 0 && (member.size.is_some() || member.duration.is_some()) {
+            checks.push(at)?;
+        }
     }
-    Ok(spot)
+    Ok(at)
+}
+
+/// Adds a run to a track, which has this number in the last of its parts. The answer is where the next one begins.
+fn add_run(
+    track: &mut PlainTrack,
+    number: usize,
+    run: &PlainRun,
+    values: &PlainValues,
+    first: Beginning,
+) -> Result<Beginning> {
+    let mut checks = Vec::new(*track.runs.allocator());
+    track.counts.push(track.added())?;
+    let end = add_samples(track, run, values, first, &mut checks)?;
+    track.runs.push(RunEntry {
+        at: first,
+        checks,
+        traf: track.parts.wrapping_sub(1),
+        run: number,
+    })?;
+    Ok(end)
 }
 
 /// Adds the runs of a part of a fragment, whose places count from a base, to its track. The answer is where its data ends.
 fn add_runs(track: &mut PlainTrack, part: &PlainPart, base: Option<u64>) -> Result<Option<u64>> {
-    track.is_named = true;
+    track.parts = track.parts.wrapping_add(1);
     let before = track.samples.len();
-    let mut spot = Spot {
+    let mut at = Beginning {
         place: base,
         time: part.time.or(track.end),
     };
-    for run in part.runs.as_slice() {
+    for (number, run) in part.runs.as_slice().iter().enumerate() {
         if let Some(offset) = run.data_offset {
-            spot.place = moved(base, offset);
+            at.place = moved(base, offset);
         }
-        spot = add_run(track, run, &part.values, spot)?;
+        at = add_run(track, number, run, &part.values, at)?;
     }
     if track.samples.len() > before {
-        track.end = spot.time;
+        track.end = at.time;
     }
-    Ok(spot.place)
+    Ok(at.place)
 }
 
 /// Adds a part of a fragment to its track. The answer is where its data ends.
@@ -268,8 +311,10 @@ fn unfragmented(
             id,
             values: values_of(defaults, id),
             end: Some(end_of(stbl.stts.entries.as_slice(), stbl.stsz.sample_count)),
-            is_named: false,
+            parts: 0,
             samples: Vec::new(alloc),
+            counts: Vec::new(alloc),
+            runs: Vec::new(alloc),
         })?;
     }
     Ok(tracks)

@@ -1,46 +1,124 @@
-//! Tracks of random tables, from fixed seeds: at each number the lookup answers as a walk over the tables does.
+//! Tracks of random tables, from fixed seeds: at each number both lookups answer as a walk over the tables
+//! does, and say how many numbers they compared.
 
 use crate::asked::are_same_refusal;
 use crate::asserts::check;
 use crate::tracks::holds_of;
-use crate::walked_lookup::walk;
-use mp4_codec::Result;
+use crate::walked_lookup::{WalkedPlace, walk};
+use mp4_boxes::StblBox;
+use mp4_codec::{Error, Result};
 use mp4_lookup::Mp4Track;
 use mp4_plain_movies::random::Random;
 use mp4_plain_movies::random_tables::{RandomTables, break_one, put_all};
+use mp4_samples::{Comparisons, SamplePlace};
 use std::alloc::Global;
 
-/// Whether the lookup and the walk answer the same at a number.
-fn agrees_at(track: &Mp4Track, k: u32) -> bool {
-    let stbl = &track.trak.mdia.minf.stbl;
-    match (track.locate(k), walk(stbl, 1, k)) {
+/// How many binary digits a number has.
+fn digits(number: usize) -> u32 {
+    usize::BITS.wrapping_sub(number.leading_zeros())
+}
+
+/// Whether a search by a guess among so many numbers may compare so many of them: one at least, if there is
+/// one.
+pub fn are_few(comparisons: u32, numbers: usize) -> bool {
+    (comparisons == 0) == (numbers == 0) && comparisons <= digits(numbers).wrapping_add(4)
+}
+
+/// The same of the numbers of stss. Numbers that don't strictly rise need not be compared.
+fn are_few_of_stss(comparisons: u32, stbl: &StblBox) -> bool {
+    match &stbl.stss {
+        None => comparisons == 0,
+        Some(stss) => {
+            let numbers = stss.entries.as_slice();
+            let rises = numbers.is_sorted_by(|number, next| number < next);
+            are_few(comparisons, numbers.len()) || !rises && comparisons == 0
+        }
+    }
+}
+
+/// Whether a lookup by a guess may compare so many numbers in each table of a track without fragments.
+fn all_are_few(comparisons: &Comparisons, stbl: &StblBox) -> bool {
+    let rendering_offsets = stbl.ctts.as_ref().map_or(0, |ctts| ctts.entries.len());
+    are_few(comparisons.stsc, stbl.stsc.entries.len())
+        && are_few(comparisons.stts, stbl.stts.entries.len())
+        && are_few(comparisons.ctts, rendering_offsets)
+        && are_few_of_stss(comparisons.stss, stbl)
+        && comparisons.runs == 0
+}
+
+/// Whether a lookup by a guess found the same place as the other, and read as many sums of sizes.
+fn is_same_place(guessed: &SamplePlace, place: &SamplePlace) -> bool {
+    *guessed
+        == SamplePlace {
+            comparisons: guessed.comparisons,
+            ..*place
+        }
+}
+
+/// Whether both refusals are equal, and their messages.
+fn are_equal_refusals(alloc: Global, one: &Error, other: &Error) -> Result<bool> {
+    let messages = format!(in alloc; "{one}")? == format!(in alloc; "{other}")?;
+    Ok(messages && one == other)
+}
+
+/// Whether both lookups answer the same.
+fn both_are_same(
+    alloc: Global,
+    stbl: &StblBox,
+    guessed: &Result<Option<SamplePlace>>,
+    answer: &Result<Option<SamplePlace>>,
+) -> bool {
+    match (guessed, answer) {
         (Ok(None), Ok(None)) => true,
-        (Ok(Some(place)), Ok(Some(walked))) => walked.is_same(&place),
-        (Err(one), Err(other)) => are_same_refusal(&one, &other),
+        (Ok(Some(guessed)), Ok(Some(place))) => {
+            is_same_place(guessed, place) && all_are_few(&guessed.comparisons, stbl)
+        }
+        (Err(one), Err(other)) => matches!(are_equal_refusals(alloc, one, other), Ok(true)),
         _ => false,
     }
 }
 
-/// Whether the lookup and the walk answer the same at each number up to behind the last.
-fn agrees(track: &Mp4Track, count: u32) -> bool {
-    let mut all = true;
-    for k in 0..=count.wrapping_add(3) {
-        all = all && agrees_at(track, k);
+/// Whether the lookup and the walk answer the same.
+fn is_as_walked(
+    answer: &Result<Option<SamplePlace>>,
+    walked: &Result<Option<WalkedPlace>>,
+) -> bool {
+    match (answer, walked) {
+        (Ok(None), Ok(None)) => true,
+        (Ok(Some(place)), Ok(Some(walked))) => walked.is_same(place),
+        (Err(one), Err(other)) => are_same_refusal(one, other),
+        _ => false,
     }
-    all && agrees_at(track, u32::MAX)
 }
 
-/// Whether the lookup answers as the walk does in tables that agree with each other.
+/// Whether both lookups and the walk answer the same at a number.
+fn agrees_at(alloc: Global, track: &Mp4Track, k: u32) -> bool {
+    let stbl = &track.trak.mdia.minf.stbl;
+    let answer = track.locate(k);
+    is_as_walked(&answer, &walk(stbl, 1, k))
+        && both_are_same(alloc, stbl, &track.locate_by_guess(k), &answer)
+}
+
+/// Whether both lookups and the walk answer the same at each number up to behind the last.
+fn agrees(alloc: Global, track: &Mp4Track, count: u32) -> bool {
+    let mut all = true;
+    for k in 0..=count.wrapping_add(3) {
+        all = all && agrees_at(alloc, track, k);
+    }
+    all && agrees_at(alloc, track, u32::MAX)
+}
+
+/// Whether both lookups answer as the walk does in tables that agree with each other.
 fn consistent_tables_agree(alloc: Global, seed: u64) -> Result<bool> {
     let mut random = Random::new(seed);
     let mut tables = RandomTables::new(alloc);
     let count = put_all(&mut tables, &mut random)?;
     holds_of(alloc, &tables.with(&mut random, count), |track| {
-        agrees(track, count)
+        agrees(alloc, track, count)
     })
 }
 
-/// Whether the lookup answers as the walk does in tables of which three changes were made.
+/// Whether both lookups answer as the walk does in tables of which three changes were made.
 fn broken_tables_agree(alloc: Global, seed: u64) -> Result<bool> {
     let mut random = Random::new(seed);
     let mut tables = RandomTables::new(alloc);
@@ -49,7 +127,7 @@ fn broken_tables_agree(alloc: Global, seed: u64) -> Result<bool> {
         break_one(&mut tables, &mut random, count)?;
     }
     holds_of(alloc, &tables.with(&mut random, count), |track| {
-        agrees(track, count)
+        agrees(alloc, track, count)
     })
 }
 

@@ -5,7 +5,7 @@
 use crate::asked::{is_held, lends};
 use crate::asserts::{check, same};
 use crate::reader_files::{FRAGMENTED, TextFile, file_of};
-use crate::tracks::{holds_of, text_samples_are_found};
+use crate::tracks::{first_and_third_are_sync, holds_of, text_samples_are_found};
 use crate::writer_calls::{config_of, make, media_track, writer_call};
 use crate::written::{modelled, standing};
 use mp4_codec::{Error, Result, Text, TryClone};
@@ -18,9 +18,10 @@ use mp4_plain_movies::calls::{Call, ISOM, Media, add_text, write_sync};
 use mp4_plain_movies::listed_calls::{five_calls, five_media, text_calls};
 use mp4_plain_movies::movie_bytes::{EMPTY_MOVIE, FRAGMENT, FULL_MOVIE, TEXT_MOVIE};
 use mp4_plain_movies::nested::nest;
-use mp4_plain_movies::plain_tables::TEXT;
+use mp4_plain_movies::plain_tables::{Offsets, TEXT, Tables, put_movie};
 use mp4_plain_movies::spelled::hex;
 use mp4_samples::{Mp4Sample, SampleRef};
+use mp4_script::samples_text;
 use std::alloc::Global;
 
 /// Prints that a request was refused, and answers whether the call said so.
@@ -337,9 +338,69 @@ fn found_again(rt: &HostRuntime) -> Result<bool> {
     }
 }
 
+/// Whether the sync samples of a track are found whose numbers don't rise in its stss; it is made again so.
+fn sync_samples_again(rt: &HostRuntime) -> Result<bool> {
+    let tables = Tables {
+        sync_samples: Some(&[3, 1, 3]),
+        ..TEXT
+    };
+    match holds_of(rt.alloc(), &tables, first_and_third_are_sync) {
+        Err(error) if is_refusal(rt, &error) => {
+            holds_of(rt.alloc(), &tables, first_and_third_are_sync)
+        }
+        answer => answer,
+    }
+}
+
 #[test]
 fn a_refused_track_is_made_again(rt: HostRuntime) {
-    check(&rt, 1, found_again(&rt));
+    check(&rt, "rising", found_again(&rt));
+    check(&rt, "falling", sync_samples_again(&rt));
+}
+
+/// The text track with its chunks at these places.
+fn placed(alloc: Global, offsets: &[u64]) -> Result<Vec<u8>> {
+    let tables = Tables {
+        offsets: Offsets::Far(offsets),
+        ..TEXT
+    };
+    let mut bytes = (&EMPTY_MOVIE[..48]).to_vec(alloc)?;
+    put_movie(alloc, &mut bytes, &tables)?;
+    Ok(bytes)
+}
+
+/// The file of that track, which is made again after a refusal.
+fn placed_again(rt: &HostRuntime, offsets: &[u64]) -> Result<Vec<u8>> {
+    match placed(rt.alloc(), offsets) {
+        Err(error) if is_refusal(rt, &error) => placed(rt.alloc(), offsets),
+        answer => answer,
+    }
+}
+
+/// The list of its samples, which is made again after a refusal.
+fn list_again(rt: &HostRuntime, offsets: &[u64]) -> Result<Vec<u8>> {
+    let bytes = placed_again(rt, offsets)?;
+    match samples_text(rt.alloc(), &bytes, 1) {
+        Err(error) if is_refusal(rt, &error) => samples_text(rt.alloc(), &bytes, 1),
+        answer => answer,
+    }
+}
+
+/// Whether the list of its samples has lines of two samples, and ends in this line.
+fn list_ends_in(rt: &HostRuntime, offsets: &[u64], last: &str) -> Result<bool> {
+    let list = list_again(rt, offsets)?;
+    let samples = b"1 48 3 0 500 0 1\n2 51 3 500 500 0 1\n";
+    Ok(list.strip_prefix(samples.as_slice()) == Some(last.as_bytes()))
+}
+
+#[test]
+fn a_refused_last_line_of_a_list_is_made_again(rt: HostRuntime) {
+    check(&rt, 1, list_ends_in(&rt, &[48], "3 none\n"));
+    check(
+        &rt,
+        2,
+        list_ends_in(&rt, &[48, 1_000_000], "3 end of data\n"),
+    );
 }
 
 /// What a track of these media is added with, which is made again after a refusal.

@@ -1,14 +1,16 @@
-//! What `{:?}` shows of tracks, of writers and of numbers that are searched: their types write it themselves, and it
-//! is what types of these fields alone show, which derive it.
+//! What `{:?}` shows of tracks, of writers and of numbers that are searched: their types write it themselves,
+//! and it is what types of these fields alone show, which derive it.
 
-use crate::asserts::check;
+use crate::asserts::{at_least, check};
+use crate::plain_fragments::{PlainTrack, RunEntry, written_out};
+use crate::random_fragments::random_file;
 use crate::tracks::holds_of;
 use mp4_boxes::{StblBox, TrakBox};
 use mp4_codec::{Items, Result};
 use mp4_fragments::SampleDefaults;
 use mp4_lookup::Mp4Track as Track;
-use mp4_media::TrafBox;
 use mp4_media::searching::{CappedSums, SearchedNumbers as Numbers};
+use mp4_media::{Mp4Reader, TrafBox, read_mp4};
 use mp4_plain_movies::random::Random;
 use mp4_plain_movies::random_tables::{RandomTables, break_one, put_all};
 use mp4_table::{CttsBox, CttsEntry, StssBox, SttsEntry};
@@ -36,14 +38,13 @@ struct TrackIndex {
 }
 
 #[derive(Debug, Drop)]
-struct RunIndex {
+struct RunIndex<'a> {
     counts: SearchedNumbers,
-    entries: Items<u32>,
+    entries: &'a [RunEntry],
     before: u32,
     total: u64,
 }
 
-/// A track without fragments.
 #[derive(Debug, Drop)]
 struct Mp4Track<'a> {
     trak: &'a TrakBox,
@@ -51,7 +52,7 @@ struct Mp4Track<'a> {
     default_sample_duration: u32,
     index: TrackIndex,
     defaults: SampleDefaults,
-    runs: RunIndex,
+    runs: RunIndex<'a>,
 }
 
 fn searched(numbers: Vec<u32>) -> SearchedNumbers {
@@ -154,34 +155,46 @@ fn index_of(alloc: Global, stbl: &StblBox) -> Result<TrackIndex> {
     })
 }
 
-/// The same track, of types that derive what is shown.
-fn derived(alloc: Global, track: &Track) -> Result<Mp4Track<'_>> {
+/// The same track, of types that derive what is shown, where the movie says these defaults of its fragments,
+/// which have these runs.
+fn derived<'a>(
+    alloc: Global,
+    track: &'a Track,
+    defaults: SampleDefaults,
+    runs: RunIndex<'a>,
+) -> Result<Mp4Track<'a>> {
     Ok(Mp4Track {
         trak: &track.trak,
         trafs: &track.trafs,
         default_sample_duration: track.default_sample_duration,
         index: index_of(alloc, &track.trak.mdia.minf.stbl)?,
-        defaults: SampleDefaults::none(),
-        runs: RunIndex {
-            counts: searched(Vec::new(alloc)),
-            entries: Items::new(alloc),
-            before: 0,
-            total: 0,
-        },
+        defaults,
+        runs,
     })
 }
 
-/// Whether a track without fragments is shown as the derived text shows it, on one line and on many.
-fn track_is_shown(alloc: Global, track: &Track) -> Result<bool> {
-    let derived = derived(alloc, track)?;
+/// Whether a track is shown as the derived text shows it, on one line and on many.
+fn is_shown_as(alloc: Global, track: &Track, derived: &Mp4Track) -> Result<bool> {
     Ok(
         format!(in alloc; "{track:?}")? == format!(in alloc; "{derived:?}")?
             && format!(in alloc; "{track:#?}")? == format!(in alloc; "{derived:#?}")?,
     )
 }
 
-/// Whether the track of a seed is shown so. Some of its tables are broken, and in some the ticks before a run pass 64
-/// bits.
+/// Whether a track without fragments is shown so.
+fn track_is_shown(alloc: Global, track: &Track) -> Result<bool> {
+    let runs = RunIndex {
+        counts: searched(Vec::new(alloc)),
+        entries: &[],
+        before: 0,
+        total: 0,
+    };
+    let derived = derived(alloc, track, SampleDefaults::none(), runs)?;
+    is_shown_as(alloc, track, &derived)
+}
+
+/// Whether the track of a seed is shown so. Some of its tables are broken, and in some the ticks before a run
+/// pass 64 bits.
 fn random_track_is_shown(alloc: Global, seed: u64) -> Result<bool> {
     let mut random = Random::new(seed);
     let mut tables = RandomTables::new(alloc);
@@ -199,6 +212,96 @@ fn three_hundred_tracks_are_shown_as_derived(rt: HostRuntime) {
     for seed in 0..300 {
         check(&rt, seed, random_track_is_shown(rt.alloc(), seed));
     }
+}
+
+/// What the movie says of the samples of a track's fragments.
+fn defaults_of(track: &PlainTrack) -> SampleDefaults {
+    SampleDefaults {
+        duration: track.values.duration.unwrap_or(0),
+        size: track.values.size.unwrap_or(0),
+        flags: track.values.flags.unwrap_or(0),
+    }
+}
+
+/// Whether a track is shown so whose fragments a plain program wrote out.
+fn fragments_are_shown(alloc: Global, track: &Track, plain: &PlainTrack) -> Result<bool> {
+    let counts = Vec::from_slice(alloc, plain.counts.as_slice())?;
+    let runs = RunIndex {
+        counts: searched(counts),
+        entries: plain.runs.as_slice(),
+        before: plain.added(),
+        total: u64::from(plain.added()),
+    };
+    let derived = derived(alloc, track, defaults_of(plain), runs)?;
+    is_shown_as(alloc, track, &derived)
+}
+
+/// How many runs of fragments are shown, and how many places are kept within them.
+#[derive(Clone, Copy)]
+struct Runs {
+    runs: u32,
+    checks: u32,
+}
+
+/// Adds how many there are to a count.
+fn add_length(count: &mut u32, length: usize) {
+    *count = count.wrapping_add(u32::try_from(length).unwrap_or(0));
+}
+
+impl Runs {
+    /// Counts the runs of a track.
+    fn add(&mut self, runs: &[RunEntry]) {
+        add_length(&mut self.runs, runs.len());
+        for run in runs {
+            add_length(&mut self.checks, run.checks.len());
+        }
+    }
+}
+
+/// Whether the track of a movie is shown so that a plain program wrote out.
+fn is_shown_in(alloc: Global, reader: &Mp4Reader, plain: &PlainTrack) -> Result<bool> {
+    match reader.tracks().get(&plain.id) {
+        None => Ok(false),
+        Some(track) => fragments_are_shown(alloc, track, plain),
+    }
+}
+
+/// Whether each track of a movie is shown so.
+fn all_are_shown(
+    alloc: Global,
+    reader: &Mp4Reader,
+    tracks: &[PlainTrack],
+    runs: &mut Runs,
+) -> Result<bool> {
+    let mut all = true;
+    for plain in tracks {
+        runs.add(plain.runs.as_slice());
+        all = all && is_shown_in(alloc, reader, plain)?;
+    }
+    Ok(all)
+}
+
+/// Whether the tracks of the random file of fragments of a seed are shown so.
+fn fragmented_tracks_are_shown(alloc: Global, seed: u64, runs: &mut Runs) -> Result<bool> {
+    let mut random = Random::new(seed);
+    let file = random_file(alloc, &mut random)?;
+    let reader = read_mp4(alloc, &file.bytes)?;
+    let traks = reader.moov.traks.as_slice();
+    let tracks = written_out(alloc, traks, &file.defaults, &file.fragments)?;
+    all_are_shown(alloc, &reader, &tracks, runs)
+}
+
+/// Runs of fragments are kept with where each begins, and in long ones each 64th sample that says a size or a
+/// duration.
+#[test]
+fn the_tracks_of_a_hundred_files_of_fragments_are_shown_as_derived(rt: HostRuntime) {
+    let mut runs = Runs { runs: 0, checks: 0 };
+    for seed in 0..100 {
+        let is_shown = fragmented_tracks_are_shown(rt.alloc(), seed, &mut runs);
+        check(&rt, seed, is_shown);
+    }
+    at_least(&rt, "runs", runs.runs, 100);
+    at_least(&rt, "places within runs", runs.checks, 20);
 }
 
 /// Whether so many random numbers, to be searched and as sums, are shown as derived.

@@ -1,5 +1,5 @@
-//! What `{:?}` shows of the tracks of a writer: their type writes it itself, and it is what a type of these fields
-//! alone shows, which derives it.
+//! What `{:?}` shows of the tracks of a writer: their type writes it itself, and it is what a type of these
+//! fields alone shows, which derives it.
 
 use crate::asserts::check;
 use crate::writer_calls::{config_of, media_track};
@@ -114,11 +114,39 @@ fn text_track(alloc: Global, timescale: u32) -> Result<TrackConfig> {
     Ok(config)
 }
 
-/// Whether the writer's text has that of its one track.
-fn track_is_shown(alloc: Global, writer: &Mp4Writer, derived: &TrackWriter) -> Result<bool> {
+/// A writer of one track, and nothing else of a writer: so the track is shown as far to the right.
+#[derive(Debug, Drop)]
+struct Writer<'a> {
+    tracks: [&'a TrackWriter; 1],
+}
+
+/// What is shown of a value between its braces.
+fn between_braces<'a>(shown: &'a str, before: &str, behind: &str) -> Option<&'a str> {
+    shown.strip_prefix(before)?.strip_suffix(behind)
+}
+
+/// Whether a text has what is shown of a value between its braces.
+fn has_shown(text: &str, shown: &str, before: &str, behind: &str) -> bool {
+    match between_braces(shown, before, behind) {
+        None => false,
+        Some(fields) => text.contains(fields),
+    }
+}
+
+/// Whether the writer's text has that of its one track, on one line.
+fn track_is_shown(alloc: Global, writer: &Mp4Writer, track: &TrackWriter) -> Result<bool> {
+    let derived = Writer { tracks: [track] };
     let shown = format!(in alloc; "{writer:?}")?;
-    let expected = format!(in alloc; "tracks: [{derived:?}]")?;
-    Ok(shown.contains(expected.as_str()))
+    let expected = format!(in alloc; "{derived:?}")?;
+    Ok(has_shown(shown.as_str(), expected.as_str(), "Writer { ", " }"))
+}
+
+/// The same on many lines.
+fn track_is_shown_on_lines(alloc: Global, writer: &Mp4Writer, track: &TrackWriter) -> Result<bool> {
+    let derived = Writer { tracks: [track] };
+    let shown = format!(in alloc; "{writer:#?}")?;
+    let expected = format!(in alloc; "{derived:#?}")?;
+    Ok(has_shown(shown.as_str(), expected.as_str(), "Writer {\n", "\n}"))
 }
 
 /// Writes a sample of both; the answer is where the data ends.
@@ -136,7 +164,8 @@ fn write_sample(
     Ok(end)
 }
 
-/// Whether the track of a seed is shown as derived after each of its samples.
+/// Whether the track of a seed is shown as derived after each of its samples, and on many lines after the
+/// last.
 fn is_shown_at_each(alloc: Global, seed: u64) -> Result<bool> {
     let mut random = Random::new(seed);
     let timescale = random.few().wrapping_mul(300);
@@ -157,12 +186,12 @@ fn is_shown_at_each(alloc: Global, seed: u64) -> Result<bool> {
         end = write_sample(&mut writer, &mut derived, &sample, end)?;
         all = track_is_shown(alloc, &writer, &derived)? && all;
     }
-    Ok(all)
+    Ok(all && track_is_shown_on_lines(alloc, &writer, &derived)?)
 }
 
 #[test]
-fn two_hundred_tracks_of_writers_are_shown_as_derived(rt: HostRuntime) {
-    for seed in 0..200 {
+fn a_hundred_tracks_of_writers_are_shown_as_derived(rt: HostRuntime) {
+    for seed in 0..100 {
         check(&rt, seed, is_shown_at_each(rt.alloc(), seed));
     }
 }

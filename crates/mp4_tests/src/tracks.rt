@@ -60,6 +60,24 @@ fn is_sync(track: &Mp4Track, k: u32) -> bool {
     }
 }
 
+/// Whether a sample is found by a guess, and is a sync sample.
+fn is_sync_by_guess(track: &Mp4Track, k: u32) -> bool {
+    match track.locate_by_guess(k) {
+        Ok(Some(place)) => place.is_sync,
+        _ => false,
+    }
+}
+
+/// Whether the first and the third of three samples are sync samples, and the second is none.
+pub fn first_and_third_are_sync(track: &Mp4Track) -> bool {
+    let mut all = found(track, 3).is_some();
+    for k in 1..=3 {
+        let expected = k != 2;
+        all = all && is_sync(track, k) == expected && is_sync_by_guess(track, k) == expected;
+    }
+    all
+}
+
 /// Whether the samples of `TEXT` are found where they lie.
 pub fn text_samples_are_found(track: &Mp4Track) -> bool {
     bytes_and_times(track, 1) == Some((48, 3, 0, 500))
