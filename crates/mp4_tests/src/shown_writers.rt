@@ -190,8 +190,8 @@ fn is_shown_at_each(alloc: Global, seed: u64) -> Result<bool> {
 }
 
 #[test]
-fn a_hundred_tracks_of_writers_are_shown_as_derived(rt: HostRuntime) {
-    for seed in 0..100 {
+fn two_hundred_tracks_of_writers_are_shown_as_derived(rt: HostRuntime) {
+    for seed in 0..200 {
         check(&rt, seed, is_shown_at_each(rt.alloc(), seed));
     }
 }
