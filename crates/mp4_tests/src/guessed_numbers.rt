@@ -17,11 +17,13 @@ use std::process::Abort;
 fn searched(numbers: Vec<u32>) -> Option<SearchedNumbers>
     ensures { IfSome result (λ s. IsNonDecreasing s) }
 {
-    if numbers.as_slice().is_sorted() {
-        Some(SearchedNumbers::new(numbers))
-    } else {
-        None
+    if !numbers.as_slice().is_sorted() {
+        return None;
     }
+    let mut numbers = numbers;
+    // They are in order: sorting moves none, and says so in its contract.
+    numbers.sort_unstable();
+    Some(SearchedNumbers::new(numbers))
 }
 
 /// What the search by halves finds, and how many numbers it compared.

@@ -213,7 +213,8 @@ fn add_run(
     first: Beginning,
 ) -> Result<Beginning> {
     let mut checks = Vec::new(*track.runs.allocator());
-    track.counts.push(track.added())?;
+    let before = track.added();
+    track.counts.push(before)?;
     let end = add_samples(track, run, values, first, &mut checks)?;
     track.runs.push(RunEntry {
         at: first,

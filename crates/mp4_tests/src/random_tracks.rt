@@ -113,7 +113,7 @@ fn consistent_tables_agree(alloc: Global, seed: u64) -> Result<bool> {
     let mut random = Random::new(seed);
     let mut tables = RandomTables::new(alloc);
     let count = put_all(&mut tables, &mut random)?;
-    holds_of(alloc, &tables.with(&mut random, count), |track| {
+    holds_of(alloc, &tables.with(&mut random, count), move |track| {
         agrees(alloc, track, count)
     })
 }
@@ -126,7 +126,7 @@ fn broken_tables_agree(alloc: Global, seed: u64) -> Result<bool> {
     for _ in 0..3 {
         break_one(&mut tables, &mut random, count)?;
     }
-    holds_of(alloc, &tables.with(&mut random, count), |track| {
+    holds_of(alloc, &tables.with(&mut random, count), move |track| {
         agrees(alloc, track, count)
     })
 }
