@@ -13,10 +13,11 @@ use crate::items::Items;
 /// Contracts see a number as a whole number without bounds, and know its range only where code reads it. A type says
 /// here once what holds of all its values, and a caller that needs it of one calls `in_range`, which does nothing else.
 pub trait InRange {
-    /// Each number of the value is within its type.
+    /// Each number of the value is within its type. Of a box it speaks neither of the flags, whose 24 bits are asked
+    /// where it is written, nor of bytes that it holds as they are, whose range no contract needs.
     ghost IsInRange: { Self → Type 0 };
 
-    /// Says that each number of the value is within its type.
+    /// Says that they are.
     fn in_range(&self)
         ensures { IsInRange self.now };
 }

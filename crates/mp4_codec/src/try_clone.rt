@@ -15,8 +15,8 @@ pub trait TryClone: Sized + Drop {
     fn try_clone(&self) -> Result<Self>
         ensures { Answers (λ x. x) result (Ok self.now) };
 
-    /// A list of equal values. It is refused by `OutOfMemory` alone. They are copied one after the other; numbers, codes
-    /// and entries of tables, which are copied by their bytes, all at once.
+    /// A list of equal values. It is refused by `OutOfMemory` alone. They are copied one after the other; numbers,
+    /// codes and entries of tables, which are copied by their bytes, all at once.
     fn try_clone_all(alloc: Global, values: &[Self]) -> Result<Items<Self>>
         ensures { Answers (λ x. x) result (Ok values.now) }
     {

@@ -3,8 +3,8 @@ use Rattle.std.specs.Prelude.{ℕ, ℤ, Bool}
 use Rattle.mp4_samples.specs.declared.sample.SamplePlace.{SamplePlace}
 
 -- what the tables say of a sample: the place of its first byte in the file, its size, when it is decoded (when those
--- before it have lasted, counted from the last decode time of a fragment, where there is one), how long it lasts, how many
--- ticks later than it is decoded it is shown, and whether it is a sync sample
+-- before it have lasted, counted from the last tfdt at or before it of a track fragment with samples, where there is
+-- one), how long it lasts, how many ticks later than it is decoded it is shown, and whether it is a sync sample
 pub record Place : Type 0 where
   pub offset : ℕ
   pub size : ℕ

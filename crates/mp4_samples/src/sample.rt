@@ -12,8 +12,8 @@ use mp4_codec::ExactEq;
 /// Times are in ticks of the track's timescale.
 #[derive(Debug, PartialEq, Eq, Drop)]
 pub struct Mp4Sample {
-    /// When it is decoded: when the samples before it have lasted, counted from the last decode time of a fragment
-    /// (`tfdt`), where there is one.
+    /// When it is decoded: when the samples before it have lasted, counted from the last `tfdt` at or before it of a
+    /// track fragment with samples, where there is one (ISO/IEC 14496-12, 8.6.1.2 and 8.8.12).
     pub start_time: u64,
     /// How long it lasts, until the next is decoded.
     pub duration: u32,
@@ -34,8 +34,8 @@ impl ExactEq for Mp4Sample {
 /// Times are in ticks of the track's timescale.
 #[derive(Debug, Clone, Copy, PartialEq, Eq)]
 pub struct SampleRef<'a> {
-    /// When it is decoded: when the samples before it have lasted, counted from the last decode time of a fragment
-    /// (`tfdt`), where there is one.
+    /// When it is decoded: when the samples before it have lasted, counted from the last `tfdt` at or before it of a
+    /// track fragment with samples, where there is one (ISO/IEC 14496-12, 8.6.1.2 and 8.8.12).
     pub start_time: u64,
     /// How long it lasts, until the next is decoded.
     pub duration: u32,
@@ -64,8 +64,8 @@ pub struct SamplePlace {
     pub offset: u64,
     /// How many bytes it has.
     pub size: u32,
-    /// When it is decoded: when the samples before it have lasted, counted from the last decode time of a fragment
-    /// (`tfdt`), where there is one.
+    /// When it is decoded: when the samples before it have lasted, counted from the last `tfdt` at or before it of a
+    /// track fragment with samples, where there is one (ISO/IEC 14496-12, 8.6.1.2 and 8.8.12).
     pub start_time: u64,
     /// How long it lasts, until the next is decoded.
     pub duration: u32,
@@ -92,8 +92,8 @@ pub struct Comparisons {
     pub stts: u32,
     /// Running counts of ctts.
     pub ctts: u32,
-    /// Numbers of stss; 0 where they don't strictly rise, since all are then looked at. A lookup by a guess looks at one
-    /// bit there, which counts as 1.
+    /// Numbers of stss; 0 where they don't strictly rise, since all are then looked at. A lookup by a guess looks at
+    /// one bit there, which counts as 1.
     pub stss: u32,
     /// Running counts of the runs of fragments, 0 for a sample of the movie box.
     pub runs: u32,
