@@ -2,8 +2,6 @@
 
 ghost use Rattle.std.specs.Prelude.{◌≡◌, ◌<◌, Some, length, IfOk, IfSome, OnSome, OnErr, ℕ, List};
 ghost use Rattle.std.specs.Option.{option_map};
-ghost use Rattle.mp4_codec.specs.ExactTest.{by_law, by_test, field_tests};
-ghost use Rattle.mp4_codec.specs.contracts.box_type.BoxTypeExactEq.TheImpl.Laws.{lawful as box_type_laws};
 ghost use Rattle.mp4_codec.specs.Cause.{Gives};
 ghost use Rattle.mp4_codec.specs.BoxType.{IsNamed};
 ghost use Rattle.mp4_codec.specs.Children.{child_box, child_at, next_of, next_at};
@@ -11,7 +9,6 @@ ghost use Rattle.mp4_codec.specs.Children.{child_box, child_at, next_of, next_at
 use crate::box_type::BoxType;
 use crate::cursor::ByteCursor;
 use crate::error::{Error, Result};
-use crate::exact_eq::ExactEq;
 use crate::header::{BoxHeader, HEADER_SIZE, OPEN_END};
 use std::marker::Model;
 
@@ -20,10 +17,6 @@ use std::marker::Model;
 pub struct Child<'a> {
     pub name: BoxType,
     pub payload: &'a [u8],
-}
-
-impl<'a> ExactEq for Child<'a> {
-    ghost exact = { by_test (Prim.hlevel (field_tests, by_law box_type_laws.exact)) };
 }
 
 /// The children of a payload, one after the other.

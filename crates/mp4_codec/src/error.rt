@@ -1,9 +1,6 @@
 //! Why a call is refused.
 
 ghost use denote.Enum.Bare.{same_true};
-ghost use Rattle.mp4_codec.specs.ExactTest.{by_law, by_test, exact_enum, field_tests};
-ghost use Rattle.mp4_codec.specs.contracts.box_type.BoxTypeExactEq.TheImpl.Laws.{lawful as box_type_laws};
-ghost use Rattle.mp4_codec.specs.contracts.error.Error.{the_type as errors};
 ghost use Rattle.mp4_codec.specs.contracts.error.Limit.{the_type as limits};
 ghost use Rattle.std.specs.Prelude.{◌≡◌};
 ghost use Rattle.mp4_codec.specs.declared.error.Error.TheVariants.{InvalidData, OutOfMemory};
@@ -105,10 +102,6 @@ pub enum Error {
     Unrepresentable(&'static str),
 }
 
-impl ExactEq for Error {
-    ghost exact = { exact_enum errors (Prim.search (field_tests, by_law box_type_laws.exact, by_law (same_true limits tt))) };
-}
-
 fn two_boxes<W: fmt::Write>(
     first: &BoxType,
     second: &BoxType,
@@ -180,10 +173,6 @@ impl<T: Drop> From<AllocFailed<T>> for Error {
 pub struct Malformed {
     /// For people; it may change.
     pub text: &'static str,
-}
-
-impl ExactEq for Malformed {
-    ghost exact = { by_test (Prim.hlevel field_tests) };
 }
 
 impl From<Malformed> for Error {
