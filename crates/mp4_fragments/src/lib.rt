@@ -13,6 +13,5 @@ mod values;
 pub use bases::{traf_base, traf_end};
 pub use defaults::SampleDefaults;
 pub use index::RunIndex;
-pub use lookup::FoundMember;
 pub use members::{Beginning, Member};
 pub use placing::index_of;

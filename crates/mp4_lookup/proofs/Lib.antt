@@ -1,3 +1,4 @@
 pub mod Times
 pub mod Searches
 pub mod Sums
+pub mod Counts

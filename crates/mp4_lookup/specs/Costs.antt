@@ -1,9 +1,10 @@
--- How many numbers a lookup compares and reads, and how few they are.
+-- What a lookup counts, and how few numbers it compares and reads.
 use Rattle.std.specs.Prelude.{◌≡◌, ℕ, ◌+◌, ◌-◌, ◌<◌, ◌≤◌, false, List, length, IsTrue, if◌then◌else◌}
 use Rattle.std.specs.List.Sorted.{IsStrictlyIncreasing}
 use Rattle.mp4_boxes.specs.declared.stbl.StblBox.{StblBox}
 use Rattle.mp4_fragments.specs.declared.index.RunIndex.{RunIndex}
 use Rattle.mp4_fragments.specs.Members.{PlacedRun}
+use Rattle.mp4_lookup.specs.declared.counters.Counters.{Counters}
 use Rattle.mp4_lookup.specs.declared.index.TrackIndex.{TrackIndex}
 use Rattle.mp4_samples.specs.declared.sample.Comparisons.{Comparisons}
 use Rattle.mp4_lookup.specs.declared.track.Mp4Track.{Mp4Track}
@@ -12,6 +13,54 @@ use Rattle.mp4_lookup.specs.Tracks.{is_of_movie}
 use Rattle.mp4_search.specs.Digits.{digits}
 use Rattle.mp4_search.specs.BitSet.{looks_at_bit}
 use Rattle.mp4_search.specs.Search.{IsCountByGuess, IsFew, IsFewByGuess, comparisons_in}
+use Rattle.mp4_search.specs.declared.bit_set.BitSet.{BitSet}
+
+-- nothing is read yet
+pub record AreFresh (c : Counters) : Type 0 where
+  pub stsc : c.stsc ≡ 0
+  pub stts : c.stts ≡ 0
+  pub ctts : c.ctts ≡ 0
+  pub stss : c.stss ≡ 0
+  pub runs : c.runs ≡ 0
+  pub sizes : c.sizes ≡ 0
+
+-- what was counted of the searches
+abbrev pub comparisons_counted : Counters → Comparisons
+comparisons_counted c = record { stsc = c.stsc; stts = c.stts; ctts = c.ctts; stss = c.stss; runs = c.runs }
+
+-- What the lookup of sample k counts, by a search that counts so in numbers that rise, and so in a set of bits: in each
+-- table one search, in stss where its numbers strictly rise, and else one look-up in the set; and nothing in the runs of
+-- fragments.
+pub record AreCounts (counts : List ℕ → ℕ → ℕ → Type 0) (looks : BitSet → ℕ → ℕ) (index : TrackIndex) (k : ℕ)
+    (c : Comparisons) : Type 0 where
+  pub stsc : counts index.first_samples k c.stsc
+  pub stts : counts index.stts_counts (k - 1) c.stts
+  pub ctts : counts index.ctts_counts (k - 1) c.ctts
+  pub stss : IsTrue index.sync_rises → counts index.sync_numbers k c.stss
+  pub unsorted : index.sync_rises ≡ false → c.stss ≡ looks index.sync_bits k
+  pub runs : c.runs ≡ 0
+
+-- the same for the sample with this number among those that fragments add: one search in the runs
+pub record AreMemberCounts (counts : List ℕ → ℕ → ℕ → Type 0) (index : RunIndex) (number : ℕ)
+    (c : Comparisons) : Type 0 where
+  pub stsc : c.stsc ≡ 0
+  pub stts : c.stts ≡ 0
+  pub ctts : c.ctts ≡ 0
+  pub stss : c.stss ≡ 0
+  pub runs : counts index.counts number c.runs
+
+-- the same for sample k of a track
+pub record AreTrackCounts (counts : List ℕ → ℕ → ℕ → Type 0) (looks : BitSet → ℕ → ℕ) (t : Mp4Track) (k : ℕ)
+    (c : Comparisons) : Type 0 where
+  pub tables : IsTrue (is_of_movie t.trak t.trafs k) → AreCounts counts looks t.index k c
+  pub added : is_of_movie t.trak t.trafs k ≡ false
+      → AreMemberCounts counts t.runs (k - (tables_of t.trak).stsz.sample_count - 1) c
+
+-- What the lookup of sample k of a track by a guess counts: in each table, or in the runs, the comparisons of one
+-- search, by halves or from some entry on; where the numbers of stss don't strictly rise, one look at the bit of k, and
+-- none where it has no bit.
+abbrev pub AreTrackCountsByGuess : Mp4Track → ℕ → Comparisons → Type 0
+AreTrackCountsByGuess = AreTrackCounts IsCountByGuess looks_at_bit
 
 -- how many numbers of stss `locate` compares with k: none where they don't strictly rise, since all are then looked at
 abbrev pub sync_comparisons : TrackIndex → ℕ → ℕ
@@ -47,24 +96,6 @@ pub record AreFew (t : StblBox) (c : Comparisons) : Type 0 where
   pub stss : IsStrictlyIncreasing (sync_numbers t.stss) → IsFew c.stss (length (sync_numbers t.stss))
   pub unsorted : (IsStrictlyIncreasing (sync_numbers t.stss) → ⊥) → c.stss ≡ 0
   pub runs : c.runs ≡ 0
-
--- How many numbers the lookup of sample k by a guess compares: in each table those of one search, by halves or from
--- some entry on. Where the numbers of stss don't strictly rise, one look at the bit of k, and none where it has no bit,
--- since all numbers are then looked at.
-pub record AreCountsByGuess (index : TrackIndex) (k : ℕ) (c : Comparisons) : Type 0 where
-  pub stsc : IsCountByGuess index.first_samples k c.stsc
-  pub stts : IsCountByGuess index.stts_counts (k - 1) c.stts
-  pub ctts : IsCountByGuess index.ctts_counts (k - 1) c.ctts
-  pub stss : IsTrue index.sync_rises → IsCountByGuess index.sync_numbers k c.stss
-  pub unsorted : index.sync_rises ≡ false → c.stss ≡ looks_at_bit index.sync_bits k
-  pub runs : c.runs ≡ 0
-
--- how many numbers the lookup of sample k of a track by a guess compares: those of one search in the runs, where a
--- fragment adds the sample
-pub record AreTrackCountsByGuess (t : Mp4Track) (k : ℕ) (c : Comparisons) : Type 0 where
-  pub tables : IsTrue (is_of_movie t.trak t.trafs k) → AreCountsByGuess t.index k c
-  pub runs : is_of_movie t.trak t.trafs k ≡ false
-      → IsCountByGuess t.runs.counts (k - (tables_of t.trak).stsz.sample_count - 1) c.runs
 
 -- In each table at most four comparisons more than the number of its entries has binary digits, and at least one if it
 -- has an entry; in stss where it strictly rises, and at most one where it doesn't. No run of a fragment is looked at.

@@ -1,11 +1,11 @@
 //! What is kept beside the tables of a track, so that its samples are found fast.
 
-ghost use Rattle.std.specs.Prelude.{◌≡◌, ℕ, ◌-◌, ◌*◌, ◌^◌, ◌<◌, ◌↔◌, min, IfOk, OnOk, IsTrue};
+ghost use Rattle.std.specs.Prelude.{◌≡◌, ℕ, ◌-◌, ◌*◌, ◌^◌, ◌<◌, ◌↔◌, false, min, IfOk, OnOk, IsTrue};
 ghost use Rattle.mp4_lookup.specs.Sums.{SizesBefore};
 ghost use Rattle.std.specs.List.{All};
 ghost use Rattle.std.specs.List.Sorted.{IsStrictlyIncreasing};
 ghost use Rattle.mp4_samples.specs.Tables.{ctts_runs, sync_numbers};
-ghost use Rattle.mp4_search.specs.BitSet.{AreBitsOf};
+ghost use Rattle.mp4_search.specs.BitSet.{AreBitsOf, KnowsUpTo};
 ghost use Rattle.mp4_search.specs.Sums.{SumsBefore64};
 ghost use Rattle.mp4_lookup.specs.Index.{IsIndexOf};
 
@@ -165,18 +165,20 @@ fn rises(numbers: &[u32]) -> bool
 /// How many bits a set of numbers has at most for each of them: so many that it takes no more memory than they do.
 const BITS_A_NUMBER: usize = 32;
 
-/// A bit for each number of stss, in a track that lists the sizes of so many samples, unless the numbers rise:
+/// The numbers of stss by a bit for each, in a track that lists the sizes of so many samples, unless the numbers rise:
 /// then nothing, and no memory is taken.
 ///
-/// Each sample with a listed size has its bit, and so has each number up to 32 times as many as stss has. So
-/// the bits take at most as much memory as stss, or a bit for each size, and two passes over stss make them.
+/// It is known of each sample with a listed size whether it is one of them, and of each number up to 32 times as many
+/// as stss has. So the bits take at most as much memory as stss, or a bit for each size, and two passes over stss make
+/// them.
 fn bits_unless(
     rises: bool,
     alloc: Global,
     numbers: &[u32],
     sizes: usize,
 ) -> Result<BitSet, AllocError>
-    ensures { IfOk result (AreBitsOf numbers.now) }
+    ensures bits { IfOk result (AreBitsOf numbers.now) }
+    ensures known { rises ≡ false → IfOk result (KnowsUpTo sizes) }
 {
     if rises {
         return Ok(BitSet::new(alloc));

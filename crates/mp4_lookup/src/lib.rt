@@ -4,7 +4,7 @@
 #![tactic(auto)]
 
 mod codec;
-mod guess;
+mod counters;
 mod headers;
 mod index;
 mod kind;

@@ -1,24 +1,28 @@
 //! Where the samples of a track lie, by their numbers: those of the movie box first, then those that fragments add
 //! (ISO/IEC 14496-12, 8.6, 8.7 and 8.8).
 
-ghost use Rattle.std.specs.Prelude.{◌≡◌, ◌-◌, ◌^◌, ◌<◌, true, false, length, min, option_map, slice_get};
+ghost use Rattle.std.specs.Prelude.{◌≡◌, ◌-◌, ◌^◌, ◌<◌, false, length, min, option_map, slice_get};
 ghost use Rattle.std.specs.Prelude.{IfOk, IfSome, IsTrue};
 ghost use Rattle.mp4_codec.specs.Cause.{Gives};
 ghost use Rattle.mp4_fragments.specs.Members.{all_members};
 ghost use Rattle.mp4_samples.specs.Places.{place_of};
 ghost use Rattle.mp4_samples.specs.Plain.{Consistent, plain_at};
-ghost use Rattle.mp4_lookup.specs.Costs.{AreFew, AreFewForMember, AreFewSizeReads, comparisons_in_runs, comparisons_of};
+ghost use Rattle.mp4_lookup.specs.Costs.{AreFew, AreFewForMember, AreFewSizeReads, comparisons_of};
 ghost use Rattle.mp4_lookup.specs.Costs.{AreFewByGuess, AreFewForMemberByGuess, AreTrackCountsByGuess};
+ghost use Rattle.mp4_lookup.specs.Costs.{AreFresh, AreMemberCounts, AreTrackCounts};
 ghost use Rattle.mp4_samples.specs.Tables.{tables_of};
-ghost use Rattle.mp4_search.specs.Search.{IsCountByGuess};
 ghost use Rattle.mp4_lookup.specs.Tracks.{is_of_movie, member_place, answer_at};
 ghost use Rattle.mp4_lookup.specs.TrackRuns.{track_runs};
 
-use crate::guess::place_by_guess;
+use crate::counters::Counters;
 use crate::locate::place_at;
 use crate::track::Mp4Track;
 use mp4_codec::{Error, Result};
-use mp4_samples::{Comparisons, SamplePlace};
+use mp4_samples::SamplePlace;
+use mp4_search::{ByGuess, ByHalves, LookedUp, Search};
+
+/// Only what is asked of a whole track begins with counters of its own.
+impl LookedUp for Mp4Track {}
 
 impl Mp4Track {
     /// Where sample `k` of the track lies, and when it is decoded and shown; samples are numbered from 1: first those of
@@ -39,7 +43,7 @@ impl Mp4Track {
         ensures size_reads { IsTrue (is_of_movie self.now.trak self.now.trafs k) → IfOk result (λ p. IfSome p (λ p. AreFewSizeReads (tables_of self.now.trak) p.size_reads)) }
         ensures added { is_of_movie self.now.trak self.now.trafs k ≡ false → IfOk result (λ p. IfSome p (λ p. AreFewForMember (track_runs self.now) p.comparisons × (p.size_reads ≡ 0))) }
     {
-        self.answer(k, false)
+        self.answer::<ByHalves>(k)
     }
 
     /// What [`locate`](Mp4Track::locate) answers, mostly found faster: in a table of more than a few entries, which
@@ -47,8 +51,9 @@ impl Mp4Track {
     ///
     /// The comparisons are those of the search that was made: in each table at least one where it has an entry, and at
     /// most four more than the number of its entries has binary digits. Where the numbers of stss don't strictly rise,
-    /// a bit says whether the sample is one of them, which counts as one comparison; where `k` has no bit, being far
-    /// above them, all are looked at, as `locate` does, and count as none.
+    /// a bit says whether the sample is one of them, which counts as one comparison. Where `k` has no bit, it is above
+    /// all of them; or, where one of them lies past all bits, all are looked at, as `locate` does. Neither counts as a
+    /// comparison.
     ///
     /// Refused as `locate`, with the same errors.
     pub fn locate_by_guess(&self, k: u32) -> Result<Option<SamplePlace>>
@@ -59,58 +64,45 @@ impl Mp4Track {
         ensures size_reads { IsTrue (is_of_movie self.now.trak self.now.trafs k) → IfOk result (λ p. IfSome p (λ p. AreFewSizeReads (tables_of self.now.trak) p.size_reads)) }
         ensures added { is_of_movie self.now.trak self.now.trafs k ≡ false → IfOk result (λ p. IfSome p (λ p. AreFewForMemberByGuess (track_runs self.now) p.comparisons × (p.size_reads ≡ 0))) }
     {
-        self.answer(k, true)
+        self.answer::<ByGuess>(k)
     }
 
-    /// The answer of `locate` and of `locate_by_guess`.
+    /// The answer at a number, by a way of searching.
     #[inline(always)]
-    #[tactic(auto, unfolding(crate::specs::Tracks::answer_at, crate::specs::Costs::comparisons_of))]
-    fn answer(&self, k: u32, by_guess: bool) -> Result<Option<SamplePlace>>
+    #[tactic(auto, unfolding(crate::specs::Tracks::answer_at))]
+    fn answer<S: Search>(&self, k: u32) -> Result<Option<SamplePlace>>
         ensures rule { Gives (λ p. option_map place_of p) result (answer_at self.now.trak self.now.trafs (track_runs self.now) k) }
-        ensures counted { by_guess ≡ false → IfOk result (λ p. IfSome p (λ p. p.comparisons ≡ comparisons_of self.now k)) }
-        ensures comparisons { by_guess ≡ false → IsTrue (is_of_movie self.now.trak self.now.trafs k) → IfOk result (λ p. IfSome p (λ p. AreFew (tables_of self.now.trak) p.comparisons)) }
-        ensures near_counted { by_guess ≡ true
-            → IfOk result (λ p. IfSome p (λ p. AreTrackCountsByGuess self.now k p.comparisons)) }
-        ensures near { by_guess ≡ true → IsTrue (is_of_movie self.now.trak self.now.trafs k)
-            → IfOk result (λ p. IfSome p (λ p. AreFewByGuess (tables_of self.now.trak) p.comparisons)) }
+        ensures counted { IfOk result (λ p. IfSome p (λ p. AreTrackCounts S.Counts S.looks self.now k p.comparisons)) }
         ensures size_reads { IsTrue (is_of_movie self.now.trak self.now.trafs k) → IfOk result (λ p. IfSome p (λ p. AreFewSizeReads (tables_of self.now.trak) p.size_reads)) }
-        ensures added { by_guess ≡ false → is_of_movie self.now.trak self.now.trafs k ≡ false → IfOk result (λ p. IfSome p (λ p. AreFewForMember (track_runs self.now) p.comparisons × (p.size_reads ≡ 0))) }
-        ensures added_near { is_of_movie self.now.trak self.now.trafs k ≡ false → IfOk result (λ p. IfSome p (λ p. AreFewForMemberByGuess (track_runs self.now) p.comparisons × (p.size_reads ≡ 0))) }
+        ensures added { is_of_movie self.now.trak self.now.trafs k ≡ false
+            → IfOk result (λ p. IfSome p (λ p. (0 < length (track_runs self.now)) × (p.size_reads ≡ 0))) }
     {
+        let counters = Counters::of(self);
         let stbl = &self.trak.mdia.minf.stbl;
         if self.trafs.is_empty() || k <= stbl.stsz.sample_count {
-            let track_id = self.trak.tkhd.track_id;
-            if by_guess {
-                place_by_guess(stbl, &self.index, track_id, k)
-            } else {
-                place_at(stbl, &self.index, track_id, k)
-            }
+            place_at::<S>(stbl, &self.index, self.trak.tkhd.track_id, k, counters)
         } else {
-            self.added_at(k - stbl.stsz.sample_count - 1, by_guess)
+            self.added_at::<S>(k - stbl.stsz.sample_count - 1, counters)
         }
     }
 
     /// Where the sample with this number lies among those that fragments add; it counts from 0.
     #[inline(always)]
-    fn added_at(&self, number: u32, by_guess: bool) -> Result<Option<SamplePlace>>
-        requires { number < 2 ^ 32 - 1 }
+    fn added_at<S: Search>(&self, number: u32, counters: Counters) -> Result<Option<SamplePlace>>
+        requires number { number < 2 ^ 32 - 1 }
+        requires fresh { AreFresh counters }
         ensures rule { Gives (λ p. option_map place_of p) result (member_place (slice_get (all_members (track_runs self.now)) number)) }
-        ensures counted { by_guess ≡ false → IfOk result (λ p. IfSome p (λ p. p.comparisons ≡ comparisons_in_runs self.now.runs number)) }
-        ensures comparisons { by_guess ≡ false → IfOk result (λ p. IfSome p (λ p. AreFewForMember (track_runs self.now) p.comparisons)) }
-        ensures near_counted { IfOk result (λ p. IfSome p (λ p. IsCountByGuess self.now.runs.counts number p.comparisons.runs)) }
-        ensures near { IfOk result (λ p. IfSome p (λ p. AreFewForMemberByGuess (track_runs self.now) p.comparisons)) }
+        ensures counted { IfOk result (λ p. IfSome p (λ p. AreMemberCounts S.Counts self.now.runs number p.comparisons)) }
+        ensures some_runs { IfOk result (λ p. IfSome p (λ p. 0 < length (track_runs self.now))) }
         ensures size_reads { IfOk result (λ p. IfSome p (λ p. p.size_reads ≡ 0)) }
     {
+        let mut counters = counters;
         let trafs = self.trafs.as_slice();
-        let found = if by_guess {
-            self.runs.find_by_guess(trafs, self.defaults, number)
-        } else {
-            self.runs.find(trafs, self.defaults, number)
-        };
-        let Some(found) = found else {
+        let Some(member) = self
+            .runs
+            .find::<S>(trafs, self.defaults, number, &mut counters.runs) else {
             return Ok(None);
         };
-        let member = found.member;
         let (Some(offset), Some(start_time)) = (member.at.place, member.at.time) else {
             return Err(Error::InvalidData("a sample of a fragment has no place or no time"));
         };
@@ -121,14 +113,8 @@ impl Mp4Track {
             duration: member.duration,
             rendering_offset: member.rendering_offset,
             is_sync: member.is_sync,
-            comparisons: Comparisons {
-                stsc: 0,
-                stts: 0,
-                ctts: 0,
-                stss: 0,
-                runs: found.comparisons,
-            },
-            size_reads: 0,
+            comparisons: counters.comparisons(),
+            size_reads: counters.sizes.count(),
         }))
     }
 

@@ -2,10 +2,10 @@
 //! 8.7.3 to 8.7.5).
 
 ghost use Rattle.mp4_codec.specs.ExactTest.{by_test, field_tests};
-ghost use Rattle.std.specs.Prelude.{◌≡◌, ℕ, ◌+◌, ◌-◌, ◌^◌, ◌<◌, ◌≤◌, false, map, length, sum, slice_get, slice_range, option_map, IfOk, IfSome, OnOk};
+ghost use Rattle.std.specs.Prelude.{◌≡◌, ◌+◌, ◌-◌, ◌^◌, ◌<◌, ◌≤◌, map, length, sum, slice_get, slice_range};
+ghost use Rattle.std.specs.Prelude.{option_map, IfOk, IfSome, OnOk};
 ghost use Rattle.mp4_codec.specs.Cause.{Gives};
 ghost use Rattle.mp4_table.specs.Stsc.{HasFirstSamples};
-ghost use Rattle.mp4_search.specs.Search.{IsCountByGuess, IsFew, IsFewByGuess, comparisons_in};
 ghost use Rattle.mp4_search.specs.Sums.{SumsBefore64};
 ghost use Rattle.std.specs.List.{All};
 ghost use Rattle.mp4_samples.specs.Tables.{chunk_offsets, sizes};
@@ -16,55 +16,48 @@ ghost use Rattle.mp4_lookup.specs.Rule.{entry_for, chunk_for, within_64_bits, sp
 use crate::index::TrackIndex;
 use mp4_boxes::StblBox;
 use mp4_codec::{Error, ExactEq, Result};
-use mp4_search::{CappedSums, SearchedNumbers, last_at_most_by};
+use mp4_search::{CappedSums, Readings, Search, SearchedNumbers};
 use mp4_table::{StscEntry, StszBox};
 
-/// Where a sample lies, and what it cost to find it.
+/// Where a sample lies.
 #[derive(Clone, Copy, Debug, PartialEq, Eq)]
 pub struct Spot {
     pub offset: u64,
     pub size: u32,
-    pub comparisons: u32,
-    pub size_reads: u32,
 }
 
 impl ExactEq for Spot {
     ghost exact = { by_test (Prim.hlevel field_tests) };
 }
 
-/// The last entry whose first sample is at most `k`, and how many comparisons found it, of a search by halves or by a
-/// guess.
+/// The last entry whose first sample is at most `k`.
 #[inline(always)]
 #[tactic(auto, unfolding(crate::specs::Rule::entry_for))]
-fn entry_at(
+fn entry_at<S: Search>(
     entries: &[StscEntry],
     first_samples: &SearchedNumbers,
     k: u32,
-    by_guess: bool,
-) -> Result<(StscEntry, u32)>
+    readings: &mut Readings,
+) -> Result<StscEntry>
     requires firsts { HasFirstSamples entries.now }
     requires index { first_samples.now ≡ map (λ e. e.first_sample) entries.now }
-    ensures entry { Gives (λ x. x.0) result (entry_for entries.now k) }
+    requires fresh { readings.old ≡ 0 }
+    ensures entry { Gives (λ entry. entry) result (entry_for entries.now k) }
     ensures counts { OnOk result (1 ≤ k) }
-    ensures usable { IfOk result (λ x. (1 ≤ x.0.first_sample) × (x.0.first_sample ≤ k) × (1 ≤ x.0.samples_per_chunk)) }
-    ensures counted { by_guess ≡ false → IfOk result (λ x. x.1 ≡ comparisons_in first_samples.now k) }
-    ensures few { by_guess ≡ false → IfOk result (λ x. IsFew x.1 (length entries.now)) }
-    ensures near_counted { IfOk result (λ x. IsCountByGuess first_samples.now k x.1) }
-    ensures near { IfOk result (λ x. IsFewByGuess x.1 (length entries.now)) }
+    ensures usable { IfOk result (λ e. (1 ≤ e.first_sample) × (e.first_sample ≤ k) × (1 ≤ e.samples_per_chunk)) }
+    ensures counted { OnOk result (S.Counts first_samples.now k readings.new) }
 {
     if k == 0 {
         return Err(Error::InvalidData("samples are numbered from 1"));
     }
-    let (found, readings) = last_at_most_by(first_samples, k, by_guess);
-    let comparisons = readings.count();
-    let Some(found) = found else {
+    let Some(found) = S::last_at_most(first_samples, k, readings) else {
         return Err(Error::InvalidData("stsc has no entry for the sample"));
     };
     let entry = entries[found.index];
     if entry.samples_per_chunk == 0 {
         return Err(Error::InvalidData("stsc has a chunk of no samples"));
     }
-    Ok((entry, comparisons))
+    Ok(entry)
 }
 
 /// The chunk of sample `k`, which counts from 1.
@@ -112,23 +105,29 @@ fn size_at(stsz: &StszBox, k: u32) -> Option<u32>
     }
 }
 
-/// The sum of the sizes of the samples from `first` up to `k`, and how many running sums were read.
+/// The sum of the sizes of the samples from `first` up to `k`.
 #[tactic(auto, unfolding(mp4_samples::specs::Tables::sizes))]
-fn size_between(stsz: &StszBox, sums: &CappedSums, first: u32, k: u32) -> (u64, u32)
+fn size_between(
+    stsz: &StszBox,
+    sums: &CappedSums,
+    first: u32,
+    k: u32,
+    readings: &mut Readings,
+) -> u64
     requires from { 1 ≤ first }
     requires to { first ≤ k }
     requires there { k ≤ length (sizes stsz.now k) }
     requires sums { SumsBefore64 (λ s. s) stsz.now.sample_sizes sums.now }
     requires small { All (λ s. s < 2 ^ 32) stsz.now.sample_sizes }
-    ensures sum { result.0 ≡ sum (slice_range (sizes stsz.now k) (first - 1) (k - 1)) }
-    ensures one_size { 0 < stsz.now.sample_size → result.1 ≡ 0 }
-    ensures listed { stsz.now.sample_size ≡ 0 → result.1 ≡ 2 }
+    requires fresh { readings.old ≡ 0 }
+    ensures sum { result ≡ sum (slice_range (sizes stsz.now k) (first - 1) (k - 1)) }
+    ensures one_size { 0 < stsz.now.sample_size → readings.new ≡ 0 }
+    ensures listed { stsz.now.sample_size ≡ 0 → readings.new ≡ 2 }
 {
     if stsz.sample_size > 0 {
-        return (u64::from(k - first) * u64::from(stsz.sample_size), 0);
+        return u64::from(k - first) * u64::from(stsz.sample_size);
     }
-    let (sum, readings) = sums.between(first as usize - 1, k as usize - 1);
-    (sum, readings.count())
+    sums.between(first as usize - 1, k as usize - 1, readings)
 }
 
 /// A place, if it is within 64 bits: so many bytes behind the beginning of a chunk.
@@ -141,21 +140,22 @@ fn place_within(chunk_offset: u64, earlier: u64) -> Result<u64>
     }
 }
 
-/// Where sample `k` lies, and its size, by its entry of stsc, which so many comparisons found.
+/// Where sample `k` lies, and its size, by its entry of stsc.
 fn spot_by(
     stbl: &StblBox,
-    index: &TrackIndex,
+    sums: &CappedSums,
     entry: &StscEntry,
-    comparisons: u32,
     k: u32,
+    readings: &mut Readings,
 ) -> Result<Option<Spot>>
-    requires index { IsIndexOf stbl.now index.now }
+    requires sums { SumsBefore64 (λ s. s) stbl.now.stsz.sample_sizes sums.now }
+    requires small { All (λ s. s < 2 ^ 32) stbl.now.stsz.sample_sizes }
     requires from { 1 ≤ entry.now.first_sample }
     requires to { entry.now.first_sample ≤ k }
     requires some { 1 ≤ entry.now.samples_per_chunk }
+    requires fresh { readings.old ≡ 0 }
     ensures spot { Gives (λ s. option_map (λ s. (s.offset, s.size)) s) result (spot_by stbl.now entry.now k) }
-    ensures comparisons { IfOk result (λ s. IfSome s (λ s. s.comparisons ≡ comparisons)) }
-    ensures size_reads { IfOk result (λ s. IfSome s (λ s. AreFewSizeReads stbl.now s.size_reads)) }
+    ensures size_reads { IfOk result (λ s. IfSome s (λ s. AreFewSizeReads stbl.now readings.new)) }
 {
     let chunk = chunk_of(entry, k)?;
     let Some(chunk_offset) = chunk_offset_at(stbl, chunk) else {
@@ -165,55 +165,35 @@ fn spot_by(
         return Ok(None);
     };
     let first = k - (k - entry.first_sample) % entry.samples_per_chunk;
-    let (earlier, size_reads) = size_between(&stbl.stsz, &index.size_sums, first, k);
+    let earlier = size_between(&stbl.stsz, sums, first, k, readings);
     let offset = place_within(chunk_offset, earlier)?;
-    Ok(Some(Spot {
-        offset,
-        size,
-        comparisons,
-        size_reads,
-    }))
+    Ok(Some(Spot { offset, size }))
 }
 
 /// Where sample `k` lies, and its size.
-#[tactic(auto, unfolding(crate::specs::Rule::spot_at))]
-pub fn spot_at(stbl: &StblBox, index: &TrackIndex, k: u32) -> Result<Option<Spot>>
-    requires firsts { HasFirstSamples stbl.now.stsc.entries }
-    requires index { IsIndexOf stbl.now index.now }
-    ensures spot { Gives (λ s. option_map (λ s. (s.offset, s.size)) s) result (spot_at stbl.now k) }
-    ensures counts { OnOk result (1 ≤ k) }
-    ensures counted { IfOk result (λ s. IfSome s (λ s. s.comparisons ≡ comparisons_in index.now.first_samples k)) }
-    ensures few { IfOk result (λ s. IfSome s (λ s. IsFew s.comparisons (length stbl.now.stsc.entries))) }
-    ensures size_reads { IfOk result (λ s. IfSome s (λ s. AreFewSizeReads stbl.now s.size_reads)) }
-{
-    searched_spot(stbl, index, k, false)
-}
-
-/// The answer of `spot_at`, of a search by halves or by a guess.
 #[inline(always)]
 #[tactic(auto, unfolding(crate::specs::Rule::spot_at))]
-pub fn searched_spot(
+pub fn spot_at<S: Search>(
     stbl: &StblBox,
     index: &TrackIndex,
     k: u32,
-    by_guess: bool,
+    entries: &mut Readings,
+    sizes: &mut Readings,
 ) -> Result<Option<Spot>>
     requires firsts { HasFirstSamples stbl.now.stsc.entries }
     requires index { IsIndexOf stbl.now index.now }
+    requires fresh_entries { entries.old ≡ 0 }
+    requires fresh_sizes { sizes.old ≡ 0 }
     ensures spot { Gives (λ s. option_map (λ s. (s.offset, s.size)) s) result (spot_at stbl.now k) }
     ensures counts { OnOk result (1 ≤ k) }
-    ensures counted { by_guess ≡ false → IfOk result (λ s. IfSome s (λ s. s.comparisons ≡ comparisons_in index.now.first_samples k)) }
-    ensures few { by_guess ≡ false → IfOk result (λ s. IfSome s (λ s. IsFew s.comparisons (length stbl.now.stsc.entries))) }
-    ensures near_counted { IfOk result
-        (λ s. IfSome s (λ s. IsCountByGuess index.now.first_samples k s.comparisons)) }
-    ensures near { IfOk result (λ s. IfSome s (λ s. IsFewByGuess s.comparisons (length stbl.now.stsc.entries))) }
-    ensures size_reads { IfOk result (λ s. IfSome s (λ s. AreFewSizeReads stbl.now s.size_reads)) }
+    ensures counted { OnOk result (S.Counts index.now.first_samples k entries.new) }
+    ensures size_reads { IfOk result (λ s. IfSome s (λ s. AreFewSizeReads stbl.now sizes.new)) }
 {
-    let (entry, comparisons) = entry_at(
+    let entry = entry_at::<S>(
         stbl.stsc.entries.as_slice(),
         &index.first_samples,
         k,
-        by_guess,
+        entries,
     )?;
-    spot_by(stbl, index, &entry, comparisons, k)
+    spot_by(stbl, &index.size_sums, &entry, k, sizes)
 }

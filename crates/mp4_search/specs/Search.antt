@@ -85,13 +85,19 @@ comparisons_from numbers key i =
     let near = after_looks_near numbers key i in
     near.compared + comparisons_between (near.high - near.low) numbers key near.low near.high
 
--- so many comparisons a search by halves makes, or a search from some place on
-pub record IsCountByGuess (numbers : List ℕ) (key n : ℕ) : Type 0 where
-  pub searched : (n ≡ comparisons_in numbers key)
-      ⊎ ((i : ℕ) × (i < length numbers) × (n ≡ comparisons_from numbers key i))
-
 -- So many comparisons in a table of n entries, by a guess: at most four more than n has binary digits, and at least one
 -- if it has an entry.
 pub record IsFewByGuess (comparisons n : ℕ) : Type 0 where
   pub most : comparisons ≤ digits n + 4
   pub some : 0 < n → 1 ≤ comparisons
+
+-- so many comparisons a search by halves makes
+pub record IsCountByHalves (numbers : List ℕ) (key n : ℕ) : Type 0 where
+  pub searched : n ≡ comparisons_in numbers key
+  pub few : IsFew n (length numbers)
+
+-- so many comparisons a search by halves makes, or a search from some place on
+pub record IsCountByGuess (numbers : List ℕ) (key n : ℕ) : Type 0 where
+  pub searched : (n ≡ comparisons_in numbers key)
+      ⊎ ((i : ℕ) × (i < length numbers) × (n ≡ comparisons_from numbers key i))
+  pub few : IsFewByGuess n (length numbers)

@@ -1,11 +1,11 @@
-//! Which numbers below a bound are among some numbers, by a bit for each.
+//! Which numbers are among some numbers, by a bit for each of those below a bound.
 
-ghost use Rattle.std.specs.Prelude.{◌≡◌, ℕ, ◌+◌, ◌-◌, ◌*◌, ◌^◌, ◌<◌, ◌==◌, ◌||◌, [], length, IfOk, slice_index};
-ghost use Rattle.mp4_search.specs.BitSet.{AreBitsOf, bit_of, has_bit, looks_at_bit};
+ghost use Rattle.std.specs.Prelude.{◌≡◌, ℕ, ◌+◌, ◌-◌, ◌*◌, ◌^◌, ◌<◌, ◌≤◌, ◌==◌, ◌||◌, false, [], length, IfOk, slice_index};
+ghost use Rattle.std.specs.List.{All};
+ghost use Rattle.mp4_search.specs.BitSet.{AreBitsOf, KnowsUpTo, bit_of, has_bit, looks_at_bit};
 
 use crate::counted::Readings;
 use std::alloc::{AllocError, Global};
-use std::marker::Model;
 
 /// How many bits a word has.
 const BITS: u32 = 64;
@@ -15,58 +15,62 @@ const BITS: u32 = 64;
 #[derive(Debug, Drop)]
 pub struct BitSet {
     words: Vec<u64>,
-}
-
-impl Model for BitSet {
-    ghost use Rattle.std.specs.Prelude.{List, ℕ};
-
-    ghost Value = { List ℕ };
-
-    ghost view = { λ s. s.words.items };
+    /// Whether each of the numbers has its bit.
+    is_whole: bool,
 }
 
 impl BitSet {
-    /// No number has a bit. It takes no memory.
+    /// No number has a bit, and nothing is said of any. It takes no memory.
     pub fn new(alloc: Global) -> Self
-        ensures { result ≡ [] }
+        ensures bits { result.words.items ≡ [] }
+        ensures whole { result.is_whole ≡ false }
     {
         BitSet {
             words: Vec::new(alloc),
+            is_whole: false,
         }
     }
 
     /// A bit for each number up to the largest of these, and up to about `limit` where one of them is larger: 8 bytes
     /// for each 64.
     pub fn of(alloc: Global, numbers: &[u32], limit: usize) -> Result<Self, AllocError>
-        ensures { IfOk result (λ s. AreBitsOf numbers.now s) }
+        ensures bits { IfOk result (AreBitsOf numbers.now) }
+        ensures known { IfOk result (KnowsUpTo limit) }
     {
-        let mut words = vec![in alloc; 0u64; words_of(numbers, limit)]?;
+        let largest = largest_of(numbers) as usize;
+        let mut words = vec![in alloc; 0u64; largest.min(limit) / BITS as usize + 1]?;
         for number in numbers {
             set_bit(words.as_mut_slice(), *number);
         }
-        Ok(BitSet { words })
+        Ok(BitSet {
+            words,
+            is_whole: largest <= limit,
+        })
     }
 
-    /// Whether `k` is one of the numbers, and how many words were looked at: one. None, and no look, where `k` has no
-    /// bit.
-    pub fn contains(&self, k: u32) -> (Option<bool>, Readings)
-        ensures known { result.0 ≡ bit_of self.now k }
-        ensures counted { result.1 ≡ looks_at_bit self.now k }
+    /// Whether `k` is one of the numbers: by its bit, which takes a look at one word. Where `k` has none it is none of
+    /// them, if each of them has one; else it isn't known.
+    pub(crate) fn contains(&self, k: u32, readings: &mut Readings) -> Option<bool>
+        requires room { readings.old < 2 ^ 32 - 1 }
+        ensures known { result ≡ bit_of self.now k }
+        ensures counted { readings.new ≡ readings.old + looks_at_bit self.now k }
     {
-        let mut readings = Readings::new();
         let index = (k / BITS) as usize;
-        if index >= self.words.len() {
-            return (None, readings);
+        if index < self.words.len() {
+            let word = self.read(index, readings);
+            Some((word >> (k % BITS)) % 2 == 1)
+        } else if self.is_whole {
+            Some(false)
+        } else {
+            None
         }
-        let word = self.read(index, &mut readings);
-        (Some((word >> (k % BITS)) % 2 == 1), readings)
     }
 
     /// The word at an index, which counts from 0. This counts as one reading.
     fn read(&self, index: usize, readings: &mut Readings) -> u64
-        requires within { index < length self.now }
+        requires within { index < length self.now.words.items }
         requires room { readings.old < 2 ^ 32 - 1 }
-        ensures word { result ≡ slice_index self.now index }
+        ensures word { result ≡ slice_index self.now.words.items index }
         ensures counted { readings.new ≡ readings.old + 1 }
     {
         readings.add_one();
@@ -74,13 +78,15 @@ impl BitSet {
     }
 }
 
-/// How many words have a bit for each number up to the largest of these, or up to `limit` where that is larger.
-fn words_of(numbers: &[u32], limit: usize) -> usize {
+/// The largest of some numbers, and 0 where there is none.
+fn largest_of(numbers: &[u32]) -> u32
+    ensures { All (λ n. n ≤ result) numbers.now }
+{
     let mut largest: u32 = 0;
     for number in numbers {
         largest = largest.max(*number);
     }
-    (largest as usize).min(limit) / BITS as usize + 1
+    largest
 }
 
 /// Sets the bit of a number, if it has one.

@@ -8,9 +8,13 @@ use std::alloc::AllocError;
 use std::fmt;
 use std::marker::Model;
 
-/// How many numbers were read by one call. Only the calls of this crate that read numbers make one, with all readings
-/// of theirs in it, and it can't be dropped: whoever makes such a call takes the count.
-#[derive(Debug)]
+/// What is looked up in as a whole. A look-up in it begins with the counters of its readings, and each of its steps is
+/// lent the one that it raises: a step can make no other, since it is lent no such whole.
+pub trait LookedUp {}
+
+/// How many numbers one step of a look-up has read. Only the calls of this crate that read numbers raise it, by one
+/// where each is read.
+#[derive(Debug, Drop)]
 pub struct Readings {
     count: u32,
 }
@@ -22,6 +26,13 @@ impl Model for Readings {
 }
 
 impl Readings {
+    /// The counter of a step of a look-up in this: no reading yet.
+    pub fn of<T: LookedUp>(_whole: &T) -> Self
+        ensures { result ≡ 0 }
+    {
+        Readings::new()
+    }
+
     /// No reading yet.
     pub(crate) fn new() -> Self
         ensures { result ≡ 0 }
@@ -37,12 +48,11 @@ impl Readings {
         self.count += 1;
     }
 
-    /// How many they are.
-    pub fn count(self) -> u32
-        ensures { result ≡ self }
+    /// How many they are so far.
+    pub fn count(&self) -> u32
+        ensures { result ≡ self.now }
     {
-        let Readings { count } = self;
-        count
+        self.count
     }
 }
 
@@ -167,19 +177,18 @@ impl RunningSizes {
         self.sums[index]
     }
 
-    /// How much the sizes from `first` up to but without `last` have together, counted from 0, and how many sums were
-    /// read: 2.
-    pub fn between(&self, first: usize, last: usize) -> (u128, Readings)
+    /// How much the sizes from `first` up to but without `last` have together, counted from 0. Two sums are read.
+    pub fn between(&self, first: usize, last: usize, readings: &mut Readings) -> u128
         requires first { first < length self.now }
         requires last { last < length self.now }
         requires order { slice_index self.now first ≤ slice_index self.now last }
-        ensures sum { result.0 ≡ slice_index self.now last - slice_index self.now first }
-        ensures counted { result.1 ≡ 2 }
+        requires room { readings.old < 2 ^ 31 }
+        ensures sum { result ≡ slice_index self.now last - slice_index self.now first }
+        ensures counted { readings.new ≡ readings.old + 2 }
     {
-        let mut readings = Readings::new();
-        let upto = self.read(last, &mut readings);
-        let from = self.read(first, &mut readings);
-        (upto - from, readings)
+        let upto = self.read(last, readings);
+        let from = self.read(first, readings);
+        upto - from
     }
 }
 
@@ -216,18 +225,18 @@ impl CappedSums {
         self.sums[index]
     }
 
-    /// How much the sum grows from `first` up to `last`, counted from 0, and how many sums were read: 2.
-    pub fn between(&self, first: usize, last: usize) -> (u64, Readings)
+    /// How much the sum grows from `first` up to `last`, counted from 0. Two sums are read.
+    pub fn between(&self, first: usize, last: usize, readings: &mut Readings) -> u64
         requires first { first < length self.now }
         requires last { last < length self.now }
         requires order { slice_index self.now first ≤ slice_index self.now last }
-        ensures sum { result.0 ≡ slice_index self.now last - slice_index self.now first }
-        ensures counted { result.1 ≡ 2 }
+        requires room { readings.old < 2 ^ 31 }
+        ensures sum { result ≡ slice_index self.now last - slice_index self.now first }
+        ensures counted { readings.new ≡ readings.old + 2 }
     {
-        let mut readings = Readings::new();
-        let end = self.read(last, &mut readings);
-        let begin = self.read(first, &mut readings);
-        (end - begin, readings)
+        let end = self.read(last, readings);
+        let begin = self.read(first, readings);
+        end - begin
     }
 }
 

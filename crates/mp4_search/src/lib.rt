@@ -8,6 +8,5 @@ mod search;
 mod slope;
 
 pub use bit_set::BitSet;
-pub use counted::{CappedSums, Readings, RunningSizes, SearchedNumbers};
-pub use near::{last_at_most_by, last_at_most_near};
-pub use search::{Found, last_at_most};
+pub use counted::{CappedSums, LookedUp, Readings, RunningSizes, SearchedNumbers};
+pub use search::{ByGuess, ByHalves, Found, Search};

@@ -1,6 +1,6 @@
 //! The search in numbers that rise, begun where the answer is expected.
 
-ghost use Rattle.std.specs.Prelude.{◌≡◌, ℕ, ◌+◌, ◌-◌, ◌^◌, ◌<◌, ◌≤◌, false, length, slice_index, IfSome, IfNone};
+ghost use Rattle.std.specs.Prelude.{◌≡◌, ℕ, ◌+◌, ◌-◌, ◌^◌, ◌<◌, ◌≤◌, length, slice_index, IfSome, IfNone};
 ghost use Rattle.std.specs.List.Sorted.{IsNonDecreasing};
 ghost use Rattle.mp4_search.specs.Digits.{digits};
 ghost use Rattle.mp4_search.specs.Search.{IsBetween, IsCountByGuess, IsFew, IsFewByGuess, IsLastAtMost};
@@ -246,13 +246,12 @@ fn last_at_most_apart(numbers: &SearchedNumbers, key: u32) -> (Option<Found>, Re
 ///
 /// The count is that of the search that was made: by halves, or from some index on.
 #[inline(always)]
-pub fn last_at_most_near(numbers: &SearchedNumbers, key: u32) -> (Option<Found>, Readings)
+pub(crate) fn last_at_most_near(numbers: &SearchedNumbers, key: u32) -> (Option<Found>, Readings)
     requires { IsNonDecreasing numbers.now }
     ensures found { IfSome result.0
         (λ f. IsLastAtMost numbers.now key f.index × (f.number ≡ slice_index numbers.now f.index)) }
     ensures none { IfNone result.0 ((j : ℕ) → j < length numbers.now → key < slice_index numbers.now j) }
     ensures counted { IsCountByGuess numbers.now key result.1 }
-    ensures few { IsFewByGuess result.1 (length numbers.now) }
 {
     // Few numbers are searched in the caller's own code: a call would take as long as the search.
     if numbers.len() <= FEW {
@@ -261,30 +260,5 @@ pub fn last_at_most_near(numbers: &SearchedNumbers, key: u32) -> (Option<Found>,
     match numbers.expected(key) {
         None => last_at_most_apart(numbers, key),
         Some(index) => last_at_most_from(numbers, key, index),
-    }
-}
-
-/// The last of the numbers that is at most `key`, and how many of them were compared with it: by
-/// [`last_at_most_near`] where `by_guess` is set, else by [`last_at_most`]. It is inlined, as are the steps of a
-/// look-up that pass the flag on, so that none of them tests it where the outermost caller sets it.
-#[inline(always)]
-pub fn last_at_most_by(
-    numbers: &SearchedNumbers,
-    key: u32,
-    by_guess: bool,
-) -> (Option<Found>, Readings)
-    requires { IsNonDecreasing numbers.now }
-    ensures found { IfSome result.0
-        (λ f. IsLastAtMost numbers.now key f.index × (f.number ≡ slice_index numbers.now f.index)) }
-    ensures none { IfNone result.0 ((j : ℕ) → j < length numbers.now → key < slice_index numbers.now j) }
-    ensures counted { by_guess ≡ false → result.1 ≡ comparisons_in numbers.now key }
-    ensures few { by_guess ≡ false → IsFew result.1 (length numbers.now) }
-    ensures near_counted { IsCountByGuess numbers.now key result.1 }
-    ensures near { IsFewByGuess result.1 (length numbers.now) }
-{
-    if by_guess {
-        last_at_most_near(numbers, key)
-    } else {
-        last_at_most(numbers, key)
     }
 }

@@ -81,14 +81,15 @@ impl Slope {
         true
     }
 
-    /// Whether the number at an index is farther from its place on the line than the root of how many numbers there
-    /// are. Numbers that rise by steps of chance seldom stray farther.
+    /// Whether the number at an index is farther from its place on the line than three fifths of the root of how many
+    /// numbers there are. Numbers that rise by even steps stray no farther, nor do most that rise by steps of chance; those that
+    /// do are found by halves as soon, since looks near the guess would be in vain.
     fn strays(self, numbers: &[u32], index: usize) -> bool {
         let Some(number) = numbers.get(index) else {
             return false;
         };
         let distance = self.on_line(*number).abs_diff(index);
-        distance.saturating_mul(distance) > numbers.len()
+        distance.saturating_mul(distance).saturating_mul(25) > numbers.len().saturating_mul(9)
     }
 
     /// Whether the line is to be drawn anew, now that there are so many numbers: once they are half as many again as

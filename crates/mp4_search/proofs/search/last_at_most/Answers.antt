@@ -22,7 +22,8 @@ loop-low-preserved-then-number-key c =
       paid = omega (arith, paid);
       untouched = λ e. omega arith;
       left = rw c.read-number.ensures.counted (behind c.args.numbers.now c.args.key l.low l.high middle l.readings
-          (comparisons_in c.args.numbers.now c.args.key) l.invariant.left (omega arith) (omega arith) (omega (arith, c.read-number.ensures.number)));
+          (comparisons_in c.args.numbers.now c.args.key) l.invariant.left (omega arith) (omega arith)
+          (omega (arith, c.read-number.ensures.number)));
     }
 
 pub loop-low-preserved : goal.loop-low-preserved
@@ -38,7 +39,8 @@ loop-low-preserved c =
       paid = omega (arith, paid);
       untouched = λ e. omega arith;
       left = rw c.read-number.ensures.counted (before c.args.numbers.now c.args.key l.low l.high middle l.readings
-          (comparisons_in c.args.numbers.now c.args.key) l.invariant.left (omega arith) (omega arith) (omega (arith, c.read-number.ensures.number)));
+          (comparisons_in c.args.numbers.now c.args.key) l.invariant.left (omega arith) (omega arith)
+          (omega (arith, c.read-number.ensures.number)));
     }
 
 pub loop-low-init : goal.loop-low-init

@@ -4,25 +4,25 @@ use Rattle.mp4_table.specs.declared.stts.SttsEntry.{SttsEntry}
 use Rattle.mp4_search.specs.SumLaws.{counts_rise, before_found, past_found, none_found}
 use Rattle.mp4_lookup.proofs.Times.{time_at_in, time_at_past}
 use Rattle.mp4_lookup.proofs.Sums.{ticks_before, start_fits}
-use Rattle.mp4_lookup.proofs.timing.searched_time.Goals as goal
-use Rattle.mp4_lookup.proofs.timing.searched_time.Goals.{After-from-2}
+use Rattle.mp4_lookup.proofs.timing.time_at.Goals as goal
+use Rattle.mp4_lookup.proofs.timing.time_at.Goals.{After-from-2}
 
-pub last_at_most_by-found-requires : goal.last_at_most_by-found-requires
-last_at_most_by-found-requires c =
+pub last_at_most-requires-clause-rises : goal.last_at_most-requires-clause-rises
+last_at_most-requires-clause-rises g c =
     counts_rise (λ (r : SttsEntry). r.sample_count) c.args.runs.now c.args.counts.now c.requires.sums.counts
 
 pub returns-in_default-clause-time : goal.returns-in_default-clause-time
-returns-in_default-clause-time c =
+returns-in_default-clause-time g c =
     let none = none_found (λ (r : SttsEntry). r.sample_count) c.args.runs.now c.args.counts.now (c.args.k - 1)
-    c.requires.sums.counts (rw c.in_default.is at c.last_at_most_by-found.ensures.none) in
+    c.requires.sums.counts (rw c.in_default.is at c.last_at_most.ensures.none) in
     time_at_past c.args.runs.now c.args.track_id c.args.k 0 0 c.requires.first (omega (arith, none)) refl
     (omega arith)
 
 pub returns-then-further-run-clause-time : goal.returns-then-further-run-clause-time
-returns-then-further-run-clause-time c =
+returns-then-further-run-clause-time g c =
     let d : SttsEntry = record { sample_count = 0; sample_delta = 0 } in
     let i = c.in-Some.found.index in
-    let found = rw c.in-Some.is at c.last_at_most_by-found.ensures.found in
+    let found = rw c.in-Some.is at c.last_at_most.ensures.found in
     let past = past_found (λ (r : SttsEntry). r.sample_count) c.args.runs.now c.args.counts.now (c.args.k - 1) i d
     c.requires.sums.counts (omega arith) found.0 (omega (arith, found.1, c.if-further-run.true)) in
     time_at_past c.args.runs.now c.args.track_id c.args.k (i + 1) _ c.requires.first past.0 refl past.1
@@ -33,7 +33,7 @@ begins : (c : After-from-2) → get_or c.args.times.now c.in-Some.found.index 0
 begins c =
     let runs = c.args.runs.now in
     let i = c.in-Some.found.index in
-    let found = rw c.in-Some.is at c.last_at_most_by-found.ensures.found in
+    let found = rw c.in-Some.is at c.last_at_most.ensures.found in
     let sums = c.requires.sums in
     let before = before_found (λ (r : SttsEntry). r.sample_count) runs c.args.counts.now (c.args.k - 1) i sums.counts
     (omega arith) found.0 in
@@ -46,7 +46,7 @@ start_small c =
     let d : SttsEntry = record { sample_count = 0; sample_delta = 0 } in
     let runs = c.args.runs.now in
     let i = c.in-Some.found.index in
-    let found = rw c.in-Some.is at c.last_at_most_by-found.ensures.found in
+    let found = rw c.in-Some.is at c.last_at_most.ensures.found in
     let sums = c.requires.sums in
     let before = before_found (λ (r : SttsEntry). r.sample_count) runs c.args.counts.now (c.args.k - 1) i sums.counts
     (omega arith) found.0 in
@@ -57,14 +57,14 @@ start_small c =
     (omega (arith, found.1, before.1, before.2)) (omega arith))
 
 pub overflow_add-start : goal.overflow_add-start
-overflow_add-start c = omega (arith, start_small (goal.at.overflow_add-start c).After-from-2)
+overflow_add-start g c = omega (arith, start_small (goal.at.overflow_add-start c).After-from-2)
 
 pub returns-clause-time : goal.returns-clause-time
-returns-clause-time c =
+returns-clause-time g c =
     let d : SttsEntry = record { sample_count = 0; sample_delta = 0 } in
     let runs = c.args.runs.now in
     let i = c.in-Some.found.index in
-    let found = rw c.in-Some.is at c.last_at_most_by-found.ensures.found in
+    let found = rw c.in-Some.is at c.last_at_most.ensures.found in
     let before = before_found (λ (r : SttsEntry). r.sample_count) runs c.args.counts.now (c.args.k - 1) i
     c.requires.sums.counts (omega arith) found.0 in
     rw (c.from.ensures, c.from-2.ensures)
