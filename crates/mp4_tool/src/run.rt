@@ -69,17 +69,19 @@ fn samples<'a>(
     Ok(samples_text(alloc, bytes.as_slice(), track_id)?)
 }
 
-/// Makes the movie of a script and writes it to a file, which is made anew. Where the script is at fault the file isn't
-/// touched.
+/// Makes the movie of a script and writes it to a file, which is made anew. Where the script is at fault, or memory runs
+/// out, the file isn't touched: `out` has room for the text before the file is written.
 fn make<'a, R: Read>(
     rt: &impl Files,
     alloc: Global,
     input: &mut R,
     name: &'a str,
+    out: &mut Vec<u8>,
 ) -> Result<Vec<u8>, Fault<'a>> {
     let script = read_all(alloc, input, STANDARD_INPUT)?;
     let movie = run_script(alloc, script.as_slice())?;
     let text = format!(in alloc; "wrote {} bytes\n", movie.len()).map_err(Error::from)?;
+    out.reserve(text.len()).map_err(Error::from)?;
     if fs::write(rt, name, movie.as_slice()).is_err() {
         return Err(Fault::CannotWrite(name));
     }
@@ -135,7 +137,8 @@ pub fn run<R: Read>(
             report(alloc, info(rt, alloc, file.as_str()), out, err)
         }
         [command, file] if command.as_str() == "make" => {
-            report(alloc, make(rt, alloc, input, file.as_str()), out, err)
+            let made = make(rt, alloc, input, file.as_str(), out);
+            report(alloc, made, out, err)
         }
         [command, file, track] if command.as_str() == "samples" => {
             match decimal_in(track.as_bytes()) {

@@ -6,6 +6,7 @@ use super::runs::{Printed, ran};
 use super::texts::{EMPTY_INFO, EMPTY_MOVIE, TEXT_INFO, TEXT_SAMPLES, TEXT_SCRIPT};
 use mp4_media::{Error, Result};
 use mp4_script::{ScriptFault, fault_text, info_text, run_script, samples_text, show_text};
+use std::fs;
 
 /// Prints that a request was refused, and answers whether the call said so.
 fn is_refusal(rt: &HostRuntime, error: &Error) -> bool {
@@ -133,6 +134,32 @@ fn refused_runs_on_a_file_are_made_again(rt: HostRuntime) -> Result<()> {
     assert!(rt; described.is(0, TEXT_INFO, ""), "{described:?}");
     let listed = ran_again(&rt, "samples refused.mp4 1", "")?;
     assert!(rt; listed.is(0, TEXT_SAMPLES, ""), "{listed:?}");
+    Ok(())
+}
+
+/// How many bytes the file of this name has, or none where there is no such file.
+fn length_of(rt: &HostRuntime, name: &str) -> Option<u64> {
+    match fs::metadata(rt, name) {
+        Ok(file) => Some(file.len()),
+        Err(_) => None,
+    }
+}
+
+/// Once its file is written a run succeeds, with all that it says; where memory ran out there is no file.
+#[test]
+fn a_refused_make_writes_no_file(rt: HostRuntime) -> Result<()> {
+    let made = ran(&rt, "make unmade.mp4", &mut TEXT_SCRIPT.as_bytes());
+    let length = length_of(&rt, "unmade.mp4");
+    let _ = fs::remove_file(&rt, "unmade.mp4");
+    match made {
+        Err(error) if is_refusal(&rt, &error) => assert!(rt; length.is_none()),
+        Ok(printed) if is_refused_run(&rt, &printed) => assert!(rt; length.is_none()),
+        answer => {
+            let printed = answer?;
+            assert!(rt; printed.is(0, "wrote 607 bytes\n", ""), "{printed:?}");
+            assert_eq!(rt; length, Some(607));
+        }
+    }
     Ok(())
 }
 
