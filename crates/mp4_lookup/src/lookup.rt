@@ -100,7 +100,8 @@ impl Mp4Track {
         let trafs = self.trafs.as_slice();
         let Some(member) = self
             .runs
-            .find::<S>(trafs, self.defaults, number, &mut counters.runs) else {
+            .find::<S>(trafs, self.defaults, number, &mut counters.runs)
+        else {
             return Ok(None);
         };
         let (Some(offset), Some(start_time)) = (member.at.place, member.at.time) else {

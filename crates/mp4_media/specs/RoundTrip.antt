@@ -12,7 +12,7 @@ use Rattle.mp4_boxes.specs.declared.stbl.StblBox.{StblBox}
 use Rattle.mp4_boxes.specs.declared.trak.TrakBox.{TrakBox}
 use Rattle.mp4_samples.specs.declared.sample.SamplePlace.{SamplePlace}
 use Rattle.mp4_lookup.specs.declared.track.Mp4Track.{Mp4Track}
-use Rattle.mp4_lookup.specs.Costs.{AreFew, AreFewForMember, AreFewSizeReads}
+use Rattle.mp4_lookup.specs.Costs.{AreFew, AreFewForMember, AreFewSizeReads, comparisons_of}
 use Rattle.mp4_lookup.specs.Kind.{media_type_of}
 use Rattle.mp4_samples.specs.Places.{place_of}
 use Rattle.mp4_samples.specs.Plain.{Consistent, plain_at}
@@ -115,9 +115,10 @@ pub record IsFoundAt (file : List ℕ) (t : StblBox) (k : ℕ) (found : FoundSam
   pub place : IsPlace t k found.place
   pub sample : Answers (λ s. option_map timed_sample s) found.sample (plain_sample_at file t k)
 
--- What a lookup cost in this track: a sample of the movie box few comparisons in each table and few readings of running
--- sizes, one that a fragment adds few comparisons of runs.
+-- What a lookup cost in this track: exactly the comparisons of a search by halves, and so for a sample of the movie box
+-- few in each table and few readings of running sizes, for one that a fragment adds few of runs.
 pub record IsCheap (t : Mp4Track) (k : ℕ) (place : Result (Option SamplePlace) Error) : Type 0 where
+  pub counted : IfOk place (λ p. IfSome p (λ p. p.comparisons ≡ comparisons_of t k))
   pub of_movie : IsTrue (is_of_movie t.trak t.trafs k)
       → IfOk place (λ p. IfSome p (λ p. AreFew (tables_of t.trak) p.comparisons
       × AreFewSizeReads (tables_of t.trak) p.size_reads))

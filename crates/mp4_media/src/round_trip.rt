@@ -1,7 +1,7 @@
 //! What the library promises above all, as the contract of one call: what is written is read back, and what is found in
 //! any file is what its tables say.
 
-ghost use Rattle.std.specs.Prelude.{◌≡◌, true, [], option_map, IfOk, IsTrue, Some};
+ghost use Rattle.std.specs.Prelude.{◌≡◌, true, [], option_map, IfErr, IfOk, IsTrue, Some};
 ghost use Rattle.std.specs.List.{AllByRecursion};
 ghost use Rattle.mp4_codec.specs.Cause.{Answers, AnswersCause};
 ghost use Rattle.mp4_codec.specs.Cursor.{here};
@@ -14,7 +14,7 @@ ghost use Rattle.mp4_mux.specs.Calls.{Answered, IsInRangeCall, accepted_after, a
 ghost use Rattle.mp4_mux.specs.Writing.{start_cause, started, whole_of};
 ghost use Rattle.mp4_media.specs.Finished.{Opens};
 ghost use Rattle.mp4_media.specs.MovieTracks.{at_id};
-ghost use Rattle.mp4_media.specs.Reading.{sample_in};
+ghost use Rattle.mp4_media.specs.Reading.{IsSample, sample_in};
 ghost use Rattle.mp4_media.specs.RoundTrip.{LooksUpInEachFile, HasExactly, IsLocated, IsOpening, IsOpeningBy, IsPlace, OpensAs};
 ghost use Rattle.mp4_media.specs.WriterCalls.{calls_of};
 
@@ -81,6 +81,8 @@ pub fn find_sample<'f>(alloc: Global, query: &SampleQuery<'f>) -> Result<FoundSa
     ensures opened { IsOpeningBy (λ found. found.movie) query.now.size (here query.now.bytes.now query.now.start) result }
     ensures place { IfOk result (λ found. IsLocated found.movie query.now.track_id query.now.number found.place) }
     ensures sample { IfOk result (λ found. Answers (λ s. option_map timed_sample s) found.sample (sample_in query.now.bytes.now found.movie.tracks query.now.track_id query.now.number)) }
+    ensures memory { IfOk result (λ found. IfErr found.sample (λ e. e ≡ Error.OutOfMemory
+        → IsSample (sample_in query.now.bytes.now found.movie.tracks query.now.track_id query.now.number))) }
 {
     let mut file = ByteCursor::new(query.bytes);
     file.set_position(query.start);
@@ -137,6 +139,14 @@ pub fn write_and_read<'w, 'f>(
     ensures read_back { IfOk result (λ r. has_end (calls_of calls.now) r.replies.items ≡ true → OpensAs (λ movie. HasExactly movie (accepted_after (calls_of calls.now) r.replies.items [])) r.movie) }
     ensures opened { IfOk result (λ r. IsOpening r.bytes.now r.movie) }
     ensures found { IfOk result (λ r. LooksUpInEachFile query.now.size (here query.now.bytes.now query.now.start) query.now.track_id query.now.number r.found) }
+    ensures found_opened { IfOk result (λ r. IsOpeningBy (λ found. found.movie) query.now.size
+        (here query.now.bytes.now query.now.start) r.found) }
+    ensures found_place { IfOk result (λ r. IfOk r.found
+        (λ found. IsLocated found.movie query.now.track_id query.now.number found.place)) }
+    ensures found_sample { IfOk result (λ r. IfOk r.found (λ found. Answers (λ s. option_map timed_sample s) found.sample
+        (sample_in query.now.bytes.now found.movie.tracks query.now.track_id query.now.number))) }
+    ensures found_memory { IfOk result (λ r. IfOk r.found (λ found. IfErr found.sample (λ e. e ≡ Error.OutOfMemory
+        → IsSample (sample_in query.now.bytes.now found.movie.tracks query.now.track_id query.now.number)))) }
     ensures cause { AnswersCause (start_cause config.now) result }
 {
     let replies = write_calls(alloc, config, calls, buffer)?;

@@ -8,7 +8,7 @@ ghost use Rattle.std.specs.List.Sorted.{IsNonDecreasing};
 use crate::asserts::{at_least, check};
 use crate::random_tracks::are_few;
 use mp4_codec::Result;
-use mp4_media::searching::{Found, SearchedNumbers, last_at_most, last_at_most_near};
+use mp4_media::searching::{ByGuess, ByHalves, Found, LookedUp, Readings, Search, SearchedNumbers};
 use mp4_plain_movies::random::Random;
 use std::alloc::Global;
 use std::process::Abort;
@@ -26,19 +26,17 @@ fn searched(numbers: Vec<u32>) -> Option<SearchedNumbers>
     Some(SearchedNumbers::new(numbers))
 }
 
-/// What the search by halves finds, and how many numbers it compared.
-fn found_by_halves(numbers: &SearchedNumbers, key: u32) -> (Option<Found>, u32)
-    requires { IsNonDecreasing numbers.now }
-{
-    let (found, readings) = last_at_most(numbers, key);
-    (found, readings.count())
-}
+/// What is looked up in here: some numbers alone.
+struct OneList;
 
-/// What the search by a guess finds, and how many numbers it compared.
-fn found_by_guess(numbers: &SearchedNumbers, key: u32) -> (Option<Found>, u32)
+impl LookedUp for OneList {}
+
+/// What a way of searching finds, and how many numbers it compared.
+fn found<S: Search>(numbers: &SearchedNumbers, key: u32) -> (Option<Found>, u32)
     requires { IsNonDecreasing numbers.now }
 {
-    let (found, readings) = last_at_most_near(numbers, key);
+    let mut readings = Readings::of(&OneList);
+    let found = S::last_at_most(numbers, key, &mut readings);
     (found, readings.count())
 }
 
@@ -104,10 +102,10 @@ impl Counts {
 fn is_found(numbers: &SearchedNumbers, key: u32, counts: &mut Counts) -> bool
     requires { IsNonDecreasing numbers.now }
 {
-    let (found, by_halves) = found_by_halves(numbers, key);
-    let (guessed, by_guess) = found_by_guess(numbers, key);
+    let (halved, by_halves) = found::<ByHalves>(numbers, key);
+    let (guessed, by_guess) = found::<ByGuess>(numbers, key);
     counts.add(by_guess, by_halves);
-    guessed == found && are_few(by_guess, numbers.len())
+    guessed == halved && are_few(by_guess, numbers.len())
 }
 
 /// The same for each of these keys.
@@ -225,10 +223,10 @@ fn strays_are_found(alloc: Global, stray: &Stray, counts: &mut Counts) -> Result
 /// numbers that go nearly as far as 32 bits do.
 fn both_sides_are_found(alloc: Global, places: u32, counts: &mut Counts) -> Result<bool> {
     let mut all = true;
-    for (first, step) in [(5, 10), (1, 42_000)] {
+    for (first, step) in [(5, 10), (1, 10_500)] {
         for is_ahead in [false, true] {
             let stray = Stray {
-                count: 100_000,
+                count: 400_000,
                 first,
                 step,
                 stretch: 600,
