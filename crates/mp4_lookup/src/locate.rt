@@ -17,7 +17,9 @@ use mp4_codec::Result;
 use mp4_samples::SamplePlace;
 use mp4_search::Search;
 
-/// Where sample `k` of a track lies, and when it is decoded and shown, as the tables of the track say.
+/// Where sample `k` of a track lies, and when it is decoded and shown, as the tables of the track say. It is inlined in
+/// its one caller for each way of searching, so that the counters needn't lie in memory.
+#[inline(always)]
 #[tactic(auto, unfolding(crate::specs::Rule::rule))]
 pub fn place_at<S: Search>(
     stbl: &StblBox,
