@@ -1,12 +1,15 @@
-//! Values of movies that differ in one field are unequal, and each is equal to itself.
+//! Values of movies that differ in one field are unequal, and each is equal to itself and to one that has the same fields.
 
 use crate::asserts::{check, holds};
 use bytes::Bytes;
-use mp4_codec::{ExactEq, FourCC, Items, Result, is_equal};
-use mp4_entry::TtxtConfig;
-use mp4_fragments::{Beginning, Member, SampleDefaults};
-use mp4_media::{Mp4Config, TrackConfig, WriterCall};
-use mp4_samples::Mp4Sample;
+use mp4_codec::{Error, ExactEq, FourCC, Items, Result, Text, is_equal};
+use mp4_entry::{MediaConfig, TrackType, TtxtConfig, Vp9Config};
+use mp4_fragments::{Beginning, FoundMember, Member, SampleDefaults};
+use mp4_media::searching::Found;
+use mp4_media::writing::{ChunkPlace, ChunkRef, Durations, SampleInfo};
+use mp4_media::{Mp4Config, SampleQuery, TrackConfig, WriterCall, is_equal_sample};
+use mp4_samples::{Mp4Sample, SampleRef};
+use mp4_script::ScriptFault;
 use std::alloc::Global;
 
 /// Whether two values are unequal, and each is equal to itself.
@@ -15,83 +18,417 @@ fn are_apart<T: ExactEq>(one: &T, other: &T) -> bool {
     is_itself && *one != *other && !is_equal(other, one)
 }
 
-/// The configuration of a movie of a timescale.
-fn movie(alloc: Global, timescale: u32) -> Mp4Config {
-    Mp4Config {
+/// Whether two values of the same fields are equal.
+fn are_alike<T: ExactEq>(one: &T, other: &T) -> bool {
+    is_equal(one, other) && *other == *one
+}
+
+/// Whether a value is equal to one of the same fields, and unequal to each of others, which differ from it in one field.
+fn tells<T: ExactEq>(one: &T, alike: &T, others: &[T]) -> bool {
+    let mut all = are_alike(one, alike);
+    for other in others {
+        all = all && are_apart(one, other);
+    }
+    all
+}
+
+/// The same by `==` alone.
+fn compares<T: PartialEq>(one: &T, alike: &T, others: &[T]) -> bool {
+    let mut all = *one == *alike && *alike == *one;
+    for other in others {
+        all = all && *other == *other && *one != *other && *other != *one;
+    }
+    all
+}
+
+/// The configuration of a movie, of which the field of this number is changed; 0 changes none.
+fn movie(alloc: Global, changed: u8) -> Result<Mp4Config> {
+    let mut config = Mp4Config {
         major_brand: FourCC::from(*b"isom"),
         minor_version: 512,
         compatible_brands: Items::new(alloc),
-        timescale,
+        timescale: 1,
+    };
+    match changed {
+        1 => config.major_brand = FourCC::from(*b"iso2"),
+        2 => config.minor_version = 513,
+        3 => config.compatible_brands.push(FourCC::from(*b"isom"))?,
+        4 => config.timescale = 2,
+        _ => {}
     }
+    Ok(config)
 }
 
-/// A sample of these bytes.
-fn sample(alloc: Global, bytes: &[u8]) -> Result<Mp4Sample> {
-    Ok(Mp4Sample {
+/// What a text track is added with, of which the field of this number is changed; 0 changes none.
+fn track(alloc: Global, changed: u8) -> Result<TrackConfig> {
+    let mut config = TrackConfig::from_ttxt(alloc, TtxtConfig {})?;
+    match changed {
+        1 => config.track_type = TrackType::Video,
+        2 => config.timescale = 48_000,
+        3 => config.language = Text::from_str(alloc, "eng")?,
+        4 => {
+            let (width, height) = (1, 2);
+            config.media_conf = MediaConfig::Vp9Config(Vp9Config { width, height });
+        }
+        _ => {}
+    }
+    Ok(config)
+}
+
+/// A sample, of which the field of this number is changed; 0 changes none.
+fn sample(alloc: Global, changed: u8) -> Result<Mp4Sample> {
+    let mut sample = Mp4Sample {
         start_time: 1,
         duration: 2,
         rendering_offset: -3,
         is_sync: true,
-        bytes: Bytes::copy_from_slice(alloc, bytes)?,
-    })
+        bytes: Bytes::copy_from_slice(alloc, b"abc")?,
+    };
+    match changed {
+        1 => sample.start_time = 2,
+        2 => sample.duration = 1,
+        3 => sample.rendering_offset = 3,
+        4 => sample.is_sync = false,
+        5 => sample.bytes = Bytes::copy_from_slice(alloc, b"abd")?,
+        _ => {}
+    }
+    Ok(sample)
 }
 
-/// Whether configurations of tracks that differ in a field are unequal, alone and as calls of a writer.
+/// Whether configurations of movies that differ in any one field are unequal.
+fn movies_differ(alloc: Global) -> Result<bool> {
+    let one = movie(alloc, 0)?;
+    let mut all = are_alike(&one, &movie(alloc, 0)?);
+    for changed in 1..5u8 {
+        all = are_apart(&one, &movie(alloc, changed)?) && all;
+    }
+    Ok(all)
+}
+
+/// Whether configurations of tracks that differ in any one field are unequal.
 fn tracks_differ(alloc: Global) -> Result<bool> {
-    let one = TrackConfig::from_ttxt(alloc, TtxtConfig {})?;
-    let mut other = TrackConfig::from_ttxt(alloc, TtxtConfig {})?;
-    other.timescale = 48_000;
-    let configurations = are_apart(&one, &other);
-    let (one, other) = (WriterCall::AddTrack(one), WriterCall::AddTrack(other));
-    Ok(configurations && are_apart(&one, &other) && are_apart(&one, &WriterCall::WriteEnd))
+    let one = track(alloc, 0)?;
+    let mut all = are_alike(&one, &track(alloc, 0)?);
+    for changed in 1..5u8 {
+        all = are_apart(&one, &track(alloc, changed)?) && all;
+    }
+    Ok(all)
 }
 
-/// Whether samples that differ in a byte are unequal, alone and as calls of a writer.
+/// Whether samples that differ in any one field are unequal.
 fn samples_differ(alloc: Global) -> Result<bool> {
-    let (one, other) = (sample(alloc, b"abc")?, sample(alloc, b"abd")?);
-    let samples = are_apart(&one, &other);
-    let (one, other) = (
-        WriterCall::WriteSample(1, one),
-        WriterCall::WriteSample(1, other),
-    );
-    Ok(samples && are_apart(&one, &other))
+    let one = sample(alloc, 0)?;
+    let mut all = are_alike(&one, &sample(alloc, 0)?);
+    for changed in 1..6u8 {
+        all = are_apart(&one, &sample(alloc, changed)?) && all;
+    }
+    Ok(all)
 }
 
 #[test]
 fn configurations_and_samples_that_differ_are_unequal(rt: HostRuntime) {
     let alloc = rt.alloc();
-    holds(&rt, 1, are_apart(&movie(alloc, 1), &movie(alloc, 2)));
-    check(&rt, 2, tracks_differ(alloc));
-    check(&rt, 3, samples_differ(alloc));
+    check(&rt, "movies", movies_differ(alloc));
+    check(&rt, "tracks", tracks_differ(alloc));
+    check(&rt, "samples", samples_differ(alloc));
+    holds(&rt, "text", are_alike(&TtxtConfig {}, &TtxtConfig {}));
+}
+
+/// Whether calls that add tracks are unequal where the configurations are.
+fn additions_differ(alloc: Global) -> Result<bool> {
+    let one = WriterCall::AddTrack(track(alloc, 0)?);
+    let alike = WriterCall::AddTrack(track(alloc, 0)?);
+    let others = [WriterCall::AddTrack(track(alloc, 2)?), WriterCall::WriteEnd];
+    Ok(tells(&one, &alike, &others))
+}
+
+/// Whether calls that write samples are unequal where the track's id or the sample is another.
+fn writes_differ(alloc: Global) -> Result<bool> {
+    let one = WriterCall::WriteSample(1, sample(alloc, 0)?);
+    let alike = WriterCall::WriteSample(1, sample(alloc, 0)?);
+    let others = [
+        WriterCall::WriteSample(2, sample(alloc, 0)?),
+        WriterCall::WriteSample(1, sample(alloc, 5)?),
+        WriterCall::AddTrack(track(alloc, 0)?),
+        WriterCall::WriteEnd,
+    ];
+    Ok(tells(&one, &alike, &others))
 }
 
 #[test]
-fn samples_of_fragments_that_differ_are_unequal(rt: HostRuntime) {
-    let defaults = SampleDefaults {
+fn calls_that_differ_are_unequal(rt: HostRuntime) {
+    check(&rt, "additions", additions_differ(rt.alloc()));
+    check(&rt, "writes", writes_differ(rt.alloc()));
+    let end = are_alike(&WriterCall::WriteEnd, &WriterCall::WriteEnd);
+    holds(&rt, "end", end);
+}
+
+/// Whether defaults of samples that differ in any one field are unequal.
+fn defaults_differ() -> bool {
+    let one = SampleDefaults {
         duration: 1,
         size: 2,
         flags: 3,
     };
-    let other = SampleDefaults {
-        flags: 4,
-        ..defaults
-    };
-    holds(&rt, 1, are_apart(&defaults, &other));
-    let at = Beginning {
+    let alike = one;
+    let others = [
+        SampleDefaults { duration: 4, ..one },
+        SampleDefaults { size: 4, ..one },
+        SampleDefaults { flags: 4, ..one },
+    ];
+    tells(&one, &alike, &others)
+}
+
+/// Whether beginnings of members that differ in any one field are unequal.
+fn beginnings_differ() -> bool {
+    let one = Beginning {
         place: Some(1),
         time: None,
     };
+    let alike = one;
+    let others = [
+        Beginning {
+            place: Some(2),
+            ..one
+        },
+        Beginning { place: None, ..one },
+        Beginning {
+            time: Some(0),
+            ..one
+        },
+    ];
+    tells(&one, &alike, &others)
+}
+
+/// A member of a run.
+fn member() -> Member {
+    Member {
+        at: Beginning {
+            place: Some(1),
+            time: None,
+        },
+        size: 1,
+        duration: 2,
+        rendering_offset: -3,
+        is_sync: true,
+    }
+}
+
+/// Whether members that differ in any one field are unequal.
+fn members_differ() -> bool {
+    let one = member();
     let late = Beginning {
         time: Some(0),
-        ..at
+        ..one.at
     };
-    holds(&rt, 2, are_apart(&at, &late));
-    let one = Member {
-        at,
+    let others = [
+        Member { at: late, ..one },
+        Member { size: 4, ..one },
+        Member { duration: 4, ..one },
+        Member {
+            rendering_offset: 3,
+            ..one
+        },
+        Member {
+            is_sync: false,
+            ..one
+        },
+    ];
+    tells(&one, &member(), &others)
+}
+
+/// Whether members that were found differ with the member and with what it cost.
+fn found_members_differ() -> bool {
+    let member = member();
+    let one = FoundMember {
+        member,
+        comparisons: 1,
+    };
+    let alike = one;
+    let long = Member { size: 4, ..member };
+    let others = [
+        FoundMember {
+            member: long,
+            ..one
+        },
+        FoundMember {
+            comparisons: 2,
+            ..one
+        },
+    ];
+    tells(&one, &alike, &others)
+}
+
+#[test]
+fn samples_of_fragments_that_differ_are_unequal(rt: HostRuntime) {
+    holds(&rt, "defaults", defaults_differ());
+    holds(&rt, "beginnings", beginnings_differ());
+    holds(&rt, "members", members_differ());
+    holds(&rt, "found members", found_members_differ());
+}
+
+/// Whether places of chunks that differ in any one field are unequal.
+fn places_differ() -> bool {
+    let one = ChunkPlace {
+        first: 1,
+        count: 2,
+        offset: 3,
+    };
+    let alike = one;
+    let others = [
+        ChunkPlace { first: 4, ..one },
+        ChunkPlace { count: 4, ..one },
+        ChunkPlace { offset: 4, ..one },
+    ];
+    tells(&one, &alike, &others)
+}
+
+/// Whether chunks that differ in their track or their index are unequal.
+fn chunks_differ() -> bool {
+    let one = ChunkRef { track: 1, index: 2 };
+    let alike = one;
+    let others = [ChunkRef { track: 3, ..one }, ChunkRef { index: 3, ..one }];
+    tells(&one, &alike, &others)
+}
+
+/// Whether what tables say of samples is unequal where it differs in any one field.
+fn descriptions_differ() -> bool {
+    let one = SampleInfo {
         size: 1,
         duration: 2,
         rendering_offset: -3,
         is_sync: true,
     };
-    holds(&rt, 3, are_apart(&one, &Member { at: late, ..one }));
+    let alike = one;
+    let others = [
+        SampleInfo { size: 4, ..one },
+        SampleInfo { duration: 4, ..one },
+        SampleInfo {
+            rendering_offset: 3,
+            ..one
+        },
+        SampleInfo {
+            is_sync: false,
+            ..one
+        },
+    ];
+    tells(&one, &alike, &others)
+}
+
+/// Whether durations that differ in either field are unequal.
+fn durations_differ() -> bool {
+    let one = Durations { media: 1, movie: 2 };
+    let alike = one;
+    let others = [Durations { media: 3, ..one }, Durations { movie: 3, ..one }];
+    tells(&one, &alike, &others)
+}
+
+/// Whether numbers that were found are unequal where the number or its index is another.
+fn found_numbers_differ() -> bool {
+    let one = Found {
+        index: 1,
+        number: 2,
+    };
+    let alike = one;
+    let others = [Found { index: 3, ..one }, Found { number: 3, ..one }];
+    tells(&one, &alike, &others)
+}
+
+#[test]
+fn parts_of_writers_and_searches_that_differ_are_unequal(rt: HostRuntime) {
+    holds(&rt, "places", places_differ());
+    holds(&rt, "chunks", chunks_differ());
+    holds(&rt, "descriptions", descriptions_differ());
+    holds(&rt, "durations", durations_differ());
+    holds(&rt, "found numbers", found_numbers_differ());
+}
+
+/// A sample that is lent.
+fn lent(bytes: &[u8]) -> SampleRef<'_> {
+    SampleRef {
+        start_time: 1,
+        duration: 2,
+        rendering_offset: -3,
+        is_sync: true,
+        bytes,
+    }
+}
+
+/// Whether samples that are lent and differ in any one field are unequal. Where their bytes lie doesn't count.
+fn lent_samples_differ() -> bool {
+    let text = [b'a', b'b', b'a', b'b'];
+    let one = lent(&text[..2]);
+    let alike = lent(&text[2..]);
+    let others = [
+        SampleRef {
+            start_time: 4,
+            ..one
+        },
+        SampleRef { duration: 4, ..one },
+        SampleRef {
+            rendering_offset: 3,
+            ..one
+        },
+        SampleRef {
+            is_sync: false,
+            ..one
+        },
+        lent(&text[1..3]),
+        lent(&text[..1]),
+    ];
+    let mut all = compares(&one, &alike, &others) && is_equal_sample(&one, &alike);
+    for other in &others {
+        all = all && !is_equal_sample(&one, other);
+    }
+    all
+}
+
+/// Whether questions for samples that differ in any one field are unequal.
+fn queries_differ() -> bool {
+    let one = SampleQuery {
+        bytes: b"ab",
+        start: 1,
+        size: 2,
+        track_id: 3,
+        number: 4,
+    };
+    let alike = one;
+    let others = [
+        SampleQuery {
+            bytes: b"ac",
+            ..one
+        },
+        SampleQuery { start: 5, ..one },
+        SampleQuery { size: 5, ..one },
+        SampleQuery { track_id: 5, ..one },
+        SampleQuery { number: 5, ..one },
+    ];
+    compares(&one, &alike, &others)
+}
+
+/// Whether faults of scripts that differ in the line, in the error or in their kind are unequal.
+fn faults_differ() -> bool {
+    let line = ScriptFault::NotACommand(1);
+    let call = ScriptFault::Refused(1, Error::Ended);
+    let end = ScriptFault::End(Error::Ended);
+    let lines = [ScriptFault::NotACommand(2), ScriptFault::End(Error::Ended)];
+    let calls = [
+        ScriptFault::Refused(2, Error::Ended),
+        ScriptFault::Refused(1, Error::OutOfMemory),
+        ScriptFault::NotACommand(1),
+    ];
+    let ends = [
+        ScriptFault::End(Error::OutOfMemory),
+        ScriptFault::Refused(1, Error::Ended),
+    ];
+    compares(&line, &ScriptFault::NotACommand(1), &lines)
+        && compares(&call, &ScriptFault::Refused(1, Error::Ended), &calls)
+        && compares(&end, &ScriptFault::End(Error::Ended), &ends)
+}
+
+#[test]
+fn lent_samples_queries_and_faults_that_differ_are_unequal(rt: HostRuntime) {
+    holds(&rt, "lent samples", lent_samples_differ());
+    holds(&rt, "queries", queries_differ());
+    holds(&rt, "faults", faults_differ());
 }
