@@ -3,20 +3,20 @@
 use crate::asserts::{check, holds};
 use mp4_boxes::{EdtsBox, MdiaBox, MinfBox, MoovBox, StblBox, TrakBox};
 use mp4_codec::{
-    BoxHeader, BoxType, ExactEq, FixedPointI8, FixedPointU8, FixedPointU16, FourCC, Items,
-    KeyedItems, Limit, ReadBox, Result, Text, TryClone, is_equal,
+    BoxHeader, BoxType, Child, Error, ExactEq, FixedPointI8, FixedPointU8, FixedPointU16, FourCC,
+    Items, KeyedItems, Limit, Malformed, ReadBox, Result, Text, TryClone, is_equal,
 };
 use mp4_entry::{
-    AudioObjectType, Avc1Box, AvcConfig, AvcProfile, ChannelConfig, EsdsBox, Hev1Box, HevcConfig,
-    MediaConfig, MediaType, Mp4aBox, NalUnit, SampleFreqIndex, StsdBox, TrackType, Tx3gBox,
-    Vp09Box, Vp9Config,
+    AacConfig, AudioObjectType, Avc1Box, AvcConfig, AvcProfile, ChannelConfig, EsdsBox, Hev1Box,
+    HevcConfig, MediaConfig, MediaType, Mp4aBox, NalUnit, SampleFreqIndex, StsdBox, TrackType,
+    Tx3gBox, Vp09Box, Vp9Config,
 };
 use mp4_frag::{EmsgBox, MehdBox, MfhdBox, TfdtBox, TfhdBox, TrexBox, TrunBox};
 use mp4_leaf::{
     DataBox, DataType, DinfBox, DrefBox, ElstBox, ElstEntry, FtypBox, HdlrBox, Matrix, MdhdBox,
     MvhdBox, RgbColor, SmhdBox, TkhdBox, UrlBox, VmhdBox,
 };
-use mp4_meta::{IlstBox, MetaBox, MetadataKey, UdtaBox};
+use mp4_meta::{IlstBox, IlstItemBox, MetaBox, MetadataKey, UdtaBox};
 use mp4_moof::{MoofBox, MvexBox, TrafBox};
 use mp4_plain_movies::movie_bytes::{FRAGMENT, FULL_MOVIE};
 use mp4_plain_movies::spelled::read_bytes;
@@ -31,6 +31,24 @@ use std::process::Abort;
 fn are_apart<T: ExactEq>(one: &T, other: &T) -> bool {
     let is_itself = is_equal(one, one) && is_equal(other, other);
     is_itself && *one != *other && !is_equal(other, one)
+}
+
+/// Whether a value is equal to one of the same fields, and unequal to each of others, which differ from it in one field.
+fn tells_each<T: ExactEq>(one: &T, alike: &T, others: &[T]) -> bool {
+    let mut all = is_equal(one, alike) && *alike == *one;
+    for other in others {
+        all = all && are_apart(one, other);
+    }
+    all
+}
+
+/// The same by `==` alone.
+fn compares_each<T: PartialEq>(one: &T, alike: &T, others: &[T]) -> bool {
+    let mut all = *one == *alike && *alike == *one;
+    for other in others {
+        all = all && *other == *other && *one != *other && *other != *one;
+    }
+    all
 }
 
 /// Ends the test unless two values are unequal, and each is equal to itself.
@@ -166,6 +184,22 @@ fn metadata_that_differs_is_unequal(rt: HostRuntime) {
     check(&rt, 3, tells::<MetaBox>(alloc, &FULL_MOVIE[747..855], 107));
     check(&rt, 4, tells::<IlstBox>(alloc, &FULL_MOVIE[792..855], 62));
     check(&rt, 5, tells::<UdtaBox>(alloc, &FULL_MOVIE[739..855], 115));
+}
+
+/// Whether items of metadata whose values differ are unequal.
+fn items_differ(alloc: Global) -> Result<bool> {
+    let one = IlstItemBox::default(alloc)?;
+    let alike = IlstItemBox::default(alloc)?;
+    let mut longer = IlstItemBox::default(alloc)?;
+    longer.item.bytes.push(1)?;
+    let mut other = IlstItemBox::default(alloc)?;
+    other.item.data_type = DataType::Other(5);
+    Ok(tells_each(&one, &alike, &[longer, other]))
+}
+
+#[test]
+fn items_of_metadata_that_differ_are_unequal(rt: HostRuntime) {
+    check(&rt, 1, items_differ(rt.alloc()));
 }
 
 /// Whether entries of AVC whose configurations differ are unequal.
@@ -390,6 +424,31 @@ fn audio_object_types_differ() -> Result<bool> {
     ))
 }
 
+/// Whether configurations of AAC that differ in any one field are unequal.
+fn aac_configurations_differ() -> Result<bool> {
+    let one = AacConfig {
+        bitrate: 128_000,
+        profile: AudioObjectType::try_from(2)?,
+        freq_index: SampleFreqIndex::Freq48000,
+        chan_conf: ChannelConfig::Mono,
+    };
+    let alike = one;
+    let profile = AudioObjectType::try_from(5)?;
+    let others = [
+        AacConfig { bitrate: 1, ..one },
+        AacConfig { profile, ..one },
+        AacConfig {
+            freq_index: SampleFreqIndex::Freq44100,
+            ..one
+        },
+        AacConfig {
+            chan_conf: ChannelConfig::Stereo,
+            ..one
+        },
+    ];
+    Ok(tells_each(&one, &alike, &others))
+}
+
 #[test]
 fn configurations_that_differ_are_unequal(rt: HostRuntime) {
     differ(&rt, 1, AvcProfile::AvcMain, AvcProfile::AvcHigh);
@@ -404,6 +463,7 @@ fn configurations_that_differ_are_unequal(rt: HostRuntime) {
     differ(&rt, 9, vp9(1), vp9(2));
     let one = MediaConfig::HevcConfig(hevc(1));
     differ(&rt, 10, one, MediaConfig::HevcConfig(hevc(2)));
+    check(&rt, 11, aac_configurations_differ());
 }
 
 #[test]
@@ -435,4 +495,112 @@ fn places_that_differ_are_unequal(rt: HostRuntime) {
         ..place
     };
     differ(&rt, 2, place, late);
+}
+
+/// Whether children that differ in their type or their payload are unequal. Where the payload lies doesn't count.
+fn children_differ() -> bool {
+    let bytes = [1, 2, 1, 2];
+    let name = BoxType::FreeBox;
+    let one = Child {
+        name,
+        payload: &bytes[..2],
+    };
+    let alike = Child {
+        name,
+        payload: &bytes[2..],
+    };
+    let others = [
+        Child {
+            name: BoxType::WideBox,
+            ..one
+        },
+        Child {
+            payload: &bytes[1..3],
+            ..one
+        },
+        Child {
+            payload: &bytes[..1],
+            ..one
+        },
+    ];
+    compares_each(&one, &alike, &others)
+}
+
+/// Whether causes of a field that differ in their text are unequal.
+fn malformed_fields_differ() -> bool {
+    let one = Malformed { text: "ab" };
+    let alike = Malformed { text: "ab" };
+    let others = [Malformed { text: "ac" }, Malformed { text: "a" }];
+    compares_each(&one, &alike, &others)
+}
+
+#[test]
+fn children_and_causes_of_fields_that_differ_are_unequal(rt: HostRuntime) {
+    holds(&rt, "children", children_differ());
+    holds(&rt, "causes", malformed_fields_differ());
+}
+
+const FIRST: BoxType = BoxType::MoovBox;
+
+const OTHER: BoxType = BoxType::TrakBox;
+
+/// Errors of each kind, and such that differ from them in one field: no two are the same.
+const ERRORS: [Error; 40] = [
+    Error::EndOfData,
+    Error::OutOfMemory,
+    Error::InvalidData("ab"),
+    Error::InvalidData("ac"),
+    Error::InvalidData("a"),
+    Error::BoxNotFound(FIRST),
+    Error::BoxNotFound(OTHER),
+    Error::BoxNotFound(BoxType::UnknownBox(1)),
+    Error::BoxNotFound(BoxType::UnknownBox(2)),
+    Error::Box2NotFound(FIRST, FIRST),
+    Error::Box2NotFound(FIRST, OTHER),
+    Error::Box2NotFound(OTHER, FIRST),
+    Error::TrakNotFound(1),
+    Error::TrakNotFound(2),
+    Error::BoxInTrakNotFound(1, FIRST),
+    Error::BoxInTrakNotFound(1, OTHER),
+    Error::BoxInTrakNotFound(2, FIRST),
+    Error::BoxInTrafNotFound(1, FIRST),
+    Error::BoxInTrafNotFound(1, OTHER),
+    Error::BoxInTrafNotFound(2, FIRST),
+    Error::BoxInStblNotFound(1, FIRST),
+    Error::BoxInStblNotFound(1, OTHER),
+    Error::BoxInStblNotFound(2, FIRST),
+    Error::EntryInStblNotFound(1, FIRST, 1),
+    Error::EntryInStblNotFound(1, FIRST, 2),
+    Error::EntryInStblNotFound(1, OTHER, 1),
+    Error::EntryInStblNotFound(2, FIRST, 1),
+    Error::EntryInTrunNotFound(1, FIRST, 1),
+    Error::EntryInTrunNotFound(1, FIRST, 2),
+    Error::EntryInTrunNotFound(1, OTHER, 1),
+    Error::EntryInTrunNotFound(2, FIRST, 1),
+    Error::UnsupportedBoxVersion(FIRST, 1),
+    Error::UnsupportedBoxVersion(FIRST, 2),
+    Error::UnsupportedBoxVersion(OTHER, 1),
+    Error::Ended,
+    Error::ZeroTimescale,
+    Error::TooLarge(Limit::Value),
+    Error::TooLarge(Limit::BoxSize),
+    Error::Unrepresentable("ab"),
+    Error::Unrepresentable("ac"),
+];
+
+/// Whether an error is equal to the one at its own place of the list, and unequal to each other one.
+fn is_told(place: usize, error: &Error) -> bool {
+    let mut all = true;
+    for (at, other) in ERRORS.iter().enumerate() {
+        let is_same = place == at;
+        all = all && (*error == *other) == is_same && (*error != *other) != is_same;
+    }
+    all
+}
+
+#[test]
+fn errors_that_differ_are_unequal(rt: HostRuntime) {
+    for (place, error) in ERRORS.iter().enumerate() {
+        holds(&rt, place, is_told(place, error));
+    }
 }

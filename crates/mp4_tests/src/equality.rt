@@ -24,7 +24,7 @@ fn are_alike<T: ExactEq>(one: &T, other: &T) -> bool {
 }
 
 /// Whether a value is equal to one of the same fields, and unequal to each of others, which differ from it in one field.
-fn tells<T: ExactEq>(one: &T, alike: &T, others: &[T]) -> bool {
+fn tells_each<T: ExactEq>(one: &T, alike: &T, others: &[T]) -> bool {
     let mut all = are_alike(one, alike);
     for other in others {
         all = all && are_apart(one, other);
@@ -33,7 +33,7 @@ fn tells<T: ExactEq>(one: &T, alike: &T, others: &[T]) -> bool {
 }
 
 /// The same by `==` alone.
-fn compares<T: PartialEq>(one: &T, alike: &T, others: &[T]) -> bool {
+fn compares_each<T: PartialEq>(one: &T, alike: &T, others: &[T]) -> bool {
     let mut all = *one == *alike && *alike == *one;
     for other in others {
         all = all && *other == *other && *one != *other && *other != *one;
@@ -139,7 +139,7 @@ fn additions_differ(alloc: Global) -> Result<bool> {
     let one = WriterCall::AddTrack(track(alloc, 0)?);
     let alike = WriterCall::AddTrack(track(alloc, 0)?);
     let others = [WriterCall::AddTrack(track(alloc, 2)?), WriterCall::WriteEnd];
-    Ok(tells(&one, &alike, &others))
+    Ok(tells_each(&one, &alike, &others))
 }
 
 /// Whether calls that write samples are unequal where the track's id or the sample is another.
@@ -152,7 +152,7 @@ fn writes_differ(alloc: Global) -> Result<bool> {
         WriterCall::AddTrack(track(alloc, 0)?),
         WriterCall::WriteEnd,
     ];
-    Ok(tells(&one, &alike, &others))
+    Ok(tells_each(&one, &alike, &others))
 }
 
 #[test]
@@ -176,7 +176,7 @@ fn defaults_differ() -> bool {
         SampleDefaults { size: 4, ..one },
         SampleDefaults { flags: 4, ..one },
     ];
-    tells(&one, &alike, &others)
+    tells_each(&one, &alike, &others)
 }
 
 /// Whether beginnings of members that differ in any one field are unequal.
@@ -197,7 +197,7 @@ fn beginnings_differ() -> bool {
             ..one
         },
     ];
-    tells(&one, &alike, &others)
+    tells_each(&one, &alike, &others)
 }
 
 /// A member of a run.
@@ -234,7 +234,7 @@ fn members_differ() -> bool {
             ..one
         },
     ];
-    tells(&one, &member(), &others)
+    tells_each(&one, &member(), &others)
 }
 
 /// Whether members that were found differ with the member and with what it cost.
@@ -256,7 +256,7 @@ fn found_members_differ() -> bool {
             ..one
         },
     ];
-    tells(&one, &alike, &others)
+    tells_each(&one, &alike, &others)
 }
 
 #[test]
@@ -280,7 +280,7 @@ fn places_differ() -> bool {
         ChunkPlace { count: 4, ..one },
         ChunkPlace { offset: 4, ..one },
     ];
-    tells(&one, &alike, &others)
+    tells_each(&one, &alike, &others)
 }
 
 /// Whether chunks that differ in their track or their index are unequal.
@@ -288,7 +288,7 @@ fn chunks_differ() -> bool {
     let one = ChunkRef { track: 1, index: 2 };
     let alike = one;
     let others = [ChunkRef { track: 3, ..one }, ChunkRef { index: 3, ..one }];
-    tells(&one, &alike, &others)
+    tells_each(&one, &alike, &others)
 }
 
 /// Whether what tables say of samples is unequal where it differs in any one field.
@@ -312,7 +312,7 @@ fn descriptions_differ() -> bool {
             ..one
         },
     ];
-    tells(&one, &alike, &others)
+    tells_each(&one, &alike, &others)
 }
 
 /// Whether durations that differ in either field are unequal.
@@ -320,7 +320,7 @@ fn durations_differ() -> bool {
     let one = Durations { media: 1, movie: 2 };
     let alike = one;
     let others = [Durations { media: 3, ..one }, Durations { movie: 3, ..one }];
-    tells(&one, &alike, &others)
+    tells_each(&one, &alike, &others)
 }
 
 /// Whether numbers that were found are unequal where the number or its index is another.
@@ -331,7 +331,7 @@ fn found_numbers_differ() -> bool {
     };
     let alike = one;
     let others = [Found { index: 3, ..one }, Found { number: 3, ..one }];
-    tells(&one, &alike, &others)
+    tells_each(&one, &alike, &others)
 }
 
 #[test]
@@ -376,8 +376,8 @@ fn lent_samples_differ() -> bool {
         lent(&text[1..3]),
         lent(&text[..1]),
     ];
-    let mut all = compares(&one, &alike, &others) && is_equal_sample(&one, &alike);
-    for other in &others {
+    let mut all = compares_each(&one, &alike, &others) && is_equal_sample(&one, &alike);
+    for other in others.iter() {
         all = all && !is_equal_sample(&one, other);
     }
     all
@@ -403,7 +403,7 @@ fn queries_differ() -> bool {
         SampleQuery { track_id: 5, ..one },
         SampleQuery { number: 5, ..one },
     ];
-    compares(&one, &alike, &others)
+    compares_each(&one, &alike, &others)
 }
 
 /// Whether faults of scripts that differ in the line, in the error or in their kind are unequal.
@@ -421,9 +421,9 @@ fn faults_differ() -> bool {
         ScriptFault::End(Error::OutOfMemory),
         ScriptFault::Refused(1, Error::Ended),
     ];
-    compares(&line, &ScriptFault::NotACommand(1), &lines)
-        && compares(&call, &ScriptFault::Refused(1, Error::Ended), &calls)
-        && compares(&end, &ScriptFault::End(Error::Ended), &ends)
+    compares_each(&line, &ScriptFault::NotACommand(1), &lines)
+        && compares_each(&call, &ScriptFault::Refused(1, Error::Ended), &calls)
+        && compares_each(&end, &ScriptFault::End(Error::Ended), &ends)
 }
 
 #[test]
