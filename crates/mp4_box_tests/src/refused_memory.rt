@@ -18,7 +18,7 @@ use mp4_leaf::{
     DataBox, DinfBox, DrefBox, ElstBox, FtypBox, HdlrBox, MdhdBox, MvhdBox, SmhdBox, TkhdBox,
     UrlBox, VmhdBox,
 };
-use mp4_meta::{IlstBox, MetaBox, Metadata};
+use mp4_meta::{IlstBox, IlstItemBox, MetaBox, Metadata};
 use mp4_moof::{MoofBox, MvexBox, TrafBox};
 use mp4_plain_movies::movie_bytes::{EMPTY_MOVIE, FRAGMENT, FULL_MOVIE};
 use mp4_plain_movies::sample_boxes::Number;
@@ -548,6 +548,12 @@ fn a_refused_default_of_fragments_is_made_again(rt: HostRuntime) {
         IlstBox::default(rt.alloc()),
     );
     holds(&rt, "IlstBox", alike);
+    let alike = are_alike(
+        &rt,
+        IlstItemBox::default(rt.alloc()),
+        IlstItemBox::default(rt.alloc()),
+    );
+    holds(&rt, "IlstItemBox", alike);
     let alike = are_alike(
         &rt,
         MetaBox::default(rt.alloc()),
