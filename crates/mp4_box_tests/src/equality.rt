@@ -33,7 +33,8 @@ fn are_apart<T: ExactEq>(one: &T, other: &T) -> bool {
     is_itself && *one != *other && !is_equal(other, one)
 }
 
-/// Whether a value is equal to one of the same fields, and unequal to each of others, which differ from it in one field.
+/// Whether a value is equal to one of the same fields, and unequal to each of others, which differ from it in one
+/// field.
 fn tells_each<T: ExactEq>(one: &T, alike: &T, others: &[T]) -> bool {
     let mut all = is_equal(one, alike) && *alike == *one;
     for other in others {

@@ -2,6 +2,8 @@
 //! these tests with one request refused, each in turn. A refused call then answers `OutOfMemory`, it leaves what it
 //! must, and made again it is Ok. While a test prints that a request was refused, the next one is tried.
 
+mod broken_boxes;
+
 use crate::asserts::{check, holds};
 use mp4_boxes::{MdiaBox, MinfBox, MoovBox, StblBox, TrakBox};
 use mp4_codec::{
@@ -130,71 +132,6 @@ fn a_refused_call_of_a_header_box_is_made_again(rt: HostRuntime) {
     let movie = &EMPTY_MOVIE[48..];
     check(&rt, 1, is_kept::<MoovBox>(&rt, movie));
     check(&rt, 2, is_kept::<MvhdBox>(&rt, &movie[8..]));
-}
-
-/// Whether a box is refused as `InvalidData`.
-fn is_invalid<B: ReadBox>(rt: &HostRuntime, bytes: &[u8]) -> bool {
-    matches!(
-        read_bytes::<B>(rt.alloc(), bytes),
-        Err(Error::InvalidData(_))
-    )
-}
-
-/// Runs of chunks of which the second begins before the first.
-const FALLING_STSC: [u8; 40] = *b"\
-    \0\0\0\x28stsc\0\0\0\0\0\0\0\x02\
-    \0\0\0\x02\0\0\0\x01\0\0\0\x01\0\0\0\x01\0\0\0\x01\0\0\0\x01";
-
-/// A configuration of which the picture parameter set has one byte in place of four.
-const CUT_AVCC: [u8; 22] = *b"\0\0\0\x16avcC\x01B\xc0\x1e\xff\xe1\0\x02gB\x01\0\x04h";
-
-/// A run that counts two samples, and lists one.
-const SHORT_TRUN: [u8; 20] = *b"\0\0\0\x14trun\0\0\x01\0\0\0\0\x02\0\0\0\x05";
-
-/// Metadata of handler `mdir`, whose list of items has a child that passes the end.
-const BROKEN_META: [u8; 61] = *b"\
-    \0\0\0\x3dmeta\0\0\0\0\
-    \0\0\0\x21hdlr\0\0\0\0\0\0\0\0mdir\0\0\0\0\0\0\0\0\0\0\0\0\0\
-    \0\0\0\x10ilst\0\0\0\x09\xa9nam";
-
-#[test]
-fn a_broken_leaf_is_refused_before_memory_is_requested(rt: HostRuntime) {
-    holds(
-        &rt,
-        1,
-        is_invalid::<FtypBox>(&rt, b"\0\0\0\x0eftypisom\0\0"),
-    );
-    holds(
-        &rt,
-        2,
-        is_invalid::<HdlrBox>(&rt, b"\0\0\0\x0chdlr\0\0\0\0"),
-    );
-    holds(
-        &rt,
-        3,
-        is_invalid::<ElstBox>(&rt, b"\0\0\0\x10elst\0\0\0\0\0\0\0\x01"),
-    );
-    holds(&rt, 4, is_invalid::<StscBox>(&rt, &FALLING_STSC));
-    holds(&rt, 5, is_invalid::<TrunBox>(&rt, &SHORT_TRUN));
-    holds(
-        &rt,
-        6,
-        is_invalid::<EmsgBox>(&rt, b"\0\0\0\x0eemsg\0\0\0\0ab"),
-    );
-    holds(&rt, 7, is_invalid::<AvcCBox>(&rt, &CUT_AVCC));
-}
-
-#[test]
-fn a_broken_container_is_refused_before_memory_is_requested(rt: HostRuntime) {
-    let trak = b"\0\0\0\x14trak\0\0\0\x0ctkhd\x02\0\0\0";
-    holds(&rt, 1, is_invalid::<TrakBox>(&rt, trak));
-    holds(&rt, 2, is_invalid::<MetaBox>(&rt, &BROKEN_META));
-    let empty = read_bytes::<MoovBox>(rt.alloc(), b"\0\0\0\x08moov");
-    holds(
-        &rt,
-        3,
-        matches!(empty, Err(Error::BoxNotFound(BoxType::MvhdBox))),
-    );
 }
 
 /// A title of a byte that begins no character and an A, a year, and a summary of such a byte and a B.

@@ -1,4 +1,4 @@
-//! Values of movies that differ in one field are unequal, and each is equal to itself and to one that has the same fields.
+//! Values of movies that differ in one field are unequal, and each is equal to itself and to one of the same fields.
 
 use crate::asserts::{check, holds};
 use bytes::Bytes;
@@ -23,7 +23,8 @@ fn are_alike<T: ExactEq>(one: &T, other: &T) -> bool {
     is_equal(one, other) && *other == *one
 }
 
-/// Whether a value is equal to one of the same fields, and unequal to each of others, which differ from it in one field.
+/// Whether a value is equal to one of the same fields, and unequal to each of others, which differ from it in one
+/// field.
 fn tells_each<T: ExactEq>(one: &T, alike: &T, others: &[T]) -> bool {
     let mut all = are_alike(one, alike);
     for other in others {
