@@ -7,6 +7,7 @@ use super::texts::{EMPTY_INFO, EMPTY_MOVIE, TEXT_INFO, TEXT_SAMPLES, TEXT_SCRIPT
 use mp4_media::{Error, Result};
 use mp4_script::{ScriptFault, fault_text, info_text, run_script, samples_text, show_text};
 use std::fs;
+use std::test::Fail;
 
 /// Prints that a request was refused, and answers whether the call said so.
 fn is_refusal(rt: &HostRuntime, error: &Error) -> bool {
@@ -183,5 +184,78 @@ fn refused_lines_of_a_track_are_made_again(
     };
     let text = text.map_err(ScriptFault::End)?;
     assert!(rt; text.as_slice() == TEXT_SAMPLES.as_bytes());
+    Ok(())
+}
+
+/// Whether a run says one of these texts and nothing else; that text is printed.
+fn says_one_of(rt: &HostRuntime, printed: &Printed, texts: &[&str]) -> bool {
+    for text in texts {
+        if printed.is(1, "", text) {
+            let _ = println!(rt; "said: {text}");
+            return is_refusal(rt, &Error::OutOfMemory);
+        }
+    }
+    false
+}
+
+/// Runs a script. Where a request is refused it prints what the run says, one of these texts, or that it says nothing.
+/// Else it prints the texts, which runs have to say in this order while their requests are refused in turn; a text may
+/// be said of several requests. `./refused_memory` compares what was said with them.
+fn says_in_turn(rt: &HostRuntime, script: &str, texts: &[&str]) -> bool {
+    match ran(rt, "show", &mut script.as_bytes()) {
+        Ok(printed) if printed.status == 0 => {
+            for text in texts {
+                let _ = println!(rt; "wanted: {text}");
+            }
+            true
+        }
+        Ok(printed) => says_one_of(rt, &printed, texts),
+        Err(error) => {
+            let _ = println!(rt; "said: nothing");
+            is_refusal(rt, &error)
+        }
+    }
+}
+
+/// The arguments are made, the script is read and the movie is begun before the lines; what is shown is kept last.
+#[test]
+fn a_refused_third_line_says_so(rt: HostRuntime) {
+    let texts = [
+        "nothing",
+        "mp4_tool: out of memory\n",
+        "mp4_tool: end: out of memory\n",
+        "mp4_tool: line 3: out of memory\n",
+        "mp4_tool: end: out of memory\n",
+        "nothing",
+    ];
+    assert!(rt; says_in_turn(&rt, "\n\ntrack text 1000\n", &texts));
+}
+
+#[test]
+fn each_refused_line_says_so(rt: HostRuntime) {
+    let texts = [
+        "nothing",
+        "mp4_tool: out of memory\n",
+        "mp4_tool: end: out of memory\n",
+        "mp4_tool: line 1: out of memory\n",
+        "mp4_tool: line 2: out of memory\n",
+        "mp4_tool: line 3: out of memory\n",
+        "mp4_tool: line 5: out of memory\n",
+        "mp4_tool: end: out of memory\n",
+        "nothing",
+    ];
+    assert!(rt; says_in_turn(&rt, TEXT_SCRIPT, &texts));
+}
+
+/// Of a script without lines only the end can be refused, to which the beginning counts.
+#[test]
+fn a_refused_end_says_so(rt: HostRuntime) -> std::result::Result<(), Fail> {
+    if let Err(fault) = run_script(rt.alloc(), b"\n") {
+        let _ = println!(rt; "a request was refused");
+        assert_eq!(rt;
+            format!(in rt.alloc(); "{fault}")?.as_str(),
+            "end: out of memory"
+        );
+    }
     Ok(())
 }
