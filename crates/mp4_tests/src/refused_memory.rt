@@ -1,6 +1,6 @@
 //! Calls whose requests for memory may be refused: with ample memory each succeeds at once. `./refused_memory` runs
 //! these tests with one request refused, each in turn. A refused call then answers `OutOfMemory`, it leaves what it
-//! must, and made again it is Ok. While a test prints that a request was refused, the next one is tried.
+//! must, and made again it is Ok; or it does without that memory. The next request is tried until a test makes no more.
 
 use crate::asked::{is_held, lends};
 use crate::asserts::{check, same};

@@ -233,7 +233,7 @@ fn a_payload_of_an_unread_version_is_refused_before_memory_is_requested(rt: Host
     }
 }
 
-/// Boxes, and payloads whose lists have one byte less than they count.
+/// Boxes, and payloads whose lists have fewer bytes than are counted.
 const COUNTED: [(BoxType, &[u8]); 10] = [
     (
         BoxType::ElstBox,
@@ -271,6 +271,13 @@ const COUNTED: [(BoxType, &[u8]); 10] = [
     ),
 ];
 
+#[test]
+fn a_list_that_passes_the_end_is_refused_before_memory_is_requested(rt: HostRuntime) {
+    for (kind, payload) in COUNTED {
+        holds(&rt, kind, is_refused(rt.alloc(), kind, payload, &INVALID));
+    }
+}
+
 /// Runs of chunks of which the second begins before the first.
 const FALLING_STSC: [u8; 32] = *b"\
     \0\0\0\0\0\0\0\x02\
@@ -280,10 +287,7 @@ const FALLING_STSC: [u8; 32] = *b"\
 const ENDLESS_EMSG: [u8; 6] = *b"\0\0\0\0\0b";
 
 #[test]
-fn a_list_that_passes_the_end_is_refused_before_memory_is_requested(rt: HostRuntime) {
-    for (kind, payload) in COUNTED {
-        holds(&rt, kind, is_refused(rt.alloc(), kind, payload, &INVALID));
-    }
+fn falling_runs_and_an_endless_text_are_refused_before_memory_is_requested(rt: HostRuntime) {
     let stsc = is_refused(rt.alloc(), BoxType::StscBox, &FALLING_STSC, &INVALID);
     holds(&rt, "falling stsc", stsc);
     let emsg = is_refused(rt.alloc(), BoxType::EmsgBox, &ENDLESS_EMSG, &INVALID);
