@@ -29,7 +29,7 @@ abbrev pub comparisons_counted : Counters → Comparisons
 comparisons_counted c = record { stsc = c.stsc; stts = c.stts; ctts = c.ctts; stss = c.stss; runs = c.runs }
 
 -- What the lookup of sample k counts, by a search that counts so in numbers that rise, and so in a set of bits: in each
--- table one search, in stss where its numbers strictly rise, and else one look-up in the set; and nothing in the runs of
+-- table one search, in stss where its numbers strictly rise, and else what the set counts; and nothing in the runs of
 -- fragments.
 pub record AreCounts (counts : List ℕ → ℕ → ℕ → Type 0) (looks : BitSet → ℕ → ℕ) (index : TrackIndex) (k : ℕ)
     (c : Comparisons) : Type 0 where

@@ -79,11 +79,20 @@ impl Mp4Track {
     {
         let counters = Counters::of(self);
         let stbl = &self.trak.mdia.minf.stbl;
-        if self.trafs.is_empty() || k <= stbl.stsz.sample_count {
+        if self.is_of_movie(k) {
             place_at::<S>(stbl, &self.index, self.trak.tkhd.track_id, k, counters)
         } else {
             self.added_at::<S>(k - stbl.stsz.sample_count - 1, counters)
         }
+    }
+
+    /// Whether number `k` belongs to the movie box: any does in a track that no fragment names.
+    #[inline(always)]
+    fn is_of_movie(&self, k: u32) -> bool
+        ensures value { result ≡ is_of_movie self.now.trak self.now.trafs k }
+        ensures past { result ≡ false → (tables_of self.now.trak).stsz.sample_count < k }
+    {
+        self.trafs.is_empty() || k <= self.trak.mdia.minf.stbl.stsz.sample_count
     }
 
     /// Where the sample with this number lies among those that fragments add; it counts from 0.

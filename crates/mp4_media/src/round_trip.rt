@@ -143,7 +143,8 @@ pub fn write_and_read<'w, 'f>(
         (here query.now.bytes.now query.now.start) r.found) }
     ensures found_place { IfOk result (λ r. IfOk r.found
         (λ found. IsLocated found.movie query.now.track_id query.now.number found.place)) }
-    ensures found_sample { IfOk result (λ r. IfOk r.found (λ found. Answers (λ s. option_map timed_sample s) found.sample
+    ensures found_sample { IfOk result (λ r. IfOk r.found (λ found.
+        Answers (λ s. option_map timed_sample s) found.sample
         (sample_in query.now.bytes.now found.movie.tracks query.now.track_id query.now.number))) }
     ensures found_memory { IfOk result (λ r. IfOk r.found (λ found. IfErr found.sample (λ e. e ≡ Error.OutOfMemory
         → IsSample (sample_in query.now.bytes.now found.movie.tracks query.now.track_id query.now.number)))) }

@@ -1,6 +1,6 @@
 -- Which numbers are among some numbers, by a bit for each of those below a bound.
-use Rattle.std.specs.Prelude.{◌≡◌, ℕ, ◌*◌, ◌/◌, ◌%◌, ◌<◌, ◌≤◌, Bool, true, false, List, length, slice_index, Option, Some, None}
-use Rattle.std.specs.Prelude.{nat_lt, ◌==◌, if◌then◌else◌, IsSome}
+use Rattle.std.specs.Prelude.{◌≡◌, ℕ, ◌*◌, ◌/◌, ◌%◌, ◌<◌, ◌≤◌, Bool, true, false, List, length, slice_index, nat_lt}
+use Rattle.std.specs.Prelude.{Option, Some, None, ◌==◌, if◌then◌else◌, IsSome}
 use Rattle.std.specs.List.{list_any}
 use Rattle.std.specs.Int.{bit_at}
 use Rattle.mp4_search.specs.declared.bit_set.BitSet.{BitSet}

@@ -1,6 +1,7 @@
 //! Which numbers are among some numbers, by a bit for each of those below a bound.
 
-ghost use Rattle.std.specs.Prelude.{◌≡◌, ℕ, ◌+◌, ◌-◌, ◌*◌, ◌^◌, ◌<◌, ◌≤◌, ◌==◌, ◌||◌, false, [], length, IfOk, slice_index};
+ghost use Rattle.std.specs.Prelude.{◌≡◌, ℕ, ◌+◌, ◌-◌, ◌*◌, ◌^◌, ◌<◌, ◌≤◌, ◌==◌, ◌||◌, false, [], length};
+ghost use Rattle.std.specs.Prelude.{IfOk, slice_index};
 ghost use Rattle.std.specs.List.{All};
 ghost use Rattle.mp4_search.specs.BitSet.{AreBitsOf, KnowsUpTo, bit_of, has_bit, looks_at_bit};
 

@@ -82,8 +82,8 @@ impl Slope {
     }
 
     /// Whether the number at an index is farther from its place on the line than three fifths of the root of how many
-    /// numbers there are. Numbers that rise by even steps stray no farther, nor do most that rise by steps of chance; those that
-    /// do are found by halves as soon, since looks near the guess would be in vain.
+    /// numbers there are. Numbers that rise by even steps don't stray so far, nor do most that rise by steps of chance.
+    /// Those that do are found by halves as soon, since most looks near the guess would be in vain.
     fn strays(self, numbers: &[u32], index: usize) -> bool {
         let Some(number) = numbers.get(index) else {
             return false;

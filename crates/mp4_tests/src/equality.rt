@@ -4,7 +4,7 @@ use crate::asserts::{check, holds};
 use bytes::Bytes;
 use mp4_codec::{Error, ExactEq, FourCC, Items, Result, Text, is_equal};
 use mp4_entry::{MediaConfig, TrackType, TtxtConfig, Vp9Config};
-use mp4_fragments::{Beginning, FoundMember, Member, SampleDefaults};
+use mp4_fragments::{Beginning, Member, SampleDefaults};
 use mp4_media::searching::Found;
 use mp4_media::writing::{ChunkPlace, ChunkRef, Durations, SampleInfo};
 use mp4_media::{Mp4Config, SampleQuery, TrackConfig, WriterCall, is_equal_sample};
@@ -238,34 +238,11 @@ fn members_differ() -> bool {
     tells_each(&one, &member(), &others)
 }
 
-/// Whether members that were found differ with the member and with what it cost.
-fn found_members_differ() -> bool {
-    let member = member();
-    let one = FoundMember {
-        member,
-        comparisons: 1,
-    };
-    let alike = one;
-    let long = Member { size: 4, ..member };
-    let others = [
-        FoundMember {
-            member: long,
-            ..one
-        },
-        FoundMember {
-            comparisons: 2,
-            ..one
-        },
-    ];
-    tells_each(&one, &alike, &others)
-}
-
 #[test]
 fn samples_of_fragments_that_differ_are_unequal(rt: HostRuntime) {
     holds(&rt, "defaults", defaults_differ());
     holds(&rt, "beginnings", beginnings_differ());
     holds(&rt, "members", members_differ());
-    holds(&rt, "found members", found_members_differ());
 }
 
 /// Whether places of chunks that differ in any one field are unequal.

@@ -8,8 +8,8 @@ returns-then-stsz-gt0-clause-sum c =
     rw (c.from.ensures, c.from-then-stsz-gt0.ensures)
     (sym (sum-sizes_one c.args.stsz.now c.args.first c.args.k c.requires.from c.requires.to c.if-stsz-gt0.true))
 
-pub between-sum-requires-clause-order : goal.between-sum-requires-clause-order
-between-sum-requires-clause-order c =
+pub between-requires-clause-order : goal.between-requires-clause-order
+between-requires-clause-order c =
     let z = c.args.stsz.now in
     let there = rw (sizes_are_listed z c.args.k c.if-stsz-gt0.false) at c.requires.there in
     omega (
@@ -25,7 +25,7 @@ returns-clause-sum c =
     let there = rw listed at c.requires.there in
     rw listed (omega (
       arith,
-      c.between-sum.ensures.sum,
+      c.between.ensures.sum,
       sums_between z.sample_sizes c.args.sums.now c.args.first c.args.k c.requires.sums c.requires.small
           c.requires.from c.requires.to there (omega arith),
     ))

@@ -5,6 +5,7 @@ use Rattle.mp4_search.specs.SumLaws.{counts_rise, before_found, past_found, none
 use Rattle.mp4_lookup.proofs.Times.{time_at_in, time_at_past}
 use Rattle.mp4_lookup.proofs.Sums.{ticks_before, start_fits}
 use Rattle.mp4_lookup.proofs.timing.time_at.Goals as goal
+use Rattle.mp4_lookup.proofs.timing.time_at.Given.{Over}
 use Rattle.mp4_lookup.proofs.timing.time_at.Goals.{After-from-2}
 
 pub last_at_most-requires-clause-rises : goal.last_at_most-requires-clause-rises
@@ -28,9 +29,9 @@ returns-then-further-run-clause-time g c =
     time_at_past c.args.runs.now c.args.track_id c.args.k (i + 1) _ c.requires.first past.0 refl past.1
 
 -- what comes before the run that was found is below 2 ^ 64, and so it was kept as it is
-begins : (c : After-from-2) → get_or c.args.times.now c.in-Some.found.index 0
+begins : (g : Over) (c : After-from-2 g) → get_or c.args.times.now c.in-Some.found.index 0
     ≡ sum_by (λ (r : SttsEntry). r.sample_count * r.sample_delta) (take c.in-Some.found.index c.args.runs.now)
-begins c =
+begins g c =
     let runs = c.args.runs.now in
     let i = c.in-Some.found.index in
     let found = rw c.in-Some.is at c.last_at_most.ensures.found in
@@ -40,9 +41,9 @@ begins c =
     omega (arith, sums.times.each i before.0, ticks_before runs i sums.small, before.2)
 
 -- the sample begins before 64 bits end
-start_small : (c : After-from-2)
+start_small : (g : Over) (c : After-from-2 g)
     → get_or c.args.times.now c.in-Some.found.index 0 + c.from.result * c.from-2.result < 2 ^ 64
-start_small c =
+start_small g c =
     let d : SttsEntry = record { sample_count = 0; sample_delta = 0 } in
     let runs = c.args.runs.now in
     let i = c.in-Some.found.index in
@@ -53,11 +54,11 @@ start_small c =
     let ticks = ticks_before runs i sums.small in
     rw (c.from.ensures, c.from-2.ensures)
     (start_fits c.in-Some.found.number (get_or c.args.times.now i 0) c.args.k (get_or runs i d).sample_delta
-    (omega (arith, ticks, begins c, found.1, before.1)) (sums.small i d before.0)
+    (omega (arith, ticks, begins g c, found.1, before.1)) (sums.small i d before.0)
     (omega (arith, found.1, before.1, before.2)) (omega arith))
 
 pub overflow_add-start : goal.overflow_add-start
-overflow_add-start g c = omega (arith, start_small (goal.at.overflow_add-start c).After-from-2)
+overflow_add-start g c = omega (arith, start_small g (goal.at.overflow_add-start g c).After-from-2)
 
 pub returns-clause-time : goal.returns-clause-time
 returns-clause-time g c =
@@ -69,5 +70,5 @@ returns-clause-time g c =
     c.requires.sums.counts (omega arith) found.0 in
     rw (c.from.ensures, c.from-2.ensures)
     (time_at_in runs c.args.track_id c.args.k i c.in-Some.found.number (get_or c.args.times.now i 0) d c.requires.first
-    before.0 (found.1 ∙ before.1) (begins (goal.at.returns-clause-time c).After-from-2) (omega (arith, found.1, before.1, before.2))
+    before.0 (found.1 ∙ before.1) (begins g (goal.at.returns-clause-time g c).After-from-2) (omega (arith, found.1, before.1, before.2))
     (omega (arith, c.if-further-run.false)))

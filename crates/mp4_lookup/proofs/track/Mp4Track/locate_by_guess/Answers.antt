@@ -1,4 +1,4 @@
-use Rattle.std.proofs.Common.{◌≡◌, ◌×◌, ◌<◌, length, arith}
+use Rattle.std.proofs.Common.{◌≡◌, ◌<◌, length, arith}
 use Rattle.mp4_search.specs.Search.{IsCountByGuess}
 use Rattle.mp4_search.specs.BitSet.{looks_at_bit}
 use Rattle.mp4_samples.specs.Tables.{tables_of}
