@@ -5,6 +5,7 @@ ghost use Rattle.std.specs.Prelude.{◌≡◌, true, [], option_map, IfErr, IfOk
 ghost use Rattle.std.specs.List.{AllByRecursion};
 ghost use Rattle.mp4_codec.specs.Cause.{Answers, AnswersCause};
 ghost use Rattle.mp4_codec.specs.Cursor.{here};
+ghost use Rattle.mp4_codec.specs.declared.error.Error.TheVariants.{OutOfMemory};
 ghost use Rattle.mp4_lookup.specs.declared.track.Mp4Track.{Mp4Track};
 ghost use Rattle.mp4_samples.specs.Plain.{Consistent};
 ghost use Rattle.mp4_samples.specs.Samples.{timed_sample};
@@ -81,7 +82,7 @@ pub fn find_sample<'f>(alloc: Global, query: &SampleQuery<'f>) -> Result<FoundSa
     ensures opened { IsOpeningBy (λ found. found.movie) query.now.size (here query.now.bytes.now query.now.start) result }
     ensures place { IfOk result (λ found. IsLocated found.movie query.now.track_id query.now.number found.place) }
     ensures sample { IfOk result (λ found. Answers (λ s. option_map timed_sample s) found.sample (sample_in query.now.bytes.now found.movie.tracks query.now.track_id query.now.number)) }
-    ensures memory { IfOk result (λ found. IfErr found.sample (λ e. e ≡ Error.OutOfMemory
+    ensures memory { IfOk result (λ found. IfErr found.sample (λ e. e ≡ OutOfMemory
         → IsSample (sample_in query.now.bytes.now found.movie.tracks query.now.track_id query.now.number))) }
 {
     let mut file = ByteCursor::new(query.bytes);
@@ -146,7 +147,7 @@ pub fn write_and_read<'w, 'f>(
     ensures found_sample { IfOk result (λ r. IfOk r.found (λ found.
         Answers (λ s. option_map timed_sample s) found.sample
         (sample_in query.now.bytes.now found.movie.tracks query.now.track_id query.now.number))) }
-    ensures found_memory { IfOk result (λ r. IfOk r.found (λ found. IfErr found.sample (λ e. e ≡ Error.OutOfMemory
+    ensures found_memory { IfOk result (λ r. IfOk r.found (λ found. IfErr found.sample (λ e. e ≡ OutOfMemory
         → IsSample (sample_in query.now.bytes.now found.movie.tracks query.now.track_id query.now.number)))) }
     ensures cause { AnswersCause (start_cause config.now) result }
 {
