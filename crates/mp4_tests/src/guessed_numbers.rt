@@ -27,6 +27,7 @@ fn searched(numbers: Vec<u32>) -> Option<SearchedNumbers>
 }
 
 /// What is looked up in here: some numbers alone.
+#[derive(Clone, Copy)]
 struct OneList;
 
 impl LookedUp for OneList {}
