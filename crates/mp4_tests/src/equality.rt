@@ -384,29 +384,42 @@ fn queries_differ() -> bool {
     compares_each(&one, &alike, &others)
 }
 
-/// Whether faults of scripts that differ in the line, in the error or in their kind are unequal.
-fn faults_differ() -> bool {
-    let line = ScriptFault::NotACommand(1);
-    let call = ScriptFault::Refused(1, Error::Ended);
-    let end = ScriptFault::End(Error::Ended);
-    let lines = [ScriptFault::NotACommand(2), ScriptFault::End(Error::Ended)];
-    let calls = [
+/// Whether lines that are no command are told from those of another number, and from other faults.
+fn lines_differ() -> bool {
+    let one = ScriptFault::NotACommand(1);
+    let alike = ScriptFault::NotACommand(1);
+    let others = [ScriptFault::NotACommand(2), ScriptFault::End(Error::Ended)];
+    compares_each(&one, &alike, &others)
+}
+
+/// Whether refused lines are told from those of another number or for another error, and from other faults.
+fn refusals_differ() -> bool {
+    let one = ScriptFault::Refused(1, Error::Ended);
+    let alike = ScriptFault::Refused(1, Error::Ended);
+    let others = [
         ScriptFault::Refused(2, Error::Ended),
         ScriptFault::Refused(1, Error::OutOfMemory),
         ScriptFault::NotACommand(1),
     ];
-    let ends = [
+    compares_each(&one, &alike, &others)
+}
+
+/// Whether refused ends are told from those for another error, and from other faults.
+fn ends_differ() -> bool {
+    let one = ScriptFault::End(Error::Ended);
+    let alike = ScriptFault::End(Error::Ended);
+    let others = [
         ScriptFault::End(Error::OutOfMemory),
         ScriptFault::Refused(1, Error::Ended),
     ];
-    compares_each(&line, &ScriptFault::NotACommand(1), &lines)
-        && compares_each(&call, &ScriptFault::Refused(1, Error::Ended), &calls)
-        && compares_each(&end, &ScriptFault::End(Error::Ended), &ends)
+    compares_each(&one, &alike, &others)
 }
 
 #[test]
 fn lent_samples_queries_and_faults_that_differ_are_unequal(rt: HostRuntime) {
     holds(&rt, "lent samples", lent_samples_differ());
     holds(&rt, "queries", queries_differ());
-    holds(&rt, "faults", faults_differ());
+    holds(&rt, "lines", lines_differ());
+    holds(&rt, "refusals", refusals_differ());
+    holds(&rt, "ends", ends_differ());
 }
