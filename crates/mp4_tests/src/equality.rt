@@ -2,14 +2,13 @@
 
 use crate::asserts::{check, holds};
 use bytes::Bytes;
-use mp4_codec::{Error, ExactEq, FourCC, Items, Result, Text, is_equal};
+use mp4_codec::{ExactEq, FourCC, Items, Result, Text, is_equal};
 use mp4_entry::{MediaConfig, TrackType, TtxtConfig, Vp9Config};
 use mp4_fragments::{Beginning, Member, SampleDefaults};
 use mp4_media::searching::Found;
 use mp4_media::writing::{ChunkPlace, ChunkRef, Durations, SampleInfo};
 use mp4_media::{Mp4Config, SampleQuery, TrackConfig, WriterCall, is_equal_sample};
 use mp4_samples::{Mp4Sample, SampleRef};
-use mp4_script::ScriptFault;
 use std::alloc::Global;
 
 /// Whether two values are unequal, and each is equal to itself.
@@ -384,42 +383,8 @@ fn queries_differ() -> bool {
     compares_each(&one, &alike, &others)
 }
 
-/// Whether lines that are no command are told from those of another number, and from other faults.
-fn lines_differ() -> bool {
-    let one = ScriptFault::NotACommand(1);
-    let alike = ScriptFault::NotACommand(1);
-    let others = [ScriptFault::NotACommand(2), ScriptFault::End(Error::Ended)];
-    compares_each(&one, &alike, &others)
-}
-
-/// Whether refused lines are told from those of another number or for another error, and from other faults.
-fn refusals_differ() -> bool {
-    let one = ScriptFault::Refused(1, Error::Ended);
-    let alike = ScriptFault::Refused(1, Error::Ended);
-    let others = [
-        ScriptFault::Refused(2, Error::Ended),
-        ScriptFault::Refused(1, Error::OutOfMemory),
-        ScriptFault::NotACommand(1),
-    ];
-    compares_each(&one, &alike, &others)
-}
-
-/// Whether refused ends are told from those for another error, and from other faults.
-fn ends_differ() -> bool {
-    let one = ScriptFault::End(Error::Ended);
-    let alike = ScriptFault::End(Error::Ended);
-    let others = [
-        ScriptFault::End(Error::OutOfMemory),
-        ScriptFault::Refused(1, Error::Ended),
-    ];
-    compares_each(&one, &alike, &others)
-}
-
 #[test]
-fn lent_samples_queries_and_faults_that_differ_are_unequal(rt: HostRuntime) {
+fn lent_samples_and_queries_that_differ_are_unequal(rt: HostRuntime) {
     holds(&rt, "lent samples", lent_samples_differ());
     holds(&rt, "queries", queries_differ());
-    holds(&rt, "lines", lines_differ());
-    holds(&rt, "refusals", refusals_differ());
-    holds(&rt, "ends", ends_differ());
 }
