@@ -75,7 +75,7 @@ impl MoovBox {
     {
         HEADER_SIZE
             .saturating_add(self.mvhd.box_size())
-            .saturating_add(all_size(&self.traks))
+            .saturating_add(all_size(self.traks.as_slice()))
             .saturating_add(optional_size(&self.mvex))
             .saturating_add(optional_size(&self.meta))
             .saturating_add(optional_size(&self.udta))
@@ -202,7 +202,7 @@ impl WriteBox for MoovBox {
     #[tactic(auto, unfolding(crate::specs::Moov::moov_refusal))]
     fn check(&self) -> Result<()> {
         self.mvhd.check()?;
-        check_all(&self.traks)?;
+        check_all(self.traks.as_slice())?;
         check_optional(&self.mvex)?;
         Ok(())
     }
@@ -210,7 +210,7 @@ impl WriteBox for MoovBox {
     #[tactic(auto, using(crate::proofs::Sizes::sizes), unfolding(crate::specs::Moov::moov_payload))]
     fn put_payload(&self, out: &mut Vec<u8>) -> Put {
         self.mvhd.put_box(out)?;
-        put_all(out, &self.traks)?;
+        put_all(out, self.traks.as_slice())?;
         put_optional(out, &self.mvex)?;
         put_optional(out, &self.meta)?;
         put_optional(out, &self.udta)?;

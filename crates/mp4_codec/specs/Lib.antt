@@ -22,6 +22,7 @@ pub mod ListLaws
 pub mod ListLoop
 pub mod WrittenChildren
 pub mod WrittenParts
+pub mod SharedItems
 pub mod KeyedItems
 pub mod KeyedItemLaws
 pub mod ExactTest

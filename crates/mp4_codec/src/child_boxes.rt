@@ -7,7 +7,6 @@ ghost use Rattle.mp4_codec.specs.Boxes.{optional, optional_refusal, all_frames, 
 
 use crate::boxes::WriteBox;
 use crate::error::Result;
-use crate::items::Items;
 use crate::put::Put;
 
 /// Whether a child that may be missing can be written.
@@ -50,32 +49,32 @@ pub fn optional_size<B: WriteBox>(child: &Option<B>) -> u64
 }
 
 /// Whether each child of a list can be written: the first refusal in order.
-pub fn check_all<B: WriteBox>(children: &Items<B>) -> Result<()>
+pub fn check_all<B: WriteBox>(children: &[B]) -> Result<()>
     ensures { Checks result (all_refusal B.refusal children.now) }
 {
-    for child in children.as_slice() {
+    for child in children {
         child.check()?;
     }
     Ok(())
 }
 
 /// Adds the boxes of a list of children, one after the other.
-pub fn put_all<B: WriteBox>(out: &mut Vec<u8>, children: &Items<B>) -> Put
+pub fn put_all<B: WriteBox>(out: &mut Vec<u8>, children: &[B]) -> Put
     requires { length (all_frames B.KIND B.payload children.now) < 2 ^ 32 }
     ensures { OnOk result (Appends out.old.items out.new.items (all_frames B.KIND B.payload children.now)) }
 {
-    for child in children.as_slice() {
+    for child in children {
         child.put_box(out)?;
     }
     Ok(())
 }
 
 /// The bytes of those boxes; they stop at 2^64 - 1.
-pub fn all_size<B: WriteBox>(children: &Items<B>) -> u64
+pub fn all_size<B: WriteBox>(children: &[B]) -> u64
     ensures { result ≡ min (length (all_frames B.KIND B.payload children.now)) (2 ^ 64 - 1) }
 {
     let mut size = 0u64;
-    for child in children.as_slice() {
+    for child in children {
         size = size.saturating_add(child.box_size());
     }
     size

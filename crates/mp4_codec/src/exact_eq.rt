@@ -5,6 +5,7 @@ ghost use Rattle.mp4_codec.specs.ExactTest.{by_law, list, number, option, pair, 
 
 use crate::items::Items;
 use crate::keyed_items::{Key, KeyedItems};
+use crate::shared_items::SharedItems;
 
 /// A type of which `==` compares every part: two values are equal where they are the same in each field.
 pub trait ExactEq: Eq {
@@ -56,6 +57,10 @@ impl<T: ExactEq> ExactEq for Option<T> {
 }
 
 impl<T: ExactEq> ExactEq for Items<T> {
+    ghost exact = { (list (by_law T.exact)).exact };
+}
+
+impl<T: ExactEq> ExactEq for SharedItems<T> {
     ghost exact = { (list (by_law T.exact)).exact };
 }
 

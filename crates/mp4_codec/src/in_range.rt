@@ -7,6 +7,7 @@ ghost use Rattle.mp4_codec.specs.Bytes.{IsCode};
 
 use crate::four_cc::FourCC;
 use crate::items::Items;
+use crate::shared_items::SharedItems;
 
 /// A value that knows the ranges of its numbers.
 ///
@@ -96,12 +97,27 @@ impl<T: InRange> InRange for Option<T> {
     }
 }
 
+/// Says it of each value of a list.
+fn all_in_range<T: InRange>(items: &[T])
+    ensures { AllByRecursion T.IsInRange items.now }
+{
+    for item in items {
+        item.in_range();
+    }
+}
+
 impl<T: InRange> InRange for Items<T> {
     ghost IsInRange = { AllByRecursion T.IsInRange };
 
     fn in_range(&self) {
-        for item in self.as_slice() {
-            item.in_range();
-        }
+        all_in_range(self.as_slice());
+    }
+}
+
+impl<T: InRange> InRange for SharedItems<T> {
+    ghost IsInRange = { AllByRecursion T.IsInRange };
+
+    fn in_range(&self) {
+        all_in_range(self.as_slice());
     }
 }

@@ -14,7 +14,7 @@ ghost use Rattle.mp4_codec.specs.Early.{refused_at_once};
 use crate::narrow::{check_most, put_low_u8, put_low_u16};
 use mp4_codec::{
     BoxType, DebugItem, ExactEq, Field, Fields, InRange, Items, Mp4Box, Put, ReadBox, Result,
-    TryClone, WriteBox, put_bytes, put_u8,
+    SharedItems, TryClone, WriteBox, put_bytes, put_u8,
 };
 use std::alloc::Global;
 
@@ -128,32 +128,40 @@ fn read_units(alloc: Global, fields: &mut Fields, count: u8) -> Result<Items<Nal
     Ok(units)
 }
 
+/// The same in a list that copies share.
+fn read_sets(alloc: Global, fields: &mut Fields, count: u8) -> Result<SharedItems<NalUnit>>
+    ensures { Answers (λ units. (units, fields.new)) result (list_at unit_at count fields.old) }
+{
+    let units = read_units(alloc, fields, count)?;
+    Ok(SharedItems::from_items(units)?)
+}
+
 /// Adds sets, one after the other.
-fn put_units(out: &mut Vec<u8>, units: &Items<NalUnit>) -> Put
+fn put_units(out: &mut Vec<u8>, units: &[NalUnit]) -> Put
     ensures { OnOk result (Appends out.old.items out.new.items (flat_map unit units.now)) }
 {
-    for item in units.as_slice() {
+    for item in units {
         item.put(out)?;
     }
     Ok(())
 }
 
 /// The bytes of sets; they stop at 2^64 - 1.
-fn units_size(units: &Items<NalUnit>) -> u64
+fn units_size(units: &[NalUnit]) -> u64
     ensures { result ≡ min (length (flat_map unit units.now)) (2 ^ 64 - 1) }
 {
     let mut size = 0u64;
-    for item in units.as_slice() {
+    for item in units {
         size = size.saturating_add(item.size());
     }
     size
 }
 
 /// Whether each set fits the two bytes of its length; else it is `Unrepresentable`.
-fn check_units(units: &Items<NalUnit>) -> Result<()>
+fn check_units(units: &[NalUnit]) -> Result<()>
     ensures { Checks result (all_refusal unit_refusal units.now) }
 {
-    for item in units.as_slice() {
+    for item in units {
         item.check()?;
     }
     Ok(())
@@ -170,10 +178,10 @@ fn byte_at(set: &Items<u8>, index: usize) -> u8
 }
 
 /// One set in a list.
-fn one_unit(alloc: Global, bytes: &Items<u8>) -> Result<Items<NalUnit>>
+fn one_unit(alloc: Global, bytes: &Items<u8>) -> Result<SharedItems<NalUnit>>
     ensures { Answers (λ units. units) result (Ok (record { bytes = bytes.now } ∷ [])) }
 {
-    let mut units = Items::new(alloc);
+    let mut units = SharedItems::new(alloc);
     let bytes = bytes.try_clone()?;
     units.push(NalUnit { bytes })?;
     Ok(units)
@@ -197,8 +205,8 @@ pub struct AvcCBox {
     pub avc_level_indication: u8,
     /// How many bytes the length before each NAL unit of a sample has, less 1: at most 3.
     pub length_size_minus_one: u8,
-    pub sequence_parameter_sets: Items<NalUnit>,
-    pub picture_parameter_sets: Items<NalUnit>,
+    pub sequence_parameter_sets: SharedItems<NalUnit>,
+    pub picture_parameter_sets: SharedItems<NalUnit>,
 }
 
 impl ExactEq for AvcCBox {
@@ -216,8 +224,8 @@ impl AvcCBox {
             profile_compatibility: 0,
             avc_level_indication: 0,
             length_size_minus_one: 3,
-            sequence_parameter_sets: Items::new(alloc),
-            picture_parameter_sets: Items::new(alloc),
+            sequence_parameter_sets: SharedItems::new(alloc),
+            picture_parameter_sets: SharedItems::new(alloc),
         })
     }
 
@@ -256,8 +264,8 @@ impl AvcCBox {
     pub fn get_size(&self) -> u64
         ensures { result ≡ size_around (avcc_payload self.now) }
     {
-        units_size(&self.sequence_parameter_sets)
-            .saturating_add(units_size(&self.picture_parameter_sets))
+        units_size(self.sequence_parameter_sets.as_slice())
+            .saturating_add(units_size(self.picture_parameter_sets.as_slice()))
             .saturating_add(15)
     }
 }
@@ -315,9 +323,9 @@ impl ReadBox for AvcCBox {
         let avc_level_indication = fields.u8()?;
         let length_size = fields.u8()?;
         let sequence_count = fields.u8()?;
-        let sequence_parameter_sets = read_units(alloc, &mut fields, sequence_count % 32)?;
+        let sequence_parameter_sets = read_sets(alloc, &mut fields, sequence_count % 32)?;
         let picture_count = fields.u8()?;
-        let picture_parameter_sets = read_units(alloc, &mut fields, picture_count)?;
+        let picture_parameter_sets = read_sets(alloc, &mut fields, picture_count)?;
         Ok(AvcCBox {
             configuration_version,
             avc_profile_indication,
@@ -342,8 +350,8 @@ impl WriteBox for AvcCBox {
         check_most(self.length_size_minus_one as u64, 3)?;
         check_most(self.sequence_parameter_sets.len() as u64, 31)?;
         check_most(self.picture_parameter_sets.len() as u64, 255)?;
-        check_units(&self.sequence_parameter_sets)?;
-        check_units(&self.picture_parameter_sets)?;
+        check_units(self.sequence_parameter_sets.as_slice())?;
+        check_units(self.picture_parameter_sets.as_slice())?;
         Ok(())
     }
 
@@ -354,9 +362,9 @@ impl WriteBox for AvcCBox {
         put_u8(out, self.avc_level_indication)?;
         put_low_u8(out, 0xfc + self.length_size_minus_one as u64)?;
         put_low_u8(out, 0xe0 + self.sequence_parameter_sets.len() as u64)?;
-        put_units(out, &self.sequence_parameter_sets)?;
+        put_units(out, self.sequence_parameter_sets.as_slice())?;
         put_low_u8(out, self.picture_parameter_sets.len() as u64)?;
-        put_units(out, &self.picture_parameter_sets)?;
+        put_units(out, self.picture_parameter_sets.as_slice())?;
         Ok(())
     }
 }

@@ -62,7 +62,7 @@ impl MoofBox {
     {
         HEADER_SIZE
             .saturating_add(self.mfhd.box_size())
-            .saturating_add(all_size(&self.trafs))
+            .saturating_add(all_size(self.trafs.as_slice()))
     }
 }
 
@@ -152,14 +152,14 @@ impl WriteBox for MoofBox {
 
     #[tactic(auto, unfolding(crate::specs::Moof::moof_refusal))]
     fn check(&self) -> Result<()> {
-        check_all(&self.trafs)?;
+        check_all(self.trafs.as_slice())?;
         Ok(())
     }
 
     #[tactic(auto, using(crate::proofs::Sizes::sizes), unfolding(crate::specs::Moof::moof_payload))]
     fn put_payload(&self, out: &mut Vec<u8>) -> Put {
         self.mfhd.put_box(out)?;
-        put_all(out, &self.trafs)?;
+        put_all(out, self.trafs.as_slice())?;
         Ok(())
     }
 }

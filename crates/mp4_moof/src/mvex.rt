@@ -60,7 +60,7 @@ impl MvexBox {
     {
         HEADER_SIZE
             .saturating_add(optional_size(&self.mehd))
-            .saturating_add(all_size(&self.trexs))
+            .saturating_add(all_size(self.trexs.as_slice()))
     }
 }
 
@@ -157,7 +157,7 @@ impl WriteBox for MvexBox {
     #[tactic(auto, using(crate::proofs::Sizes::sizes), unfolding(crate::specs::Mvex::mvex_payload))]
     fn put_payload(&self, out: &mut Vec<u8>) -> Put {
         put_optional(out, &self.mehd)?;
-        put_all(out, &self.trexs)?;
+        put_all(out, self.trexs.as_slice())?;
         Ok(())
     }
 }

@@ -13,7 +13,7 @@ ghost use Rattle.mp4_moof.specs.TrafLaws.{traf_adds, traf_again};
 
 use mp4_codec::{
     BoxType, Child, DebugItem, ExactEq, Gather, HEADER_SIZE, InRange, Items, Mp4Box, Put, ReadBox,
-    Result, TryClone, WriteBox, all_size, check_all, check_optional, gather_children, keep_each,
+    Result, SharedItems, TryClone, WriteBox, all_size, check_all, check_optional, gather_children, keep_each,
     keep_last, optional_size, put_all, put_optional, required,
 };
 use mp4_frag::{TfdtBox, TfhdBox, TrunBox};
@@ -29,8 +29,8 @@ pub struct TrafBox {
     pub tfhd: TfhdBox,
     /// The decoding time of the first sample, in ticks of the media's timescale: the last such child.
     pub tfdt: Option<TfdtBox>,
-    /// The runs of samples, in file order.
-    pub truns: Items<TrunBox>,
+    /// The runs of samples, in file order. The fragments of a track share them with those of the file.
+    pub truns: SharedItems<TrunBox>,
 }
 
 impl ExactEq for TrafBox {
@@ -47,7 +47,7 @@ impl TrafBox {
         Ok(TrafBox {
             tfhd: TfhdBox::default(),
             tfdt: None,
-            truns: Items::new(alloc),
+            truns: SharedItems::new(alloc),
         })
     }
 
@@ -66,7 +66,7 @@ impl TrafBox {
         HEADER_SIZE
             .saturating_add(self.tfhd.box_size())
             .saturating_add(optional_size(&self.tfdt))
-            .saturating_add(all_size(&self.truns))
+            .saturating_add(all_size(self.truns.as_slice()))
     }
 }
 
@@ -148,6 +148,7 @@ impl ReadBox for TrafBox {
     fn read_payload(alloc: Global, payload: &[u8]) -> Result<Self> {
         let TrafParts { tfhd, tfdt, truns } = gather_children(alloc, payload)?;
         let tfhd = required(tfhd)?;
+        let truns = SharedItems::from_items(truns)?;
         Ok(TrafBox { tfhd, tfdt, truns })
     }
 }
@@ -163,7 +164,7 @@ impl WriteBox for TrafBox {
     fn check(&self) -> Result<()> {
         self.tfhd.check()?;
         check_optional(&self.tfdt)?;
-        check_all(&self.truns)?;
+        check_all(self.truns.as_slice())?;
         Ok(())
     }
 
@@ -171,7 +172,7 @@ impl WriteBox for TrafBox {
     fn put_payload(&self, out: &mut Vec<u8>) -> Put {
         self.tfhd.put_box(out)?;
         put_optional(out, &self.tfdt)?;
-        put_all(out, &self.truns)?;
+        put_all(out, self.truns.as_slice())?;
         Ok(())
     }
 }

@@ -4,14 +4,14 @@ use Rattle.mp4_codec.proofs.child_boxes.put_all.Goals as goal
 
 pub put_box-requires : goal.put_box-requires
 put_box-requires g c =
-    let children = c.as_slice-child-items.result.now in
+    let children = c.args.children.now in
     frame_fits g.B.Mp4Box.KIND g.B.Mp4Box.payload children c.loop-child.child-index c.child-item.result
     c.loop-child-test.true
-    c.child-item.is (2 ^ 32) (rw c.as_slice-child-items.ensures c.requires)
+    c.child-item.is (2 ^ 32) c.requires
 
 pub loop-child-preserved : goal.loop-child-preserved
 loop-child-preserved g c =
-    let children = c.as_slice-child-items.result.now in
+    let children = c.args.children.now in
     all_frames-more g.B.Mp4Box.KIND g.B.Mp4Box.payload children c.loop-child.child-index c.child-item.result
     c.loop-child-test.true
     c.child-item.is c.args.out.now.items c.loop-child.out.items c.put_box.new.out.items c.loop-child.invariant

@@ -6,4 +6,4 @@ use Rattle.mp4_codec.proofs.child_boxes.put_all.Given as goal
 abbrev pub invariant-loop-child : goal.invariant-loop-child
 invariant-loop-child g l =
     Appends l.fn.out.items l.out.items
-    (all_frames g.B.Mp4Box.KIND g.B.Mp4Box.payload (take l.child-index l.child-items))
+    (all_frames g.B.Mp4Box.KIND g.B.Mp4Box.payload (take l.child-index l.children))
