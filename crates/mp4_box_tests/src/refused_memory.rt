@@ -614,10 +614,10 @@ fn put_entries(alloc: Global) -> Result<bool> {
 fn put_children(alloc: Global) -> Result<bool> {
     let mut children = Items::new(alloc);
     children.push(Number { value: 2 })?;
-    if all_size(&children) != 12 {
+    if all_size(children.as_slice()) != 12 {
         return Ok(false);
     }
-    put_all(&mut Vec::new(alloc), &children)?;
+    put_all(&mut Vec::new(alloc), children.as_slice())?;
     Ok(true)
 }
 

@@ -143,10 +143,10 @@ fn is_refused_last(alloc: Global, language: &str) -> Result<bool> {
 fn first_is_the_answer(alloc: Global) -> Result<bool> {
     let mut headers = Items::new(alloc);
     headers.push(MvhdBox::default())?;
-    let is_written = check_all(&headers).is_ok();
+    let is_written = check_all(headers.as_slice()).is_ok();
     headers.push(movie_header(2, (0, 0, 0)))?;
     headers.push(movie_header(0, (0, 0, PAST)))?;
-    Ok(is_written && matches!(check_all(&headers), Err(Error::InvalidData(_))))
+    Ok(is_written && matches!(check_all(headers.as_slice()), Err(Error::InvalidData(_))))
 }
 
 #[test]

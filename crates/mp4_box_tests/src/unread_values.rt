@@ -3,7 +3,7 @@
 
 use crate::asserts::{check, same_at};
 use mp4_boxes::{MdiaBox, MinfBox, StblBox};
-use mp4_codec::{BoxType, FourCC, Items, Result, Text, WriteBox};
+use mp4_codec::{BoxType, FourCC, Items, Result, SharedItems, Text, WriteBox};
 use mp4_entry::{Avc1Box, AvcCBox, EsdsBox, Hev1Box, Mp4aBox, NalUnit, StsdBox, Tx3gBox};
 use mp4_frag::TrunBox;
 use mp4_leaf::{DataBox, DataType, HdlrBox};
@@ -46,8 +46,8 @@ fn a_number_past_its_bits_is_not_written(rt: HostRuntime) {
 }
 
 /// So many parameter sets without bytes.
-fn empty_sets(alloc: Global, count: usize) -> Result<Items<NalUnit>> {
-    let mut sets = Items::new(alloc);
+fn empty_sets(alloc: Global, count: usize) -> Result<SharedItems<NalUnit>> {
+    let mut sets = SharedItems::new(alloc);
     for _ in 0..count {
         sets.push(NalUnit {
             bytes: Items::new(alloc),

@@ -3,7 +3,9 @@ use Rattle.std.proofs.Common.{◌≡◌, ◌⊎◌, List, [], ◌∷◌, ℕ, Op
 use Rattle.std.proofs.Common.{inr, subst}
 use Rattle.mp4_codec.specs.declared.error.Error.{Error}
 use Rattle.mp4_codec.specs.Cause.{Cause, cause_of, ◌>>=◌, fault_of, ◌or◌, unless, Answers, Gives}
-use Rattle.mp4_codec.specs.Children.{ChildBox, tail_fault, first_fault, gathered}
+use Rattle.std.specs.Prelude.{false}
+use Rattle.mp4_codec.specs.declared.box_type.BoxType.{BoxType}
+use Rattle.mp4_codec.specs.Children.{ChildBox, tail_fault, first_fault, gathered, is_of, all_of}
 use Rattle.mp4_codec.specs.Early.{Early, fails, succeeds, takes_memory, Shows, at_once, refused_at_once, ◌and_then◌}
 use Rattle.mp4_codec.specs.Early.{unless_refused, early_children, early_gathered}
 
@@ -51,3 +53,18 @@ pub shown-gives : {X Y : Type 0} (view : X → Y) (result : Result X Error) (ans
 shown-gives view (Ok x) answer a s = a
 shown-gives {X} view (Err e) (Ok y) a s = absurd s
 shown-gives view (Err e) (Err c) a s = ap Err s
+
+pub both_succeed : (own later : Early) → own and_then later ≡ succeeds → (own ≡ succeeds) × (later ≡ succeeds)
+both_succeed (fails c) later e = absurd cc
+both_succeed succeeds later e = (refl, e)
+both_succeed takes_memory later e = absurd cc
+
+-- children that are read without memory have none of a type whose children take memory
+pub none_of-succeeds : {A : Type 0} (early : ChildBox → Early) (t : BoxType) (value : List ℕ → Result A Cause)
+    → ((c : ChildBox) → early c ≡ succeeds → is_of t c ≡ false) → (cs : List ChildBox) (tail : List ℕ)
+    → early_children early cs tail ≡ succeeds → all_of t value cs ≡ []
+unfolding early_children all_of
+none_of-succeeds early t value other [] tail e = refl
+none_of-succeeds early t value other (c ∷ cs) tail e =
+    let both = both_succeed (early c) (early_children early cs tail) e in
+    rw (other c both.0, none_of-succeeds early t value other cs tail both.1) refl

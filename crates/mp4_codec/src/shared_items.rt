@@ -1,6 +1,6 @@
 //! Lists of values that copies share.
 
-ghost use Rattle.std.specs.Prelude.{◌≡◌, ◌==◌, ◌<◌, ◌^◌, [], ◌∷◌, ◌++◌, length, slice_get, OnOk, OnErr, IfOk, List};
+ghost use Rattle.std.specs.Prelude.{◌≡◌, ◌==◌, ◌<◌, ◌^◌, [], ◌∷◌, ◌++◌, length, slice_get, OnOk, OnErr, IfOk, IsOk, List};
 ghost use Rattle.std.specs.Option.{option_copied};
 ghost use Rattle.std.specs.Slice.Iter.{iter_rest};
 ghost use Rattle.std.specs.Iterator.Adapters.{IterYieldsInOrder};
@@ -47,11 +47,12 @@ impl<T> SharedItems<T> {
         SharedItems { alloc, items: None }
     }
 
-    /// A list of these values, which takes memory of a fixed size where there are any.
+    /// A list of these values. Where there are any it takes memory, of a size that doesn't depend on them.
     pub fn from_items(items: Items<T>) -> std::result::Result<Self, AllocError>
     where
         T: Drop,
-        ensures { IfOk result (λ s. s ≡ items) }
+        ensures value { IfOk result (λ s. s ≡ items) }
+        ensures none { items ≡ [] → IsOk result }
     {
         let alloc = items.allocator();
         if items.is_empty() {

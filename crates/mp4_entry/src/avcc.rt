@@ -137,31 +137,31 @@ fn read_sets(alloc: Global, fields: &mut Fields, count: u8) -> Result<SharedItem
 }
 
 /// Adds sets, one after the other.
-fn put_units(out: &mut Vec<u8>, units: &[NalUnit]) -> Put
+fn put_units(out: &mut Vec<u8>, units: &SharedItems<NalUnit>) -> Put
     ensures { OnOk result (Appends out.old.items out.new.items (flat_map unit units.now)) }
 {
-    for item in units {
+    for item in units.as_slice() {
         item.put(out)?;
     }
     Ok(())
 }
 
 /// The bytes of sets; they stop at 2^64 - 1.
-fn units_size(units: &[NalUnit]) -> u64
+fn units_size(units: &SharedItems<NalUnit>) -> u64
     ensures { result ≡ min (length (flat_map unit units.now)) (2 ^ 64 - 1) }
 {
     let mut size = 0u64;
-    for item in units {
+    for item in units.as_slice() {
         size = size.saturating_add(item.size());
     }
     size
 }
 
 /// Whether each set fits the two bytes of its length; else it is `Unrepresentable`.
-fn check_units(units: &[NalUnit]) -> Result<()>
+fn check_units(units: &SharedItems<NalUnit>) -> Result<()>
     ensures { Checks result (all_refusal unit_refusal units.now) }
 {
-    for item in units {
+    for item in units.as_slice() {
         item.check()?;
     }
     Ok(())
@@ -264,8 +264,8 @@ impl AvcCBox {
     pub fn get_size(&self) -> u64
         ensures { result ≡ size_around (avcc_payload self.now) }
     {
-        units_size(self.sequence_parameter_sets.as_slice())
-            .saturating_add(units_size(self.picture_parameter_sets.as_slice()))
+        units_size(&self.sequence_parameter_sets)
+            .saturating_add(units_size(&self.picture_parameter_sets))
             .saturating_add(15)
     }
 }
@@ -350,8 +350,8 @@ impl WriteBox for AvcCBox {
         check_most(self.length_size_minus_one as u64, 3)?;
         check_most(self.sequence_parameter_sets.len() as u64, 31)?;
         check_most(self.picture_parameter_sets.len() as u64, 255)?;
-        check_units(self.sequence_parameter_sets.as_slice())?;
-        check_units(self.picture_parameter_sets.as_slice())?;
+        check_units(&self.sequence_parameter_sets)?;
+        check_units(&self.picture_parameter_sets)?;
         Ok(())
     }
 
@@ -362,9 +362,9 @@ impl WriteBox for AvcCBox {
         put_u8(out, self.avc_level_indication)?;
         put_low_u8(out, 0xfc + self.length_size_minus_one as u64)?;
         put_low_u8(out, 0xe0 + self.sequence_parameter_sets.len() as u64)?;
-        put_units(out, self.sequence_parameter_sets.as_slice())?;
+        put_units(out, &self.sequence_parameter_sets)?;
         put_low_u8(out, self.picture_parameter_sets.len() as u64)?;
-        put_units(out, self.picture_parameter_sets.as_slice())?;
+        put_units(out, &self.picture_parameter_sets)?;
         Ok(())
     }
 }

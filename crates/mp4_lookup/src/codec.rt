@@ -4,7 +4,7 @@ ghost use Rattle.mp4_codec.specs.Cause.{Gives};
 ghost use Rattle.mp4_lookup.specs.Codec.{sound_decoder_of, sample_freq_index_of, channels_of, audio_profile_of, video_decoder_of, video_profile_of, first_set, sequence_set_of, picture_set_of};
 
 use crate::track::Mp4Track;
-use mp4_codec::{BoxType, Error, Items, Result};
+use mp4_codec::{BoxType, Error, Result, SharedItems};
 use mp4_entry::{
     AudioObjectType, AvcCBox, AvcProfile, ChannelConfig, DecoderSpecificDescriptor, NalUnit,
     SampleFreqIndex,
@@ -116,7 +116,7 @@ impl Mp4Track {
 
 /// The bytes of the first of these parameter sets of a track.
 #[tactic(auto, unfolding(crate::specs::Codec::first_set))]
-fn first_of(track_id: u32, sets: &Items<NalUnit>) -> Result<&[u8]>
+fn first_of(track_id: u32, sets: &SharedItems<NalUnit>) -> Result<&[u8]>
     ensures { Gives (λ set. set.now) result (first_set track_id sets.now) }
 {
     match sets.get(0) {

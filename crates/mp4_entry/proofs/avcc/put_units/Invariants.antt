@@ -5,4 +5,4 @@ use Rattle.mp4_entry.specs.Avcc.{unit}
 use Rattle.mp4_entry.proofs.avcc.put_units.Given as goal
 
 abbrev pub invariant-loop-item : goal.invariant-loop-item
-invariant-loop-item l = Appends l.fn.out.items l.out.items (flat_map unit (take l.item-index l.units))
+invariant-loop-item l = Appends l.fn.out.items l.out.items (flat_map unit (take l.item-index l.item-items))

@@ -5,8 +5,9 @@ use Rattle.mp4_boxes.proofs.moov.MoovBoxWriteBox.put_payload.Goals as goal
 pub returns : goal.returns
 unfolding moov_payload
 returns c =
-    c.in_ok-put_box.ensures
+    rw (← c.as_slice.ensures)
+    (c.in_ok-put_box.ensures
     then c.in_ok-put_all.ensures
     then c.in_ok-put_optional.ensures
     then c.in_ok-put_optional-2.ensures
-    then c.in_ok-put_optional-3.ensures
+    then c.in_ok-put_optional-3.ensures)
