@@ -1,17 +1,13 @@
 -- A search by halves, a comparison at a time.
 use Rattle.std.proofs.Common.{◌≡◌, ℕ, zero, suc, ◌+◌, ◌-◌, ◌/◌, ◌<◌, ◌≤◌, List, length, slice_index, arith}
 use Rattle.std.proofs.lemmas.Bool.{lt-ltb, le-ltb, le-leb, lt-leb}
-use Rattle.mp4_search.specs.Search.{comparisons_between, comparisons_in}
+use Rattle.mp4_search.specs.Search.{comparisons_between}
 
 -- after so many comparisons, what is left between two places makes the others of all, in steps that are enough
 pub record AreLeft (numbers : List ℕ) (key low high compared all : ℕ) : Type 0 where
   pub steps : ℕ
   pub enough : high - low ≤ steps
   pub left : compared + comparisons_between steps numbers key low high ≡ all
-
-pub all_left : (numbers : List ℕ) (key : ℕ) → AreLeft numbers key 0 (length numbers) 0 (comparisons_in numbers key)
-unfolding comparisons_in
-all_left numbers key = record { steps = length numbers; enough = omega arith; left = omega arith }
 
 -- what is left of some numbers, after so many comparisons
 pub these_left : (numbers : List ℕ) (key low high compared : ℕ)
@@ -70,3 +66,10 @@ none_left numbers key low high compared all a h = step a.steps a.left
     step : (n : ℕ) → compared + comparisons_between n numbers key low high ≡ all → compared ≡ all
     step zero left = omega (arith, left)
     step (suc n) left = let e = rw (le-ltb low high h) at left in omega (arith, e)
+
+-- where there are numbers, one is compared
+pub some_compared : (numbers : List ℕ) (key low high n : ℕ) → low < high → 1 ≤ n
+    → 1 ≤ comparisons_between n numbers key low high
+unfolding comparisons_between
+some_compared numbers key low high zero h one = absurd (omega (arith, one))
+some_compared numbers key low high (suc n) h one = rw (lt-ltb low high h) (omega arith)

@@ -8,22 +8,13 @@ ghost use Rattle.mp4_search.specs.Search.{all_of, after_earlier_looks, after_lat
 ghost use Rattle.mp4_search.specs.Search.{comparisons_between, comparisons_from, comparisons_in, left_of};
 
 use crate::counted::{Readings, SearchedNumbers};
-use crate::search::{Found, last_at_most};
+use crate::search::{Between, Found, halve, last_at_most, last_before};
 use crate::slope::FEW;
 
 /// How far from the place that is expected numbers are looked at beside its neighbours, before the rest is halved.
 const FAR: usize = 16;
 
 const FARTHER: usize = 256;
-
-/// What is left of a search: the numbers before `low` are at most the key, and `last` is the one right before it, if
-/// there is one; the numbers from `high` on are above the key.
-#[derive(Clone, Copy)]
-struct Between {
-    low: usize,
-    high: usize,
-    last: Option<u32>,
-}
 
 /// Looks at the number at an index, where it is among those that are left.
 #[tactic(auto, unfolding(crate::specs::Search::after_look))]
@@ -163,44 +154,13 @@ fn looked_near(
     }
 }
 
-/// Looks at the number in the middle of those that are left, until none is left.
-fn halve(numbers: &SearchedNumbers, key: u32, between: Between, readings: &mut Readings) -> Between
-    requires rises { IsNonDecreasing numbers.now }
-    requires between { IsBetween numbers.now key between.low between.high between.last }
-    requires room { readings.old < 2 ^ 31 }
-    ensures between { IsBetween numbers.now key result.low result.high result.last }
-    ensures done { result.low ≡ result.high }
-    ensures counted { readings.new ≡ readings.old
-        + comparisons_between (between.high - between.low) numbers.now key between.low between.high }
-    ensures few { readings.new ≤ readings.old + digits (between.high - between.low) }
-{
-    let Between {
-        mut low,
-        mut high,
-        mut last,
-    } = between;
-    while low < high {
-        let middle = low + (high - low) / 2;
-        let number = numbers.read(middle, readings);
-        if number <= key {
-            // An option, since the compiler then branches here and doesn't select: one search among keys that come in
-            // order goes the way of the search before, and branches are foreseen.
-            last = Some(number);
-            low = middle + 1;
-        } else {
-            high = middle;
-        }
-    }
-    Between { low, high, last }
-}
-
 /// What [`last_at_most`] finds, begun at the index where it is expected.
 #[inline(never)]
 #[tactic(auto, unfolding(crate::specs::Search::comparisons_from))]
 fn last_at_most_from(numbers: &SearchedNumbers, key: u32, index: usize) -> (Option<Found>, Readings)
     requires rises { IsNonDecreasing numbers.now }
     requires within { index < length numbers.now }
-    requires small { index < 2 ^ 63 }
+    requires small { length numbers.now < 2 ^ 63 }
     ensures found { IfSome result.0
         (λ f. IsLastAtMost numbers.now key f.index × (f.number ≡ slice_index numbers.now f.index)) }
     ensures none { IfNone result.0 ((j : ℕ) → j < length numbers.now → key < slice_index numbers.now j) }
@@ -210,16 +170,7 @@ fn last_at_most_from(numbers: &SearchedNumbers, key: u32, index: usize) -> (Opti
     let mut readings = Readings::new();
     let near = looked_near(numbers, key, index, &mut readings);
     let end = halve(numbers, key, near, &mut readings);
-    match end.last {
-        Some(number) => {
-            let found = Found {
-                index: end.low - 1,
-                number,
-            };
-            (Some(found), readings)
-        }
-        None => (None, readings),
-    }
+    (last_before(end.low, end.last), readings)
 }
 
 /// [`last_at_most`] as a function of its own. Inlined in a longer one its loop is compiled to select and not to branch,
@@ -254,7 +205,7 @@ pub(crate) fn last_at_most_near(numbers: &SearchedNumbers, key: u32) -> (Option<
     ensures counted { IsCountByGuess numbers.now key result.1 }
 {
     // Few numbers are searched in the caller's own code: a call would take as long as the search.
-    if numbers.len() <= FEW {
+    if numbers.end() <= FEW {
         return last_at_most(numbers, key);
     }
     match numbers.expected(key) {

@@ -1,12 +1,15 @@
 //! The search in numbers that rise, and the ways in which it goes.
 
 ghost use Rattle.mp4_codec.specs.ExactTest.{by_test, field_tests};
-ghost use Rattle.std.specs.Prelude.{◌≡◌, ℕ, ◌<◌, ◌≤◌, ◌==◌, List, [], length, slice_index, IfSome, IfNone};
+ghost use Rattle.std.specs.Prelude.{◌≡◌, ℕ, ◌+◌, ◌-◌, ◌^◌, ◌<◌, ◌≤◌, ◌==◌, List, [], length, slice_index, option_map};
+ghost use Rattle.std.specs.Prelude.{IfSome, IfNone};
 ghost use Rattle.std.specs.List.{list_any};
 ghost use Rattle.std.specs.List.Sorted.{IsNonDecreasing};
 ghost use Rattle.mp4_search.specs.BitSet.{AreBitsOf, looks_at_bit};
 ghost use Rattle.mp4_search.specs.CountLaws.{nothing_by_guess, nothing_by_halves};
-ghost use Rattle.mp4_search.specs.Search.{IsCountByGuess, IsCountByHalves, IsLastAtMost, IsFew, comparisons_in};
+ghost use Rattle.mp4_search.specs.Digits.{digits};
+ghost use Rattle.mp4_search.specs.Search.{IsBetween, IsCountByGuess, IsCountByHalves, IsFew, IsLastAtMost};
+ghost use Rattle.mp4_search.specs.Search.{comparisons_between, comparisons_in};
 ghost use Rattle.mp4_search.specs.declared.bit_set.BitSet.{BitSet as Bits};
 
 use crate::bit_set::BitSet;
@@ -106,7 +109,57 @@ impl Search for ByGuess {
     }
 }
 
+/// What is left of a search: the numbers before `low` are at most the key, and `last` is the one right before it, if
+/// there is one; the numbers from `high` on are above the key.
+#[derive(Clone, Copy)]
+pub(crate) struct Between {
+    pub low: usize,
+    pub high: usize,
+    pub last: Option<u32>,
+}
+
+/// Looks at the number in the middle of those that are left, until none is left.
+#[inline(always)]
+pub(crate) fn halve(
+    numbers: &SearchedNumbers,
+    key: u32,
+    between: Between,
+    readings: &mut Readings,
+) -> Between
+    requires rises { IsNonDecreasing numbers.now }
+    requires between { IsBetween numbers.now key between.low between.high between.last }
+    requires small { length numbers.now < 2 ^ 63 }
+    requires room { readings.old < 2 ^ 31 }
+    ensures between { IsBetween numbers.now key result.low result.high result.last }
+    ensures done { result.low ≡ result.high }
+    ensures counted { readings.new ≡ readings.old
+        + comparisons_between (between.high - between.low) numbers.now key between.low between.high }
+    ensures few { readings.new ≤ readings.old + digits (between.high - between.low) }
+{
+    let Between {
+        mut low,
+        mut high,
+        mut last,
+    } = between;
+    while low < high {
+        // This is `low + (high - low) / 2` in two instructions in place of four, since no two places pass 64 bits
+        // together.
+        let middle = (low + high) / 2;
+        let number = numbers.read(middle, readings);
+        if number <= key {
+            // An option, since the compiler then branches here and doesn't select: one search among keys that come in
+            // order goes the way of the search before, and branches are foreseen.
+            last = Some(number);
+            low = middle + 1;
+        } else {
+            high = middle;
+        }
+    }
+    Between { low, high, last }
+}
+
 /// The last of the numbers that is at most `key`, and how many of them were compared with it.
+#[tactic(auto, unfolding(crate::specs::Search::comparisons_in))]
 pub(crate) fn last_at_most(numbers: &SearchedNumbers, key: u32) -> (Option<Found>, Readings)
     requires { IsNonDecreasing numbers.now }
     ensures found { IfSome result.0
@@ -116,30 +169,24 @@ pub(crate) fn last_at_most(numbers: &SearchedNumbers, key: u32) -> (Option<Found
     ensures few { IsFew result.1 (length numbers.now) }
 {
     let mut readings = Readings::new();
-    // The number before `low`, once one was at most the key; what was found is made of both behind the loop.
-    let mut last: Option<u32> = None;
-    let mut low: usize = 0;
-    let mut high = numbers.end();
-    while low < high {
-        // This is `low + (high - low) / 2` in two instructions in place of four, since no two places pass 64 bits
-        // together.
-        let middle = (low + high) / 2;
-        let number = numbers.read(middle, &mut readings);
-        if number <= key {
-            last = Some(number);
-            low = middle + 1;
-        } else {
-            high = middle;
-        }
-    }
-    match last {
-        Some(number) => {
-            let found = Found {
-                index: low - 1,
-                number,
-            };
-            (Some(found), readings)
-        }
-        None => (None, readings),
-    }
+    let all = Between {
+        low: 0,
+        high: numbers.end(),
+        last: None,
+    };
+    let Between { low, last, .. } = halve(numbers, key, all, &mut readings);
+    (last_before(low, last), readings)
+}
+
+/// What a search found that has nothing left: the number right before `low`.
+#[inline(always)]
+pub(crate) fn last_before(low: usize, last: Option<u32>) -> Option<Found>
+    requires { IfSome last (λ _. 1 ≤ low) }
+    ensures { result ≡ option_map (λ n. record { index = low - 1; number = n }) last }
+{
+    let number = last?;
+    Some(Found {
+        index: low - 1,
+        number,
+    })
 }

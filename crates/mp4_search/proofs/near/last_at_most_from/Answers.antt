@@ -1,12 +1,10 @@
 use Rattle.std.proofs.Common.{◌-◌, length, arith}
-use Rattle.mp4_search.specs.Search.{IsFewByGuess}
 use Rattle.mp4_search.proofs.Digits.{digits_grow}
 use Rattle.mp4_search.proofs.near.last_at_most_from.Goals as goal
-use Rattle.mp4_search.proofs.near.last_at_most_from.Goals.{After-halve-end}
 
 -- one look at least and four at most, and then no more than all numbers would take by halves
-few_in_all : (c : After-halve-end) → IsFewByGuess c.halve-end.new.readings (length c.args.numbers.now)
-few_in_all c =
+pub returns-clause-few : goal.returns-clause-few
+returns-clause-few c =
     let near = c.looked_near-near.result in
     let halves = digits_grow (near.high - near.low) (length c.args.numbers.now)
     (omega (arith, c.looked_near-near.ensures.between.inside)) in
@@ -14,9 +12,3 @@ few_in_all c =
       most = omega (arith, c.halve-end.ensures.few, c.looked_near-near.ensures.few, halves);
       some = λ _. omega (arith, c.halve-end.ensures.counted, c.looked_near-near.ensures.some);
     }
-
-pub returns-in-Some-clause-few : goal.returns-in-Some-clause-few
-returns-in-Some-clause-few c = few_in_all (goal.at.returns-in-Some-clause-few c).After-halve-end
-
-pub returns-in-None-clause-few : goal.returns-in-None-clause-few
-returns-in-None-clause-few c = few_in_all (goal.at.returns-in-None-clause-few c).After-halve-end

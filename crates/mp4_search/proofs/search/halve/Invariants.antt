@@ -2,7 +2,7 @@ use Rattle.std.proofs.Common.{◌-◌, ◌+◌, ◌≤◌}
 use Rattle.mp4_search.specs.Digits.{digits}
 use Rattle.mp4_search.specs.Search.{IsBetween, comparisons_between}
 use Rattle.mp4_search.proofs.Comparisons.{AreLeft}
-use Rattle.mp4_search.proofs.near.halve.Given as goal
+use Rattle.mp4_search.proofs.search.halve.Given as goal
 
 -- The digits of what is left pay for what is to come, and so many comparisons are left.
 abbrev pub invariant-loop-low : goal.invariant-loop-low

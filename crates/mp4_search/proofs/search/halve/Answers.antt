@@ -1,7 +1,10 @@
 use Rattle.std.proofs.Common.{◌≡◌, ◌+◌, ◌-◌, ◌/◌, arith}
 use Rattle.mp4_search.proofs.Comparisons.{these_left, behind, before, none_left}
 use Rattle.mp4_search.proofs.Digits.{digits_half, digits_64}
-use Rattle.mp4_search.proofs.near.halve.Goals as goal
+use Rattle.mp4_search.proofs.search.halve.Goals as goal
+
+pub overflow_add-middle : goal.overflow_add-middle
+overflow_add-middle c = omega (arith, c.loop-low.invariant.between.ordered, c.loop-low.invariant.between.inside, c.requires.small)
 
 pub read-number-requires-clause-room : goal.read-number-requires-clause-room
 read-number-requires-clause-room c =
@@ -10,13 +13,13 @@ read-number-requires-clause-room c =
       arith,
       c.loop-low.invariant.paid,
       c.requires.room,
-      digits_64 (between.high - between.low) (omega (arith, c.requires.between.inside)),
+      digits_64 (between.high - between.low) (omega (arith, c.requires.between.inside, c.requires.small)),
     )
 
 pub loop-low-preserved-then-number-key : goal.loop-low-preserved-then-number-key
 loop-low-preserved-then-number-key c =
     let l = c.loop-low in
-    let middle = (l.low + (l.high - l.low) / 2) in
+    let middle = (l.low + l.high) / 2 in
     let one_before : middle + 1 - 1 ≡ middle = omega arith in
     let paid = digits_half (l.high - (middle + 1)) (l.high - l.low) (omega arith) (omega arith) in
     record {
@@ -34,7 +37,7 @@ loop-low-preserved-then-number-key c =
 pub loop-low-preserved : goal.loop-low-preserved
 loop-low-preserved c =
     let l = c.loop-low in
-    let middle = (l.low + (l.high - l.low) / 2) in
+    let middle = (l.low + l.high) / 2 in
     let paid = digits_half (middle - l.low) (l.high - l.low) (omega arith) (omega arith) in
     record {
       between = record {
