@@ -6,4 +6,5 @@ returns c = λ first e.
     let sizes = rw c.as_slice-sizes.ensures at c.sum_between.ensures in
     let durations = rw c.as_slice-durations.ensures at c.sum_between-2.ensures in
     rw (c.add.ensures, c.add-2.ensures)
-    (at_member-on c.args.run.now c.args.defaults first c.args.at c.args.from c.args.to c.sum_between.result c.sum_between-2.result sizes durations e)
+    (at_member-on c.args.run.now c.args.defaults first c.args.at c.args.from c.args.to
+    c.sum_between.result c.sum_between-2.result sizes durations e)

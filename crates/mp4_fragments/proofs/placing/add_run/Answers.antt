@@ -3,4 +3,6 @@ use Rattle.mp4_fragments.proofs.placing.add_run.Goals as goal
 
 pub returns : goal.returns
 returns c =
-    Walks-run _ c.args.base c.args.defaults c.args.run.now c.args.end c.run_begin-at.result c.at_by_checkpoints-after.result c.in_ok-checks.checks _ _ c.args.t c.args.i (λ find k. k) c.run_begin-at.ensures c.at_by_checkpoints-after.ensures c.in_ok-checks.ensures.right c.in_ok-push.ensures
+    Walks-run _ c.args.base c.args.defaults c.args.run.now c.args.end c.run_begin-at.result
+    c.at_by_checkpoints-after.result c.in_ok-checks.checks _ _ c.args.t c.args.i (λ find k. k)
+    c.run_begin-at.ensures c.at_by_checkpoints-after.ensures c.in_ok-checks.ensures.right c.in_ok-push.ensures

@@ -6,5 +6,6 @@ pub returns : goal.returns
 returns c =
     let unlisted = c.from.result - (c.min-end.result - c.min-start.result) in
     rw (c.sum_listed.ensures.sum, c.from-2.ensures)
-    (sum_of_first-on c.args.from c.args.to c.min-start.result c.min-end.result unlisted c.args.values.now c.args.default_value c.requires
+    (sum_of_first-on c.args.from c.args.to c.min-start.result c.min-end.result unlisted
+    c.args.values.now c.args.default_value c.requires
     (omega arith) (omega arith) (omega arith))

@@ -70,5 +70,6 @@ returns-clause-time g c =
     c.requires.sums.counts (omega arith) found.0 in
     rw (c.from.ensures, c.from-2.ensures)
     (time_at_in runs c.args.track_id c.args.k i c.in-Some.found.number (get_or c.args.times.now i 0) d c.requires.first
-    before.0 (found.1 ∙ before.1) (begins g (goal.at.returns-clause-time g c).After-from-2) (omega (arith, found.1, before.1, before.2))
+    before.0 (found.1 ∙ before.1) (begins g (goal.at.returns-clause-time g c).After-from-2)
+    (omega (arith, found.1, before.1, before.2))
     (omega (arith, c.if-further-run.false)))

@@ -4,7 +4,9 @@ use Rattle.mp4_search.proofs.Digits.{digits_half, digits_64}
 use Rattle.mp4_search.proofs.search.halve.Goals as goal
 
 pub overflow_add-middle : goal.overflow_add-middle
-overflow_add-middle c = omega (arith, c.loop-low.invariant.between.ordered, c.loop-low.invariant.between.inside, c.requires.small)
+overflow_add-middle c =
+    let between = c.loop-low.invariant.between in
+    omega (arith, between.ordered, between.inside, c.requires.small)
 
 pub read-number-requires-clause-room : goal.read-number-requires-clause-room
 read-number-requires-clause-room c =

@@ -17,18 +17,20 @@ member_at-requires g c =
     let runs = runs_of c.args.trafs.now c.args.track index in
     let many = length-entries known runs index c.requires.indexed in
     let found = rw c.in-Some.is at c.last_at_most.ensures.found in
-    right_by known c.as_slice.result.now runs index c.in-Some.found.index c.index-as_slice-found.result c.requires.indexed c.as_slice.ensures c.index-as_slice-found.is (omega (arith, many, found.0.within))
+    right_by known c.as_slice.result.now runs index c.in-Some.found.index c.index-as_slice-found.result
+    c.requires.indexed c.as_slice.ensures c.index-as_slice-found.is (omega (arith, many, found.0.within))
 
 pub returns-in_default-clause-member : goal.returns-in_default-clause-member
 returns-in_default-clause-member g c =
     let index = c.args.self.now in
     sym (located_none (run_at c.args.trafs.now c.args.track)
-    (runs_of c.args.trafs.now c.args.track index) index c.args.number c.requires.indexed (rw c.in_default.is at c.last_at_most.ensures.none))
+    (runs_of c.args.trafs.now c.args.track index) index c.args.number c.requires.indexed
+    (rw c.in_default.is at c.last_at_most.ensures.none))
 
 pub returns-clause-member : goal.returns-clause-member
 returns-clause-member g c =
     let index = c.args.self.now in
     let found = rw c.in-Some.is at c.last_at_most.ensures.found in
     located_by (run_at c.args.trafs.now c.args.track) c.as_slice.result.now
-    (runs_of c.args.trafs.now c.args.track index) index c.args.number c.in-Some.found.index c.in-Some.found.number c.index-as_slice-found.result _
-    c.requires.number c.requires.indexed c.as_slice.ensures c.index-as_slice-found.is found.0 found.1 c.member_at.ensures
+    (runs_of c.args.trafs.now c.args.track index) index c.args.number c.in-Some.found.index c.in-Some.found.number
+    c.index-as_slice-found.result _ c.requires.number c.requires.indexed c.as_slice.ensures c.index-as_slice-found.is found.0 found.1 c.member_at.ensures

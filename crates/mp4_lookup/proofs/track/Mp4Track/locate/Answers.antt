@@ -17,14 +17,16 @@ pub returns-clause-counted : goal.returns-clause-counted
 returns-clause-counted c =
     let t = c.args.self.now in
     let k = c.args.k in
-    of_place (λ p. AreTrackCounts IsCountByHalves (λ bits n. 0) t k p.comparisons) (λ p. p.comparisons ≡ comparisons_of t k)
+    of_place (λ p. AreTrackCounts IsCountByHalves (λ bits n. 0) t k p.comparisons)
+    (λ p. p.comparisons ≡ comparisons_of t k)
     c.answer.result (λ p a. counted_of t k p.comparisons a) c.answer.ensures.counted
 
 pub returns-clause-comparisons : goal.returns-clause-comparisons
 returns-clause-comparisons c = λ of_movie.
     let t = c.args.self.now in
     let k = c.args.k in
-    of_place (λ p. AreTrackCounts IsCountByHalves (λ bits n. 0) t k p.comparisons) (λ p. AreFew (tables_of t.trak) p.comparisons)
+    of_place (λ p. AreTrackCounts IsCountByHalves (λ bits n. 0) t k p.comparisons)
+    (λ p. AreFew (tables_of t.trak) p.comparisons)
     c.answer.result (λ p a. few_at (tables_of t.trak) t.index k p.comparisons t.indexed (a.tables of_movie))
     c.answer.ensures.counted
 

@@ -18,7 +18,8 @@ pub returns-clause-comparisons : goal.returns-clause-comparisons
 returns-clause-comparisons c = λ of_movie.
     let t = c.args.self.now in
     let k = c.args.k in
-    of_place (λ p. AreTrackCounts IsCountByGuess (looks_at_bit) t k p.comparisons) (λ p. AreFewByGuess (tables_of t.trak) p.comparisons)
+    of_place (λ p. AreTrackCounts IsCountByGuess (looks_at_bit) t k p.comparisons)
+    (λ p. AreFewByGuess (tables_of t.trak) p.comparisons)
     c.answer.result (λ p a. few_by_guess_at (tables_of t.trak) t.index k p.comparisons t.indexed (a.tables of_movie))
     c.answer.ensures.counted
 
