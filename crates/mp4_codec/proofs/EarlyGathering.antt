@@ -1,9 +1,9 @@
 -- What a payload shows of its children before memory is requested, as a loop goes over them.
-use Rattle.std.proofs.Common.{◌≡◌, ◌⊎◌, ℕ, zero, suc, ◌<◌, ◌≤◌, List, [], ◌∷◌, length, Result, Ok, Err, refl, sym, ap}
+use Rattle.std.proofs.Common.{◌≡◌, ◌⊎◌, ℕ, zero, suc, ◌<◌, ◌≤◌, List, length, Result, Ok, Err, refl, sym}
 use Rattle.std.proofs.Common.{◌∙◌, subst, inl, inr, arith}
 use Rattle.std.proofs.lemmas.Bool.{lt-ltb, le-ltb}
 use Rattle.mp4_codec.specs.declared.error.Error.{Error}
-use Rattle.mp4_codec.specs.Cause.{Cause, cause_of}
+use Rattle.mp4_codec.specs.Cause.{cause_of}
 use Rattle.mp4_codec.specs.Children.{ChildBox, children, walk}
 use Rattle.mp4_codec.specs.ChildrenLaws.{Begins, Breaks, walk-begins, walk-breaks, walk-ends}
 use Rattle.mp4_codec.specs.Early.{Early, fails, succeeds, takes_memory, Shows, ◌and_then◌, early_children}

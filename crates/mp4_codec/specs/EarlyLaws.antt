@@ -1,11 +1,10 @@
 -- Answers whose refusals are found before memory is requested.
-use Rattle.std.proofs.Common.{◌≡◌, ◌⊎◌, List, [], ◌∷◌, ℕ, Option, Some, None, Result, Ok, Err, refl, sym, ap, ◌∙◌, inl}
-use Rattle.std.proofs.Common.{inr, subst}
+use Rattle.std.proofs.Common.{◌≡◌, List, [], ◌∷◌, ℕ, Option, Some, None, Result, Ok, Err, refl, ap}
 use Rattle.mp4_codec.specs.declared.error.Error.{Error}
-use Rattle.mp4_codec.specs.Cause.{Cause, cause_of, ◌>>=◌, fault_of, ◌or◌, unless, Answers, Gives}
+use Rattle.mp4_codec.specs.Cause.{Cause, fault_of, ◌or◌, unless, Answers, Gives}
 use Rattle.std.specs.Prelude.{false}
 use Rattle.mp4_codec.specs.declared.box_type.BoxType.{BoxType}
-use Rattle.mp4_codec.specs.Children.{ChildBox, tail_fault, first_fault, gathered, is_of, all_of}
+use Rattle.mp4_codec.specs.Children.{ChildBox, first_fault, gathered, is_of, all_of}
 use Rattle.mp4_codec.specs.Early.{Early, fails, succeeds, takes_memory, Shows, at_once, refused_at_once, ◌and_then◌}
 use Rattle.mp4_codec.specs.Early.{unless_refused, early_children, early_gathered}
 

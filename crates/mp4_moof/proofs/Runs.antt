@@ -1,7 +1,7 @@
 -- A fragment without runs is read without memory.
 use Rattle.std.proofs.Common.{◌≡◌, ◌∙◌, ℕ, List, [], Option, Some, None, Ok, Err, ap, sym, true, false, Bool, refl}
 use Rattle.std.specs.Prelude.{if◌then◌else◌}
-use Rattle.mp4_codec.specs.declared.box_type.BoxType.TheVariants.{TfhdBox as tfhd, TfdtBox as tfdt, TrunBox as trun}
+use Rattle.mp4_codec.specs.declared.box_type.BoxType.TheVariants.{TrunBox as trun}
 use Rattle.mp4_codec.specs.declared.error.Error.{Error}
 use Rattle.mp4_codec.specs.Cause.{Cause, unless}
 use Rattle.mp4_codec.specs.Children.{ChildBox, children, is_of, all_of, first_fault, gathered}

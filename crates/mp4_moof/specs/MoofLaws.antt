@@ -1,16 +1,15 @@
 -- The fragment of a movie is read as it was written.
-use Rattle.std.proofs.Common.{◌≡◌, ℕ, ◌^◌, ◌<◌, List, [], ◌∷◌, ◌++◌, length, Option, Some, None, Ok, refl, arith}
+use Rattle.std.proofs.Common.{◌≡◌, ◌^◌, List, [], ◌∷◌, ◌++◌, Some, Ok, refl, arith}
 use Rattle.mp4_codec.specs.declared.box_type.BoxType.TheVariants.{MfhdBox as mfhd, TrafBox as traf}
 use Rattle.mp4_codec.specs.Cause.{unless}
-use Rattle.mp4_codec.specs.Bytes.{◌⧺◌}
-use Rattle.mp4_codec.specs.Boxes.{frame, all_frames, all_refusal}
+use Rattle.mp4_codec.specs.Boxes.{frame, all_frames}
 use Rattle.mp4_codec.specs.Children.{ChildBox, fault_in}
 use Rattle.mp4_codec.specs.GatherLaws.{unless-then, with_last-last_of, all_children-adds}
 use Rattle.mp4_codec.specs.WriteLaws.{is_written}
 use Rattle.mp4_codec.specs.WrittenParts.{Groups, Part, Written, payloads, required_part, list_part, group}
 use Rattle.mp4_codec.specs.WrittenParts.{last_group, gathered-written, last_of-part, all_of-part, both_fit}
 use Rattle.mp4_frag.specs.Mfhd.{mfhd_of, mfhd_payload}
-use Rattle.mp4_moof.specs.Traf.{traf_of, traf_payload, traf_refusal}
+use Rattle.mp4_moof.specs.Traf.{traf_of, traf_payload}
 use Rattle.mp4_moof.specs.declared.moof.MoofBox.{MoofBox}
 use Rattle.mp4_moof.specs.FragmentKinds.{mfhd_kind}
 use Rattle.mp4_moof.specs.TrafLaws.{traf_kind}

@@ -1,20 +1,19 @@
 -- What a movie says of its fragments is read as it was written.
-use Rattle.std.proofs.Common.{◌≡◌, ℕ, ◌^◌, ◌<◌, List, [], ◌∷◌, ◌++◌, length, Option, Some, None, Ok, refl, arith}
+use Rattle.std.proofs.Common.{◌≡◌, ◌^◌, List, [], ◌∷◌, ◌++◌, Ok, refl, arith}
 use Rattle.std.specs.Option.{option_to_list}
 use Rattle.std.proofs.Common.{lit<}
 use Rattle.mp4_codec.specs.declared.box_type.BoxType.TheVariants.{MehdBox as mehd, TrexBox as trex, MvexBox as mvex}
 use Rattle.mp4_codec.specs.BoxType.{box_type}
 use Rattle.mp4_codec.specs.Framing.{IsSpellable}
 use Rattle.mp4_codec.specs.Cause.{unless}
-use Rattle.mp4_codec.specs.Bytes.{◌⧺◌}
-use Rattle.mp4_codec.specs.Boxes.{optional, all_frames, optional_refusal}
+use Rattle.mp4_codec.specs.Boxes.{optional, all_frames}
 use Rattle.mp4_codec.specs.Children.{ChildBox, fault_in}
 use Rattle.mp4_codec.specs.GatherLaws.{unless-then, with_last-last_of, all_children-adds}
 use Rattle.mp4_codec.specs.WriteLaws.{is_written}
 use Rattle.mp4_codec.specs.WrittenParts.{none_refuse, some_needed-again, Groups, Part, Written, payloads}
 use Rattle.mp4_codec.specs.WrittenParts.{optional_part, list_part, group, last_group, gathered-written}
 use Rattle.mp4_codec.specs.WrittenParts.{last_of-part, all_of-part, both_fit, Kind}
-use Rattle.mp4_frag.specs.Mehd.{mehd_of, mehd_payload, mehd_refusal}
+use Rattle.mp4_frag.specs.Mehd.{mehd_of, mehd_payload}
 use Rattle.mp4_frag.specs.Trex.{trex_of, trex_payload}
 use Rattle.mp4_moof.specs.declared.mvex.MvexBox.{MvexBox}
 use Rattle.mp4_moof.specs.FragmentKinds.{mehd_kind, trex_kind}

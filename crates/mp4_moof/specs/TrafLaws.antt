@@ -1,5 +1,5 @@
 -- The fragment of a track is read as it was written.
-use Rattle.std.proofs.Common.{◌≡◌, ℕ, ◌^◌, ◌<◌, List, [], ◌∷◌, ◌++◌, length, Option, Some, None, Ok, refl, arith}
+use Rattle.std.proofs.Common.{◌≡◌, ◌^◌, List, [], ◌∷◌, ◌++◌, Some, Ok, refl, arith}
 use Rattle.std.specs.Option.{option_to_list}
 use Rattle.std.proofs.Common.{lit<}
 use Rattle.mp4_codec.specs.declared.box_type.BoxType.TheVariants.{TfhdBox as tfhd, TfdtBox as tfdt, TrunBox as trun}
@@ -8,7 +8,7 @@ use Rattle.mp4_codec.specs.BoxType.{box_type}
 use Rattle.mp4_codec.specs.Framing.{IsSpellable}
 use Rattle.mp4_codec.specs.Cause.{unless}
 use Rattle.mp4_codec.specs.Bytes.{◌⧺◌}
-use Rattle.mp4_codec.specs.Boxes.{frame, optional, all_frames, optional_refusal, all_refusal}
+use Rattle.mp4_codec.specs.Boxes.{frame, optional, all_frames, optional_refusal}
 use Rattle.mp4_codec.specs.Children.{ChildBox, fault_in}
 use Rattle.mp4_codec.specs.GatherLaws.{unless-then, with_last-last_of, all_children-adds}
 use Rattle.mp4_codec.specs.WriteLaws.{is_written, or_parts}
@@ -17,7 +17,7 @@ use Rattle.mp4_codec.specs.WrittenParts.{group, last_group, gathered-written, la
 use Rattle.mp4_codec.specs.WrittenParts.{Kind}
 use Rattle.mp4_frag.specs.Tfhd.{tfhd_of, tfhd_payload, tfhd_refusal}
 use Rattle.mp4_frag.specs.Tfdt.{tfdt_of, tfdt_payload, tfdt_refusal}
-use Rattle.mp4_frag.specs.Trun.{trun_of, trun_payload, trun_refusal}
+use Rattle.mp4_frag.specs.Trun.{trun_of, trun_payload}
 use Rattle.mp4_moof.specs.declared.traf.TrafBox.{TrafBox}
 use Rattle.mp4_moof.specs.FragmentKinds.{tfhd_kind, tfdt_kind, trun_kind}
 use Rattle.mp4_moof.specs.Traf.{traf_fault, traf_taken, traf_added, traf_of, traf_payload, traf_refusal}

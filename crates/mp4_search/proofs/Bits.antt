@@ -1,7 +1,7 @@
 -- A bit that is set is that of its number, and no other's.
 use Rattle.std.proofs.Common.{◌≡◌, ℕ, true, ◌*◌, ◌/◌, ◌%◌, ◌^◌, ◌<◌, List, length, replicate}
 use Rattle.std.proofs.Common.{slice_set, slice_index_or, bit_or, w64, refl, sym, arith, ⊎_elim}
-use Rattle.std.proofs.Common.{◌+◌, Option, Some, None, ◌≤◌, ◌∙◌, cond}
+use Rattle.std.proofs.Common.{◌+◌, Some, None, ◌≤◌, ◌∙◌}
 use Rattle.std.specs.Prelude.{◌==◌, ◌||◌, false, Bool, min, nat_lt, if◌then◌else◌, IsSome}
 use Rattle.std.specs.List.{All, list_any}
 use Rattle.std.proofs.Math.Bool.{or-true, or-false}
@@ -12,7 +12,7 @@ use Rattle.std.proofs.Math.Nat.{min-eq_left, min-eq_right}
 use Rattle.std.proofs.lemmas.Bool.{cases_lt, lt-ltb, le-ltb}
 use Rattle.std.proofs.lemmas.List.Folds.{list_any_none}
 use Rattle.std.proofs.lemmas.Option.{same_Some, none-some}
-use Rattle.mp4_search.specs.BitSet.{AreBitsOf, KnowsUpTo, bit_of, has_bit}
+use Rattle.mp4_search.specs.BitSet.{AreBitsOf, bit_of, has_bit}
 use Rattle.mp4_search.specs.declared.bit_set.BitSet.{BitSet}
 
 -- the words with the bit of n

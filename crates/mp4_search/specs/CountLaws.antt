@@ -1,5 +1,5 @@
 -- Where there are no numbers, no search compares one.
-use Rattle.std.proofs.Common.{◌≡◌, ℕ, [], refl, inl, arith}
+use Rattle.std.proofs.Common.{ℕ, [], refl, inl, arith}
 use Rattle.mp4_search.specs.Search.{IsCountByGuess, IsCountByHalves, comparisons_between, comparisons_in}
 
 pub nothing_by_halves : (key : ℕ) → IsCountByHalves [] key 0

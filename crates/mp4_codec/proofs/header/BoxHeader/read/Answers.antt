@@ -1,4 +1,4 @@
-use Rattle.std.proofs.Common.{◌≡◌, ◌≤◌, ◌+◌, Result, Ok, Err, OnOk, IfOk}
+use Rattle.std.proofs.Common.{◌≤◌, ◌+◌, Result, Ok, Err, OnOk, IfOk}
 use Rattle.mp4_codec.specs.declared.header.BoxHeader.{BoxHeader}
 use Rattle.mp4_codec.specs.declared.error.Error.{Error}
 use Rattle.mp4_codec.specs.BoxType.{IsNamed}
