@@ -13,8 +13,8 @@ ghost use Rattle.mp4_moof.specs.TrafLaws.{traf_adds, traf_again};
 
 use mp4_codec::{
     BoxType, Child, DebugItem, ExactEq, Gather, HEADER_SIZE, InRange, Items, Mp4Box, Put, ReadBox,
-    Result, SharedItems, TryClone, WriteBox, all_size, check_all, check_optional, gather_children, keep_each,
-    keep_last, optional_size, put_all, put_optional, required,
+    Result, SharedItems, TryClone, WriteBox, all_size, check_all, check_optional, gather_children,
+    keep_each, keep_last, optional_size, put_all, put_optional, required,
 };
 use mp4_frag::{TfdtBox, TfhdBox, TrunBox};
 use std::alloc::Global;
