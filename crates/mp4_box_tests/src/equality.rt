@@ -4,7 +4,7 @@ use crate::asserts::{check, holds};
 use mp4_boxes::{EdtsBox, MdiaBox, MinfBox, MoovBox, StblBox, TrakBox};
 use mp4_codec::{
     BoxHeader, BoxType, Child, Error, ExactEq, FixedPointI8, FixedPointU8, FixedPointU16, FourCC,
-    Items, KeyedItems, Limit, Malformed, ReadBox, Result, Text, TryClone, is_equal,
+    Items, KeyedItems, Limit, Malformed, ReadBox, Result, Text,
 };
 use mp4_entry::{
     AacConfig, AudioObjectType, Avc1Box, AvcConfig, AvcProfile, ChannelConfig, EsdsBox, Hev1Box,
@@ -18,6 +18,7 @@ use mp4_leaf::{
 };
 use mp4_meta::{IlstBox, IlstItemBox, MetaBox, MetadataKey, UdtaBox};
 use mp4_moof::{MoofBox, MvexBox, TrafBox};
+use mp4_plain_movies::equality::{are_apart, compares_each, tells_each};
 use mp4_plain_movies::movie_bytes::{FRAGMENT, FULL_MOVIE};
 use mp4_plain_movies::spelled::read_bytes;
 use mp4_samples::{Comparisons, SamplePlace};
@@ -26,31 +27,6 @@ use mp4_table::{
 };
 use std::alloc::Global;
 use std::process::Abort;
-
-/// Whether two values are unequal, and each is equal to itself.
-fn are_apart<T: ExactEq>(one: &T, other: &T) -> bool {
-    let is_itself = is_equal(one, one) && is_equal(other, other);
-    is_itself && *one != *other && !is_equal(other, one)
-}
-
-/// Whether a value is equal to one of the same fields, and unequal to each of others, which differ from it in one
-/// field.
-fn tells_each<T: ExactEq>(one: &T, alike: &T, others: &[T]) -> bool {
-    let mut all = is_equal(one, alike) && *alike == *one;
-    for other in others {
-        all = all && are_apart(one, other);
-    }
-    all
-}
-
-/// The same by `==` alone.
-fn compares_each<T: PartialEq>(one: &T, alike: &T, others: &[T]) -> bool {
-    let mut all = *one == *alike && *alike == *one;
-    for other in others {
-        all = all && *other == *other && *one != *other && *other != *one;
-    }
-    all
-}
 
 /// Ends the test unless two values are unequal, and each is equal to itself.
 fn differ<T: ExactEq + Drop>(rt: &impl Abort, case: u32, one: T, other: T) {

@@ -3,7 +3,7 @@
 
 use crate::asserts::check;
 use mp4_boxes::{EdtsBox, MdiaBox, MinfBox, MoovBox, StblBox, TrakBox};
-use mp4_codec::{BoxType, FourCC, Items, Result, WriteBox};
+use mp4_codec::{BoxType, FourCC, Items, Result, SharedItems, WriteBox};
 use mp4_entry::{StsdBox, Tx3gBox};
 use mp4_frag::{MehdBox, TfdtBox, TfhdBox, TrexBox, TrunBox};
 use mp4_leaf::{
@@ -59,8 +59,8 @@ fn run(alloc: Global, random: &mut Random) -> Result<TrunBox> {
     Ok(run)
 }
 
-fn runs(alloc: Global, random: &mut Random) -> Result<Items<TrunBox>> {
-    let mut list = Items::new(alloc);
+fn runs(alloc: Global, random: &mut Random) -> Result<SharedItems<TrunBox>> {
+    let mut list = SharedItems::new(alloc);
     for _ in 0..random.few() {
         list.push(run(alloc, random)?)?;
     }

@@ -3,6 +3,7 @@
 //! must, and made again it is Ok; or it does without that memory. The next request is tried until a test makes no more.
 
 mod broken_boxes;
+mod shared_lists;
 
 use crate::asserts::{check, holds};
 use mp4_boxes::{MdiaBox, MinfBox, MoovBox, StblBox, TrakBox};

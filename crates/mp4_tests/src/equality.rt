@@ -2,44 +2,15 @@
 
 use crate::asserts::{check, holds};
 use bytes::Bytes;
-use mp4_codec::{ExactEq, FourCC, Items, Result, Text, is_equal};
+use mp4_codec::{FourCC, Items, Result, Text};
 use mp4_entry::{MediaConfig, TrackType, TtxtConfig, Vp9Config};
 use mp4_fragments::{Beginning, Member, SampleDefaults};
 use mp4_media::searching::Found;
 use mp4_media::writing::{ChunkPlace, ChunkRef, Durations, SampleInfo};
 use mp4_media::{Mp4Config, SampleQuery, TrackConfig, WriterCall, is_equal_sample};
+use mp4_plain_movies::equality::{are_alike, are_apart, compares_each, tells_each};
 use mp4_samples::{Mp4Sample, SampleRef};
 use std::alloc::Global;
-
-/// Whether two values are unequal, and each is equal to itself.
-fn are_apart<T: ExactEq>(one: &T, other: &T) -> bool {
-    let is_itself = is_equal(one, one) && is_equal(other, other);
-    is_itself && *one != *other && !is_equal(other, one)
-}
-
-/// Whether two values of the same fields are equal.
-fn are_alike<T: ExactEq>(one: &T, other: &T) -> bool {
-    is_equal(one, other) && *other == *one
-}
-
-/// Whether a value is equal to one of the same fields, and unequal to each of others, which differ from it in one
-/// field.
-fn tells_each<T: ExactEq>(one: &T, alike: &T, others: &[T]) -> bool {
-    let mut all = are_alike(one, alike);
-    for other in others {
-        all = all && are_apart(one, other);
-    }
-    all
-}
-
-/// The same by `==` alone.
-fn compares_each<T: PartialEq>(one: &T, alike: &T, others: &[T]) -> bool {
-    let mut all = *one == *alike && *alike == *one;
-    for other in others {
-        all = all && *other == *other && *one != *other && *other != *one;
-    }
-    all
-}
 
 /// The configuration of a movie, of which the field of this number is changed; 0 changes none.
 fn movie(alloc: Global, changed: u8) -> Result<Mp4Config> {
