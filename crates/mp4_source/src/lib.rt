@@ -1,0 +1,9 @@
+//! Where the bytes of an MP4 file are read from: memory, or a file of any size through a window of fixed size.
+#![tactic(auto)]
+
+mod error;
+mod slice;
+mod source;
+
+pub use error::SourceError;
+pub use source::ByteSource;

@@ -1,0 +1,56 @@
+//! Bytes that are read by their places.
+
+ghost use Rattle.std.specs.Prelude.{◌≡◌, ℕ, ◌<◌, Bool, true, List, Option, None, length, IfOk, IfErr, IfSome, IsTrue, OnOk, OnErr, vec_len, vec_capacity};
+ghost use Rattle.std.specs.Borrow.{sem};
+ghost use Rattle.mp4_source.specs.Source.{IsPartOf, IsRefusal, RestsAsBefore, OnIo, OnOutOfMemory};
+
+use crate::error::SourceError;
+use std::io;
+
+/// Bytes that are read by their places, which count from 0.
+///
+/// A call leaves the bytes as they are. Of a source whose bytes are known, as of a slice, the contracts say which
+/// bytes a call gives, and that one which never refuses gives all that it has.
+pub trait ByteSource {
+    // The bytes, where they are known.
+    ghost contents: { Self → Option (List ℕ) } = { λ _. None };
+
+    // Whether it may refuse to read what it has.
+    ghost refuses: { Self → Bool } = { λ _. true };
+
+    /// How many bytes there are. It is an error only where the source refuses.
+    fn len(&mut self) -> io::Result<u64>
+        ensures value { IfOk result (λ n. IfSome (contents self.old) (λ xs. n ≡ length xs)) }
+        ensures err { OnErr result (IsTrue (refuses self.old)) }
+        ensures contents { contents self.new ≡ contents self.old }
+        ensures refuses { refuses self.new ≡ refuses self.old };
+
+    /// Fills the buffer with the bytes from the place on. It is an error where the source refuses, or where they
+    /// pass the end, mostly of the kind `UnexpectedEof`; the buffer then holds any bytes.
+    fn read_exact_at(&mut self, place: u64, buf: &mut [u8]) -> io::Result<()>
+        ensures value { OnOk result (IsPartOf (contents self.old) place (length buf.old) buf.new) }
+        ensures err { OnErr result (IsRefusal (contents self.old) place (length buf.old) (refuses self.old)) }
+        ensures contents { contents self.new ≡ contents self.old }
+        ensures refuses { refuses self.new ≡ refuses self.old };
+
+    /// The n bytes from the place on. A source that holds them in memory lends them, and `room` stays as it is.
+    /// Else they are read into `room`, which is cleared first and grows to n bytes; where that memory is refused, it
+    /// is `OutOfMemory`. Where the source refuses, or they pass the end, it is `Io`.
+    fn part<'r>(
+        &'r mut self,
+        place: u64,
+        n: usize,
+        room: &'r mut Vec<u8>,
+    ) -> Result<&'r [u8], SourceError>
+        ensures len { IfOk result (λ part. length part.now ≡ n) }
+        ensures value { IfOk result (λ part. IsPartOf (contents self.old) place n part.now) }
+        ensures io { IfErr result (λ e. OnIo e (IsRefusal (contents self.old) place n (refuses self.old))) }
+        ensures memory { IfErr result (λ e. OnOutOfMemory e (vec_capacity room.old < n)) }
+        ensures* after_borrow { sem 𝓛 (RestsAsBefore Self.row contents refuses self.entry) }
+    {
+        room.clear();
+        room.resize(n, 0)?;
+        self.read_exact_at(place, room.as_mut_slice())?;
+        Ok(room.as_slice())
+    }
+}
