@@ -9,6 +9,10 @@ use Rattle.mp4_source.specs.declared.error.SourceError.TheVariants.{OutOfMemory,
 abbrev pub IsPartOf : Option (List ℕ) → ℕ → ℕ → List ℕ → Type 0
 IsPartOf known place n part = IfSome known (λ xs. (place + n ≤ length xs) × (part ≡ take n (drop place xs)))
 
+-- where the bytes are known, n of them follow the place
+abbrev pub HasPart : Option (List ℕ) → ℕ → ℕ → Type 0
+HasPart known place n = IfSome known (λ xs. place + n ≤ length xs)
+
 -- where the bytes are known and have n from the place on, only a source that refuses fails to read them
 abbrev pub IsRefusal : Option (List ℕ) → ℕ → ℕ → Bool → Type 0
 IsRefusal known place n refuses = IfSome known (λ xs. place + n ≤ length xs → IsTrue refuses)

@@ -2,8 +2,10 @@
 #![tactic(auto)]
 
 mod error;
+mod seek_source;
 mod slice;
 mod source;
 
 pub use error::SourceError;
+pub use seek_source::SeekSource;
 pub use source::ByteSource;

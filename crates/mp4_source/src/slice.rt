@@ -4,7 +4,7 @@ ghost use Rattle.std.specs.Prelude.{◌≡◌, ◌+◌, ◌<◌, ◌≤◌, Some
 ghost use Rattle.std.specs.IoError.{error_kind};
 
 use crate::error::SourceError;
-use crate::source::ByteSource;
+use crate::source::{ByteSource, check_end};
 use std::io;
 use std::io::ErrorKind;
 
@@ -46,17 +46,7 @@ fn part_of(bytes: &[u8], place: u64, n: usize) -> io::Result<&[u8]>
     ensures err { OnErr result (length bytes.now < place + n) }
     ensures kind { IfErr result (λ e. error_kind e ≡ ErrorKind.UnexpectedEof) }
 {
-    let len = bytes.len();
-    if place > len as u64 || len - (place as usize) < n {
-        return Err(past_end());
-    }
+    check_end(place, n, bytes.len() as u64)?;
     let start = place as usize;
     Ok(&bytes[start..start + n])
-}
-
-/// The error of a part that passes the end.
-pub(crate) fn past_end() -> io::Error
-    ensures { error_kind result ≡ ErrorKind.UnexpectedEof }
-{
-    io::Error::new(ErrorKind::UnexpectedEof, "the part passes the end")
 }

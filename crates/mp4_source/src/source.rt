@@ -1,11 +1,14 @@
 //! Bytes that are read by their places.
 
-ghost use Rattle.std.specs.Prelude.{◌≡◌, ℕ, ◌<◌, Bool, true, List, Option, None, length, IfOk, IfErr, IfSome, IsTrue, OnOk, OnErr, vec_len, vec_capacity};
+ghost use Rattle.std.specs.Prelude.{◌≡◌, ℕ, ◌+◌, ◌<◌, ◌≤◌, Bool, true, List, Option, None, length, IfOk, IfErr, IfSome, IsTrue, OnOk, OnErr, vec_len, vec_capacity};
 ghost use Rattle.std.specs.Borrow.{sem};
-ghost use Rattle.mp4_source.specs.Source.{IsPartOf, IsRefusal, RestsAsBefore, OnIo, OnOutOfMemory};
+ghost use Rattle.std.specs.IoError.{error_kind};
+ghost use Rattle.mp4_source.specs.Source.{IsPartOf, IsRefusal, HasPart, RestsAsBefore, OnIo, OnOutOfMemory};
 
 use crate::error::SourceError;
+use std::alloc::AllocError;
 use std::io;
+use std::io::ErrorKind;
 
 /// Bytes that are read by their places, which count from 0.
 ///
@@ -34,8 +37,9 @@ pub trait ByteSource {
         ensures refuses { refuses self.new ≡ refuses self.old };
 
     /// The n bytes from the place on. A source that holds them in memory lends them, and `room` stays as it is.
-    /// Else they are read into `room`, which is cleared first and grows to n bytes; where that memory is refused, it
-    /// is `OutOfMemory`. Where the source refuses, or they pass the end, it is `Io`.
+    /// Else they are read into `room`, over what it held. It grows where it has no capacity for n bytes, but never for
+    /// bytes that pass the end; where that memory is refused, it is `OutOfMemory`. Where the source refuses, or the
+    /// bytes pass the end, it is `Io`.
     fn part<'r>(
         &'r mut self,
         place: u64,
@@ -46,11 +50,60 @@ pub trait ByteSource {
         ensures value { IfOk result (λ part. IsPartOf (contents self.old) place n part.now) }
         ensures io { IfErr result (λ e. OnIo e (IsRefusal (contents self.old) place n (refuses self.old))) }
         ensures memory { IfErr result (λ e. OnOutOfMemory e (vec_capacity room.old < n)) }
+        ensures fits { IfErr result (λ e. OnOutOfMemory e (HasPart (contents self.old) place n)) }
         ensures* after_borrow { sem 𝓛 (RestsAsBefore Self.row contents refuses self.entry) }
     {
-        room.clear();
-        room.resize(n, 0)?;
+        if room.capacity() < n {
+            check_end(place, n, self.len()?)?;
+        }
+        grow_to(room, n)?;
         self.read_exact_at(place, room.as_mut_slice())?;
         Ok(room.as_slice())
     }
+}
+
+impl<S: ByteSource> ByteSource for &mut S {
+    ghost contents = { λ s. S.contents s.now };
+
+    ghost refuses = { λ s. S.refuses s.now };
+
+    fn len(&mut self) -> io::Result<u64> {
+        ByteSource::len(&mut **self)
+    }
+
+    fn read_exact_at(&mut self, place: u64, buf: &mut [u8]) -> io::Result<()> {
+        ByteSource::read_exact_at(&mut **self, place, buf)
+    }
+
+    fn part<'r>(
+        &'r mut self,
+        place: u64,
+        n: usize,
+        room: &'r mut Vec<u8>,
+    ) -> Result<&'r [u8], SourceError> {
+        ByteSource::part(&mut **self, place, n, room)
+    }
+}
+
+/// Refuses a part that passes the end of so many bytes, by `UnexpectedEof`.
+pub(crate) fn check_end(place: u64, n: usize, len: u64) -> io::Result<()>
+    ensures fits { OnOk result (place + n ≤ len) }
+    ensures err { OnErr result (len < place + n) }
+    ensures kind { IfErr result (λ e. error_kind e ≡ ErrorKind.UnexpectedEof) }
+{
+    if place > len || len - place < n as u64 {
+        return Err(io::Error::new(ErrorKind::UnexpectedEof, "the part passes the end"));
+    }
+    Ok(())
+}
+
+/// Makes room of n bytes, of any values. What it holds isn't copied where it has to grow.
+pub(crate) fn grow_to(room: &mut Vec<u8>, n: usize) -> Result<(), AllocError>
+    ensures len { OnOk result (vec_len room.new ≡ n) }
+    ensures full { OnErr result (vec_capacity room.old < n) }
+{
+    if room.capacity() < n {
+        room.clear();
+    }
+    room.resize(n, 0)
 }
