@@ -1,11 +1,14 @@
 //! Where the bytes of an MP4 file are read from: memory, or a file of any size through a window of fixed size.
 #![tactic(auto)]
 
+mod block;
 mod error;
 mod seek_source;
 mod slice;
 mod source;
+mod window;
 
 pub use error::SourceError;
 pub use seek_source::SeekSource;
 pub use source::ByteSource;
+pub use window::{BLOCK_SIZE, Window};

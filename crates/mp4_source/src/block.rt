@@ -1,0 +1,85 @@
+//! The bytes of a source that a window holds.
+
+ghost use Rattle.std.specs.Prelude.{◌≡◌, ◌+◌, ◌-◌, ◌<◌, ◌≤◌, ◌↔◌, length, take, drop, IsTrue, IfOk, OnOk, OnErr, vec_len};
+ghost use Rattle.mp4_source.specs.Source.{IsPartOf, IsRefusal};
+ghost use Rattle.mp4_source.specs.Block.{IsHeld};
+
+use crate::source::ByteSource;
+use std::alloc::{AllocError, Global};
+use std::io;
+
+/// Bytes of a source from a place on, all or none of its room.
+#[derive(Debug, Drop)]
+pub(crate) struct Block {
+    pub(crate) bytes: Vec<u8>,
+    pub(crate) start: u64,
+    pub(crate) filled: usize,
+    ghost in_bounds: { filled ≤ vec_len bytes },
+}
+
+impl Block {
+    /// An empty block of this size.
+    pub(crate) fn new(alloc: Global, size: usize) -> Result<Block, AllocError>
+        ensures size { IfOk result (λ b. vec_len b.bytes ≡ size) }
+        ensures start { IfOk result (λ b. b.start ≡ 0) }
+        ensures filled { IfOk result (λ b. b.filled ≡ 0) }
+    {
+        let mut bytes = Vec::with_capacity(alloc, size)?;
+        bytes.resize(size, 0)?;
+        Ok(Block {
+            bytes,
+            start: 0,
+            filled: 0,
+        })
+    }
+
+    /// How many bytes it has room for.
+    pub(crate) fn size(&self) -> usize
+        ensures { result ≡ vec_len self.now.bytes }
+    {
+        self.bytes.len()
+    }
+
+    /// Whether it holds the n bytes from the place on.
+    #[inline]
+    pub(crate) fn holds(&self, place: u64, n: usize) -> bool
+        ensures { IsTrue result ↔ IsHeld place n self.now.start self.now.filled }
+    {
+        if place < self.start {
+            return false;
+        }
+        let skipped = place - self.start;
+        let filled = self.filled as u64;
+        skipped <= filled && n as u64 <= filled - skipped
+    }
+
+    /// The n bytes from the place on.
+    #[inline]
+    pub(crate) fn part(&self, place: u64, n: usize) -> &[u8]
+        requires { IsHeld place n self.now.start self.now.filled }
+        ensures len { length result.now ≡ n }
+        ensures value { result.now ≡ take n (drop (place - self.now.start) self.now.bytes.items) }
+    {
+        let skipped = (place - self.start) as usize;
+        let all = self.bytes.as_slice();
+        &all[skipped..skipped + n]
+    }
+
+    /// Reads the block anew, from the place on. After an error it holds nothing.
+    pub(crate) fn fill<S: ByteSource>(&mut self, source: &mut S, place: u64) -> io::Result<()>
+        ensures start { self.new.start ≡ place }
+        ensures size { vec_len self.new.bytes ≡ vec_len self.old.bytes }
+        ensures all { OnOk result (self.new.filled ≡ vec_len self.old.bytes) }
+        ensures none { OnErr result (self.new.filled ≡ 0) }
+        ensures value { OnOk result (IsPartOf (S.contents source.old) place (vec_len self.old.bytes) self.new.bytes.items) }
+        ensures err { OnErr result (IsRefusal (S.contents source.old) place (vec_len self.old.bytes) (S.refuses source.old)) }
+        ensures contents { S.contents source.new ≡ S.contents source.old }
+        ensures refuses { S.refuses source.new ≡ S.refuses source.old }
+    {
+        self.start = place;
+        self.filled = 0;
+        source.read_exact_at(place, self.bytes.as_mut_slice())?;
+        self.filled = self.bytes.len();
+        Ok(())
+    }
+}

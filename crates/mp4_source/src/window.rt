@@ -1,0 +1,77 @@
+//! A source whose small reads are few.
+
+ghost use Rattle.std.specs.Prelude.{◌≡◌, ◌+◌, ◌-◌, ◌<◌, ◌≤◌, length, take, drop, IfOk, IfErr, OnOk, OnErr, vec_len};
+ghost use Rattle.mp4_source.specs.Source.{IsPartOf, IsRefusal};
+ghost use Rattle.mp4_source.specs.Block.{IsHeld, IsBlockOf};
+
+use crate::block::Block;
+use crate::error::SourceError;
+use crate::source::{ByteSource, check_end, grow_to};
+use std::alloc::Global;
+use std::io;
+use std::marker::Model;
+
+/// How many bytes a window holds at most: 32 KiB.
+pub const BLOCK_SIZE: usize = 32768;
+
+/// A source, and a block of its bytes, so that many small reads are few calls of the source.
+///
+/// A read that the block doesn't hold fills the block from its place on, or up to the end of the source where fewer
+/// bytes follow. So a walk over small headers reads a block's worth at a time, and one that skips far ahead reads at
+/// once what follows. A read that is longer than the block goes to the source itself.
+///
+/// The source is asked once how many bytes it has, and never for bytes behind them. Contracts see a window as its
+/// source.
+#[derive(Debug, Drop)]
+pub struct Window<S: ByteSource> {
+    source: S,
+    len: u64,
+    block: Block,
+}
+
+impl<S: ByteSource> Model for Window<S> {
+    ghost Value = { S };
+
+    ghost view = { λ w. w.source };
+
+    ghost invariant = { λ w. (w.block.start + vec_len w.block.bytes ≤ w.len)
+        × IsBlockOf (S.contents w.source) w.len w.block.start w.block.filled w.block.bytes.items };
+}
+
+impl<S: ByteSource> Window<S> {
+    /// A window over a source, which is asked for its length. It takes the memory of its block here, and none later.
+    pub fn new(alloc: Global, source: S) -> Result<Self, SourceError>
+    where
+        S: Drop,
+        ensures contents { IfOk result (λ w. S.contents w ≡ S.contents source) }
+        ensures refuses { IfOk result (λ w. S.refuses w ≡ S.refuses source) }
+    {
+        let mut source = source;
+        let len = source.len()?;
+        let block = Block::new(alloc, block_size(len))?;
+        Ok(Window { source, len, block })
+    }
+
+    /// The source.
+    pub fn into_inner(self) -> S
+        ensures { result ≡ self }
+    {
+        let Window {
+            source,
+            len: _,
+            block: _,
+        } = self;
+        source
+    }
+}
+
+/// The block's size over a source of so many bytes.
+fn block_size(len: u64) -> usize
+    ensures { result ≤ len }
+{
+    if len < BLOCK_SIZE as u64 {
+        len as usize
+    } else {
+        BLOCK_SIZE
+    }
+}
