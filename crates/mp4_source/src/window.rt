@@ -65,6 +65,47 @@ impl<S: ByteSource> Window<S> {
     }
 }
 
+impl<S: ByteSource> ByteSource for Window<S> {
+    ghost contents = { S.contents };
+
+    ghost refuses = { S.refuses };
+
+    /// It is never an error.
+    fn len(&mut self) -> io::Result<u64> {
+        Ok(self.len)
+    }
+
+    #[tactic(auto, using(crate::proofs::Held::held_part))]
+    fn read_exact_at(&mut self, place: u64, buf: &mut [u8]) -> io::Result<()> {
+        let n = buf.len();
+        if n > self.block.size() {
+            check_end(place, n, self.len)?;
+            return self.source.read_exact_at(place, buf);
+        }
+        self.block.hold(&mut self.source, self.len, place, n)?;
+        buf.copy_from_slice(self.block.part(place, n));
+        Ok(())
+    }
+
+    #[inline]
+    #[tactic(auto, using(crate::proofs::Held::held_part))]
+    fn part<'r>(
+        &'r mut self,
+        place: u64,
+        n: usize,
+        room: &'r mut Vec<u8>,
+    ) -> Result<&'r [u8], SourceError> {
+        if n > self.block.size() {
+            check_end(place, n, self.len)?;
+            grow_to(room, n)?;
+            self.source.read_exact_at(place, room.as_mut_slice())?;
+            return Ok(room.as_slice());
+        }
+        self.block.hold(&mut self.source, self.len, place, n)?;
+        Ok(self.block.part(place, n))
+    }
+}
+
 /// The block's size over a source of so many bytes.
 fn block_size(len: u64) -> usize
     ensures { result ≤ len }
