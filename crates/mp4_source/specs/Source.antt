@@ -1,5 +1,5 @@
 -- What a source of bytes answers.
-use Rattle.std.specs.Prelude.{◌≡◌, ℕ, ◌+◌, ◌≤◌, Bool, IsTrue, List, length, take, drop, Option, None, Some, IfSome, ⊤}
+use Rattle.std.specs.Prelude.{◌≡◌, ℕ, ◌+◌, ◌≤◌, Bool, IsTrue, List, length, take, drop, Option, IfSome, ⊤}
 use Rattle.std.specs.Borrow.{Fml, RattleType, MutBor}
 use Rattle.std.specs.Io.BufRead.{Rests}
 use Rattle.mp4_source.specs.declared.error.SourceError.{SourceError}
@@ -13,14 +13,14 @@ IsPartOf known place n part = IfSome known (λ xs. (place + n ≤ length xs) × 
 abbrev pub HasPart : Option (List ℕ) → ℕ → ℕ → Type 0
 HasPart known place n = IfSome known (λ xs. place + n ≤ length xs)
 
--- where the bytes are known and have n from the place on, only a source that refuses fails to read them
+-- where the bytes are known and have n from the place on, only a source that can refuse fails to read them
 abbrev pub IsRefusal : Option (List ℕ) → ℕ → ℕ → Bool → Type 0
-IsRefusal known place n refuses = IfSome known (λ xs. place + n ≤ length xs → IsTrue refuses)
+IsRefusal known place n can_refuse = IfSome known (λ xs. place + n ≤ length xs → IsTrue can_refuse)
 
--- once the borrow of the source ends, it has the bytes that it had, and refuses only if it did
+-- once the borrow of the source ends, it has the bytes that it had, and can refuse only if it could
 abbrev pub RestsAsBefore : (R : RattleType) → (R.Denot → Option (List ℕ)) → (R.Denot → Bool) → MutBor R.Denot → Fml
-RestsAsBefore R contents refuses s =
-    Rests R s (λ new. (contents new ≡ contents s.now) × (refuses new ≡ refuses s.now))
+RestsAsBefore R contents can_refuse s =
+    Rests R s (λ new. (contents new ≡ contents s.now) × (can_refuse new ≡ can_refuse s.now))
 
 -- a fact where the source failed
 abbrev pub OnIo : SourceError → Type 0 → Type 0

@@ -6,15 +6,25 @@ ghost use Rattle.mp4_source.specs.Block.{IsHeld, IsBlockOf, IsLengthOf};
 
 use crate::source::{ByteSource, check_end};
 use std::alloc::{AllocError, Global};
-use std::io;
+use std::fmt::Debug;
+use std::{fmt, io};
 
 /// Bytes of a source from a place on, all or none of its room.
-#[derive(Debug, Drop)]
+#[derive(Drop)]
 pub(crate) struct Block {
     pub(crate) bytes: Vec<u8>,
     pub(crate) start: u64,
     pub(crate) filled: usize,
     ghost in_bounds: { filled ≤ vec_len bytes },
+}
+
+impl Debug for Block {
+    fn fmt<W: fmt::Write>(&self, f: &mut fmt::Formatter<W>) -> fmt::Result {
+        f.debug_struct("Block")
+            .field("start", &self.start)
+            .field("filled", &self.filled)
+            .finish()
+    }
 }
 
 impl Block {
@@ -72,9 +82,9 @@ impl Block {
         ensures all { OnOk result (self.new.filled ≡ vec_len self.old.bytes) }
         ensures none { OnErr result (self.new.filled ≡ 0) }
         ensures value { OnOk result (IsPartOf (S.contents source.old) place (vec_len self.old.bytes) self.new.bytes.items) }
-        ensures err { OnErr result (IsRefusal (S.contents source.old) place (vec_len self.old.bytes) (S.refuses source.old)) }
+        ensures err { OnErr result (IsRefusal (S.contents source.old) place (vec_len self.old.bytes) (S.can_refuse source.old)) }
         ensures contents { S.contents source.new ≡ S.contents source.old }
-        ensures refuses { S.refuses source.new ≡ S.refuses source.old }
+        ensures can_refuse { S.can_refuse source.new ≡ S.can_refuse source.old }
     {
         self.start = place;
         self.filled = 0;
@@ -100,9 +110,9 @@ impl Block {
         ensures end { self.new.start + vec_len self.new.bytes ≤ len }
         ensures held { OnOk result (IsHeld place n self.new.start self.new.filled) }
         ensures block { IsBlockOf (S.contents source.new) len self.new.start self.new.filled self.new.bytes.items }
-        ensures err { OnErr result (IsRefusal (S.contents source.old) place n (S.refuses source.old)) }
+        ensures err { OnErr result (IsRefusal (S.contents source.old) place n (S.can_refuse source.old)) }
         ensures contents { S.contents source.new ≡ S.contents source.old }
-        ensures refuses { S.refuses source.new ≡ S.refuses source.old }
+        ensures can_refuse { S.can_refuse source.new ≡ S.can_refuse source.old }
     {
         if self.holds(place, n) {
             return Ok(());
@@ -130,9 +140,9 @@ impl Block {
         ensures end { self.new.start + vec_len self.new.bytes ≤ len }
         ensures held { OnOk result (IsHeld place n self.new.start self.new.filled) }
         ensures block { IsBlockOf (S.contents source.new) len self.new.start self.new.filled self.new.bytes.items }
-        ensures err { OnErr result (IsRefusal (S.contents source.old) place n (S.refuses source.old)) }
+        ensures err { OnErr result (IsRefusal (S.contents source.old) place n (S.can_refuse source.old)) }
         ensures contents { S.contents source.new ≡ S.contents source.old }
-        ensures refuses { S.refuses source.new ≡ S.refuses source.old }
+        ensures can_refuse { S.can_refuse source.new ≡ S.can_refuse source.old }
     {
         let last = len - self.size() as u64;
         let start = place.min(last);

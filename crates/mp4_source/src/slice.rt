@@ -12,7 +12,7 @@ use std::io::ErrorKind;
 impl ByteSource for &[u8] {
     ghost contents = { λ s. Some s.now };
 
-    ghost refuses = { λ _. false };
+    ghost can_refuse = { λ _. false };
 
     fn len(&mut self) -> io::Result<u64> {
         let all: &[u8] = *self;

@@ -19,22 +19,22 @@ pub trait ByteSource {
     ghost contents: { Self → Option (List ℕ) } = { λ _. None };
 
     // Whether it may refuse to read what it has.
-    ghost refuses: { Self → Bool } = { λ _. true };
+    ghost can_refuse: { Self → Bool } = { λ _. true };
 
     /// How many bytes there are. It is an error only where the source refuses.
     fn len(&mut self) -> io::Result<u64>
         ensures value { IfOk result (λ n. IfSome (contents self.old) (λ xs. n ≡ length xs)) }
-        ensures err { OnErr result (IsTrue (refuses self.old)) }
+        ensures err { OnErr result (IsTrue (can_refuse self.old)) }
         ensures contents { contents self.new ≡ contents self.old }
-        ensures refuses { refuses self.new ≡ refuses self.old };
+        ensures can_refuse { can_refuse self.new ≡ can_refuse self.old };
 
     /// Fills the buffer with the bytes from the place on. It is an error where the source refuses, or where they
     /// pass the end, mostly of the kind `UnexpectedEof`; the buffer then holds any bytes.
     fn read_exact_at(&mut self, place: u64, buf: &mut [u8]) -> io::Result<()>
         ensures value { OnOk result (IsPartOf (contents self.old) place (length buf.old) buf.new) }
-        ensures err { OnErr result (IsRefusal (contents self.old) place (length buf.old) (refuses self.old)) }
+        ensures err { OnErr result (IsRefusal (contents self.old) place (length buf.old) (can_refuse self.old)) }
         ensures contents { contents self.new ≡ contents self.old }
-        ensures refuses { refuses self.new ≡ refuses self.old };
+        ensures can_refuse { can_refuse self.new ≡ can_refuse self.old };
 
     /// The n bytes from the place on. A source that holds them in memory lends them, and `room` stays as it is.
     /// Else they are read into `room`, over what it held. It grows where it has no capacity for n bytes, but never for
@@ -48,10 +48,10 @@ pub trait ByteSource {
     ) -> Result<&'r [u8], SourceError>
         ensures len { IfOk result (λ part. length part.now ≡ n) }
         ensures value { IfOk result (λ part. IsPartOf (contents self.old) place n part.now) }
-        ensures io { IfErr result (λ e. OnIo e (IsRefusal (contents self.old) place n (refuses self.old))) }
+        ensures io { IfErr result (λ e. OnIo e (IsRefusal (contents self.old) place n (can_refuse self.old))) }
         ensures memory { IfErr result (λ e. OnOutOfMemory e (vec_capacity room.old < n)) }
         ensures fits { IfErr result (λ e. OnOutOfMemory e (HasPart (contents self.old) place n)) }
-        ensures* after_borrow { sem 𝓛 (RestsAsBefore Self.row contents refuses self.entry) }
+        ensures* after_borrow { sem 𝓛 (RestsAsBefore Self.row contents can_refuse self.entry) }
     {
         if room.capacity() < n {
             check_end(place, n, self.len()?)?;
@@ -65,7 +65,7 @@ pub trait ByteSource {
 impl<S: ByteSource> ByteSource for &mut S {
     ghost contents = { λ s. S.contents s.now };
 
-    ghost refuses = { λ s. S.refuses s.now };
+    ghost can_refuse = { λ s. S.can_refuse s.now };
 
     fn len(&mut self) -> io::Result<u64> {
         ByteSource::len(&mut **self)

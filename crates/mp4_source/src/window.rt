@@ -1,7 +1,7 @@
 //! A source whose small reads are few.
 
-ghost use Rattle.std.specs.Prelude.{◌≡◌, ◌+◌, ◌-◌, ◌<◌, ◌≤◌, length, take, drop, IfOk, IfErr, OnOk, OnErr, vec_len};
-ghost use Rattle.mp4_source.specs.Source.{IsPartOf, IsRefusal};
+ghost use Rattle.std.specs.Prelude.{◌≡◌, ◌+◌, ◌-◌, ◌<◌, ◌≤◌, length, take, drop, IfOk, IfErr, IsTrue, vec_len};
+ghost use Rattle.mp4_source.specs.Source.{OnIo};
 ghost use Rattle.mp4_source.specs.Block.{IsHeld, IsBlockOf};
 
 use crate::block::Block;
@@ -39,17 +39,27 @@ impl<S: ByteSource> Model for Window<S> {
 }
 
 impl<S: ByteSource> Window<S> {
-    /// A window over a source, which is asked for its length. It takes the memory of its block here, and none later.
+    /// A window over a source, which is asked for its length. It takes the memory of its block here: as many bytes as
+    /// the source has, and [`BLOCK_SIZE`] at most. Where that is refused, it is `OutOfMemory`; where the source refuses,
+    /// it is `Io`.
     pub fn new(alloc: Global, source: S) -> Result<Self, SourceError>
     where
         S: Drop,
         ensures contents { IfOk result (λ w. S.contents w ≡ S.contents source) }
-        ensures refuses { IfOk result (λ w. S.refuses w ≡ S.refuses source) }
+        ensures can_refuse { IfOk result (λ w. S.can_refuse w ≡ S.can_refuse source) }
+        ensures io { IfErr result (λ e. OnIo e (IsTrue (S.can_refuse source))) }
     {
         let mut source = source;
         let len = source.len()?;
         let block = Block::new(alloc, block_size(len))?;
         Ok(Window { source, len, block })
+    }
+
+    /// The source.
+    pub fn get_ref(&self) -> &S
+        ensures { result.now ≡ self.now }
+    {
+        &self.source
     }
 
     /// The source.
@@ -68,7 +78,7 @@ impl<S: ByteSource> Window<S> {
 impl<S: ByteSource> ByteSource for Window<S> {
     ghost contents = { S.contents };
 
-    ghost refuses = { S.refuses };
+    ghost can_refuse = { S.can_refuse };
 
     /// It is never an error.
     fn len(&mut self) -> io::Result<u64> {
