@@ -5,10 +5,6 @@ use Rattle.std.specs.Prelude.{◌≡◌, ℕ, ◌+◌, ◌≤◌, List, length, 
 abbrev pub IsHeld : ℕ → ℕ → ℕ → ℕ → Type 0
 IsHeld place n start filled = (start ≤ place) × (place + n ≤ start + filled)
 
--- where the bytes of a source are known, there are so many
-abbrev pub IsLengthOf : Option (List ℕ) → ℕ → Type 0
-IsLengthOf known len = IfSome known (λ xs. len ≡ length xs)
-
 -- where the bytes of a source are known, there are `len`, and the block's first `filled` are those from `start` on
 abbrev pub IsBlockOf : Option (List ℕ) → ℕ → ℕ → ℕ → List ℕ → Type 0
 IsBlockOf known len start filled bytes =

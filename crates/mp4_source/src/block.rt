@@ -2,7 +2,7 @@
 
 ghost use Rattle.std.specs.Prelude.{◌≡◌, ◌+◌, ◌-◌, ◌<◌, ◌≤◌, ◌↔◌, length, take, drop, IsTrue, IfOk, OnOk, OnErr, vec_len};
 ghost use Rattle.mp4_source.specs.Source.{IsPartOf, IsRefusal};
-ghost use Rattle.mp4_source.specs.Block.{IsHeld, IsBlockOf, IsLengthOf};
+ghost use Rattle.mp4_source.specs.Block.{IsHeld, IsBlockOf};
 
 use crate::source::{ByteSource, check_end};
 use std::alloc::{AllocError, Global};
@@ -93,10 +93,12 @@ impl Block {
         Ok(())
     }
 
-    /// Sees to it that the block holds the n bytes from the place on, of a source of `len` bytes. Where they pass the
-    /// end it is `UnexpectedEof`.
-    #[inline]
-    pub(crate) fn hold<S: ByteSource>(
+    /// Fills the block so that it holds the n bytes from the place on, of a source of `len` bytes: from the place on,
+    /// or up to the source's end where fewer bytes follow than it has room for. Where the n bytes pass the end it is
+    /// `UnexpectedEof`, and the block stays.
+    #[cold]
+    #[inline(never)]
+    pub(crate) fn reach<S: ByteSource>(
         &mut self,
         source: &mut S,
         len: u64,
@@ -114,36 +116,7 @@ impl Block {
         ensures contents { S.contents source.new ≡ S.contents source.old }
         ensures can_refuse { S.can_refuse source.new ≡ S.can_refuse source.old }
     {
-        if self.holds(place, n) {
-            return Ok(());
-        }
         check_end(place, n, len)?;
-        self.reach(source, len, place, n)
-    }
-
-    /// Fills the block so that it holds the n bytes from the place on, of a source of `len` bytes: from the place on,
-    /// or up to the source's end where fewer bytes follow than it has room for.
-    #[cold]
-    #[inline(never)]
-    fn reach<S: ByteSource>(
-        &mut self,
-        source: &mut S,
-        len: u64,
-        place: u64,
-        n: usize,
-    ) -> io::Result<()>
-        requires fits { place + n ≤ len }
-        requires small { n ≤ vec_len self.old.bytes }
-        requires within { vec_len self.old.bytes ≤ len }
-        requires known { IsLengthOf (S.contents source.old) len }
-        ensures size { vec_len self.new.bytes ≡ vec_len self.old.bytes }
-        ensures end { self.new.start + vec_len self.new.bytes ≤ len }
-        ensures held { OnOk result (IsHeld place n self.new.start self.new.filled) }
-        ensures block { IsBlockOf (S.contents source.new) len self.new.start self.new.filled self.new.bytes.items }
-        ensures err { OnErr result (IsRefusal (S.contents source.old) place n (S.can_refuse source.old)) }
-        ensures contents { S.contents source.new ≡ S.contents source.old }
-        ensures can_refuse { S.can_refuse source.new ≡ S.can_refuse source.old }
-    {
         let last = len - self.size() as u64;
         let start = place.min(last);
         self.fill(source, start)

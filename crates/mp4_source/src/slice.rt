@@ -1,7 +1,11 @@
 //! Bytes in memory.
 
-ghost use Rattle.std.specs.Prelude.{◌≡◌, ◌+◌, ◌<◌, ◌≤◌, Some, false, length, take, drop, IsOkAnd, IfErr, OnOk, OnErr, IfOk, IsNone, IfSome};
+ghost use Rattle.std.specs.Prelude.{[], ◌≡◌, ◌+◌, ◌<◌, ◌≤◌, Some, false, length, take, drop, IsOkAnd, IfErr, OnOk, OnErr, IfOk, IsNone, IfSome, vec_capacity};
 ghost use Rattle.std.specs.IoError.{error_kind};
+ghost use Rattle.std.specs.Borrow.{sem, u8 as byte};
+ghost use Rattle.mp4_source.specs.Source.{HasPart, IsPartOf, IsRefusal, RestsAsBefore, OnIo, OnOutOfMemory};
+ghost use denote.Slice.{ShrSlice};
+ghost use mir.Syntax.{named};
 
 use crate::error::SourceError;
 use crate::source::{ByteSource, check_end};
@@ -30,8 +34,18 @@ impl ByteSource for &[u8] {
         &'r mut self,
         place: u64,
         n: usize,
-        _room: &'r mut Vec<u8>,
-    ) -> Result<&'r [u8], SourceError> {
+        room: &'r mut Vec<u8>,
+    ) -> Result<&'r [u8], SourceError>
+        ensures len { IfOk result (λ part. length part.now ≡ n) }
+        ensures value { IfOk result (λ part. IsPartOf (Some self.old.now) place n part.now) }
+        ensures io { IfErr result (λ e. OnIo e (IsRefusal (Some self.old.now) place n false)) }
+        ensures memory { IfErr result (λ e. OnOutOfMemory e (vec_capacity room.old < n)) }
+        ensures fits { IfErr result (λ e. OnOutOfMemory e (HasPart (Some self.old.now) place n)) }
+        ensures* after_borrow { sem 𝓛 (RestsAsBefore (ShrSlice (named 1) [] byte)
+            (λ s. Some s.now) (λ _. false) self.entry) }
+        ensures end { OnErr result (length self.old.now < place + n) }
+        ensures lent { IfErr result (λ e. OnOutOfMemory e ⊥) }
+    {
         let all: &[u8] = *self;
         let part = part_of(all, place, n)?;
         Ok(part)

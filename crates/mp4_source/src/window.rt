@@ -88,11 +88,15 @@ impl<S: ByteSource> ByteSource for Window<S> {
     #[tactic(auto, using(crate::proofs::Held::held_part))]
     fn read_exact_at(&mut self, place: u64, buf: &mut [u8]) -> io::Result<()> {
         let n = buf.len();
+        if self.block.holds(place, n) {
+            buf.copy_from_slice(self.block.part(place, n));
+            return Ok(());
+        }
         if n > self.block.size() {
             check_end(place, n, self.len)?;
             return self.source.read_exact_at(place, buf);
         }
-        self.block.hold(&mut self.source, self.len, place, n)?;
+        self.block.reach(&mut self.source, self.len, place, n)?;
         buf.copy_from_slice(self.block.part(place, n));
         Ok(())
     }
@@ -105,13 +109,16 @@ impl<S: ByteSource> ByteSource for Window<S> {
         n: usize,
         room: &'r mut Vec<u8>,
     ) -> Result<&'r [u8], SourceError> {
+        if self.block.holds(place, n) {
+            return Ok(self.block.part(place, n));
+        }
         if n > self.block.size() {
             check_end(place, n, self.len)?;
             grow_to(room, n)?;
             self.source.read_exact_at(place, room.as_mut_slice())?;
             return Ok(room.as_slice());
         }
-        self.block.hold(&mut self.source, self.len, place, n)?;
+        self.block.reach(&mut self.source, self.len, place, n)?;
         Ok(self.block.part(place, n))
     }
 }
