@@ -1,5 +1,6 @@
 -- A part of a block is a part of the source.
-use Rattle.std.proofs.Common.{◌≡◌, ℕ, ◌+◌, ◌-◌, ◌≤◌, List, length, take, drop, Option, None, Some, sym, ap, ◌∙◌, arith, take-take}
+use Rattle.std.proofs.Common.{◌≡◌, ℕ, ◌+◌, ◌-◌, ◌≤◌, List, length, take, drop, Option, None, Some, sym, ap, ◌∙◌}
+use Rattle.std.proofs.Common.{arith, take-take}
 use Rattle.std.proofs.lemmas.List.{drop-take, drop-drop}
 use Rattle.mp4_source.specs.Source.{IsPartOf}
 use Rattle.mp4_source.specs.Block.{IsHeld, IsBlockOf}

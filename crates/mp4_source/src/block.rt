@@ -1,6 +1,7 @@
 //! The bytes of a source that a window holds.
 
-ghost use Rattle.std.specs.Prelude.{◌≡◌, ◌+◌, ◌-◌, ◌<◌, ◌≤◌, ◌↔◌, length, take, drop, IsTrue, IfOk, OnOk, OnErr, vec_len};
+ghost use Rattle.std.specs.Prelude.{◌≡◌, ◌+◌, ◌-◌, ◌<◌, ◌≤◌, ◌↔◌, length, take, drop, IsTrue, IfOk, OnOk, OnErr};
+ghost use Rattle.std.specs.Prelude.{vec_len};
 ghost use Rattle.mp4_source.specs.Source.{IsPartOf, IsRefusal};
 ghost use Rattle.mp4_source.specs.Block.{IsHeld, IsBlockOf};
 
@@ -9,7 +10,7 @@ use std::alloc::{AllocError, Global};
 use std::fmt::Debug;
 use std::{fmt, io};
 
-/// Bytes of a source from a place on, all or none of its room.
+/// The bytes of a source from `start` on: the first `filled` of `bytes`, which are all of them or none.
 #[derive(Drop)]
 pub(crate) struct Block {
     pub(crate) bytes: Vec<u8>,
@@ -81,8 +82,10 @@ impl Block {
         ensures size { vec_len self.new.bytes ≡ vec_len self.old.bytes }
         ensures all { OnOk result (self.new.filled ≡ vec_len self.old.bytes) }
         ensures none { OnErr result (self.new.filled ≡ 0) }
-        ensures value { OnOk result (IsPartOf (S.contents source.old) place (vec_len self.old.bytes) self.new.bytes.items) }
-        ensures err { OnErr result (IsRefusal (S.contents source.old) place (vec_len self.old.bytes) (S.can_refuse source.old)) }
+        ensures value { OnOk result
+            (IsPartOf (S.contents source.old) place (vec_len self.old.bytes) self.new.bytes.items) }
+        ensures err { OnErr result
+            (IsRefusal (S.contents source.old) place (vec_len self.old.bytes) (S.can_refuse source.old)) }
         ensures contents { S.contents source.new ≡ S.contents source.old }
         ensures can_refuse { S.can_refuse source.new ≡ S.can_refuse source.old }
     {
@@ -93,9 +96,9 @@ impl Block {
         Ok(())
     }
 
-    /// Fills the block so that it holds the n bytes from the place on, of a source of `len` bytes: from the place on,
-    /// or up to the source's end where fewer bytes follow than it has room for. Where the n bytes pass the end it is
-    /// `UnexpectedEof`, and the block stays.
+    /// Fills the block so that it holds the n bytes from the place on, of a source of `len` bytes: from the
+    /// place on, or up to the source's end where fewer bytes follow than it has room for. Where the n bytes
+    /// pass the end it is `UnexpectedEof`, and the block stays.
     #[cold]
     #[inline(never)]
     pub(crate) fn reach<S: ByteSource>(

@@ -7,11 +7,11 @@ use std::io;
 use std::io::{Read, Seek, SeekFrom};
 use std::marker::Model;
 
-/// A file, or whatever else reads and seeks, as a source. Each read is one call of `read` where that gives all that
-/// is asked for, with one of `seek` before it, unless it begins where the one before it ended.
+/// A file, or whatever else reads and seeks, as a source. A read is one call of `seek`, which is left out where
+/// the read before it ended there, and one of `read` where that gives all that is asked for.
 ///
-/// Nothing else may move the position of what is read, as through a clone of a `File`. Contracts see it as what is
-/// read, whose bytes they don't know.
+/// Nothing else may move the position meanwhile, as through a clone of a `File`: other bytes would be read.
+/// Contracts see it as what is read, whose bytes they don't know.
 #[derive(Debug, Drop)]
 pub struct SeekSource<F> {
     inner: F,
@@ -36,7 +36,7 @@ impl<F> SeekSource<F> {
         }
     }
 
-    /// What is read. Its position is not to be moved.
+    /// What is read. Its position may not be moved.
     pub fn get_ref(&self) -> &F
         ensures { result.now ≡ self.now }
     {

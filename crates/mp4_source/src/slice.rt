@@ -1,6 +1,7 @@
 //! Bytes in memory.
 
-ghost use Rattle.std.specs.Prelude.{[], ◌≡◌, ◌+◌, ◌<◌, ◌≤◌, Some, false, length, take, drop, IsOkAnd, IfErr, OnOk, OnErr, IfOk, IsNone, IfSome, vec_capacity};
+ghost use Rattle.std.specs.Prelude.{[], ◌≡◌, ◌+◌, ◌<◌, ◌≤◌, Some, false, length, take, drop, IsOkAnd, IfErr, OnOk};
+ghost use Rattle.std.specs.Prelude.{OnErr, IfOk, IsNone, IfSome, vec_capacity};
 ghost use Rattle.std.specs.IoError.{error_kind};
 ghost use Rattle.std.specs.Borrow.{sem, u8 as byte};
 ghost use Rattle.mp4_source.specs.Source.{HasPart, IsPartOf, IsRefusal, RestsAsBefore, OnIo, OnOutOfMemory};
@@ -12,7 +13,8 @@ use crate::source::{ByteSource, check_end};
 use std::io;
 use std::io::ErrorKind;
 
-/// It never refuses. `part` lends the bytes themselves and takes no memory.
+/// It never refuses. `part` lends the bytes themselves and takes no memory. A part that passes the end is of the
+/// kind `UnexpectedEof`.
 impl ByteSource for &[u8] {
     ghost contents = { λ s. Some s.now };
 

@@ -1,6 +1,7 @@
 //! Bytes that are read by their places.
 
-ghost use Rattle.std.specs.Prelude.{◌≡◌, ℕ, ◌+◌, ◌<◌, ◌≤◌, Bool, true, List, Option, None, length, IfOk, IfErr, IfSome, IsTrue, OnOk, OnErr, vec_len, vec_capacity};
+ghost use Rattle.std.specs.Prelude.{◌≡◌, ℕ, ◌+◌, ◌<◌, ◌≤◌, Bool, true, List, Option, None, length, IfOk, IfErr};
+ghost use Rattle.std.specs.Prelude.{IfSome, IsTrue, OnOk, OnErr, vec_len, vec_capacity};
 ghost use Rattle.std.specs.Borrow.{sem};
 ghost use Rattle.std.specs.IoError.{error_kind};
 ghost use Rattle.mp4_source.specs.Source.{IsPartOf, IsRefusal, HasPart, RestsAsBefore, OnIo, OnOutOfMemory};
@@ -12,13 +13,14 @@ use std::io::ErrorKind;
 
 /// Bytes that are read by their places, which count from 0.
 ///
-/// A call leaves the bytes as they are. Of a source whose bytes are known, as of a slice, the contracts say which
-/// bytes a call gives, and that one which never refuses gives all that it has.
+/// A call leaves the bytes as they are. Where they are known, as those of a slice are, the contracts say which
+/// of them a call gives, and that it fails only where the source refuses or the bytes pass the end. Nothing is
+/// known of the bytes of a file.
 pub trait ByteSource {
-    // The bytes, where they are known.
+    // The bytes, where they are known. No call changes them.
     ghost contents: { Self → Option (List ℕ) } = { λ _. None };
 
-    // Whether it may refuse to read what it has.
+    // Whether it may refuse to read bytes that it has. No call changes that.
     ghost can_refuse: { Self → Bool } = { λ _. true };
 
     /// How many bytes there are. It is an error only where the source refuses.
@@ -29,17 +31,19 @@ pub trait ByteSource {
         ensures can_refuse { can_refuse self.new ≡ can_refuse self.old };
 
     /// Fills the buffer with the bytes from the place on. It is an error where the source refuses, or where they
-    /// pass the end, mostly of the kind `UnexpectedEof`; the buffer then holds any bytes.
+    /// pass the end, which is of the kind `UnexpectedEof` unless the source says otherwise. After an error the
+    /// buffer holds any bytes.
     fn read_exact_at(&mut self, place: u64, buf: &mut [u8]) -> io::Result<()>
         ensures value { OnOk result (IsPartOf (contents self.old) place (length buf.old) buf.new) }
         ensures err { OnErr result (IsRefusal (contents self.old) place (length buf.old) (can_refuse self.old)) }
         ensures contents { contents self.new ≡ contents self.old }
         ensures can_refuse { can_refuse self.new ≡ can_refuse self.old };
 
-    /// The n bytes from the place on. A source that holds them in memory lends them, and `room` stays as it is.
-    /// Else they are read into `room`, over what it held. It grows where it has no capacity for n bytes, but never for
-    /// bytes that pass the end; where that memory is refused, it is `OutOfMemory`. Where the source refuses, or the
-    /// bytes pass the end, it is `Io`.
+    /// The n bytes from the place on, which are borrowed from the source and from `room`. A source that holds
+    /// them in memory lends them, and `room` stays as it is. Else they are read into `room`, over what it held.
+    ///
+    /// `room` grows where it has no capacity for n bytes, but never for bytes that pass the end. Where that
+    /// memory is refused, it is `OutOfMemory`. Where the source refuses, or the bytes pass the end, it is `Io`.
     fn part<'r>(
         &'r mut self,
         place: u64,

@@ -16,11 +16,12 @@ pub const BLOCK_SIZE: usize = 32768;
 
 /// A source, and a block of its bytes, so that many small reads are few calls of the source.
 ///
-/// A read that the block doesn't hold fills the block from its place on, or up to the end of the source where fewer
-/// bytes follow. So a walk over small headers reads a block's worth at a time, and one that skips far ahead reads at
-/// once what follows. A read that is longer than the block goes to the source itself.
+/// A read of bytes that the block doesn't hold fills the block from their place on, or up to the source's end
+/// where fewer bytes follow. So a walk over small headers asks its source once for each block, and once after
+/// each skip that is longer. A read that is longer than the block goes to the source itself.
 ///
-/// The source is asked once how many bytes it has, and never for bytes behind them. Contracts see a window as its
+/// The source is asked once how many bytes it has, and never for bytes behind them: those that a file grows by
+/// later are not seen, and where it shrinks, what is gone is an error of the file. Contracts see a window as its
 /// source.
 #[derive(Debug, Drop)]
 pub struct Window<S: ByteSource> {
@@ -39,9 +40,9 @@ impl<S: ByteSource> Model for Window<S> {
 }
 
 impl<S: ByteSource> Window<S> {
-    /// A window over a source, which is asked for its length. It takes the memory of its block here: as many bytes as
-    /// the source has, and [`BLOCK_SIZE`] at most. Where that is refused, it is `OutOfMemory`; where the source refuses,
-    /// it is `Io`.
+    /// A window over a source, which is asked for its length. It takes the memory of its block here: as many
+    /// bytes as the source has, and [`BLOCK_SIZE`] at most. Where that is refused, it is `OutOfMemory`; where
+    /// the source refuses, it is `Io`. After an error the source is dropped: pass `&mut` to keep it.
     pub fn new(alloc: Global, source: S) -> Result<Self, SourceError>
     where
         S: Drop,
@@ -80,7 +81,7 @@ impl<S: ByteSource> ByteSource for Window<S> {
 
     ghost can_refuse = { S.can_refuse };
 
-    /// It is never an error.
+    /// What the source said when the window was made. It is never an error.
     fn len(&mut self) -> io::Result<u64> {
         Ok(self.len)
     }
