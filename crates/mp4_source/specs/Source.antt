@@ -18,7 +18,8 @@ abbrev pub IsRefusal : Option (List ℕ) → ℕ → ℕ → Bool → Type 0
 IsRefusal known place n can_refuse = IfSome known (λ xs. place + n ≤ length xs → IsTrue can_refuse)
 
 -- once the borrow of the source ends, it has the bytes that it had, and can refuse only if it could
-abbrev pub RestsAsBefore : (R : RattleType) → (R.Denot → Option (List ℕ)) → (R.Denot → Bool) → MutBor R.Denot → Fml
+abbrev pub RestsAsBefore : (R : RattleType) → (R.Denot → Option (List ℕ)) → (R.Denot → Bool)
+    → MutBor R.Denot → Fml
 RestsAsBefore R contents can_refuse s =
     Rests R s (λ new. (contents new ≡ contents s.now) × (can_refuse new ≡ can_refuse s.now))
 

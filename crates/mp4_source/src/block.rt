@@ -1,6 +1,6 @@
 //! The bytes of a source that a window holds.
 
-ghost use Rattle.std.specs.Prelude.{◌≡◌, ◌+◌, ◌-◌, ◌<◌, ◌≤◌, ◌↔◌, length, take, drop, IsTrue, IfOk, OnOk, OnErr};
+ghost use Rattle.std.specs.Prelude.{◌≡◌, ◌+◌, ◌-◌, ◌≤◌, ◌↔◌, length, take, drop, IsTrue, IfOk, OnOk, OnErr};
 ghost use Rattle.std.specs.Prelude.{vec_len};
 ghost use Rattle.mp4_source.specs.Source.{IsPartOf, IsRefusal};
 ghost use Rattle.mp4_source.specs.Block.{IsHeld, IsBlockOf};

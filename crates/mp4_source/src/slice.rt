@@ -1,7 +1,7 @@
 //! Bytes in memory.
 
-ghost use Rattle.std.specs.Prelude.{[], ◌≡◌, ◌+◌, ◌<◌, ◌≤◌, Some, false, length, take, drop, IsOkAnd, IfErr, OnOk};
-ghost use Rattle.std.specs.Prelude.{OnErr, IfOk, IsNone, IfSome, vec_capacity};
+ghost use Rattle.std.specs.Prelude.{[], ◌≡◌, ◌+◌, ◌<◌, ◌≤◌, Some, false, length, take, drop, IfOk, IfErr};
+ghost use Rattle.std.specs.Prelude.{OnOk, OnErr, vec_capacity};
 ghost use Rattle.std.specs.IoError.{error_kind};
 ghost use Rattle.std.specs.Borrow.{sem, u8 as byte};
 ghost use Rattle.mp4_source.specs.Source.{HasPart, IsPartOf, IsRefusal, RestsAsBefore, OnIo, OnOutOfMemory};

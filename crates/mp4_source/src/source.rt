@@ -42,8 +42,9 @@ pub trait ByteSource {
     /// The n bytes from the place on, which are borrowed from the source and from `room`. A source that holds
     /// them in memory lends them, and `room` stays as it is. Else they are read into `room`, over what it held.
     ///
-    /// `room` grows where it has no capacity for n bytes, but never for bytes that pass the end. Where that
-    /// memory is refused, it is `OutOfMemory`. Where the source refuses, or the bytes pass the end, it is `Io`.
+    /// `room` grows where it has no capacity for n bytes, but never for bytes that pass the end: before it grows,
+    /// the source is asked how many bytes it has. Where that memory is refused, it is `OutOfMemory`. Where the
+    /// source refuses, or the bytes pass the end, it is `Io`.
     fn part<'r>(
         &'r mut self,
         place: u64,

@@ -1,8 +1,8 @@
 //! A source whose small reads are few.
 
-ghost use Rattle.std.specs.Prelude.{◌≡◌, ◌+◌, ◌-◌, ◌<◌, ◌≤◌, length, take, drop, IfOk, IfErr, IsTrue, vec_len};
+ghost use Rattle.std.specs.Prelude.{◌≡◌, ◌+◌, ◌≤◌, IfOk, IfErr, IsTrue, vec_len};
 ghost use Rattle.mp4_source.specs.Source.{OnIo};
-ghost use Rattle.mp4_source.specs.Block.{IsHeld, IsBlockOf};
+ghost use Rattle.mp4_source.specs.Block.{IsBlockOf};
 
 use crate::block::Block;
 use crate::error::SourceError;
