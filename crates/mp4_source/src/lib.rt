@@ -3,12 +3,16 @@
 
 mod block;
 mod error;
+mod file_error;
 mod seek_source;
 mod slice;
 mod source;
+mod source_cursor;
 mod window;
 
 pub use error::SourceError;
+pub use file_error::FileError;
 pub use seek_source::SeekSource;
 pub use source::ByteSource;
+pub use source_cursor::SourceCursor;
 pub use window::{BLOCK_SIZE, Window};

@@ -1,0 +1,27 @@
+-- What a call answers that reads a source.
+use Rattle.std.specs.Prelude.{◌≡◌, ◌⊎◌, ℕ, Bool, IsTrue, List, length, Option, IfSome, Result, Ok, Err}
+use Rattle.mp4_codec.specs.declared.error.Error.TheVariants.{OutOfMemory}
+use Rattle.mp4_codec.specs.Cause.{Cause, cause_of}
+use Rattle.mp4_source.specs.declared.error.SourceError.{SourceError}
+use Rattle.mp4_source.specs.declared.error.SourceError.TheVariants.{OutOfMemory as no_memory, Io as refused}
+use Rattle.mp4_source.specs.declared.file_error.FileError.{FileError}
+use Rattle.mp4_source.specs.declared.file_error.FileError.TheVariants.{Mp4, Io}
+
+-- an error of a source, as one of its file
+abbrev pub told_as : SourceError → FileError
+told_as no_memory = Mp4 OutOfMemory
+told_as (refused e) = Io e
+
+-- The answer is this one, or memory ran out; it is that of a source that refuses only where the source can refuse.
+abbrev pub AnswersRead : {X Y : Type 0} → Bool → (X → Y) → Result X FileError → Result Y Cause → Type 0
+AnswersRead can_refuse view (Ok x) answer = answer ≡ Ok (view x)
+AnswersRead can_refuse view (Err (Mp4 e)) answer = (e ≡ OutOfMemory) ⊎ (answer ≡ Err (cause_of e))
+AnswersRead can_refuse view (Err (Io e)) answer = IsTrue can_refuse
+
+-- so many bytes there are, where they are known
+abbrev pub IsLength : Option (List ℕ) → ℕ → Type 0
+IsLength known len = IfSome known (λ bytes. len ≡ length bytes)
+
+-- this is the value of some payload
+abbrev pub IsSomeValue : {X : Type 0} → (List ℕ → Result X Cause) → X → Type 0
+IsSomeValue value x = (payload : List ℕ) × (value payload ≡ Ok x)
