@@ -1,5 +1,6 @@
 pub mod Contents
 pub mod Walking
+pub mod Opening
 pub mod Grammar
 pub mod OpenAnswers
 pub mod Finishing

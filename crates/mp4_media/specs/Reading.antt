@@ -11,6 +11,7 @@ use Rattle.mp4_lookup.specs.declared.track.Mp4Track.{Mp4Track}
 use Rattle.mp4_samples.specs.Places.{Place}
 use Rattle.mp4_lookup.specs.Rates.{sample_count_of}
 use Rattle.mp4_samples.specs.Samples.{TimedSample}
+use Rattle.mp4_samples.specs.declared.sample.SamplePlace.{SamplePlace}
 use Rattle.mp4_lookup.specs.Tracks.{sample_at, answer_at}
 use Rattle.mp4_lookup.specs.TrackRuns.{track_runs}
 use Rattle.mp4_media.specs.MovieTracks.{at_id}
@@ -31,6 +32,18 @@ ilst_of_movie moov = ilst_of_udta moov.udta
 -- there is a sample
 abbrev pub IsSample : Result (Option TimedSample) Cause → Type 0
 IsSample answer = (s : TimedSample) × (answer ≡ Ok (Some s))
+
+-- the sample that lies at a place, where these are its bytes
+abbrev pub sample_there : List ℕ → SamplePlace → TimedSample
+sample_there bytes p = record {
+  start_time = p.start_time;
+  sample = record {
+    bytes = bytes;
+    duration = p.duration;
+    rendering_offset = p.rendering_offset;
+    is_sync = p.is_sync;
+  };
+}
 
 -- a track, which has to be there
 abbrev pub track_or : {T : Type 0} → ℕ → Option T → Result T Cause

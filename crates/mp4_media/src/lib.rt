@@ -2,9 +2,11 @@
 #![tactic(auto)]
 
 mod calls;
+mod file;
 mod fragments;
 pub mod framing;
 pub mod laws;
+mod movie;
 mod opening;
 mod reader;
 mod round_trip;
@@ -18,6 +20,8 @@ pub use calls::WriterCall;
 pub use mp4_lookup::{Mp4Track, time_of};
 pub use mp4_mux::{Mp4Config, TrackConfig, mdat_header};
 pub use mp4_samples::{Comparisons, Mp4Sample, SamplePlace, SampleRef, is_equal_sample};
+pub use file::Mp4File;
+pub use movie::Movie;
 pub use reader::{Mp4Reader, read_mp4};
 pub use round_trip::{FoundSample, RoundTrip, SampleQuery, find_sample, write_and_read};
 pub use writer::Mp4Writer;

@@ -59,6 +59,20 @@ impl<S: ByteSource + Drop> SourceCursor<S> {
         })
     }
 
+    /// The source, and how many bytes it has.
+    pub fn into_parts(self) -> (S, u64)
+        ensures { result ≡ (self.source, self.len) }
+    {
+        let SourceCursor {
+            source,
+            len,
+            position: _,
+            room,
+        } = self;
+        drop(room);
+        (source, len)
+    }
+
     /// Where the cursor stands.
     pub fn position(&self) -> u64
         ensures { result ≡ self.now.position }
