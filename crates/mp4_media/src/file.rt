@@ -5,7 +5,7 @@ ghost use Rattle.mp4_codec.specs.Cause.{cause_of};
 ghost use Rattle.mp4_codec.specs.Cursor.{here};
 ghost use Rattle.mp4_samples.specs.Places.{place_of};
 ghost use Rattle.mp4_samples.specs.Samples.{timed_sample};
-ghost use Rattle.mp4_source.specs.Answers.{AnswersRead};
+ghost use Rattle.mp4_source.specs.Answers.{AnswersRead, IsLength};
 ghost use Rattle.mp4_media.specs.FileBoxes.{opened_movie};
 ghost use Rattle.mp4_media.specs.MovieTracks.{AreTracks};
 ghost use Rattle.mp4_media.specs.Reading.{located_in, sample_in, sample_there};
@@ -30,7 +30,7 @@ pub struct Mp4File<S: ByteSource> {
     /// How many bytes the source had when it was opened.
     len: u64,
     movie: Movie,
-    ghost measured: { IfSome (S.contents source) (λ bytes. len ≡ length bytes) }
+    ghost measured: { IfSome (S.contents source) (λ bytes. len ≡ length bytes) },
 }
 
 impl<S: ByteSource> Deref for Mp4File<S> {
@@ -51,7 +51,12 @@ impl<S: ByteSource + Drop> Mp4File<S> {
     /// boxes. They are read through a window, which takes at most 32 KiB while the file is opened.
     ///
     /// `Io` where the source refuses a read. After an error the source is gone: pass `&mut` to keep it.
-    pub fn open(alloc: Global, source: S, start: u64, size: u64) -> std::result::Result<Self, FileError>
+    pub fn open(
+        alloc: Global,
+        source: S,
+        start: u64,
+        size: u64,
+    ) -> std::result::Result<Self, FileError>
         ensures answer { IfSome (S.contents source) (λ bytes. AnswersRead (S.can_refuse source)
             (λ f. opened_movie f.movie) result (opened_at size (here bytes start))) }
         ensures tracks { IfOk result (λ f. AreTracks f.movie.moov f.movie.moofs f.movie.moof_places f.movie.tracks) }
@@ -67,6 +72,13 @@ impl<S: ByteSource + Drop> Mp4File<S> {
             len,
             movie,
         })
+    }
+
+    /// How many bytes the source had when the file was opened.
+    pub fn source_len(&self) -> u64
+        ensures { IsLength (S.contents self.now.source) result }
+    {
+        self.len
     }
 
     /// Where sample `k` of the track with this id lies; `EndOfData` where that isn't whole within the source.
@@ -114,7 +126,8 @@ impl<S: ByteSource + Drop> Mp4File<S> {
             buffer.clear();
         }
         buffer.resize(size, 0)?;
-        self.source.read_exact_at(place.offset, buffer.as_mut_slice())?;
+        self.source
+            .read_exact_at(place.offset, buffer.as_mut_slice())?;
         Ok(Some(place))
     }
 

@@ -136,7 +136,8 @@ fn read_content<S: ByteSource + Drop>(
             Ok(BoxContent::Emsg(emsg))
         }
         _ => {
-            let behind = place_behind(reader.position(), header.size - HEADER_SIZE)?;
+            let place = reader.position();
+            let behind = place_behind(place, header.size - HEADER_SIZE)?;
             reader.set_position(behind);
             Ok(BoxContent::Skipped)
         }

@@ -22,90 +22,90 @@ further bytes place answer = answer >>= λ x. Ok (x.0, here bytes (place + x.1.p
 
 module _ (bytes part : List ℕ) (place : ℕ) (room : place + 8 ≤ length bytes)
     (is : part ≡ take (min (length bytes - place) 16) (drop place bytes))
-    where
-  long : length part ≡ min (length bytes - place) 16
-  long = ap length is ∙ length-take _ (drop place bytes) ∙ rw (length-drop place bytes) (omega arith)
+  where
+    long : length part ≡ min (length bytes - place) 16
+    long = ap length is ∙ length-take _ (drop place bytes) ∙ rw (length-drop place bytes) (omega arith)
 
-  -- what stands behind p bytes of the part
-  behind : (p m : ℕ) → p + m ≤ length part → take m (drop p part) ≡ take m (drop (place + p) bytes)
-  behind p m fits =
-      let n = min (length bytes - place) 16 in
-      let cut : drop p part ≡ take (n - p) (drop (place + p) bytes) =
-      ap (drop p) (is ∙ ap (λ k. take k (drop place bytes)) (omega (arith, long, fits)))
-      ∙ drop-take p (n - p) (drop place bytes) ∙ ap (take (n - p)) (drop-drop p place bytes) in
-      ap (take m) cut ∙ take-take m (n - p) (drop (place + p) bytes) (omega (arith, long, fits))
+    -- what stands behind p bytes of the part
+    behind : (p m : ℕ) → p + m ≤ length part → take m (drop p part) ≡ take m (drop (place + p) bytes)
+    behind p m fits =
+        let n = min (length bytes - place) 16 in
+        let cut : drop p part ≡ take (n - p) (drop (place + p) bytes) =
+        ap (drop p) (is ∙ ap (λ k. take k (drop place bytes)) (omega (arith, long, fits)))
+        ∙ drop-take p (n - p) (drop place bytes) ∙ ap (take (n - p)) (drop-drop p place bytes) in
+        ap (take m) cut ∙ take-take m (n - p) (drop (place + p) bytes) (omega (arith, long, fits))
 
-  -- what is taken within the first 16 bytes
-  taken : (p m : ℕ) → p + m ≤ 16
-      → take_at m (here bytes (place + p)) ≡ further bytes place (take_at m (here part p))
-  taken p m small = by (nat_lt (length part) (p + m)) refl
-    where
-      by : (b : Bool) → nat_lt (length part) (p + m) ≡ b
-          → take_at m (here bytes (place + p)) ≡ further bytes place (take_at m (here part p))
-      by true e =
-          let short = ltb-true (length part) (p + m) e in
-          rw (e, lt-ltb (length bytes) (place + p + m) (omega (arith, short, long))) refl
-      by false e =
-          let fits = ltb-false (length part) (p + m) e in
-          let all : take m (drop (place + p) bytes) ≡ take m (drop p part) = sym (behind p m fits) in
-          let place_is : place + p + m ≡ place + (p + m) = omega arith in
-          rw (e, le-ltb (length bytes) (place + p + m) (omega (arith, fits, long)), all, place_is) refl
+    -- what is taken within the first 16 bytes
+    taken : (p m : ℕ) → p + m ≤ 16
+        → take_at m (here bytes (place + p)) ≡ further bytes place (take_at m (here part p))
+    taken p m small = by (nat_lt (length part) (p + m)) refl
+      where
+        by : (b : Bool) → nat_lt (length part) (p + m) ≡ b
+            → take_at m (here bytes (place + p)) ≡ further bytes place (take_at m (here part p))
+        by true e =
+            let short = ltb-true (length part) (p + m) e in
+            rw (e, lt-ltb (length bytes) (place + p + m) (omega (arith, short, long))) refl
+        by false e =
+            let fits = ltb-false (length part) (p + m) e in
+            let all : take m (drop (place + p) bytes) ≡ take m (drop p part) = sym (behind p m fits) in
+            let place_is : place + p + m ≡ place + (p + m) = omega arith in
+            rw (e, le-ltb (length bytes) (place + p + m) (omega (arith, fits, long)), all, place_is) refl
 
-  -- a step that reads no bytes
-  stepped : (f : List ℕ → Result Head Cause) (r : Result (List ℕ × Cursor) Cause)
-      → (further bytes place r >>= λ x. f x.0 >>= λ head. Ok (head, x.1))
-      ≡ further bytes place (r >>= λ x. f x.0 >>= λ head. Ok (head, x.1))
-  stepped f (Err c) = refl
-  stepped f (Ok x) = said (f x.0)
-    where
-      said : (h : Result Head Cause)
-          → (h >>= λ head. Ok (head, here bytes (place + x.1.position)))
-          ≡ further bytes place (h >>= λ head. Ok (head, x.1))
-      said (Ok head) = refl
-      said (Err c) = refl
+    -- a step that reads no bytes
+    stepped : (f : List ℕ → Result Head Cause) (r : Result (List ℕ × Cursor) Cause)
+        → (further bytes place r >>= λ x. f x.0 >>= λ head. Ok (head, x.1))
+        ≡ further bytes place (r >>= λ x. f x.0 >>= λ head. Ok (head, x.1))
+    stepped f (Err c) = refl
+    stepped f (Ok x) = said (f x.0)
+      where
+        said : (h : Result Head Cause)
+            → (h >>= λ head. Ok (head, here bytes (place + x.1.position)))
+            ≡ further bytes place (h >>= λ head. Ok (head, x.1))
+        said (Ok head) = refl
+        said (Err c) = refl
 
-  either : {A : Type 0} (b : Bool) (x y x' y' : Result (A × Cursor) Cause) → x ≡ further bytes place x'
-      → y ≡ further bytes place y'
-      → (if b then x else y) ≡ further bytes place (if b then x' else y')
-  either true x y x' y' e f = e
-  either false x y x' y' e f = f
+    either : {A : Type 0} (b : Bool) (x y x' y' : Result (A × Cursor) Cause) → x ≡ further bytes place x'
+        → y ≡ further bytes place y'
+        → (if b then x else y) ≡ further bytes place (if b then x' else y')
+    either true x y x' y' e f = e
+    either false x y x' y' e f = f
 
-  -- the rest of a header whose first 8 bytes are read
-  rest : (name : BoxType) (size : ℕ)
-      → head_after name size (here bytes (place + 8)) ≡ further bytes place (head_after name size (here part 8))
-  rest name size =
-      either (size == 1) _ _ _ _ (rw (taken 8 8 (omega arith)) (stepped _ (take_at 8 (here part 8))))
-      (short (head_with name 8 size))
-    where
-      short : (h : Result Head Cause)
-          → (h >>= λ head. Ok (head, here bytes (place + 8)))
-          ≡ further bytes place (h >>= λ head. Ok (head, here part 8))
-      short (Ok head) = refl
-      short (Err c) = refl
+    -- the rest of a header whose first 8 bytes are read
+    rest : (name : BoxType) (size : ℕ)
+        → head_after name size (here bytes (place + 8)) ≡ further bytes place (head_after name size (here part 8))
+    rest name size =
+        either (size == 1) _ _ _ _ (rw (taken 8 8 (omega arith)) (stepped _ (take_at 8 (here part 8))))
+        (short (head_with name 8 size))
+      where
+        short : (h : Result Head Cause)
+            → (h >>= λ head. Ok (head, here bytes (place + 8)))
+            ≡ further bytes place (h >>= λ head. Ok (head, here part 8))
+        short (Ok head) = refl
+        short (Err c) = refl
 
-  told : (h : Result (Head × Cursor) Cause)
-      → (further bytes place h >>= λ x. Ok (reported x.0, x.1))
-      ≡ further bytes place (h >>= λ x. Ok (reported x.0, x.1))
-  told (Ok x) = refl
-  told (Err c) = refl
+    told : (h : Result (Head × Cursor) Cause)
+        → (further bytes place h >>= λ x. Ok (reported x.0, x.1))
+        ≡ further bytes place (h >>= λ x. Ok (reported x.0, x.1))
+    told (Ok x) = refl
+    told (Err c) = refl
 
-  first : take_at 8 (here part 0) ≡ Ok (take 8 part, here part 8)
-  first = rw (le-ltb (length part) (0 + 8) (omega (arith, long, room))) refl
+    first : take_at 8 (here part 0) ≡ Ok (take 8 part, here part 8)
+    first = rw (le-ltb (length part) (0 + 8) (omega (arith, long, room))) refl
 
-  first_of_all : take_at 8 (here bytes place) ≡ Ok (take 8 part, here bytes (place + 8))
-  first_of_all =
-      let same : place + 0 ≡ place = omega arith in
-      rw same at (taken 0 8 (omega arith)) ∙ ap (further bytes place) first
+    first_of_all : take_at 8 (here bytes place) ≡ Ok (take 8 part, here bytes (place + 8))
+    first_of_all =
+        let same : place + 0 ≡ place = omega arith in
+        rw same at (taken 0 8 (omega arith)) ∙ ap (further bytes place) first
 
-  -- the header at the part's place
-  pub header_in_part : header_at (here bytes place) ≡ further bytes place (header_at (here part 0))
-  unfolding head_at
-  header_in_part =
-      let bytes_8 = take 8 part in
-      let name = box_type (big_number 4 (drop 4 bytes_8)) in
-      rw (first, first_of_all)
-      (ap (λ h. h >>= λ x. Ok (reported x.0, x.1)) (rest name (big_number 4 bytes_8))
-      ∙ told (head_after name (big_number 4 bytes_8) (here part 8)))
+    -- the header at the part's place
+    pub header_in_part : header_at (here bytes place) ≡ further bytes place (header_at (here part 0))
+    unfolding head_at
+    header_in_part =
+        let bytes_8 = take 8 part in
+        let name = box_type (big_number 4 (drop 4 bytes_8)) in
+        rw (first, first_of_all)
+        (ap (λ h. h >>= λ x. Ok (reported x.0, x.1)) (rest name (big_number 4 bytes_8))
+        ∙ told (head_after name (big_number 4 bytes_8) (here part 8)))
 
 -- a size that was read of 32 or of 64 bits
 after_within : (name : BoxType) (size : ℕ) (c : Cursor) (x : Head × Cursor) → c.position ≤ length c.bytes

@@ -12,11 +12,15 @@ abbrev pub told_as : SourceError → FileError
 told_as no_memory = Mp4 OutOfMemory
 told_as (refused e) = Io e
 
--- The answer is this one, or memory ran out; it is that of a source that refuses only where the source can refuse.
+-- A refusal of a call with this answer: it is the answer's, or memory ran out; or the source refused, which can.
+abbrev pub RefusesRead : {Y : Type 0} → Bool → FileError → Result Y Cause → Type 0
+RefusesRead can_refuse (Mp4 e) answer = (e ≡ OutOfMemory) ⊎ (answer ≡ Err (cause_of e))
+RefusesRead can_refuse (Io e) answer = IsTrue can_refuse
+
+-- The answer is this one, or a refusal as above.
 abbrev pub AnswersRead : {X Y : Type 0} → Bool → (X → Y) → Result X FileError → Result Y Cause → Type 0
 AnswersRead can_refuse view (Ok x) answer = answer ≡ Ok (view x)
-AnswersRead can_refuse view (Err (Mp4 e)) answer = (e ≡ OutOfMemory) ⊎ (answer ≡ Err (cause_of e))
-AnswersRead can_refuse view (Err (Io e)) answer = IsTrue can_refuse
+AnswersRead can_refuse view (Err e) answer = RefusesRead can_refuse e answer
 
 -- so many bytes there are, where they are known
 abbrev pub IsLength : Option (List ℕ) → ℕ → Type 0

@@ -7,7 +7,7 @@ ghost use Rattle.mp4_source.specs.declared.file_error.FileError.TheVariants.{Mp4
 
 use crate::error::SourceError;
 use mp4_codec::Error;
-use std::alloc::AllocError;
+use std::alloc::{AllocError, AllocFailed};
 use std::io;
 use thiserror::Error as ThisError;
 
@@ -34,6 +34,14 @@ impl From<AllocError> for FileError {
     ghost from_gives = { λ _ f. f ≡ Mp4 OutOfMemory };
 
     fn from(_refused: AllocError) -> FileError {
+        FileError::Mp4(Error::OutOfMemory)
+    }
+}
+
+impl<T: Drop> From<AllocFailed<T>> for FileError {
+    ghost from_gives = { λ _ f. f ≡ Mp4 OutOfMemory };
+
+    fn from(_refused: AllocFailed<T>) -> FileError {
         FileError::Mp4(Error::OutOfMemory)
     }
 }

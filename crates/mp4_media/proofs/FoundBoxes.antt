@@ -10,7 +10,7 @@ use Rattle.mp4_codec.specs.Cursor.{Cursor, here, header_at}
 use Rattle.mp4_codec.specs.Boxes.{box_at}
 use Rattle.mp4_boxes.specs.declared.moov.MoovBox.{MoovBox}
 use Rattle.mp4_moof.specs.declared.moof.MoofBox.{MoofBox}
-use Rattle.mp4_source.specs.Answers.{AnswersRead}
+use Rattle.mp4_source.specs.Answers.{RefusesRead}
 use Rattle.mp4_source.specs.declared.file_error.FileError.{FileError}
 use Rattle.mp4_source.specs.declared.file_error.FileError.TheVariants.{Mp4, Io}
 use Rattle.mp4_media.specs.declared.opening.BoxContent.{BoxContent}
@@ -27,6 +27,11 @@ pub of_known : {X : Type 0} (known : Option X) (P Q : X → Type 0) → IfSome k
 of_known None P Q p f = tt
 of_known (Some x) P Q p f = f x p
 
+-- what holds of any bytes
+pub all_known : {X : Type 0} (known : Option X) (P : X → Type 0) → ((x : X) → P x) → IfSome known P
+all_known None P f = tt
+all_known (Some x) P f = f x
+
 -- the same of two facts
 pub of_known_by : {X : Type 0} (known : Option X) (P R Q : X → Type 0) → IfSome known P → IfSome known R
     → ((x : X) → P x → R x → Q x) → IfSome known Q
@@ -34,12 +39,11 @@ of_known_by None P R Q p r f = tt
 of_known_by (Some x) P R Q p r f = f x p r
 
 -- A refusal of a step refuses what it is a step of.
-pub refused_too : {X Y Z W : Type 0} (can_refuse : Bool) (f : FileError) (view : X → Y) (other : Z → W)
-    (answer : Result Y Cause) (all : Result W Cause) → ((c : Cause) → answer ≡ Err c → all ≡ Err c)
-    → AnswersRead can_refuse view (Err f) answer → AnswersRead can_refuse other (Err f) all
-refused_too can_refuse (Mp4 e) view other answer all h (inl memory) = inl memory
-refused_too can_refuse (Mp4 e) view other answer all h (inr fault) = inr (h (cause_of e) fault)
-refused_too can_refuse (Io e) view other answer all h a = a
+pub refused_too : {Y W : Type 0} (can_refuse : Bool) (f : FileError) (answer : Result Y Cause) (all : Result W Cause)
+    → ((c : Cause) → answer ≡ Err c → all ≡ Err c) → RefusesRead can_refuse f answer → RefusesRead can_refuse f all
+refused_too can_refuse (Mp4 e) answer all h (inl memory) = inl memory
+refused_too can_refuse (Mp4 e) answer all h (inr fault) = inr (h (cause_of e) fault)
+refused_too can_refuse (Io e) answer all h a = a
 
 -- A box that is read.
 module _ {A : Type 0} (kind : A → BoxContent) (value : List ℕ → Result A Cause) (name : BoxType)
@@ -49,13 +53,11 @@ module _ {A : Type 0} (kind : A → BoxContent) (value : List ℕ → Result A C
   content_is x read = of_known known _ _ read
       (λ bytes e. content-read kind value name is size (here bytes old) x (here bytes new) e)
 
-  pub content_refused : (can_refuse : Bool) (f : FileError) (view : List ℕ → A → A × Cursor)
-      (other : List ℕ → BoxContent → BoxContent × Cursor)
-      → IfSome known (λ bytes. AnswersRead can_refuse (view bytes) (Err f) (box_at value size (here bytes old)))
-      → IfSome known (λ bytes. AnswersRead can_refuse (other bytes) (Err f)
-      (content_at (meaning_of name) size (here bytes old)))
-  content_refused can_refuse f view other refused = of_known known _ _ refused
-      (λ bytes a. refused_too can_refuse f (view bytes) (other bytes) _ _
+  pub content_refused : (can_refuse : Bool) (f : FileError)
+      → IfSome known (λ bytes. RefusesRead can_refuse f (box_at value size (here bytes old)))
+      → IfSome known (λ bytes. RefusesRead can_refuse f (content_at (meaning_of name) size (here bytes old)))
+  content_refused can_refuse f refused = of_known known _ _ refused
+      (λ bytes a. refused_too can_refuse f _ _
       (λ c e. content-refused kind value name is size (here bytes old) c e) a)
 
 -- A box more of what was found.
