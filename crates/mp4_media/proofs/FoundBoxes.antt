@@ -1,8 +1,8 @@
 -- What a walk over the boxes of a source finds, where its bytes are known and where they aren't.
-use Rattle.std.proofs.Common.{◌≡◌, ◌∙◌, ℕ, suc, ◌+◌, ◌-◌, ◌≤◌, ◌<◌, List, [], ◌∷◌, ◌++◌, length, Option, Some, None, Result}
-use Rattle.std.proofs.Common.{Ok, Err, refl, sym, ap, subst, inl, inr, arith, Bool, true, false, length-append}
-use Rattle.std.proofs.lemmas.Bool.{lt-ltb, le-ltb, le-leb, lt-leb}
-use Rattle.std.specs.Prelude.{IfSome, IfNone, IsTrue, option_map, if◌then◌else◌, nat_le, nat_lt, ◌==◌}
+use Rattle.std.proofs.Common.{◌≡◌, ◌∙◌, ℕ, ◌+◌, ◌-◌, ◌≤◌, ◌<◌, List, [], ◌∷◌, length, Option, Some, None, Result}
+use Rattle.std.proofs.Common.{Ok, Err, refl, sym, ap, subst, inl, inr, Bool, false, length-append}
+use Rattle.std.proofs.lemmas.Bool.{false≢true, lt-ltb, le-ltb, le-leb, lt-leb}
+use Rattle.std.specs.Prelude.{◌⊎◌, IfSome, IsTrue, option_map, ◌==◌}
 use Rattle.mp4_codec.specs.declared.box_type.BoxType.{BoxType}
 use Rattle.mp4_codec.specs.declared.header.BoxHeader.{BoxHeader}
 use Rattle.mp4_codec.specs.Cause.{Cause, cause_of, end_of_data, invalid_data, ◌>>=◌}
@@ -10,15 +10,17 @@ use Rattle.mp4_codec.specs.Cursor.{Cursor, here, header_at}
 use Rattle.mp4_codec.specs.Boxes.{box_at}
 use Rattle.mp4_boxes.specs.declared.moov.MoovBox.{MoovBox}
 use Rattle.mp4_moof.specs.declared.moof.MoofBox.{MoofBox}
-use Rattle.mp4_source.specs.Answers.{RefusesRead}
+use Rattle.mp4_codec.specs.declared.error.Error.{Error}
+use Rattle.mp4_codec.specs.declared.error.Error.TheVariants.{OutOfMemory}
+use Rattle.mp4_source.specs.Answers.{IsIo, OnMp4, RefusesRead}
 use Rattle.mp4_source.specs.declared.file_error.FileError.{FileError}
 use Rattle.mp4_source.specs.declared.file_error.FileError.TheVariants.{Mp4, Io}
 use Rattle.mp4_media.specs.declared.opening.BoxContent.{BoxContent}
 use Rattle.mp4_media.specs.declared.opening.FileBox.{FileBox}
 use Rattle.mp4_media.specs.declared.opening.Found.{Found}
-use Rattle.mp4_media.specs.FileBoxes.{meaning_of, read_as, moov_from, moof_from, moof_place_from, later, and_one}
-use Rattle.mp4_media.specs.MovieTracks.{HaveFirstSamples, HoldsNumbered}
-use Rattle.mp4_media.specs.Walk.{box_behind, content_at, next_box_at, with_box, with_content}
+use Rattle.mp4_media.specs.FileBoxes.{meaning_of, read_as, moof_from, moof_place_from, later, and_one}
+use Rattle.mp4_media.specs.MovieTracks.{HaveFirstSamples}
+use Rattle.mp4_media.specs.Walk.{box_behind, content_at, next_box_at, with_content, found_at, opened_at, opened_from}
 use Rattle.mp4_media.proofs.Contents.{content-read, content-refused}
 
 -- what follows of known bytes
@@ -108,3 +110,26 @@ module _ (size : ℕ) (place : Cursor) where
       pub content_next : (h.size == 0) ≡ false → h.size ≤ size
           → next_box_at size place ≡ (content_at (meaning_of h.name) h.size behind >>= with_content place.position)
       content_next some fits = behind_head ∙ rw (some, le-ltb size h.size fits) refl
+
+-- what opens is what was found
+pub opened_by : (size : ℕ) (place : Cursor) (found : Found) (end : ℕ) → found_at size place ≡ Ok (found, end)
+    → opened_at size place ≡ opened_from found (end - place.position)
+unfolding opened_at
+opened_by size place found end e = rw e refl
+
+pub none_found : (size : ℕ) (place : Cursor) (c : Cause) → found_at size place ≡ Err c → opened_at size place ≡ Err c
+unfolding opened_at
+none_found size place c e = rw e refl
+
+-- a source that refuses no read is refused as its bytes are
+pub refused_as_bytes : {Y : Type 0} (f : FileError) (e : Error) (answer : Result Y Cause) → OnMp4 f (λ x. e ≡ x)
+    → RefusesRead false f answer → (e ≡ OutOfMemory) ⊎ (answer ≡ Err (cause_of e))
+refused_as_bytes {Y} (Mp4 x) e answer same a =
+    subst (λ y. (y ≡ OutOfMemory) ⊎ (answer ≡ Err (cause_of y))) (sym same) a
+refused_as_bytes (Io x) e answer same a = absurd (false≢true a)
+
+-- a refusal by the source, where it can refuse
+pub refused_by_source : {Y : Type 0} (can_refuse : Bool) (f : FileError) (answer : Result Y Cause) → IsIo f
+    → IsTrue can_refuse → RefusesRead can_refuse f answer
+refused_by_source can_refuse (Mp4 x) answer io can = absurd io
+refused_by_source can_refuse (Io x) answer io can = can

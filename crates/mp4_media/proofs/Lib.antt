@@ -8,5 +8,6 @@ pub mod TwoParts
 pub mod Gathering
 pub mod BasesByTrack
 pub mod Reading
+pub mod Placed
 pub mod ReadBack
 pub mod Performing

@@ -1,7 +1,7 @@
 -- What an opened movie answers of its metadata and of its samples (ISO/IEC 14496-12, 8.3.2, 8.6, 8.7 and 8.11).
-use Rattle.std.specs.Prelude.{◌≡◌, ℕ, List, Option, Some, None, Result, Ok, Err}
+use Rattle.std.specs.Prelude.{◌≡◌, ℕ, ◌+◌, List, Option, Some, None, Result, Ok, Err, nat_lt, if◌then◌else◌}
 use Rattle.std.specs.HashMap.{HashMap}
-use Rattle.mp4_codec.specs.Cause.{Cause, trak_not_found, ◌>>=◌}
+use Rattle.mp4_codec.specs.Cause.{Cause, end_of_data, trak_not_found, ◌>>=◌}
 use Rattle.mp4_meta.specs.declared.ilst.IlstBox.{IlstBox}
 use Rattle.mp4_meta.specs.declared.meta.MetaBox.{MetaBox}
 use Rattle.mp4_meta.specs.declared.meta.MetaBox.TheVariants.{Mdir, Unknown}
@@ -33,6 +33,11 @@ ilst_of_movie moov = ilst_of_udta moov.udta
 abbrev pub IsSample : Result (Option TimedSample) Cause → Type 0
 IsSample answer = (s : TimedSample) × (answer ≡ Ok (Some s))
 
+-- the place that a lookup found, in a file of so many bytes: one of a sample that doesn't lie whole in it is refused
+abbrev pub within : ℕ → Option Place → Result (Option Place) Cause
+within len None = Ok None
+within len (Some p) = if nat_lt len (p.offset + p.size) then Err end_of_data else Ok (Some p)
+
 -- the sample that lies at a place, where these are its bytes
 abbrev pub sample_there : List ℕ → SamplePlace → TimedSample
 sample_there bytes p = record {
@@ -58,6 +63,10 @@ module _ {S : Type 0} where
   -- where number k of the track with this id lies
   unfoldable pub located_in : HashMap ℕ Mp4Track S → ℕ → ℕ → Result (Option Place) Cause
   located_in tracks id k = needed_track tracks id >>= λ t. answer_at t.trak t.trafs (track_runs t) k
+
+  -- the same in a file of so many bytes, where the sample has to lie whole in it
+  abbrev pub placed_in : ℕ → HashMap ℕ Mp4Track S → ℕ → ℕ → Result (Option Place) Cause
+  placed_in len tracks id k = located_in tracks id k >>= within len
 
   -- what is read at number k of the track with this id
   unfoldable pub sample_in : List ℕ → HashMap ℕ Mp4Track S → ℕ → ℕ → Result (Option TimedSample) Cause

@@ -1,21 +1,22 @@
 //! Files of any size: opened by a few reads, and their samples read where they lie.
 
-ghost use Rattle.std.specs.Prelude.{◌≡◌, ◌+◌, ◌≤◌, ℕ, List, length, Ok, Err, option_map, IfErr, IfOk, IfSome};
-ghost use Rattle.mp4_codec.specs.Cause.{cause_of};
+ghost use Rattle.std.specs.Prelude.{◌≡◌, ◌↔◌, ◌+◌, ◌≤◌, Ok, option_map, IfOk, IfSome, IsTrue};
+ghost use Rattle.std.proofs.Props.{props};
+ghost use Rattle.mp4_codec.specs.Cause.{Gives};
 ghost use Rattle.mp4_codec.specs.Cursor.{here};
 ghost use Rattle.mp4_samples.specs.Places.{place_of};
 ghost use Rattle.mp4_samples.specs.Samples.{timed_sample};
 ghost use Rattle.mp4_source.specs.Answers.{AnswersRead, IsLength};
 ghost use Rattle.mp4_media.specs.FileBoxes.{opened_movie};
 ghost use Rattle.mp4_media.specs.MovieTracks.{AreTracks};
-ghost use Rattle.mp4_media.specs.Reading.{located_in, sample_in, sample_there};
+ghost use Rattle.mp4_media.specs.Reading.{placed_in, sample_in, sample_there};
 ghost use Rattle.mp4_media.specs.Walk.{opened_at};
 
-use crate::movie::{Movie, open};
+use crate::movie::{Movie, open_source};
 use bytes::Bytes;
 use mp4_codec::{Error, Result};
 use mp4_samples::{Mp4Sample, SamplePlace};
-use mp4_source::{ByteSource, FileError, SourceCursor, Window};
+use mp4_source::{ByteSource, FileError, SourceCursor, Window, read_into};
 use std::alloc::Global;
 use std::ops::Deref;
 
@@ -30,7 +31,7 @@ pub struct Mp4File<S: ByteSource> {
     /// How many bytes the source had when it was opened.
     len: u64,
     movie: Movie,
-    ghost measured: { IfSome (S.contents source) (λ bytes. len ≡ length bytes) },
+    ghost measured: { IsLength (S.contents source) len } by { Prim.hlevel props },
 }
 
 impl<S: ByteSource> Deref for Mp4File<S> {
@@ -43,6 +44,13 @@ impl<S: ByteSource> Deref for Mp4File<S> {
     {
         &self.movie
     }
+}
+
+/// Whether a sample lies whole within so many bytes.
+fn is_within(place: SamplePlace, len: u64) -> bool
+    ensures { IsTrue result ↔ (place.offset + place.size ≤ len) }
+{
+    place.offset <= len && u64::from(place.size) <= len - place.offset
 }
 
 impl<S: ByteSource + Drop> Mp4File<S> {
@@ -65,7 +73,7 @@ impl<S: ByteSource + Drop> Mp4File<S> {
     {
         let window = Window::new(alloc, source)?;
         let mut reader = SourceCursor::new(alloc, window, start)?;
-        let movie = open(alloc, &mut reader, size)?;
+        let movie = open_source(alloc, &mut reader, size)?;
         let (window, len) = reader.into_parts();
         Ok(Mp4File {
             source: window.into_inner(),
@@ -83,15 +91,13 @@ impl<S: ByteSource + Drop> Mp4File<S> {
 
     /// Where sample `k` of the track with this id lies; `EndOfData` where that isn't whole within the source.
     fn place_of_sample(&self, track_id: u32, k: u32) -> Result<Option<SamplePlace>>
-        ensures located { IfOk result (λ p. located_in self.now.movie.tracks track_id k ≡ Ok (option_map place_of p)) }
-        ensures whole { IfOk result (λ p. IfSome p (λ p. p.offset + p.size ≤ self.now.len)) }
-        ensures refused { (bytes : List ℕ) → length bytes ≡ self.now.len
-            → IfErr result (λ e. sample_in bytes self.now.movie.tracks track_id k ≡ Err (cause_of e)) }
+        ensures { Gives (λ p. option_map place_of p) result
+            (placed_in self.now.len self.now.movie.tracks track_id k) }
     {
-        let Some(place) = self.movie.track(track_id)?.locate_by_guess(k)? else {
+        let Some(place) = self.movie.place(track_id, k)? else {
             return Ok(None);
         };
-        if place.offset > self.len || self.len - place.offset < u64::from(place.size) {
+        if !is_within(place, self.len) {
             return Err(Error::EndOfData);
         }
         Ok(Some(place))
@@ -110,7 +116,8 @@ impl<S: ByteSource + Drop> Mp4File<S> {
         k: u32,
         buffer: &mut Vec<u8>,
     ) -> std::result::Result<Option<SamplePlace>, FileError>
-        ensures located { IfOk result (λ p. located_in self.old.movie.tracks track_id k ≡ Ok (option_map place_of p)) }
+        ensures place { IfOk result (λ p. placed_in self.old.len self.old.movie.tracks track_id k
+            ≡ Ok (option_map place_of p)) }
         ensures answer { IfSome (S.contents self.old.source) (λ bytes. AnswersRead (S.can_refuse self.old.source)
             (λ p. option_map (sample_there buffer.new.items) p) result
             (sample_in bytes self.old.movie.tracks track_id k)) }
@@ -121,13 +128,7 @@ impl<S: ByteSource + Drop> Mp4File<S> {
         let Some(place) = self.place_of_sample(track_id, k)? else {
             return Ok(None);
         };
-        let size = place.size as usize;
-        if buffer.capacity() < size {
-            buffer.clear();
-        }
-        buffer.resize(size, 0)?;
-        self.source
-            .read_exact_at(place.offset, buffer.as_mut_slice())?;
+        read_into(&mut self.source, place.offset, place.size as usize, buffer)?;
         Ok(Some(place))
     }
 

@@ -1,14 +1,15 @@
 //! Movies that were opened, whatever their bytes are read from.
 
-ghost use Rattle.std.specs.Prelude.{◌≡◌, ◌<◌, ◌↔◌, length, Some, option_copied, IfOk, IfSome, IsTrue};
+ghost use Rattle.std.specs.Prelude.{◌≡◌, ◌<◌, ◌↔◌, length, Some, option_copied, option_map, IfOk, IfSome, IsTrue};
 ghost use Rattle.mp4_codec.specs.Cause.{Gives, Answers};
 ghost use Rattle.mp4_codec.specs.Cursor.{here};
 ghost use Rattle.mp4_boxes.specs.declared.moov.MoovBox.{MoovBox};
 ghost use Rattle.mp4_lookup.specs.Time.{time_of};
+ghost use Rattle.mp4_samples.specs.Places.{place_of};
 ghost use Rattle.mp4_source.specs.Answers.{AnswersRead, IsLength};
 ghost use Rattle.mp4_media.specs.FileBoxes.{opened_movie};
 ghost use Rattle.mp4_media.specs.MovieTracks.{AreTracks, HaveFirstSamples};
-ghost use Rattle.mp4_media.specs.Reading.{ilst_of_movie, needed_track, sample_count_in};
+ghost use Rattle.mp4_media.specs.Reading.{ilst_of_movie, located_in, needed_track, sample_count_in};
 ghost use Rattle.mp4_media.specs.Walk.{opened_at, opened_from};
 
 use crate::opening::{Found, find_boxes};
@@ -20,6 +21,7 @@ use mp4_leaf::FtypBox;
 use mp4_lookup::{Mp4Track, time_of};
 use mp4_meta::{IlstBox, MetaBox};
 use mp4_moof::MoofBox;
+use mp4_samples::SamplePlace;
 use mp4_source::{ByteSource, FileError, SourceCursor};
 use std::alloc::Global;
 use std::collections::HashMap;
@@ -113,7 +115,7 @@ fn open_found(alloc: Global, found: Found, size: u64) -> Result<Movie>
 
 /// Opens the file of `size` bytes from the cursor on: the answer is that of the walk over its boxes, and then of the ids
 /// of its tracks.
-pub(crate) fn open<S: ByteSource + Drop>(
+pub(crate) fn open_source<S: ByteSource + Drop>(
     alloc: Global,
     reader: &mut SourceCursor<S>,
     size: u64,
@@ -215,6 +217,14 @@ impl Movie {
         self.tracks
             .get(&track_id)
             .ok_or(Error::TrakNotFound(track_id))
+    }
+
+    /// Where sample `k` of the track with this id lies; `TrakNotFound` where there is no such track.
+    #[tactic(auto, unfolding(crate::specs::Reading::located_in))]
+    pub(crate) fn place(&self, track_id: u32, k: u32) -> Result<Option<SamplePlace>>
+        ensures { Gives (λ p. option_map place_of p) result (located_in self.now.tracks track_id k) }
+    {
+        self.track(track_id)?.locate_by_guess(k)
     }
 
     /// How many samples the track with this id has, as [`Mp4Track::sample_count`] answers; `TrakNotFound` where there

@@ -8,13 +8,14 @@ ghost use Rattle.mp4_samples.specs.Plain.{Consistent};
 ghost use Rattle.mp4_samples.specs.Samples.{lent_sample, plain_sample_at, timed_sample};
 ghost use Rattle.mp4_samples.specs.Tables.{tables_of};
 ghost use Rattle.mp4_lookup.specs.Tracks.{is_of_movie};
+ghost use Rattle.mp4_source.specs.Answers.{OnMp4};
 ghost use Rattle.mp4_media.specs.FileBoxes.{OpenedFile, opened_file, opened_movie};
 ghost use Rattle.mp4_media.specs.FileGrammar.{IsFile, IsFaultyFile};
 ghost use Rattle.mp4_media.specs.MovieTracks.{AreTracks, at_id};
 ghost use Rattle.mp4_media.specs.Reading.{IsSample, sample_in};
 ghost use Rattle.mp4_media.specs.Walk.{opened_at};
 
-use crate::movie::{Movie, open};
+use crate::movie::{Movie, open_source};
 use bytes::Bytes;
 use mp4_codec::{ByteCursor, Error, Result};
 use mp4_samples::{Mp4Sample, SampleRef};
@@ -45,7 +46,9 @@ impl<'a> Deref for Mp4Reader<'a> {
 }
 
 /// What a slice of bytes is refused for, which refuses no read.
-fn refused_by_bytes(error: FileError) -> Error {
+fn refused_by_bytes(error: FileError) -> Error
+    ensures { OnMp4 error (λ e. result ≡ e) }
+{
     match error {
         FileError::Mp4(error) => error,
         // It never comes: a slice is read without one.
@@ -62,10 +65,21 @@ fn open_bytes(alloc: Global, bytes: &[u8], start: u64, size: u64) -> Result<Movi
         Ok(reader) => reader,
         Err(error) => return Err(refused_by_bytes(error)),
     };
-    match open(alloc, &mut reader, size) {
+    match open_source(alloc, &mut reader, size) {
         Ok(movie) => Ok(movie),
         Err(error) => Err(refused_by_bytes(error)),
     }
+}
+
+/// Opens a file: the answer is that of the walk over its boxes, and then of the ids of its tracks.
+fn open<'a>(alloc: Global, reader: ByteCursor<'a>, size: u64) -> Result<Mp4Reader<'a>>
+    ensures answer { Answers opened_file result (opened_at size reader.entry) }
+    ensures bytes { IfOk result (λ r. r.bytes.now ≡ reader.entry.bytes) }
+    ensures tracks { IfOk result (λ r. AreTracks r.movie.moov r.movie.moofs r.movie.moof_places r.movie.tracks) }
+{
+    let bytes = reader.bytes();
+    let movie = open_bytes(alloc, bytes, reader.position(), size)?;
+    Ok(Mp4Reader { bytes, movie })
 }
 
 impl<'a> Mp4Reader<'a> {
@@ -95,9 +109,7 @@ impl<'a> Mp4Reader<'a> {
         ensures bytes { IfOk result (λ r. r.bytes.now ≡ reader.entry.bytes) }
         ensures tracks { IfOk result (λ r. AreTracks r.movie.moov r.movie.moofs r.movie.moof_places r.movie.tracks) }
     {
-        let bytes = reader.bytes();
-        let movie = open_bytes(alloc, bytes, reader.position(), size)?;
-        Ok(Mp4Reader { bytes, movie })
+        open(alloc, reader, size)
     }
 
     /// Sample `k` of the track with this id, its bytes copied; samples are numbered from 1. Times are in ticks of the

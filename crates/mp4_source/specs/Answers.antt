@@ -1,5 +1,6 @@
 -- What a call answers that reads a source.
-use Rattle.std.specs.Prelude.{◌≡◌, ◌⊎◌, ℕ, Bool, IsTrue, List, length, Option, IfSome, Result, Ok, Err}
+use Rattle.std.specs.Prelude.{◌≡◌, ◌⊎◌, ℕ, ⊤, Bool, IsTrue, List, length, Option, IfSome, Result, Ok, Err}
+use Rattle.mp4_codec.specs.declared.error.Error.{Error}
 use Rattle.mp4_codec.specs.declared.error.Error.TheVariants.{OutOfMemory}
 use Rattle.mp4_codec.specs.Cause.{Cause, cause_of}
 use Rattle.mp4_source.specs.declared.error.SourceError.{SourceError}
@@ -11,6 +12,16 @@ use Rattle.mp4_source.specs.declared.file_error.FileError.TheVariants.{Mp4, Io}
 abbrev pub told_as : SourceError → FileError
 told_as no_memory = Mp4 OutOfMemory
 told_as (refused e) = Io e
+
+-- what holds of the error of an MP4 file
+abbrev pub OnMp4 : FileError → (Error → Type 0) → Type 0
+OnMp4 (Mp4 e) P = P e
+OnMp4 (Io e) P = ⊤
+
+-- it is told as an error of a source
+abbrev pub IsIo : FileError → Type 0
+IsIo (Mp4 e) = ⊥
+IsIo (Io e) = ⊤
 
 -- A refusal of a call with this answer: it is the answer's, or memory ran out; or the source refused, which can.
 abbrev pub RefusesRead : {Y : Type 0} → Bool → FileError → Result Y Cause → Type 0

@@ -13,6 +13,6 @@ mod window;
 pub use error::SourceError;
 pub use file_error::FileError;
 pub use seek_source::SeekSource;
-pub use source::ByteSource;
+pub use source::{ByteSource, read_into};
 pub use source_cursor::SourceCursor;
 pub use window::{BLOCK_SIZE, Window};

@@ -90,6 +90,24 @@ impl<S: ByteSource> ByteSource for &mut S {
     }
 }
 
+/// Reads the n bytes from the place on into a buffer, over what it held: it holds just them then. It grows where it has no
+/// capacity for them, and where that memory is refused, it is `OutOfMemory`. After an error it holds any bytes.
+pub fn read_into<S: ByteSource>(
+    source: &mut S,
+    place: u64,
+    n: usize,
+    buffer: &mut Vec<u8>,
+) -> Result<(), SourceError>
+    ensures value { OnOk result (IsPartOf (S.contents source.old) place n buffer.new.items) }
+    ensures io { IfErr result (λ e. OnIo e (IsRefusal (S.contents source.old) place n (S.can_refuse source.old))) }
+    ensures contents { S.contents source.new ≡ S.contents source.old }
+    ensures can_refuse { S.can_refuse source.new ≡ S.can_refuse source.old }
+{
+    grow_to(buffer, n)?;
+    source.read_exact_at(place, buffer.as_mut_slice())?;
+    Ok(())
+}
+
 /// Refuses a part that passes the end of so many bytes, by `UnexpectedEof`.
 pub(crate) fn check_end(place: u64, n: usize, len: u64) -> io::Result<()>
     ensures fits { OnOk result (place + n ≤ len) }

@@ -6,7 +6,7 @@ ghost use Rattle.mp4_codec.specs.BoxType.{IsNamed};
 ghost use Rattle.mp4_codec.specs.Boxes.{box_at};
 ghost use Rattle.mp4_codec.specs.Cause.{Gives};
 ghost use Rattle.mp4_codec.specs.Cursor.{here, header_at, take_at};
-ghost use Rattle.mp4_source.specs.Answers.{AnswersRead, IsLength, IsSomeValue};
+ghost use Rattle.mp4_source.specs.Answers.{AnswersRead, IsIo, IsLength, IsSomeValue};
 ghost use Rattle.mp4_source.specs.Source.{OnIo};
 
 use crate::error::SourceError;
@@ -48,6 +48,7 @@ impl<S: ByteSource + Drop> SourceCursor<S> {
         ensures position { IfOk result (λ c. c.position ≡ position) }
         ensures len { IfOk result (λ c. IsLength (S.contents source) c.len) }
         ensures refused { IfErr result (λ e. IsTrue (S.can_refuse source)) }
+        ensures io { IfErr result IsIo }
     {
         let mut source = source;
         let len = source.len()?;

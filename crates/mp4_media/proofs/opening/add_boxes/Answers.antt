@@ -1,4 +1,4 @@
-use Rattle.std.proofs.Common.{◌∙◌, refl, inl, inr, arith}
+use Rattle.std.proofs.Common.{◌∙◌, refl, arith}
 use Rattle.std.proofs.lemmas.Result.{err_from_is_err_and}
 use Rattle.mp4_codec.specs.Cursor.{here}
 use Rattle.mp4_media.proofs.Walking.{scan-starts, scan-takes, scan-refuses, scan-ends, found-refused, found-all}

@@ -7,7 +7,7 @@ use Rattle.mp4_boxes.specs.MoovLaws.{moov_of-has_first_samples}
 use Rattle.mp4_moof.specs.Moof.{moof_of}
 use Rattle.mp4_media.specs.declared.opening.BoxContent.TheVariants.{Ftyp, Moov, Moof, Emsg}
 use Rattle.mp4_media.proofs.Contents.{meaning-ftyp, meaning-moov, meaning-moof, meaning-emsg, meaning-none}
-use Rattle.mp4_media.proofs.FoundBoxes.{content_is, content_refused, of_known, all_known}
+use Rattle.mp4_media.proofs.FoundBoxes.{content_is, content_refused, all_known}
 use Rattle.mp4_media.proofs.opening.read_content.Goals as goal
 
 pub returns-in_err-ftyp-in-FtypBox-clause-answer : goal.returns-in_err-ftyp-in-FtypBox-clause-answer

@@ -1,7 +1,7 @@
 use Rattle.std.proofs.Common.{◌∙◌, ◌+◌, ◌-◌, ap, inl, inr, Ok}
 use Rattle.std.proofs.lemmas.Bool.{false≢true}
 use Rattle.std.proofs.lemmas.Result.{err_from_is_err_and}
-use Rattle.mp4_codec.specs.Cause.{cause_of, ◌>>=◌}
+use Rattle.mp4_codec.specs.Cause.{◌>>=◌}
 use Rattle.mp4_codec.specs.Cursor.{here}
 use Rattle.mp4_source.proofs.Parts.{no_payload, box_of_part, both_known}
 use Rattle.mp4_source.proofs.source_cursor.SourceCursor.read_box.Goals as goal
