@@ -1,12 +1,13 @@
 pub mod Contents
 pub mod Walking
+pub mod FoundBoxes
 pub mod Grammar
 pub mod OpenAnswers
 pub mod Finishing
-pub mod FirstSamples
-pub mod FragmentPlaces
+pub mod TwoParts
 pub mod Gathering
 pub mod BasesByTrack
 pub mod Reading
+pub mod Placed
 pub mod ReadBack
 pub mod Performing

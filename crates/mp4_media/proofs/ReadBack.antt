@@ -231,7 +231,7 @@ counted_alone t none =
 
 -- A finished movie that was opened again.
 module _ (st : WriterState) (w : IsWrittenMovie st) (fits : length (whole_of st) < 2 ^ 64) (movie : Mp4Reader)
-    (bytes : movie.bytes.now ≡ whole_of st) (are : AreTracks (movie_of st) [] [] movie.tracks) where
+    (bytes : movie.bytes.now ≡ whole_of st) (are : AreTracks (movie_of st) [] [] movie.movie.tracks) where
   abbrev boxes : List TrakBox
   boxes = (movie_of st).traks
 
@@ -263,7 +263,7 @@ module _ (st : WriterState) (w : IsWrittenMovie st) (fits : length (whole_of st)
 
   -- what is asked of the track with an id, and of the accepted one
   abbrev IsSame : {X : Type 0} → (Mp4Track → Result X Cause) → (AcceptedTrack → Result X Cause) → ℕ → Type 0
-  IsSame f g id = (track_or id (at_id movie.tracks id) >>= f) ≡ (accepted_with_id (accepted st) id >>= g)
+  IsSame f g id = (track_or id (at_id movie.movie.tracks id) >>= f) ≡ (accepted_with_id (accepted st) id >>= g)
 
   -- Where that is the same of each track, it is the same at each id.
   module _ {X : Type 0} (f : Mp4Track → Result X Cause) (g : AcceptedTrack → Result X Cause)
@@ -273,10 +273,10 @@ module _ (st : WriterState) (w : IsWrittenMovie st) (fits : length (whole_of st)
     unfolding placed_runs
     here_or_not u (Some trak) box =
         let a = accepted_at u trak box in
-        let t = known (movie_of st) [] [] movie.tracks are (suc u) trak (box_at u ∙ box) in
+        let t = known (movie_of st) [] [] movie.movie.tracks are (suc u) trak (box_at u ∙ box) in
         rw (t.is_there, a.is_there) (same u a.track trak a.written t.track t.box t.trafs t.runs)
     here_or_not u None box =
-        let none = unknown (movie_of st) [] [] movie.tracks are (suc u) (box_at u ∙ box) in
+        let none = unknown (movie_of st) [] [] movie.movie.tracks are (suc u) (box_at u ∙ box) in
         let past : slice_get (accepted st) u ≡ None =
         slice_get_past (accepted st) u
         (⊎_elim
@@ -289,11 +289,11 @@ module _ (st : WriterState) (w : IsWrittenMovie st) (fits : length (whole_of st)
 
     at_each_id : (id : ℕ) → IsSame f g id
     at_each_id zero =
-        rw (unknown (movie_of st) [] [] movie.tracks are 0 (none_below 1 0 boxes counted (omega arith))) refl
+        rw (unknown (movie_of st) [] [] movie.movie.tracks are 0 (none_below 1 0 boxes counted (omega arith))) refl
     at_each_id (suc u) = here_or_not u (slice_get boxes u) refl
 
   abbrev IsThere : ℕ → AcceptedTrack → Type 0
-  IsThere id a = IsSomeAnd (at_id movie.tracks id) (λ t. IsDescribed t.trak a.config)
+  IsThere id a = IsSomeAnd (at_id movie.movie.tracks id) (λ t. IsDescribed t.trak a.config)
 
   -- each accepted track is described as it was accepted
   described_at : (id : ℕ) (a : AcceptedTrack) → accepted_with_id (accepted st) id ≡ Ok a → IsThere id a
@@ -310,7 +310,7 @@ module _ (st : WriterState) (w : IsWrittenMovie st) (fits : length (whole_of st)
           let box : slice_get boxes u ≡ Some trak =
           slice_get-get_or boxes u no_box (omega (arith, there, w.count)) in
           let one = w.tracks u a trak (is ∙ ap Some same) box in
-          let t = known (movie_of st) [] [] movie.tracks are (suc u) trak (box_at u ∙ box) in
+          let t = known (movie_of st) [] [] movie.movie.tracks are (suc u) trak (box_at u ∙ box) in
           rw t.is_there
           (subst (λ (b : TrakBox). IsDescribed b a.config) (sym t.box)
           (record {
@@ -325,7 +325,7 @@ module _ (st : WriterState) (w : IsWrittenMovie st) (fits : length (whole_of st)
   exactly = record {
     tracks = described_at;
     samples = λ id k small.
-        ap (λ file. track_or id (at_id movie.tracks id) >>= λ t. sample_at file t.trak t.trafs (track_runs t) k) bytes
+        ap (λ file. track_or id (at_id movie.movie.tracks id) >>= λ t. sample_at file t.trak t.trafs (track_runs t) k) bytes
         ∙ at_each_id (λ t. sample_at (whole_of st) t.trak t.trafs (track_runs t) k) (λ a. sample_number a.samples k)
         (λ u a trak one t box trafs runs. read_at_number st (u + 1) a trak one fits t box trafs k small) id;
     counts = at_each_id (λ t. sample_count_of t.trak (track_runs t)) (λ a. Ok (length a.samples))
@@ -363,33 +363,33 @@ module _ (session : Session) (empty : session.front ≡ []) (e : IsEnded session
       → OpensAs (λ movie. HasExactly movie (accepted_by session)) result
   read_back (Ok r) o =
       let same : finished ≡ opened_file r = ok_is finished (opened_file r) (o.opens finished is_file) in
-      let tracks : AreTracks (movie_of st) [] [] r.tracks =
-      subst (λ (f : OpenedFile). AreTracks f.moov f.moofs f.moof_places r.tracks) (sym same) o.tracks in
+      let tracks : AreTracks (movie_of st) [] [] r.movie.tracks =
+      subst (λ (f : OpenedFile). AreTracks f.moov f.moofs f.moof_places r.movie.tracks) (sym same) o.tracks in
       subst (HasExactly r) (session_accepts session e.answered)
       (exactly st (session_written session e) (subst (λ (bytes : List ℕ). length bytes < 2 ^ 64) is fits) r
       (o.bytes ∙ is) tracks)
   read_back (Err error) o = wanted_memory finished error (o.opens finished is_file)
 
 -- A track of an opened file that no fragment names.
-module _ (r : Mp4Reader) (are : AreTracks r.moov r.moofs r.moof_places r.tracks) (opened : OpenedFile)
+module _ (r : Mp4Reader) (are : AreTracks r.movie.moov r.movie.moofs r.movie.moof_places r.movie.tracks) (opened : OpenedFile)
     (same : opened ≡ opened_file r) (id : ℕ) (trak : TrakBox) (plain : IsPlainTrack opened id trak) where
   pub record IsFoundTrack : Type 0 where
     pub track : Mp4Track
-    pub is_there : at_id r.tracks id ≡ Some track
+    pub is_there : at_id r.movie.tracks id ≡ Some track
     pub box : track.trak ≡ trak
     pub unfragmented : length track.trafs ≡ 0
 
   pub found_track : IsFoundTrack
   found_track =
-      let there : trak_with_id r.moov.traks id ≡ Some trak =
+      let there : trak_with_id r.movie.moov.traks id ≡ Some trak =
       ap (λ (o : OpenedFile). trak_with_id o.moov.traks id) (sym same) ∙ plain.is_there in
-      let t = known r.moov r.moofs r.moof_places r.tracks are id trak there in
+      let t = known r.movie.moov r.movie.moofs r.movie.moof_places r.movie.tracks are id trak there in
       record {
         track = t.track;
         is_there = t.is_there;
         box = t.box;
         unfragmented = ap length t.trafs
-            ∙ ap (λ n. length (trafs_of (trafs_in r.moofs) n)) (id_of id r.moov.traks trak there)
+            ∙ ap (λ n. length (trafs_of (trafs_in r.movie.moofs) n)) (id_of id r.movie.moov.traks trak there)
             ∙ ap (λ (o : OpenedFile). length (trafs_of (trafs_in o.moofs) id)) (sym same)
             ∙ plain.unfragmented;
       }

@@ -18,6 +18,7 @@ use Rattle.mp4_moof.specs.Moof.{moof_of}
 use Rattle.mp4_media.specs.declared.opening.FileBox.{FileBox}
 use Rattle.mp4_media.specs.declared.opening.BoxContent.{BoxContent}
 use Rattle.mp4_media.specs.declared.opening.BoxContent.TheVariants.{Ftyp, Moov, Moof, Emsg}
+use Rattle.mp4_media.specs.declared.movie.Movie.{Movie}
 use Rattle.mp4_media.specs.declared.reader.Mp4Reader.{Mp4Reader}
 
 -- whether a type is this one, by their codes
@@ -97,13 +98,17 @@ pub record OpenedFile : Type 0 where
   -- the bytes from the place where it begins to the place where it ends
   pub size : ℕ
 
+-- a movie, as the file that was opened
+abbrev pub opened_movie : Movie → OpenedFile
+opened_movie m = record {
+  ftyp = m.ftyp;
+  moov = m.moov;
+  moofs = m.moofs;
+  moof_places = m.moof_places;
+  emsgs = m.emsgs;
+  size = m.size;
+}
+
 -- a reader, as the file that it opened
 abbrev pub opened_file : Mp4Reader → OpenedFile
-opened_file r = record {
-  ftyp = r.ftyp;
-  moov = r.moov;
-  moofs = r.moofs;
-  moof_places = r.moof_places;
-  emsgs = r.emsgs;
-  size = r.size;
-}
+opened_file r = opened_movie r.movie

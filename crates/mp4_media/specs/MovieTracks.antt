@@ -1,5 +1,5 @@
 -- The tracks of an opened movie by their ids, each with its fragments (ISO/IEC 14496-12, 8.3.2, 8.8.3 and 8.8.7).
-use Rattle.std.specs.Prelude.{◌≡◌, ◌⊎◌, ℕ, nat_eq, Bool, List, [], Option, Some, None, is_some, unwrap_or, length}
+use Rattle.std.specs.Prelude.{◌≡◌, ◌⊎◌, ℕ, nat_eq, Bool, List, [], Option, Some, None, is_some, unwrap_or, length, IfSome}
 use Rattle.std.specs.Prelude.{option_map, Result, Ok, Err, ◌==◌, map, zip, if◌then◌else◌}
 use Rattle.std.specs.List.{AllByRecursion, filter, flat_map}
 use Rattle.std.specs.HashMap.{HashMap, get}
@@ -25,6 +25,8 @@ use Rattle.mp4_lookup.specs.declared.track.Mp4Track.{Mp4Track}
 use Rattle.mp4_lookup.specs.TrackRuns.{track_runs}
 use Rattle.mp4_samples.specs.Tables.{tables_of}
 use Rattle.mp4_lookup.specs.Tracks.{movie_end}
+use Rattle.mp4_media.specs.declared.opening.BoxContent.{BoxContent}
+use Rattle.mp4_media.specs.FileBoxes.{moov_from}
 
 -- the box of the track with this id: of equal ids the last
 abbrev pub trak_with_id : List TrakBox → ℕ → Option TrakBox
@@ -109,6 +111,10 @@ unknown_ids known moofs = all_refusal (λ (m : MoofBox). all_refusal (unknown_id
 -- each track has the first samples of the entries of its sample-to-chunk table (8.7.4)
 abbrev pub HaveFirstSamples : List TrakBox → Type 0
 HaveFirstSamples traks = AllByRecursion (λ (t : TrakBox). HasFirstSamples (tables_of t).stsc.entries) traks
+
+-- this holds of the movie that a box of a file holds, if it is one
+abbrev pub HoldsNumbered : BoxContent → Type 0
+HoldsNumbered content = IfSome (moov_from content) (λ m. HaveFirstSamples m.traks)
 
 -- why the ids of a movie are refused: those of its tracks first, and then, in file order, those of its fragments
 unfoldable pub id_fault : MoovBox → List MoofBox → Option Cause

@@ -1,7 +1,7 @@
 -- What an opened movie answers of its metadata and of its samples (ISO/IEC 14496-12, 8.3.2, 8.6, 8.7 and 8.11).
-use Rattle.std.specs.Prelude.{◌≡◌, ℕ, List, Option, Some, None, Result, Ok, Err}
+use Rattle.std.specs.Prelude.{◌≡◌, ℕ, ◌+◌, List, Option, Some, None, Result, Ok, Err, nat_lt, if◌then◌else◌}
 use Rattle.std.specs.HashMap.{HashMap}
-use Rattle.mp4_codec.specs.Cause.{Cause, trak_not_found, ◌>>=◌}
+use Rattle.mp4_codec.specs.Cause.{Cause, end_of_data, trak_not_found, ◌>>=◌}
 use Rattle.mp4_meta.specs.declared.ilst.IlstBox.{IlstBox}
 use Rattle.mp4_meta.specs.declared.meta.MetaBox.{MetaBox}
 use Rattle.mp4_meta.specs.declared.meta.MetaBox.TheVariants.{Mdir, Unknown}
@@ -11,6 +11,7 @@ use Rattle.mp4_lookup.specs.declared.track.Mp4Track.{Mp4Track}
 use Rattle.mp4_samples.specs.Places.{Place}
 use Rattle.mp4_lookup.specs.Rates.{sample_count_of}
 use Rattle.mp4_samples.specs.Samples.{TimedSample}
+use Rattle.mp4_samples.specs.declared.sample.SamplePlace.{SamplePlace}
 use Rattle.mp4_lookup.specs.Tracks.{sample_at, answer_at}
 use Rattle.mp4_lookup.specs.TrackRuns.{track_runs}
 use Rattle.mp4_media.specs.MovieTracks.{at_id}
@@ -32,6 +33,23 @@ ilst_of_movie moov = ilst_of_udta moov.udta
 abbrev pub IsSample : Result (Option TimedSample) Cause → Type 0
 IsSample answer = (s : TimedSample) × (answer ≡ Ok (Some s))
 
+-- the place that a lookup found, in a file of so many bytes: one of a sample that doesn't lie whole in it is refused
+abbrev pub within : ℕ → Option Place → Result (Option Place) Cause
+within len None = Ok None
+within len (Some p) = if nat_lt len (p.offset + p.size) then Err end_of_data else Ok (Some p)
+
+-- the sample that lies at a place, where these are its bytes
+abbrev pub sample_there : List ℕ → SamplePlace → TimedSample
+sample_there bytes p = record {
+  start_time = p.start_time;
+  sample = record {
+    bytes = bytes;
+    duration = p.duration;
+    rendering_offset = p.rendering_offset;
+    is_sync = p.is_sync;
+  };
+}
+
 -- a track, which has to be there
 abbrev pub track_or : {T : Type 0} → ℕ → Option T → Result T Cause
 track_or id None = Err (trak_not_found id)
@@ -45,6 +63,10 @@ module _ {S : Type 0} where
   -- where number k of the track with this id lies
   unfoldable pub located_in : HashMap ℕ Mp4Track S → ℕ → ℕ → Result (Option Place) Cause
   located_in tracks id k = needed_track tracks id >>= λ t. answer_at t.trak t.trafs (track_runs t) k
+
+  -- the same in a file of so many bytes, where the sample has to lie whole in it
+  abbrev pub placed_in : ℕ → HashMap ℕ Mp4Track S → ℕ → ℕ → Result (Option Place) Cause
+  placed_in len tracks id k = located_in tracks id k >>= within len
 
   -- what is read at number k of the track with this id
   unfoldable pub sample_in : List ℕ → HashMap ℕ Mp4Track S → ℕ → ℕ → Result (Option TimedSample) Cause

@@ -53,10 +53,10 @@ accepted_count accepted id = accepted_with_id accepted id >>= λ t. Ok (length t
 
 -- what `read_sample` and `sample_count` answer of an opened movie
 abbrev pub sample_read : Mp4Reader → ℕ → ℕ → Result (Option TimedSample) Cause
-sample_read movie id k = sample_in movie.bytes.now movie.tracks id k
+sample_read movie id k = sample_in movie.bytes.now movie.movie.tracks id k
 
 abbrev pub samples_counted : Mp4Reader → ℕ → Result ℕ Cause
-samples_counted movie id = sample_count_in movie.tracks id
+samples_counted movie id = sample_count_in movie.movie.tracks id
 
 -- a track is described as it was accepted: the ticks in a second and the language (8.4.2), the kind of track (8.4.3), and
 -- how its samples are coded (8.5.2)
@@ -69,7 +69,7 @@ pub record IsDescribed (trak : TrakBox) (config : TrackConfig) : Type 0 where
 -- an opened movie has exactly these tracks, with exactly these samples: at each id and each number of 32 bits
 pub record HasExactly (movie : Mp4Reader) (accepted : List AcceptedTrack) : Type 0 where
   pub tracks : (id : ℕ) (a : AcceptedTrack) → accepted_with_id accepted id ≡ Ok a
-      → IsSomeAnd (at_id movie.tracks id) (λ t. IsDescribed t.trak a.config)
+      → IsSomeAnd (at_id movie.movie.tracks id) (λ t. IsDescribed t.trak a.config)
   pub samples : (id k : ℕ) → k < 2 ^ 32 → sample_read movie id k ≡ accepted_sample accepted id k
   pub counts : (id : ℕ) → samples_counted movie id ≡ accepted_count accepted id
 
@@ -83,8 +83,8 @@ pub record IsOpeningBy {X : Type 0} (movie_in : X → Mp4Reader) (size : ℕ) (s
   pub fault : IfErr result (λ e. (e ≡ OutOfMemory) ⊎ IsFaultyFile size start (cause_of e))
   pub refused : (c : Cause) → IsFaultyFile size start c → Answers (λ x. opened_file (movie_in x)) result (Err c)
   pub bytes : IfOk result (λ x. (movie_in x).bytes.now ≡ start.bytes)
-  pub tracks : IfOk result (λ x. AreTracks (movie_in x).moov (movie_in x).moofs (movie_in x).moof_places
-      (movie_in x).tracks)
+  pub tracks : IfOk result (λ x. AreTracks (movie_in x).movie.moov (movie_in x).movie.moofs
+      (movie_in x).movie.moof_places (movie_in x).movie.tracks)
 
 -- what `read_mp4` answers of these bytes
 abbrev pub IsOpening : List ℕ → Result Mp4Reader Error → Type 0
@@ -127,8 +127,8 @@ pub record IsCheap (t : Mp4Track) (k : ℕ) (place : Result (Option SamplePlace)
 
 -- The place at number k of the track with this id, whatever its tables and its fragments say, and what it cost.
 pub record IsLocated (movie : Mp4Reader) (id k : ℕ) (place : Result (Option SamplePlace) Error) : Type 0 where
-  pub rule : Gives (λ p. option_map place_of p) place (located_in movie.tracks id k)
-  pub cost : (t : Mp4Track) → at_id movie.tracks id ≡ Some t → IsCheap t k place
+  pub rule : Gives (λ p. option_map place_of p) place (located_in movie.movie.tracks id k)
+  pub cost : (t : Mp4Track) → at_id movie.movie.tracks id ≡ Some t → IsCheap t k place
 
 -- memory ran out before the sample was looked for, or it is found
 abbrev pub LooksUp : List ℕ → StblBox → ℕ → Result FoundSample Error → Type 0

@@ -2,9 +2,11 @@
 #![tactic(auto)]
 
 mod calls;
+mod file;
 mod fragments;
 pub mod framing;
 pub mod laws;
+mod movie;
 mod opening;
 mod reader;
 mod round_trip;
@@ -15,9 +17,12 @@ pub mod writing;
 
 // Movies.
 pub use calls::WriterCall;
+pub use file::Mp4File;
+pub use movie::Movie;
 pub use mp4_lookup::{Mp4Track, time_of};
 pub use mp4_mux::{Mp4Config, TrackConfig, mdat_header};
 pub use mp4_samples::{Comparisons, Mp4Sample, SamplePlace, SampleRef, is_equal_sample};
+pub use mp4_source::{ByteSource, FileError, SeekSource, SourceError, Window};
 pub use reader::{Mp4Reader, read_mp4};
 pub use round_trip::{FoundSample, RoundTrip, SampleQuery, find_sample, write_and_read};
 pub use writer::Mp4Writer;

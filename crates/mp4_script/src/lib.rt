@@ -12,7 +12,7 @@ mod show;
 
 pub use commands::decimal_in;
 pub use faults::fault_text;
-pub use info::info_text;
-pub use samples::samples_text;
+pub use info::{file_info_text, info_text};
+pub use samples::{file_samples_text, samples_text};
 pub use script::{ScriptFault, run_script};
 pub use show::show_text;

@@ -4,24 +4,25 @@ ghost use Rattle.std.specs.Prelude.{◌≡◌, ◌+◌, ◌<◌, ◌≤◌, ◌�
 ghost use Rattle.std.specs.Fmt.{decimal, signed_decimal};
 ghost use Rattle.mp4_script.specs.Listing.{sample_line};
 
+use crate::info::open_whole;
 use itoa::write_digits;
-use mp4_media::{ByteCursor, Error, Mp4Reader, Mp4Track, Result, SamplePlace, read_mp4};
+use mp4_media::{ByteSource, Error, FileError, Movie, Mp4Track, Result, SamplePlace, read_mp4};
 use std::alloc::{AllocError, Global};
 
 /// Room for the longest line: seven numbers of at most 20 digits, a minus, and a byte behind each number.
 const LINE: usize = 148;
 
-/// Where a sample that can be read lies: None where there is none. `EndOfData` where it doesn't lie whole in the file,
-/// as reading it answers.
+/// Where a sample that can be read lies: None where there is none. `EndOfData` where it doesn't lie whole in the file
+/// of `len` bytes, as reading it answers.
 ///
 /// The sample is looked up once, where reading it first and then asking for its place would do it twice.
-fn place_of(track: &Mp4Track, file: &[u8], k: u32) -> Result<Option<SamplePlace>> {
+fn place_of(track: &Mp4Track, len: u64, k: u32) -> Result<Option<SamplePlace>> {
     let Some(place) = track.locate_by_guess(k)? else {
         return Ok(None);
     };
-    let mut cursor = ByteCursor::new(file);
-    cursor.set_position(place.offset);
-    cursor.take(u64::from(place.size))?;
+    if place.offset > len || len - place.offset < u64::from(place.size) {
+        return Err(Error::EndOfData);
+    }
     Ok(Some(place))
 }
 
@@ -101,16 +102,11 @@ fn write_sample(text: &mut Vec<u8>, k: u32, place: &Result<Option<SamplePlace>>)
     }
 }
 
-/// Writes the lines of the samples of a track of a file, up to the first that isn't there.
-pub(crate) fn write_samples(
-    text: &mut Vec<u8>,
-    movie: &Mp4Reader,
-    file: &[u8],
-    id: u32,
-) -> Result<()> {
+/// Writes the lines of the samples of a track of a file of `len` bytes, up to the first that isn't there.
+pub(crate) fn write_samples(text: &mut Vec<u8>, movie: &Movie, len: u64, id: u32) -> Result<()> {
     let track = movie.tracks().get(&id).ok_or(Error::TrakNotFound(id))?;
     for k in 1..=track.sample_count()? {
-        if !write_sample(text, k, &place_of(track, file, k))? {
+        if !write_sample(text, k, &place_of(track, len, k))? {
             break;
         }
     }
@@ -125,6 +121,20 @@ pub(crate) fn write_samples(
 pub fn samples_text(alloc: Global, file: &[u8], track_id: u32) -> Result<Vec<u8>> {
     let movie = read_mp4(alloc, file)?;
     let mut text = Vec::new(alloc);
-    write_samples(&mut text, &movie, file, track_id)?;
+    write_samples(&mut text, &*movie, file.len() as u64, track_id)?;
+    Ok(text)
+}
+
+/// What [`samples_text`] says of the file of all bytes of a source: no byte of a sample is read.
+///
+/// Refused as the file's opening and the count of samples are, and where memory runs out.
+pub fn file_samples_text<S: ByteSource + Drop>(
+    alloc: Global,
+    source: S,
+    track_id: u32,
+) -> std::result::Result<Vec<u8>, FileError> {
+    let file = open_whole(alloc, source)?;
+    let mut text = Vec::new(alloc);
+    write_samples(&mut text, &*file, file.source_len(), track_id)?;
     Ok(text)
 }

@@ -3,20 +3,15 @@
 use crate::info::{track_ids, write_info};
 use crate::samples::write_samples;
 use crate::script::{ScriptFault, run_script};
-use mp4_media::{Mp4Reader, Result, read_mp4};
+use mp4_media::{Movie, Result, read_mp4};
 use std::alloc::Global;
 
-/// Writes the lines of the samples of all tracks of a file, by their ids.
-fn write_all_samples(
-    alloc: Global,
-    text: &mut Vec<u8>,
-    movie: &Mp4Reader,
-    file: &[u8],
-) -> Result<()> {
+/// Writes the lines of the samples of all tracks of a file of `len` bytes, by their ids.
+fn write_all_samples(alloc: Global, text: &mut Vec<u8>, movie: &Movie, len: u64) -> Result<()> {
     for id in track_ids(alloc, movie)?.iter() {
         let line = format!(in alloc; "samples {id}\n")?;
         text.extend_from_slice(line.as_bytes())?;
-        write_samples(text, movie, file, *id)?;
+        write_samples(text, movie, len, *id)?;
     }
     Ok(())
 }
@@ -25,9 +20,9 @@ fn write_all_samples(
 fn described(alloc: Global, file: &[u8]) -> Result<Vec<u8>> {
     let movie = read_mp4(alloc, file)?;
     let mut text = String::new(alloc);
-    write_info(alloc, &mut text, &movie)?;
+    write_info(alloc, &mut text, &*movie)?;
     let mut text = text.into_bytes();
-    write_all_samples(alloc, &mut text, &movie, file)?;
+    write_all_samples(alloc, &mut text, &*movie, file.len() as u64)?;
     Ok(text)
 }
 

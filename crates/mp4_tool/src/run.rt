@@ -1,10 +1,13 @@
 //! A run of the program.
 
 use crate::faults::Fault;
-use mp4_media::Error;
-use mp4_script::{decimal_in, info_text, run_script, samples_text, show_text};
+use mp4_media::{Error, FileError, SeekSource};
+use mp4_script::{
+    decimal_in, file_info_text, file_samples_text, info_text, run_script, samples_text, show_text,
+};
 use std::alloc::Global;
 use std::fs;
+use std::fs::OpenFile;
 use std::io::{ErrorKind, Read};
 use std::rt::Files;
 
@@ -44,17 +47,35 @@ fn read_all<'a, R: Read>(
     Err(Fault::CannotRead(name))
 }
 
-/// All bytes of a file.
-fn read_file<'a>(rt: &impl Files, alloc: Global, name: &'a str) -> Result<Vec<u8>, Fault<'a>> {
-    let Ok(mut file) = fs::open(rt, name) else {
-        return Err(Fault::CannotRead(name));
-    };
-    read_all(alloc, &mut file, name)
+/// The file of this name, opened to be read.
+fn open<'a, R: Files>(rt: &R, name: &'a str) -> Result<R::File, Fault<'a>> {
+    fs::open(rt, name).map_err(|_| Fault::CannotRead(name))
+}
+
+/// Whether bytes of it can be read in any order, as those of a regular file. What isn't is read whole, as a pipe.
+fn is_regular<F: OpenFile>(file: &F) -> bool {
+    match file.metadata() {
+        Ok(metadata) => metadata.is_file(),
+        Err(_) => false,
+    }
+}
+
+/// The text that a file gave, or why it gave none: a refused read is that of the file of this name.
+fn text_of<'a>(text: Result<Vec<u8>, FileError>, name: &'a str) -> Result<Vec<u8>, Fault<'a>> {
+    match text {
+        Ok(text) => Ok(text),
+        Err(FileError::Mp4(error)) => Err(Fault::Movie(error)),
+        Err(FileError::Io(_)) => Err(Fault::CannotRead(name)),
+    }
 }
 
 /// The lines that describe a file.
 fn info<'a>(rt: &impl Files, alloc: Global, name: &'a str) -> Result<Vec<u8>, Fault<'a>> {
-    let bytes = read_file(rt, alloc, name)?;
+    let mut file = open(rt, name)?;
+    if is_regular(&file) {
+        return text_of(file_info_text(alloc, SeekSource::new(file)), name);
+    }
+    let bytes = read_all(alloc, &mut file, name)?;
     Ok(info_text(alloc, bytes.as_slice())?)
 }
 
@@ -65,7 +86,14 @@ fn samples<'a>(
     name: &'a str,
     track_id: u32,
 ) -> Result<Vec<u8>, Fault<'a>> {
-    let bytes = read_file(rt, alloc, name)?;
+    let mut file = open(rt, name)?;
+    if is_regular(&file) {
+        return text_of(
+            file_samples_text(alloc, SeekSource::new(file), track_id),
+            name,
+        );
+    }
+    let bytes = read_all(alloc, &mut file, name)?;
     Ok(samples_text(alloc, bytes.as_slice(), track_id)?)
 }
 

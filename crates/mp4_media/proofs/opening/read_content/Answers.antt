@@ -1,97 +1,98 @@
-use Rattle.std.proofs.Common.{refl, inl, inr}
+use Rattle.std.proofs.Common.{refl, inr}
 use Rattle.std.proofs.lemmas.Result.{err_from_is_err_and}
-use Rattle.mp4_codec.specs.Cause.{cause_of}
 use Rattle.mp4_leaf.specs.Ftyp.{ftyp_of}
 use Rattle.mp4_frag.specs.Emsg.{emsg_of}
 use Rattle.mp4_boxes.specs.Moov.{moov_of}
+use Rattle.mp4_boxes.specs.MoovLaws.{moov_of-has_first_samples}
 use Rattle.mp4_moof.specs.Moof.{moof_of}
 use Rattle.mp4_media.specs.declared.opening.BoxContent.TheVariants.{Ftyp, Moov, Moof, Emsg}
 use Rattle.mp4_media.proofs.Contents.{meaning-ftyp, meaning-moov, meaning-moof, meaning-emsg, meaning-none}
-use Rattle.mp4_media.proofs.Contents.{content-read, content-refused}
+use Rattle.mp4_media.proofs.FoundBoxes.{content_is, content_refused, all_known}
 use Rattle.mp4_media.proofs.opening.read_content.Goals as goal
 
 pub returns-in_err-ftyp-in-FtypBox-clause-answer : goal.returns-in_err-ftyp-in-FtypBox-clause-answer
-returns-in_err-ftyp-in-FtypBox-clause-answer c =
+returns-in_err-ftyp-in-FtypBox-clause-answer g c =
+    let reader = c.args.reader.now in
     let p = err_from_is_err_and c.from_residual.result c.from_residual.ensures.1 in
-    let meaning = meaning-ftyp c.args.header.name c.in-FtypBox.is in
-    let cause = cause_of c.in_err-ftyp-in-FtypBox.field-0.0 in
-    rw (p.1, p.2) (elim c.in_err-ftyp-in-FtypBox.ensures.value [
-      | inl memory ↦ inl memory
-      | inr fault ↦ inr (content-refused Ftyp ftyp_of c.args.header.name meaning c.args.header.size
-          c.args.reader.now cause fault)
-    ])
+    rw (p.1, p.2) (content_refused Ftyp ftyp_of c.args.header.name (meaning-ftyp c.args.header.name c.in-FtypBox.is)
+    (g.S.ByteSource.contents reader.source) c.args.header.size reader.position 0
+    (g.S.ByteSource.can_refuse reader.source) c.in_err-ftyp-in-FtypBox.field-0.0
+    c.in_err-ftyp-in-FtypBox.ensures.answer)
 
 pub returns-in_ok-ftyp-in-FtypBox-clause-answer : goal.returns-in_ok-ftyp-in-FtypBox-clause-answer
-returns-in_ok-ftyp-in-FtypBox-clause-answer c =
-    content-read Ftyp ftyp_of c.args.header.name (meaning-ftyp c.args.header.name c.in-FtypBox.is)
-    c.args.header.size c.args.reader.now
-    c.in_ok-ftyp-in-FtypBox.ftyp c.read_box.new.reader c.in_ok-ftyp-in-FtypBox.ensures.value
+returns-in_ok-ftyp-in-FtypBox-clause-answer g c =
+    let reader = c.args.reader.now in
+    content_is Ftyp ftyp_of c.args.header.name (meaning-ftyp c.args.header.name c.in-FtypBox.is)
+    (g.S.ByteSource.contents reader.source) c.args.header.size reader.position c.read_box.new.self.position
+    c.in_ok-ftyp-in-FtypBox.ftyp c.in_ok-ftyp-in-FtypBox.ensures.answer
 
 pub returns-in_err-moov-in-MoovBox-clause-answer : goal.returns-in_err-moov-in-MoovBox-clause-answer
-returns-in_err-moov-in-MoovBox-clause-answer c =
+returns-in_err-moov-in-MoovBox-clause-answer g c =
+    let reader = c.args.reader.now in
     let p = err_from_is_err_and c.from_residual-in_err-moov-in-MoovBox.result c.from_residual-in_err-moov-in-MoovBox.ensures.1 in
-    let meaning = meaning-moov c.args.header.name c.in-MoovBox.is in
-    let cause = cause_of c.in_err-moov-in-MoovBox.field-0.0 in
-    rw (p.1, p.2) (elim c.in_err-moov-in-MoovBox.ensures.value [
-      | inl memory ↦ inl memory
-      | inr fault ↦ inr (content-refused Moov moov_of c.args.header.name meaning c.args.header.size
-          c.args.reader.now cause fault)
-    ])
+    rw (p.1, p.2) (content_refused Moov moov_of c.args.header.name (meaning-moov c.args.header.name c.in-MoovBox.is)
+    (g.S.ByteSource.contents reader.source) c.args.header.size reader.position 0
+    (g.S.ByteSource.can_refuse reader.source) c.in_err-moov-in-MoovBox.field-0.0
+    c.in_err-moov-in-MoovBox.ensures.answer)
 
 pub returns-in_ok-moov-in-MoovBox-clause-answer : goal.returns-in_ok-moov-in-MoovBox-clause-answer
-returns-in_ok-moov-in-MoovBox-clause-answer c =
-    content-read Moov moov_of c.args.header.name (meaning-moov c.args.header.name c.in-MoovBox.is)
-    c.args.header.size c.args.reader.now
-    c.in_ok-moov-in-MoovBox.moov c.read_box-in-MoovBox.new.reader c.in_ok-moov-in-MoovBox.ensures.value
+returns-in_ok-moov-in-MoovBox-clause-answer g c =
+    let reader = c.args.reader.now in
+    content_is Moov moov_of c.args.header.name (meaning-moov c.args.header.name c.in-MoovBox.is)
+    (g.S.ByteSource.contents reader.source) c.args.header.size reader.position c.read_box-in-MoovBox.new.self.position
+    c.in_ok-moov-in-MoovBox.moov c.in_ok-moov-in-MoovBox.ensures.answer
 
 pub returns-in_err-moof-in-MoofBox-clause-answer : goal.returns-in_err-moof-in-MoofBox-clause-answer
-returns-in_err-moof-in-MoofBox-clause-answer c =
+returns-in_err-moof-in-MoofBox-clause-answer g c =
+    let reader = c.args.reader.now in
     let p = err_from_is_err_and c.from_residual-in_err-moof-in-MoofBox.result c.from_residual-in_err-moof-in-MoofBox.ensures.1 in
-    let meaning = meaning-moof c.args.header.name c.in-MoofBox.is in
-    let cause = cause_of c.in_err-moof-in-MoofBox.field-0.0 in
-    rw (p.1, p.2) (elim c.in_err-moof-in-MoofBox.ensures.value [
-      | inl memory ↦ inl memory
-      | inr fault ↦ inr (content-refused Moof moof_of c.args.header.name meaning c.args.header.size
-          c.args.reader.now cause fault)
-    ])
+    rw (p.1, p.2) (content_refused Moof moof_of c.args.header.name (meaning-moof c.args.header.name c.in-MoofBox.is)
+    (g.S.ByteSource.contents reader.source) c.args.header.size reader.position 0
+    (g.S.ByteSource.can_refuse reader.source) c.in_err-moof-in-MoofBox.field-0.0
+    c.in_err-moof-in-MoofBox.ensures.answer)
 
 pub returns-in_ok-moof-in-MoofBox-clause-answer : goal.returns-in_ok-moof-in-MoofBox-clause-answer
-returns-in_ok-moof-in-MoofBox-clause-answer c =
-    content-read Moof moof_of c.args.header.name (meaning-moof c.args.header.name c.in-MoofBox.is)
-    c.args.header.size c.args.reader.now
-    c.in_ok-moof-in-MoofBox.moof c.read_box-in-MoofBox.new.reader c.in_ok-moof-in-MoofBox.ensures.value
+returns-in_ok-moof-in-MoofBox-clause-answer g c =
+    let reader = c.args.reader.now in
+    content_is Moof moof_of c.args.header.name (meaning-moof c.args.header.name c.in-MoofBox.is)
+    (g.S.ByteSource.contents reader.source) c.args.header.size reader.position c.read_box-in-MoofBox.new.self.position
+    c.in_ok-moof-in-MoofBox.moof c.in_ok-moof-in-MoofBox.ensures.answer
 
 pub returns-in_err-emsg-in-EmsgBox-clause-answer : goal.returns-in_err-emsg-in-EmsgBox-clause-answer
-returns-in_err-emsg-in-EmsgBox-clause-answer c =
+returns-in_err-emsg-in-EmsgBox-clause-answer g c =
+    let reader = c.args.reader.now in
     let p = err_from_is_err_and c.from_residual-in_err-emsg-in-EmsgBox.result c.from_residual-in_err-emsg-in-EmsgBox.ensures.1 in
-    let meaning = meaning-emsg c.args.header.name c.in-EmsgBox.is in
-    let cause = cause_of c.in_err-emsg-in-EmsgBox.field-0.0 in
-    rw (p.1, p.2) (elim c.in_err-emsg-in-EmsgBox.ensures.value [
-      | inl memory ↦ inl memory
-      | inr fault ↦ inr (content-refused Emsg emsg_of c.args.header.name meaning c.args.header.size
-          c.args.reader.now cause fault)
-    ])
+    rw (p.1, p.2) (content_refused Emsg emsg_of c.args.header.name (meaning-emsg c.args.header.name c.in-EmsgBox.is)
+    (g.S.ByteSource.contents reader.source) c.args.header.size reader.position 0
+    (g.S.ByteSource.can_refuse reader.source) c.in_err-emsg-in-EmsgBox.field-0.0
+    c.in_err-emsg-in-EmsgBox.ensures.answer)
 
 pub returns-in_ok-emsg-in-EmsgBox-clause-answer : goal.returns-in_ok-emsg-in-EmsgBox-clause-answer
-returns-in_ok-emsg-in-EmsgBox-clause-answer c =
-    content-read Emsg emsg_of c.args.header.name (meaning-emsg c.args.header.name c.in-EmsgBox.is)
-    c.args.header.size c.args.reader.now
-    c.in_ok-emsg-in-EmsgBox.emsg c.read_box-in-EmsgBox.new.reader c.in_ok-emsg-in-EmsgBox.ensures.value
+returns-in_ok-emsg-in-EmsgBox-clause-answer g c =
+    let reader = c.args.reader.now in
+    content_is Emsg emsg_of c.args.header.name (meaning-emsg c.args.header.name c.in-EmsgBox.is)
+    (g.S.ByteSource.contents reader.source) c.args.header.size reader.position c.read_box-in-EmsgBox.new.self.position
+    c.in_ok-emsg-in-EmsgBox.emsg c.in_ok-emsg-in-EmsgBox.ensures.answer
 
-pub returns-in_err-skip-in_default-clause-answer : goal.returns-in_err-skip-in_default-clause-answer
-returns-in_err-skip-in_default-clause-answer c =
-    let p =
-    err_from_is_err_and c.from_residual-in_err-skip-in_default.result
-    c.from_residual-in_err-skip-in_default.ensures.1 in
-    let none =
-    meaning-none c.args.header.name c.requires.named c.in_default.not-FtypBox c.in_default.not-MoovBox
+pub returns-in_ok-moov-in-MoovBox-clause-numbered : goal.returns-in_ok-moov-in-MoovBox-clause-numbered
+returns-in_ok-moov-in-MoovBox-clause-numbered g c =
+    let value = c.in_ok-moov-in-MoovBox.ensures.value in
+    moov_of-has_first_samples value.0 c.in_ok-moov-in-MoovBox.moov value.1
+
+pub returns-in_err-behind-in_default-clause-answer : goal.returns-in_err-behind-in_default-clause-answer
+returns-in_err-behind-in_default-clause-answer g c =
+    let p = err_from_is_err_and c.from_residual-in_err-behind-in_default.result
+    c.from_residual-in_err-behind-in_default.ensures.1 in
+    let none = meaning-none c.args.header.name c.requires.named c.in_default.not-FtypBox c.in_default.not-MoovBox
     c.in_default.not-MoofBox c.in_default.not-EmsgBox in
-    rw (p.1, p.2) (inr (rw (none, c.in_err-skip-in_default.ensures) refl))
+    all_known (g.S.ByteSource.contents c.args.reader.now.source) _
+    (λ bytes. let skipped = rw c.position-place.ensures at (c.in_err-behind-in_default.ensures.value bytes) in
+    rw (p.1, p.2, none, skipped) (inr refl))
 
-pub returns-in_ok-skip-in_default-clause-answer : goal.returns-in_ok-skip-in_default-clause-answer
-returns-in_ok-skip-in_default-clause-answer c =
-    rw (
-      meaning-none c.args.header.name c.requires.named c.in_default.not-FtypBox c.in_default.not-MoovBox
-          c.in_default.not-MoofBox c.in_default.not-EmsgBox,
-      c.in_ok-skip-in_default.ensures,
-    ) refl
+pub returns-in_ok-behind-in_default-clause-answer : goal.returns-in_ok-behind-in_default-clause-answer
+returns-in_ok-behind-in_default-clause-answer g c =
+    let none = meaning-none c.args.header.name c.requires.named c.in_default.not-FtypBox c.in_default.not-MoovBox
+    c.in_default.not-MoofBox c.in_default.not-EmsgBox in
+    all_known (g.S.ByteSource.contents c.args.reader.now.source) _
+    (λ bytes. let skipped = rw c.position-place.ensures at (c.in_ok-behind-in_default.ensures.value bytes) in
+    rw (none, skipped, c.set_position.ensures) refl)

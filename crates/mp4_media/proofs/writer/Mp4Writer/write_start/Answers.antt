@@ -1,6 +1,6 @@
 use Rattle.std.proofs.Common.{◌≡◌, sym, ap, ◌∙◌}
 use Rattle.mp4_codec.specs.Steps.{ok_is}
-use Rattle.mp4_mux.specs.Writing.{start_cause, started}
+use Rattle.mp4_mux.specs.Writing.{start_cause}
 use Rattle.mp4_media.proofs.writer.Mp4Writer.write_start.Goals as goal
 use Rattle.mp4_media.proofs.writer.Mp4Writer.write_start.Goals.{In_ok-config}
 

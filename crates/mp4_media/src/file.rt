@@ -1,0 +1,162 @@
+//! Files of any size: opened by a few reads, and their samples read where they lie.
+
+ghost use Rattle.std.specs.Prelude.{◌≡◌, ◌↔◌, ◌+◌, ◌≤◌, Ok, option_map, IfOk, IfSome, IsTrue};
+ghost use Rattle.std.proofs.Props.{props};
+ghost use Rattle.mp4_codec.specs.Cause.{Gives};
+ghost use Rattle.mp4_codec.specs.Cursor.{here};
+ghost use Rattle.mp4_samples.specs.Places.{place_of};
+ghost use Rattle.mp4_samples.specs.Samples.{timed_sample};
+ghost use Rattle.mp4_source.specs.Answers.{AnswersRead, IsLength};
+ghost use Rattle.mp4_media.specs.FileBoxes.{opened_movie};
+ghost use Rattle.mp4_media.specs.MovieTracks.{AreTracks};
+ghost use Rattle.mp4_media.specs.Reading.{placed_in, sample_in, sample_there};
+ghost use Rattle.mp4_media.specs.Walk.{opened_at};
+
+use crate::movie::{Movie, open_source};
+use bytes::Bytes;
+use mp4_codec::{Error, Result};
+use mp4_samples::{Mp4Sample, SamplePlace};
+use mp4_source::{ByteSource, FileError, SourceCursor, Window, read_into};
+use std::alloc::Global;
+use std::ops::Deref;
+
+/// A movie that was opened from a source, as a file on a disk is: only its headers and the boxes that describe it are
+/// read, and the bytes of a sample when it is asked for.
+///
+/// All that a [`Movie`] has is asked of a file too: the public fields `ftyp`, `moov`, `moofs` and `emsgs`, and the
+/// accessors.
+#[derive(Drop)]
+pub struct Mp4File<S: ByteSource> {
+    source: S,
+    /// How many bytes the source had when it was opened.
+    len: u64,
+    movie: Movie,
+    ghost measured: { IsLength (S.contents source) len } by { Prim.hlevel props },
+}
+
+impl<S: ByteSource> Deref for Mp4File<S> {
+    type Target = Movie;
+
+    ghost deref_gives = { λ f m. m ≡ f.movie };
+
+    fn deref(&self) -> &Movie
+        ensures { result.now ≡ self.now.movie }
+    {
+        &self.movie
+    }
+}
+
+/// Whether a sample lies whole within so many bytes.
+fn is_within(place: SamplePlace, len: u64) -> bool
+    ensures { IsTrue result ↔ (place.offset + place.size ≤ len) }
+{
+    place.offset <= len && u64::from(place.size) <= len - place.offset
+}
+
+impl<S: ByteSource + Drop> Mp4File<S> {
+    /// Opens the file of `size` bytes that begins at this place of a source, as [`crate::Mp4Reader::read_header`] does
+    /// of its bytes, with the same errors. The bytes of ftyp, moov, moof and emsg are read, and the headers of all other
+    /// boxes. They are read through a window, which takes at most 32 KiB while the file is opened.
+    ///
+    /// `Io` where the source refuses a read. After an error the source is gone: pass `&mut` to keep it.
+    pub fn open(
+        alloc: Global,
+        source: S,
+        start: u64,
+        size: u64,
+    ) -> std::result::Result<Self, FileError>
+        ensures answer { IfSome (S.contents source) (λ bytes. AnswersRead (S.can_refuse source)
+            (λ f. opened_movie f.movie) result (opened_at size (here bytes start))) }
+        ensures tracks { IfOk result (λ f. AreTracks f.movie.moov f.movie.moofs f.movie.moof_places f.movie.tracks) }
+        ensures contents { IfOk result (λ f. S.contents f.source ≡ S.contents source) }
+        ensures can_refuse { IfOk result (λ f. S.can_refuse f.source ≡ S.can_refuse source) }
+    {
+        let window = Window::new(alloc, source)?;
+        let mut reader = SourceCursor::new(alloc, window, start)?;
+        let movie = open_source(alloc, &mut reader, size)?;
+        let (window, len) = reader.into_parts();
+        Ok(Mp4File {
+            source: window.into_inner(),
+            len,
+            movie,
+        })
+    }
+
+    /// How many bytes the source had when the file was opened.
+    pub fn source_len(&self) -> u64
+        ensures { IsLength (S.contents self.now.source) result }
+    {
+        self.len
+    }
+
+    /// Where sample `k` of the track with this id lies; `EndOfData` where that isn't whole within the source.
+    fn place_of_sample(&self, track_id: u32, k: u32) -> Result<Option<SamplePlace>>
+        ensures { Gives (λ p. option_map place_of p) result
+            (placed_in self.now.len self.now.movie.tracks track_id k) }
+    {
+        let Some(place) = self.movie.place(track_id, k)? else {
+            return Ok(None);
+        };
+        if !is_within(place, self.len) {
+            return Err(Error::EndOfData);
+        }
+        Ok(Some(place))
+    }
+
+    /// Sample `k` of the track with this id, its bytes read into the buffer, over what it held; samples are numbered
+    /// from 1. The buffer grows where it has no room for the sample, and holds any bytes where there is none. The answer
+    /// is where the sample lies, and when it is decoded and shown, in ticks of the track's timescale.
+    ///
+    /// Refused as [`crate::Mp4Reader::read_sample`], with the same errors, all of which but `OutOfMemory` are found
+    /// before a byte of the sample is read. `Io` where the source refuses to read it. A refused call leaves the movie as
+    /// it is.
+    pub fn read_sample_into(
+        &mut self,
+        track_id: u32,
+        k: u32,
+        buffer: &mut Vec<u8>,
+    ) -> std::result::Result<Option<SamplePlace>, FileError>
+        ensures place { IfOk result (λ p. placed_in self.old.len self.old.movie.tracks track_id k
+            ≡ Ok (option_map place_of p)) }
+        ensures answer { IfSome (S.contents self.old.source) (λ bytes. AnswersRead (S.can_refuse self.old.source)
+            (λ p. option_map (sample_there buffer.new.items) p) result
+            (sample_in bytes self.old.movie.tracks track_id k)) }
+        ensures movie { self.new.movie ≡ self.old.movie }
+        ensures contents { S.contents self.new.source ≡ S.contents self.old.source }
+        ensures can_refuse { S.can_refuse self.new.source ≡ S.can_refuse self.old.source }
+    {
+        let Some(place) = self.place_of_sample(track_id, k)? else {
+            return Ok(None);
+        };
+        read_into(&mut self.source, place.offset, place.size as usize, buffer)?;
+        Ok(Some(place))
+    }
+
+    /// Sample `k` of the track with this id, with its bytes, which alone are read; samples are numbered from 1. Times are
+    /// in ticks of the track's timescale.
+    ///
+    /// Refused as [`Mp4File::read_sample_into`].
+    pub fn read_sample(
+        &mut self,
+        track_id: u32,
+        k: u32,
+    ) -> std::result::Result<Option<Mp4Sample>, FileError>
+        ensures answer { IfSome (S.contents self.old.source) (λ bytes. AnswersRead (S.can_refuse self.old.source)
+            (λ s. option_map timed_sample s) result (sample_in bytes self.old.movie.tracks track_id k)) }
+        ensures movie { self.new.movie ≡ self.old.movie }
+        ensures contents { S.contents self.new.source ≡ S.contents self.old.source }
+        ensures can_refuse { S.can_refuse self.new.source ≡ S.can_refuse self.old.source }
+    {
+        let mut bytes = Vec::new(self.movie.moofs.allocator());
+        let Some(place) = self.read_sample_into(track_id, k, &mut bytes)? else {
+            return Ok(None);
+        };
+        Ok(Some(Mp4Sample {
+            start_time: place.start_time,
+            duration: place.duration,
+            rendering_offset: place.rendering_offset,
+            is_sync: place.is_sync,
+            bytes: Bytes::from_vec(bytes)?,
+        }))
+    }
+}

@@ -1,0 +1,238 @@
+//! Movies that were opened, whatever their bytes are read from.
+
+ghost use Rattle.std.specs.Prelude.{◌≡◌, ◌<◌, ◌↔◌, length, Some, option_copied, option_map, IfOk, IfSome, IsTrue};
+ghost use Rattle.mp4_codec.specs.Cause.{Gives, Answers};
+ghost use Rattle.mp4_codec.specs.Cursor.{here};
+ghost use Rattle.mp4_boxes.specs.declared.moov.MoovBox.{MoovBox};
+ghost use Rattle.mp4_lookup.specs.Time.{time_of};
+ghost use Rattle.mp4_samples.specs.Places.{place_of};
+ghost use Rattle.mp4_source.specs.Answers.{AnswersRead, IsLength};
+ghost use Rattle.mp4_media.specs.FileBoxes.{opened_movie};
+ghost use Rattle.mp4_media.specs.MovieTracks.{AreTracks, HaveFirstSamples};
+ghost use Rattle.mp4_media.specs.Reading.{ilst_of_movie, located_in, needed_track, sample_count_in};
+ghost use Rattle.mp4_media.specs.Walk.{opened_at, opened_from};
+
+use crate::opening::{Found, find_boxes};
+use crate::tracks::tracks_of;
+use mp4_boxes::{MoovBox, required_two};
+use mp4_codec::{Error, FourCC, Items, Result};
+use mp4_frag::EmsgBox;
+use mp4_leaf::FtypBox;
+use mp4_lookup::{Mp4Track, time_of};
+use mp4_meta::{IlstBox, MetaBox};
+use mp4_moof::MoofBox;
+use mp4_samples::SamplePlace;
+use mp4_source::{ByteSource, FileError, SourceCursor};
+use std::alloc::Global;
+use std::collections::HashMap;
+
+/// Milliseconds in a second.
+const MILLISECONDS: u32 = 1000;
+
+/// A movie that was opened: its boxes and its tracks.
+///
+/// The accessors follow the public fields as they stand; [`Movie::size`] and the tracks are those of the opening.
+#[derive(Debug)]
+pub struct Movie {
+    /// The last ftyp of the file.
+    pub ftyp: FtypBox,
+    /// The last moov of the file.
+    pub moov: MoovBox,
+    /// All moofs of the file, in file order.
+    pub moofs: Items<MoofBox>,
+    /// All emsgs of the file, in file order.
+    pub emsgs: Items<EmsgBox>,
+    moof_places: Items<u64>,
+    size: u64,
+    tracks: HashMap<u32, Mp4Track>,
+}
+
+/// Taken apart here, and not at each end of each function that owns a movie. So a field of a movie can be looked at,
+/// copied or replaced, but not moved out of it.
+impl Drop for Movie {
+    fn drop(self) {
+        let Movie {
+            ftyp,
+            moov,
+            moofs,
+            emsgs,
+            moof_places,
+            size: _,
+            tracks,
+        } = self;
+        drop(ftyp);
+        drop(moov);
+        drop(moofs);
+        drop(emsgs);
+        drop(moof_places);
+        drop(tracks);
+    }
+}
+
+/// Opens a file of `size` bytes of which this was found. It is a call of its own, so that its variables don't lie on
+/// the stack below those of the search for boxes: together they pass a processor's first cache.
+#[inline(never)]
+#[tactic(auto, unfolding(mp4_boxes::specs::Needed::two_needed))]
+fn open_found(alloc: Global, found: Found, size: u64) -> Result<Movie>
+    requires first_samples { IfSome found.moov (λ m. HaveFirstSamples m.traks) }
+    requires places { length found.moof_places ≡ length found.moofs }
+    ensures answer { Answers opened_movie result (opened_from found size) }
+    ensures tracks { IfOk result (λ m. AreTracks m.moov m.moofs m.moof_places m.tracks) }
+{
+    let Found {
+        ftyp,
+        moov,
+        moofs,
+        moof_places,
+        emsgs,
+    } = found;
+    let (ftyp, moov) = match required_two(ftyp, moov) {
+        Ok(both) => both,
+        Err(error) => {
+            drop(moofs);
+            drop(moof_places);
+            drop(emsgs);
+            return Err(error);
+        }
+    };
+    let mut opened = Movie {
+        ftyp,
+        moov,
+        moofs,
+        emsgs,
+        moof_places,
+        size,
+        tracks: HashMap::new(alloc),
+    };
+    opened.tracks = tracks_of(
+        alloc,
+        &opened.moov,
+        opened.moofs.as_slice(),
+        opened.moof_places.as_slice(),
+    )?;
+    Ok(opened)
+}
+
+/// Opens the file of `size` bytes from the cursor on: the answer is that of the walk over its boxes, and then of the ids
+/// of its tracks.
+pub(crate) fn open_source<S: ByteSource + Drop>(
+    alloc: Global,
+    reader: &mut SourceCursor<S>,
+    size: u64,
+) -> std::result::Result<Movie, FileError>
+    requires len { IsLength (S.contents reader.old.source) reader.old.len }
+    ensures answer { IfSome (S.contents reader.old.source) (λ bytes. AnswersRead (S.can_refuse reader.old.source)
+        opened_movie result (opened_at size (here bytes reader.old.position))) }
+    ensures tracks { IfOk result (λ m. AreTracks m.moov m.moofs m.moof_places m.tracks) }
+    ensures contents { S.contents reader.new.source ≡ S.contents reader.old.source }
+    ensures can_refuse { S.can_refuse reader.new.source ≡ S.can_refuse reader.old.source }
+    ensures same_len { reader.new.len ≡ reader.old.len }
+{
+    let start = reader.position();
+    let found = find_boxes(alloc, reader, size)?;
+    let movie = open_found(alloc, found, reader.position() - start)?;
+    Ok(movie)
+}
+
+impl Movie {
+    /// The bytes of the file from the place where it was opened to the end of its last box, or to a box
+    /// whose end is open.
+    pub fn size(&self) -> u64
+        ensures { result ≡ self.now.size }
+    {
+        self.size
+    }
+
+    /// The specification that the file follows first of all.
+    pub fn major_brand(&self) -> &FourCC
+        ensures { result.now ≡ self.now.ftyp.major_brand }
+    {
+        &self.ftyp.major_brand
+    }
+
+    /// The version of the major brand.
+    pub fn minor_version(&self) -> u32
+        ensures { result ≡ self.now.ftyp.minor_version }
+    {
+        self.ftyp.minor_version
+    }
+
+    /// All specifications that the file follows.
+    pub fn compatible_brands(&self) -> &[FourCC]
+        ensures { result.now ≡ self.now.ftyp.compatible_brands }
+    {
+        self.ftyp.compatible_brands.as_slice()
+    }
+
+    /// The movie's duration in whole milliseconds, rounded down: that of its header (ISO/IEC 14496-12, 8.2.2).
+    ///
+    /// `ZeroTimescale` where the movie's timescale is 0, then `TooLarge(Value)` past 64 bits.
+    pub fn duration(&self) -> Result<u64>
+        ensures { Gives (λ ms. ms) result (time_of 1000 self.now.moov.mvhd.duration self.now.moov.mvhd.timescale) }
+    {
+        time_of(
+            MILLISECONDS,
+            self.moov.mvhd.duration,
+            self.moov.mvhd.timescale,
+        )
+    }
+
+    /// Ticks in a second, of the movie's durations.
+    pub fn timescale(&self) -> u32
+        ensures { result ≡ self.now.moov.mvhd.timescale }
+    {
+        self.moov.mvhd.timescale
+    }
+
+    /// Whether the file has fragments (ISO/IEC 14496-12, 8.8.4).
+    pub fn is_fragmented(&self) -> bool
+        ensures { IsTrue result ↔ (0 < length self.now.moofs) }
+    {
+        !self.moofs.is_empty()
+    }
+
+    /// The items of the movie's metadata: those of its user data (ISO/IEC 14496-12, 8.10.1 and 8.11.1), where their
+    /// handler is `mdir`.
+    pub fn metadata(&self) -> Option<&IlstBox>
+        ensures { option_copied result ≡ ilst_of_movie self.now.moov }
+    {
+        match &self.moov.udta.as_ref()?.meta.as_ref()? {
+            MetaBox::Mdir { ilst } => ilst.as_ref(),
+            MetaBox::Unknown { .. } => None,
+        }
+    }
+
+    /// The tracks of the movie by their ids, as they were opened: of equal ids the last. Their samples are numbered
+    /// from 1.
+    pub fn tracks(&self) -> &HashMap<u32, Mp4Track>
+        ensures { result.now ≡ self.now.tracks }
+    {
+        &self.tracks
+    }
+
+    /// The track with this id; `TrakNotFound` where there is none.
+    pub(crate) fn track(&self, track_id: u32) -> Result<&Mp4Track>
+        ensures { Gives (λ t. t.now) result (needed_track self.now.tracks track_id) }
+    {
+        self.tracks
+            .get(&track_id)
+            .ok_or(Error::TrakNotFound(track_id))
+    }
+
+    /// Where sample `k` of the track with this id lies; `TrakNotFound` where there is no such track.
+    #[tactic(auto, unfolding(crate::specs::Reading::located_in))]
+    pub(crate) fn place(&self, track_id: u32, k: u32) -> Result<Option<SamplePlace>>
+        ensures { Gives (λ p. option_map place_of p) result (located_in self.now.tracks track_id k) }
+    {
+        self.track(track_id)?.locate_by_guess(k)
+    }
+
+    /// How many samples the track with this id has, as [`Mp4Track::sample_count`] answers; `TrakNotFound` where there
+    /// is no such track.
+    #[tactic(auto, unfolding(crate::specs::Reading::sample_count_in))]
+    pub fn sample_count(&self, track_id: u32) -> Result<u32>
+        ensures { Gives (λ n. n) result (sample_count_in self.now.tracks track_id) }
+    {
+        self.track(track_id)?.sample_count()
+    }
+}

@@ -1,0 +1,146 @@
+//! Boxes of a source, read where they lie.
+
+ghost use Rattle.std.specs.Prelude.{◌≡◌, ◌+◌, ◌≤◌, ◌⊎◌, List, ℕ, Ok, Some, length, IfOk, IfErr, IfSome, OnOk};
+ghost use Rattle.std.specs.Prelude.{IsTrue, ◌↔◌};
+ghost use Rattle.mp4_codec.specs.BoxType.{IsNamed};
+ghost use Rattle.mp4_codec.specs.Boxes.{box_at};
+ghost use Rattle.mp4_codec.specs.Cause.{Gives};
+ghost use Rattle.mp4_codec.specs.Cursor.{here, header_at, take_at};
+ghost use Rattle.mp4_source.specs.Answers.{AnswersRead, IsIo, IsLength, IsSomeValue};
+ghost use Rattle.mp4_source.specs.Source.{OnIo};
+
+use crate::error::SourceError;
+use crate::file_error::FileError;
+use crate::source::ByteSource;
+use mp4_codec::{BoxHeader, ByteCursor, Error, HEADER_SIZE, ReadBox};
+use std::alloc::Global;
+
+/// The most bytes of a header.
+const MOST_HEADER: u64 = 16;
+
+/// A source, how many bytes it has, and a position in it, which counts bytes from 0 and may lie behind them. What is
+/// read is borrowed from the source, or read into `room`.
+#[derive(Drop)]
+pub struct SourceCursor<S> {
+    source: S,
+    len: u64,
+    position: u64,
+    room: Vec<u8>,
+}
+
+/// The header with which bytes begin, and its length.
+fn header_of(bytes: &[u8]) -> mp4_codec::Result<(BoxHeader, u64)>
+    ensures value { Gives (λ x. (x.0, here bytes.now x.1)) result (header_at (here bytes.now 0)) }
+    ensures moved { IfOk result (λ x. 8 ≤ x.1) }
+    ensures upto { IfOk result (λ x. x.1 ≤ length bytes.now) }
+    ensures named { IfOk result (λ x. IsNamed x.0.name) }
+    ensures size { IfOk result (λ x. (x.0.size ≡ 0) ⊎ (8 ≤ x.0.size)) }
+{
+    let mut cursor = ByteCursor::new(bytes);
+    let header = BoxHeader::read(&mut cursor)?;
+    Ok((header, cursor.position()))
+}
+
+impl<S: ByteSource + Drop> SourceCursor<S> {
+    /// A cursor at this position of a source, which is asked how many bytes it has.
+    pub fn new(alloc: Global, source: S, position: u64) -> Result<Self, FileError>
+        ensures source { IfOk result (λ c. (S.contents c.source ≡ S.contents source) × (S.can_refuse c.source ≡ S.can_refuse source)) }
+        ensures position { IfOk result (λ c. c.position ≡ position) }
+        ensures len { IfOk result (λ c. IsLength (S.contents source) c.len) }
+        ensures refused { IfErr result (λ e. IsTrue (S.can_refuse source)) }
+        ensures io { IfErr result IsIo }
+    {
+        let mut source = source;
+        let len = source.len()?;
+        Ok(SourceCursor {
+            source,
+            len,
+            position,
+            room: Vec::new(alloc),
+        })
+    }
+
+    /// The source, and how many bytes it has.
+    pub fn into_parts(self) -> (S, u64)
+        ensures { result ≡ (self.source, self.len) }
+    {
+        let SourceCursor {
+            source,
+            len,
+            position: _,
+            room,
+        } = self;
+        drop(room);
+        (source, len)
+    }
+
+    /// Where the cursor stands.
+    pub fn position(&self) -> u64
+        ensures { result ≡ self.now.position }
+    {
+        self.position
+    }
+
+    /// Moves the cursor to any position, also behind the bytes.
+    pub fn set_position(&mut self, position: u64)
+        ensures { self.new ≡ record self.old { position = position } }
+    {
+        self.position = position;
+    }
+
+    /// Whether n bytes follow the position.
+    fn has(&self, n: u64) -> bool
+        ensures { IsTrue result ↔ (self.now.position + n ≤ self.now.len) }
+    {
+        self.position <= self.len && n <= self.len - self.position
+    }
+
+    /// The header at the cursor, which then stands behind it, as [`BoxHeader::read`] answers of these bytes.
+    ///
+    /// `Io` where the source refuses to read it. A refusal leaves the cursor where it was.
+    pub fn read_header(&mut self) -> Result<BoxHeader, FileError>
+        requires len { IsLength (S.contents self.old.source) self.old.len }
+        ensures answer { IfSome (S.contents self.old.source) (λ bytes. AnswersRead (S.can_refuse self.old.source)
+            (λ h. (h, here bytes self.new.position)) result (header_at (here bytes self.old.position))) }
+        ensures moved { OnOk result (self.old.position + 8 ≤ self.new.position) }
+        ensures named { IfOk result (λ h. IsNamed h.name) }
+        ensures size { IfOk result (λ h. (h.size ≡ 0) ⊎ (8 ≤ h.size)) }
+        ensures contents { S.contents self.new.source ≡ S.contents self.old.source }
+        ensures can_refuse { S.can_refuse self.new.source ≡ S.can_refuse self.old.source }
+        ensures same_len { self.new.len ≡ self.old.len }
+    {
+        if !self.has(HEADER_SIZE) {
+            return Err(FileError::from(Error::EndOfData));
+        }
+        let n = (self.len - self.position).min(MOST_HEADER);
+        let part = self.source.part(self.position, n as usize, &mut self.room)?;
+        let (header, length) = header_of(part)?;
+        self.position += length;
+        Ok(header)
+    }
+
+    /// The box of this size whose payload stands at the cursor, which then stands behind it, as [`ReadBox::read_box`]
+    /// answers of these bytes. Where they pass the end it is `EndOfData`, before memory is requested for them.
+    ///
+    /// `Io` where the source refuses to read them. A refusal leaves the cursor where it was.
+    pub fn read_box<B: ReadBox>(&mut self, alloc: Global, size: u64) -> Result<B, FileError>
+        requires len { IsLength (S.contents self.old.source) self.old.len }
+        requires size { 8 ≤ size }
+        ensures answer { IfSome (S.contents self.old.source) (λ bytes. AnswersRead (S.can_refuse self.old.source)
+            (λ x. (x, here bytes self.new.position)) result (box_at B.value size (here bytes self.old.position))) }
+        ensures value { IfOk result (IsSomeValue B.value) }
+        ensures onward { OnOk result (self.old.position ≤ self.new.position) }
+        ensures contents { S.contents self.new.source ≡ S.contents self.old.source }
+        ensures can_refuse { S.can_refuse self.new.source ≡ S.can_refuse self.old.source }
+        ensures same_len { self.new.len ≡ self.old.len }
+    {
+        let n = size - HEADER_SIZE;
+        if !self.has(n) {
+            return Err(FileError::from(Error::EndOfData));
+        }
+        let payload = self.source.part(self.position, n as usize, &mut self.room)?;
+        let value = B::read_payload(alloc, payload)?;
+        self.position += n;
+        Ok(value)
+    }
+}

@@ -1,0 +1,27 @@
+//! A caller that any source serves.
+
+ghost use Rattle.std.specs.Prelude.{◌≡◌, ◌+◌, ◌≤◌, length, slice_index, IfOk, IfErr, IfSome, IsTrue};
+ghost use Rattle.mp4_source.specs.Source.{OnIo};
+
+use mp4_source::{ByteSource, SourceError};
+
+/// The bytes at two places. The first is copied before the second is asked for, since each is borrowed.
+pub fn two_bytes<S: ByteSource>(
+    source: &mut S,
+    first: u64,
+    second: u64,
+    room: &mut Vec<u8>,
+) -> Result<(u8, u8), SourceError>
+    ensures first { IfOk result (λ r. IfSome (S.contents source.old) (λ xs. slice_index xs first ≡ r.0)) }
+    ensures second { IfOk result (λ r. IfSome (S.contents source.old) (λ xs. slice_index xs second ≡ r.1)) }
+    ensures io { IfErr result (λ e. OnIo e (IfSome (S.contents source.old) (λ xs.
+        first + 1 ≤ length xs → second + 1 ≤ length xs → IsTrue (S.can_refuse source.old)))) }
+    ensures contents { S.contents source.new ≡ S.contents source.old }
+    ensures can_refuse { S.can_refuse source.new ≡ S.can_refuse source.old }
+{
+    let part = source.part(first, 1, room)?;
+    let one = part[0];
+    let part = source.part(second, 1, room)?;
+    let two = part[0];
+    Ok((one, two))
+}

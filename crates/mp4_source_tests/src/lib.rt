@@ -1,0 +1,17 @@
+//! What the contracts of `mp4_source` don't say: how often a source is asked, files that give less than is asked or
+//! change their length, and that each call succeeds with ample memory. And a caller that any source serves.
+#![tactic(auto)]
+
+#[cfg(test)]
+mod asserts;
+pub mod caller;
+#[cfg(test)]
+mod files;
+#[cfg(test)]
+mod refused_memory;
+#[cfg(test)]
+mod slices;
+#[cfg(test)]
+mod sources;
+#[cfg(test)]
+mod windows;

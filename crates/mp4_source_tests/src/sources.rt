@@ -1,0 +1,179 @@
+//! Sources and files of the tests.
+
+ghost use Rattle.std.specs.Prelude.{◌≡◌, Some};
+
+use mp4_source::{ByteSource, SourceError};
+use std::alloc::{AllocError, Global};
+use std::io;
+use std::io::{ErrorKind, Read, Seek, SeekFrom};
+
+/// So many bytes, of which those near each other differ.
+pub fn many_bytes(alloc: Global, n: usize) -> Result<Vec<u8>, AllocError> {
+    let mut bytes = Vec::with_capacity(alloc, n)?;
+    for index in 0..n {
+        bytes.push((index % 251) as u8)?;
+    }
+    Ok(bytes)
+}
+
+/// Numbers that look random, the same in each run.
+#[derive(Clone, Copy)]
+pub struct Numbers {
+    state: u64,
+}
+
+impl Numbers {
+    pub fn new() -> Self {
+        Numbers { state: 1 }
+    }
+
+    /// A number up to `most`.
+    pub fn up_to(&mut self, most: u64) -> u64 {
+        self.state = self
+            .state
+            .wrapping_mul(6364136223846793005)
+            .wrapping_add(1442695040888963407);
+        (self.state >> 33) % most.max(1)
+    }
+}
+
+/// Bytes in memory. They refuse one call: that of this number, counted from 1.
+#[derive(Drop)]
+pub struct Refusing<'a> {
+    pub bytes: &'a [u8],
+    pub refused: u64,
+    pub calls: u64,
+    /// The last place that was asked for, behind the bytes of a call.
+    pub furthest: u64,
+}
+
+impl<'a> Refusing<'a> {
+    pub fn new(bytes: &'a [u8], refused: u64) -> Self {
+        Refusing {
+            bytes,
+            refused,
+            calls: 0,
+            furthest: 0,
+        }
+    }
+}
+
+impl ByteSource for Refusing<'_> {
+    ghost contents = { λ s. Some s.bytes.now };
+
+    fn len(&mut self) -> io::Result<u64> {
+        self.calls = self.calls.saturating_add(1);
+        if self.calls == self.refused {
+            return Err(io::Error::from(ErrorKind::PermissionDenied));
+        }
+        Ok(self.bytes.len() as u64)
+    }
+
+    fn read_exact_at(&mut self, place: u64, buf: &mut [u8]) -> io::Result<()> {
+        let end = place.saturating_add(buf.len() as u64);
+        self.furthest = self.furthest.max(end);
+        self.calls = self.calls.saturating_add(1);
+        if self.calls == self.refused {
+            return Err(io::Error::from(ErrorKind::PermissionDenied));
+        }
+        let mut all: &[u8] = self.bytes;
+        all.read_exact_at(place, buf)
+    }
+}
+
+/// Bytes that read and seek as a file does, and count these calls.
+#[derive(Drop)]
+pub struct Disk<'a> {
+    pub bytes: &'a [u8],
+    /// How many of the bytes there are.
+    pub len: usize,
+    /// How many there are once the length was asked for.
+    pub later_len: usize,
+    /// How many bytes a read gives at most.
+    pub most: usize,
+    pub position: u64,
+    pub reads: u64,
+    pub seeks: u64,
+}
+
+impl<'a> Disk<'a> {
+    /// All bytes, any number of them in a read.
+    pub fn new(bytes: &'a [u8]) -> Self {
+        Disk {
+            bytes,
+            len: bytes.len(),
+            later_len: bytes.len(),
+            most: usize::MAX,
+            position: 0,
+            reads: 0,
+            seeks: 0,
+        }
+    }
+}
+
+/// The bytes from a place up to another, or up to their end.
+fn between(bytes: &[u8], start: u64, end: usize) -> &[u8] {
+    let end = end.min(bytes.len());
+    let start = start.min(end as u64) as usize;
+    &bytes[start..end]
+}
+
+impl Read for Disk<'_> {
+    fn read(&mut self, buf: &mut [u8]) -> io::Result<usize> {
+        self.reads = self.reads.saturating_add(1);
+        let mut rest: &[u8] = between(self.bytes, self.position, self.len);
+        let most = self.most.min(buf.len());
+        let n = rest.read(&mut buf[..most])?;
+        self.position = self.position.saturating_add(n as u64);
+        Ok(n)
+    }
+}
+
+impl Seek for Disk<'_> {
+    fn seek(&mut self, to: SeekFrom) -> io::Result<u64> {
+        self.seeks = self.seeks.saturating_add(1);
+        match to {
+            SeekFrom::Start(place) => self.position = place,
+            SeekFrom::End(_) => {
+                self.position = self.len as u64;
+                self.len = self.later_len;
+            }
+            SeekFrom::Current(_) => return Err(io::Error::from(ErrorKind::Unsupported)),
+        }
+        Ok(self.position)
+    }
+}
+
+/// The kind of the error, if it is one of reading.
+pub fn kind_of<T: Drop>(answer: Result<T, SourceError>) -> Option<ErrorKind> {
+    match answer {
+        Err(SourceError::Io(e)) => Some(e.kind()),
+        _ => None,
+    }
+}
+
+/// Whether a source answers for this part as bytes in memory do, by `part` and by `read_exact_at`.
+pub fn agrees<S: ByteSource>(
+    source: &mut S,
+    bytes: &[u8],
+    place: u64,
+    n: usize,
+    room: &mut Vec<u8>,
+) -> Result<bool, SourceError> {
+    let mut all: &[u8] = bytes;
+    let alloc = *room.allocator();
+    let mut none = Vec::new(alloc);
+    let mut copy = Vec::with_capacity(alloc, n.min(1000))?;
+    copy.resize(n, 0)?;
+    match all.part(place, n, &mut none) {
+        Ok(wanted) => {
+            let is_part = source.part(place, n, room)? == wanted;
+            source.read_exact_at(place, copy.as_mut_slice())?;
+            Ok(is_part && copy.as_slice() == wanted)
+        }
+        Err(_) => {
+            let is_past = source.read_exact_at(place, copy.as_mut_slice()).is_err();
+            Ok(is_past && kind_of(source.part(place, n, room)) == Some(ErrorKind::UnexpectedEof))
+        }
+    }
+}
