@@ -1,5 +1,6 @@
 //! What a file answers of the samples of its tracks.
 
+use crate::sought::{SoughtFile, is_read_alike};
 use crate::tracks::shown;
 use mp4_media::{
     Comparisons, Error, Mp4Reader, Mp4Sample, Result, SamplePlace, SampleRef, read_mp4,
@@ -12,6 +13,8 @@ use std::fmt::Write;
 pub struct OpenedFile<'a> {
     pub bytes: &'a [u8],
     pub movie: Mp4Reader<'a>,
+    /// The same file, read as one on a disk is.
+    pub sought: SoughtFile<'a>,
 }
 
 /// Writes bytes: a text where all are letters or digits, else two digits for each.
@@ -142,6 +145,9 @@ fn write_sample(
     }
     if !is_copied(&file.movie.read_sample(id, k), &read) {
         text.push_str(", copied as another")?;
+    }
+    if !is_read_alike(&file.sought.read_sample(id, k), &read) {
+        text.push_str(", sought as another")?;
     }
     Ok(())
 }
