@@ -3,17 +3,19 @@
 
 mod copy;
 mod count;
+mod large_file;
 mod round_trip;
 mod seek;
 mod subtitles;
 
 use crate::copy::copy_track;
 use crate::count::sample_counts;
+use crate::large_file::read_sync_sample;
 use crate::round_trip::{movie_calls, movie_config, write_and_open};
 use crate::seek::sync_sample_at_or_before;
 use crate::subtitles::subtitles;
 use anyhow::Result;
-use mp4_media::Mp4Reader;
+use mp4_media::{Mp4File, Mp4Reader, SeekSource};
 use std::alloc::Global;
 use std::fs;
 
@@ -31,11 +33,25 @@ fn show(rt: &HostRuntime, alloc: Global, movie: &Mp4Reader) -> Result<()> {
     Ok(())
 }
 
+/// Prints what is read of a sample of a movie that is on the disk.
+fn show_file(rt: &HostRuntime, alloc: Global, movie: &[u8]) -> Result<()> {
+    fs::write(rt, "movie.mp4", movie)?;
+    let source = SeekSource::new(fs::open(rt, "movie.mp4")?);
+    let mut file = Mp4File::open(alloc, source, 0, movie.len() as u64)?;
+    let mut buffer = Vec::new(alloc);
+    if let Some(start) = read_sync_sample(&mut file, 1, 1500, &mut buffer)? {
+        println!(rt; "the sample at {start} has {} bytes", buffer.len())?;
+    }
+    Ok(())
+}
+
 fn main(rt: HostRuntime) -> Result<()> {
     let mut buffer = Vec::new(rt.alloc());
     let config = movie_config(rt.alloc())?;
     let calls = movie_calls(rt.alloc())?;
     let written = write_and_open(rt.alloc(), &config, &calls, &mut buffer)?;
     println!(rt; "{} calls were answered", written.replies.len())?;
-    show(&rt, rt.alloc(), &written.movie)
+    show(&rt, rt.alloc(), &written.movie)?;
+    drop(written);
+    show_file(&rt, rt.alloc(), buffer.as_slice())
 }
