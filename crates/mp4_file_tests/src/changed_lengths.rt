@@ -1,0 +1,105 @@
+//! Files whose length changes after they were opened.
+
+use crate::answers::{has_same_boxes, is_read, kind_of, reads_track};
+use crate::asserts::{check, same};
+use crate::movies::{SECOND_CHUNK, fragmented_file, movie_file, with_number};
+use crate::sources::Disk;
+use mp4_codec::Error;
+use mp4_media::{FileError, Mp4File, Mp4Sample, SeekSource, read_mp4};
+use std::alloc::Global;
+use std::io::ErrorKind;
+
+/// How often a disk of so many of these bytes is called by the opening.
+fn opening_calls(alloc: Global, bytes: &[u8], len: usize) -> Result<u64, FileError> {
+    let mut disk = Disk::new(bytes);
+    disk.len = len;
+    let mut source = SeekSource::new(disk);
+    let file = Mp4File::open(alloc, &mut source, 0, len as u64)?;
+    drop(file);
+    Ok(source.into_inner().calls)
+}
+
+/// The file of so many of these bytes, which has another length after the opening.
+fn changing<'a>(
+    alloc: Global,
+    bytes: &'a [u8],
+    len: usize,
+    later_len: usize,
+) -> Result<Mp4File<SeekSource<Disk<'a>>>, FileError> {
+    let mut disk = Disk::new(bytes);
+    disk.len = len;
+    disk.later_len = later_len;
+    disk.changes_after = opening_calls(alloc, bytes, len)?;
+    Mp4File::open(alloc, SeekSource::new(disk), 0, len as u64)
+}
+
+/// Whether a file that grows has the samples that it had.
+fn grows(alloc: Global) -> Result<bool, FileError> {
+    let mut bytes = fragmented_file(alloc)?;
+    let len = bytes.len();
+    bytes.extend_from_slice(b"\0\0\0\x10freemore more")?;
+    let before = bytes.as_slice().get(..len).unwrap_or(&[]);
+    let reader = read_mp4(alloc, before)?;
+    let mut file = changing(alloc, bytes.as_slice(), len, bytes.len())?;
+    let mut buffer = Vec::with_capacity(alloc, 100)?;
+    Ok(
+        reads_track(&mut file, &reader, 1, &mut buffer)
+            && has_same_boxes(&file, &reader)
+            && file.source_len() == len as u64,
+    )
+}
+
+#[test]
+fn a_file_that_grows_keeps_its_samples(rt: HostRuntime) {
+    check(&rt, "grows", grows(rt.alloc()));
+}
+
+/// Whether an answer is a sample of these bytes.
+fn has_bytes(answer: &Result<Option<Mp4Sample>, FileError>, bytes: &[u8]) -> bool {
+    matches!(answer, Ok(Some(sample)) if sample.bytes.as_slice() == bytes)
+}
+
+/// The movie, whose third sample is in a box behind it, and the length of the movie alone.
+fn with_last_sample_behind(alloc: Global) -> Result<(Vec<u8>, usize), FileError> {
+    let movie = movie_file(alloc)?;
+    let place = u32::try_from(movie.len().saturating_add(8)).unwrap_or(u32::MAX);
+    let mut bytes = with_number(alloc, movie.as_slice(), b"stco", SECOND_CHUNK, place)?;
+    bytes.extend_from_slice(b"\0\0\0\x0amdatgh")?;
+    Ok((bytes, movie.len()))
+}
+
+/// Whether a sample behind the end that a file had is refused, though the file has grown by it, and is read where the
+/// file is opened again.
+fn is_behind_the_end(alloc: Global) -> Result<bool, FileError> {
+    let (bytes, len) = with_last_sample_behind(alloc)?;
+    let mut file = changing(alloc, bytes.as_slice(), len, bytes.len())?;
+    let is_refused = is_read(&file.read_sample(1, 3), &Err(Error::EndOfData));
+    drop(file);
+    let mut file = changing(alloc, bytes.as_slice(), bytes.len(), bytes.len())?;
+    Ok(is_refused && has_bytes(&file.read_sample(1, 3), b"gh"))
+}
+
+#[test]
+fn a_sample_that_a_file_grows_by_is_end_of_data(rt: HostRuntime) {
+    check(&rt, "behind the end", is_behind_the_end(rt.alloc()));
+}
+
+/// The kinds of error of samples of a file that shrinks to 52 bytes, in the middle of the second, and whether the first
+/// is read before and after.
+fn kinds_of_a_shrunken_file(alloc: Global) -> Result<([Option<ErrorKind>; 3], bool), FileError> {
+    let bytes = fragmented_file(alloc)?;
+    let mut file = changing(alloc, bytes.as_slice(), bytes.len(), 52)?;
+    let before = has_bytes(&file.read_sample(1, 1), b"abc");
+    let second = kind_of(&file.read_sample(1, 2));
+    let third = kind_of(&file.read_sample(1, 3));
+    let last = kind_of(&file.read_sample(1, 7));
+    let after = has_bytes(&file.read_sample(1, 1), b"abc");
+    Ok(([second, third, last], before && after))
+}
+
+#[test]
+fn a_sample_that_is_gone_is_an_error_of_reading(rt: HostRuntime) {
+    let end = Some(ErrorKind::UnexpectedEof);
+    let kinds = kinds_of_a_shrunken_file(rt.alloc());
+    same(&rt, kinds, ([end, end, end], true));
+}

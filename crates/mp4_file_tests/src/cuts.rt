@@ -1,0 +1,154 @@
+//! Cut files: a file over a source is refused as its bytes in memory are, or opened as they are.
+
+use crate::answers::has_same_boxes;
+use crate::asserts::same;
+use crate::movies::{fragmented_file, movie_file};
+use mp4_codec::{ByteCursor, Error};
+use mp4_media::{ByteSource, FileError, Mp4File, Mp4Reader, SeekSource};
+use std::alloc::{AllocError, Global};
+use std::io::Cursor;
+
+/// How many openings were compared: those that weren't alike, and those by which a file was opened.
+#[derive(Clone, Copy, Debug, PartialEq, Eq)]
+pub struct Openings {
+    pub differing: u32,
+    pub opened: u32,
+}
+
+/// Whether two errors are equal, and so are their texts.
+fn is_same_error(alloc: Global, one: &FileError, other: &Error) -> Result<bool, AllocError> {
+    let FileError::Mp4(error) = one else {
+        return Ok(false);
+    };
+    let is_same_text = format!(in alloc; "{one}")? == format!(in alloc; "{other}")?;
+    Ok(is_same_text && *error == *other)
+}
+
+/// Whether both were opened alike, or refused alike.
+fn is_same_opening<S: ByteSource>(
+    alloc: Global,
+    file: &Result<Mp4File<S>, FileError>,
+    reader: &Result<Mp4Reader, Error>,
+) -> Result<bool, AllocError> {
+    match (file, reader) {
+        (Ok(file), Ok(reader)) => Ok(has_same_boxes(file, reader)),
+        (Err(one), Err(other)) => is_same_error(alloc, one, other),
+        _ => Ok(false),
+    }
+}
+
+impl Openings {
+    fn none() -> Self {
+        Openings {
+            differing: 0,
+            opened: 0,
+        }
+    }
+
+    /// Opens a file of this size from this place of the bytes on, in memory and by seeking.
+    fn add(&mut self, alloc: Global, bytes: &[u8], start: u64, size: u64) -> Result<(), FileError> {
+        let mut cursor = ByteCursor::new(bytes);
+        cursor.set_position(start);
+        let reader = Mp4Reader::read_header(alloc, cursor, size);
+        let file = Mp4File::open(alloc, SeekSource::new(Cursor::new(bytes)), start, size);
+        if !is_same_opening(alloc, &file, &reader)? {
+            self.differing = self.differing.saturating_add(1);
+        }
+        if file.is_ok() {
+            self.opened = self.opened.saturating_add(1);
+        }
+        Ok(())
+    }
+}
+
+/// The openings of all cuts of these bytes, with their whole size, from a place on.
+fn cuts_of(alloc: Global, bytes: &[u8], start: u64) -> Result<Openings, FileError> {
+    let mut openings = Openings::none();
+    for n in 0..=bytes.len() {
+        let cut = bytes.get(..n).unwrap_or(&[]);
+        openings.add(alloc, cut, start, bytes.len() as u64)?;
+    }
+    Ok(openings)
+}
+
+/// The openings of these bytes with all sizes up to a few past theirs.
+fn sizes_of(alloc: Global, bytes: &[u8]) -> Result<Openings, FileError> {
+    let mut openings = Openings::none();
+    for size in 0..bytes.len().saturating_add(10) {
+        openings.add(alloc, bytes, 0, size as u64)?;
+    }
+    Ok(openings)
+}
+
+/// The openings of these bytes from all places on, up to a few past their end.
+fn starts_of(alloc: Global, bytes: &[u8]) -> Result<Openings, FileError> {
+    let mut openings = Openings::none();
+    for start in 0..bytes.len().saturating_add(10) {
+        openings.add(alloc, bytes, start as u64, bytes.len() as u64)?;
+    }
+    openings.add(alloc, bytes, u64::MAX, u64::MAX)?;
+    openings.add(alloc, bytes, u64::MAX - 8, u64::MAX)?;
+    Ok(openings)
+}
+
+fn cuts_of_a_movie(alloc: Global) -> Result<Openings, FileError> {
+    let bytes = movie_file(alloc)?;
+    cuts_of(alloc, bytes.as_slice(), 0)
+}
+
+fn cuts_of_fragments(alloc: Global) -> Result<Openings, FileError> {
+    let bytes = fragmented_file(alloc)?;
+    cuts_of(alloc, bytes.as_slice(), 0)
+}
+
+/// Those of the fragmented file behind seven bytes of something else.
+fn cuts_behind_a_prefix(alloc: Global) -> Result<Openings, FileError> {
+    let mut bytes = b"ftypmoo".to_vec(alloc)?;
+    bytes.extend_from_slice(fragmented_file(alloc)?.as_slice())?;
+    cuts_of(alloc, bytes.as_slice(), 7)
+}
+
+fn sizes_of_fragments(alloc: Global) -> Result<Openings, FileError> {
+    let bytes = fragmented_file(alloc)?;
+    sizes_of(alloc, bytes.as_slice())
+}
+
+fn starts_of_fragments(alloc: Global) -> Result<Openings, FileError> {
+    let bytes = fragmented_file(alloc)?;
+    starts_of(alloc, bytes.as_slice())
+}
+
+/// None that differs, and so many that are opened.
+fn opened(opened: u32) -> Openings {
+    Openings {
+        differing: 0,
+        opened,
+    }
+}
+
+#[test]
+fn every_cut_of_a_movie_has_its_error(rt: HostRuntime) {
+    same(&rt, cuts_of_a_movie(rt.alloc()), opened(1));
+}
+
+#[test]
+fn every_cut_of_a_fragmented_file_has_its_error(rt: HostRuntime) {
+    same(&rt, cuts_of_fragments(rt.alloc()), opened(3));
+}
+
+#[test]
+fn every_cut_behind_a_prefix_has_its_error(rt: HostRuntime) {
+    same(&rt, cuts_behind_a_prefix(rt.alloc()), opened(3));
+}
+
+#[test]
+fn every_size_of_a_fragmented_file_has_its_answer(rt: HostRuntime) {
+    // Up to 911 the movie's own size is the least; from there on 1 to 7 bytes behind a box are too few, and any number
+    // past the end: 57 sizes end in the movie, 25 in the event message, 145 in the fragment and 3 in the free box.
+    same(&rt, sizes_of_fragments(rt.alloc()), opened(230));
+}
+
+#[test]
+fn every_start_in_a_fragmented_file_has_its_answer(rt: HostRuntime) {
+    same(&rt, starts_of_fragments(rt.alloc()), opened(1));
+}
