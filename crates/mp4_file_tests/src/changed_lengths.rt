@@ -9,15 +9,8 @@ use mp4_media::{FileError, Mp4File, Mp4Sample, SeekSource, read_mp4};
 use std::alloc::Global;
 use std::io::ErrorKind;
 
-/// How often a disk of so many of these bytes is called by the opening.
-fn opening_calls(alloc: Global, bytes: &[u8], len: usize) -> Result<u64, FileError> {
-    let mut disk = Disk::new(bytes);
-    disk.len = len;
-    let mut source = SeekSource::new(disk);
-    let file = Mp4File::open(alloc, &mut source, 0, len as u64)?;
-    drop(file);
-    Ok(source.into_inner().calls)
-}
+/// How often a disk is called by the opening of a small file: it seeks its length, then it seeks and reads once.
+const OPENING_CALLS: u64 = 3;
 
 /// The file of so many of these bytes, which has another length after the opening.
 fn changing<'a>(
@@ -29,7 +22,7 @@ fn changing<'a>(
     let mut disk = Disk::new(bytes);
     disk.len = len;
     disk.later_len = later_len;
-    disk.changes_after = opening_calls(alloc, bytes, len)?;
+    disk.changes_after = OPENING_CALLS;
     Mp4File::open(alloc, SeekSource::new(disk), 0, len as u64)
 }
 

@@ -20,6 +20,4 @@ mod refused_memory;
 #[cfg(test)]
 mod refused_reads;
 #[cfg(test)]
-mod skipped_boxes;
-#[cfg(test)]
 mod sources;

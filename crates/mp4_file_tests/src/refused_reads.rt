@@ -1,7 +1,7 @@
 //! Sources that refuse one call of all those that a file is opened and read by.
 
 use crate::answers::{has_same_boxes, is_read, is_read_into, kind_of};
-use crate::asserts::{check, same};
+use crate::asserts::check;
 use crate::movies::{fragmented_file, padded_file};
 use crate::sources::Disk;
 use mp4_media::{ByteSource, FileError, Mp4File, Mp4Reader, SeekSource, read_mp4};
@@ -138,18 +138,4 @@ fn a_refused_read_leaves_the_movie(rt: HostRuntime) {
     check(&rt, "whole reads", fragments_recover(rt.alloc(), 1));
     check(&rt, "half reads", fragments_recover(rt.alloc(), 2));
     check(&rt, "large movie", large_movie_recovers(rt.alloc()));
-}
-
-/// How often a disk is called by the opening.
-fn opening_calls(alloc: Global) -> Result<u64, FileError> {
-    let bytes = fragmented_file(alloc)?;
-    let mut source = SeekSource::new(Disk::new(bytes.as_slice()));
-    let file = Mp4File::open(alloc, &mut source, 0, bytes.len() as u64)?;
-    drop(file);
-    Ok(source.into_inner().calls)
-}
-
-#[test]
-fn a_small_file_is_opened_by_one_read(rt: HostRuntime) {
-    same(&rt, opening_calls(rt.alloc()), 3);
 }
