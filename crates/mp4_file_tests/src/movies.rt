@@ -83,6 +83,3 @@ pub fn with_number(
 
 /// The place of the second chunk, behind the name of stco.
 pub const SECOND_CHUNK: usize = 16;
-
-/// The size of the third sample, behind the name of stsz.
-pub const THIRD_SIZE: usize = 24;

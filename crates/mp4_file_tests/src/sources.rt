@@ -1,6 +1,5 @@
 //! Sources and files of the tests.
 
-use mp4_source::ByteSource;
 use std::io;
 use std::io::{ErrorKind, Read, Seek, SeekFrom};
 
@@ -77,66 +76,5 @@ impl Seek for Disk<'_> {
             SeekFrom::Current(_) => return Err(io::Error::from(ErrorKind::Unsupported)),
         }
         Ok(self.position)
-    }
-}
-
-/// A large file of zeros, but for the bytes at its start and those from a place on, which are its last. It counts how
-/// often it is asked.
-#[derive(Drop)]
-pub struct Sparse<'a> {
-    pub head: &'a [u8],
-    pub tail: &'a [u8],
-    pub tail_place: u64,
-    pub calls: u64,
-    /// The last place that was asked for, behind the bytes of a call.
-    pub furthest: u64,
-}
-
-impl<'a> Sparse<'a> {
-    pub fn new(head: &'a [u8], tail: &'a [u8], tail_place: u64) -> Self {
-        Sparse {
-            head,
-            tail,
-            tail_place,
-            calls: 0,
-            furthest: 0,
-        }
-    }
-
-    /// How many bytes there are.
-    fn end(&self) -> u64 {
-        self.tail_place.saturating_add(self.tail.len() as u64)
-    }
-
-    /// The byte at a place.
-    fn byte(&self, place: u64) -> u8 {
-        let (part, index) = match place.checked_sub(self.tail_place) {
-            Some(index) => (self.tail, index),
-            None => (self.head, place),
-        };
-        let index = usize::try_from(index).unwrap_or(usize::MAX);
-        part.get(index).copied().unwrap_or(0)
-    }
-}
-
-impl ByteSource for Sparse<'_> {
-    fn len(&mut self) -> io::Result<u64> {
-        self.calls = self.calls.saturating_add(1);
-        Ok(self.end())
-    }
-
-    fn read_exact_at(&mut self, place: u64, buf: &mut [u8]) -> io::Result<()> {
-        self.calls = self.calls.saturating_add(1);
-        let end = place.saturating_add(buf.len() as u64);
-        self.furthest = self.furthest.max(end);
-        if end > self.end() {
-            return Err(io::Error::from(ErrorKind::UnexpectedEof));
-        }
-        let mut at = place;
-        for byte in buf.iter_mut() {
-            *byte = self.byte(at);
-            at = at.saturating_add(1);
-        }
-        Ok(())
     }
 }
