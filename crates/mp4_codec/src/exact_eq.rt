@@ -5,7 +5,7 @@ ghost use Rattle.mp4_codec.specs.ExactTest.{by_law, list, number, option, pair, 
 
 use crate::items::Items;
 use crate::keyed_items::{Key, KeyedItems};
-use crate::shared_items::SharedItems;
+use crate::shared_items::{SharedItem, SharedItems};
 
 /// A type of which `==` compares every part: two values are equal where they are the same in each field.
 pub trait ExactEq: Eq {
@@ -60,7 +60,7 @@ impl<T: ExactEq> ExactEq for Items<T> {
     ghost exact = { (list (by_law T.exact)).exact };
 }
 
-impl<T: ExactEq> ExactEq for SharedItems<T> {
+impl<T: ExactEq + SharedItem> ExactEq for SharedItems<T> {
     ghost exact = { (list (by_law T.exact)).exact };
 }
 

@@ -7,7 +7,7 @@ ghost use Rattle.mp4_codec.specs.Bytes.{IsCode};
 
 use crate::four_cc::FourCC;
 use crate::items::Items;
-use crate::shared_items::SharedItems;
+use crate::shared_items::{SharedItem, SharedItems};
 
 /// A value that knows the ranges of its numbers.
 ///
@@ -114,7 +114,7 @@ impl<T: InRange> InRange for Items<T> {
     }
 }
 
-impl<T: InRange> InRange for SharedItems<T> {
+impl<T: InRange + SharedItem> InRange for SharedItems<T> {
     ghost IsInRange = { AllByRecursion T.IsInRange };
 
     fn in_range(&self) {

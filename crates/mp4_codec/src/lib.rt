@@ -23,6 +23,7 @@ mod keyed_items;
 mod laws;
 mod put;
 mod shared_items;
+mod shared_values;
 mod text;
 mod try_clone;
 
@@ -55,6 +56,6 @@ pub use put::{
     Put, put_bytes, put_four_cc, put_i16, put_i32, put_u8, put_u16, put_u24, put_u32, put_u64,
     put_versioned, put_zeros,
 };
-pub use shared_items::SharedItems;
+pub use shared_items::{SharedItem, SharedItems};
 pub use text::Text;
 pub use try_clone::{TryClone, four_copies};

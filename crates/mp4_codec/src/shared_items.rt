@@ -1,50 +1,84 @@
 //! Lists of values that copies share.
 
-ghost use Rattle.std.specs.Prelude.{◌≡◌, ◌==◌, ◌<◌, ◌^◌, [], ◌∷◌, ◌++◌, length, slice_get, OnOk, OnErr, IfOk, IsOk, List};
+ghost use Rattle.std.specs.Prelude.{◌≡◌, ◌==◌, ◌<◌, ◌^◌, [], ◌∷◌, ◌++◌, List, length, slice_get};
+ghost use Rattle.std.specs.Prelude.{OnOk, OnErr, IfOk, IsOk};
 ghost use Rattle.std.specs.Option.{option_copied};
 ghost use Rattle.std.specs.Slice.Iter.{iter_rest};
 ghost use Rattle.std.specs.Iterator.Adapters.{IterYieldsInOrder};
 ghost use Rattle.std.specs.Cmp.Lexicographic.{pointwise, lists_per, lists_equiv};
 ghost use Rattle.mp4_codec.specs.SharedItems.{values_in};
-ghost use Rattle.std.specs.Arc.{arc_value};
 
 use crate::error::Result;
 use crate::items::{DebugItem, Items};
+use crate::shared_values::SharedValues;
 use crate::try_clone::TryClone;
 use std::alloc::{AllocError, Global};
-use std::fmt;
 use std::fmt::Debug;
 use std::marker::Model;
 use std::slice::Iter;
 use std::sync::Arc;
+use std::{fmt, slice};
 
 /// A list that its copies share: a copy holds the same values and takes no memory for them. Boxes that stand in the
 /// movie and in a track are held once so.
 #[derive(Drop)]
 pub struct SharedItems<T> {
     alloc: Global,
-    /// None where the list is empty, which takes no memory.
-    items: Option<Arc<Items<T>, Global>>,
+    values: SharedValues<T>,
+}
+
+/// What such a list holds.
+pub trait SharedItem: Sized {
+    /// The value as a slice of one, which `std::slice::from_ref` makes of it. A type says it for itself, since its size
+    /// has to be known.
+    fn as_one(&self) -> &[Self]
+        ensures { result.now ≡ self.now ∷ [] };
+}
+
+impl SharedItem for u32 {
+    fn as_one(&self) -> &[u32] {
+        slice::from_ref(self)
+    }
+}
+
+/// The same values once more. Refused only where their owners are too many to count.
+fn another_owner<T>(values: &SharedValues<T>) -> std::result::Result<SharedValues<T>, AllocError>
+    ensures { IfOk result (λ same. values_in same ≡ values_in values.now) }
+{
+    match values {
+        SharedValues::Empty => Ok(SharedValues::Empty),
+        SharedValues::One(value) => {
+            let value = Arc::try_clone(value)?;
+            Ok(SharedValues::One(value))
+        }
+        SharedValues::Many(values) => {
+            let values = Arc::try_clone(values)?;
+            Ok(SharedValues::Many(values))
+        }
+    }
 }
 
 impl<T> Model for SharedItems<T> {
     ghost Value = { List T };
 
-    ghost view = { λ s. values_in arc_value s.items };
+    ghost view = { λ s. values_in s.values };
 }
 
-impl<T: DebugItem> Debug for SharedItems<T> {
+impl<T: DebugItem + SharedItem> Debug for SharedItems<T> {
     fn fmt<W: fmt::Write>(&self, f: &mut fmt::Formatter<W>) -> fmt::Result {
         T::fmt_items(self.as_slice(), f)
     }
 }
 
-impl<T> SharedItems<T> {
+impl<T: SharedItem> SharedItems<T> {
     /// An empty list.
     pub fn new(alloc: Global) -> Self
         ensures { result ≡ [] }
     {
-        SharedItems { alloc, items: None }
+        SharedItems {
+            alloc,
+            values: SharedValues::Empty,
+        }
     }
 
     /// A list of these values. Where there are any it takes memory, of a size that doesn't depend on them.
@@ -55,14 +89,16 @@ impl<T> SharedItems<T> {
         ensures none { items ≡ [] → IsOk result }
     {
         let alloc = items.allocator();
-        if items.is_empty() {
-            return Ok(SharedItems { alloc, items: None });
+        if items.len() > 1 {
+            let values = SharedValues::Many(Arc::new(alloc, items)?);
+            return Ok(SharedItems { alloc, values });
         }
-        let items = Arc::new(alloc, items)?;
-        Ok(SharedItems {
-            alloc,
-            items: Some(items),
-        })
+        let mut items: Vec<T> = items.into();
+        let values = match items.pop() {
+            None => SharedValues::Empty,
+            Some(value) => SharedValues::One(Arc::new(alloc, value)?),
+        };
+        Ok(SharedItems { alloc, values })
     }
 
     /// Where the list takes its memory from.
@@ -75,9 +111,10 @@ impl<T> SharedItems<T> {
         ensures value { result ≡ length self.now }
         ensures small { result < 2 ^ 63 }
     {
-        match &self.items {
-            None => 0,
-            Some(items) => items.len(),
+        match &self.values {
+            SharedValues::Empty => 0,
+            SharedValues::One(_) => 1,
+            SharedValues::Many(values) => values.len(),
         }
     }
 
@@ -92,9 +129,10 @@ impl<T> SharedItems<T> {
     pub fn as_slice(&self) -> &[T]
         ensures { result.now ≡ self.now }
     {
-        match &self.items {
-            None => &[],
-            Some(items) => items.as_slice(),
+        match &self.values {
+            SharedValues::Empty => &[],
+            SharedValues::One(value) => value.as_one(),
+            SharedValues::Many(values) => values.as_slice(),
         }
     }
 
@@ -113,28 +151,28 @@ impl<T> SharedItems<T> {
         self.as_slice().iter()
     }
 
-    /// Adds one at the end of this list alone. Where others share its values, they are copied first.
+    /// Adds one at the end of this list alone. A list of one value, and values that others share, are copied first.
     pub fn push(&mut self, value: T) -> std::result::Result<(), AllocError>
     where
         T: TryClone,
         ensures ok { OnOk result (self.new ≡ self.old ++ value ∷ []) }
         ensures err { OnErr result (self.new ≡ self.old) }
     {
-        if let Some(items) = &mut self.items {
-            if let Some(items) = Arc::get_mut(items) {
-                return items.push(value);
+        if let SharedValues::Many(values) = &mut self.values {
+            if let Some(values) = Arc::get_mut(values) {
+                return values.push(value);
             }
         }
-        let Ok(mut items) = T::try_clone_all(self.alloc, self.as_slice()) else {
+        let Ok(mut values) = T::try_clone_all(self.alloc, self.as_slice()) else {
             return Err(AllocError);
         };
-        items.push(value)?;
-        self.items = Some(Arc::new(self.alloc, items)?);
+        values.push(value)?;
+        *self = SharedItems::from_items(values)?;
         Ok(())
     }
 }
 
-impl<T: PartialEq> PartialEq for SharedItems<T> {
+impl<T: PartialEq + SharedItem> PartialEq for SharedItems<T> {
     ghost eq = { pointwise T.eq };
 
     ghost laws = { lists_per T.laws };
@@ -144,23 +182,20 @@ impl<T: PartialEq> PartialEq for SharedItems<T> {
     }
 }
 
-impl<T: Eq> Eq for SharedItems<T> {
+impl<T: Eq + SharedItem> Eq for SharedItems<T> {
     ghost laws = { lists_equiv T.Eq.laws };
 }
 
-impl<T: TryClone> TryClone for SharedItems<T> {
+impl<T: TryClone + SharedItem> TryClone for SharedItems<T> {
     /// The same list. Only where its copies are too many to count is it a list of copied values.
     fn try_clone(&self) -> Result<SharedItems<T>> {
-        let Some(items) = &self.items else {
-            return Ok(SharedItems::new(self.alloc));
-        };
-        if let Ok(items) = Arc::try_clone(items) {
+        if let Ok(values) = another_owner(&self.values) {
             return Ok(SharedItems {
                 alloc: self.alloc,
-                items: Some(items),
+                values,
             });
         }
-        let copies = T::try_clone_all(self.alloc, items.as_slice())?;
+        let copies = T::try_clone_all(self.alloc, self.as_slice())?;
         Ok(SharedItems::from_items(copies)?)
     }
 }

@@ -14,9 +14,10 @@ ghost use Rattle.mp4_codec.specs.Early.{refused_at_once};
 use crate::narrow::{check_most, put_low_u8, put_low_u16};
 use mp4_codec::{
     BoxType, DebugItem, ExactEq, Field, Fields, InRange, Items, Mp4Box, Put, ReadBox, Result,
-    SharedItems, TryClone, WriteBox, put_bytes, put_u8,
+    SharedItem, SharedItems, TryClone, WriteBox, put_bytes, put_u8,
 };
 use std::alloc::Global;
+use std::slice;
 
 /// A parameter set: a NAL unit of AVC video, without a start code (ISO/IEC 14496-15, 5.3.3.1).
 ///
@@ -31,6 +32,12 @@ impl ExactEq for NalUnit {
 }
 
 impl DebugItem for NalUnit {}
+
+impl SharedItem for NalUnit {
+    fn as_one(&self) -> &[NalUnit] {
+        slice::from_ref(self)
+    }
+}
 
 impl NalUnit {
     /// The next set: its length in two bytes, and its bytes.

@@ -17,10 +17,11 @@ use crate::rows::{
     COMPOSITION_OFFSETS, Columns, DURATIONS, Row, SAMPLE_FLAGS, SIZES, check_column,
 };
 use mp4_codec::{
-    BoxType, DebugItem, ExactEq, Fields, InRange, Items, Mp4Box, Put, ReadBox, Result, TryClone,
-    WriteBox, put_u8, put_u24, put_u32,
+    BoxType, DebugItem, ExactEq, Fields, InRange, Items, Mp4Box, Put, ReadBox, Result, SharedItem,
+    TryClone, WriteBox, put_u8, put_u24, put_u32,
 };
 use std::alloc::Global;
+use std::slice;
 
 /// The flag of `data_offset`.
 const DATA_OFFSET: u32 = 0x1;
@@ -62,6 +63,12 @@ impl ExactEq for TrunBox {
 }
 
 impl DebugItem for TrunBox {}
+
+impl SharedItem for TrunBox {
+    fn as_one(&self) -> &[TrunBox] {
+        slice::from_ref(self)
+    }
+}
 
 impl TrunBox {
     /// No samples.

@@ -34,7 +34,9 @@ runs_are payload parts e = by_fault (first_fault traf_fault (children payload).0
   where
     by_fault : (fault : Option Cause) → unless fault (Ok (traf_taken (children payload).0)) ≡ Ok parts
         → parts.truns ≡ all_of trun trun_of (children payload).0
-    by_fault None e = let same : traf_taken (children payload).0 ≡ parts = cc in ap (λ (p : TrafParts). p.truns) (sym same)
+    by_fault None e =
+        let same : traf_taken (children payload).0 ≡ parts = cc in
+        ap (λ (p : TrafParts). p.truns) (sym same)
     by_fault (Some c) e = absurd cc
 
 -- Where the children were gathered, and the list of their runs can't be shared for want of memory, there is a run: so
@@ -54,5 +56,6 @@ refused_late payload parts e gathered_is shown some =
     by_early (fails c) is shown = absurd shown
     by_early takes_memory is shown = tt
     by_early succeeds is shown =
-        let none = none_of-succeeds traf_child_early trun trun_of is_no_run (children payload).0 (children payload).1 is in
+        let none = none_of-succeeds traf_child_early trun trun_of is_no_run (children payload).0 (children payload).1
+        is in
         absurd (some (runs_are payload parts gathered_is ∙ none))

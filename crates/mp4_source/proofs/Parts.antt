@@ -1,5 +1,6 @@
 -- What is read in a part of a source's bytes is what is read at the part's place in all of them.
-use Rattle.std.proofs.Common.{◌≡◌, ◌∙◌, ℕ, ◌+◌, ◌-◌, ◌≤◌, ◌==◌, min, Bool, true, false, nat_lt, List, length, take, drop}
+use Rattle.std.proofs.Common.{◌≡◌, ◌∙◌, ℕ, ◌+◌, ◌-◌, ◌≤◌, ◌==◌, min, Bool, true, false, nat_lt}
+use Rattle.std.proofs.Common.{List, length, take, drop}
 use Rattle.std.proofs.Common.{Result, Ok, Err, refl, sym, ap, subst, arith, take-take, drop-drop}
 use Rattle.std.proofs.lemmas.Bool.{lt-ltb, le-ltb, ltb-true, ltb-false}
 use Rattle.std.proofs.lemmas.List.{length-drop, length-take, drop-take}
@@ -119,7 +120,8 @@ after_within name size c x fits e = by (size == 1) e
     large (Ok y) f h e = said (f y.0) e
       where
         said : (r : Result Head Cause) → (r >>= λ head. Ok (head, y.1)) ≡ Ok x → x.1.position ≤ length c.bytes
-        said (Ok head) e = subst (λ (z : Head × Cursor). z.1.position ≤ length c.bytes) (ok_is (head, y.1) x e) (h y refl)
+        said (Ok head) e =
+            subst (λ (z : Head × Cursor). z.1.position ≤ length c.bytes) (ok_is (head, y.1) x e) (h y refl)
         said (Err d) e = absurd cc
 
     short : (r : Result Head Cause) → (r >>= λ head. Ok (head, c)) ≡ Ok x → x.1.position ≤ length c.bytes

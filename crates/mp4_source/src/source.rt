@@ -90,8 +90,8 @@ impl<S: ByteSource> ByteSource for &mut S {
     }
 }
 
-/// Reads the n bytes from the place on into a buffer, over what it held: it holds just them then. It grows where it has no
-/// capacity for them, and where that memory is refused, it is `OutOfMemory`. After an error it holds any bytes.
+/// Reads the n bytes from the place on into a buffer, over what it held: it holds just them then. It grows where it has
+/// no capacity for them, and where that memory is refused, it is `OutOfMemory`. After an error it holds any bytes.
 pub fn read_into<S: ByteSource>(
     source: &mut S,
     place: u64,

@@ -44,7 +44,8 @@ fn header_of(bytes: &[u8]) -> mp4_codec::Result<(BoxHeader, u64)>
 impl<S: ByteSource + Drop> SourceCursor<S> {
     /// A cursor at this position of a source, which is asked how many bytes it has.
     pub fn new(alloc: Global, source: S, position: u64) -> Result<Self, FileError>
-        ensures source { IfOk result (λ c. (S.contents c.source ≡ S.contents source) × (S.can_refuse c.source ≡ S.can_refuse source)) }
+        ensures contents { IfOk result (λ c. S.contents c.source ≡ S.contents source) }
+        ensures can_refuse { IfOk result (λ c. S.can_refuse c.source ≡ S.can_refuse source) }
         ensures position { IfOk result (λ c. c.position ≡ position) }
         ensures len { IfOk result (λ c. IsLength (S.contents source) c.len) }
         ensures refused { IfErr result (λ e. IsTrue (S.can_refuse source)) }

@@ -33,4 +33,5 @@ returns-clause-member g c =
     let found = rw c.in-Some.is at c.last_at_most.ensures.found in
     located_by (run_at c.args.trafs.now c.args.track) c.as_slice.result.now
     (runs_of c.args.trafs.now c.args.track index) index c.args.number c.in-Some.found.index c.in-Some.found.number
-    c.index-as_slice-found.result _ c.requires.number c.requires.indexed c.as_slice.ensures c.index-as_slice-found.is found.0 found.1 c.member_at.ensures
+    c.index-as_slice-found.result _ c.requires.number c.requires.indexed c.as_slice.ensures
+    c.index-as_slice-found.is found.0 found.1 c.member_at.ensures
