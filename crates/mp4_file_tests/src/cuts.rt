@@ -152,3 +152,18 @@ fn every_size_of_a_fragmented_file_has_its_answer(rt: HostRuntime) {
 fn every_start_in_a_fragmented_file_has_its_answer(rt: HostRuntime) {
     same(&rt, starts_of_fragments(rt.alloc()), opened(1));
 }
+
+/// The error of a file whose movie says that it has 2^62 bytes, for which nobody has memory, and has none.
+fn missing_movie(alloc: Global) -> Result<bool, FileError> {
+    let mut bytes = fragmented_file(alloc)?;
+    bytes.extend_from_slice(b"\0\0\0\x01moov")?;
+    bytes.extend_from_slice(&(1u64 << 62).to_be_bytes())?;
+    let source = SeekSource::new(Cursor::new(bytes.as_slice()));
+    let answer = Mp4File::open(alloc, source, 0, 1 << 63);
+    Ok(matches!(answer, Err(FileError::Mp4(Error::EndOfData))))
+}
+
+#[test]
+fn a_box_that_is_not_there_is_end_of_data(rt: HostRuntime) {
+    same(&rt, missing_movie(rt.alloc()), true);
+}

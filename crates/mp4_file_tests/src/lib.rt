@@ -8,6 +8,8 @@ mod answers;
 #[cfg(test)]
 mod asserts;
 #[cfg(test)]
+mod calls;
+#[cfg(test)]
 mod changed_lengths;
 #[cfg(test)]
 mod cuts;

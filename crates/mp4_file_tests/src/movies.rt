@@ -54,6 +54,26 @@ pub fn padded_file(alloc: Global, before: usize, inside: usize) -> Result<Vec<u8
     Ok(bytes)
 }
 
+/// A file of one track, with so many boxes of 8 bytes before its movie.
+pub fn many_boxes(alloc: Global, count: usize) -> Result<Vec<u8>, AllocError> {
+    let mut bytes = (&EMPTY_MOVIE[..32]).to_vec(alloc)?;
+    bytes.extend_from_slice(&DATA)?;
+    for _ in 0..count {
+        bytes.extend_from_slice(b"\0\0\0\x08free")?;
+    }
+    bytes.extend_from_slice(&FULL_MOVIE)?;
+    Ok(bytes)
+}
+
+/// The first bytes of a file of one track: all but the last 2^41, which are data.
+pub fn two_terabytes(alloc: Global) -> Result<Vec<u8>, AllocError> {
+    let mut bytes = (&EMPTY_MOVIE[..32]).to_vec(alloc)?;
+    bytes.extend_from_slice(&FULL_MOVIE)?;
+    bytes.extend_from_slice(b"\0\0\0\x01mdat")?;
+    bytes.extend_from_slice(&((1u64 << 41) + 16).to_be_bytes())?;
+    Ok(bytes)
+}
+
 /// Where a name of four bytes was last found.
 fn last_place(bytes: &[u8], name: &[u8]) -> usize {
     let mut place = 0usize;

@@ -4,7 +4,7 @@ use std::io;
 use std::io::{ErrorKind, Read, Seek, SeekFrom};
 
 /// Bytes that read and seek as a file does, and count these calls. They refuse one of them: that of this number,
-/// counted from 1.
+/// counted from 1. Behind the bytes, up to the length, are zeros, as in a file with a hole.
 #[derive(Drop)]
 pub struct Disk<'a> {
     pub bytes: &'a [u8],
@@ -48,6 +48,14 @@ impl<'a> Disk<'a> {
     }
 }
 
+/// Zeros from a place up to another, as many as the buffer takes. The answer is how many.
+fn put_zeros(start: u64, end: usize, buf: &mut [u8]) -> usize {
+    let rest = (end as u64).saturating_sub(start);
+    let n = rest.min(buf.len() as u64) as usize;
+    buf[..n].fill(0);
+    n
+}
+
 /// The bytes from a place up to another, or up to their end.
 fn between(bytes: &[u8], start: u64, end: usize) -> &[u8] {
     let end = end.min(bytes.len());
@@ -61,7 +69,9 @@ impl Read for Disk<'_> {
         let mut rest: &[u8] = between(self.bytes, self.position, self.len);
         let share = buf.len().checked_div(self.share).unwrap_or(1);
         let most = share.max(1).min(buf.len());
-        let n = rest.read(&mut buf[..most])?;
+        let held = rest.read(&mut buf[..most])?;
+        let behind = self.position.saturating_add(held as u64);
+        let n = held.saturating_add(put_zeros(behind, self.len, &mut buf[held..most]));
         self.position = self.position.saturating_add(n as u64);
         Ok(n)
     }

@@ -17,8 +17,7 @@ use Rattle.mp4_leaf.specs.Ftyp.{ftyp_of}
 use Rattle.mp4_frag.specs.Emsg.{emsg_of}
 use Rattle.mp4_boxes.specs.Moov.{moov_of}
 use Rattle.mp4_moof.specs.Moof.{moof_of}
-use Rattle.mp4_media.specs.declared.opening.BoxContent.{BoxContent}
-use Rattle.mp4_media.specs.declared.opening.BoxContent.TheVariants.{Ftyp, Moov, Moof, Emsg}
+use Rattle.mp4_media.specs.FileBoxes.{BoxContent, Ftyp, Moov, Moof, Emsg}
 use Rattle.mp4_media.specs.FileBoxes.{read_as, meaning_of, later, and_one}
 use Rattle.mp4_media.specs.Walk.{content_at}
 

@@ -34,9 +34,7 @@ use Rattle.mp4_mux.specs.Writing.{data_of, data_place, with_file_type, whole_of,
 use Rattle.mp4_mux.specs.StartLaws.{file_type-canonical}
 use Rattle.mp4_mux.specs.Parts.{Parts, state_of, IsWriting}
 use Rattle.mp4_mux.specs.PartsLaws.{state-ended, state-config}
-use Rattle.mp4_media.specs.declared.opening.FileBox.{FileBox}
-use Rattle.mp4_media.specs.declared.opening.BoxContent.{BoxContent}
-use Rattle.mp4_media.specs.declared.opening.BoxContent.TheVariants.{Ftyp, Moov, Skipped}
+use Rattle.mp4_media.specs.FileBoxes.{FileBox, BoxContent, Ftyp, Moov, Skipped}
 use Rattle.mp4_media.specs.FileBoxes.{read_as, meaning_of}
 use Rattle.mp4_media.specs.FileGrammar.{between, Holds, read, skipped, IsFileBox, no_more, AreFileBoxes, IsFile}
 use Rattle.mp4_media.specs.MovieTracks.{id_fault, zero_id}

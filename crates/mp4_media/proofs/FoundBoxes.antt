@@ -1,26 +1,24 @@
 -- What a walk over the boxes of a source finds, where its bytes are known and where they aren't.
 use Rattle.std.proofs.Common.{◌≡◌, ◌∙◌, ℕ, ◌+◌, ◌-◌, ◌≤◌, ◌<◌, List, [], ◌∷◌, length, Option, Some, None, Result}
-use Rattle.std.proofs.Common.{Ok, Err, refl, sym, ap, subst, inl, inr, Bool, false, length-append}
+use Rattle.std.proofs.Common.{Ok, Err, refl, sym, ap, subst, inl, inr, Bool, true, false, ◌++◌, length-append}
 use Rattle.std.proofs.lemmas.Bool.{false≢true, lt-ltb, le-ltb, le-leb, lt-leb}
-use Rattle.std.specs.Prelude.{◌⊎◌, IfSome, IsTrue, option_map, ◌==◌}
+use Rattle.std.specs.Prelude.{◌⊎◌, IfSome, IsTrue, ◌==◌}
 use Rattle.mp4_codec.specs.declared.box_type.BoxType.{BoxType}
 use Rattle.mp4_codec.specs.declared.header.BoxHeader.{BoxHeader}
 use Rattle.mp4_codec.specs.Cause.{Cause, cause_of, end_of_data, invalid_data, ◌>>=◌}
 use Rattle.mp4_codec.specs.Cursor.{Cursor, here, header_at}
 use Rattle.mp4_codec.specs.Boxes.{box_at}
-use Rattle.mp4_boxes.specs.declared.moov.MoovBox.{MoovBox}
 use Rattle.mp4_moof.specs.declared.moof.MoofBox.{MoofBox}
 use Rattle.mp4_codec.specs.declared.error.Error.{Error}
 use Rattle.mp4_codec.specs.declared.error.Error.TheVariants.{OutOfMemory}
 use Rattle.mp4_source.specs.Answers.{IsIo, OnMp4, RefusesRead}
 use Rattle.mp4_source.specs.declared.file_error.FileError.{FileError}
 use Rattle.mp4_source.specs.declared.file_error.FileError.TheVariants.{Mp4, Io}
-use Rattle.mp4_media.specs.declared.opening.BoxContent.{BoxContent}
-use Rattle.mp4_media.specs.declared.opening.FileBox.{FileBox}
+use Rattle.mp4_media.specs.FileBoxes.{FileBox, BoxContent}
 use Rattle.mp4_media.specs.declared.opening.Found.{Found}
-use Rattle.mp4_media.specs.FileBoxes.{meaning_of, read_as, moof_from, moof_place_from, later, and_one}
-use Rattle.mp4_media.specs.MovieTracks.{HaveFirstSamples}
-use Rattle.mp4_media.specs.Walk.{box_behind, content_at, next_box_at, with_content, found_at, opened_at, opened_from}
+use Rattle.mp4_media.specs.FileBoxes.{meaning_of, read_as}
+use Rattle.mp4_media.specs.Walk.{box_behind, content_at, next_box_at, with_content, with_box, and_content, and_found}
+use Rattle.mp4_media.specs.Walk.{found_at, opened_at, opened_from}
 use Rattle.mp4_media.proofs.Contents.{content-read, content-refused}
 
 -- what follows of known bytes
@@ -50,32 +48,37 @@ refused_too can_refuse (Io e) answer all h a = a
 -- A box that is read.
 module _ {A : Type 0} (kind : A → BoxContent) (value : List ℕ → Result A Cause) (name : BoxType)
     (is : meaning_of name ≡ Some (read_as kind value)) (known : Option (List ℕ)) (size old new : ℕ) where
-  pub content_is : (x : A) → IfSome known (λ bytes. box_at value size (here bytes old) ≡ Ok (x, here bytes new))
+  content_is : (x : A) → IfSome known (λ bytes. box_at value size (here bytes old) ≡ Ok (x, here bytes new))
       → IfSome known (λ bytes. content_at (meaning_of name) size (here bytes old) ≡ Ok (kind x, here bytes new))
   content_is x read = of_known known _ _ read
       (λ bytes e. content-read kind value name is size (here bytes old) x (here bytes new) e)
 
-  pub content_refused : (can_refuse : Bool) (f : FileError)
+  content_refused : (can_refuse : Bool) (f : FileError)
       → IfSome known (λ bytes. RefusesRead can_refuse f (box_at value size (here bytes old)))
       → IfSome known (λ bytes. RefusesRead can_refuse f (content_at (meaning_of name) size (here bytes old)))
   content_refused can_refuse f refused = of_known known _ _ refused
       (λ bytes a. refused_too can_refuse f _ _
       (λ c e. content-refused kind value name is size (here bytes old) c e) a)
 
--- A box more of what was found.
-pub later_numbered : (o before : Option MoovBox) → IfSome o (λ m. HaveFirstSamples m.traks)
-    → IfSome before (λ m. HaveFirstSamples m.traks) → IfSome (later o before) (λ m. HaveFirstSamples m.traks)
-later_numbered None before h b = b
-later_numbered (Some m) before h b = h
+  -- Such a box, added to what was found.
+  module _ (found : Found) (place : ℕ) where
+    pub box_is_added : (x : A) → IfSome known (λ bytes. box_at value size (here bytes old) ≡ Ok (x, here bytes new))
+        → IfSome known (λ bytes. (content_at (meaning_of name) size (here bytes old) >>= and_content found place)
+        ≡ Ok (with_box found (record { place = place; content = kind x }), here bytes new))
+    box_is_added x read = of_known known _ _ (content_is x read) (λ bytes e. rw e refl)
 
-pub one_place_more : (b : FileBox) (places : List ℕ) (moofs : List MoofBox) → length places ≡ length moofs
-    → length (and_one places (moof_place_from b)) ≡ length (and_one moofs (moof_from b.content))
-one_place_more b places moofs same = by (moof_from b.content)
-  where
-    by : (o : Option MoofBox)
-        → length (and_one places (option_map (λ _. b.place) o)) ≡ length (and_one moofs o)
-    by None = same
-    by (Some m) = length-append places (b.place ∷ []) ∙ ap (λ n. n + 1) same ∙ sym (length-append moofs (m ∷ []))
+    pub box_is_refused : (can_refuse : Bool) (f : FileError)
+        → IfSome known (λ bytes. RefusesRead can_refuse f (box_at value size (here bytes old)))
+        → IfSome known (λ bytes. RefusesRead can_refuse f
+        (content_at (meaning_of name) size (here bytes old) >>= and_content found place))
+    box_is_refused can_refuse f refused = of_known known _ _ (content_refused can_refuse f refused)
+        (λ bytes a. refused_too can_refuse f _ _ (λ c e. rw e refl) a)
+
+-- A fragment more of what was found.
+pub one_place_more : (place : ℕ) (m : MoofBox) (places : List ℕ) (moofs : List MoofBox) → length places ≡ length moofs
+    → length (places ++ place ∷ []) ≡ length (moofs ++ m ∷ [])
+one_place_more place m places moofs same =
+    length-append places (place ∷ []) ∙ ap (λ n. n + 1) same ∙ sym (length-append moofs (m ∷ []))
 
 -- THE NEXT BOX
 
@@ -110,6 +113,13 @@ module _ (size : ℕ) (place : Cursor) where
       pub content_next : (h.size == 0) ≡ false → h.size ≤ size
           → next_box_at size place ≡ (content_at (meaning_of h.name) h.size behind >>= with_content place.position)
       content_next some fits = behind_head ∙ rw (some, le-ltb size h.size fits) refl
+
+-- the next box, added to what was found
+pub next_added : (found : Found) (place : ℕ) (r : Result (BoxContent × Cursor) Cause)
+    → ((r >>= with_content place) >>= and_found found)
+    ≡ ((r >>= and_content found place) >>= λ x. Ok (true, x.0, x.1))
+next_added found place (Ok x) = refl
+next_added found place (Err c) = refl
 
 -- what opens is what was found
 pub opened_by : (size : ℕ) (place : Cursor) (found : Found) (end : ℕ) → found_at size place ≡ Ok (found, end)

@@ -15,9 +15,7 @@ use Rattle.mp4_codec.specs.Steps.{ok_is, both_steps}
 use Rattle.mp4_codec.specs.HeadLaws.{Closed, head_read}
 use Rattle.mp4_leaf.specs.declared.ftyp.FtypBox.{FtypBox}
 use Rattle.mp4_boxes.specs.declared.moov.MoovBox.{MoovBox}
-use Rattle.mp4_media.specs.declared.opening.FileBox.{FileBox}
-use Rattle.mp4_media.specs.declared.opening.BoxContent.{BoxContent}
-use Rattle.mp4_media.specs.declared.opening.BoxContent.TheVariants.{Skipped}
+use Rattle.mp4_media.specs.FileBoxes.{FileBox, BoxContent, Skipped}
 use Rattle.mp4_media.specs.FileBoxes.{meaning_of, ftyps_in, moovs_in, moofs_in, OpenedFile}
 use Rattle.mp4_media.specs.FileGrammar.{between, Begins, Holds, read, skipped, IsFileBox, EndsFile, no_more, open_end}
 use Rattle.mp4_media.specs.FileGrammar.{AreFileBoxes, IsFile, HoldsNothing, past_the_bytes, meaningless, past_64_bits}

@@ -9,13 +9,13 @@ use Rattle.mp4_codec.specs.Cursor.{Cursor, header_at}
 use Rattle.mp4_codec.specs.Children.{last}
 use Rattle.mp4_leaf.specs.declared.ftyp.FtypBox.{FtypBox}
 use Rattle.mp4_boxes.specs.declared.moov.MoovBox.{MoovBox}
-use Rattle.mp4_media.specs.declared.opening.FileBox.{FileBox}
+use Rattle.mp4_media.specs.FileBoxes.{FileBox}
 use Rattle.mp4_media.specs.declared.opening.Found.{Found}
 use Rattle.mp4_media.specs.FileBoxes.{ftyp_from, moov_from, moof_from, moof_place_from, emsg_from, ftyps_in, moovs_in}
 use Rattle.mp4_media.specs.FileBoxes.{moofs_in}
 use Rattle.mp4_media.specs.MovieTracks.{id_fault}
-use Rattle.mp4_media.specs.Walk.{box_behind, next_box_at, file_boxes_at, found_of, with_box, found_at, opened_with}
-use Rattle.mp4_media.specs.Walk.{opened_at}
+use Rattle.mp4_media.specs.Walk.{box_behind, next_box_at, file_boxes_at, found_of, with_box, and_found, found_at}
+use Rattle.mp4_media.specs.Walk.{opened_with, opened_at}
 use Rattle.mp4_media.proofs.Contents.{last-later, filter_map-and_one}
 
 -- these boxes, and then those that are still read
@@ -122,6 +122,26 @@ module _ (size : ℕ) (start place : Cursor) (found : Found) where
   pub scan-ends : (behind : Cursor) → next_box_at size place ≡ Ok (None, behind) → behind.position ≡ place.position
       → (w : Scanning size start found place) → file_boxes_at size size start ≡ Ok (w.done, place.position)
   scan-ends behind next same w = ended behind next same w.done w.steps w.is
+
+-- What the next box adds to what was found.
+module _ (found after : Found) (behind : Cursor) where
+  pub box_added : (r : Result (Option FileBox × Cursor) Cause) → (r >>= and_found found) ≡ Ok (true, after, behind)
+      → (b : FileBox) × (r ≡ Ok (Some b, behind)) × (after ≡ with_box found b)
+  box_added (Ok (Some b, place)) e = (b, cc, cc)
+  box_added (Ok (None, place)) e = absurd cc
+  box_added (Err c) e = absurd cc
+
+  pub none_added : (r : Result (Option FileBox × Cursor) Cause) → (r >>= and_found found) ≡ Ok (false, after, behind)
+      → (r ≡ Ok (None, behind)) × (after ≡ found)
+  none_added (Ok (Some b, place)) e = absurd cc
+  none_added (Ok (None, place)) e = (cc, cc)
+  none_added (Err c) e = absurd cc
+
+pub refused_before : (found : Found) (c : Cause) (r : Result (Option FileBox × Cursor) Cause)
+    → (r >>= and_found found) ≡ Err c → r ≡ Err c
+refused_before found c (Ok (Some b, place)) e = absurd cc
+refused_before found c (Ok (None, place)) e = absurd cc
+refused_before found c (Err d) e = cc
 
 -- a file whose boxes are not all read does not open
 pub found-refused : (size : ℕ) (start : Cursor) (c : Cause) → file_boxes_at size size start ≡ Err c

@@ -15,11 +15,22 @@ use Rattle.mp4_boxes.specs.declared.moov.MoovBox.{MoovBox}
 use Rattle.mp4_moof.specs.declared.moof.MoofBox.{MoofBox}
 use Rattle.mp4_boxes.specs.Moov.{moov_of}
 use Rattle.mp4_moof.specs.Moof.{moof_of}
-use Rattle.mp4_media.specs.declared.opening.FileBox.{FileBox}
-use Rattle.mp4_media.specs.declared.opening.BoxContent.{BoxContent}
-use Rattle.mp4_media.specs.declared.opening.BoxContent.TheVariants.{Ftyp, Moov, Moof, Emsg}
 use Rattle.mp4_media.specs.declared.movie.Movie.{Movie}
 use Rattle.mp4_media.specs.declared.reader.Mp4Reader.{Mp4Reader}
+
+-- what a box of a file holds
+pub data BoxContent : Type 0 where
+  Ftyp : FtypBox → BoxContent
+  Moov : MoovBox → BoxContent
+  Moof : MoofBox → BoxContent
+  Emsg : EmsgBox → BoxContent
+  -- a box that isn't read
+  Skipped : BoxContent
+
+-- a box of a file, and the place of its first byte
+pub record FileBox : Type 0 where
+  pub place : ℕ
+  pub content : BoxContent
 
 -- whether a type is this one, by their codes
 abbrev pub is_type : BoxType → BoxType → Bool

@@ -9,9 +9,7 @@ use Rattle.mp4_codec.specs.Cursor.{Cursor, header_at, here}
 use Rattle.mp4_codec.specs.Children.{last}
 use Rattle.mp4_codec.specs.Framing.{WhyNoHead}
 use Rattle.mp4_boxes.specs.declared.moov.MoovBox.{MoovBox}
-use Rattle.mp4_media.specs.declared.opening.FileBox.{FileBox}
-use Rattle.mp4_media.specs.declared.opening.BoxContent.{BoxContent}
-use Rattle.mp4_media.specs.declared.opening.BoxContent.TheVariants.{Skipped}
+use Rattle.mp4_media.specs.FileBoxes.{FileBox, BoxContent, Skipped}
 use Rattle.mp4_media.specs.FileBoxes.{meaning_of, ftyps_in, moovs_in, moofs_in, moof_places_in, emsgs_in, OpenedFile}
 use Rattle.mp4_media.specs.MovieTracks.{id_fault}
 

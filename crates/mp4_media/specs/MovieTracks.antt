@@ -25,8 +25,7 @@ use Rattle.mp4_lookup.specs.declared.track.Mp4Track.{Mp4Track}
 use Rattle.mp4_lookup.specs.TrackRuns.{track_runs}
 use Rattle.mp4_samples.specs.Tables.{tables_of}
 use Rattle.mp4_lookup.specs.Tracks.{movie_end}
-use Rattle.mp4_media.specs.declared.opening.BoxContent.{BoxContent}
-use Rattle.mp4_media.specs.FileBoxes.{moov_from}
+use Rattle.mp4_media.specs.FileBoxes.{BoxContent, moov_from}
 
 -- the box of the track with this id: of equal ids the last
 abbrev pub trak_with_id : List TrakBox → ℕ → Option TrakBox
@@ -112,9 +111,9 @@ unknown_ids known moofs = all_refusal (λ (m : MoofBox). all_refusal (unknown_id
 abbrev pub HaveFirstSamples : List TrakBox → Type 0
 HaveFirstSamples traks = AllByRecursion (λ (t : TrakBox). HasFirstSamples (tables_of t).stsc.entries) traks
 
--- this holds of the movie that a box of a file holds, if it is one
-abbrev pub HoldsNumbered : BoxContent → Type 0
-HoldsNumbered content = IfSome (moov_from content) (λ m. HaveFirstSamples m.traks)
+-- this holds of the movie that was found, if there is one
+abbrev pub IsNumbered : Option MoovBox → Type 0
+IsNumbered moov = IfSome moov (λ m. HaveFirstSamples m.traks)
 
 -- why the ids of a movie are refused: those of its tracks first, and then, in file order, those of its fragments
 unfoldable pub id_fault : MoovBox → List MoofBox → Option Cause

@@ -33,6 +33,10 @@ ilst_of_movie moov = ilst_of_udta moov.udta
 abbrev pub IsSample : Result (Option TimedSample) Cause → Type 0
 IsSample answer = (s : TimedSample) × (answer ≡ Ok (Some s))
 
+-- there is a place
+abbrev pub IsPlaced : Result (Option Place) Cause → Type 0
+IsPlaced answer = (p : Place) × (answer ≡ Ok (Some p))
+
 -- the place that a lookup found, in a file of so many bytes: one of a sample that doesn't lie whole in it is refused
 abbrev pub within : ℕ → Option Place → Result (Option Place) Cause
 within len None = Ok None

@@ -1,15 +1,13 @@
 -- The steps by which a file is opened, one box after the other. What they come to is said by the grammar of files.
 use Rattle.std.specs.Prelude.{ℕ, zero, suc, ◌+◌, ◌-◌, ◌^◌, List, [], ◌∷◌, Option, Some, None, Result, Ok, Err, nat_lt}
-use Rattle.std.specs.Prelude.{nat_le, ◌==◌, if◌then◌else◌}
+use Rattle.std.specs.Prelude.{Bool, true, false, nat_le, ◌==◌, if◌then◌else◌}
 use Rattle.mp4_codec.specs.declared.box_type.BoxType.TheVariants.{FtypBox as ftyp, MoovBox as moov}
 use Rattle.mp4_codec.specs.declared.header.BoxHeader.{BoxHeader}
 use Rattle.mp4_codec.specs.Cause.{Cause, end_of_data, invalid_data, ◌>>=◌, unless}
 use Rattle.mp4_codec.specs.Cursor.{Cursor, moved, header_at}
 use Rattle.mp4_codec.specs.Boxes.{box_at}
 use Rattle.mp4_codec.specs.Children.{last, needed}
-use Rattle.mp4_media.specs.declared.opening.FileBox.{FileBox}
-use Rattle.mp4_media.specs.declared.opening.BoxContent.{BoxContent}
-use Rattle.mp4_media.specs.declared.opening.BoxContent.TheVariants.{Skipped}
+use Rattle.mp4_media.specs.FileBoxes.{FileBox, BoxContent, Skipped}
 use Rattle.mp4_leaf.specs.declared.ftyp.FtypBox.{FtypBox}
 use Rattle.mp4_boxes.specs.declared.moov.MoovBox.{MoovBox}
 use Rattle.mp4_media.specs.declared.opening.Found.{Found}
@@ -75,6 +73,15 @@ with_box found b = record {
   moof_places = and_one found.moof_places (moof_place_from b);
   emsgs = and_one found.emsgs (emsg_from b.content);
 }
+
+-- what was found with a box of this content more, which begins at the place; and what stands behind it
+abbrev pub and_content : Found → ℕ → BoxContent × Cursor → Result (Found × Cursor) Cause
+and_content found place x = Ok (with_box found (record { place = place; content = x.0 }), x.1)
+
+-- whether there is a next box, what was found with it, and what stands behind it
+abbrev pub and_found : Found → Option FileBox × Cursor → Result (Bool × Found × Cursor) Cause
+and_found found (None, place) = Ok (false, found, place)
+and_found found (Some b, behind) = Ok (true, with_box found b, behind)
 
 -- what counts of the boxes of a file from a place on, and the last place
 unfoldable pub found_at : ℕ → Cursor → Result (Found × ℕ) Cause

@@ -1,15 +1,20 @@
 //! Files of any size: opened by a few reads, and their samples read where they lie.
 
-ghost use Rattle.std.specs.Prelude.{◌≡◌, ◌↔◌, ◌+◌, ◌≤◌, Ok, option_map, IfOk, IfSome, IsTrue};
+ghost use Rattle.std.specs.Prelude.{◌≡◌, ◌↔◌, ◌+◌, ◌≤◌, Ok, Some, option_map, IfOk, IfErr, IfSome, IsTrue};
 ghost use Rattle.std.proofs.Props.{props};
 ghost use Rattle.mp4_codec.specs.Cause.{Gives};
 ghost use Rattle.mp4_codec.specs.Cursor.{here};
+ghost use Rattle.mp4_lookup.specs.declared.track.Mp4Track.{Mp4Track};
+ghost use Rattle.mp4_lookup.specs.Tracks.{is_of_movie};
 ghost use Rattle.mp4_samples.specs.Places.{place_of};
-ghost use Rattle.mp4_samples.specs.Samples.{timed_sample};
+ghost use Rattle.mp4_samples.specs.Plain.{Consistent};
+ghost use Rattle.mp4_samples.specs.Samples.{plain_sample_at, timed_sample};
+ghost use Rattle.mp4_samples.specs.Tables.{tables_of};
 ghost use Rattle.mp4_source.specs.Answers.{AnswersRead, IsLength};
+ghost use Rattle.mp4_source.specs.declared.file_error.FileError.TheVariants.{Mp4};
 ghost use Rattle.mp4_media.specs.FileBoxes.{opened_movie};
-ghost use Rattle.mp4_media.specs.MovieTracks.{AreTracks};
-ghost use Rattle.mp4_media.specs.Reading.{placed_in, sample_in, sample_there};
+ghost use Rattle.mp4_media.specs.MovieTracks.{AreTracks, at_id};
+ghost use Rattle.mp4_media.specs.Reading.{IsPlaced, placed_in, sample_in, sample_there};
 ghost use Rattle.mp4_media.specs.Walk.{opened_at};
 
 use crate::movie::{Movie, open_source};
@@ -54,8 +59,9 @@ fn is_within(place: SamplePlace, len: u64) -> bool
 }
 
 impl<S: ByteSource + Drop> Mp4File<S> {
-    /// Opens the file of `size` bytes that begins at this place of a source, as [`crate::Mp4Reader::read_header`] does
-    /// of its bytes, with the same errors. The bytes of ftyp, moov, moof and emsg are read, and the headers of all other
+    /// Opens the file that begins at the place `start` of a source and ends at its place `size`, both counted from the
+    /// source's first byte, as [`crate::Mp4Reader::read_header`] does of its bytes, with the same errors: for a whole
+    /// file they are 0 and its length. The bytes of ftyp, moov, moof and emsg are read, and the headers of all other
     /// boxes. They are read through a window, which takes at most 32 KiB while the file is opened.
     ///
     /// `Io` where the source refuses a read. After an error the source is gone: pass `&mut` to keep it.
@@ -82,6 +88,19 @@ impl<S: ByteSource + Drop> Mp4File<S> {
         })
     }
 
+    /// The source; the movie is given up.
+    pub fn into_inner(self) -> S
+        ensures { result ≡ self.source }
+    {
+        let Mp4File {
+            source,
+            len: _,
+            movie,
+        } = self;
+        drop(movie);
+        source
+    }
+
     /// How many bytes the source had when the file was opened.
     pub fn source_len(&self) -> u64
         ensures { IsLength (S.contents self.now.source) result }
@@ -104,12 +123,12 @@ impl<S: ByteSource + Drop> Mp4File<S> {
     }
 
     /// Sample `k` of the track with this id, its bytes read into the buffer, over what it held; samples are numbered
-    /// from 1. The buffer grows where it has no room for the sample, and holds any bytes where there is none. The answer
-    /// is where the sample lies, and when it is decoded and shown, in ticks of the track's timescale.
+    /// from 1. The buffer grows where it has no room for the sample, and holds any bytes where there is no such sample.
+    /// The answer is where the sample lies, and when it is decoded and shown, in ticks of the track's timescale.
     ///
     /// Refused as [`crate::Mp4Reader::read_sample`], with the same errors, all of which but `OutOfMemory` are found
-    /// before a byte of the sample is read. `Io` where the source refuses to read it. A refused call leaves the movie as
-    /// it is.
+    /// before a byte of the sample is read. Where memory runs out, there is such a sample. `Io` where the source refuses
+    /// to read it. A refused call leaves the movie as it is.
     pub fn read_sample_into(
         &mut self,
         track_id: u32,
@@ -121,6 +140,12 @@ impl<S: ByteSource + Drop> Mp4File<S> {
         ensures answer { IfSome (S.contents self.old.source) (λ bytes. AnswersRead (S.can_refuse self.old.source)
             (λ p. option_map (sample_there buffer.new.items) p) result
             (sample_in bytes self.old.movie.tracks track_id k)) }
+        ensures plain { (t : Mp4Track) → at_id self.old.movie.tracks track_id ≡ Some t
+            → IsTrue (is_of_movie t.trak t.trafs k) → Consistent (tables_of t.trak)
+            → IfSome (S.contents self.old.source) (λ bytes. AnswersRead (S.can_refuse self.old.source)
+            (λ p. option_map (sample_there buffer.new.items) p) result (plain_sample_at bytes (tables_of t.trak) k)) }
+        ensures memory { IfErr result (λ e. e ≡ Mp4 Error.OutOfMemory
+            → IsPlaced (placed_in self.old.len self.old.movie.tracks track_id k)) }
         ensures movie { self.new.movie ≡ self.old.movie }
         ensures contents { S.contents self.new.source ≡ S.contents self.old.source }
         ensures can_refuse { S.can_refuse self.new.source ≡ S.can_refuse self.old.source }
@@ -132,8 +157,8 @@ impl<S: ByteSource + Drop> Mp4File<S> {
         Ok(Some(place))
     }
 
-    /// Sample `k` of the track with this id, with its bytes, which alone are read; samples are numbered from 1. Times are
-    /// in ticks of the track's timescale.
+    /// Sample `k` of the track with this id, with its bytes, which alone are read; samples are numbered from 1. Times
+    /// are in ticks of the track's timescale.
     ///
     /// Refused as [`Mp4File::read_sample_into`].
     pub fn read_sample(
@@ -143,6 +168,12 @@ impl<S: ByteSource + Drop> Mp4File<S> {
     ) -> std::result::Result<Option<Mp4Sample>, FileError>
         ensures answer { IfSome (S.contents self.old.source) (λ bytes. AnswersRead (S.can_refuse self.old.source)
             (λ s. option_map timed_sample s) result (sample_in bytes self.old.movie.tracks track_id k)) }
+        ensures plain { (t : Mp4Track) → at_id self.old.movie.tracks track_id ≡ Some t
+            → IsTrue (is_of_movie t.trak t.trafs k) → Consistent (tables_of t.trak)
+            → IfSome (S.contents self.old.source) (λ bytes. AnswersRead (S.can_refuse self.old.source)
+            (λ s. option_map timed_sample s) result (plain_sample_at bytes (tables_of t.trak) k)) }
+        ensures memory { IfErr result (λ e. e ≡ Mp4 Error.OutOfMemory
+            → IsPlaced (placed_in self.old.len self.old.movie.tracks track_id k)) }
         ensures movie { self.new.movie ≡ self.old.movie }
         ensures contents { S.contents self.new.source ≡ S.contents self.old.source }
         ensures can_refuse { S.can_refuse self.new.source ≡ S.can_refuse self.old.source }

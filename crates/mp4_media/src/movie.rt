@@ -8,7 +8,7 @@ ghost use Rattle.mp4_lookup.specs.Time.{time_of};
 ghost use Rattle.mp4_samples.specs.Places.{place_of};
 ghost use Rattle.mp4_source.specs.Answers.{AnswersRead, IsLength};
 ghost use Rattle.mp4_media.specs.FileBoxes.{opened_movie};
-ghost use Rattle.mp4_media.specs.MovieTracks.{AreTracks, HaveFirstSamples};
+ghost use Rattle.mp4_media.specs.MovieTracks.{AreTracks, IsNumbered};
 ghost use Rattle.mp4_media.specs.Reading.{ilst_of_movie, located_in, needed_track, sample_count_in};
 ghost use Rattle.mp4_media.specs.Walk.{opened_at, opened_from};
 
@@ -74,7 +74,7 @@ impl Drop for Movie {
 #[inline(never)]
 #[tactic(auto, unfolding(mp4_boxes::specs::Needed::two_needed))]
 fn open_found(alloc: Global, found: Found, size: u64) -> Result<Movie>
-    requires first_samples { IfSome found.moov (λ m. HaveFirstSamples m.traks) }
+    requires first_samples { IsNumbered found.moov }
     requires places { length found.moof_places ≡ length found.moofs }
     ensures answer { Answers opened_movie result (opened_from found size) }
     ensures tracks { IfOk result (λ m. AreTracks m.moov m.moofs m.moof_places m.tracks) }
@@ -113,8 +113,8 @@ fn open_found(alloc: Global, found: Found, size: u64) -> Result<Movie>
     Ok(opened)
 }
 
-/// Opens the file of `size` bytes from the cursor on: the answer is that of the walk over its boxes, and then of the ids
-/// of its tracks.
+/// Opens the file of `size` bytes from the cursor on: the answer is that of the walk over its boxes, and then of the
+/// ids of its tracks.
 pub(crate) fn open_source<S: ByteSource + Drop>(
     alloc: Global,
     reader: &mut SourceCursor<S>,

@@ -1,13 +1,13 @@
 //! Opening a file: its boxes, one after the other.
 
-ghost use Rattle.std.specs.Prelude.{◌≡◌, ◌<◌, ◌≤◌, ◌-◌, ◌+◌, [], List, ℕ, length, IfNone, IfOk, IfSome, OnOk, OnSome};
+ghost use Rattle.std.specs.Prelude.{◌≡◌, ◌<◌, ◌≤◌, ◌-◌, ◌+◌, [], List, ℕ, length, IfOk, IfSome, OnOk, IsTrue, IsFalse};
 ghost use Rattle.mp4_codec.specs.BoxType.{IsNamed};
-ghost use Rattle.mp4_codec.specs.Cause.{Gives};
+ghost use Rattle.mp4_codec.specs.Cause.{Gives, ◌>>=◌};
 ghost use Rattle.mp4_codec.specs.Cursor.{here};
 ghost use Rattle.mp4_source.specs.Answers.{AnswersRead, IsLength};
 ghost use Rattle.mp4_media.specs.FileBoxes.{meaning_of};
-ghost use Rattle.mp4_media.specs.MovieTracks.{HaveFirstSamples, HoldsNumbered};
-ghost use Rattle.mp4_media.specs.Walk.{skip_at, content_at, next_box_at, found_of, with_box, found_at};
+ghost use Rattle.mp4_media.specs.MovieTracks.{IsNumbered};
+ghost use Rattle.mp4_media.specs.Walk.{skip_at, content_at, next_box_at, found_of, and_content, and_found, found_at};
 
 use mp4_boxes::MoovBox;
 use mp4_codec::{BoxHeader, BoxType, Error, HEADER_SIZE, Items, OPEN_END, Result};
@@ -15,26 +15,7 @@ use mp4_frag::EmsgBox;
 use mp4_leaf::FtypBox;
 use mp4_moof::MoofBox;
 use mp4_source::{ByteSource, FileError, SourceCursor};
-use std::alloc::{AllocError, Global};
-
-/// What a box of a file holds.
-#[derive(Drop)]
-pub(crate) enum BoxContent {
-    Ftyp(FtypBox),
-    Moov(MoovBox),
-    Moof(MoofBox),
-    Emsg(EmsgBox),
-    /// A box that isn't read.
-    Skipped,
-}
-
-/// A box of a file.
-#[derive(Drop)]
-pub(crate) struct FileBox {
-    /// The place of its first byte.
-    pub place: u64,
-    pub content: BoxContent,
-}
+use std::alloc::Global;
 
 /// What counts of a file's boxes: the last file type and the last movie, all fragments and all event messages.
 #[derive(Drop)]
@@ -60,33 +41,6 @@ impl Found {
             emsgs: Items::new(alloc),
         }
     }
-
-    /// One box more.
-    pub fn add(&mut self, file_box: FileBox) -> std::result::Result<(), AllocError>
-        ensures { OnOk result (self.new ≡ with_box self.old file_box) }
-    {
-        let FileBox { place, content } = file_box;
-        match content {
-            BoxContent::Ftyp(ftyp) => {
-                self.ftyp = Some(ftyp);
-                Ok(())
-            }
-            BoxContent::Moov(moov) => {
-                self.moov = Some(moov);
-                Ok(())
-            }
-            BoxContent::Moof(moof) => {
-                self.moofs.push(moof)?;
-                self.moof_places.push(place)?;
-                Ok(())
-            }
-            BoxContent::Emsg(emsg) => {
-                self.emsgs.push(emsg)?;
-                Ok(())
-            }
-            BoxContent::Skipped => Ok(()),
-        }
-    }
 }
 
 /// The place behind so many bytes from this one, also past the end of a file; `InvalidData` past 64 bits.
@@ -100,19 +54,24 @@ fn place_behind(place: u64, n: u64) -> Result<u64>
     Ok(behind)
 }
 
-/// What the box holds whose payload stands at the cursor, which then stands behind the box.
-fn read_content<S: ByteSource + Drop>(
+/// Adds the box to what was found that begins at the place and whose payload stands at the cursor, which then stands
+/// behind it. A box of a type that isn't read is passed over.
+fn add_content<S: ByteSource + Drop>(
     alloc: Global,
     reader: &mut SourceCursor<S>,
+    found: &mut Found,
+    place: u64,
     header: BoxHeader,
-) -> std::result::Result<BoxContent, FileError>
+) -> std::result::Result<(), FileError>
     requires len { IsLength (S.contents reader.old.source) reader.old.len }
     requires named { IsNamed header.name }
     requires size { 8 ≤ header.size }
     ensures answer { IfSome (S.contents reader.old.source) (λ bytes. AnswersRead (S.can_refuse reader.old.source)
-        (λ content. (content, here bytes reader.new.position)) result
-        (content_at (meaning_of header.name) header.size (here bytes reader.old.position))) }
-    ensures numbered { IfOk result HoldsNumbered }
+        (λ _. (found.new, here bytes reader.new.position)) result
+        (content_at (meaning_of header.name) header.size (here bytes reader.old.position) >>= and_content found.old place)) }
+    ensures numbered { OnOk result (IsNumbered found.old.moov → IsNumbered found.new.moov) }
+    ensures places { OnOk result (length found.old.moof_places ≡ length found.old.moofs
+        → length found.new.moof_places ≡ length found.new.moofs) }
     ensures onward { OnOk result (reader.old.position ≤ reader.new.position) }
     ensures contents { S.contents reader.new.source ≡ S.contents reader.old.source }
     ensures can_refuse { S.can_refuse reader.new.source ≡ S.can_refuse reader.old.source }
@@ -121,53 +80,62 @@ fn read_content<S: ByteSource + Drop>(
     match header.name {
         BoxType::FtypBox => {
             let ftyp = reader.read_box(alloc, header.size)?;
-            Ok(BoxContent::Ftyp(ftyp))
+            found.ftyp = Some(ftyp);
+            Ok(())
         }
         BoxType::MoovBox => {
             let moov = reader.read_box(alloc, header.size)?;
-            Ok(BoxContent::Moov(moov))
+            found.moov = Some(moov);
+            Ok(())
         }
         BoxType::MoofBox => {
             let moof = reader.read_box(alloc, header.size)?;
-            Ok(BoxContent::Moof(moof))
+            found.moofs.push(moof)?;
+            found.moof_places.push(place)?;
+            Ok(())
         }
         BoxType::EmsgBox => {
             let emsg = reader.read_box(alloc, header.size)?;
-            Ok(BoxContent::Emsg(emsg))
+            found.emsgs.push(emsg)?;
+            Ok(())
         }
         _ => {
-            let place = reader.position();
-            let behind = place_behind(place, header.size - HEADER_SIZE)?;
+            let payload = reader.position();
+            let behind = place_behind(payload, header.size - HEADER_SIZE)?;
             reader.set_position(behind);
-            Ok(BoxContent::Skipped)
+            Ok(())
         }
     }
 }
 
-/// The next box of a file of `size` bytes, with the cursor behind it; None at its end, or at a box whose
-/// end is open, with the cursor where it was.
+/// Adds the next box of a file of `size` bytes to what was found, with the cursor behind it, and answers whether there
+/// is one: there is none at the file's end, and at a box whose end is open, with the cursor where it was.
 ///
 /// `EndOfData` where 1 to 7 bytes are left before `size`, then what refuses the header, then `InvalidData` for
 /// a size past `size`, then what refuses the content. `Io` where the source refuses.
-pub(crate) fn next_box<S: ByteSource + Drop>(
+pub(crate) fn add_next<S: ByteSource + Drop>(
     alloc: Global,
     reader: &mut SourceCursor<S>,
+    found: &mut Found,
     size: u64,
-) -> std::result::Result<Option<FileBox>, FileError>
+) -> std::result::Result<bool, FileError>
     requires len { IsLength (S.contents reader.old.source) reader.old.len }
     ensures answer { IfSome (S.contents reader.old.source) (λ bytes. AnswersRead (S.can_refuse reader.old.source)
-        (λ b. (b, here bytes reader.new.position)) result (next_box_at size (here bytes reader.old.position))) }
-    ensures numbered { IfOk result (λ b. IfSome b (λ b. HoldsNumbered b.content)) }
-    ensures onward { IfOk result (λ b. OnSome b (reader.old.position < size)) }
-    ensures moved { IfOk result (λ b. OnSome b (reader.old.position < reader.new.position)) }
-    ensures still { IfOk result (λ b. IfNone b (reader.new.position ≡ reader.old.position)) }
+        (λ more. (more, found.new, here bytes reader.new.position)) result
+        (next_box_at size (here bytes reader.old.position) >>= and_found found.old)) }
+    ensures numbered { OnOk result (IsNumbered found.old.moov → IsNumbered found.new.moov) }
+    ensures places { OnOk result (length found.old.moof_places ≡ length found.old.moofs
+        → length found.new.moof_places ≡ length found.new.moofs) }
+    ensures onward { IfOk result (λ more. IsTrue more → reader.old.position < size) }
+    ensures moved { IfOk result (λ more. IsTrue more → reader.old.position < reader.new.position) }
+    ensures still { IfOk result (λ more. IsFalse more → reader.new.position ≡ reader.old.position) }
     ensures contents { S.contents reader.new.source ≡ S.contents reader.old.source }
     ensures can_refuse { S.can_refuse reader.new.source ≡ S.can_refuse reader.old.source }
     ensures same_len { reader.new.len ≡ reader.old.len }
 {
     let place = reader.position();
     if place >= size {
-        return Ok(None);
+        return Ok(false);
     }
     if size - place < HEADER_SIZE {
         return Err(FileError::from(Error::EndOfData));
@@ -175,13 +143,13 @@ pub(crate) fn next_box<S: ByteSource + Drop>(
     let header = reader.read_header()?;
     if header.size == OPEN_END {
         reader.set_position(place);
-        return Ok(None);
+        return Ok(false);
     }
     if header.size > size {
         return Err(FileError::from(Error::InvalidData("a box is larger than the file")));
     }
-    let content = read_content(alloc, reader, header)?;
-    Ok(Some(FileBox { place, content }))
+    add_content(alloc, reader, found, place, header)?;
+    Ok(true)
 }
 
 /// Adds the boxes of a file of `size` bytes from the cursor on, which then stands at its end, to what was found, which
@@ -196,16 +164,14 @@ fn add_boxes<S: ByteSource + Drop>(
     requires len { IsLength (S.contents reader.old.source) reader.old.len }
     ensures answer { IfSome (S.contents reader.old.source) (λ bytes. AnswersRead (S.can_refuse reader.old.source)
         (λ _. (found.new, reader.new.position)) result (found_at size (here bytes reader.old.position))) }
-    ensures numbered { OnOk result (IfSome found.new.moov (λ m. HaveFirstSamples m.traks)) }
+    ensures numbered { OnOk result (IsNumbered found.new.moov) }
     ensures places { OnOk result (length found.new.moof_places ≡ length found.new.moofs) }
     ensures onward { OnOk result (reader.old.position ≤ reader.new.position) }
     ensures contents { S.contents reader.new.source ≡ S.contents reader.old.source }
     ensures can_refuse { S.can_refuse reader.new.source ≡ S.can_refuse reader.old.source }
     ensures same_len { reader.new.len ≡ reader.old.len }
 {
-    while let Some(file_box) = next_box(alloc, reader, size)? {
-        found.add(file_box)?;
-    }
+    while add_next(alloc, reader, found, size)? {}
     Ok(())
 }
 
@@ -219,7 +185,7 @@ pub(crate) fn find_boxes<S: ByteSource + Drop>(
     requires len { IsLength (S.contents reader.old.source) reader.old.len }
     ensures answer { IfSome (S.contents reader.old.source) (λ bytes. AnswersRead (S.can_refuse reader.old.source)
         (λ found. (found, reader.new.position)) result (found_at size (here bytes reader.old.position))) }
-    ensures numbered { IfOk result (λ found. IfSome found.moov (λ m. HaveFirstSamples m.traks)) }
+    ensures numbered { IfOk result (λ found. IsNumbered found.moov) }
     ensures places { IfOk result (λ found. length found.moof_places ≡ length found.moofs) }
     ensures onward { OnOk result (reader.old.position ≤ reader.new.position) }
     ensures contents { S.contents reader.new.source ≡ S.contents reader.old.source }

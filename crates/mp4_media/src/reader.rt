@@ -118,9 +118,14 @@ impl<'a> Mp4Reader<'a> {
     /// `TrakNotFound` where there is no such track; else what [`Mp4Track::locate`] answers, `Ok(None)` among it; then
     /// `EndOfData` where the sample doesn't lie whole in the bytes. Where memory runs out, there is such a sample.
     pub fn read_sample(&mut self, track_id: u32, k: u32) -> Result<Option<Mp4Sample>>
-        ensures rule { Answers (λ s. option_map timed_sample s) result (sample_in self.old.bytes.now self.old.movie.tracks track_id k) }
-        ensures plain { (t : Mp4Track) → at_id self.old.movie.tracks track_id ≡ Some t → IsTrue (is_of_movie t.trak t.trafs k) → Consistent (tables_of t.trak) → Answers (λ s. option_map timed_sample s) result (plain_sample_at self.old.bytes.now (tables_of t.trak) k) }
-        ensures memory { IfErr result (λ e. e ≡ Error.OutOfMemory → IsSample (sample_in self.old.bytes.now self.old.movie.tracks track_id k)) }
+        ensures rule { Answers (λ s. option_map timed_sample s) result
+            (sample_in self.old.bytes.now self.old.movie.tracks track_id k) }
+        ensures plain { (t : Mp4Track) → at_id self.old.movie.tracks track_id ≡ Some t
+            → IsTrue (is_of_movie t.trak t.trafs k) → Consistent (tables_of t.trak)
+            → Answers (λ s. option_map timed_sample s) result
+            (plain_sample_at self.old.bytes.now (tables_of t.trak) k) }
+        ensures memory { IfErr result (λ e. e ≡ Error.OutOfMemory
+            → IsSample (sample_in self.old.bytes.now self.old.movie.tracks track_id k)) }
         ensures same { self.new ≡ self.old }
     {
         let Some(sample) = self.read_sample_ref(track_id, k)? else {
@@ -139,8 +144,12 @@ impl<'a> Mp4Reader<'a> {
     /// Sample `k` of the track with this id, its bytes lent by those that were opened, so that it may be kept when the
     /// reader is gone. It takes no memory; all else is as in [`Mp4Reader::read_sample`].
     pub fn read_sample_ref(&self, track_id: u32, k: u32) -> Result<Option<SampleRef<'a>>>
-        ensures rule { Gives (λ s. option_map lent_sample s) result (sample_in self.now.bytes.now self.now.movie.tracks track_id k) }
-        ensures plain { (t : Mp4Track) → at_id self.now.movie.tracks track_id ≡ Some t → IsTrue (is_of_movie t.trak t.trafs k) → Consistent (tables_of t.trak) → Gives (λ s. option_map lent_sample s) result (plain_sample_at self.now.bytes.now (tables_of t.trak) k) }
+        ensures rule { Gives (λ s. option_map lent_sample s) result
+            (sample_in self.now.bytes.now self.now.movie.tracks track_id k) }
+        ensures plain { (t : Mp4Track) → at_id self.now.movie.tracks track_id ≡ Some t
+            → IsTrue (is_of_movie t.trak t.trafs k) → Consistent (tables_of t.trak)
+            → Gives (λ s. option_map lent_sample s) result
+            (plain_sample_at self.now.bytes.now (tables_of t.trak) k) }
     {
         self.lent(track_id, k)
     }
@@ -148,7 +157,8 @@ impl<'a> Mp4Reader<'a> {
     /// The answer of `read_sample_ref`.
     #[tactic(auto, unfolding(crate::specs::Reading::sample_in, mp4_lookup::specs::Tracks::sample_at))]
     fn lent(&self, track_id: u32, k: u32) -> Result<Option<SampleRef<'a>>>
-        ensures { Gives (λ s. option_map lent_sample s) result (sample_in self.now.bytes.now self.now.movie.tracks track_id k) }
+        ensures { Gives (λ s. option_map lent_sample s) result
+            (sample_in self.now.bytes.now self.now.movie.tracks track_id k) }
     {
         let Some(place) = self.movie.track(track_id)?.locate_by_guess(k)? else {
             return Ok(None);

@@ -70,7 +70,9 @@ pub struct RoundTrip<'w, 'f> {
 #[tactic(auto, unfolding(crate::specs::Reading::located_in))]
 fn place_in(movie: &Mp4Reader, track_id: u32, number: u32) -> Result<Option<SamplePlace>>
     ensures located { IsLocated movie.now track_id number result }
-    ensures plain { (t : Mp4Track) → at_id movie.now.movie.tracks track_id ≡ Some t → IsTrue (is_of_movie t.trak t.trafs number) → Consistent (tables_of t.trak) → IsPlace (tables_of t.trak) number result }
+    ensures plain { (t : Mp4Track) → at_id movie.now.movie.tracks track_id ≡ Some t
+        → IsTrue (is_of_movie t.trak t.trafs number) → Consistent (tables_of t.trak)
+        → IsPlace (tables_of t.trak) number result }
 {
     movie.track(track_id)?.locate(number)
 }
@@ -81,7 +83,8 @@ pub fn find_sample<'f>(alloc: Global, query: &SampleQuery<'f>) -> Result<FoundSa
     ensures found { LooksUpInEachFile query.now.size (here query.now.bytes.now query.now.start) query.now.track_id query.now.number result }
     ensures opened { IsOpeningBy (λ found. found.movie) query.now.size (here query.now.bytes.now query.now.start) result }
     ensures place { IfOk result (λ found. IsLocated found.movie query.now.track_id query.now.number found.place) }
-    ensures sample { IfOk result (λ found. Answers (λ s. option_map timed_sample s) found.sample (sample_in query.now.bytes.now found.movie.movie.tracks query.now.track_id query.now.number)) }
+    ensures sample { IfOk result (λ found. Answers (λ s. option_map timed_sample s) found.sample
+        (sample_in query.now.bytes.now found.movie.movie.tracks query.now.track_id query.now.number)) }
     ensures memory { IfOk result (λ found. IfErr found.sample (λ e. e ≡ OutOfMemory
         → IsSample (sample_in query.now.bytes.now found.movie.movie.tracks query.now.track_id query.now.number))) }
 {

@@ -1,12 +1,14 @@
 //! Boxes of a source, read where they lie.
 
-ghost use Rattle.std.specs.Prelude.{◌≡◌, ◌+◌, ◌≤◌, ◌⊎◌, List, ℕ, Ok, Some, length, IfOk, IfErr, IfSome, OnOk};
+ghost use Rattle.std.specs.Prelude.{◌≡◌, ◌+◌, ◌-◌, ◌≤◌, ◌⊎◌, List, ℕ, Ok, Some, length, IfOk, IfErr, IfSome, OnOk};
 ghost use Rattle.std.specs.Prelude.{IsTrue, ◌↔◌};
 ghost use Rattle.mp4_codec.specs.BoxType.{IsNamed};
 ghost use Rattle.mp4_codec.specs.Boxes.{box_at};
 ghost use Rattle.mp4_codec.specs.Cause.{Gives};
 ghost use Rattle.mp4_codec.specs.Cursor.{here, header_at, take_at};
+ghost use Rattle.mp4_codec.specs.declared.error.Error.TheVariants.{OutOfMemory};
 ghost use Rattle.mp4_source.specs.Answers.{AnswersRead, IsIo, IsLength, IsSomeValue};
+ghost use Rattle.mp4_source.specs.declared.file_error.FileError.TheVariants.{Mp4};
 ghost use Rattle.mp4_source.specs.Source.{OnIo};
 
 use crate::error::SourceError;
@@ -130,6 +132,7 @@ impl<S: ByteSource + Drop> SourceCursor<S> {
         ensures answer { IfSome (S.contents self.old.source) (λ bytes. AnswersRead (S.can_refuse self.old.source)
             (λ x. (x, here bytes self.new.position)) result (box_at B.value size (here bytes self.old.position))) }
         ensures value { IfOk result (IsSomeValue B.value) }
+        ensures fits { IfErr result (λ e. e ≡ Mp4 OutOfMemory → self.old.position + (size - 8) ≤ self.old.len) }
         ensures onward { OnOk result (self.old.position ≤ self.new.position) }
         ensures contents { S.contents self.new.source ≡ S.contents self.old.source }
         ensures can_refuse { S.can_refuse self.new.source ≡ S.can_refuse self.old.source }

@@ -5,73 +5,77 @@ use Rattle.mp4_frag.specs.Emsg.{emsg_of}
 use Rattle.mp4_boxes.specs.Moov.{moov_of}
 use Rattle.mp4_boxes.specs.MoovLaws.{moov_of-has_first_samples}
 use Rattle.mp4_moof.specs.Moof.{moof_of}
-use Rattle.mp4_media.specs.declared.opening.BoxContent.TheVariants.{Ftyp, Moov, Moof, Emsg}
+use Rattle.mp4_media.specs.FileBoxes.{Ftyp, Moov, Moof, Emsg}
 use Rattle.mp4_media.proofs.Contents.{meaning-ftyp, meaning-moov, meaning-moof, meaning-emsg, meaning-none}
-use Rattle.mp4_media.proofs.FoundBoxes.{content_is, content_refused, all_known}
-use Rattle.mp4_media.proofs.opening.read_content.Goals as goal
+use Rattle.mp4_media.proofs.FoundBoxes.{box_is_added, box_is_refused, all_known}
+use Rattle.mp4_media.proofs.opening.add_content.Goals as goal
 
 pub returns-in_err-ftyp-in-FtypBox-clause-answer : goal.returns-in_err-ftyp-in-FtypBox-clause-answer
 returns-in_err-ftyp-in-FtypBox-clause-answer g c =
     let reader = c.args.reader.now in
     let p = err_from_is_err_and c.from_residual.result c.from_residual.ensures.1 in
-    rw (p.1, p.2) (content_refused Ftyp ftyp_of c.args.header.name (meaning-ftyp c.args.header.name c.in-FtypBox.is)
-    (g.S.ByteSource.contents reader.source) c.args.header.size reader.position 0
+    rw (p.1, p.2) (box_is_refused Ftyp ftyp_of c.args.header.name (meaning-ftyp c.args.header.name c.in-FtypBox.is)
+    (g.S.ByteSource.contents reader.source) c.args.header.size reader.position 0 c.args.found.now c.args.place
     (g.S.ByteSource.can_refuse reader.source) c.in_err-ftyp-in-FtypBox.field-0.0
     c.in_err-ftyp-in-FtypBox.ensures.answer)
 
 pub returns-in_ok-ftyp-in-FtypBox-clause-answer : goal.returns-in_ok-ftyp-in-FtypBox-clause-answer
 returns-in_ok-ftyp-in-FtypBox-clause-answer g c =
     let reader = c.args.reader.now in
-    content_is Ftyp ftyp_of c.args.header.name (meaning-ftyp c.args.header.name c.in-FtypBox.is)
+    box_is_added Ftyp ftyp_of c.args.header.name (meaning-ftyp c.args.header.name c.in-FtypBox.is)
     (g.S.ByteSource.contents reader.source) c.args.header.size reader.position c.read_box.new.self.position
+    c.args.found.now c.args.place
     c.in_ok-ftyp-in-FtypBox.ftyp c.in_ok-ftyp-in-FtypBox.ensures.answer
 
 pub returns-in_err-moov-in-MoovBox-clause-answer : goal.returns-in_err-moov-in-MoovBox-clause-answer
 returns-in_err-moov-in-MoovBox-clause-answer g c =
     let reader = c.args.reader.now in
     let p = err_from_is_err_and c.from_residual-in_err-moov-in-MoovBox.result c.from_residual-in_err-moov-in-MoovBox.ensures.1 in
-    rw (p.1, p.2) (content_refused Moov moov_of c.args.header.name (meaning-moov c.args.header.name c.in-MoovBox.is)
-    (g.S.ByteSource.contents reader.source) c.args.header.size reader.position 0
+    rw (p.1, p.2) (box_is_refused Moov moov_of c.args.header.name (meaning-moov c.args.header.name c.in-MoovBox.is)
+    (g.S.ByteSource.contents reader.source) c.args.header.size reader.position 0 c.args.found.now c.args.place
     (g.S.ByteSource.can_refuse reader.source) c.in_err-moov-in-MoovBox.field-0.0
     c.in_err-moov-in-MoovBox.ensures.answer)
 
 pub returns-in_ok-moov-in-MoovBox-clause-answer : goal.returns-in_ok-moov-in-MoovBox-clause-answer
 returns-in_ok-moov-in-MoovBox-clause-answer g c =
     let reader = c.args.reader.now in
-    content_is Moov moov_of c.args.header.name (meaning-moov c.args.header.name c.in-MoovBox.is)
+    box_is_added Moov moov_of c.args.header.name (meaning-moov c.args.header.name c.in-MoovBox.is)
     (g.S.ByteSource.contents reader.source) c.args.header.size reader.position c.read_box-in-MoovBox.new.self.position
+    c.args.found.now c.args.place
     c.in_ok-moov-in-MoovBox.moov c.in_ok-moov-in-MoovBox.ensures.answer
 
 pub returns-in_err-moof-in-MoofBox-clause-answer : goal.returns-in_err-moof-in-MoofBox-clause-answer
 returns-in_err-moof-in-MoofBox-clause-answer g c =
     let reader = c.args.reader.now in
     let p = err_from_is_err_and c.from_residual-in_err-moof-in-MoofBox.result c.from_residual-in_err-moof-in-MoofBox.ensures.1 in
-    rw (p.1, p.2) (content_refused Moof moof_of c.args.header.name (meaning-moof c.args.header.name c.in-MoofBox.is)
-    (g.S.ByteSource.contents reader.source) c.args.header.size reader.position 0
+    rw (p.1, p.2) (box_is_refused Moof moof_of c.args.header.name (meaning-moof c.args.header.name c.in-MoofBox.is)
+    (g.S.ByteSource.contents reader.source) c.args.header.size reader.position 0 c.args.found.now c.args.place
     (g.S.ByteSource.can_refuse reader.source) c.in_err-moof-in-MoofBox.field-0.0
     c.in_err-moof-in-MoofBox.ensures.answer)
 
 pub returns-in_ok-moof-in-MoofBox-clause-answer : goal.returns-in_ok-moof-in-MoofBox-clause-answer
 returns-in_ok-moof-in-MoofBox-clause-answer g c =
     let reader = c.args.reader.now in
-    content_is Moof moof_of c.args.header.name (meaning-moof c.args.header.name c.in-MoofBox.is)
+    box_is_added Moof moof_of c.args.header.name (meaning-moof c.args.header.name c.in-MoofBox.is)
     (g.S.ByteSource.contents reader.source) c.args.header.size reader.position c.read_box-in-MoofBox.new.self.position
+    c.args.found.now c.args.place
     c.in_ok-moof-in-MoofBox.moof c.in_ok-moof-in-MoofBox.ensures.answer
 
 pub returns-in_err-emsg-in-EmsgBox-clause-answer : goal.returns-in_err-emsg-in-EmsgBox-clause-answer
 returns-in_err-emsg-in-EmsgBox-clause-answer g c =
     let reader = c.args.reader.now in
     let p = err_from_is_err_and c.from_residual-in_err-emsg-in-EmsgBox.result c.from_residual-in_err-emsg-in-EmsgBox.ensures.1 in
-    rw (p.1, p.2) (content_refused Emsg emsg_of c.args.header.name (meaning-emsg c.args.header.name c.in-EmsgBox.is)
-    (g.S.ByteSource.contents reader.source) c.args.header.size reader.position 0
+    rw (p.1, p.2) (box_is_refused Emsg emsg_of c.args.header.name (meaning-emsg c.args.header.name c.in-EmsgBox.is)
+    (g.S.ByteSource.contents reader.source) c.args.header.size reader.position 0 c.args.found.now c.args.place
     (g.S.ByteSource.can_refuse reader.source) c.in_err-emsg-in-EmsgBox.field-0.0
     c.in_err-emsg-in-EmsgBox.ensures.answer)
 
 pub returns-in_ok-emsg-in-EmsgBox-clause-answer : goal.returns-in_ok-emsg-in-EmsgBox-clause-answer
 returns-in_ok-emsg-in-EmsgBox-clause-answer g c =
     let reader = c.args.reader.now in
-    content_is Emsg emsg_of c.args.header.name (meaning-emsg c.args.header.name c.in-EmsgBox.is)
+    box_is_added Emsg emsg_of c.args.header.name (meaning-emsg c.args.header.name c.in-EmsgBox.is)
     (g.S.ByteSource.contents reader.source) c.args.header.size reader.position c.read_box-in-EmsgBox.new.self.position
+    c.args.found.now c.args.place
     c.in_ok-emsg-in-EmsgBox.emsg c.in_ok-emsg-in-EmsgBox.ensures.answer
 
 pub returns-in_ok-moov-in-MoovBox-clause-numbered : goal.returns-in_ok-moov-in-MoovBox-clause-numbered

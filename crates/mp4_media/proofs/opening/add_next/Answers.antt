@@ -1,0 +1,72 @@
+use Rattle.std.proofs.Common.{◌∙◌, ap, inr, arith}
+use Rattle.std.proofs.lemmas.Bool.{ne_eqb}
+use Rattle.std.proofs.lemmas.Result.{err_from_is_err_and}
+use Rattle.mp4_codec.specs.Cause.{◌>>=◌}
+use Rattle.mp4_codec.specs.Cursor.{here}
+use Rattle.mp4_media.specs.Walk.{content_at, next_box_at, and_content, and_found}
+use Rattle.mp4_media.proofs.FoundBoxes.{all_known, of_known, of_known_by, refused_too}
+use Rattle.mp4_media.proofs.FoundBoxes.{no_next, short_rest, no_head, open_end, too_large, content_next}
+use Rattle.mp4_media.proofs.opening.add_next.Goals as goal
+
+pub returns-then-place-size-clause-answer : goal.returns-then-place-size-clause-answer
+returns-then-place-size-clause-answer g c =
+    let reader = c.args.reader.now in
+    all_known (g.S.ByteSource.contents reader.source) _
+    (λ bytes. rw (no_next c.args.size (here bytes reader.position) (omega arith)) refl)
+
+pub returns-then-size-place-lt-HEADER_SIZE-clause-answer :
+    goal.returns-then-size-place-lt-HEADER_SIZE-clause-answer
+returns-then-size-place-lt-HEADER_SIZE-clause-answer g c =
+    let reader = c.args.reader.now in
+    all_known (g.S.ByteSource.contents reader.source) _
+    (λ bytes.
+    rw (c.from.ensures, short_rest c.args.size (here bytes reader.position) (omega arith) (omega arith)) (inr refl))
+
+pub returns-in_err-header-clause-answer : goal.returns-in_err-header-clause-answer
+returns-in_err-header-clause-answer g c =
+    let reader = c.args.reader.now in
+    let p = err_from_is_err_and c.from_residual.result c.from_residual.ensures.1 in
+    of_known (g.S.ByteSource.contents reader.source) _ _ c.in_err-header.ensures.answer
+    (λ bytes a. rw (p.1, p.2) (refused_too (g.S.ByteSource.can_refuse reader.source) c.in_err-header.field-0.0 _ _
+    (λ cause refused. ap (λ r. r >>= and_found c.args.found.now)
+    (no_head c.args.size (here bytes reader.position) (omega arith) (omega arith) cause refused)) a))
+
+pub returns-then-header-eq-OPEN_END-clause-answer : goal.returns-then-header-eq-OPEN_END-clause-answer
+returns-then-header-eq-OPEN_END-clause-answer g c =
+    let reader = c.args.reader.now in
+    of_known (g.S.ByteSource.contents reader.source) _ _ c.in_ok-header.ensures.answer
+    (λ bytes e. rw (
+      c.set_position.ensures,
+      c.position-place.ensures,
+      open_end c.args.size (here bytes reader.position) (omega arith) (omega arith) c.in_ok-header.header
+      (here bytes c.read_header.new.self.position) e (omega arith),
+    ) refl)
+
+pub returns-then-header-size-clause-answer : goal.returns-then-header-size-clause-answer
+returns-then-header-size-clause-answer g c =
+    let reader = c.args.reader.now in
+    of_known (g.S.ByteSource.contents reader.source) _ _ c.in_ok-header.ensures.answer
+    (λ bytes e. rw (
+      c.from-then-header-size.ensures,
+      too_large c.args.size (here bytes reader.position) (omega arith) (omega arith) c.in_ok-header.header
+      (here bytes c.read_header.new.self.position) e
+      (ne_eqb c.in_ok-header.header.size 0 (λ zero. omega (arith, zero))) (omega arith),
+    ) (inr refl))
+
+-- the box that is added
+module _ (size : ℕ) (place : Cursor) (below : place.position < size) (long : place.position + 8 ≤ size) (h : BoxHeader)
+    (behind : Cursor) (head : header_at place ≡ Ok (h, behind)) (some : 8 ≤ h.size) (fits : h.size ≤ size)
+    (found : Found) where
+      next_is_added : (next_box_at size place >>= and_found found)
+          ≡ ((content_at (meaning_of h.name) h.size behind >>= and_content found place.position)
+          >>= λ x. Ok (true, x.0, x.1))
+      next_is_added =
+          ap (λ r. r >>= and_found found)
+          (content_next size place below long h behind head (ne_eqb h.size 0 (λ zero. omega (arith, zero))) fits)
+          ∙ next_added found place.position (content_at (meaning_of h.name) h.size behind)
+
+pub returns-in_err-clause-answer : goal.returns-in_err-clause-answer
+returns-in_err-clause-answer g c = ?
+
+pub returns-clause-answer : goal.returns-clause-answer
+returns-clause-answer g c = ?
