@@ -14,7 +14,7 @@ use Rattle.mp4_codec.specs.declared.error.Error.TheVariants.{OutOfMemory}
 use Rattle.mp4_source.specs.Answers.{IsIo, OnMp4, RefusesRead}
 use Rattle.mp4_source.specs.declared.file_error.FileError.{FileError}
 use Rattle.mp4_source.specs.declared.file_error.FileError.TheVariants.{Mp4, Io}
-use Rattle.mp4_media.specs.FileBoxes.{FileBox, BoxContent}
+use Rattle.mp4_media.specs.FileBoxes.{BoxContent}
 use Rattle.mp4_media.specs.declared.opening.Found.{Found}
 use Rattle.mp4_media.specs.FileBoxes.{meaning_of, read_as}
 use Rattle.mp4_media.specs.Walk.{box_behind, content_at, next_box_at, with_content, with_box, and_content, and_found}
@@ -115,9 +115,12 @@ module _ (size : ℕ) (place : Cursor) where
       content_next some fits = behind_head ∙ rw (some, le-ltb size h.size fits) refl
 
 -- the next box, added to what was found
+abbrev pub and_more : Found × Cursor → Result (Bool × Found × Cursor) Cause
+and_more x = Ok (true, x.0, x.1)
+
 pub next_added : (found : Found) (place : ℕ) (r : Result (BoxContent × Cursor) Cause)
     → ((r >>= with_content place) >>= and_found found)
-    ≡ ((r >>= and_content found place) >>= λ x. Ok (true, x.0, x.1))
+    ≡ ((r >>= and_content found place) >>= and_more)
 next_added found place (Ok x) = refl
 next_added found place (Err c) = refl
 
@@ -130,6 +133,10 @@ opened_by size place found end e = rw e refl
 pub none_found : (size : ℕ) (place : Cursor) (c : Cause) → found_at size place ≡ Err c → opened_at size place ≡ Err c
 unfolding opened_at
 none_found size place c e = rw e refl
+
+-- an error of MP4 says which
+pub same_mp4 : (e f : Error) → Mp4 e ≡ Mp4 f → e ≡ f
+same_mp4 e f same = cc
 
 -- a source that refuses no read is refused as its bytes are
 pub refused_as_bytes : {Y : Type 0} (f : FileError) (e : Error) (answer : Result Y Cause) → OnMp4 f (λ x. e ≡ x)

@@ -1,6 +1,7 @@
--- What is read of an opened movie that was written: exactly what the calls of its writer have accepted. And what is found
--- in a track that no fragment names.
-use Rattle.std.proofs.Common.{◌≡◌, inl, inr, ⊎_elim, ℕ, zero, suc, ◌+◌, ◌-◌, ◌^◌, ◌<◌, ◌≤◌, Bool, true, false, cond, eqb}
+-- What is read of an opened movie that was written: exactly what the calls of its writer have accepted. And what is
+-- found in a track that no fragment names.
+use Rattle.std.proofs.Common.{◌≡◌, inl, inr, ⊎_elim, ℕ, zero, suc, ◌+◌, ◌-◌, ◌^◌, ◌<◌, ◌≤◌, Bool, true, false, cond}
+use Rattle.std.proofs.Common.{eqb}
 use Rattle.std.proofs.Common.{List, [], ◌∷◌, length, get_or, slice_get, Option, Some, None, Result, Ok, Err}
 use Rattle.std.proofs.Common.{pos, refl, sym, ap, subst, ◌∙◌, arith}
 use Rattle.std.specs.Prelude.{option_map, IsSomeAnd, ok_or}
@@ -45,7 +46,8 @@ use Rattle.mp4_media.specs.Finished.{Opens}
 use Rattle.mp4_media.specs.MovieTracks.{trak_with_id, trafs_in, trafs_of, with_fragments, opened_track, track_at, at_id}
 use Rattle.mp4_media.specs.MovieTracks.{AreTracks}
 use Rattle.mp4_media.specs.Reading.{track_or, sample_in, sample_count_in}
-use Rattle.mp4_media.specs.RoundTrip.{sample_number, accepted_with_id, accepted_sample, IsDescribed, HasExactly, IsOpening, OpensAs, IsPlainTrack}
+use Rattle.mp4_media.specs.RoundTrip.{sample_number, accepted_with_id, accepted_sample, IsDescribed, HasExactly}
+use Rattle.mp4_media.specs.RoundTrip.{IsOpening, OpensAs, IsPlainTrack}
 use Rattle.mp4_media.proofs.Gathering.{with_first}
 
 -- The box of a track by its id.
@@ -325,7 +327,8 @@ module _ (st : WriterState) (w : IsWrittenMovie st) (fits : length (whole_of st)
   exactly = record {
     tracks = described_at;
     samples = λ id k small.
-        ap (λ file. track_or id (at_id movie.movie.tracks id) >>= λ t. sample_at file t.trak t.trafs (track_runs t) k) bytes
+        ap (λ file. track_or id (at_id movie.movie.tracks id) >>= λ t. sample_at file t.trak t.trafs (track_runs t) k)
+        bytes
         ∙ at_each_id (λ t. sample_at (whole_of st) t.trak t.trafs (track_runs t) k) (λ a. sample_number a.samples k)
         (λ u a trak one t box trafs runs. read_at_number st (u + 1) a trak one fits t box trafs k small) id;
     counts = at_each_id (λ t. sample_count_of t.trak (track_runs t)) (λ a. Ok (length a.samples))
@@ -371,7 +374,8 @@ module _ (session : Session) (empty : session.front ≡ []) (e : IsEnded session
   read_back (Err error) o = wanted_memory finished error (o.opens finished is_file)
 
 -- A track of an opened file that no fragment names.
-module _ (r : Mp4Reader) (are : AreTracks r.movie.moov r.movie.moofs r.movie.moof_places r.movie.tracks) (opened : OpenedFile)
+module _ (r : Mp4Reader) (are : AreTracks r.movie.moov r.movie.moofs r.movie.moof_places r.movie.tracks)
+    (opened : OpenedFile)
     (same : opened ≡ opened_file r) (id : ℕ) (trak : TrakBox) (plain : IsPlainTrack opened id trak) where
   pub record IsFoundTrack : Type 0 where
     pub track : Mp4Track

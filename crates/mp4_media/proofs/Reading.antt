@@ -26,7 +26,7 @@ use Rattle.mp4_samples.specs.Tables.{chunk_offsets, sizes, tables_of}
 use Rattle.mp4_lookup.specs.TrackRuns.{track_runs}
 use Rattle.mp4_lookup.specs.TrackLaws.{sample_is_plain}
 use Rattle.mp4_media.specs.MovieTracks.{at_id}
-use Rattle.mp4_media.specs.Reading.{track_or, needed_track, sample_in}
+use Rattle.mp4_media.specs.Reading.{track_or, needed_track, located_in, placed_in, sample_in, within}
 
 -- an answer that does not say that memory ran out
 abbrev WantsNone : {A : Type 0} → Result A Cause → Type 0
@@ -132,15 +132,31 @@ read-none : (file : List ℕ) (p : Option Place) → WantsNone (read_in file p)
 read-none file None = tt
 read-none file (Some p) = either (ltb (length file) (p.offset + p.size)) _ _ (λ e. absurd cc) tt
 
-module _ {S : Type 0} (file : List ℕ) (tracks : HashMap ℕ Mp4Track S) (id k : ℕ) where
-  known : (o : Option Mp4Track) → WantsNone (track_or id o)
-  known None = λ e. absurd cc
-  known (Some t) = tt
+within-none : (len : ℕ) (p : Option Place) → WantsNone (within len p)
+within-none len None = tt
+within-none len (Some p) = either (ltb len (p.offset + p.size)) _ _ (λ e. absurd cc) tt
 
+track-none : (id : ℕ) (o : Option Mp4Track) → WantsNone (track_or id o)
+track-none id None = λ e. absurd cc
+track-none id (Some t) = tt
+
+module _ {S : Type 0} (tracks : HashMap ℕ Mp4Track S) (id k len : ℕ) where
+  place-none : WantsNone (placed_in len tracks id k)
+  unfolding located_in
+  place-none =
+      next (located_in tracks id k) (within len)
+      (next (needed_track tracks id) _ (track-none id (at_id tracks id))
+      (λ t. answer-none t.trak t.trafs (track_runs t) k)) (within-none len)
+
+  -- of no place it is said that memory ran out
+  pub place_wants_none : (c : Cause) → placed_in len tracks id k ≡ Err c → c ≡ out_of_memory → ⊥
+  place_wants_none c e = subst WantsNone e place-none
+
+module _ {S : Type 0} (file : List ℕ) (tracks : HashMap ℕ Mp4Track S) (id k : ℕ) where
   sample-none : WantsNone (sample_in file tracks id k)
   unfolding sample_in sample_at
   sample-none =
-      next (needed_track tracks id) _ (known (at_id tracks id))
+      next (needed_track tracks id) _ (track-none id (at_id tracks id))
       (λ t. next (answer_at t.trak t.trafs (track_runs t) k) (read_in file) (answer-none t.trak t.trafs (track_runs t) k)
       (read-none file))
 

@@ -1,11 +1,12 @@
 -- The boxes of a file, walked over one after the other.
 use Rattle.std.proofs.Common.{◌≡◌, ℕ, zero, suc, ◌+◌, ◌-◌, ◌≤◌, ◌<◌, Bool, true, false, cond, ltb, leb, List, [], ◌∷◌}
 use Rattle.std.proofs.Common.{◌++◌, Option, Some, None, Result, Ok, Err, refl, sym, ap, ◌∙◌, append_assoc, arith}
-use Rattle.std.proofs.lemmas.Bool.{leb-false}
+use Rattle.std.proofs.lemmas.Bool.{false≢true, leb-false}
 use Rattle.std.proofs.lemmas.List.{append-nil}
 use Rattle.mp4_codec.specs.declared.box_type.BoxType.TheVariants.{FtypBox as ftyp, MoovBox as moov}
 use Rattle.mp4_codec.specs.Cause.{Cause, end_of_data, box_not_found, ◌>>=◌}
 use Rattle.mp4_codec.specs.Cursor.{Cursor, header_at}
+use Rattle.mp4_codec.specs.Steps.{ok_is}
 use Rattle.mp4_codec.specs.Children.{last}
 use Rattle.mp4_leaf.specs.declared.ftyp.FtypBox.{FtypBox}
 use Rattle.mp4_boxes.specs.declared.moov.MoovBox.{MoovBox}
@@ -127,14 +128,27 @@ module _ (size : ℕ) (start place : Cursor) (found : Found) where
 module _ (found after : Found) (behind : Cursor) where
   pub box_added : (r : Result (Option FileBox × Cursor) Cause) → (r >>= and_found found) ≡ Ok (true, after, behind)
       → (b : FileBox) × (r ≡ Ok (Some b, behind)) × (after ≡ with_box found b)
-  box_added (Ok (Some b, place)) e = (b, cc, cc)
-  box_added (Ok (None, place)) e = absurd cc
+  box_added (Ok (Some b, place)) e =
+      let same = ok_is (true, with_box found b, place) (true, after, behind) e in (
+        b,
+        ap (λ (t : Bool × Found × Cursor). Ok (Some b, t.2)) same,
+        ap (λ (t : Bool × Found × Cursor). t.1) (sym same),
+      )
+  box_added (Ok (None, place)) e =
+      let same = ok_is (false, found, place) (true, after, behind) e in
+      absurd (false≢true (ap (λ (t : Bool × Found × Cursor). t.0) same))
   box_added (Err c) e = absurd cc
 
   pub none_added : (r : Result (Option FileBox × Cursor) Cause) → (r >>= and_found found) ≡ Ok (false, after, behind)
       → (r ≡ Ok (None, behind)) × (after ≡ found)
-  none_added (Ok (Some b, place)) e = absurd cc
-  none_added (Ok (None, place)) e = (cc, cc)
+  none_added (Ok (Some b, place)) e =
+      let same = ok_is (true, with_box found b, place) (false, after, behind) e in
+      absurd (false≢true (sym (ap (λ (t : Bool × Found × Cursor). t.0) same)))
+  none_added (Ok (None, place)) e =
+      let same = ok_is (false, found, place) (false, after, behind) e in (
+        ap (λ (t : Bool × Found × Cursor). Ok (None, t.2)) same,
+        ap (λ (t : Bool × Found × Cursor). t.1) (sym same),
+      )
   none_added (Err c) e = absurd cc
 
 pub refused_before : (found : Found) (c : Cause) (r : Result (Option FileBox × Cursor) Cause)

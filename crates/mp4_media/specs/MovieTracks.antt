@@ -1,6 +1,6 @@
 -- The tracks of an opened movie by their ids, each with its fragments (ISO/IEC 14496-12, 8.3.2, 8.8.3 and 8.8.7).
-use Rattle.std.specs.Prelude.{◌≡◌, ◌⊎◌, ℕ, nat_eq, Bool, List, [], Option, Some, None, is_some, unwrap_or, length, IfSome}
-use Rattle.std.specs.Prelude.{option_map, Result, Ok, Err, ◌==◌, map, zip, if◌then◌else◌}
+use Rattle.std.specs.Prelude.{◌≡◌, ◌⊎◌, ℕ, nat_eq, Bool, List, [], Option, Some, None, is_some, unwrap_or, length}
+use Rattle.std.specs.Prelude.{IfSome, option_map, Result, Ok, Err, ◌==◌, map, zip, if◌then◌else◌}
 use Rattle.std.specs.List.{AllByRecursion, filter, flat_map}
 use Rattle.std.specs.HashMap.{HashMap, get}
 use Rattle.mp4_codec.specs.declared.error.Error.{Error}
@@ -25,7 +25,6 @@ use Rattle.mp4_lookup.specs.declared.track.Mp4Track.{Mp4Track}
 use Rattle.mp4_lookup.specs.TrackRuns.{track_runs}
 use Rattle.mp4_samples.specs.Tables.{tables_of}
 use Rattle.mp4_lookup.specs.Tracks.{movie_end}
-use Rattle.mp4_media.specs.FileBoxes.{BoxContent, moov_from}
 
 -- the box of the track with this id: of equal ids the last
 abbrev pub trak_with_id : List TrakBox → ℕ → Option TrakBox

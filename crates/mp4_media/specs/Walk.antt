@@ -1,6 +1,7 @@
 -- The steps by which a file is opened, one box after the other. What they come to is said by the grammar of files.
 use Rattle.std.specs.Prelude.{ℕ, zero, suc, ◌+◌, ◌-◌, ◌^◌, List, [], ◌∷◌, Option, Some, None, Result, Ok, Err, nat_lt}
 use Rattle.std.specs.Prelude.{Bool, true, false, nat_le, ◌==◌, if◌then◌else◌}
+use Rattle.mp4_codec.specs.declared.box_type.BoxType.{BoxType}
 use Rattle.mp4_codec.specs.declared.box_type.BoxType.TheVariants.{FtypBox as ftyp, MoovBox as moov}
 use Rattle.mp4_codec.specs.declared.header.BoxHeader.{BoxHeader}
 use Rattle.mp4_codec.specs.Cause.{Cause, end_of_data, invalid_data, ◌>>=◌, unless}
@@ -74,14 +75,21 @@ with_box found b = record {
   emsgs = and_one found.emsgs (emsg_from b.content);
 }
 
--- what was found with a box of this content more, which begins at the place; and what stands behind it
 abbrev pub and_content : Found → ℕ → BoxContent × Cursor → Result (Found × Cursor) Cause
 and_content found place x = Ok (with_box found (record { place = place; content = x.0 }), x.1)
 
--- whether there is a next box, what was found with it, and what stands behind it
+-- what was found with a box more, of this type and this size, which begins at the place and whose payload stands at the
+-- cursor; and the place behind it
+abbrev pub with_content_at : BoxType → ℕ → Found → ℕ → Cursor → Result (Found × Cursor) Cause
+with_content_at name size found place cursor = content_at (meaning_of name) size cursor >>= and_content found place
+
 abbrev pub and_found : Found → Option FileBox × Cursor → Result (Bool × Found × Cursor) Cause
 and_found found (None, place) = Ok (false, found, place)
 and_found found (Some b, behind) = Ok (true, with_box found b, behind)
+
+-- whether a box stands at a place in a file of `size` bytes, what was found with it, and the place behind it
+abbrev pub with_next_at : ℕ → Found → Cursor → Result (Bool × Found × Cursor) Cause
+with_next_at size found place = next_box_at size place >>= and_found found
 
 -- what counts of the boxes of a file from a place on, and the last place
 unfoldable pub found_at : ℕ → Cursor → Result (Found × ℕ) Cause

@@ -127,8 +127,8 @@ impl<S: ByteSource + Drop> Mp4File<S> {
     /// The answer is where the sample lies, and when it is decoded and shown, in ticks of the track's timescale.
     ///
     /// Refused as [`crate::Mp4Reader::read_sample`], with the same errors, all of which but `OutOfMemory` are found
-    /// before a byte of the sample is read. Where memory runs out, there is such a sample. `Io` where the source refuses
-    /// to read it. A refused call leaves the movie as it is.
+    /// before a byte of the sample is read. Where memory runs out, there is such a sample. `Io` where the source
+    /// refuses to read it. A refused call leaves the movie as it is.
     pub fn read_sample_into(
         &mut self,
         track_id: u32,

@@ -1,6 +1,6 @@
 //! Movies that were opened, whatever their bytes are read from.
 
-ghost use Rattle.std.specs.Prelude.{◌≡◌, ◌<◌, ◌↔◌, length, Some, option_copied, option_map, IfOk, IfSome, IsTrue};
+ghost use Rattle.std.specs.Prelude.{◌≡◌, ◌<◌, ◌↔◌, length, option_copied, option_map, IfOk, IfSome, IsTrue};
 ghost use Rattle.mp4_codec.specs.Cause.{Gives, Answers};
 ghost use Rattle.mp4_codec.specs.Cursor.{here};
 ghost use Rattle.mp4_boxes.specs.declared.moov.MoovBox.{MoovBox};

@@ -2,12 +2,11 @@
 
 ghost use Rattle.std.specs.Prelude.{◌≡◌, ◌<◌, ◌≤◌, ◌-◌, ◌+◌, [], List, ℕ, length, IfOk, IfSome, OnOk, IsTrue, IsFalse};
 ghost use Rattle.mp4_codec.specs.BoxType.{IsNamed};
-ghost use Rattle.mp4_codec.specs.Cause.{Gives, ◌>>=◌};
+ghost use Rattle.mp4_codec.specs.Cause.{Gives};
 ghost use Rattle.mp4_codec.specs.Cursor.{here};
 ghost use Rattle.mp4_source.specs.Answers.{AnswersRead, IsLength};
-ghost use Rattle.mp4_media.specs.FileBoxes.{meaning_of};
 ghost use Rattle.mp4_media.specs.MovieTracks.{IsNumbered};
-ghost use Rattle.mp4_media.specs.Walk.{skip_at, content_at, next_box_at, found_of, and_content, and_found, found_at};
+ghost use Rattle.mp4_media.specs.Walk.{skip_at, found_at, found_of, with_content_at, with_next_at};
 
 use mp4_boxes::MoovBox;
 use mp4_codec::{BoxHeader, BoxType, Error, HEADER_SIZE, Items, OPEN_END, Result};
@@ -68,7 +67,7 @@ fn add_content<S: ByteSource + Drop>(
     requires size { 8 ≤ header.size }
     ensures answer { IfSome (S.contents reader.old.source) (λ bytes. AnswersRead (S.can_refuse reader.old.source)
         (λ _. (found.new, here bytes reader.new.position)) result
-        (content_at (meaning_of header.name) header.size (here bytes reader.old.position) >>= and_content found.old place)) }
+        (with_content_at header.name header.size found.old place (here bytes reader.old.position))) }
     ensures numbered { OnOk result (IsNumbered found.old.moov → IsNumbered found.new.moov) }
     ensures places { OnOk result (length found.old.moof_places ≡ length found.old.moofs
         → length found.new.moof_places ≡ length found.new.moofs) }
@@ -122,7 +121,7 @@ pub(crate) fn add_next<S: ByteSource + Drop>(
     requires len { IsLength (S.contents reader.old.source) reader.old.len }
     ensures answer { IfSome (S.contents reader.old.source) (λ bytes. AnswersRead (S.can_refuse reader.old.source)
         (λ more. (more, found.new, here bytes reader.new.position)) result
-        (next_box_at size (here bytes reader.old.position) >>= and_found found.old)) }
+        (with_next_at size found.old (here bytes reader.old.position))) }
     ensures numbered { OnOk result (IsNumbered found.old.moov → IsNumbered found.new.moov) }
     ensures places { OnOk result (length found.old.moof_places ≡ length found.old.moofs
         → length found.new.moof_places ≡ length found.new.moofs) }

@@ -39,8 +39,8 @@ runs_are payload parts e = by_fault (first_fault traf_fault (children payload).0
         ap (λ (p : TrafParts). p.truns) (sym same)
     by_fault (Some c) e = absurd cc
 
--- Where the children were gathered, and the list of their runs can't be shared for want of memory, there is a run: so
--- memory was requested before.
+-- A list of runs takes memory to be shared only where it has a run, for which memory was requested before: so a refusal
+-- of it comes late.
 pub refused_late : (payload : List ℕ) (parts : TrafParts) (e : Error)
     → gathered traf_fault traf_taken (children payload) ≡ Ok parts
     → Shows {X = TrafParts} (early_gathered traf_child_early (children payload)) (Ok parts)

@@ -18,7 +18,7 @@ abbrev pub OnMp4 : FileError → (Error → Type 0) → Type 0
 OnMp4 (Mp4 e) P = P e
 OnMp4 (Io e) P = ⊤
 
--- it is told as an error of a source
+-- the source refused a read
 abbrev pub IsIo : FileError → Type 0
 IsIo (Mp4 e) = ⊥
 IsIo (Io e) = ⊤

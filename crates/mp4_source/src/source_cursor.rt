@@ -1,15 +1,14 @@
 //! Boxes of a source, read where they lie.
 
-ghost use Rattle.std.specs.Prelude.{◌≡◌, ◌+◌, ◌-◌, ◌≤◌, ◌⊎◌, List, ℕ, Ok, Some, length, IfOk, IfErr, IfSome, OnOk};
+ghost use Rattle.std.specs.Prelude.{◌≡◌, ◌+◌, ◌-◌, ◌≤◌, ◌⊎◌, Ok, length, IfOk, IfErr, IfSome, OnOk};
 ghost use Rattle.std.specs.Prelude.{IsTrue, ◌↔◌};
 ghost use Rattle.mp4_codec.specs.BoxType.{IsNamed};
 ghost use Rattle.mp4_codec.specs.Boxes.{box_at};
 ghost use Rattle.mp4_codec.specs.Cause.{Gives};
-ghost use Rattle.mp4_codec.specs.Cursor.{here, header_at, take_at};
+ghost use Rattle.mp4_codec.specs.Cursor.{here, header_at};
 ghost use Rattle.mp4_codec.specs.declared.error.Error.TheVariants.{OutOfMemory};
 ghost use Rattle.mp4_source.specs.Answers.{AnswersRead, IsIo, IsLength, IsSomeValue};
 ghost use Rattle.mp4_source.specs.declared.file_error.FileError.TheVariants.{Mp4};
-ghost use Rattle.mp4_source.specs.Source.{OnIo};
 
 use crate::error::SourceError;
 use crate::file_error::FileError;

@@ -1,12 +1,14 @@
 use Rattle.std.proofs.Common.{◌∙◌, refl, arith}
 use Rattle.std.proofs.lemmas.Result.{err_from_is_err_and}
 use Rattle.mp4_codec.specs.Cursor.{here}
+use Rattle.mp4_media.specs.Walk.{next_box_at}
 use Rattle.mp4_media.proofs.Walking.{scan-starts, scan-takes, scan-refuses, scan-ends, found-refused, found-all}
-use Rattle.mp4_media.proofs.FoundBoxes.{all_known, of_known_by, refused_too, later_numbered, one_place_more}
+use Rattle.mp4_media.proofs.Walking.{box_added, none_added, refused_before}
+use Rattle.mp4_media.proofs.FoundBoxes.{all_known, of_known_by, refused_too}
 use Rattle.mp4_media.proofs.opening.add_boxes.Goals as goal
 
-pub loop-file_box-init : goal.loop-file_box-init
-loop-file_box-init g c =
+pub loop-init : goal.loop-init
+loop-init g c =
     let reader = c.args.reader.now in
     record {
       scanning = all_known (g.S.ByteSource.contents reader.source) _
@@ -19,47 +21,50 @@ loop-file_box-init g c =
       same_len = refl;
     }
 
-pub returns-in_err-file_box-clause-answer : goal.returns-in_err-file_box-clause-answer
-returns-in_err-file_box-clause-answer g c =
+pub returns-in_err-add_next-clause-answer : goal.returns-in_err-add_next-clause-answer
+returns-in_err-add_next-clause-answer g c =
     let reader = c.args.reader.now in
-    let l = c.loop-file_box in
+    let l = c.loop in
     let p = err_from_is_err_and c.from_residual.result c.from_residual.ensures.1 in
-    let next = rw (l.invariant.contents, l.invariant.can_refuse) at c.in_err-file_box.ensures.answer in
+    let next = rw (l.invariant.contents, l.invariant.can_refuse) at c.in_err-add_next.ensures.answer in
     of_known_by (g.S.ByteSource.contents reader.source) _ _ _ l.invariant.scanning next
-    (λ bytes w a. rw (p.1, p.2) (refused_too (g.S.ByteSource.can_refuse reader.source) c.in_err-file_box.field-0.0 _ _
+    (λ bytes w a. rw (p.1, p.2) (refused_too (g.S.ByteSource.can_refuse reader.source) c.in_err-add_next.field-0.0 _ _
     (λ cause refused. found-refused c.args.size (here bytes reader.position) cause
-    (scan-refuses c.args.size (here bytes reader.position) (here bytes l.reader.position) l.found cause refused w)) a))
+    (scan-refuses c.args.size (here bytes reader.position) (here bytes l.reader.position) l.found cause
+    (refused_before l.found cause (next_box_at c.args.size (here bytes l.reader.position)) refused) w)) a))
 
-pub loop-file_box-preserved : goal.loop-file_box-preserved
-loop-file_box-preserved g c =
+pub loop-preserved : goal.loop-preserved
+loop-preserved g c =
     let reader = c.args.reader.now in
-    let l = c.loop-file_box in
-    let next = rw (l.invariant.contents, c.in-Some.is) at c.in_ok-file_box.ensures.answer in
-    let below = rw c.in-Some.is at c.in_ok-file_box.ensures.onward in
-    let onward = rw c.in-Some.is at c.in_ok-file_box.ensures.moved in
-    let numbered = rw c.in-Some.is at c.in_ok-file_box.ensures.numbered in
+    let l = c.loop in
+    let next = rw (l.invariant.contents, c.if-branch.true) at c.in_ok-add_next.ensures.answer in
+    let below = c.in_ok-add_next.ensures.onward c.if-branch.true in
+    let onward = c.in_ok-add_next.ensures.moved c.if-branch.true in
     record {
       scanning = of_known_by (g.S.ByteSource.contents reader.source) _ _ _ l.invariant.scanning next
-          (λ bytes w a. scan-takes c.args.size (here bytes reader.position) (here bytes l.reader.position) l.found
-          c.in-Some.file_box (here bytes c.next_box.new.reader.position) c.add.new.self a below onward
-          c.in_ok-add.ensures w);
-      numbered = rw c.in_ok-add.ensures (later_numbered _ l.found.moov numbered l.invariant.numbered);
-      places = rw c.in_ok-add.ensures
-          (one_place_more c.in-Some.file_box l.found.moof_places l.found.moofs l.invariant.places);
+          (λ bytes w a.
+          let b = box_added l.found c.add_next.new.found (here bytes c.add_next.new.reader.position)
+          (next_box_at c.args.size (here bytes l.reader.position)) a in
+          scan-takes c.args.size (here bytes reader.position) (here bytes l.reader.position) l.found
+          b.0 (here bytes c.add_next.new.reader.position) c.add_next.new.found b.1 below onward b.2 w);
+      numbered = c.in_ok-add_next.ensures.numbered l.invariant.numbered;
+      places = c.in_ok-add_next.ensures.places l.invariant.places;
       onward = omega (arith, onward, l.invariant.onward);
-      contents = c.in_ok-file_box.ensures.contents ∙ l.invariant.contents;
-      can_refuse = c.in_ok-file_box.ensures.can_refuse ∙ l.invariant.can_refuse;
-      same_len = c.in_ok-file_box.ensures.same_len ∙ l.invariant.same_len;
+      contents = c.in_ok-add_next.ensures.contents ∙ l.invariant.contents;
+      can_refuse = c.in_ok-add_next.ensures.can_refuse ∙ l.invariant.can_refuse;
+      same_len = c.in_ok-add_next.ensures.same_len ∙ l.invariant.same_len;
     }
 
 pub returns-clause-answer : goal.returns-clause-answer
 returns-clause-answer g c =
     let reader = c.args.reader.now in
-    let l = c.loop-file_box in
-    let next = rw (l.invariant.contents, c.in_default.is) at c.in_ok-file_box.ensures.answer in
-    let still = rw c.in_default.is at c.in_ok-file_box.ensures.still in
+    let l = c.loop in
+    let next = rw (l.invariant.contents, c.if-branch.false) at c.in_ok-add_next.ensures.answer in
+    let still = c.in_ok-add_next.ensures.still c.if-branch.false in
     of_known_by (g.S.ByteSource.contents reader.source) _ _ _ l.invariant.scanning next
     (λ bytes w a.
+    let none = none_added l.found c.add_next.new.found (here bytes c.add_next.new.reader.position)
+    (next_box_at c.args.size (here bytes l.reader.position)) a in
     let read = scan-ends c.args.size (here bytes reader.position) (here bytes l.reader.position) l.found
-    (here bytes c.next_box.new.reader.position) a still w in
-    rw (w.given, still) (found-all c.args.size (here bytes reader.position) w.done l.reader.position read))
+    (here bytes c.add_next.new.reader.position) none.0 still w in
+    rw (none.1, w.given, still) (found-all c.args.size (here bytes reader.position) w.done l.reader.position read))

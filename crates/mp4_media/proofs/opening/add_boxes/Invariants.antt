@@ -6,8 +6,8 @@ use Rattle.mp4_media.proofs.Walking.{Scanning}
 use Rattle.mp4_media.proofs.opening.add_boxes.Given as goal
 
 -- Where the bytes are known, these are their boxes so far. The source has the bytes that it had.
-abbrev pub invariant-loop-file_box : goal.invariant-loop-file_box
-invariant-loop-file_box g l = record {
+abbrev pub invariant-loop : goal.invariant-loop
+invariant-loop g l = record {
   scanning : IfSome (g.S.ByteSource.contents l.fn.reader.source) (λ bytes.
       Scanning l.size (here bytes l.fn.reader.position) l.found (here bytes l.reader.position));
   numbered : IfSome l.found.moov (λ m. HaveFirstSamples m.traks);
@@ -18,5 +18,5 @@ invariant-loop-file_box g l = record {
   same_len : l.reader.len ≡ l.fn.reader.len;
 }
 
-abbrev pub decreases-loop-file_box : goal.decreases-loop-file_box
-decreases-loop-file_box g l = l.size - l.reader.position
+abbrev pub decreases-loop : goal.decreases-loop
+decreases-loop g l = l.size - l.reader.position

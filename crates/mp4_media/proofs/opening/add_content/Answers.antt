@@ -30,7 +30,8 @@ returns-in_ok-ftyp-in-FtypBox-clause-answer g c =
 pub returns-in_err-moov-in-MoovBox-clause-answer : goal.returns-in_err-moov-in-MoovBox-clause-answer
 returns-in_err-moov-in-MoovBox-clause-answer g c =
     let reader = c.args.reader.now in
-    let p = err_from_is_err_and c.from_residual-in_err-moov-in-MoovBox.result c.from_residual-in_err-moov-in-MoovBox.ensures.1 in
+    let p = err_from_is_err_and c.from_residual-in_err-moov-in-MoovBox.result
+    c.from_residual-in_err-moov-in-MoovBox.ensures.1 in
     rw (p.1, p.2) (box_is_refused Moov moov_of c.args.header.name (meaning-moov c.args.header.name c.in-MoovBox.is)
     (g.S.ByteSource.contents reader.source) c.args.header.size reader.position 0 c.args.found.now c.args.place
     (g.S.ByteSource.can_refuse reader.source) c.in_err-moov-in-MoovBox.field-0.0
@@ -47,41 +48,45 @@ returns-in_ok-moov-in-MoovBox-clause-answer g c =
 pub returns-in_err-moof-in-MoofBox-clause-answer : goal.returns-in_err-moof-in-MoofBox-clause-answer
 returns-in_err-moof-in-MoofBox-clause-answer g c =
     let reader = c.args.reader.now in
-    let p = err_from_is_err_and c.from_residual-in_err-moof-in-MoofBox.result c.from_residual-in_err-moof-in-MoofBox.ensures.1 in
+    let p = err_from_is_err_and c.from_residual-in_err-moof-in-MoofBox.result
+    c.from_residual-in_err-moof-in-MoofBox.ensures.1 in
     rw (p.1, p.2) (box_is_refused Moof moof_of c.args.header.name (meaning-moof c.args.header.name c.in-MoofBox.is)
     (g.S.ByteSource.contents reader.source) c.args.header.size reader.position 0 c.args.found.now c.args.place
     (g.S.ByteSource.can_refuse reader.source) c.in_err-moof-in-MoofBox.field-0.0
     c.in_err-moof-in-MoofBox.ensures.answer)
 
-pub returns-in_ok-moof-in-MoofBox-clause-answer : goal.returns-in_ok-moof-in-MoofBox-clause-answer
-returns-in_ok-moof-in-MoofBox-clause-answer g c =
+pub returns-in_ok-push-in-MoofBox-2-clause-answer : goal.returns-in_ok-push-in-MoofBox-2-clause-answer
+returns-in_ok-push-in-MoofBox-2-clause-answer g c =
     let reader = c.args.reader.now in
-    box_is_added Moof moof_of c.args.header.name (meaning-moof c.args.header.name c.in-MoofBox.is)
+    rw (c.in_ok-push-in-MoofBox.ensures.ok, c.in_ok-push-in-MoofBox-2.ensures.ok)
+    (box_is_added Moof moof_of c.args.header.name (meaning-moof c.args.header.name c.in-MoofBox.is)
     (g.S.ByteSource.contents reader.source) c.args.header.size reader.position c.read_box-in-MoofBox.new.self.position
     c.args.found.now c.args.place
-    c.in_ok-moof-in-MoofBox.moof c.in_ok-moof-in-MoofBox.ensures.answer
+    c.in_ok-moof-in-MoofBox.moof c.in_ok-moof-in-MoofBox.ensures.answer)
 
 pub returns-in_err-emsg-in-EmsgBox-clause-answer : goal.returns-in_err-emsg-in-EmsgBox-clause-answer
 returns-in_err-emsg-in-EmsgBox-clause-answer g c =
     let reader = c.args.reader.now in
-    let p = err_from_is_err_and c.from_residual-in_err-emsg-in-EmsgBox.result c.from_residual-in_err-emsg-in-EmsgBox.ensures.1 in
+    let p = err_from_is_err_and c.from_residual-in_err-emsg-in-EmsgBox.result
+    c.from_residual-in_err-emsg-in-EmsgBox.ensures.1 in
     rw (p.1, p.2) (box_is_refused Emsg emsg_of c.args.header.name (meaning-emsg c.args.header.name c.in-EmsgBox.is)
     (g.S.ByteSource.contents reader.source) c.args.header.size reader.position 0 c.args.found.now c.args.place
     (g.S.ByteSource.can_refuse reader.source) c.in_err-emsg-in-EmsgBox.field-0.0
     c.in_err-emsg-in-EmsgBox.ensures.answer)
 
-pub returns-in_ok-emsg-in-EmsgBox-clause-answer : goal.returns-in_ok-emsg-in-EmsgBox-clause-answer
-returns-in_ok-emsg-in-EmsgBox-clause-answer g c =
+pub returns-in_ok-push-in-EmsgBox-clause-answer : goal.returns-in_ok-push-in-EmsgBox-clause-answer
+returns-in_ok-push-in-EmsgBox-clause-answer g c =
     let reader = c.args.reader.now in
-    box_is_added Emsg emsg_of c.args.header.name (meaning-emsg c.args.header.name c.in-EmsgBox.is)
+    rw c.in_ok-push-in-EmsgBox.ensures.ok
+    (box_is_added Emsg emsg_of c.args.header.name (meaning-emsg c.args.header.name c.in-EmsgBox.is)
     (g.S.ByteSource.contents reader.source) c.args.header.size reader.position c.read_box-in-EmsgBox.new.self.position
     c.args.found.now c.args.place
-    c.in_ok-emsg-in-EmsgBox.emsg c.in_ok-emsg-in-EmsgBox.ensures.answer
+    c.in_ok-emsg-in-EmsgBox.emsg c.in_ok-emsg-in-EmsgBox.ensures.answer)
 
 pub returns-in_ok-moov-in-MoovBox-clause-numbered : goal.returns-in_ok-moov-in-MoovBox-clause-numbered
 returns-in_ok-moov-in-MoovBox-clause-numbered g c =
     let value = c.in_ok-moov-in-MoovBox.ensures.value in
-    moov_of-has_first_samples value.0 c.in_ok-moov-in-MoovBox.moov value.1
+    λ before. moov_of-has_first_samples value.0 c.in_ok-moov-in-MoovBox.moov value.1
 
 pub returns-in_err-behind-in_default-clause-answer : goal.returns-in_err-behind-in_default-clause-answer
 returns-in_err-behind-in_default-clause-answer g c =
@@ -90,7 +95,7 @@ returns-in_err-behind-in_default-clause-answer g c =
     let none = meaning-none c.args.header.name c.requires.named c.in_default.not-FtypBox c.in_default.not-MoovBox
     c.in_default.not-MoofBox c.in_default.not-EmsgBox in
     all_known (g.S.ByteSource.contents c.args.reader.now.source) _
-    (λ bytes. let skipped = rw c.position-place.ensures at (c.in_err-behind-in_default.ensures.value bytes) in
+    (λ bytes. let skipped = rw c.position-payload.ensures at (c.in_err-behind-in_default.ensures.value bytes) in
     rw (p.1, p.2, none, skipped) (inr refl))
 
 pub returns-in_ok-behind-in_default-clause-answer : goal.returns-in_ok-behind-in_default-clause-answer
@@ -98,5 +103,5 @@ returns-in_ok-behind-in_default-clause-answer g c =
     let none = meaning-none c.args.header.name c.requires.named c.in_default.not-FtypBox c.in_default.not-MoovBox
     c.in_default.not-MoofBox c.in_default.not-EmsgBox in
     all_known (g.S.ByteSource.contents c.args.reader.now.source) _
-    (λ bytes. let skipped = rw c.position-place.ensures at (c.in_ok-behind-in_default.ensures.value bytes) in
+    (λ bytes. let skipped = rw c.position-payload.ensures at (c.in_ok-behind-in_default.ensures.value bytes) in
     rw (none, skipped, c.set_position.ensures) refl)

@@ -1,11 +1,16 @@
-use Rattle.std.proofs.Common.{◌∙◌, ap, inr, arith}
+use Rattle.std.proofs.Common.{◌≡◌, ◌∙◌, ℕ, ◌+◌, ◌≤◌, ◌<◌, Result, Ok, false, refl, ap, inr, arith}
+use Rattle.std.specs.Prelude.{◌==◌}
 use Rattle.std.proofs.lemmas.Bool.{ne_eqb}
 use Rattle.std.proofs.lemmas.Result.{err_from_is_err_and}
-use Rattle.mp4_codec.specs.Cause.{◌>>=◌}
-use Rattle.mp4_codec.specs.Cursor.{here}
-use Rattle.mp4_media.specs.Walk.{content_at, next_box_at, and_content, and_found}
+use Rattle.mp4_codec.specs.Cause.{Cause, ◌>>=◌}
+use Rattle.mp4_codec.specs.Cursor.{Cursor, here, header_at}
+use Rattle.mp4_codec.specs.declared.header.BoxHeader.{BoxHeader}
+use Rattle.mp4_media.specs.declared.opening.Found.{Found}
+use Rattle.mp4_media.specs.FileBoxes.{meaning_of}
+use Rattle.mp4_media.specs.Walk.{content_at, and_found, with_content_at, with_next_at}
 use Rattle.mp4_media.proofs.FoundBoxes.{all_known, of_known, of_known_by, refused_too}
-use Rattle.mp4_media.proofs.FoundBoxes.{no_next, short_rest, no_head, open_end, too_large, content_next}
+use Rattle.mp4_media.proofs.FoundBoxes.{no_next, short_rest, no_head, open_end, too_large, content_next, and_more}
+use Rattle.mp4_media.proofs.FoundBoxes.{next_added}
 use Rattle.mp4_media.proofs.opening.add_next.Goals as goal
 
 pub returns-then-place-size-clause-answer : goal.returns-then-place-size-clause-answer
@@ -39,7 +44,7 @@ returns-then-header-eq-OPEN_END-clause-answer g c =
       c.set_position.ensures,
       c.position-place.ensures,
       open_end c.args.size (here bytes reader.position) (omega arith) (omega arith) c.in_ok-header.header
-      (here bytes c.read_header.new.self.position) e (omega arith),
+          (here bytes c.read_header.new.self.position) e (omega arith),
     ) refl)
 
 pub returns-then-header-size-clause-answer : goal.returns-then-header-size-clause-answer
@@ -49,24 +54,47 @@ returns-then-header-size-clause-answer g c =
     (λ bytes e. rw (
       c.from-then-header-size.ensures,
       too_large c.args.size (here bytes reader.position) (omega arith) (omega arith) c.in_ok-header.header
-      (here bytes c.read_header.new.self.position) e
-      (ne_eqb c.in_ok-header.header.size 0 (λ zero. omega (arith, zero))) (omega arith),
+          (here bytes c.read_header.new.self.position) e
+          (ne_eqb c.in_ok-header.header.size 0 (λ zero. omega (arith, zero))) (omega arith),
     ) (inr refl))
 
 -- the box that is added
 module _ (size : ℕ) (place : Cursor) (below : place.position < size) (long : place.position + 8 ≤ size) (h : BoxHeader)
-    (behind : Cursor) (head : header_at place ≡ Ok (h, behind)) (some : 8 ≤ h.size) (fits : h.size ≤ size)
+    (behind : Cursor) (head : header_at place ≡ Ok (h, behind)) (some : (h.size == 0) ≡ false) (fits : h.size ≤ size)
     (found : Found) where
-      next_is_added : (next_box_at size place >>= and_found found)
-          ≡ ((content_at (meaning_of h.name) h.size behind >>= and_content found place.position)
-          >>= λ x. Ok (true, x.0, x.1))
-      next_is_added =
-          ap (λ r. r >>= and_found found)
-          (content_next size place below long h behind head (ne_eqb h.size 0 (λ zero. omega (arith, zero))) fits)
-          ∙ next_added found place.position (content_at (meaning_of h.name) h.size behind)
+  next_is_added : with_next_at size found place
+      ≡ (with_content_at h.name h.size found place.position behind >>= and_more)
+  next_is_added =
+      ap (λ r. r >>= and_found found)
+      (content_next size place below long h behind head some fits)
+      ∙ next_added found place.position (content_at (meaning_of h.name) h.size behind)
 
-pub returns-in_err-clause-answer : goal.returns-in_err-clause-answer
-returns-in_err-clause-answer g c = ?
+pub returns-in_err-add_content-clause-answer : goal.returns-in_err-add_content-clause-answer
+returns-in_err-add_content-clause-answer g c =
+    let reader = c.args.reader.now in
+    let p = err_from_is_err_and c.from_residual-in_err-add_content.result
+    c.from_residual-in_err-add_content.ensures.1 in
+    let content = rw (c.in_ok-header.ensures.contents, c.in_ok-header.ensures.can_refuse, c.position-place.ensures)
+    at c.in_err-add_content.ensures.answer in
+    of_known_by (g.S.ByteSource.contents reader.source) _ _ _ c.in_ok-header.ensures.answer content
+    (λ bytes e a. rw (p.1, p.2) (refused_too (g.S.ByteSource.can_refuse reader.source)
+    c.in_err-add_content.field-0.0 _ _
+    (λ cause refused.
+    next_is_added c.args.size (here bytes reader.position) (omega arith) (omega arith) c.in_ok-header.header
+    (here bytes c.read_header.new.self.position) e
+    (ne_eqb c.in_ok-header.header.size 0 (λ zero. omega (arith, zero))) (omega arith)
+    c.args.found.now
+    ∙ ap (λ (r : Result (Found × Cursor) Cause). r >>= and_more) refused) a))
 
 pub returns-clause-answer : goal.returns-clause-answer
-returns-clause-answer g c = ?
+returns-clause-answer g c =
+    let reader = c.args.reader.now in
+    let content = rw (c.in_ok-header.ensures.contents, c.position-place.ensures)
+    at c.in_ok-add_content.ensures.answer in
+    of_known_by (g.S.ByteSource.contents reader.source) _ _ _ c.in_ok-header.ensures.answer content
+    (λ bytes e a.
+    next_is_added c.args.size (here bytes reader.position) (omega arith) (omega arith) c.in_ok-header.header
+    (here bytes c.read_header.new.self.position) e
+    (ne_eqb c.in_ok-header.header.size 0 (λ zero. omega (arith, zero))) (omega arith)
+    c.args.found.now
+    ∙ ap (λ (r : Result (Found × Cursor) Cause). r >>= and_more) a)

@@ -4,6 +4,7 @@ use Rattle.mp4_media.proofs.reader.open_bytes.Goals as goal
 
 pub returns-clause-answer : goal.returns-clause-answer
 returns-clause-answer c =
-    let answer = rw (c.in-Ok.ensures.position, same_Some _ _ c.in-Ok.ensures.source.0) at c.in-Err-open_source.ensures.answer in
+    let answer = rw (c.in-Ok.ensures.position, same_Some _ _ c.in-Ok.ensures.contents)
+    at c.in-Err-open_source.ensures.answer in
     refused_as_bytes c.in-Err-open_source.error c.refused_by_bytes-in-Err-open_source.result _
     c.refused_by_bytes-in-Err-open_source.ensures answer
