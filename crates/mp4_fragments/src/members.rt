@@ -2,7 +2,7 @@
 
 ghost use Rattle.mp4_codec.specs.ExactTest.{by_test, field_tests};
 ghost use Rattle.std.specs.Prelude.{◌≡◌};
-ghost use Rattle.mp4_fragments.specs.Members.{member_of, flags_of};
+ghost use Rattle.mp4_fragments.specs.Members.{at_member, member_of, flags_of};
 ghost use Rattle.mp4_fragments.specs.Checkpoints.{AreCheckpoints};
 
 use crate::beginnings::at_by_checkpoints;
@@ -59,8 +59,28 @@ fn flags(run: &TrunBox, defaults: SampleDefaults, j: u32) -> u32
     }
 }
 
-/// Member `j` of a run that begins at `first`, by its index, which counts from 0.
+/// Member `j` of a run, by its index, which counts from 0, where it begins there.
+#[inline(always)]
 #[tactic(auto, unfolding(crate::specs::Members::member_of))]
+pub(crate) fn member_beginning(
+    run: &TrunBox,
+    defaults: SampleDefaults,
+    at: Beginning,
+    j: u32,
+) -> Member
+    ensures { (first : Beginning) → at ≡ at_member run.now defaults first j
+        → result ≡ member_of (record { at = first; run = run.now; defaults = defaults }) j }
+{
+    Member {
+        at,
+        size: value_at(run.sample_sizes.as_slice(), defaults.size, j),
+        duration: value_at(run.sample_durations.as_slice(), defaults.duration, j),
+        rendering_offset: value_at(run.sample_cts.as_slice(), 0, j).cast_signed(),
+        is_sync: flags(run, defaults, j) & IS_NO_SYNC_SAMPLE == 0,
+    }
+}
+
+/// Member `j` of a run that begins at `first`, by its index, which counts from 0.
 pub(crate) fn nth_member(
     run: &TrunBox,
     defaults: SampleDefaults,
@@ -71,11 +91,6 @@ pub(crate) fn nth_member(
     requires { AreCheckpoints run.now defaults first checks.now }
     ensures { result ≡ member_of (record { at = first; run = run.now; defaults = defaults }) j }
 {
-    Member {
-        at: at_by_checkpoints(run, defaults, first, checks, j),
-        size: value_at(run.sample_sizes.as_slice(), defaults.size, j),
-        duration: value_at(run.sample_durations.as_slice(), defaults.duration, j),
-        rendering_offset: value_at(run.sample_cts.as_slice(), 0, j).cast_signed(),
-        is_sync: flags(run, defaults, j) & IS_NO_SYNC_SAMPLE == 0,
-    }
+    let at = at_by_checkpoints(run, defaults, first, checks, j);
+    member_beginning(run, defaults, at, j)
 }
