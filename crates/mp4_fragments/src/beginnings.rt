@@ -1,6 +1,6 @@
 //! Where and when members of a run begin.
 
-ghost use Rattle.std.specs.Prelude.{◌≡◌, ℕ, ℤ, ◌+◌, ◌*◌, ◌/◌, ◌<◌, ◌≤◌, length, IfOk};
+ghost use Rattle.std.specs.Prelude.{◌≡◌, ℕ, ℤ, ◌+◌, ◌-◌, ◌*◌, ◌/◌, ◌^◌, ◌<◌, ◌≤◌, length, IfOk};
 ghost use Rattle.mp4_fragments.specs.Numbers.{plus, moved};
 ghost use Rattle.mp4_fragments.specs.Bases.{data_begins};
 ghost use Rattle.mp4_fragments.specs.Members.{at_member};
@@ -127,5 +127,56 @@ pub(crate) fn at_by_checkpoints(
         at_later_member(run, defaults, at, BETWEEN_CHECKPOINTS * q, j)
     } else {
         at_member(run, defaults, first, j)
+    }
+}
+
+/// The member of a walk over runs that was found last: its run, by the index of its entry, its number in the run, and
+/// where it begins.
+#[derive(Clone, Copy, Debug)]
+pub struct LastMember {
+    pub(crate) entry: usize,
+    pub(crate) number: u32,
+    pub(crate) at: Beginning,
+}
+
+impl LastMember {
+    /// Before the first member.
+    pub fn none() -> Self
+        ensures { result.entry ≡ 2 ^ 64 - 1 }
+    {
+        LastMember {
+            entry: usize::MAX,
+            number: 0,
+            at: Beginning {
+                place: None,
+                time: None,
+            },
+        }
+    }
+}
+
+/// How many members a walk passes over one by one, at most, before it begins at a checkpoint instead.
+const NEAR: u32 = 8;
+
+/// Where member `j` of the run begins whose entry has this index, from the member that was found last: where that one
+/// is right before it, a step is one size and one duration.
+#[inline(always)]
+pub(crate) fn at_by_last(
+    run: &TrunBox,
+    defaults: SampleDefaults,
+    first: Beginning,
+    checks: &[Beginning],
+    entry: usize,
+    j: u32,
+    last: LastMember,
+) -> Beginning
+    requires checks { AreCheckpoints run.now defaults first checks.now }
+    requires last { last.entry ≡ entry → last.at ≡ at_member run.now defaults first last.number }
+    ensures { result ≡ at_member run.now defaults first j }
+{
+    if last.entry == entry && last.number <= j && j - last.number <= NEAR {
+        at_later_member(run, defaults, last.at, last.number, j)
+    } else {
+        at_by_checkpoints(run, defaults, first, checks, j)
     }
 }

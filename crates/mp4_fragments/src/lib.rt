@@ -11,6 +11,7 @@ mod placing;
 mod values;
 
 pub use bases::{traf_base, traf_end};
+pub use beginnings::LastMember;
 pub use defaults::SampleDefaults;
 pub use index::RunIndex;
 pub use members::{Beginning, Member};

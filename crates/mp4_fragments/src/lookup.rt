@@ -1,16 +1,17 @@
 //! A member of a track's fragments by its number.
 
-ghost use Rattle.std.specs.Prelude.{◌≡◌, ◌-◌, ◌^◌, ◌<◌, List, length, min, slice_get};
+ghost use Rattle.std.specs.Prelude.{◌≡◌, ◌-◌, ◌^◌, ◌<◌, List, length, min, slice_get, IfNone, OnSome};
 ghost use Rattle.std.specs.Option.{option_map, option_and_then};
 ghost use Rattle.mp4_fragments.specs.Members.{PlacedRun, all_members};
-ghost use Rattle.mp4_fragments.specs.Index.{Find, Indexes, IsRight, member_in, placed_at, run_at, runs_of};
+ghost use Rattle.mp4_fragments.specs.Index.{Find, Indexes, IsLastIn, IsLastOf, IsRight, member_in, placed_at, run_at, runs_of};
 
+use crate::beginnings::{LastMember, at_by_last};
 use crate::defaults::SampleDefaults;
 use crate::index::{RunEntry, RunIndex};
-use crate::members::{Member, nth_member};
+use crate::members::{Member, member_beginning, nth_member};
 use mp4_frag::TrunBox;
 use mp4_moof::TrafBox;
-use mp4_search::{Readings, Search};
+use mp4_search::{BySteps, Readings, Search};
 
 /// Run `i` of fragment `t` of a track, and what its members have where it says nothing.
 #[tactic(auto, unfolding(crate::specs::Index::run_at, crate::specs::Index::run_of_traf))]
@@ -48,6 +49,47 @@ fn member_at(trafs: &[TrafBox], track: SampleDefaults, entry: &RunEntry, j: u32)
     }
 }
 
+/// Member `j` of the run of the entry with this index, if it has so many. It is the last that was found then.
+#[inline(always)]
+fn member_after(
+    trafs: &[TrafBox],
+    track: SampleDefaults,
+    entry: &RunEntry,
+    index: usize,
+    j: u32,
+    last: &mut LastMember,
+) -> Option<Member>
+    requires right { IsRight (run_at trafs.now track) entry.now }
+    requires last { last.old.entry ≡ index → IsLastIn (run_at trafs.now track) entry.now last.old }
+    ensures member { result ≡ option_and_then (member_in j) (placed_at (run_at trafs.now track) entry.now) }
+    ensures found { OnSome result ((last.new.entry ≡ index) × IsLastIn (run_at trafs.now track) entry.now last.new) }
+    ensures none { IfNone result (last.new ≡ last.old) }
+{
+    match run_of(trafs, track, entry.traf, entry.run) {
+        None => None,
+        Some((run, defaults)) => {
+            if j >= run.sample_count {
+                return None;
+            }
+            let at = at_by_last(
+                run,
+                defaults,
+                entry.at,
+                entry.checks.as_slice(),
+                index,
+                j,
+                *last,
+            );
+            *last = LastMember {
+                entry: index,
+                number: j,
+                at,
+            };
+            Some(member_beginning(run, defaults, at, j))
+        }
+    }
+}
+
 impl RunIndex {
     /// The member with this number, which counts from 0 over all fragments of the track; its run is searched. They are
     /// those that the index was made of, and `track` is what the movie says of their samples.
@@ -70,6 +112,31 @@ impl RunIndex {
         };
         let entry = &self.entries.as_slice()[found.index];
         member_at(trafs, track, entry, number - found.number)
+    }
+
+    /// What [`find`](RunIndex::find) answers at numbers that come in order: the search begins at the run where the one
+    /// before ended, and the member is placed from the one that was found before, so that a step costs a constant.
+    #[inline(always)]
+    pub fn find_next(
+        &self,
+        trafs: &[TrafBox],
+        track: SampleDefaults,
+        number: u32,
+        readings: &mut Readings,
+        last: &mut LastMember,
+    ) -> Option<Member>
+        requires number { number < 2 ^ 32 - 1 }
+        requires indexed { Indexes (run_at trafs.now track) (runs_of trafs.now track self.now) self.now }
+        requires fresh { readings.old ≡ 0 }
+        requires last { IsLastOf (run_at trafs.now track) self.now last.old }
+        ensures member { result ≡ slice_get (all_members (runs_of trafs.now track self.now)) number }
+        ensures last { IsLastOf (run_at trafs.now track) self.now last.new }
+    {
+        let Some(found) = BySteps::last_at_most(&self.counts, number, readings) else {
+            return None;
+        };
+        let entry = &self.entries.as_slice()[found.index];
+        member_after(trafs, track, entry, found.index, number - found.number, last)
     }
 
     /// How many members there are; it stops at 2^64 - 1.

@@ -14,3 +14,4 @@ pub mod PlaceLaws
 pub mod EntryLaws
 pub mod RuleLaws
 pub mod TrackLaws
+pub mod InOrder

@@ -33,6 +33,18 @@ impl Counters {
         }
     }
 
+    /// The counters of the next look-up in this, before its first step. Searches by steps begin where those before ended.
+    pub fn restart<T: LookedUp>(&mut self, whole: &T)
+        ensures { AreFresh self.new }
+    {
+        self.stsc.restart(whole);
+        self.stts.restart(whole);
+        self.ctts.restart(whole);
+        self.stss.restart(whole);
+        self.runs.restart(whole);
+        self.sizes.restart(whole);
+    }
+
     /// How many numbers were compared so far.
     pub fn comparisons(&self) -> Comparisons
         ensures { result ≡ comparisons_counted self.now }

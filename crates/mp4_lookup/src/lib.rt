@@ -14,11 +14,13 @@ mod lookup;
 mod place;
 mod rates;
 mod runs;
+mod samples;
 mod shown;
 mod time;
 mod timing;
 mod track;
 
 pub use laws::rule_is_plain_expansion;
+pub use samples::Samples;
 pub use time::time_of;
 pub use track::Mp4Track;

@@ -26,16 +26,15 @@ pub fn place_at<S: Search>(
     index: &TrackIndex,
     track_id: u32,
     k: u32,
-    counters: Counters,
+    counters: &mut Counters,
 ) -> Result<Option<SamplePlace>>
     requires firsts { HasFirstSamples stbl.now.stsc.entries }
     requires index { IsIndexOf stbl.now index.now }
-    requires fresh { AreFresh counters }
+    requires fresh { AreFresh counters.old }
     ensures rule { Gives (λ p. option_map place_of p) result (rule stbl.now track_id k) }
     ensures counted { IfOk result (λ p. IfSome p (λ p. AreCounts S.Counts S.looks index.now k p.comparisons)) }
     ensures size_reads { IfOk result (λ p. IfSome p (λ p. AreFewSizeReads stbl.now p.size_reads)) }
 {
-    let mut counters = counters;
     let Some(spot) = spot_at::<S>(stbl, index, k, &mut counters.stsc, &mut counters.sizes)? else {
         return Ok(None);
     };

@@ -1,7 +1,7 @@
 //! Where the samples of a track lie, by their numbers: those of the movie box first, then those that fragments add
 //! (ISO/IEC 14496-12, 8.6, 8.7 and 8.8).
 
-ghost use Rattle.std.specs.Prelude.{◌≡◌, ◌-◌, ◌^◌, ◌<◌, false, length, min, option_map, slice_get};
+ghost use Rattle.std.specs.Prelude.{◌≡◌, ◌-◌, ◌^◌, ◌<◌, false, Some, length, min, option_map, slice_get};
 ghost use Rattle.std.specs.Prelude.{IfOk, IfSome, IsTrue};
 ghost use Rattle.mp4_codec.specs.Cause.{Gives};
 ghost use Rattle.mp4_fragments.specs.Members.{all_members};
@@ -9,7 +9,7 @@ ghost use Rattle.mp4_samples.specs.Places.{place_of};
 ghost use Rattle.mp4_samples.specs.Plain.{Consistent, plain_at};
 ghost use Rattle.mp4_lookup.specs.Costs.{AreFew, AreFewForMember, AreFewSizeReads, comparisons_of};
 ghost use Rattle.mp4_lookup.specs.Costs.{AreFewByGuess, AreFewForMemberByGuess, AreTrackCountsByGuess};
-ghost use Rattle.mp4_lookup.specs.Costs.{AreFresh, AreMemberCounts, AreTrackCounts};
+ghost use Rattle.mp4_lookup.specs.Costs.{AreFresh, AreMemberCounts, AreTrackCounts, comparisons_counted};
 ghost use Rattle.mp4_samples.specs.Tables.{tables_of};
 ghost use Rattle.mp4_lookup.specs.Tracks.{is_of_movie, member_place, answer_at};
 ghost use Rattle.mp4_lookup.specs.TrackRuns.{track_runs};
@@ -18,8 +18,33 @@ use crate::counters::Counters;
 use crate::locate::place_at;
 use crate::track::Mp4Track;
 use mp4_codec::{Error, Result};
+use mp4_fragments::Member;
 use mp4_samples::SamplePlace;
 use mp4_search::{ByGuess, ByHalves, LookedUp, Search};
+
+/// Where a sample lies that a fragment adds, and what its look-up has counted. A place or a time that is broken is
+/// refused.
+#[inline(always)]
+pub(crate) fn member_placed(member: &Member, counters: &Counters) -> Result<SamplePlace>
+    requires sizes { counters.now.sizes ≡ 0 }
+    ensures rule { Gives (λ p. Some (place_of p)) result (member_place (Some member.now)) }
+    ensures counted { IfOk result (λ p. p.comparisons ≡ comparisons_counted counters.now) }
+    ensures size_reads { IfOk result (λ p. p.size_reads ≡ 0) }
+{
+    let (Some(offset), Some(start_time)) = (member.at.place, member.at.time) else {
+        return Err(Error::InvalidData("a sample of a fragment has no place or no time"));
+    };
+    Ok(SamplePlace {
+        offset,
+        size: member.size,
+        start_time,
+        duration: member.duration,
+        rendering_offset: member.rendering_offset,
+        is_sync: member.is_sync,
+        comparisons: counters.comparisons(),
+        size_reads: counters.sizes.count(),
+    })
+}
 
 /// Only what is asked of a whole track begins with counters of its own.
 impl LookedUp for Mp4Track {}
@@ -77,18 +102,18 @@ impl Mp4Track {
         ensures added { is_of_movie self.now.trak self.now.trafs k ≡ false
             → IfOk result (λ p. IfSome p (λ p. (0 < length (track_runs self.now)) × (p.size_reads ≡ 0))) }
     {
-        let counters = Counters::of(self);
+        let mut counters = Counters::of(self);
         let stbl = &self.trak.mdia.minf.stbl;
         if self.is_of_movie(k) {
-            place_at::<S>(stbl, &self.index, self.trak.tkhd.track_id, k, counters)
+            place_at::<S>(stbl, &self.index, self.trak.tkhd.track_id, k, &mut counters)
         } else {
-            self.added_at::<S>(k - stbl.stsz.sample_count - 1, counters)
+            self.added_at::<S>(k - stbl.stsz.sample_count - 1, &mut counters)
         }
     }
 
     /// Whether number `k` belongs to the movie box: any does in a track that no fragment names.
     #[inline(always)]
-    fn is_of_movie(&self, k: u32) -> bool
+    pub(crate) fn is_of_movie(&self, k: u32) -> bool
         ensures value { result ≡ is_of_movie self.now.trak self.now.trafs k }
         ensures past { result ≡ false → (tables_of self.now.trak).stsz.sample_count < k }
     {
@@ -97,15 +122,18 @@ impl Mp4Track {
 
     /// Where the sample with this number lies among those that fragments add; it counts from 0.
     #[inline(always)]
-    fn added_at<S: Search>(&self, number: u32, counters: Counters) -> Result<Option<SamplePlace>>
+    fn added_at<S: Search>(
+        &self,
+        number: u32,
+        counters: &mut Counters,
+    ) -> Result<Option<SamplePlace>>
         requires number { number < 2 ^ 32 - 1 }
-        requires fresh { AreFresh counters }
+        requires fresh { AreFresh counters.old }
         ensures rule { Gives (λ p. option_map place_of p) result (member_place (slice_get (all_members (track_runs self.now)) number)) }
         ensures counted { IfOk result (λ p. IfSome p (λ p. AreMemberCounts S.Counts self.now.runs number p.comparisons)) }
         ensures some_runs { IfOk result (λ p. IfSome p (λ p. 0 < length (track_runs self.now))) }
         ensures size_reads { IfOk result (λ p. IfSome p (λ p. p.size_reads ≡ 0)) }
     {
-        let mut counters = counters;
         let trafs = self.trafs.as_slice();
         let Some(member) = self
             .runs
@@ -113,19 +141,7 @@ impl Mp4Track {
         else {
             return Ok(None);
         };
-        let (Some(offset), Some(start_time)) = (member.at.place, member.at.time) else {
-            return Err(Error::InvalidData("a sample of a fragment has no place or no time"));
-        };
-        Ok(Some(SamplePlace {
-            offset,
-            size: member.size,
-            start_time,
-            duration: member.duration,
-            rendering_offset: member.rendering_offset,
-            is_sync: member.is_sync,
-            comparisons: counters.comparisons(),
-            size_reads: counters.sizes.count(),
-        }))
+        Ok(Some(member_placed(&member, counters)?))
     }
 
     /// How many samples the fragments add; it stops at 2^64 - 1.
