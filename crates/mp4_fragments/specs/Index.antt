@@ -1,6 +1,6 @@
 -- What is kept of the runs of a track, so that its members are found fast.
 use Rattle.std.specs.Prelude.{◌≡◌, ℕ, ◌+◌, ◌-◌, ◌^◌, ◌<◌, min, List, [], ◌∷◌, ◌++◌, length, map, slice_get, get_or}
-use Rattle.std.specs.Prelude.{Option, Some, None, nat_lt, if◌then◌else◌}
+use Rattle.std.specs.Prelude.{Option, Some, None, IfSome, nat_lt, if◌then◌else◌}
 use Rattle.std.specs.List.{sum_by, filter_map}
 use Rattle.std.specs.Option.{option_map, option_and_then}
 use Rattle.mp4_frag.specs.declared.trun.TrunBox.{TrunBox}
@@ -78,6 +78,6 @@ pub record IsLastIn (find : Find) (e : RunEntry) (last : LastMember) : Type 0 wh
   pub begins : (p : PlacedRun) → placed_at find e ≡ Some p → last.at ≡ at_member p.run p.defaults p.at last.number
 
 -- so does the member of an index that was found last, if one was
-abbrev pub IsLastOf : Find → RunIndex → LastMember → Type 0
-IsLastOf find index last = (d : RunEntry) → last.entry < length index.entries
-    → IsLastIn find (get_or index.entries last.entry d) last
+abbrev pub IsLastOf : Find → RunIndex → Option LastMember → Type 0
+IsLastOf find index last = IfSome last (λ l. (d : RunEntry) → l.entry < length index.entries
+    → IsLastIn find (get_or index.entries l.entry d) l)

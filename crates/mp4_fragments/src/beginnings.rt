@@ -1,6 +1,6 @@
 //! Where and when members of a run begin.
 
-ghost use Rattle.std.specs.Prelude.{◌≡◌, ℕ, ℤ, ◌+◌, ◌-◌, ◌*◌, ◌/◌, ◌^◌, ◌<◌, ◌≤◌, length, IfOk};
+ghost use Rattle.std.specs.Prelude.{◌≡◌, ℕ, ℤ, ◌+◌, ◌-◌, ◌*◌, ◌/◌, ◌<◌, ◌≤◌, length, IfOk, IfSome};
 ghost use Rattle.mp4_fragments.specs.Numbers.{plus, moved};
 ghost use Rattle.mp4_fragments.specs.Bases.{data_begins};
 ghost use Rattle.mp4_fragments.specs.Members.{at_member};
@@ -139,22 +139,6 @@ pub struct LastMember {
     pub(crate) at: Beginning,
 }
 
-impl LastMember {
-    /// Before the first member.
-    pub fn none() -> Self
-        ensures { result.entry ≡ 2 ^ 64 - 1 }
-    {
-        LastMember {
-            entry: usize::MAX,
-            number: 0,
-            at: Beginning {
-                place: None,
-                time: None,
-            },
-        }
-    }
-}
-
 /// How many members a walk passes over one by one, at most, before it begins at a checkpoint instead.
 const NEAR: u32 = 8;
 
@@ -168,15 +152,16 @@ pub(crate) fn at_by_last(
     checks: &[Beginning],
     entry: usize,
     j: u32,
-    last: LastMember,
+    last: Option<LastMember>,
 ) -> Beginning
     requires checks { AreCheckpoints run.now defaults first checks.now }
-    requires last { last.entry ≡ entry → last.at ≡ at_member run.now defaults first last.number }
+    requires last { IfSome last (λ l. l.entry ≡ entry → l.at ≡ at_member run.now defaults first l.number) }
     ensures { result ≡ at_member run.now defaults first j }
 {
-    if last.entry == entry && last.number <= j && j - last.number <= NEAR {
-        at_later_member(run, defaults, last.at, last.number, j)
-    } else {
-        at_by_checkpoints(run, defaults, first, checks, j)
+    if let Some(last) = last {
+        if last.entry == entry && last.number <= j && j - last.number <= NEAR {
+            return at_later_member(run, defaults, last.at, last.number, j);
+        }
     }
+    at_by_checkpoints(run, defaults, first, checks, j)
 }

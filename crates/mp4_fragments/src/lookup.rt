@@ -1,6 +1,6 @@
 //! A member of a track's fragments by its number.
 
-ghost use Rattle.std.specs.Prelude.{◌≡◌, ◌-◌, ◌^◌, ◌<◌, List, length, min, slice_get, IfNone, OnSome};
+ghost use Rattle.std.specs.Prelude.{◌≡◌, ◌-◌, ◌^◌, ◌<◌, List, length, min, slice_get, IfNone, IfSome, OnSome};
 ghost use Rattle.std.specs.Option.{option_map, option_and_then};
 ghost use Rattle.mp4_fragments.specs.Members.{PlacedRun, all_members};
 ghost use Rattle.mp4_fragments.specs.Index.{Find, Indexes, IsLastIn, IsLastOf, IsRight, member_in, placed_at, run_at, runs_of};
@@ -57,12 +57,13 @@ fn member_after(
     entry: &RunEntry,
     index: usize,
     j: u32,
-    last: &mut LastMember,
+    last: &mut Option<LastMember>,
 ) -> Option<Member>
     requires right { IsRight (run_at trafs.now track) entry.now }
-    requires last { last.old.entry ≡ index → IsLastIn (run_at trafs.now track) entry.now last.old }
+    requires last { IfSome last.old (λ l. l.entry ≡ index → IsLastIn (run_at trafs.now track) entry.now l) }
     ensures member { result ≡ option_and_then (member_in j) (placed_at (run_at trafs.now track) entry.now) }
-    ensures found { OnSome result ((last.new.entry ≡ index) × IsLastIn (run_at trafs.now track) entry.now last.new) }
+    ensures found { OnSome result
+        (IfSome last.new (λ l. (l.entry ≡ index) × IsLastIn (run_at trafs.now track) entry.now l)) }
     ensures none { IfNone result (last.new ≡ last.old) }
 {
     match run_of(trafs, track, entry.traf, entry.run) {
@@ -80,11 +81,11 @@ fn member_after(
                 j,
                 *last,
             );
-            *last = LastMember {
+            *last = Some(LastMember {
                 entry: index,
                 number: j,
                 at,
-            };
+            });
             Some(member_beginning(run, defaults, at, j))
         }
     }
@@ -123,7 +124,7 @@ impl RunIndex {
         track: SampleDefaults,
         number: u32,
         readings: &mut Readings,
-        last: &mut LastMember,
+        last: &mut Option<LastMember>,
     ) -> Option<Member>
         requires number { number < 2 ^ 32 - 1 }
         requires indexed { Indexes (run_at trafs.now track) (runs_of trafs.now track self.now) self.now }

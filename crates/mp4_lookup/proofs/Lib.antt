@@ -2,3 +2,4 @@ pub mod Times
 pub mod Searches
 pub mod Sums
 pub mod Counts
+pub mod InOrder

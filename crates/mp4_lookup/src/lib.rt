@@ -6,6 +6,7 @@
 mod codec;
 mod counters;
 mod headers;
+mod in_order;
 mod index;
 mod kind;
 mod laws;

@@ -3,6 +3,7 @@ use Rattle.std.proofs.lemmas.Bool.{lt-ltb, le-ltb}
 use Rattle.std.proofs.lemmas.Option.{same_Some}
 use Rattle.mp4_fragments.specs.Members.{PlacedRun, at_member}
 use Rattle.mp4_fragments.specs.Index.{placed_at, run_at}
+use Rattle.mp4_fragments.proofs.Finding.{of_last}
 use Rattle.mp4_fragments.proofs.lookup.member_after.Goals as goal
 
 pub at_by_last-at-requires-clause-checks : goal.at_by_last-at-requires-clause-checks
@@ -19,7 +20,7 @@ at_by_last-at-requires-clause-last c =
     let e = c.in-Some.ensures in
     let p : PlacedRun = record { at = c.args.entry.now.at; run = c.in-Some.run'.now; defaults = c.in-Some.defaults } in
     let there : placed_at (run_at c.args.trafs.now c.args.track) c.args.entry.now ≡ Some p = rw (← e) refl in
-    λ same. (c.requires.last same).begins p there
+    of_last c.args.last.now _ _ c.requires.last (λ l known same. (known same).begins p there)
 
 pub returns-in-None-clause-member : goal.returns-in-None-clause-member
 unfolding placed_at
