@@ -3,7 +3,8 @@
 ghost use Rattle.std.specs.Prelude.{◌≡◌, ◌-◌, ◌^◌, ◌<◌, List, length, min, slice_get, IfNone, IfSome, OnSome};
 ghost use Rattle.std.specs.Option.{option_map, option_and_then};
 ghost use Rattle.mp4_fragments.specs.Members.{PlacedRun, all_members};
-ghost use Rattle.mp4_fragments.specs.Index.{Find, Indexes, IsLastIn, IsLastOf, IsRight, member_in, placed_at, run_at, runs_of};
+ghost use Rattle.mp4_fragments.specs.Index.{Find, Indexes, IsLastIn, IsLastOf, IsRight, member_in, placed_at};
+ghost use Rattle.mp4_fragments.specs.Index.{run_at, runs_of};
 
 use crate::beginnings::{LastMember, at_by_last};
 use crate::defaults::SampleDefaults;
@@ -137,7 +138,14 @@ impl RunIndex {
             return None;
         };
         let entry = &self.entries.as_slice()[found.index];
-        member_after(trafs, track, entry, found.index, number - found.number, last)
+        member_after(
+            trafs,
+            track,
+            entry,
+            found.index,
+            number - found.number,
+            last,
+        )
     }
 
     /// How many members there are; it stops at 2^64 - 1.

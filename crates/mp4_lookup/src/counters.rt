@@ -33,7 +33,8 @@ impl Counters {
         }
     }
 
-    /// The counters of the next look-up in this, before its first step. Searches by steps begin where those before ended.
+    /// The counters of the next look-up in this, before its first step. Searches by steps begin where those before
+    /// ended.
     pub fn restart<T: LookedUp>(&mut self, whole: &T)
         ensures { AreFresh self.new }
     {

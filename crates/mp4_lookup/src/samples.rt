@@ -10,9 +10,10 @@ use mp4_fragments::LastMember;
 /// Where the samples of a track lie and when they are decoded and shown, in their order: at each number, from one on,
 /// what [`Mp4Track::locate`] answers, but for what it cost.
 ///
-/// It keeps where it is in each table and among the runs of the fragments, so that a step looks at a few numbers, however
-/// long the tables are; only where a table jumps over more than one entry is it searched, by a guess. It ends behind the
-/// last sample, where `locate` answers `None`; behind the first refusal, which it gives; and behind number 2^32 - 1.
+/// It keeps where it is in each table and among the runs of the fragments, so that a step looks at a few numbers,
+/// however long the tables are; only where more than one entry of a table is passed over is the table searched, by a
+/// guess. It ends behind the last sample, where `locate` answers `None`; behind the first refusal, which it gives; and
+/// behind number 2^32 - 1.
 #[derive(Drop)]
 pub struct Samples<'t> {
     pub(crate) track: &'t Mp4Track,

@@ -1,6 +1,6 @@
 //! The search in numbers that rise, begun where the one before ended.
 
-ghost use Rattle.std.specs.Prelude.{◌≡◌, ℕ, ⊤, ◌+◌, ◌-◌, ◌^◌, ◌<◌, ◌≤◌, List, length, slice_index, IfSome, IsTrue, IsFalse};
+ghost use Rattle.std.specs.Prelude.{◌≡◌, ℕ, ⊤, ◌+◌, ◌^◌, ◌<◌, ◌≤◌, length, slice_index, IfSome, IsTrue, IsFalse};
 ghost use Rattle.std.specs.List.Sorted.{IsNonDecreasing};
 ghost use Rattle.mp4_search.specs.BitSet.{looks_at_bit};
 ghost use Rattle.mp4_search.specs.Search.{IsLastAtMost};

@@ -42,8 +42,7 @@ unfolding placed_at
 returns-else-j-run-clause-found c =
     let e = c.in-Some.ensures in
     let p : PlacedRun = record { at = c.args.entry.now.at; run = c.in-Some.run'.now; defaults = c.in-Some.defaults } in
-    let there : placed_at (run_at c.args.trafs.now c.args.track) c.args.entry.now ≡ Some p = rw (← e) refl in
-    (
+    let there : placed_at (run_at c.args.trafs.now c.args.track) c.args.entry.now ≡ Some p = rw (← e) refl in (
       refl,
       record {
         begins = λ q is. subst

@@ -8,10 +8,9 @@ use Rattle.mp4_lookup.proofs.in_order.SamplesIterator.next.Goals as goal
 pub returns-in-Ok-None-clause-steps : goal.returns-in-Ok-None-clause-steps
 returns-in-Ok-None-clause-steps c =
     let s = c.args.self.now in
-    let none = rw c.in-Ok-None.field-0-is at c.in-Ok-None.ensures.rule in
-    (
+    let none = rw c.in-Ok-None.field-0-is at c.in-Ok-None.ensures.rule in (
       ap (λ n. answers_left n s.track.now) c.in_ok-number.was
-      ∙ none_left s.track.now c.in_ok-number.number (omega arith) none,
+          ∙ none_left s.track.now c.in_ok-number.number (omega arith) none,
       refl,
     )
 
