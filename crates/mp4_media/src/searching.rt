@@ -1,8 +1,9 @@
 //! What a lookup is made of: the counted search in a table, and the runs that movie fragments add to a track.
 
 pub use mp4_fragments::{
-    Beginning, Member, RunIndex, SampleDefaults, index_of, traf_base, traf_end,
+    Beginning, LastMember, Member, RunIndex, SampleDefaults, index_of, traf_base, traf_end,
 };
 pub use mp4_search::{
-    ByGuess, ByHalves, CappedSums, Found, LookedUp, Readings, RunningSizes, Search, SearchedNumbers,
+    ByGuess, ByHalves, BySteps, CappedSums, Found, LookedUp, Readings, RunningSizes, Search,
+    SearchedNumbers,
 };

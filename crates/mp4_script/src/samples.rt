@@ -6,20 +6,19 @@ ghost use Rattle.mp4_script.specs.Listing.{sample_line};
 
 use crate::info::open_whole;
 use itoa::write_digits;
-use mp4_media::{ByteSource, Error, FileError, Movie, Mp4Track, Result, SamplePlace, read_mp4};
+use mp4_media::{ByteSource, Error, FileError, Movie, Result, SamplePlace, Samples, read_mp4};
 use std::alloc::{AllocError, Global};
 
 /// Room for the longest line: seven numbers of at most 20 digits, a minus, and a byte behind each number.
 const LINE: usize = 148;
 
-/// Where a sample that can be read lies: None where there is none. `EndOfData` where it doesn't lie whole in the file
-/// of `len` bytes, as reading it answers.
-///
-/// The sample is looked up once, where reading it first and then asking for its place would do it twice.
-fn place_of(track: &Mp4Track, len: u64, k: u32) -> Result<Option<SamplePlace>> {
-    let Some(place) = track.locate_by_guess(k)? else {
+/// Where the next sample that can be read lies: None where there is none. `EndOfData` where it doesn't lie whole in the
+/// file of `len` bytes, as reading it answers.
+fn next_place(samples: &mut Samples, len: u64) -> Result<Option<SamplePlace>> {
+    let Some(place) = samples.next() else {
         return Ok(None);
     };
+    let place = place?;
     if place.offset > len || len - place.offset < u64::from(place.size) {
         return Err(Error::EndOfData);
     }
@@ -105,8 +104,9 @@ fn write_sample(text: &mut Vec<u8>, k: u32, place: &Result<Option<SamplePlace>>)
 /// Writes the lines of the samples of a track of a file of `len` bytes, up to the first that isn't there.
 pub(crate) fn write_samples(text: &mut Vec<u8>, movie: &Movie, len: u64, id: u32) -> Result<()> {
     let track = movie.tracks().get(&id).ok_or(Error::TrakNotFound(id))?;
+    let mut samples = track.samples();
     for k in 1..=track.sample_count()? {
-        if !write_sample(text, k, &place_of(track, len, k))? {
+        if !write_sample(text, k, &next_place(&mut samples, len))? {
             break;
         }
     }

@@ -3,7 +3,7 @@
 use crate::sought::{SoughtFile, is_read_alike};
 use crate::tracks::shown;
 use mp4_media::{
-    Comparisons, Error, Mp4Reader, Mp4Sample, Result, SamplePlace, SampleRef, read_mp4,
+    Comparisons, Error, Mp4Reader, Mp4Sample, Result, SamplePlace, SampleRef, Samples, read_mp4,
 };
 use std::alloc::{AllocError, Global};
 use std::fmt::Write;
@@ -38,6 +38,48 @@ fn located(movie: &Mp4Reader, id: u32, k: u32) -> Result<Option<SamplePlace>> {
         Some(track) => track.locate(k),
         None => Err(Error::TrakNotFound(id)),
     }
+}
+
+/// Whether two places are the same, but for what it cost to find them.
+fn is_same_place(one: &SamplePlace, other: &SamplePlace) -> bool {
+    one.offset == other.offset
+        && one.size == other.size
+        && one.start_time == other.start_time
+        && one.duration == other.duration
+        && one.rendering_offset == other.rendering_offset
+        && one.is_sync == other.is_sync
+}
+
+/// Whether the next of the samples that are given in order is as it was located.
+fn is_next(samples: &mut Samples, located: &Result<Option<SamplePlace>>) -> bool {
+    match (samples.next(), located) {
+        (Some(Ok(one)), Ok(Some(other))) => is_same_place(&one, other),
+        (Some(Err(one)), Err(other)) => one == *other && samples.next().is_none(),
+        (None, Ok(None)) => samples.next().is_none(),
+        _ => false,
+    }
+}
+
+/// Whether sample `k` of a track is given in order as it was located: as the first from its number on, and behind each
+/// of the three before it, if that one is there.
+fn is_in_order(movie: &Mp4Reader, id: u32, k: u32, located: &Result<Option<SamplePlace>>) -> bool {
+    let Some(track) = movie.tracks().get(&id) else {
+        return true;
+    };
+    let mut all = true;
+    for first in k.saturating_sub(3)..=k {
+        let mut samples = track.samples_from(first);
+        let before = k.saturating_sub(first);
+        let given = samples
+            .by_ref()
+            .take(before as usize)
+            .filter(|place| place.is_ok())
+            .count();
+        if given == before as usize {
+            all = all && is_next(&mut samples, located);
+        }
+    }
+    all
 }
 
 /// Writes where a sample is: offset, size, start time, duration, rendering offset, and whether it is a sync sample.
@@ -142,6 +184,9 @@ fn write_sample(
     }
     if !is_read_there(file.bytes, &located, &read) {
         text.push_str(", read as another")?;
+    }
+    if !is_in_order(&file.movie, id, k, &located) {
+        text.push_str(", in order as another")?;
     }
     if !is_copied(&file.movie.read_sample(id, k), &read) {
         text.push_str(", copied as another")?;
