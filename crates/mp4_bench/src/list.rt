@@ -22,7 +22,7 @@ const EVEN: u32 = 600;
 const FALLING: u32 = 80;
 
 /// A file of one text track of these tables.
-fn made_file(
+pub fn made_file(
     alloc: Global,
     random: &mut Random,
     parts: &Parts,

@@ -13,8 +13,10 @@ mod scan;
 mod script;
 mod seek;
 mod tables;
+mod walk;
 
 use crate::digest::Digest;
+use crate::walk::Way;
 use mp4_media::{Error, Result};
 use mp4_script::decimal_in;
 use std::alloc::Global;
@@ -22,7 +24,7 @@ use std::process::ExitCode;
 use std::{env, io};
 
 const USAGE: &[u8] =
-    b"usage: mp4_bench all | seek | list | scan | live | record | script [SEED [PARTS]]\n";
+    b"usage: mp4_bench all | seek | list | scan | live | record | script | walk | numbers [SEED [PARTS]]\n";
 
 /// How large a job is where nothing is said: the whole of it.
 const WHOLE: u32 = 1000;
@@ -44,6 +46,19 @@ fn number_in(arguments: &[String], index: usize, otherwise: u32) -> u32 {
     }
 }
 
+/// Goes over samples by steps, and by their numbers, and fails where they aren't the same.
+fn compare_ways(alloc: Global, seed: u32, parts: u32) -> Result<()> {
+    let mut by_steps = Digest::new();
+    walk::walk(alloc, seed, parts, Way::BySteps, &mut by_steps)?;
+    let mut by_numbers = Digest::new();
+    walk::walk(alloc, seed, parts, Way::ByNumbers, &mut by_numbers)?;
+    if by_steps.value() == by_numbers.value() {
+        Ok(())
+    } else {
+        Err(Error::InvalidData("samples in order are others than by their numbers"))
+    }
+}
+
 /// Does each of the jobs, as large as so many thousandths of it.
 fn run_all(alloc: Global, seed: u32, parts: u32, digest: &mut Digest) -> Result<()> {
     seek::seek(alloc, seed, parts, digest)?;
@@ -51,7 +66,8 @@ fn run_all(alloc: Global, seed: u32, parts: u32, digest: &mut Digest) -> Result<
     scan::scan(alloc, seed, parts, digest)?;
     live::live(alloc, seed, parts, digest)?;
     record::record(alloc, seed, parts, digest)?;
-    script::script(alloc, seed, parts, digest)
+    script::script(alloc, seed, parts, digest)?;
+    compare_ways(alloc, seed, parts)
 }
 
 /// Does the job of this name, as large as so many thousandths of it, and answers whether there is such a job.
@@ -64,6 +80,8 @@ fn run_job(alloc: Global, name: &str, seed: u32, parts: u32, digest: &mut Digest
         "live" => live::live(alloc, seed, parts, digest)?,
         "record" => record::record(alloc, seed, parts, digest)?,
         "script" => script::script(alloc, seed, parts, digest)?,
+        "walk" => walk::walk(alloc, seed, parts, Way::BySteps, digest)?,
+        "numbers" => walk::walk(alloc, seed, parts, Way::ByNumbers, digest)?,
         _ => return Ok(false),
     }
     Ok(true)

@@ -1,0 +1,122 @@
+//! A remuxer: where all samples of tracks lie, in their order: by steps, or each by its number.
+
+use crate::digest::Digest;
+use crate::files::{DATA, pattern};
+use crate::fragments::{Shape, fragmented_file};
+use crate::list::made_file;
+use crate::parts::Parts;
+use crate::tables::{even_tables, list_chunks, list_sync_samples, turning_tables};
+use mp4_media::{Error, Mp4Track, Result, SamplePlace, read_mp4};
+use mp4_plain_movies::random::Random;
+use std::alloc::Global;
+
+/// How many samples the tracks have for each thousandth of the job that is done.
+const SAMPLES: u32 = 300;
+
+/// How often a track is gone over.
+const PASSES: u32 = 10;
+
+/// How the samples of a track are gone over.
+#[derive(Clone, Copy)]
+pub enum Way {
+    BySteps,
+    ByNumbers,
+}
+
+/// Adds where a sample lies.
+fn add_place(digest: &mut Digest, place: &SamplePlace) {
+    digest.add(place.offset);
+    digest.add(place.start_time ^ u64::from(place.size));
+}
+
+/// Adds the places of a track, by steps.
+fn add_by_steps(track: &Mp4Track, digest: &mut Digest) -> Result<()> {
+    for place in track.samples() {
+        add_place(digest, &place?);
+    }
+    Ok(())
+}
+
+/// Adds the places of a track, each looked up by its number.
+fn add_by_numbers(track: &Mp4Track, digest: &mut Digest) -> Result<()> {
+    for k in 1..=track.sample_count()? {
+        if let Some(place) = track.locate_by_guess(k)? {
+            add_place(digest, &place);
+        }
+    }
+    Ok(())
+}
+
+/// Adds the places of the track of a file, as often as it is gone over.
+fn add_places(alloc: Global, file: &[u8], way: Way, digest: &mut Digest) -> Result<()> {
+    let movie = read_mp4(alloc, file)?;
+    let track = movie.tracks().get(&1).ok_or(Error::TrakNotFound(1))?;
+    for _ in 0..PASSES {
+        match way {
+            Way::BySteps => add_by_steps(track, digest)?,
+            Way::ByNumbers => add_by_numbers(track, digest)?,
+        }
+    }
+    Ok(())
+}
+
+/// Goes over a track of one entry in each table, and one whose tables change at each sample.
+fn add_tables(
+    alloc: Global,
+    random: &mut Random,
+    boxes: &Parts,
+    count: u32,
+    way: Way,
+    digest: &mut Digest,
+) -> Result<()> {
+    let size = random.below(16).wrapping_add(1);
+    let mut lists = even_tables(alloc, count, size)?;
+    let bytes = list_chunks(&mut lists, 48, DATA, 0)?;
+    let file = made_file(alloc, random, boxes, &lists, bytes)?;
+    add_places(alloc, &file, way, digest)?;
+    let mut lists = turning_tables(alloc, random, count)?;
+    list_sync_samples(&mut lists, count, 1)?;
+    let bytes = list_chunks(&mut lists, 1, DATA, 0)?;
+    let file = made_file(alloc, random, boxes, &lists, bytes)?;
+    add_places(alloc, &file, way, digest)
+}
+
+/// Goes over fragments of one sample, and one fragment of all samples.
+fn add_fragments(
+    alloc: Global,
+    random: &mut Random,
+    boxes: &Parts,
+    count: u32,
+    way: Way,
+    digest: &mut Digest,
+) -> Result<()> {
+    let shapes = [
+        Shape {
+            fragments: count / 3,
+            fewest: 1,
+            more: 1,
+            lists_all: false,
+        },
+        Shape {
+            fragments: 1,
+            fewest: count,
+            more: 1,
+            lists_all: true,
+        },
+    ];
+    let pattern = pattern(alloc, random)?;
+    for shape in shapes {
+        let file = fragmented_file(alloc, random, boxes, &pattern, &shape)?;
+        add_places(alloc, &file, way, digest)?;
+    }
+    Ok(())
+}
+
+/// Goes over the samples of four files.
+pub fn walk(alloc: Global, seed: u32, parts: u32, way: Way, digest: &mut Digest) -> Result<()> {
+    let mut random = Random::new(u64::from(seed));
+    let boxes = Parts::new(alloc)?;
+    let count = parts.wrapping_mul(SAMPLES);
+    add_tables(alloc, &mut random, &boxes, count, way, digest)?;
+    add_fragments(alloc, &mut random, &boxes, count, way, digest)
+}
