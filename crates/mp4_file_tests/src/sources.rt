@@ -1,5 +1,7 @@
 //! Sources and files of the tests.
 
+ghost use Rattle.std.specs.Prelude.{◌≤◌, length};
+
 use std::io;
 use std::io::{ErrorKind, Read, Seek, SeekFrom};
 
@@ -49,7 +51,9 @@ impl<'a> Disk<'a> {
 }
 
 /// Zeros from a place up to another, as many as the buffer takes. The answer is how many.
-fn put_zeros(start: u64, end: usize, buf: &mut [u8]) -> usize {
+fn put_zeros(start: u64, end: usize, buf: &mut [u8]) -> usize
+    ensures { result ≤ length buf.old }
+{
     let rest = (end as u64).saturating_sub(start);
     let n = rest.min(buf.len() as u64) as usize;
     buf[..n].fill(0);
