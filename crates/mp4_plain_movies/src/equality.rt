@@ -1,4 +1,4 @@
-//! Whether the values of a type are told apart: `==` and `is_equal` answer alike, in either order.
+//! Whether two values are unequal by `==` and by `is_equal` alike, in either order.
 
 use mp4_codec::{ExactEq, is_equal};
 
