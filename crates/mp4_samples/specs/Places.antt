@@ -1,17 +1,6 @@
--- Where a sample lies, and when it is decoded and shown.
-use Rattle.std.specs.Prelude.{ℕ, ℤ, Bool}
+-- Where a sample lies, and when it is decoded and shown: what the tables say of a sample is a Place.
 use Rattle.mp4_samples.specs.declared.sample.SamplePlace.{SamplePlace}
-
--- what the tables say of a sample: the place of its first byte in the file, its size, when it is decoded (when those
--- before it have lasted, counted from the last tfdt at or before it of a track fragment with samples, where there is
--- one), how long it lasts, how many ticks later than it is decoded it is shown, and whether it is a sync sample
-pub record Place : Type 0 where
-  pub offset : ℕ
-  pub size : ℕ
-  pub start_time : ℕ
-  pub duration : ℕ
-  pub rendering_offset : ℤ
-  pub is_sync : Bool
+use Rattle.mp4_samples.specs.declared.sample.Place.{Place}
 
 -- the place that a lookup answered, without what it cost
 abbrev pub place_of : SamplePlace → Place

@@ -8,7 +8,7 @@ use Rattle.mp4_table.specs.Runs.{durations, rendering_offsets}
 use Rattle.mp4_table.specs.Chunks.{counts, places}
 use Rattle.mp4_table.specs.Starts.{start_of}
 use Rattle.mp4_boxes.specs.declared.stbl.StblBox.{StblBox}
-use Rattle.mp4_samples.specs.Places.{Place}
+use Rattle.mp4_samples.specs.declared.sample.Place.{Place}
 use Rattle.mp4_samples.specs.Tables.{chunk_offsets, sizes, ctts_runs, sync_numbers, is_sync_at}
 
 -- The tables describe the same samples, at least one. Chunks are numbered from 1, and each has at least one sample.

@@ -5,7 +5,7 @@ use Rattle.mp4_codec.specs.Cause.{Cause, end_of_data, ◌>>=◌}
 use Rattle.mp4_boxes.specs.declared.stbl.StblBox.{StblBox}
 use Rattle.mp4_samples.specs.declared.sample.Mp4Sample.{Mp4Sample}
 use Rattle.mp4_samples.specs.declared.sample.SampleRef.{SampleRef}
-use Rattle.mp4_samples.specs.Places.{Place}
+use Rattle.mp4_samples.specs.declared.sample.Place.{Place}
 use Rattle.mp4_samples.specs.Plain.{plain_at}
 
 -- A sample: its bytes, its duration in ticks of its track, how many ticks later than it is decoded it is shown, and

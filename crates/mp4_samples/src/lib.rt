@@ -4,4 +4,4 @@
 
 mod sample;
 
-pub use sample::{Comparisons, Mp4Sample, SamplePlace, SampleRef, is_equal_sample};
+pub use sample::{Comparisons, Mp4Sample, Place, SamplePlace, SampleRef, is_equal_sample};

@@ -2,6 +2,7 @@
 
 ghost use Rattle.mp4_codec.specs.ExactTest.{by_test, field_tests};
 ghost use Rattle.std.specs.Prelude.{◌≡◌, ◌↔◌, IsTrue};
+ghost use Rattle.mp4_samples.specs.Places.{place_of};
 ghost use Rattle.mp4_samples.specs.Samples.{lent_sample};
 
 use bytes::Bytes;
@@ -34,6 +35,8 @@ impl ExactEq for Mp4Sample {
 /// Times are in ticks of the track's timescale.
 #[derive(Debug, Clone, Copy, PartialEq, Eq)]
 pub struct SampleRef<'a> {
+    /// Where its first byte is, counted from the file's first byte.
+    pub offset: u64,
     /// When it is decoded: when the samples before it have lasted, counted from the last `tfdt` at or before it of a
     /// track fragment with samples, where there is one (ISO/IEC 14496-12, 8.6.1.2 and 8.8.12).
     pub start_time: u64,
@@ -47,15 +50,41 @@ pub struct SampleRef<'a> {
     pub bytes: &'a [u8],
 }
 
-/// Whether two samples are the same in each field and hold the same bytes, as `==` answers, wherever the bytes lie.
+/// Whether two samples are the same in each field and hold the same bytes, as `==` answers, wherever these lie in
+/// memory.
 #[tactic(auto, using(crate::proofs::LentSamples::lent_samples_compare))]
 pub fn is_equal_sample(first: &SampleRef, second: &SampleRef) -> bool
-    ensures { IsTrue result ↔ (lent_sample first.now ≡ lent_sample second.now) }
+    ensures { IsTrue result
+        ↔ ((first.now.offset ≡ second.now.offset) × (lent_sample first.now ≡ lent_sample second.now)) }
 {
     first == second
 }
 
-/// Where a sample lies in the file, when it is decoded and shown, and what it cost to find it.
+/// Where a sample lies in the file, and when it is decoded and shown.
+///
+/// Times are in ticks of the track's timescale.
+#[derive(Debug, Clone, Copy, PartialEq, Eq)]
+pub struct Place {
+    /// Where its first byte is, counted from the file's first byte.
+    pub offset: u64,
+    /// When it is decoded: when the samples before it have lasted, counted from the last `tfdt` at or before it of a
+    /// track fragment with samples, where there is one (ISO/IEC 14496-12, 8.6.1.2 and 8.8.12).
+    pub start_time: u64,
+    /// How many bytes it has.
+    pub size: u32,
+    /// How long it lasts, until the next is decoded.
+    pub duration: u32,
+    /// How much later than it is decoded it is shown.
+    pub rendering_offset: i32,
+    /// Whether it can be decoded without the samples before it.
+    pub is_sync: bool,
+}
+
+impl ExactEq for Place {
+    ghost exact = { by_test (Prim.hlevel field_tests) };
+}
+
+/// The [`Place`] of a sample, and what it cost to find it.
 ///
 /// Times are in ticks of the track's timescale.
 #[derive(Debug, Clone, Copy, PartialEq, Eq)]
@@ -81,6 +110,22 @@ pub struct SamplePlace {
 
 impl ExactEq for SamplePlace {
     ghost exact = { by_test (Prim.hlevel field_tests) };
+}
+
+impl SamplePlace {
+    /// Where the sample lies and when it is decoded and shown, without what it cost.
+    pub fn place(&self) -> Place
+        ensures { result ≡ place_of self.now }
+    {
+        Place {
+            offset: self.offset,
+            start_time: self.start_time,
+            size: self.size,
+            duration: self.duration,
+            rendering_offset: self.rendering_offset,
+            is_sync: self.is_sync,
+        }
+    }
 }
 
 /// How many numbers each search compared with the sample's, 0 for a table that isn't there.
