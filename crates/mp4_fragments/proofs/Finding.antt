@@ -1,7 +1,7 @@
 -- Which run a member is in.
 use Rattle.std.proofs.Common.{◌≡◌, ℕ, ◌+◌, ◌-◌, ◌^◌, ◌<◌, ◌≤◌, List, [], ◌∷◌, length, get_or, take, Option, Some, None}
 use Rattle.std.proofs.Common.{refl, sym, ap, subst, ◌∙◌, arith, length-append, ⊎_elim}
-use Rattle.std.specs.Prelude.{IfSome, slice_get, slice_index}
+use Rattle.std.specs.Prelude.{slice_get, slice_index}
 use Rattle.std.specs.List.{sum_by}
 use Rattle.std.specs.Option.{option_and_then}
 use Rattle.std.proofs.lemmas.Bool.{cases_lt, lt-ltb, le-ltb}
@@ -13,8 +13,7 @@ use Rattle.std.proofs.lemmas.Option.{slice_get-get_or, slice_get_past}
 use Rattle.mp4_search.specs.Search.{IsLastAtMost}
 use Rattle.mp4_search.specs.Sums.{CountsBefore}
 use Rattle.mp4_fragments.specs.Members.{PlacedRun, all_members, member_of, members_of, run_count}
-use Rattle.mp4_fragments.specs.Index.{Find, placed_at, member_in, IsRight, Indexes, IsLastIn, IsLastOf}
-use Rattle.mp4_fragments.specs.declared.beginnings.LastMember.{LastMember}
+use Rattle.mp4_fragments.specs.Index.{Find, placed_at, member_in, IsRight, Indexes}
 use Rattle.mp4_fragments.specs.declared.index.RunIndex.{RunIndex}
 use Rattle.mp4_fragments.specs.declared.index.RunEntry.{RunEntry}
 use Rattle.mp4_fragments.specs.declared.members.Member.{Member}
@@ -29,7 +28,7 @@ length-all_members [] = refl
 length-all_members (run ∷ runs) = length-append (members_of run) (all_members runs)
     ∙ omega (arith, length-members_of run, length-all_members runs, sum_by-cons run_count run runs)
 
-slice_get-all_members : (runs : List PlacedRun) (number i before : ℕ) (d : PlacedRun) → i < length runs
+pub slice_get-all_members : (runs : List PlacedRun) (number i before : ℕ) (d : PlacedRun) → i < length runs
     → before ≡ sum_by run_count (take i runs) → before ≤ number → number - before < run_count (get_or runs i d) →
     slice_get (all_members runs) number ≡ Some (member_of (get_or runs i d) (number - before))
 unfolding members_of
@@ -49,7 +48,7 @@ slice_get-all_members runs number i before d h e reached inside =
     ∙ ap Some (ap (λ n. get_or (all_members runs) n m) at ∙ get_or-flat_map members_of runs i j d m h fits
     ∙ get_or-map-range_with_len (member_of run) 0 (run_count run) j j m inside (omega arith))
 
-slice_get-all_members_past : (runs : List PlacedRun) (number i : ℕ) → length runs ≤ i
+pub slice_get-all_members_past : (runs : List PlacedRun) (number i : ℕ) → length runs ≤ i
     → sum_by run_count (take i runs) ≤ number → slice_get (all_members runs) number ≡ None
 slice_get-all_members_past runs number i all past =
     let whole : sum_by run_count (take i runs) ≡ sum_by run_count runs = ap (sum_by run_count) (take_all i runs all) in
@@ -72,7 +71,7 @@ member_found runs counts key i d limit s at =
     (cases_lt j (run_count (get_or runs i d)))
 
 -- the entry of a run
-entry_of : (find : Find) (runs : List PlacedRun) (index : RunIndex) (i : ℕ) (e : RunEntry) (d : PlacedRun)
+pub entry_of : (find : Find) (runs : List PlacedRun) (index : RunIndex) (i : ℕ) (e : RunEntry) (d : PlacedRun)
     → Indexes find runs index → i < length runs → placed_at find (get_or index.entries i e) ≡ Some (get_or runs i d)
 entry_of find runs index i e d s h =
     let so_many : length index.entries ≡ length runs = sym (length-map index.entries (placed_at find))
@@ -121,19 +120,3 @@ pub right_by : (find : Find) (es : List RunEntry) (runs : List PlacedRun) (index
 right_by find es runs index i entry s e1 is h =
     let there : get_or index.entries i entry ≡ entry = sym (is ∙ ap (λ (xs : List RunEntry). get_or xs i entry) e1) in
     subst (λ (e : RunEntry). IsRight find e) there (s.right i entry h)
-
--- what follows of the member that was found last, if one was
-pub of_last : (last : Option LastMember) (P Q : LastMember → Type 0) → IfSome last P
-    → ((l : LastMember) → P l → Q l) → IfSome last Q
-of_last None P Q p f = tt
-of_last (Some l) P Q p f = f l p
-
--- the member of an entry that was read out of a copy of the entries, if it was found last
-pub last_by : (find : Find) (es : List RunEntry) (index : RunIndex) (i : ℕ) (entry : RunEntry)
-    (last : Option LastMember) → es ≡ index.entries → entry ≡ get_or es i entry → i < length index.entries
-    → IsLastOf find index last → IfSome last (λ l. l.entry ≡ i → IsLastIn find entry l)
-last_by find es index i entry None e1 is h known = tt
-last_by find es index i entry (Some l) e1 is h known =
-    let there : get_or index.entries i entry ≡ entry = sym (is ∙ ap (λ (xs : List RunEntry). get_or xs i entry) e1) in
-    λ same. subst (λ (e : RunEntry). IsLastIn find e l)
-    (ap (λ (n : ℕ). get_or index.entries n entry) same ∙ there) (known entry (omega (arith, h, same)))

@@ -3,3 +3,4 @@ pub mod Places
 pub mod Indexing
 pub mod Walking
 pub mod Finding
+pub mod Cursors

@@ -1,6 +1,6 @@
 -- What is kept of the runs of a track, so that its members are found fast.
 use Rattle.std.specs.Prelude.{◌≡◌, ℕ, ◌+◌, ◌-◌, ◌^◌, ◌<◌, min, List, [], ◌∷◌, ◌++◌, length, map, slice_get, get_or}
-use Rattle.std.specs.Prelude.{Option, Some, None, IfSome, nat_lt, if◌then◌else◌}
+use Rattle.std.specs.Prelude.{Option, Some, None, nat_lt, if◌then◌else◌}
 use Rattle.std.specs.List.{sum_by, filter_map}
 use Rattle.std.specs.Option.{option_map, option_and_then}
 use Rattle.mp4_frag.specs.declared.trun.TrunBox.{TrunBox}
@@ -9,11 +9,10 @@ use Rattle.mp4_search.specs.Sums.{CountsBefore}
 use Rattle.mp4_fragments.specs.Checkpoints.{AreCheckpoints}
 use Rattle.mp4_fragments.specs.Defaults.{defaults_in}
 use Rattle.mp4_fragments.specs.Fragments.{Walk}
-use Rattle.mp4_fragments.specs.Members.{PlacedRun, at_member, member_of, run_count}
+use Rattle.mp4_fragments.specs.Members.{PlacedRun, member_of, run_count}
 use Rattle.mp4_fragments.specs.declared.defaults.SampleDefaults.{SampleDefaults}
 use Rattle.mp4_fragments.specs.declared.index.RunEntry.{RunEntry}
 use Rattle.mp4_fragments.specs.declared.index.RunIndex.{RunIndex}
-use Rattle.mp4_fragments.specs.declared.beginnings.LastMember.{LastMember}
 use Rattle.mp4_fragments.specs.declared.members.Beginning.{Beginning}
 use Rattle.mp4_fragments.specs.declared.members.Member.{Member}
 
@@ -72,12 +71,3 @@ pub record KnowsTrafs (track : SampleDefaults) (trafs : List TrafBox) (find : Fi
 -- member j of a run, if it has so many
 abbrev pub member_in : ℕ → PlacedRun → Option Member
 member_in j p = if nat_lt j (run_count p) then Some (member_of p j) else None
-
--- the member of this entry's run that was found last begins where it is said
-pub record IsLastIn (find : Find) (e : RunEntry) (last : LastMember) : Type 0 where
-  pub begins : (p : PlacedRun) → placed_at find e ≡ Some p → last.at ≡ at_member p.run p.defaults p.at last.number
-
--- so does the member of an index that was found last, if one was
-abbrev pub IsLastOf : Find → RunIndex → Option LastMember → Type 0
-IsLastOf find index last = IfSome last (λ l. (d : RunEntry) → l.entry < length index.entries
-    → IsLastIn find (get_or index.entries l.entry d) l)

@@ -5,4 +5,5 @@ pub mod Bases
 pub mod Fragments
 pub mod Checkpoints
 pub mod Index
+pub mod Cursor
 pub mod IndexLaws

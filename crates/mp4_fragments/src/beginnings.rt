@@ -1,6 +1,6 @@
 //! Where and when members of a run begin.
 
-ghost use Rattle.std.specs.Prelude.{◌≡◌, ℕ, ℤ, ◌+◌, ◌-◌, ◌*◌, ◌/◌, ◌<◌, ◌≤◌, length, IfOk, IfSome};
+ghost use Rattle.std.specs.Prelude.{◌≡◌, ℕ, ℤ, ◌+◌, ◌-◌, ◌*◌, ◌/◌, ◌<◌, ◌≤◌, length, IfOk};
 ghost use Rattle.mp4_fragments.specs.Numbers.{plus, moved};
 ghost use Rattle.mp4_fragments.specs.Bases.{data_begins};
 ghost use Rattle.mp4_fragments.specs.Members.{at_member};
@@ -128,40 +128,4 @@ pub(crate) fn at_by_checkpoints(
     } else {
         at_member(run, defaults, first, j)
     }
-}
-
-/// The member of a walk over runs that was found last: its run, by the index of its entry, its number in the run, and
-/// where it begins.
-#[derive(Clone, Copy, Debug)]
-pub struct LastMember {
-    pub(crate) entry: usize,
-    pub(crate) number: u32,
-    pub(crate) at: Beginning,
-}
-
-/// How many members a walk passes over one by one, at most, before it begins at a checkpoint instead.
-const NEAR: u32 = 8;
-
-/// Where member `j` of the run begins whose entry has this index, from the member that was found last: where that one
-/// is right before it, a step is one size and one duration.
-#[inline(always)]
-pub(crate) fn at_by_last(
-    run: &TrunBox,
-    defaults: SampleDefaults,
-    first: Beginning,
-    checks: &[Beginning],
-    entry: usize,
-    j: u32,
-    last: Option<LastMember>,
-) -> Beginning
-    requires checks { AreCheckpoints run.now defaults first checks.now }
-    requires last { IfSome last (λ l. l.entry ≡ entry → l.at ≡ at_member run.now defaults first l.number) }
-    ensures { result ≡ at_member run.now defaults first j }
-{
-    if let Some(last) = last {
-        if last.entry == entry && last.number <= j && j - last.number <= NEAR {
-            return at_later_member(run, defaults, last.at, last.number, j);
-        }
-    }
-    at_by_checkpoints(run, defaults, first, checks, j)
 }

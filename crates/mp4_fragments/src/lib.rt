@@ -3,6 +3,7 @@
 
 mod bases;
 mod beginnings;
+mod cursor;
 mod defaults;
 mod index;
 mod lookup;
@@ -11,7 +12,7 @@ mod placing;
 mod values;
 
 pub use bases::{traf_base, traf_end};
-pub use beginnings::LastMember;
+pub use cursor::RunCursor;
 pub use defaults::SampleDefaults;
 pub use index::RunIndex;
 pub use members::{Beginning, Member};

@@ -1,18 +1,19 @@
 //! A member of a track's fragments by its number.
 
-ghost use Rattle.std.specs.Prelude.{◌≡◌, ◌-◌, ◌^◌, ◌<◌, List, length, min, slice_get, IfNone, IfSome, OnSome};
-ghost use Rattle.std.specs.Option.{option_map, option_and_then};
+ghost use Rattle.std.specs.Prelude.{◌≡◌, ◌-◌, ◌^◌, ◌<◌, ◌≤◌, List, Some, None, length, min, slice_get, IfNone, IfSome};
+ghost use Rattle.std.specs.Option.{option_map};
+ghost use Rattle.mp4_fragments.specs.Cursor.{IsIn, IsInRuns};
 ghost use Rattle.mp4_fragments.specs.Members.{PlacedRun, all_members};
-ghost use Rattle.mp4_fragments.specs.Index.{Find, Indexes, IsLastIn, IsLastOf, IsRight, member_in, placed_at};
-ghost use Rattle.mp4_fragments.specs.Index.{run_at, runs_of};
+ghost use Rattle.mp4_fragments.specs.Index.{Find, Indexes, IsRight, placed_at, run_at, runs_of};
 
-use crate::beginnings::{LastMember, at_by_last};
+use crate::beginnings::at_by_checkpoints;
+use crate::cursor::RunCursor;
 use crate::defaults::SampleDefaults;
 use crate::index::{RunEntry, RunIndex};
-use crate::members::{Member, member_beginning, nth_member};
+use crate::members::Member;
 use mp4_frag::TrunBox;
 use mp4_moof::TrafBox;
-use mp4_search::{BySteps, Readings, Search};
+use mp4_search::{ByGuess, Readings, Search};
 
 /// Run `i` of fragment `t` of a track, and what its members have where it says nothing.
 #[tactic(auto, unfolding(crate::specs::Index::run_at, crate::specs::Index::run_of_traf))]
@@ -33,66 +34,124 @@ fn run_of(
     }
 }
 
-/// Member `j` of the run of an entry, if it has so many.
-fn member_at(trafs: &[TrafBox], track: SampleDefaults, entry: &RunEntry, j: u32) -> Option<Member>
-    requires { IsRight (run_at trafs.now track) entry.now }
-    ensures { result ≡ option_and_then (member_in j) (placed_at (run_at trafs.now track) entry.now) }
-{
-    match run_of(trafs, track, entry.traf, entry.run) {
-        None => None,
-        Some((run, defaults)) => {
-            if j < run.sample_count {
-                Some(nth_member(run, defaults, entry.at, entry.checks.as_slice(), j))
-            } else {
-                None
-            }
-        }
-    }
-}
-
-/// Member `j` of the run of the entry with this index, if it has so many. It is the last that was found then.
+/// A walk before member `j` of the run of the entry with this index, if it has so many; the number of that member over
+/// all runs is `number`.
 #[inline(always)]
-fn member_after(
-    trafs: &[TrafBox],
+fn cursor_in<'t>(
+    trafs: &'t [TrafBox],
     track: SampleDefaults,
     entry: &RunEntry,
     index: usize,
     j: u32,
-    last: &mut Option<LastMember>,
-) -> Option<Member>
-    requires right { IsRight (run_at trafs.now track) entry.now }
-    requires last { IfSome last.old (λ l. l.entry ≡ index → IsLastIn (run_at trafs.now track) entry.now l) }
-    ensures member { result ≡ option_and_then (member_in j) (placed_at (run_at trafs.now track) entry.now) }
-    ensures found { OnSome result
-        (IfSome last.new (λ l. (l.entry ≡ index) × IsLastIn (run_at trafs.now track) entry.now l)) }
-    ensures none { IfNone result (last.new ≡ last.old) }
+    number: u32,
+) -> Option<RunCursor<'t>>
+    requires { IsRight (run_at trafs.now track) entry.now }
+    ensures some { IfSome result (λ c. (c.entry ≡ index) × (c.passed ≡ j) × (c.number ≡ number)
+        × (j < c.run.now.sample_count) × (j < 2 ^ 32 - 1)
+        × ((p : PlacedRun) → placed_at (run_at trafs.now track) entry.now ≡ Some p → IsIn p c)) }
+    ensures none { IfNone result ((p : PlacedRun) → placed_at (run_at trafs.now track) entry.now ≡ Some p
+        → p.run.sample_count ≤ j) }
 {
-    match run_of(trafs, track, entry.traf, entry.run) {
-        None => None,
-        Some((run, defaults)) => {
-            if j >= run.sample_count {
-                return None;
-            }
-            let at = at_by_last(
-                run,
-                defaults,
-                entry.at,
-                entry.checks.as_slice(),
-                index,
-                j,
-                *last,
-            );
-            *last = Some(LastMember {
-                entry: index,
-                number: j,
-                at,
-            });
-            Some(member_beginning(run, defaults, at, j))
-        }
+    let Some((run, defaults)) = run_of(trafs, track, entry.traf, entry.run) else {
+        return None;
+    };
+    if j >= run.sample_count {
+        return None;
     }
+    Some(RunCursor {
+        run,
+        defaults,
+        entry: index,
+        passed: j,
+        number,
+        at: at_by_checkpoints(run, defaults, entry.at, entry.checks.as_slice(), j),
+    })
 }
 
 impl RunIndex {
+    /// A walk before the member with this number, if there is one; its run is searched.
+    #[inline(always)]
+    fn cursor_at<'t, S: Search>(
+        &self,
+        trafs: &'t [TrafBox],
+        track: SampleDefaults,
+        number: u32,
+        readings: &mut Readings,
+    ) -> Option<RunCursor<'t>>
+        requires number { number < 2 ^ 32 - 1 }
+        requires indexed { Indexes (run_at trafs.now track) (runs_of trafs.now track self.now) self.now }
+        requires fresh { readings.old ≡ 0 }
+        ensures some { IfSome result (λ c. IsInRuns (runs_of trafs.now track self.now) c × (c.number ≡ number)
+            × (c.passed < c.run.now.sample_count) × (c.passed < 2 ^ 32 - 1)) }
+        ensures none { IfNone result (slice_get (all_members (runs_of trafs.now track self.now)) number ≡ None) }
+        ensures counted { S.Counts self.now.counts number readings.new }
+    {
+        let Some(found) = S::last_at_most(&self.counts, number, readings) else {
+            return None;
+        };
+        let entry = &self.entries.as_slice()[found.index];
+        cursor_in(
+            trafs,
+            track,
+            entry,
+            found.index,
+            number - found.number,
+            number,
+        )
+    }
+
+    /// A walk before the first member of the run behind that of a cursor, which is behind its last member; None where
+    /// that run has none.
+    #[inline(always)]
+    fn next_run<'t>(
+        &self,
+        trafs: &'t [TrafBox],
+        track: SampleDefaults,
+        cursor: &RunCursor<'t>,
+    ) -> Option<RunCursor<'t>>
+        requires indexed { Indexes (run_at trafs.now track) (runs_of trafs.now track self.now) self.now }
+        requires cursor { IsInRuns (runs_of trafs.now track self.now) cursor.now }
+        requires passed { cursor.now.run.now.sample_count ≤ cursor.now.passed }
+        ensures { IfSome result (λ c. IsInRuns (runs_of trafs.now track self.now) c × (c.number ≡ cursor.now.number)
+            × (c.passed < c.run.now.sample_count) × (c.passed < 2 ^ 32 - 1)) }
+    {
+        let entries = self.entries.as_slice();
+        let index = cursor.entry + 1;
+        let Some(entry) = entries.get(index) else {
+            return None;
+        };
+        cursor_in(trafs, track, entry, index, 0, cursor.number)
+    }
+
+    /// A walk before the member with this number, if there is one: where another is behind the last member before it,
+    /// mostly in the run behind that one's, else by a search.
+    #[inline(always)]
+    fn cursor_after<'t>(
+        &self,
+        trafs: &'t [TrafBox],
+        track: SampleDefaults,
+        number: u32,
+        readings: &mut Readings,
+        cursor: Option<RunCursor<'t>>,
+    ) -> Option<RunCursor<'t>>
+        requires number { number < 2 ^ 32 - 1 }
+        requires indexed { Indexes (run_at trafs.now track) (runs_of trafs.now track self.now) self.now }
+        requires fresh { readings.old ≡ 0 }
+        requires cursor { IfSome cursor (λ c. IsInRuns (runs_of trafs.now track self.now) c) }
+        ensures some { IfSome result (λ c. IsInRuns (runs_of trafs.now track self.now) c × (c.number ≡ number)
+            × (c.passed < c.run.now.sample_count) × (c.passed < 2 ^ 32 - 1)) }
+        ensures none { IfNone result (slice_get (all_members (runs_of trafs.now track self.now)) number ≡ None) }
+    {
+        if let Some(cursor) = cursor {
+            if cursor.number == number && !cursor.is_before_member() {
+                if let Some(next) = self.next_run(trafs, track, &cursor) {
+                    return Some(next);
+                }
+            }
+        }
+        self.cursor_at::<ByGuess>(trafs, track, number, readings)
+    }
+
     /// The member with this number, which counts from 0 over all fragments of the track; its run is searched. They are
     /// those that the index was made of, and `track` is what the movie says of their samples.
     #[inline(always)]
@@ -109,43 +168,41 @@ impl RunIndex {
         ensures member { result ≡ slice_get (all_members (runs_of trafs.now track self.now)) number }
         ensures counted { S.Counts self.now.counts number readings.new }
     {
-        let Some(found) = S::last_at_most(&self.counts, number, readings) else {
+        let Some(cursor) = self.cursor_at::<S>(trafs, track, number, readings) else {
             return None;
         };
-        let entry = &self.entries.as_slice()[found.index];
-        member_at(trafs, track, entry, number - found.number)
+        Some(cursor.member())
     }
 
-    /// What [`find`](RunIndex::find) answers at numbers that come in order: the search begins at the run where the one
-    /// before ended, and the member is placed from the one that was found before, so that a step costs a constant.
+    /// What [`find`](RunIndex::find) answers at numbers that come in order: the walk goes on from the member before, so
+    /// that a step costs a constant, and searches only where it comes from elsewhere or passes a run without members.
     #[inline(always)]
-    pub fn find_next(
+    pub fn find_next<'t>(
         &self,
-        trafs: &[TrafBox],
+        trafs: &'t [TrafBox],
         track: SampleDefaults,
         number: u32,
         readings: &mut Readings,
-        last: &mut Option<LastMember>,
+        cursor: &mut Option<RunCursor<'t>>,
     ) -> Option<Member>
         requires number { number < 2 ^ 32 - 1 }
         requires indexed { Indexes (run_at trafs.now track) (runs_of trafs.now track self.now) self.now }
         requires fresh { readings.old ≡ 0 }
-        requires last { IsLastOf (run_at trafs.now track) self.now last.old }
+        requires cursor { IfSome cursor.old (λ c. IsInRuns (runs_of trafs.now track self.now) c) }
         ensures member { result ≡ slice_get (all_members (runs_of trafs.now track self.now)) number }
-        ensures last { IsLastOf (run_at trafs.now track) self.now last.new }
+        ensures cursor { IfSome cursor.new (λ c. IsInRuns (runs_of trafs.now track self.now) c) }
     {
-        let Some(found) = BySteps::last_at_most(&self.counts, number, readings) else {
+        if let Some(cursor) = cursor {
+            if cursor.number == number && cursor.is_before_member() {
+                return Some(cursor.step());
+            }
+        }
+        let Some(mut found) = self.cursor_after(trafs, track, number, readings, *cursor) else {
             return None;
         };
-        let entry = &self.entries.as_slice()[found.index];
-        member_after(
-            trafs,
-            track,
-            entry,
-            found.index,
-            number - found.number,
-            last,
-        )
+        let member = found.step();
+        *cursor = Some(found);
+        Some(member)
     }
 
     /// How many members there are; it stops at 2^64 - 1.

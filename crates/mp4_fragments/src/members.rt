@@ -3,9 +3,7 @@
 ghost use Rattle.mp4_codec.specs.ExactTest.{by_test, field_tests};
 ghost use Rattle.std.specs.Prelude.{◌≡◌};
 ghost use Rattle.mp4_fragments.specs.Members.{at_member, member_of, flags_of};
-ghost use Rattle.mp4_fragments.specs.Checkpoints.{AreCheckpoints};
 
-use crate::beginnings::at_by_checkpoints;
 use crate::defaults::SampleDefaults;
 use crate::values::value_at;
 use mp4_codec::{DebugItem, ExactEq};
@@ -78,19 +76,4 @@ pub(crate) fn member_beginning(
         rendering_offset: value_at(run.sample_cts.as_slice(), 0, j).cast_signed(),
         is_sync: flags(run, defaults, j) & IS_NO_SYNC_SAMPLE == 0,
     }
-}
-
-/// Member `j` of a run that begins at `first`, by its index, which counts from 0.
-pub(crate) fn nth_member(
-    run: &TrunBox,
-    defaults: SampleDefaults,
-    first: Beginning,
-    checks: &[Beginning],
-    j: u32,
-) -> Member
-    requires { AreCheckpoints run.now defaults first checks.now }
-    ensures { result ≡ member_of (record { at = first; run = run.now; defaults = defaults }) j }
-{
-    let at = at_by_checkpoints(run, defaults, first, checks, j);
-    member_beginning(run, defaults, at, j)
 }

@@ -17,8 +17,6 @@ pub trait LookedUp {}
 #[derive(Debug, Drop)]
 pub struct Readings {
     count: u32,
-    /// The index at which a search by steps found its number last. No contract says anything of it.
-    pub(crate) place: usize,
 }
 
 impl Model for Readings {
@@ -39,15 +37,7 @@ impl Readings {
     pub(crate) fn new() -> Self
         ensures { result ≡ 0 }
     {
-        Readings { count: 0, place: 0 }
-    }
-
-    /// The counter of the same step of the next look-up in this: no reading yet. A search by steps begins where the one
-    /// before ended.
-    pub fn restart<T: LookedUp>(&mut self, _whole: &T)
-        ensures { self.new ≡ 0 }
-    {
-        self.count = 0;
+        Readings { count: 0 }
     }
 
     /// One reading more.

@@ -6,9 +6,7 @@ mod counted;
 mod near;
 mod search;
 mod slope;
-mod steps;
 
 pub use bit_set::BitSet;
 pub use counted::{CappedSums, LookedUp, Readings, RunningSizes, SearchedNumbers};
 pub use search::{ByGuess, ByHalves, Found, Search};
-pub use steps::BySteps;

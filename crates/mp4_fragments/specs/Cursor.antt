@@ -1,0 +1,18 @@
+-- Where a walk over the members of a track's runs is.
+use Rattle.std.specs.Prelude.{◌≡◌, ◌+◌, ◌<◌, ◌≤◌, List, length, take, Some, slice_get}
+use Rattle.std.specs.List.{sum_by}
+use Rattle.mp4_fragments.specs.Members.{PlacedRun, at_member, run_count}
+use Rattle.mp4_fragments.specs.declared.cursor.RunCursor.{RunCursor}
+
+-- the cursor is in this run, and its next member begins there
+pub record IsIn (p : PlacedRun) (c : RunCursor) : Type 0 where
+  pub run : p.run ≡ c.run.now
+  pub defaults : p.defaults ≡ c.defaults
+  pub begins : c.at ≡ at_member p.run p.defaults p.at c.passed
+
+-- the cursor is in one of these runs: before the member with that number over all of them, or behind the run's last
+pub record IsInRuns (runs : List PlacedRun) (c : RunCursor) : Type 0 where
+  pub within : c.entry < length runs
+  pub inside : c.passed ≤ c.run.now.sample_count
+  pub counted : c.number ≡ sum_by run_count (take c.entry runs) + c.passed
+  pub run : (p : PlacedRun) → slice_get runs c.entry ≡ Some p → IsIn p c
