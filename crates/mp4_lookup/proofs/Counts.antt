@@ -1,5 +1,5 @@
 -- What a lookup counts, by each way of searching.
-use Rattle.std.proofs.Common.{◌≡◌, ℕ, zero, ◌+◌, ◌-◌, ◌<◌, ◌≤◌, Bool, true, false, List, length, refl, subst, sym, ap}
+use Rattle.std.proofs.Common.{◌≡◌, ℕ, ◌-◌, ◌<◌, ◌≤◌, Bool, true, false, List, length, refl, subst, ap}
 use Rattle.std.proofs.Common.{◌∙◌, arith, Result, Ok, Err, Some, None}
 use Rattle.std.specs.Prelude.{IsTrue, IfOk, IfSome, Option, if◌then◌else◌, nat_lt, ◌*◌}
 use Rattle.std.proofs.lemmas.List.{length-map}
@@ -7,7 +7,7 @@ use Rattle.mp4_boxes.specs.declared.stbl.StblBox.{StblBox}
 use Rattle.mp4_fragments.specs.Index.{Find, Indexes}
 use Rattle.mp4_fragments.specs.Members.{PlacedRun}
 use Rattle.mp4_fragments.specs.declared.index.RunIndex.{RunIndex}
-use Rattle.mp4_samples.specs.Tables.{ctts_runs, sync_numbers, tables_of}
+use Rattle.mp4_samples.specs.Tables.{tables_of}
 use Rattle.mp4_samples.specs.declared.sample.Comparisons.{Comparisons}
 use Rattle.mp4_samples.specs.declared.sample.SamplePlace.{SamplePlace}
 use Rattle.mp4_search.specs.BitSet.{looks_at_bit}

@@ -3,3 +3,4 @@ pub mod Searches
 pub mod Sums
 pub mod Counts
 pub mod InOrder
+pub mod Steps

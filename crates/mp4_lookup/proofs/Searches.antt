@@ -38,7 +38,7 @@ first_samples_rise entries firsts i j d h k =
     )
     (first_samples_climb entries e firsts i j h within)
 
-climbs : (xs : List ℕ) → IsStrictlyIncreasing xs → (i j : ℕ) → i ≤ j → j < length xs
+pub climbs : (xs : List ℕ) → IsStrictlyIncreasing xs → (i j : ℕ) → i ≤ j → j < length xs
     → slice_index xs i ≤ slice_index xs j
 climbs xs up i zero h k = let e : i ≡ 0 = omega arith in rw e (omega arith)
 climbs xs up i (suc j) h k =

@@ -14,4 +14,5 @@ pub mod PlaceLaws
 pub mod EntryLaws
 pub mod RuleLaws
 pub mod TrackLaws
+pub mod Walk
 pub mod InOrder

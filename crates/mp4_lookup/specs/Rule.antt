@@ -9,7 +9,7 @@ use Rattle.mp4_table.specs.Runs.{durations, rendering_offsets}
 use Rattle.mp4_table.specs.Chunks.{last_where}
 use Rattle.mp4_table.specs.Starts.{start_of}
 use Rattle.mp4_boxes.specs.declared.stbl.StblBox.{StblBox}
-use Rattle.mp4_samples.specs.Places.{Place}
+use Rattle.mp4_samples.specs.declared.sample.Place.{Place}
 use Rattle.mp4_samples.specs.Tables.{chunk_offsets, sizes, ctts_runs, is_sync_at}
 
 -- where something isn't there, there is no sample
@@ -51,16 +51,20 @@ timed track k (Some duration) start = Ok (duration, start)
 unfoldable pub time_at : List SttsEntry → ℕ → ℕ → Result (ℕ × ℕ) Cause
 time_at runs track k = timed track k (slice_get (durations runs) (k - 1)) (start_of (durations runs) k)
 
--- where sample k lies, and its size, by its entry of stsc: behind its chunk's first sample; a chunk or a size that isn't
--- there is no sample
+-- where sample k lies, and its size, in a chunk that begins there with this sample: behind the samples between them; a
+-- size that isn't there is no sample
+abbrev pub spot_in_chunk : StblBox → ℕ → ℕ → ℕ → Result (Option (ℕ × ℕ)) Cause
+spot_in_chunk t chunk_offset first k =
+    if_there (slice_get (sizes t.stsz k) (k - 1)) (λ size. do
+      offset ← within_64_bits (chunk_offset + sum (slice_range (sizes t.stsz k) (first - 1) (k - 1)))
+      Ok (Some (offset, size)))
+
+-- the same by its entry of stsc; a chunk that isn't there is no sample
 abbrev pub spot_by : StblBox → StscEntry → ℕ → Result (Option (ℕ × ℕ)) Cause
 spot_by t entry k = do
   chunk ← chunk_for entry k
   if_there (slice_get (chunk_offsets t) (chunk - 1)) (λ chunk_offset.
-      if_there (slice_get (sizes t.stsz k) (k - 1)) (λ size. do
-        offset ← within_64_bits (chunk_offset
-            + sum (slice_range (sizes t.stsz k) (first_in_chunk entry k - 1) (k - 1)))
-        Ok (Some (offset, size))))
+      spot_in_chunk t chunk_offset (first_in_chunk entry k) k)
 
 -- the same, by its number alone
 unfoldable pub spot_at : StblBox → ℕ → Result (Option (ℕ × ℕ)) Cause

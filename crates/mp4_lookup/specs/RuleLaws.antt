@@ -19,7 +19,7 @@ use Rattle.mp4_table.specs.Stsc.{HasFirstSamples}
 use Rattle.mp4_table.specs.Runs.{durations, rendering_offsets}
 use Rattle.mp4_table.specs.Starts.{start_of}
 use Rattle.mp4_codec.specs.Cause.{Cause, invalid_data, ◌>>=◌}
-use Rattle.mp4_samples.specs.Places.{Place}
+use Rattle.mp4_samples.specs.declared.sample.Place.{Place}
 use Rattle.mp4_samples.specs.Tables.{sizes, chunk_offsets, ctts_runs, is_sync_at}
 use Rattle.mp4_samples.specs.Plain.{Consistent, plain, plain_at, member, within_file, sample_places}
 use Rattle.mp4_lookup.specs.Rule.{rule, spot_at, entry_for, chunk_for, first_in_chunk, time_at}

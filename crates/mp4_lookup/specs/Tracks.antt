@@ -9,7 +9,7 @@ use Rattle.mp4_boxes.specs.declared.trak.TrakBox.{TrakBox}
 use Rattle.mp4_moof.specs.declared.traf.TrafBox.{TrafBox}
 use Rattle.mp4_fragments.specs.Members.{PlacedRun, all_members}
 use Rattle.mp4_fragments.specs.declared.members.Member.{Member}
-use Rattle.mp4_samples.specs.Places.{Place}
+use Rattle.mp4_samples.specs.declared.sample.Place.{Place}
 use Rattle.mp4_samples.specs.Samples.{TimedSample, read_in}
 use Rattle.mp4_samples.specs.Tables.{tables_of}
 use Rattle.mp4_lookup.specs.Rule.{rule}

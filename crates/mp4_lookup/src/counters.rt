@@ -1,9 +1,10 @@
 //! The counters of a look-up.
 
 ghost use Rattle.std.specs.Prelude.{◌≡◌};
+ghost use Rattle.mp4_samples.specs.Places.{place_of};
 ghost use Rattle.mp4_lookup.specs.Costs.{AreFresh, comparisons_counted};
 
-use mp4_samples::Comparisons;
+use mp4_samples::{Comparisons, Place, SamplePlace};
 use mp4_search::{LookedUp, Readings};
 
 /// What one look-up has read: a counter for each table that it searches, one for the runs of fragments, and one for the
@@ -33,19 +34,6 @@ impl Counters {
         }
     }
 
-    /// The counters of the next look-up in this, before its first step. Searches by steps begin where those before
-    /// ended.
-    pub fn restart<T: LookedUp>(&mut self, whole: &T)
-        ensures { AreFresh self.new }
-    {
-        self.stsc.restart(whole);
-        self.stts.restart(whole);
-        self.ctts.restart(whole);
-        self.stss.restart(whole);
-        self.runs.restart(whole);
-        self.sizes.restart(whole);
-    }
-
     /// How many numbers were compared so far.
     pub fn comparisons(&self) -> Comparisons
         ensures { result ≡ comparisons_counted self.now }
@@ -56,6 +44,24 @@ impl Counters {
             ctts: self.ctts.count(),
             stss: self.stss.count(),
             runs: self.runs.count(),
+        }
+    }
+    /// A place, and what its look-up has counted.
+    #[inline(always)]
+    pub fn counted(&self, place: Place) -> SamplePlace
+        ensures place { place_of result ≡ place }
+        ensures comparisons { result.comparisons ≡ comparisons_counted self.now }
+        ensures size_reads { result.size_reads ≡ self.now.sizes }
+    {
+        SamplePlace {
+            offset: place.offset,
+            size: place.size,
+            start_time: place.start_time,
+            duration: place.duration,
+            rendering_offset: place.rendering_offset,
+            is_sync: place.is_sync,
+            comparisons: self.comparisons(),
+            size_reads: self.sizes.count(),
         }
     }
 }

@@ -1,23 +1,23 @@
 //! The samples of a track in their order.
 
-ghost use Rattle.std.specs.Prelude.{◌≡◌, ◌-◌, ◌^◌, ◌<◌, option_map};
+ghost use Rattle.std.specs.Prelude.{◌≡◌, ◌-◌, ◌^◌, ◌<◌, IfSome};
 ghost use Rattle.std.specs.Iterator.{YieldsFirstBy, item_count};
 ghost use Rattle.mp4_codec.specs.Cause.{Gives};
-ghost use Rattle.mp4_fragments.specs.Index.{IsLastOf, run_at};
-ghost use Rattle.mp4_samples.specs.Places.{place_of};
+ghost use Rattle.mp4_fragments.specs.Cursor.{IsInRuns};
+ghost use Rattle.mp4_samples.specs.Tables.{tables_of};
 ghost use Rattle.mp4_lookup.specs.InOrder.{answer_of, answers_from, samples_left};
 ghost use Rattle.mp4_lookup.specs.Tracks.{answer_at};
 ghost use Rattle.mp4_lookup.specs.TrackRuns.{track_runs};
+ghost use Rattle.mp4_lookup.specs.Walk.{AreIn};
 
 use crate::counters::Counters;
-use crate::locate::place_at;
 use crate::lookup::member_placed;
+use crate::position::Position;
 use crate::samples::Samples;
 use crate::track::Mp4Track;
 use mp4_codec::Result;
-use mp4_fragments::LastMember;
-use mp4_samples::SamplePlace;
-use mp4_search::BySteps;
+use mp4_fragments::RunCursor;
+use mp4_samples::Place;
 
 impl Mp4Track {
     /// The samples from number `k` on, in their order; samples are numbered from 1.
@@ -27,8 +27,8 @@ impl Mp4Track {
         Samples {
             track: self,
             number: Some(k),
-            counters: Counters::of(self),
-            last: None,
+            position: Position::new(),
+            cursor: None,
         }
     }
 
@@ -39,50 +39,51 @@ impl Mp4Track {
         self.samples_from(1)
     }
 
-    /// What `locate` answers at number `k`, but for what it cost: the searches begin where those before ended.
+    /// What `locate` answers at number `k`, but for what it cost, by a walk that goes on from where it was.
     #[inline(always)]
     #[tactic(auto, unfolding(crate::specs::Tracks::answer_at))]
-    fn next_place(
-        &self,
+    fn next_place<'t>(
+        &'t self,
         k: u32,
-        counters: &mut Counters,
-        last: &mut Option<LastMember>,
-    ) -> Result<Option<SamplePlace>>
-        requires last { IsLastOf (run_at self.now.trafs self.now.defaults) self.now.runs last.old }
-        ensures rule { Gives (λ p. option_map place_of p) result
-            (answer_at self.now.trak self.now.trafs (track_runs self.now) k) }
-        ensures last { IsLastOf (run_at self.now.trafs self.now.defaults) self.now.runs last.new }
+        position: &mut Position,
+        cursor: &mut Option<RunCursor<'t>>,
+    ) -> Result<Option<Place>>
+        requires here { AreIn (tables_of self.now.trak) position.old }
+        requires added { IfSome cursor.old (λ c. IsInRuns (track_runs self.now) c) }
+        ensures rule { Gives (λ p. p) result (answer_at self.now.trak self.now.trafs (track_runs self.now) k) }
+        ensures here { AreIn (tables_of self.now.trak) position.new }
+        ensures added { IfSome cursor.new (λ c. IsInRuns (track_runs self.now) c) }
     {
-        counters.restart(self);
+        let mut counters = Counters::of(self);
         let stbl = &self.trak.mdia.minf.stbl;
         if self.is_of_movie(k) {
-            return place_at::<BySteps>(stbl, &self.index, self.trak.tkhd.track_id, k, counters);
+            return position.place(stbl, &self.index, self.trak.tkhd.track_id, k, &mut counters);
         }
         let number = k - stbl.stsz.sample_count - 1;
         let trafs = self.trafs.as_slice();
         let Some(member) = self
             .runs
-            .find_next(trafs, self.defaults, number, &mut counters.runs, last)
+            .find_next(trafs, self.defaults, number, &mut counters.runs, cursor)
         else {
             return Ok(None);
         };
-        Ok(Some(member_placed(&member, counters)?))
+        Ok(Some(member_placed(&member)?))
     }
 }
 
 impl<'t> Iterator for Samples<'t> {
-    type Item = Result<SamplePlace>;
+    type Item = Result<Place>;
 
     ghost next_gives = { YieldsFirstBy answer_of samples_left };
 
     ghost remaining = { item_count samples_left };
 
-    fn next(&mut self) -> Option<Result<SamplePlace>> {
+    fn next(&mut self) -> Option<Result<Place>> {
         let number = self.number?;
         self.number = None;
         match self
             .track
-            .next_place(number, &mut self.counters, &mut self.last)
+            .next_place(number, &mut self.position, &mut self.cursor)
         {
             Ok(None) => None,
             Ok(Some(place)) => {

@@ -13,6 +13,7 @@ mod laws;
 mod locate;
 mod lookup;
 mod place;
+mod position;
 mod rates;
 mod runs;
 mod samples;

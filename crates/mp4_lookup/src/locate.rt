@@ -14,7 +14,7 @@ use crate::place::spot_at;
 use crate::timing::{is_sync, rendering_offset_at, time_at};
 use mp4_boxes::StblBox;
 use mp4_codec::Result;
-use mp4_samples::SamplePlace;
+use mp4_samples::{Place, SamplePlace};
 use mp4_search::Search;
 
 /// Where sample `k` of a track lies, and when it is decoded and shown, as the tables of the track say. It is inlined in
@@ -53,14 +53,12 @@ pub fn place_at<S: Search>(
         &mut counters.ctts,
     );
     let is_sync = is_sync::<S>(&stbl.stss, index, k, &mut counters.stss);
-    Ok(Some(SamplePlace {
+    Ok(Some(counters.counted(Place {
         offset: spot.offset,
         size: spot.size,
         start_time,
         duration,
         rendering_offset,
         is_sync,
-        comparisons: counters.comparisons(),
-        size_reads: counters.sizes.count(),
-    }))
+    })))
 }

@@ -19,30 +19,24 @@ use crate::locate::place_at;
 use crate::track::Mp4Track;
 use mp4_codec::{Error, Result};
 use mp4_fragments::Member;
-use mp4_samples::SamplePlace;
+use mp4_samples::{Place, SamplePlace};
 use mp4_search::{ByGuess, ByHalves, LookedUp, Search};
 
-/// Where a sample lies that a fragment adds, and what its look-up has counted. A place or a time that is broken is
-/// refused.
+/// Where a sample lies that a fragment adds. A place or a time that is broken is refused.
 #[inline(always)]
-pub(crate) fn member_placed(member: &Member, counters: &Counters) -> Result<SamplePlace>
-    requires sizes { counters.now.sizes ≡ 0 }
-    ensures rule { Gives (λ p. Some (place_of p)) result (member_place (Some member.now)) }
-    ensures counted { IfOk result (λ p. p.comparisons ≡ comparisons_counted counters.now) }
-    ensures size_reads { IfOk result (λ p. p.size_reads ≡ 0) }
+pub(crate) fn member_placed(member: &Member) -> Result<Place>
+    ensures { Gives (λ p. Some p) result (member_place (Some member.now)) }
 {
     let (Some(offset), Some(start_time)) = (member.at.place, member.at.time) else {
         return Err(Error::InvalidData("a sample of a fragment has no place or no time"));
     };
-    Ok(SamplePlace {
+    Ok(Place {
         offset,
         size: member.size,
         start_time,
         duration: member.duration,
         rendering_offset: member.rendering_offset,
         is_sync: member.is_sync,
-        comparisons: counters.comparisons(),
-        size_reads: counters.sizes.count(),
     })
 }
 
@@ -141,7 +135,7 @@ impl Mp4Track {
         else {
             return Ok(None);
         };
-        Ok(Some(member_placed(&member, counters)?))
+        Ok(Some(counters.counted(member_placed(&member)?)))
     }
 
     /// How many samples the fragments add; it stops at 2^64 - 1.

@@ -1,11 +1,15 @@
 //! A walk over the samples of a track.
 
 ghost use Rattle.std.proofs.Props.{props};
-ghost use Rattle.mp4_fragments.specs.Index.{IsLastOf, run_at};
+ghost use Rattle.std.specs.Prelude.{IfSome};
+ghost use Rattle.mp4_fragments.specs.Cursor.{IsInRuns};
+ghost use Rattle.mp4_samples.specs.Tables.{tables_of};
+ghost use Rattle.mp4_lookup.specs.TrackRuns.{track_runs};
+ghost use Rattle.mp4_lookup.specs.Walk.{AreIn};
 
-use crate::counters::Counters;
+use crate::position::Position;
 use crate::track::Mp4Track;
-use mp4_fragments::LastMember;
+use mp4_fragments::RunCursor;
 
 /// Where the samples of a track lie and when they are decoded and shown, in their order: at each number, from one on,
 /// what [`Mp4Track::locate`] answers, but for what it cost.
@@ -19,8 +23,10 @@ pub struct Samples<'t> {
     pub(crate) track: &'t Mp4Track,
     /// The number of the next sample; None behind the last.
     pub(crate) number: Option<u32>,
-    pub(crate) counters: Counters,
-    /// The member of the fragments' runs that was found last.
-    pub(crate) last: Option<LastMember>,
-    ghost known: { IsLastOf (run_at track.now.trafs track.now.defaults) track.now.runs last } by { Prim.hlevel props },
+    /// Where the walk is in the tables.
+    pub(crate) position: Position,
+    /// Where the walk is in the runs of fragments, once it is there.
+    pub(crate) cursor: Option<RunCursor<'t>>,
+    ghost here: { AreIn (tables_of track.now.trak) position } by { Prim.hlevel props },
+    ghost added: { IfSome cursor (λ c. IsInRuns (track_runs track.now) c) } by { Prim.hlevel props },
 }

@@ -11,7 +11,7 @@ use Rattle.mp4_table.specs.Chunks.{places}
 use Rattle.mp4_table.specs.Starts.{start_of}
 use Rattle.mp4_boxes.specs.declared.stbl.StblBox.{StblBox}
 use Rattle.mp4_samples.specs.Samples.{Sample, TimedSample, timed_from, timed, read_at}
-use Rattle.mp4_samples.specs.Places.{Place}
+use Rattle.mp4_samples.specs.declared.sample.Place.{Place}
 use Rattle.mp4_mux.specs.declared.sample_info.SampleInfo.{SampleInfo}
 use Rattle.mp4_mux.specs.Chunks.{Chunk, chunk_bytes, samples_of, placed_from, of_track}
 use Rattle.mp4_mux.specs.FinishedTrack.{counts_of, offsets_of}

@@ -11,7 +11,7 @@ use Rattle.mp4_table.specs.Stsz.{stsz_payload}
 use Rattle.mp4_table.specs.Chunks.{places}
 use Rattle.mp4_table.specs.Starts.{start_of}
 use Rattle.mp4_boxes.specs.declared.stbl.StblBox.{StblBox}
-use Rattle.mp4_samples.specs.Places.{Place}
+use Rattle.mp4_samples.specs.declared.sample.Place.{Place}
 use Rattle.mp4_mux.specs.declared.sample_info.SampleInfo.{SampleInfo}
 use Rattle.mp4_mux.specs.SampleTables.{stts_for, ctts_for, stss_for, stsc_for, stsz_for, stco_for, co64_for}
 use Rattle.mp4_mux.specs.ChunkLists.{places_length}

@@ -13,7 +13,7 @@ use Rattle.mp4_entry.specs.TrackType.{track_type_of}
 use Rattle.mp4_boxes.specs.declared.stbl.StblBox.{StblBox}
 use Rattle.mp4_boxes.specs.declared.trak.TrakBox.{TrakBox}
 use Rattle.mp4_samples.specs.Samples.{Sample, TimedSample, timed, read_at}
-use Rattle.mp4_samples.specs.Places.{Place}
+use Rattle.mp4_samples.specs.declared.sample.Place.{Place}
 use Rattle.mp4_samples.specs.Plain.{Consistent, sample_places, plain}
 use Rattle.mp4_samples.specs.Tables.{chunk_offsets, tables_of}
 use Rattle.mp4_samples.specs.Coding.{coding_of}

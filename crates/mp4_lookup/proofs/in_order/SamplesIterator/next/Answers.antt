@@ -1,6 +1,5 @@
 use Rattle.std.proofs.Common.{◌∙◌, length, refl, ap, arith, rules}
 use Rattle.mp4_codec.specs.Cause.{cause_of}
-use Rattle.mp4_samples.specs.Places.{place_of}
 use Rattle.mp4_lookup.specs.InOrder.{answers_left}
 use Rattle.mp4_lookup.proofs.InOrder.{none_left, refusal_left, sample_left}
 use Rattle.mp4_lookup.proofs.in_order.SamplesIterator.next.Goals as goal
@@ -19,7 +18,7 @@ returns-in-Ok-Some-clause-steps c =
     let s = c.args.self.now in
     let placed = rw c.in-Ok-Some.field-0-is at c.in-Ok-Some.ensures.rule in
     ap (λ n. answers_left n s.track.now) c.in_ok-number.was
-    ∙ sample_left s.track.now c.in_ok-number.number (omega arith) (place_of c.in-Ok-Some.place)
+    ∙ sample_left s.track.now c.in_ok-number.number (omega arith) c.in-Ok-Some.place
     c.checked_add-self.result placed (search rules)
 
 pub returns-in-Ok-Some-clause-goes : goal.returns-in-Ok-Some-clause-goes
