@@ -8,6 +8,7 @@ pub mod TwoParts
 pub mod Gathering
 pub mod BasesByTrack
 pub mod Reading
+pub mod InOrder
 pub mod Placed
 pub mod ReadBack
 pub mod Performing

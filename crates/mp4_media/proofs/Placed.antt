@@ -7,7 +7,7 @@ use Rattle.mp4_codec.specs.Cause.{Cause, end_of_data, ◌>>=◌}
 use Rattle.mp4_lookup.specs.declared.track.Mp4Track.{Mp4Track}
 use Rattle.mp4_lookup.specs.TrackRuns.{track_runs}
 use Rattle.mp4_lookup.specs.Tracks.{sample_at, answer_at}
-use Rattle.mp4_samples.specs.Places.{Place}
+use Rattle.mp4_samples.specs.declared.sample.Place.{Place}
 use Rattle.mp4_samples.specs.Samples.{TimedSample, read_at, read_in}
 use Rattle.mp4_media.specs.Reading.{needed_track, located_in, sample_in, within}
 

@@ -22,7 +22,7 @@ use Rattle.mp4_fragments.specs.Fragments.{placed_runs}
 use Rattle.mp4_fragments.specs.Members.{PlacedRun}
 use Rattle.mp4_lookup.specs.declared.track.Mp4Track.{Mp4Track}
 use Rattle.mp4_lookup.specs.Kind.{media_type_of}
-use Rattle.mp4_samples.specs.Places.{Place}
+use Rattle.mp4_samples.specs.declared.sample.Place.{Place}
 use Rattle.mp4_samples.specs.Plain.{Consistent, plain_at}
 use Rattle.mp4_lookup.specs.Rates.{sample_count_of}
 use Rattle.mp4_lookup.specs.Rule.{usable, entry_for, spot_at, rule}

@@ -16,7 +16,7 @@ use Rattle.mp4_moof.specs.declared.traf.TrafBox.{TrafBox}
 use Rattle.mp4_fragments.specs.declared.members.Member.{Member}
 use Rattle.mp4_fragments.specs.Members.{PlacedRun, all_members}
 use Rattle.mp4_lookup.specs.declared.track.Mp4Track.{Mp4Track}
-use Rattle.mp4_samples.specs.Places.{Place}
+use Rattle.mp4_samples.specs.declared.sample.Place.{Place}
 use Rattle.mp4_samples.specs.Plain.{Consistent}
 use Rattle.mp4_lookup.specs.Rule.{if_there, usable, entry_for, chunk_number, chunk_for, within_64_bits, timed, time_at}
 use Rattle.mp4_lookup.specs.Rule.{first_in_chunk, spot_at, rule}

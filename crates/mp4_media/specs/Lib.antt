@@ -2,6 +2,7 @@ pub mod FileBoxes
 pub mod FileGrammar
 pub mod MovieTracks
 pub mod Reading
+pub mod InOrder
 pub mod Walk
 pub mod WriterFields
 pub mod Finished

@@ -8,7 +8,7 @@ use Rattle.mp4_meta.specs.declared.meta.MetaBox.TheVariants.{Mdir, Unknown}
 use Rattle.mp4_meta.specs.declared.udta.UdtaBox.{UdtaBox}
 use Rattle.mp4_boxes.specs.declared.moov.MoovBox.{MoovBox}
 use Rattle.mp4_lookup.specs.declared.track.Mp4Track.{Mp4Track}
-use Rattle.mp4_samples.specs.Places.{Place}
+use Rattle.mp4_samples.specs.declared.sample.Place.{Place}
 use Rattle.mp4_lookup.specs.Rates.{sample_count_of}
 use Rattle.mp4_samples.specs.Samples.{TimedSample}
 use Rattle.mp4_samples.specs.declared.sample.SamplePlace.{SamplePlace}
@@ -32,6 +32,10 @@ ilst_of_movie moov = ilst_of_udta moov.udta
 -- there is a sample
 abbrev pub IsSample : Result (Option TimedSample) Cause → Type 0
 IsSample answer = (s : TimedSample) × (answer ≡ Ok (Some s))
+
+-- a sample was found that lies there
+abbrev pub LiesAt : Result (Option Place) Cause → ℕ → Type 0
+LiesAt answer offset = (p : Place) × (answer ≡ Ok (Some p)) × (p.offset ≡ offset)
 
 -- there is a place
 abbrev pub IsPlaced : Result (Option Place) Cause → Type 0

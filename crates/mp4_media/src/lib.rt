@@ -10,6 +10,7 @@ mod movie;
 mod opening;
 mod reader;
 mod round_trip;
+mod sample_refs;
 pub mod searching;
 mod tracks;
 mod writer;
@@ -21,10 +22,11 @@ pub use file::Mp4File;
 pub use movie::Movie;
 pub use mp4_lookup::{Mp4Track, Samples, time_of};
 pub use mp4_mux::{Mp4Config, TrackConfig, mdat_header};
-pub use mp4_samples::{Comparisons, Mp4Sample, SamplePlace, SampleRef, is_equal_sample};
+pub use mp4_samples::{Comparisons, Mp4Sample, Place, SamplePlace, SampleRef, is_equal_sample};
 pub use mp4_source::{ByteSource, FileError, SeekSource, SourceError, Window};
 pub use reader::{Mp4Reader, read_mp4};
 pub use round_trip::{FoundSample, RoundTrip, SampleQuery, find_sample, write_and_read};
+pub use sample_refs::SampleRefs;
 pub use writer::Mp4Writer;
 
 // Boxes, and how they are framed.

@@ -1,24 +1,26 @@
 //! Opened movies whose bytes are in memory, and their samples.
 
-ghost use Rattle.std.specs.Prelude.{◌≡◌, ◌⊎◌, length, Ok, Err, option_map, IfOk, IfErr, IsTrue};
+ghost use Rattle.std.specs.Prelude.{◌≡◌, ◌⊎◌, length, Ok, Err, Some, option_map, IfOk, IfErr, IfSome, IsTrue};
 ghost use Rattle.mp4_codec.specs.Cause.{Cause, cause_of, Gives, Answers};
 ghost use Rattle.mp4_codec.specs.Cursor.{here};
 ghost use Rattle.mp4_lookup.specs.declared.track.Mp4Track.{Mp4Track};
 ghost use Rattle.mp4_samples.specs.Plain.{Consistent};
-ghost use Rattle.mp4_samples.specs.Samples.{lent_sample, plain_sample_at, timed_sample};
+ghost use Rattle.mp4_samples.specs.Samples.{lent_sample, plain_sample_at, read_in, timed_sample};
 ghost use Rattle.mp4_samples.specs.Tables.{tables_of};
 ghost use Rattle.mp4_lookup.specs.Tracks.{is_of_movie};
 ghost use Rattle.mp4_source.specs.Answers.{OnMp4};
 ghost use Rattle.mp4_media.specs.FileBoxes.{OpenedFile, opened_file, opened_movie};
 ghost use Rattle.mp4_media.specs.FileGrammar.{IsFile, IsFaultyFile};
 ghost use Rattle.mp4_media.specs.MovieTracks.{AreTracks, at_id};
-ghost use Rattle.mp4_media.specs.Reading.{IsSample, sample_in};
+ghost use Rattle.mp4_media.specs.InOrder.{refs_left, samples_in};
+ghost use Rattle.mp4_media.specs.Reading.{IsSample, LiesAt, located_in, sample_in};
 ghost use Rattle.mp4_media.specs.Walk.{opened_at};
 
 use crate::movie::{Movie, open_source};
+use crate::sample_refs::SampleRefs;
 use bytes::Bytes;
 use mp4_codec::{ByteCursor, Error, Result};
-use mp4_samples::{Mp4Sample, SampleRef};
+use mp4_samples::{Mp4Sample, Place, SampleRef};
 use mp4_source::{FileError, SourceCursor};
 use std::alloc::Global;
 use std::ops::Deref;
@@ -43,6 +45,24 @@ impl<'a> Deref for Mp4Reader<'a> {
     {
         &self.movie
     }
+}
+
+/// The sample that lies at a place of these bytes; `EndOfData` where it isn't whole there.
+pub(crate) fn lent_at(bytes: &[u8], place: Place) -> Result<SampleRef<'_>>
+    ensures rule { Gives (λ s. Some (lent_sample s)) result (read_in bytes.now (Some place)) }
+    ensures offset { IfOk result (λ s. s.offset ≡ place.offset) }
+{
+    let mut cursor = ByteCursor::new(bytes);
+    cursor.set_position(place.offset);
+    let bytes = cursor.take(u64::from(place.size))?;
+    Ok(SampleRef {
+        offset: place.offset,
+        start_time: place.start_time,
+        duration: place.duration,
+        rendering_offset: place.rendering_offset,
+        is_sync: place.is_sync,
+        bytes,
+    })
 }
 
 /// What a slice of bytes is refused for, which refuses no read.
@@ -146,6 +166,8 @@ impl<'a> Mp4Reader<'a> {
     pub fn read_sample_ref(&self, track_id: u32, k: u32) -> Result<Option<SampleRef<'a>>>
         ensures rule { Gives (λ s. option_map lent_sample s) result
             (sample_in self.now.bytes.now self.now.movie.tracks track_id k) }
+        ensures offset { IfOk result (λ s. IfSome s (λ s.
+            LiesAt (located_in self.now.movie.tracks track_id k) s.offset)) }
         ensures plain { (t : Mp4Track) → at_id self.now.movie.tracks track_id ≡ Some t
             → IsTrue (is_of_movie t.trak t.trafs k) → Consistent (tables_of t.trak)
             → Gives (λ s. option_map lent_sample s) result
@@ -155,24 +177,33 @@ impl<'a> Mp4Reader<'a> {
     }
 
     /// The answer of `read_sample_ref`.
-    #[tactic(auto, unfolding(crate::specs::Reading::sample_in, mp4_lookup::specs::Tracks::sample_at))]
+    #[tactic(auto, unfolding(crate::specs::Reading::sample_in, crate::specs::Reading::located_in, mp4_lookup::specs::Tracks::sample_at))]
     fn lent(&self, track_id: u32, k: u32) -> Result<Option<SampleRef<'a>>>
-        ensures { Gives (λ s. option_map lent_sample s) result
+        ensures rule { Gives (λ s. option_map lent_sample s) result
             (sample_in self.now.bytes.now self.now.movie.tracks track_id k) }
+        ensures offset { IfOk result (λ s. IfSome s (λ s.
+            LiesAt (located_in self.now.movie.tracks track_id k) s.offset)) }
     {
         let Some(place) = self.movie.track(track_id)?.locate_by_guess(k)? else {
             return Ok(None);
         };
-        let mut cursor = ByteCursor::new(self.bytes);
-        cursor.set_position(place.offset);
-        let bytes = cursor.take(u64::from(place.size))?;
-        Ok(Some(SampleRef {
-            start_time: place.start_time,
-            duration: place.duration,
-            rendering_offset: place.rendering_offset,
-            is_sync: place.is_sync,
-            bytes,
-        }))
+        Ok(Some(lent_at(self.bytes, place.place())?))
+    }
+
+    /// The samples of the track with this id in their order, from the first on, with their bytes: each is what
+    /// [`Mp4Reader::read_sample_ref`] answers at its number, and costs no search. It ends behind the last, and behind
+    /// the first that is refused.
+    ///
+    /// `TrakNotFound` where there is no such track.
+    #[tactic(auto, unfolding(crate::specs::InOrder::samples_in))]
+    pub fn samples(&self, track_id: u32) -> Result<SampleRefs<'a, '_>>
+        ensures { Gives refs_left result (samples_in self.now.bytes.now self.now.movie.tracks track_id) }
+    {
+        Ok(SampleRefs {
+            bytes: self.bytes,
+            samples: self.movie.track(track_id)?.samples(),
+            has_ended: false,
+        })
     }
 }
 

@@ -1,9 +1,8 @@
 //! What a lookup is made of: the counted search in a table, and the runs that movie fragments add to a track.
 
 pub use mp4_fragments::{
-    Beginning, LastMember, Member, RunIndex, SampleDefaults, index_of, traf_base, traf_end,
+    Beginning, Member, RunCursor, RunIndex, SampleDefaults, index_of, traf_base, traf_end,
 };
 pub use mp4_search::{
-    ByGuess, ByHalves, BySteps, CappedSums, Found, LookedUp, Readings, RunningSizes, Search,
-    SearchedNumbers,
+    ByGuess, ByHalves, CappedSums, Found, LookedUp, Readings, RunningSizes, Search, SearchedNumbers,
 };
