@@ -1,5 +1,6 @@
 //! Whole jobs that users of the library wait for, on inputs of real shape that a seed settles. A run prints a digest of all
-//! that its job answers, and no times: docs/PERF.md says how they are measured.
+//! that its job answers, and no times: docs/PERF.md says how they are measured. Or it writes a file, on which other
+//! programs are measured too.
 #![tactic(auto)]
 
 mod digest;
@@ -7,6 +8,7 @@ mod files;
 mod fragments;
 mod list;
 mod live;
+mod made;
 mod parts;
 mod record;
 mod scan;
@@ -16,6 +18,7 @@ mod tables;
 mod walk;
 
 use crate::digest::Digest;
+use crate::made::made;
 use crate::walk::Way;
 use mp4_media::{Error, Result};
 use mp4_script::decimal_in;
@@ -25,6 +28,8 @@ use std::{env, io};
 
 const USAGE: &[u8] =
     b"usage: mp4_bench all | seek | list | scan | live | record | script | walk | numbers [SEED [PARTS]]\n";
+
+const FILE_USAGE: &[u8] = b"or a file: mp4_bench even | turning | fragments [SEED [PARTS]]\n";
 
 /// How large a job is where nothing is said: the whole of it.
 const WHOLE: u32 = 1000;
@@ -46,13 +51,13 @@ fn number_in(arguments: &[String], index: usize, otherwise: u32) -> u32 {
     }
 }
 
-/// Goes over samples by steps, and by their numbers, and fails where they aren't the same.
+/// Goes over samples in order, and by their numbers, and fails where they aren't the same.
 fn compare_ways(alloc: Global, seed: u32, parts: u32) -> Result<()> {
-    let mut by_steps = Digest::new();
-    walk::walk(alloc, seed, parts, Way::BySteps, &mut by_steps)?;
+    let mut in_order = Digest::new();
+    walk::walk(alloc, seed, parts, Way::InOrder, &mut in_order)?;
     let mut by_numbers = Digest::new();
     walk::walk(alloc, seed, parts, Way::ByNumbers, &mut by_numbers)?;
-    if by_steps.value() == by_numbers.value() {
+    if in_order.value() == by_numbers.value() {
         Ok(())
     } else {
         Err(Error::InvalidData("samples in order are others than by their numbers"))
@@ -80,21 +85,46 @@ fn run_job(alloc: Global, name: &str, seed: u32, parts: u32, digest: &mut Digest
         "live" => live::live(alloc, seed, parts, digest)?,
         "record" => record::record(alloc, seed, parts, digest)?,
         "script" => script::script(alloc, seed, parts, digest)?,
-        "walk" => walk::walk(alloc, seed, parts, Way::BySteps, digest)?,
+        "walk" => walk::walk(alloc, seed, parts, Way::InOrder, digest)?,
         "numbers" => walk::walk(alloc, seed, parts, Way::ByNumbers, digest)?,
         _ => return Ok(false),
     }
     Ok(true)
 }
 
-/// Does the job that the arguments say: its name, its seed, and how many thousandths of it are done.
-fn run(rt: &HostRuntime, digest: &mut Digest) -> Result<bool> {
+/// Writes the file that the arguments say, and answers whether there is such a kind of file.
+fn write_file(rt: &HostRuntime, arguments: &[String], seed: u32, parts: u32) -> Result<bool> {
+    let Some(kind) = arguments.first() else {
+        return Ok(false);
+    };
+    match made(rt.alloc(), kind.as_str(), seed, parts)? {
+        None => Ok(false),
+        Some(file) => match rt.stdout().write_all(&file) {
+            Ok(()) => Ok(true),
+            Err(_) => Err(Error::InvalidData("the file can't be written")),
+        },
+    }
+}
+
+/// Does the job that the arguments say: its name, its seed, and how many thousandths of it are done. It prints the
+/// digest, or writes the file.
+fn run(rt: &HostRuntime) -> Result<bool> {
     let arguments = arguments(rt)?;
     let seed = number_in(&arguments, 1, 1);
     let parts = number_in(&arguments, 2, WHOLE);
-    match arguments.get(0) {
-        Some(name) => run_job(rt.alloc(), name.as_str(), seed, parts, digest),
-        None => Ok(false),
+    if write_file(rt, &arguments, seed, parts)? {
+        return Ok(true);
+    }
+    let Some(name) = arguments.first() else {
+        return Ok(false);
+    };
+    let mut digest = Digest::new();
+    if !run_job(rt.alloc(), name.as_str(), seed, parts, &mut digest)? {
+        return Ok(false);
+    }
+    match print_digest(rt, &digest) {
+        Ok(()) => Ok(true),
+        Err(_) => Err(Error::InvalidData("the digest can't be printed")),
     }
 }
 
@@ -105,14 +135,11 @@ fn print_digest(rt: &HostRuntime, digest: &Digest) -> io::Result<()> {
 }
 
 fn main(rt: HostRuntime) -> ExitCode {
-    let mut digest = Digest::new();
-    match run(&rt, &mut digest) {
-        Ok(true) => match print_digest(&rt, &digest) {
-            Ok(()) => ExitCode::SUCCESS,
-            Err(_) => ExitCode::FAILURE,
-        },
+    match run(&rt) {
+        Ok(true) => ExitCode::SUCCESS,
         Ok(false) => {
             let _ = rt.stderr().write_all(USAGE);
+            let _ = rt.stderr().write_all(FILE_USAGE);
             ExitCode::FAILURE
         }
         Err(_) => {

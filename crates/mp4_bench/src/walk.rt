@@ -1,4 +1,4 @@
-//! A remuxer: where all samples of tracks lie, in their order: by steps, or each by its number.
+//! A remuxer: where all samples of tracks lie, in their order: by a walk, or each by its number.
 
 use crate::digest::Digest;
 use crate::files::{DATA, pattern};
@@ -6,7 +6,7 @@ use crate::fragments::{Shape, fragmented_file};
 use crate::list::made_file;
 use crate::parts::Parts;
 use crate::tables::{even_tables, list_chunks, list_sync_samples, turning_tables};
-use mp4_media::{Error, Mp4Track, Result, SamplePlace, read_mp4};
+use mp4_media::{Error, Mp4Track, Place, Result, read_mp4};
 use mp4_plain_movies::random::Random;
 use std::alloc::Global;
 
@@ -19,18 +19,18 @@ const PASSES: u32 = 10;
 /// How the samples of a track are gone over.
 #[derive(Clone, Copy)]
 pub enum Way {
-    BySteps,
+    InOrder,
     ByNumbers,
 }
 
 /// Adds where a sample lies.
-fn add_place(digest: &mut Digest, place: &SamplePlace) {
+fn add_place(digest: &mut Digest, place: &Place) {
     digest.add(place.offset);
     digest.add(place.start_time ^ u64::from(place.size));
 }
 
-/// Adds the places of a track, by steps.
-fn add_by_steps(track: &Mp4Track, digest: &mut Digest) -> Result<()> {
+/// Adds the places of a track, by a walk over them.
+fn add_in_order(track: &Mp4Track, digest: &mut Digest) -> Result<()> {
     for place in track.samples() {
         add_place(digest, &place?);
     }
@@ -41,7 +41,7 @@ fn add_by_steps(track: &Mp4Track, digest: &mut Digest) -> Result<()> {
 fn add_by_numbers(track: &Mp4Track, digest: &mut Digest) -> Result<()> {
     for k in 1..=track.sample_count()? {
         if let Some(place) = track.locate_by_guess(k)? {
-            add_place(digest, &place);
+            add_place(digest, &place.place());
         }
     }
     Ok(())
@@ -53,11 +53,32 @@ fn add_places(alloc: Global, file: &[u8], way: Way, digest: &mut Digest) -> Resu
     let track = movie.tracks().get(&1).ok_or(Error::TrakNotFound(1))?;
     for _ in 0..PASSES {
         match way {
-            Way::BySteps => add_by_steps(track, digest)?,
+            Way::InOrder => add_in_order(track, digest)?,
             Way::ByNumbers => add_by_numbers(track, digest)?,
         }
     }
     Ok(())
+}
+
+/// A file of a track of one entry in each table.
+pub fn even_file(alloc: Global, random: &mut Random, boxes: &Parts, count: u32) -> Result<Vec<u8>> {
+    let size = random.below(16).wrapping_add(1);
+    let mut lists = even_tables(alloc, count, size)?;
+    let bytes = list_chunks(&mut lists, 48, DATA, 0)?;
+    made_file(alloc, random, boxes, &lists, bytes)
+}
+
+/// A file of a track whose tables change at each sample.
+pub fn turning_file(
+    alloc: Global,
+    random: &mut Random,
+    boxes: &Parts,
+    count: u32,
+) -> Result<Vec<u8>> {
+    let mut lists = turning_tables(alloc, random, count)?;
+    list_sync_samples(&mut lists, count, 1)?;
+    let bytes = list_chunks(&mut lists, 1, DATA, 0)?;
+    made_file(alloc, random, boxes, &lists, bytes)
 }
 
 /// Goes over a track of one entry in each table, and one whose tables change at each sample.
@@ -69,15 +90,9 @@ fn add_tables(
     way: Way,
     digest: &mut Digest,
 ) -> Result<()> {
-    let size = random.below(16).wrapping_add(1);
-    let mut lists = even_tables(alloc, count, size)?;
-    let bytes = list_chunks(&mut lists, 48, DATA, 0)?;
-    let file = made_file(alloc, random, boxes, &lists, bytes)?;
+    let file = even_file(alloc, random, boxes, count)?;
     add_places(alloc, &file, way, digest)?;
-    let mut lists = turning_tables(alloc, random, count)?;
-    list_sync_samples(&mut lists, count, 1)?;
-    let bytes = list_chunks(&mut lists, 1, DATA, 0)?;
-    let file = made_file(alloc, random, boxes, &lists, bytes)?;
+    let file = turning_file(alloc, random, boxes, count)?;
     add_places(alloc, &file, way, digest)
 }
 

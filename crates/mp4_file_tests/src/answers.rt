@@ -18,9 +18,10 @@ pub fn has_same_boxes(one: &Movie, other: &Movie) -> bool {
         && one.sample_count(1) == other.sample_count(1)
 }
 
-/// A sample, its bytes lent by the one that holds them.
-fn lent_by(sample: &Mp4Sample) -> SampleRef<'_> {
+/// A sample that lies there, its bytes lent by the one that holds them.
+fn lent_by(sample: &Mp4Sample, offset: u64) -> SampleRef<'_> {
     SampleRef {
+        offset,
         start_time: sample.start_time,
         duration: sample.duration,
         rendering_offset: sample.rendering_offset,
@@ -32,6 +33,7 @@ fn lent_by(sample: &Mp4Sample) -> SampleRef<'_> {
 /// A sample of this place that was read into a buffer.
 fn lent_of<'b>(place: &SamplePlace, buffer: &'b [u8]) -> SampleRef<'b> {
     SampleRef {
+        offset: place.offset,
         start_time: place.start_time,
         duration: place.duration,
         rendering_offset: place.rendering_offset,
@@ -47,7 +49,10 @@ pub fn is_read(
 ) -> bool {
     match (answer, expected) {
         (Ok(None), Ok(None)) => true,
-        (Ok(Some(sample)), Ok(Some(other))) => is_equal_sample(&lent_by(sample), other),
+        (Ok(Some(sample)), Ok(Some(other))) => is_equal_sample(
+            &lent_by(sample, other.offset),
+            other,
+        ),
         (Err(FileError::Mp4(one)), Err(other)) => *one == *other,
         _ => false,
     }

@@ -6,7 +6,7 @@ ghost use Rattle.mp4_script.specs.Listing.{sample_line};
 
 use crate::info::open_whole;
 use itoa::write_digits;
-use mp4_media::{ByteSource, Error, FileError, Movie, Result, SamplePlace, Samples, read_mp4};
+use mp4_media::{ByteSource, Error, FileError, Movie, Place, Result, Samples, read_mp4};
 use std::alloc::{AllocError, Global};
 
 /// Room for the longest line: seven numbers of at most 20 digits, a minus, and a byte behind each number.
@@ -14,7 +14,7 @@ const LINE: usize = 148;
 
 /// Where the next sample that can be read lies: None where there is none. `EndOfData` where it doesn't lie whole in the
 /// file of `len` bytes, as reading it answers.
-fn next_place(samples: &mut Samples, len: u64) -> Result<Option<SamplePlace>> {
+fn next_place(samples: &mut Samples, len: u64) -> Result<Option<Place>> {
     let Some(place) = samples.next() else {
         return Ok(None);
     };
@@ -59,7 +59,7 @@ fn put_offset(line: &mut [u8; LINE], end: usize, offset: i32) -> usize
 ///
 /// It is put together from its end, as digits are found: the same bytes as `writeln!` of the seven numbers gives, at a
 /// fraction of its instructions.
-fn write_line(line: &mut [u8; LINE], k: u32, place: SamplePlace) -> usize
+fn write_line(line: &mut [u8; LINE], k: u32, place: Place) -> usize
     ensures written { drop result line.new ≡ sample_line k place.offset place.size place.start_time place.duration place.rendering_offset place.is_sync }
     ensures within { result < 148 }
 {
@@ -73,7 +73,7 @@ fn write_line(line: &mut [u8; LINE], k: u32, place: SamplePlace) -> usize
 }
 
 /// Writes the line of a sample that lies there.
-fn put_place(text: &mut Vec<u8>, k: u32, place: SamplePlace) -> std::result::Result<(), AllocError>
+fn put_place(text: &mut Vec<u8>, k: u32, place: Place) -> std::result::Result<(), AllocError>
     ensures { OnOk result (text.new.items ≡ text.old.items ++ sample_line k place.offset place.size place.start_time place.duration place.rendering_offset place.is_sync) }
 {
     let mut line = [0u8; LINE];
@@ -82,7 +82,7 @@ fn put_place(text: &mut Vec<u8>, k: u32, place: SamplePlace) -> std::result::Res
 }
 
 /// Writes the line of a sample. The answer is whether there is one: no line follows that of one that isn't there.
-fn write_sample(text: &mut Vec<u8>, k: u32, place: &Result<Option<SamplePlace>>) -> Result<bool> {
+fn write_sample(text: &mut Vec<u8>, k: u32, place: &Result<Option<Place>>) -> Result<bool> {
     match place {
         Ok(Some(place)) => {
             put_place(text, k, *place)?;

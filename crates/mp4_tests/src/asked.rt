@@ -36,9 +36,18 @@ pub fn locates(
     }
 }
 
-/// A sample, its bytes lent by the one that holds them.
-fn lent_by(sample: &Mp4Sample) -> SampleRef<'_> {
+/// Where sample `k` of a track lies, as it is located; 0 where it isn't.
+pub fn offset_of(reader: &Mp4Reader, id: u32, k: u32) -> u64 {
+    match located(reader, id, k) {
+        Ok(Some(place)) => place.offset,
+        _ => 0,
+    }
+}
+
+/// A sample that lies there, its bytes lent by the one that holds them.
+fn lent_by(sample: &Mp4Sample, offset: u64) -> SampleRef<'_> {
     SampleRef {
+        offset,
         start_time: sample.start_time,
         duration: sample.duration,
         rendering_offset: sample.rendering_offset,
@@ -60,7 +69,7 @@ fn is_lent(answer: &Result<Option<SampleRef>>, expected: &Result<Option<SampleRe
 pub fn is_held(answer: &Result<Option<Mp4Sample>>, expected: &Result<Option<SampleRef>>) -> bool {
     match (answer, expected) {
         (Ok(None), Ok(None)) => true,
-        (Ok(Some(one)), Ok(Some(other))) => lent_by(one) == *other,
+        (Ok(Some(one)), Ok(Some(other))) => lent_by(one, other.offset) == *other,
         (Err(one), Err(other)) => are_same_refusal(one, other),
         _ => false,
     }
@@ -98,6 +107,7 @@ fn sample_there<'a>(
     };
     let bytes = bytes_at(bytes, &place)?;
     Ok(Some(SampleRef {
+        offset: place.offset,
         start_time: place.start_time,
         duration: place.duration,
         rendering_offset: place.rendering_offset,

@@ -294,6 +294,7 @@ fn parts_of_writers_and_searches_that_differ_are_unequal(rt: HostRuntime) {
 /// A sample that is lent.
 fn lent(bytes: &[u8]) -> SampleRef<'_> {
     SampleRef {
+        offset: 9,
         start_time: 1,
         duration: 2,
         rendering_offset: -3,
@@ -302,12 +303,14 @@ fn lent(bytes: &[u8]) -> SampleRef<'_> {
     }
 }
 
-/// Whether samples that are lent and differ in any one field are unequal. Where their bytes lie doesn't count.
+/// Whether samples that are lent and differ in any one field are unequal. Where their bytes lie in memory doesn't
+/// count.
 fn lent_samples_differ() -> bool {
     let text = [b'a', b'b', b'a', b'b'];
     let one = lent(&text[..2]);
     let alike = lent(&text[2..]);
     let others = [
+        SampleRef { offset: 8, ..one },
         SampleRef {
             start_time: 4,
             ..one

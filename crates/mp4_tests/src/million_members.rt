@@ -126,6 +126,7 @@ fn is_lent(reader: &Mp4Reader, start: u64, k: u32) -> bool {
     let place = place_of(start, k);
     let byte = [byte_of(k)];
     let sample = SampleRef {
+        offset: place.offset,
         start_time: place.start_time,
         duration: place.duration,
         rendering_offset: 0,

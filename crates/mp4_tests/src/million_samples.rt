@@ -105,6 +105,7 @@ fn is_found(reader: &Mp4Reader, k: u32, start_time: u64) -> bool {
 fn is_read(bytes: &[u8], reader: &mut Mp4Reader, k: u32, start_time: u64) -> bool {
     let place = k.wrapping_sub(1) as usize;
     let sample = SampleRef {
+        offset: place as u64,
         start_time,
         duration: 2 - k % 2,
         rendering_offset: if k % 2 == 0 { 8 } else { 7 },

@@ -1,6 +1,6 @@
 //! Whether the movie of a file has the tracks of the plain model's, and of each the samples that were accepted.
 
-use crate::asked::{lends, reads};
+use crate::asked::{lends, offset_of, reads};
 use mp4_codec::{Error, Result};
 use mp4_entry::MediaType;
 use mp4_lookup::Mp4Track;
@@ -38,8 +38,8 @@ fn is_there(reader: &Mp4Reader, id: u32, added: &PlainTrack) -> bool {
     }
 }
 
-/// What is read of a number of a track of these samples.
-fn sample_at<'a>(samples: &[Sample<'a>], k: u32) -> Result<Option<SampleRef<'a>>> {
+/// What is read of a number of a track of these samples, which lies there.
+fn sample_at<'a>(samples: &[Sample<'a>], k: u32, offset: u64) -> Result<Option<SampleRef<'a>>> {
     if k == 0 || samples.is_empty() {
         return Err(Error::InvalidData(""));
     }
@@ -48,6 +48,7 @@ fn sample_at<'a>(samples: &[Sample<'a>], k: u32) -> Result<Option<SampleRef<'a>>
         return Ok(None);
     };
     Ok(Some(SampleRef {
+        offset,
         start_time: ticks(samples.get(..index).unwrap_or(&[])),
         duration: sample.duration,
         rendering_offset: sample.rendering_offset,
@@ -61,7 +62,8 @@ fn samples_are_read(reader: &mut Mp4Reader, id: u32, samples: &[Sample]) -> bool
     let count = u32::try_from(samples.len()).unwrap_or(0);
     let mut all = true;
     for k in 0..=count.saturating_add(1) {
-        all = all && reads(reader, id, k, &sample_at(samples, k));
+        let offset = offset_of(reader, id, k);
+        all = all && reads(reader, id, k, &sample_at(samples, k, offset));
     }
     all
 }

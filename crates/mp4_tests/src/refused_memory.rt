@@ -2,7 +2,7 @@
 //! these tests with one request refused, each in turn. A refused call then answers `OutOfMemory`, it leaves what it
 //! must, and made again it is Ok; or it does without that memory. The next request is tried until a test makes no more.
 
-use crate::asked::{is_held, lends};
+use crate::asked::{is_held, lends, offset_of};
 use crate::asserts::{check, same};
 use crate::reader_files::{FRAGMENTED, TextFile, file_of};
 use crate::tracks::{first_and_third_are_sync, holds_of, text_samples_are_found};
@@ -141,9 +141,10 @@ fn sample_again(
     }
 }
 
-/// A sync sample of a track of 1000 ticks a second.
+/// A sync sample of a track of 1000 ticks a second; where it lies is filled in when it is asked for.
 fn sync(start_time: u64, duration: u32, bytes: &[u8]) -> SampleRef<'_> {
     SampleRef {
+        offset: 0,
         start_time,
         duration,
         rendering_offset: 0,
@@ -158,7 +159,11 @@ fn are_lent(reader: &Mp4Reader, id: u32, samples: &[SampleRef]) -> bool {
     let mut all = reader.sample_count(id) == Ok(u32::try_from(samples.len()).unwrap_or(0));
     for sample in samples {
         k = k.wrapping_add(1);
-        all = all && lends(reader, id, k, &Ok(Some(*sample)));
+        let there = SampleRef {
+            offset: offset_of(reader, id, k),
+            ..*sample
+        };
+        all = all && lends(reader, id, k, &Ok(Some(there)));
     }
     all
 }

@@ -45,10 +45,8 @@ fn header_text(alloc: Global, file: &[u8]) -> Result<String> {
 fn track_bytes(alloc: Global, file: &[u8], track_id: u32) -> Result<Vec<u8>> {
     let movie = read_mp4(alloc, file)?;
     let mut bytes = Vec::new(alloc);
-    for number in 1..=movie.sample_count(track_id)? {
-        if let Some(sample) = movie.read_sample_ref(track_id, number)? {
-            bytes.extend_from_slice(sample.bytes)?;
-        }
+    for sample in movie.samples(track_id)? {
+        bytes.extend_from_slice(sample?.bytes)?;
     }
     Ok(bytes)
 }

@@ -9,11 +9,13 @@ pub fn sync_sample_at_or_before<'a>(
     time: u64,
 ) -> Result<Option<SampleRef<'a>>> {
     let mut found = None;
-    for number in 1..=movie.sample_count(track_id)? {
-        match movie.read_sample_ref(track_id, number)? {
-            Some(sample) if sample.start_time > time => break,
-            Some(sample) if sample.is_sync => found = Some(sample),
-            _ => {}
+    for sample in movie.samples(track_id)? {
+        let sample = sample?;
+        if sample.start_time > time {
+            break;
+        }
+        if sample.is_sync {
+            found = Some(sample);
         }
     }
     Ok(found)

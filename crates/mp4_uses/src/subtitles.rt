@@ -32,10 +32,8 @@ pub fn subtitles(alloc: Global, movie: &Mp4Reader, track_id: u32) -> Result<Stri
         .get(&track_id)
         .ok_or(Error::TrakNotFound(track_id))?;
     let mut lines = String::new(alloc);
-    for number in 1..=track.sample_count()? {
-        if let Some(sample) = movie.read_sample_ref(track_id, number)? {
-            write_subtitle(&mut lines, &sample, track.timescale())?;
-        }
+    for sample in movie.samples(track_id)? {
+        write_subtitle(&mut lines, &sample?, track.timescale())?;
     }
     Ok(lines)
 }

@@ -8,6 +8,9 @@ use mp4_media::{
 use std::alloc::{AllocError, Global};
 use std::fmt::Write;
 
+/// How many samples are walked over to the one that is asked for, at most.
+const MOST_WALKED: u32 = 100;
+
 /// A file that was opened, and its bytes.
 #[derive(Drop)]
 pub struct OpenedFile<'a> {
@@ -40,20 +43,10 @@ fn located(movie: &Mp4Reader, id: u32, k: u32) -> Result<Option<SamplePlace>> {
     }
 }
 
-/// Whether two places are the same, but for what it cost to find them.
-fn is_same_place(one: &SamplePlace, other: &SamplePlace) -> bool {
-    one.offset == other.offset
-        && one.size == other.size
-        && one.start_time == other.start_time
-        && one.duration == other.duration
-        && one.rendering_offset == other.rendering_offset
-        && one.is_sync == other.is_sync
-}
-
 /// Whether the next of the samples that are given in order is as it was located.
 fn is_next(samples: &mut Samples, located: &Result<Option<SamplePlace>>) -> bool {
     match (samples.next(), located) {
-        (Some(Ok(one)), Ok(Some(other))) => is_same_place(&one, other),
+        (Some(Ok(one)), Ok(Some(other))) => one == other.place(),
         (Some(Err(one)), Err(other)) => one == *other && samples.next().is_none(),
         (None, Ok(None)) => samples.next().is_none(),
         _ => false,
@@ -80,6 +73,27 @@ fn is_in_order(movie: &Mp4Reader, id: u32, k: u32, located: &Result<Option<Sampl
         }
     }
     all
+}
+
+/// Whether sample `k` of a track is given with its bytes, by a walk from the first on, as it is read by its number, if
+/// those before it are there.
+fn is_read_in_order(movie: &Mp4Reader, id: u32, k: u32, read: &Result<Option<SampleRef>>) -> bool {
+    let Ok(mut samples) = movie.samples(id) else {
+        return *read == Err(Error::TrakNotFound(id));
+    };
+    for _ in 1..k.min(MOST_WALKED) {
+        if !matches!(samples.next(), Some(Ok(_))) {
+            return samples.next().is_none();
+        }
+    }
+    k == 0
+        || k > MOST_WALKED
+        || match (samples.next(), read) {
+            (Some(Ok(one)), Ok(Some(other))) => one == *other,
+            (Some(Err(one)), Err(other)) => one == *other && samples.next().is_none(),
+            (None, Ok(None)) => samples.next().is_none(),
+            _ => false,
+        }
 }
 
 /// Writes where a sample is: offset, size, start time, duration, rendering offset, and whether it is a sync sample.
@@ -126,7 +140,8 @@ fn bytes_at<'a>(bytes: &'a [u8], place: &SamplePlace) -> Option<&'a [u8]> {
 
 /// Whether a sample is as it was located.
 fn is_at(place: &SamplePlace, sample: &SampleRef) -> bool {
-    place.start_time == sample.start_time
+    place.offset == sample.offset
+        && place.start_time == sample.start_time
         && place.duration == sample.duration
         && place.rendering_offset == sample.rendering_offset
         && place.is_sync == sample.is_sync
@@ -185,7 +200,7 @@ fn write_sample(
     if !is_read_there(file.bytes, &located, &read) {
         text.push_str(", read as another")?;
     }
-    if !is_in_order(&file.movie, id, k, &located) {
+    if !is_in_order(&file.movie, id, k, &located) || !is_read_in_order(&file.movie, id, k, &read) {
         text.push_str(", in order as another")?;
     }
     if !is_copied(&file.movie.read_sample(id, k), &read) {
@@ -314,7 +329,8 @@ pub fn compared(
     let text = match (is_borrowed, is_copied) {
         (true, true) => "equal",
         (false, false) => "different",
-        _ => "equal in one way",
+        (false, true) => "equal as copies",
+        (true, false) => "equal as they are borrowed",
     };
     Ok(String::from_str(alloc, text)?)
 }
