@@ -18,6 +18,8 @@ pub struct Shape {
     /// The fewest samples of a track in each, and how many more it may have, at least 1.
     pub fewest: u32,
     pub more: u32,
+    /// How many bytes a sample has at least; it may have up to 23 more.
+    pub least: u32,
     /// Whether durations, sample flags and composition offsets are listed beside the sizes.
     pub lists_all: bool,
 }
@@ -60,19 +62,19 @@ fn put_run(
     random: &mut Random,
     count: u32,
     offset: u32,
-    lists_all: bool,
+    shape: &Shape,
 ) -> Result<u32, AllocError> {
     let start = begin_box(bytes, b"trun")?;
-    put_pair(bytes, if lists_all { 0xf01 } else { 0x205 }, count)?;
+    put_pair(bytes, if shape.lists_all { 0xf01 } else { 0x205 }, count)?;
     put(bytes, offset)?;
-    if !lists_all {
+    if !shape.lists_all {
         put(bytes, 0x2000000)?;
     }
     let mut sum = 0u32;
     for _ in 0..count {
-        let size = random.below(24);
+        let size = random.below(24).wrapping_add(shape.least);
         sum = sum.wrapping_add(size);
-        if lists_all {
+        if shape.lists_all {
             put_pair(bytes, random.below(80), size)?;
             put_pair(
                 bytes,
@@ -95,14 +97,14 @@ fn put_part(
     time: u64,
     count: u32,
     offset: u32,
-    lists_all: bool,
+    shape: &Shape,
 ) -> Result<u32, AllocError> {
     let start = begin_box(bytes, b"traf")?;
     bytes.extend_from_slice(b"\0\0\0\x10tfhd\0\x02\0\0")?;
     put(bytes, id)?;
     bytes.extend_from_slice(b"\0\0\0\x14tfdt\x01\0\0\0")?;
     bytes.extend_from_slice(&time.to_be_bytes())?;
-    let sum = put_run(bytes, random, count, offset, lists_all)?;
+    let sum = put_run(bytes, random, count, offset, shape)?;
     end_box(bytes, start);
     Ok(sum)
 }
@@ -120,9 +122,9 @@ fn put_fragment(
     bytes.extend_from_slice(b"\0\0\0\x10mfhd\0\0\0\0")?;
     put(bytes, number)?;
     let count = shape.fewest.wrapping_add(random.below(shape.more));
-    let first = put_part(bytes, random, 1, time, count, 1000, shape.lists_all)?;
+    let first = put_part(bytes, random, 1, time, count, 1000, shape)?;
     let count = shape.fewest.wrapping_add(random.below(shape.more));
-    let second = put_part(bytes, random, 2, time, count, 2000, shape.lists_all)?;
+    let second = put_part(bytes, random, 2, time, count, 2000, shape)?;
     end_box(bytes, start);
     let data = begin_box(bytes, b"mdat")?;
     let length = first.wrapping_add(second) as usize;

@@ -20,18 +20,21 @@ fn shapes(parts: u32) -> [Shape; 3] {
             fragments: parts.wrapping_mul(15),
             fewest: 50,
             more: 50,
+            least: 0,
             lists_all: false,
         },
         Shape {
             fragments: parts.wrapping_mul(75),
             fewest: 1,
             more: 1,
+            least: 0,
             lists_all: false,
         },
         Shape {
             fragments: 3,
             fewest: parts.wrapping_mul(90),
             more: 100,
+            least: 0,
             lists_all: true,
         },
     ]

@@ -26,6 +26,8 @@ fn file_of_fragments(
         fragments: count / IN_A_FRAGMENT,
         fewest: IN_A_FRAGMENT,
         more: 1,
+        // ffmpeg refuses a sample without bytes.
+        least: 1,
         lists_all: false,
     };
     Ok(fragmented_file(alloc, random, boxes, &pattern, &shape)?)

@@ -110,12 +110,14 @@ fn add_fragments(
             fragments: count / 3,
             fewest: 1,
             more: 1,
+            least: 0,
             lists_all: false,
         },
         Shape {
             fragments: 1,
             fewest: count,
             more: 1,
+            least: 0,
             lists_all: true,
         },
     ];
