@@ -1,6 +1,7 @@
 pub mod BitSet
 pub mod Digits
 pub mod Search
+pub mod Partition
 pub mod Sums
 pub mod SumLaws
 pub mod CountLaws

@@ -124,7 +124,7 @@ impl SearchedNumbers {
     }
 
     /// The number at an index, which counts from 0. This counts as one reading.
-    pub(crate) fn read(&self, index: usize, readings: &mut Readings) -> u32
+    pub fn read(&self, index: usize, readings: &mut Readings) -> u32
         requires within { index < length self.now }
         requires room { readings.old < 2 ^ 32 - 1 }
         ensures number { result ≡ slice_index self.now index }

@@ -4,9 +4,11 @@
 mod bit_set;
 mod counted;
 mod near;
+mod partition;
 mod search;
 mod slope;
 
 pub use bit_set::BitSet;
 pub use counted::{CappedSums, LookedUp, Readings, RunningSizes, SearchedNumbers};
+pub use partition::{Parted, partition_point};
 pub use search::{ByGuess, ByHalves, Found, Search};

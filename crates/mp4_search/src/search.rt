@@ -178,6 +178,24 @@ pub(crate) fn last_at_most(numbers: &SearchedNumbers, key: u32) -> (Option<Found
     (last_before(low, last), readings)
 }
 
+impl SearchedNumbers {
+    /// How many numbers are at most `key`. No comparison is counted: it is for what is made once, when a file is
+    /// opened.
+    pub fn count_at_most(&self, key: u32) -> usize
+        requires { IsNonDecreasing self.now }
+        ensures within { result ≤ length self.now }
+        ensures first { (i : ℕ) → i < result → slice_index self.now i ≤ key }
+        ensures others { (i : ℕ) → result ≤ i → i < length self.now → key < slice_index self.now i }
+    {
+        let all = Between {
+            low: 0,
+            high: self.end(),
+            last: None,
+        };
+        halve(self, key, all, &mut Readings::new()).low
+    }
+}
+
 /// What a search found that has nothing left: the number right before `low`.
 #[inline(always)]
 pub(crate) fn last_before(low: usize, last: Option<u32>) -> Option<Found>
