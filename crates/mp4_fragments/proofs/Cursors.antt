@@ -97,7 +97,7 @@ of_none None P Q p f = f p
 of_none (Some x) P Q p f = tt
 
 -- the run of an entry that was read out of a copy of the entries
-placed_by : (find : Find) (es : List RunEntry) (runs : List PlacedRun) (index : RunIndex) (i : ℕ) (entry : RunEntry)
+pub placed_by : (find : Find) (es : List RunEntry) (runs : List PlacedRun) (index : RunIndex) (i : ℕ) (entry : RunEntry)
     (d : PlacedRun) → Indexes find runs index → es ≡ index.entries → entry ≡ get_or es i entry → i < length runs
     → placed_at find entry ≡ Some (get_or runs i d)
 placed_by find es runs index i entry d s e1 is h =

@@ -4,3 +4,5 @@ pub mod Indexing
 pub mod Walking
 pub mod Finding
 pub mod Cursors
+pub mod Decoding
+pub mod Syncing

@@ -6,4 +6,7 @@ pub mod Fragments
 pub mod Checkpoints
 pub mod Index
 pub mod Cursor
+pub mod ByTime
+pub mod Sync
+pub mod Seek
 pub mod IndexLaws

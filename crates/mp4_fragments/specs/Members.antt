@@ -1,5 +1,5 @@
 -- The members of a run: the samples that it adds to a track (ISO/IEC 14496-12, 8.8.7 and 8.8.8).
-use Rattle.std.specs.Prelude.{ℕ, zero, suc, ◌==◌, List, map, get_or}
+use Rattle.std.specs.Prelude.{ℕ, Bool, zero, suc, ◌==◌, List, map, get_or}
 use Rattle.std.specs.List.{range_with_len, flat_map}
 use Rattle.std.specs.Option.{unwrap_or}
 use Rattle.std.specs.Int.{cast_signed, w32}
@@ -28,16 +28,18 @@ abbrev pub flags_of : TrunBox → SampleDefaults → ℕ → ℕ
 flags_of run defaults zero = unwrap_or run.first_sample_flags (get_or run.sample_flags 0 defaults.flags)
 flags_of run defaults (suc j) = get_or run.sample_flags (suc j) defaults.flags
 
--- Member j of a run. It is a sync sample where the flag of the others isn't set (8.8.3.1), and its composition offset
--- is
--- signed, whatever the version.
+-- a member is a sync sample where the flag of the others isn't set (8.8.3.1)
+abbrev pub is_sync_in : TrunBox → SampleDefaults → ℕ → Bool
+is_sync_in run defaults j = bit_and (flags_of run defaults j) 0x10000 == 0
+
+-- member j of a run; its composition offset is signed, whatever the version
 unfoldable pub member_of : PlacedRun → ℕ → Member
 member_of p j = record {
   at = at_member p.run p.defaults p.at j;
   size = get_or p.run.sample_sizes j p.defaults.size;
   duration = get_or p.run.sample_durations j p.defaults.duration;
   rendering_offset = cast_signed w32 (get_or p.run.sample_cts j 0);
-  is_sync = bit_and (flags_of p.run p.defaults j) 0x10000 == 0;
+  is_sync = is_sync_in p.run p.defaults j;
 }
 
 -- how many members a run has

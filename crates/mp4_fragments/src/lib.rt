@@ -3,12 +3,16 @@
 
 mod bases;
 mod beginnings;
+mod by_time;
 mod cursor;
 mod defaults;
 mod index;
 mod lookup;
 mod members;
 mod placing;
+mod seek;
+mod sync;
+mod times;
 mod values;
 
 pub use bases::{traf_base, traf_end};
@@ -17,3 +21,6 @@ pub use defaults::SampleDefaults;
 pub use index::RunIndex;
 pub use members::{Beginning, Member};
 pub use placing::index_of;
+pub use seek::{SeekIndex, seek_index_of};
+pub use sync::SyncSpans;
+pub use times::RunTimes;

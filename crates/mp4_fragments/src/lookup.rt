@@ -17,7 +17,7 @@ use mp4_search::{ByGuess, Readings, Search};
 
 /// Run `i` of fragment `t` of a track, and what its members have where it says nothing.
 #[tactic(auto, unfolding(crate::specs::Index::run_at, crate::specs::Index::run_of_traf))]
-fn run_of(
+pub(crate) fn run_of(
     trafs: &[TrafBox],
     track: SampleDefaults,
     t: usize,

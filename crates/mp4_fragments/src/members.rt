@@ -2,7 +2,7 @@
 
 ghost use Rattle.mp4_codec.specs.ExactTest.{by_test, field_tests};
 ghost use Rattle.std.specs.Prelude.{◌≡◌};
-ghost use Rattle.mp4_fragments.specs.Members.{at_member, member_of, flags_of};
+ghost use Rattle.mp4_fragments.specs.Members.{at_member, member_of, flags_of, is_sync_in};
 
 use crate::defaults::SampleDefaults;
 use crate::values::value_at;
@@ -10,7 +10,7 @@ use mp4_codec::{DebugItem, ExactEq};
 use mp4_frag::TrunBox;
 
 /// The flag of a sample that can't be decoded without those before it (ISO/IEC 14496-12, 8.8.3.1).
-const IS_NO_SYNC_SAMPLE: u32 = 0x10000;
+pub(crate) const IS_NO_SYNC_SAMPLE: u32 = 0x10000;
 
 /// Where a member of a run begins: the place of its first byte in the file, and its decoding time in ticks of the track's
 /// timescale. None is a number below 0 or past 64 bits, or one that rests on such a number.
@@ -57,6 +57,14 @@ fn flags(run: &TrunBox, defaults: SampleDefaults, j: u32) -> u32
     }
 }
 
+/// Whether member `j` of a run can be decoded without the samples before it.
+#[inline(always)]
+pub(crate) fn is_sync(run: &TrunBox, defaults: SampleDefaults, j: u32) -> bool
+    ensures { result ≡ is_sync_in run.now defaults j }
+{
+    flags(run, defaults, j) & IS_NO_SYNC_SAMPLE == 0
+}
+
 /// Member `j` of a run, by its index, which counts from 0, where it begins there.
 #[inline(always)]
 #[tactic(auto, unfolding(crate::specs::Members::member_of))]
@@ -74,6 +82,6 @@ pub(crate) fn member_beginning(
         size: value_at(run.sample_sizes.as_slice(), defaults.size, j),
         duration: value_at(run.sample_durations.as_slice(), defaults.duration, j),
         rendering_offset: value_at(run.sample_cts.as_slice(), 0, j).cast_signed(),
-        is_sync: flags(run, defaults, j) & IS_NO_SYNC_SAMPLE == 0,
+        is_sync: is_sync(run, defaults, j),
     }
 }

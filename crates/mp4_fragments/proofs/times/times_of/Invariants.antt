@@ -1,0 +1,8 @@
+use Rattle.std.proofs.Common.{◌-◌}
+use Rattle.mp4_fragments.specs.ByTime.{AreKept, begin_of}
+use Rattle.mp4_fragments.specs.Index.{runs_of}
+use Rattle.mp4_fragments.proofs.times.times_of.Given as goal
+
+abbrev pub invariant-loop-behind : goal.invariant-loop-behind
+invariant-loop-behind l = AreKept (begin_of (runs_of l.trafs l.track l.index) l.end) (l.runs - l.behind)
+    l.latest_first.items l.earliest

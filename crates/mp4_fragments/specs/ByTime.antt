@@ -1,0 +1,51 @@
+-- The members of a track's runs by the time at which they are decoded (ISO/IEC 14496-12, 8.8.8 and 8.8.12).
+use Rattle.std.specs.Prelude.{◌≡◌, ℕ, ◌+◌, ◌-◌, ◌<◌, ◌≤◌, ◌⊎◌, Bool, false, nat_lt, nat_le, min, List, length, take}
+use Rattle.std.specs.Prelude.{slice_get, slice_index, Option, Some, None, IfSome, MatchOption, if◌then◌else◌}
+use Rattle.std.specs.List.{sum_by}
+use Rattle.std.specs.Option.{option_and_then}
+use Rattle.mp4_fragments.specs.Members.{PlacedRun, all_members, run_count}
+
+-- whether something is decoded at or before a time; what has no time is not
+abbrev pub decoded_by : ℕ → Option ℕ → Bool
+decoded_by time None = false
+decoded_by time (Some t) = nat_le t time
+
+-- when the member with a number is decoded, which counts from 0 over all runs
+unfoldable pub member_time : List PlacedRun → ℕ → Option ℕ
+member_time runs n = option_and_then (λ m. m.at.time) (slice_get (all_members runs) n)
+
+-- Whether the member with a number is decoded at or before a time. Times need not rise from one fragment to the next: the
+-- last such member is the one behind which nothing is decoded so early.
+abbrev pub member_by : List PlacedRun → ℕ → ℕ → Bool
+member_by runs time n = decoded_by time (member_time runs n)
+
+-- when the first member of a run is decoded, if it has one
+abbrev pub first_decoded : PlacedRun → Option ℕ
+first_decoded p = if nat_lt 0 (run_count p) then p.at.time else None
+
+-- the same of run i of these, if that member's number is below an end
+unfoldable pub begin_of : List PlacedRun → ℕ → ℕ → Option ℕ
+begin_of runs end i =
+    if nat_lt (sum_by run_count (take i runs)) end then option_and_then first_decoded (slice_get runs i) else None
+
+-- For each run from one on, when the earliest of it and of those behind it begins: the last run comes first. They rise
+-- with the runs, whatever the order in which these begin. Runs behind the last that begins at a known time have none.
+pub record AreEarliest (begins : ℕ → Option ℕ) (from : ℕ) (times : List ℕ) : Type 0 where
+  pub past : (r : ℕ) → from + length times ≤ r → begins r ≡ None
+  pub least : (q r : ℕ) → q < length times → from + length times - 1 - q ≤ r
+      → IfSome (begins r) (λ t. slice_index times q ≤ t)
+  pub own : (q : ℕ) → q < length times → (begins (from + length times - 1 - q) ≡ Some (slice_index times q))
+      ⊎ ((0 < q) × (slice_index times q ≡ slice_index times (q - 1)))
+  pub fall : (p q : ℕ) → p ≤ q → q < length times → slice_index times q ≤ slice_index times p
+
+-- the earlier of two times, of which either may be unknown
+abbrev pub earlier : Option ℕ → Option ℕ → Option ℕ
+earlier None time = time
+earlier (Some t) None = Some t
+earlier (Some t) (Some u) = Some (min t u)
+
+-- what is kept of these runs, and the time that is kept last
+pub record AreKept (begins : ℕ → Option ℕ) (from : ℕ) (times : List ℕ) (earliest : Option ℕ) : Type 0 where
+  pub kept : AreEarliest begins from times
+  pub last : MatchOption earliest (length times ≡ 0)
+      (λ t. (0 < length times) × (t ≡ slice_index times (length times - 1)))
