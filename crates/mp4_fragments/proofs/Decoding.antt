@@ -253,7 +253,11 @@ late_on time x (Some t) h =
     (cases_lt (t + x) (2 ^ 64))
   where
     not_early : (t time : ℕ) → nat_le t time ≡ false → time < t
-    not_early t time h = ⊎_elim (λ (late : time < t). late) (λ (early : t ≤ time). absurd (true≢false (sym (le-leb t time early) ∙ h))) (cases_lt time t)
+    not_early t time h =
+        ⊎_elim
+        (λ (late : time < t). late)
+        (λ (early : t ≤ time). absurd (true≢false (sym (le-leb t time early) ∙ h)))
+        (cases_lt time t)
 
 -- the run of an entry
 pub placed_is : (find : Find) (e : RunEntry) (run : TrunBox) (defaults : SampleDefaults) (p : PlacedRun)

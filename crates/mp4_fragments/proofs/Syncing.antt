@@ -57,8 +57,8 @@ none_built has b firsts lasts begun count = record {
 }
 
 -- the spans of one run more
-pub entry_built : (find : Find) (es : List RunEntry) (runs : List PlacedRun) (index : RunIndex) (end r : ℕ) (entry : RunEntry)
-    (old new : SpanBuilder) → Indexes find runs index → es ≡ index.entries → entry ≡ get_or es r entry → r < length es
+pub entry_built : (find : Find) (es : List RunEntry) (runs : List PlacedRun) (index : RunIndex) (end r : ℕ)
+    (entry : RunEntry) (old new : SpanBuilder) → Indexes find runs index → es ≡ index.entries → entry ≡ get_or es r entry → r < length es
     → old.end ≡ end → old.count ≡ min end (sum_by run_count (take r runs)) → AreBuilt (sync_at runs) old
     → ((p : PlacedRun) → placed_at find entry ≡ Some p → (has : ℕ → Bool) → AreBuilt has old
     → ((j : ℕ) → j < run_count p → old.count + j < new.count → has (old.count + j) ≡ is_sync_in p.run p.defaults j)
@@ -72,7 +72,8 @@ entry_built find es (d ∷ rest) index end r entry old new s e is h own count bu
     let p = get_or runs r d in
     let so_many = ap (λ (xs : List RunEntry). length xs) e in
     let within : r < length runs = omega (arith, h, so_many, length-entries find runs index s, s.counts.count) in
-    let there : placed_at find entry ≡ Some p = ap (placed_at find) (is ∙ ap (λ (xs : List RunEntry). get_or xs r entry) e)
+    let there : placed_at find entry ≡ Some p =
+    ap (placed_at find) (is ∙ ap (λ (xs : List RunEntry). get_or xs r entry) e)
     ∙ entry_of find runs index r entry d s within in
     let more = sum_by_more run_count runs r d within in
     let grown = counted p there in (

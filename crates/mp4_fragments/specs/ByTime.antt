@@ -14,8 +14,8 @@ decoded_by time (Some t) = nat_le t time
 unfoldable pub member_time : List PlacedRun → ℕ → Option ℕ
 member_time runs n = option_and_then (λ m. m.at.time) (slice_get (all_members runs) n)
 
--- Whether the member with a number is decoded at or before a time. Times need not rise from one fragment to the next: the
--- last such member is the one behind which nothing is decoded so early.
+-- Whether the member with a number is decoded at or before a time. Times need not rise from one fragment to the next:
+-- the last such member is the one behind which nothing is decoded so early.
 abbrev pub member_by : List PlacedRun → ℕ → ℕ → Bool
 member_by runs time n = decoded_by time (member_time runs n)
 

@@ -23,7 +23,8 @@ loop-entry-preserved c =
     }
 
 -- all runs were passed
-all_passed : (c : goal.After-result-1) → length (runs_of c.args.trafs.now c.args.track c.args.index.now) ≤ c.loop-entry.entry-index
+all_passed : (c : goal.After-result-1)
+    → length (runs_of c.args.trafs.now c.args.track c.args.index.now) ≤ c.loop-entry.entry-index
 all_passed c =
     let find = run_at c.args.trafs.now c.args.track in
     let runs = runs_of c.args.trafs.now c.args.track c.args.index.now in

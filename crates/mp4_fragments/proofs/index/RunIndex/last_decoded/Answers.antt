@@ -10,7 +10,8 @@ use Rattle.mp4_fragments.proofs.index.RunIndex.last_decoded.Goals as goal
 pub partition_point-count-requires-clause-parted : goal.partition_point-count-requires-clause-parted
 partition_point-count-requires-clause-parted c =
     let runs = runs_of c.args.trafs.now c.args.track c.args.self.now in
-    runs_parted (begin_of runs c.args.end) c.as_slice.result.now c.args.time (rw c.as_slice.ensures.value c.requires.times)
+    runs_parted (begin_of runs c.args.end) c.as_slice.result.now c.args.time
+    (rw c.as_slice.ensures.value c.requires.times)
 
 pub returns-in_default-clause-number : goal.returns-in_default-clause-number
 returns-in_default-clause-number c =

@@ -9,12 +9,12 @@ returns-in-None-clause-count c = λ p there.
 
 pub returns-in-Some-clause-built : goal.returns-in-Some-clause-built
 returns-in-Some-clause-built c = on_ok_weaker c.add_run.result
-    (λ made p there. rw (placed_is (run_at c.args.trafs.now c.args.track) c.args.entry.now c.in-Some.run'.now c.in-Some.defaults p
-    c.in-Some.ensures there) made)
+    (λ made p there. rw (placed_is (run_at c.args.trafs.now c.args.track) c.args.entry.now c.in-Some.run'.now
+    c.in-Some.defaults p c.in-Some.ensures there) made)
     c.add_run.ensures.built
 
 pub returns-in-Some-clause-count : goal.returns-in-Some-clause-count
 returns-in-Some-clause-count c = on_ok_weaker c.add_run.result
-    (λ count p there. rw (placed_is (run_at c.args.trafs.now c.args.track) c.args.entry.now c.in-Some.run'.now c.in-Some.defaults p
-    c.in-Some.ensures there) count)
+    (λ count p there. rw (placed_is (run_at c.args.trafs.now c.args.track) c.args.entry.now c.in-Some.run'.now
+    c.in-Some.defaults p c.in-Some.ensures there) count)
     c.add_run.ensures.count

@@ -37,7 +37,8 @@ loop-j-preserved c =
 pub returns-clause-built : goal.returns-clause-built
 returns-clause-built c =
     let l = c.loop-j in
-    λ has built members. l.invariant.built has built (λ i h k inside. members i h (omega (arith, h, k, l.invariant.last)) inside)
+    λ has built members. l.invariant.built has built
+    (λ i h k inside. members i h (omega (arith, h, k, l.invariant.last)) inside)
 
 pub returns-clause-count : goal.returns-clause-count
 returns-clause-count c =

@@ -17,10 +17,12 @@ returns-clause-built c =
     let at : base + 0 ≡ n = omega (arith, h, k, one.count) in
     rw at at (members 0 (omega arith) (omega (arith, k, at, one.count, listed.count, others.count)))
     ∙ sym c.is_sync.ensures in
-    let middle : (j : ℕ) → 1 ≤ j → j < c.min-listed.result → c.add.new.self.count + (j - 1) < c.add_listed.new.self.count
+    let middle : (j : ℕ) → 1 ≤ j → j < c.min-listed.result
+    → c.add.new.self.count + (j - 1) < c.add_listed.new.self.count
     → has (c.add.new.self.count + (j - 1)) ≡ is_sync_in run defaults j = λ j h k inside.
     let at : base + j ≡ c.add.new.self.count + (j - 1) = omega (arith, h, inside, one.count, listed.count) in
-    rw (← at) (members j (omega (arith, k, fewer)) (omega (arith, at, inside, listed.count, listed.end, one.end, others.count, others.end))) in
+    rw (← at) (members j (omega (arith, k, fewer))
+    (omega (arith, at, inside, listed.count, listed.end, one.end, others.count, others.end))) in
     others.built has (listed.built has (one.built has built first) middle) (λ n h k.
     let at : base + (n - base) ≡ n = omega (arith, h, one.count, listed.count) in
     let reached : c.add_listed.new.self.count ≡ base + c.max.result = omega (
@@ -36,4 +38,14 @@ returns-clause-built c =
     ) in
     rw at at (members (n - base) (omega (arith, h, k, reached, others.count)) (omega (arith, at, k)))
     ∙ default_sync run defaults (n - base) (omega (arith, h, reached, c.max.ensures))
-    (omega (arith, h, k, reached, c.max.ensures, c.min-listed.ensures, c.from.ensures, c.len.ensures.value, others.count)))
+    (omega (
+      arith,
+      h,
+      k,
+      reached,
+      c.max.ensures,
+      c.min-listed.ensures,
+      c.from.ensures,
+      c.len.ensures.value,
+      others.count,
+    )))
