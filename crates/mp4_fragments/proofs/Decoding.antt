@@ -5,7 +5,7 @@ use Rattle.std.proofs.Common.{refl, sym, ap, ◌∙◌, arith, ⊎_elim}
 use Rattle.std.specs.Prelude.{nat_le, nat_lt, slice_get, slice_index, IfSome, MatchOption, if◌then◌else◌}
 use Rattle.std.specs.List.{sum_by}
 use Rattle.std.specs.Option.{option_and_then}
-use Rattle.std.proofs.lemmas.Bool.{cases_lt, lt-ltb, le-ltb, le-leb, lt-leb, leb-true, leb-false, true≢false}
+use Rattle.std.proofs.lemmas.Bool.{cases_eq, cases_lt, lt-ltb, le-ltb, le-leb, lt-leb, leb-true, leb-false, true≢false}
 use Rattle.std.proofs.lemmas.List.{length_push, get_or_append_left, get_or_push}
 use Rattle.std.proofs.lemmas.List.Sums.{sum_by-cons, sum_by_more}
 use Rattle.std.proofs.lemmas.Option.{same_Some, slice_get-get_or, slice_get_past}
@@ -27,23 +27,64 @@ use Rattle.mp4_fragments.proofs.Finding.{entry_of, length-all_members, length-en
 use Rattle.mp4_fragments.proofs.Cursors.{placed_by}
 use Rattle.mp4_fragments.proofs.ListedValues.{sum_of_first-more}
 
+-- The same as `AreEarliest`, in words that proofs take apart: that is made of claims of which each has one proof, as a
+-- fact of a track has to be.
+record AreLeast (begins : ℕ → Option ℕ) (from : ℕ) (times : List ℕ) : Type 0 where
+  past : (r : ℕ) → from + length times ≤ r → begins r ≡ None
+  least : (q r : ℕ) → q < length times → from + length times - 1 - q ≤ r
+      → IfSome (begins r) (λ t. slice_index times q ≤ t)
+  own : (q : ℕ) → q < length times → (begins (from + length times - 1 - q) ≡ Some (slice_index times q))
+      ⊎ ((0 < q) × (slice_index times q ≡ slice_index times (q - 1)))
+  fall : (p q : ℕ) → p ≤ q → q < length times → slice_index times q ≤ slice_index times p
+
+earliest : (begins : ℕ → Option ℕ) (from : ℕ) (times : List ℕ) → AreLeast begins from times
+    → AreEarliest begins from times
+earliest begins from times s = record {
+  past = s.past;
+  least = λ q r t h k e. rw e at (s.least q r h k);
+  own = λ q h ne. ⊎_elim
+      (λ (mine : begins (from + length times - 1 - q) ≡ Some (slice_index times q)). mine)
+      (λ (as_next : (0 < q) × (slice_index times q ≡ slice_index times (q - 1))). absurd (ne as_next))
+      (s.own q h);
+  fall = s.fall;
+}
+
+least : (begins : ℕ → Option ℕ) (from : ℕ) (times : List ℕ) → AreEarliest begins from times
+    → AreLeast begins from times
+least begins from times s = record {
+  past = s.past;
+  least = λ q r h k. if_some (begins r) (λ t. slice_index times q ≤ t) (λ t e. s.least q r t h k e);
+  own = λ q h. ⊎_elim
+      (λ (first : q < 1). inl (s.own q h (λ as_next. omega (arith, first, as_next.0))))
+      (λ (later : 1 ≤ q). ⊎_elim
+      (λ (same : slice_index times q ≡ slice_index times (q - 1)). inr (omega (arith, later), same))
+      (λ ne. inl (s.own q h (λ as_next. ne as_next.1)))
+      (cases_eq (slice_index times q) (slice_index times (q - 1))))
+      (cases_lt q 1);
+  fall = s.fall;
+}
+  where
+    if_some : (o : Option ℕ) (P : ℕ → Type 0) → ((t : ℕ) → o ≡ Some t → P t) → IfSome o P
+    if_some None P f = tt
+    if_some (Some t) P f = f t refl
+
 -- none is kept yet
 pub none_kept : (begins : ℕ → Option ℕ) (from : ℕ) → ((r : ℕ) → from ≤ r → begins r ≡ None)
     → AreKept begins from [] None
 none_kept begins from past = record {
-  kept = record {
+  kept = earliest begins from [] (record {
     past = λ r h. past r (omega (arith, h));
     least = λ q r h. absurd (omega (arith, h));
     own = λ q h. absurd (omega (arith, h));
     fall = λ p q h k. absurd (omega (arith, k));
-  };
+  });
   last = refl;
 }
 
 -- a run more in front, which begins at no known time, where nothing is kept
 pub none_more : (begins : ℕ → Option ℕ) (from : ℕ) (times : List ℕ) → AreEarliest begins (from + 1) times
     → length times ≡ 0 → begins from ≡ None → AreEarliest begins from times
-none_more begins from times s none e = record {
+none_more begins from times s none e = earliest begins from times (record {
   past = λ r h. ⊎_elim
       (λ (here : r < from + 1). let same : from ≡ r = omega (arith, none, h) in rw same at e)
       (λ (behind : from + 1 ≤ r). s.past r (omega (arith, none)))
@@ -51,7 +92,7 @@ none_more begins from times s none e = record {
   least = λ q r h. absurd (omega (arith, none, h));
   own = λ q h. absurd (omega (arith, none, h));
   fall = λ p q h k. absurd (omega (arith, none, k));
-}
+})
 
 -- what is kept where a run begins
 least_of : (o : Option ℕ) (t u : ℕ) → t ≤ u → IfSome o (λ x. u ≤ x) → IfSome o (λ x. t ≤ x)
@@ -64,14 +105,15 @@ pub one_more : (begins : ℕ → Option ℕ) (from t : ℕ) (times : List ℕ) �
     → (0 < length times → t ≤ slice_index times (length times - 1))
     → (begins from ≡ Some t) ⊎ ((0 < length times) × (t ≡ slice_index times (length times - 1)))
     → AreEarliest begins from (times ++ t ∷ [])
-one_more begins from t times s mine below own =
+one_more begins from t times kept mine below own =
+    let s = least begins (from + 1) times kept in
     let n = length times in
     let all = times ++ t ∷ [] in
     let many : length all ≡ n + 1 = length_push times t in
     let old : (q : ℕ) → q < n → slice_index all q ≡ slice_index times q =
     λ q h. get_or_append_left times (t ∷ []) 0 q h in
     let new : slice_index all n ≡ t = get_or_push times t 0 n refl in
-    record {
+    earliest begins from (times ++ t ∷ []) (record {
       past = λ r h. s.past r (omega (arith, h, many));
       least = λ q r h k. ⊎_elim
           (λ (before : q < n). rw (old q before) (⊎_elim
@@ -117,7 +159,7 @@ one_more begins from t times s mine below own =
           (λ (same : n ≤ p). let e : n ≡ p = omega arith in rw (← e, new) (omega arith))
           (cases_lt p n)))
           (cases_lt q n);
-    }
+    })
 
 -- the time that was kept last
 kept_last : (times : List ℕ) (t : ℕ) → (0 < length (times ++ t ∷ []))
@@ -378,7 +420,8 @@ late_begin (Some t) least time s h = lt-leb t time (omega (arith, s, leb-false l
 -- no run from the one on that was found begins so early
 pub late_runs : (begins : ℕ → Option ℕ) (times : List ℕ) (time c r : ℕ) → AreEarliest begins 0 times
     → ArePartedAt (runs_by times time) (length times) c → c ≤ r → decoded_by time (begins r) ≡ false
-late_runs begins times time c r s at h =
+late_runs begins times time c r kept at h =
+    let s = least begins 0 times kept in
     ⊎_elim
     (λ (inside : r < length times).
     let q = length times - 1 - r in
@@ -390,7 +433,8 @@ late_runs begins times time c r s at h =
 pub found_run : (begins : ℕ → Option ℕ) (times : List ℕ) (time c : ℕ) → AreEarliest begins 0 times
     → ArePartedAt (runs_by times time) (length times) c → 1 ≤ c
     → (t : ℕ) × (begins (c - 1) ≡ Some t) × (t ≤ time)
-found_run begins times time c s at some =
+found_run begins times time c kept at some =
+    let s = least begins 0 times kept in
     let within = at.within in
     let q = length times - 1 - (c - 1) in
     let place : 0 + length times - 1 - q ≡ c - 1 = omega (arith, within, some) in
@@ -411,14 +455,12 @@ pub few_times : (runs : List PlacedRun) (end : ℕ) (times : List ℕ) → AreEa
 few_times runs end times s =
     ⊎_elim
     (λ (h : length runs < length times).
-    ⊎_elim
-    (λ (mine : begin_of runs end (0 + length times - 1 - 0) ≡ Some (slice_index times 0)).
+    let mine : begin_of runs end (0 + length times - 1 - 0) ≡ Some (slice_index times 0) =
+    s.own 0 (omega (arith, h)) (λ as_next. omega (arith, as_next.0)) in
     let none : begin_of runs end (0 + length times - 1 - 0) ≡ None =
     begin_past runs end (0 + length times - 1 - 0) (λ k. absurd (omega (arith, h, k))) in
     let wrong : None ≡ Some (slice_index times 0) = sym none ∙ mine in
     absurd cc)
-    (λ (as_next : (0 < 0) × _). absurd (omega (arith, as_next.0)))
-    (s.own 0 (omega (arith, h))))
     (λ few. few)
     (cases_lt (length runs) (length times))
 

@@ -1,6 +1,6 @@
 -- The members of a track's runs by the time at which they are decoded (ISO/IEC 14496-12, 8.8.8 and 8.8.12).
-use Rattle.std.specs.Prelude.{◌≡◌, ℕ, ◌+◌, ◌-◌, ◌<◌, ◌≤◌, ◌⊎◌, Bool, false, nat_lt, nat_le, min, List, length, take}
-use Rattle.std.specs.Prelude.{slice_get, slice_index, Option, Some, None, IfSome, MatchOption, if◌then◌else◌}
+use Rattle.std.specs.Prelude.{◌≡◌, ℕ, ◌+◌, ◌-◌, ◌<◌, ◌≤◌, Bool, false, nat_lt, nat_le, min, List, length, take}
+use Rattle.std.specs.Prelude.{slice_get, slice_index, Option, Some, None, MatchOption, if◌then◌else◌}
 use Rattle.std.specs.List.{sum_by}
 use Rattle.std.specs.Option.{option_and_then}
 use Rattle.mp4_fragments.specs.Members.{PlacedRun, all_members, run_count}
@@ -32,10 +32,10 @@ begin_of runs end i =
 -- with the runs, whatever the order in which these begin. Runs behind the last that begins at a known time have none.
 pub record AreEarliest (begins : ℕ → Option ℕ) (from : ℕ) (times : List ℕ) : Type 0 where
   pub past : (r : ℕ) → from + length times ≤ r → begins r ≡ None
-  pub least : (q r : ℕ) → q < length times → from + length times - 1 - q ≤ r
-      → IfSome (begins r) (λ t. slice_index times q ≤ t)
-  pub own : (q : ℕ) → q < length times → (begins (from + length times - 1 - q) ≡ Some (slice_index times q))
-      ⊎ ((0 < q) × (slice_index times q ≡ slice_index times (q - 1)))
+  pub least : (q r t : ℕ) → q < length times → from + length times - 1 - q ≤ r → begins r ≡ Some t
+      → slice_index times q ≤ t
+  pub own : (q : ℕ) → q < length times → ((0 < q) × (slice_index times q ≡ slice_index times (q - 1)) → ⊥)
+      → begins (from + length times - 1 - q) ≡ Some (slice_index times q)
   pub fall : (p q : ℕ) → p ≤ q → q < length times → slice_index times q ≤ slice_index times p
 
 -- the earlier of two times, of which either may be unknown
