@@ -4,3 +4,7 @@ pub mod Sums
 pub mod Counts
 pub mod InOrder
 pub mod Steps
+pub mod Seeking
+pub mod Syncs
+pub mod StartTimes
+pub mod Numbers

@@ -16,3 +16,4 @@ pub mod RuleLaws
 pub mod TrackLaws
 pub mod Walk
 pub mod InOrder
+pub mod ByTime

@@ -3,6 +3,7 @@
 //! are coded, and how many there are in a second (8.3 to 8.5).
 #![tactic(auto)]
 
+mod by_time;
 mod codec;
 mod counters;
 mod headers;
@@ -17,12 +18,14 @@ mod position;
 mod rates;
 mod runs;
 mod samples;
+mod seek;
 mod shown;
 mod time;
 mod timing;
 mod track;
 
-pub use laws::rule_is_plain_expansion;
+pub use by_time::{FoundNumber, TimeRange};
+pub use laws::{decode_times_are_start_times, rule_is_plain_expansion};
 pub use samples::Samples;
 pub use time::time_of;
 pub use track::Mp4Track;

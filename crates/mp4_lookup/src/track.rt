@@ -1,10 +1,11 @@
 //! A track whose samples are found by their numbers.
 
-ghost use Rattle.std.specs.Prelude.{◌≡◌, ◌^◌, ◌<◌, length, ◌==◌, if◌then◌else◌, IfOk, OnOk};
+ghost use Rattle.std.specs.Prelude.{◌≡◌, ◌-◌, ◌^◌, ◌<◌, length, ◌==◌, if◌then◌else◌, IfOk, OnOk};
 ghost use Rattle.std.proofs.Props.{props};
 ghost use Rattle.mp4_table.specs.Stsc.{HasFirstSamples};
 ghost use Rattle.mp4_fragments.specs.Fragments.{placed_runs};
 ghost use Rattle.mp4_fragments.specs.Index.{Indexes, run_at, runs_of};
+ghost use Rattle.mp4_fragments.specs.Seek.{IsSeekIndex};
 ghost use Rattle.mp4_lookup.specs.Index.{IsIndexOf};
 ghost use Rattle.mp4_samples.specs.Tables.{tables_of};
 ghost use Rattle.mp4_lookup.specs.Tracks.{movie_end};
@@ -14,7 +15,9 @@ use crate::shown::ShownIndex;
 use crate::timing::end_after;
 use mp4_boxes::TrakBox;
 use mp4_codec::Items;
-use mp4_fragments::{RunIndex, SampleDefaults, index_of as index_of_runs};
+use mp4_fragments::{
+    RunIndex, SampleDefaults, SeekIndex, index_of as index_of_runs, seek_index_of,
+};
 use mp4_moof::TrafBox;
 use std::alloc::{AllocError, Global};
 use std::fmt;
@@ -31,9 +34,11 @@ pub struct Mp4Track {
     pub(crate) index: TrackIndex,
     pub(crate) defaults: SampleDefaults,
     pub(crate) runs: RunIndex,
+    pub(crate) seek: SeekIndex,
     ghost numbered: { HasFirstSamples trak.mdia.minf.stbl.stsc.entries } by { Prim.hlevel props },
     ghost indexed: { IsIndexOf trak.mdia.minf.stbl index } by { Prim.hlevel props },
     ghost placed: { Indexes (run_at trafs defaults) (runs_of trafs defaults runs) runs } by { Prim.hlevel props },
+    ghost sought: { IsSeekIndex (runs_of trafs defaults runs) (2 ^ 32 - 1 - trak.mdia.minf.stbl.stsz.sample_count) seek } by { Prim.hlevel props },
     ghost counted: { trak.mdia.minf.stbl.stsz.sample_count < 2 ^ 32 } by { Prim.hlevel props },
 }
 
@@ -64,32 +69,46 @@ impl Drop for Mp4Track {
             index,
             defaults: _,
             runs,
+            seek,
         } = self;
         drop(trak);
         drop(trafs);
         drop(index);
         drop(runs);
+        drop(seek);
     }
 }
 
-/// The index of a track's tables, and that of the runs of its fragments.
+/// What is kept beside the boxes of a track.
+#[derive(Drop)]
+struct TrackIndexes {
+    index: TrackIndex,
+    runs: RunIndex,
+    seek: SeekIndex,
+}
+
+/// The index of a track's tables, and those of the runs of its fragments.
 fn indexes_of(
     alloc: Global,
     trak: &TrakBox,
     trafs: &[TrafBox],
     bases: &[Option<u64>],
     defaults: SampleDefaults,
-) -> std::result::Result<(TrackIndex, RunIndex), AllocError>
+) -> std::result::Result<TrackIndexes, AllocError>
     requires { length bases.now ≡ length trafs.now }
-    ensures tables { IfOk result (λ x. IsIndexOf (tables_of trak.now) x.0) }
-    ensures runs { IfOk result (λ x. Indexes (run_at trafs.now defaults) (placed_runs defaults (movie_end trak.now) trafs.now bases.now) x.1) }
+    ensures tables { IfOk result (λ x. IsIndexOf (tables_of trak.now) x.index) }
+    ensures runs { IfOk result (λ x. Indexes (run_at trafs.now defaults) (placed_runs defaults (movie_end trak.now) trafs.now bases.now) x.runs) }
+    ensures seek { IfOk result (λ x. IsSeekIndex (placed_runs defaults (movie_end trak.now) trafs.now bases.now)
+        (2 ^ 32 - 1 - (tables_of trak.now).stsz.sample_count) x.seek) }
     ensures counted { OnOk result ((tables_of trak.now).stsz.sample_count < 2 ^ 32) }
 {
     let stbl = &trak.mdia.minf.stbl;
+    let count = stbl.stsz.sample_count;
     let index = index_of(alloc, stbl)?;
-    let end = end_after(stbl.stts.entries.as_slice(), stbl.stsz.sample_count);
+    let end = end_after(stbl.stts.entries.as_slice(), count);
     let runs = index_of_runs(alloc, trafs, bases, defaults, end)?;
-    Ok((index, runs))
+    let seek = seek_index_of(alloc, trafs, defaults, &runs, u32::MAX - count)?;
+    Ok(TrackIndexes { index, runs, seek })
 }
 
 /// How long a sample of a fragment lasts where nothing else is said of it; 0 without fragments.
@@ -122,7 +141,7 @@ impl Mp4Track {
         ensures duration { IfOk result (λ t. t.default_sample_duration ≡ (if length trafs == 0 then 0 else defaults.duration)) }
     {
         match indexes_of(alloc, &trak, trafs.as_slice(), bases, defaults) {
-            Ok((index, runs)) => {
+            Ok(TrackIndexes { index, runs, seek }) => {
                 let default_sample_duration = duration_in_fragments(&trafs, defaults);
                 Ok(Mp4Track {
                     trak,
@@ -131,6 +150,7 @@ impl Mp4Track {
                     index,
                     defaults,
                     runs,
+                    seek,
                 })
             }
             Err(error) => {

@@ -1,0 +1,49 @@
+use Rattle.std.proofs.Common.{◌-◌, ◌^◌, length, arith}
+use Rattle.mp4_fragments.specs.Members.{all_members}
+use Rattle.mp4_fragments.specs.Sync.{sync_at}
+use Rattle.mp4_search.proofs.Digits.{digits_grow}
+use Rattle.mp4_samples.specs.Tables.{tables_of}
+use Rattle.mp4_lookup.specs.TrackRuns.{track_runs}
+use Rattle.mp4_lookup.proofs.Numbers.{added_sync_upto}
+use Rattle.mp4_lookup.proofs.track.Mp4Track.added_sync_upto.Goals as goal
+
+pub overflow_add-result-in-Some : goal.overflow_add-result-in-Some
+overflow_add-result-in-Some c =
+    let t = c.args.self.now in
+    let count = t.trak.mdia.minf.stbl.stsz.sample_count in
+    let last = c.in-Some.ensures.number (sync_at (track_runs t)) (2 ^ 32 - 1 - count) t.sought.sync
+    (omega (arith, c.if-k-count.false)) in
+    omega (arith, last.within, c.if-k-count.false)
+
+pub returns-in-None-clause-none : goal.returns-in-None-clause-none
+returns-in-None-clause-none c = λ n h.
+    let t = c.args.self.now in
+    let count = t.trak.mdia.minf.stbl.stsz.sample_count in
+    c.in-None.ensures.number (sync_at (track_runs t)) (2 ^ 32 - 1 - count) t.sought.sync
+    (omega (arith, c.if-k-count.false)) n (omega (arith, h))
+
+pub returns-in-None-clause-few : goal.returns-in-None-clause-few
+returns-in-None-clause-few c =
+    let t = c.args.self.now in
+    omega (
+      arith,
+      c.last_upto.ensures.few,
+      digits_grow (length t.seek.sync.firsts.items) (length (all_members (track_runs t))) t.sought.few,
+    )
+
+pub returns-in-Some-clause-some : goal.returns-in-Some-clause-some
+returns-in-Some-clause-some c =
+    let t = c.args.self.now in
+    let count = t.trak.mdia.minf.stbl.stsz.sample_count in
+    added_sync_upto (tables_of t.trak) (track_runs t) c.args.k c.in-Some.number (omega (arith, c.if-k-count.false))
+    (c.in-Some.ensures.number (sync_at (track_runs t)) (2 ^ 32 - 1 - count) t.sought.sync
+    (omega (arith, c.if-k-count.false)))
+
+pub returns-in-Some-clause-few : goal.returns-in-Some-clause-few
+returns-in-Some-clause-few c =
+    let t = c.args.self.now in
+    omega (
+      arith,
+      c.last_upto.ensures.few,
+      digits_grow (length t.seek.sync.firsts.items) (length (all_members (track_runs t))) t.sought.few,
+    )
