@@ -17,7 +17,7 @@ pub use mp4_codec::{
 pub use mp4_entry::{
     configurations_are_written, numbers_have_one_value, values_have_their_numbers,
 };
-pub use mp4_lookup::rule_is_plain_expansion;
+pub use mp4_lookup::{decode_times_are_start_times, rule_is_plain_expansion};
 pub use mp4_meta::equal_keys_hash_alike;
 pub use mp4_mux::{
     an_end_closes_one_chunk_a_track, an_end_writes_the_accepted_samples,

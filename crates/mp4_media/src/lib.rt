@@ -20,7 +20,7 @@ pub mod writing;
 pub use calls::WriterCall;
 pub use file::Mp4File;
 pub use movie::Movie;
-pub use mp4_lookup::{Mp4Track, Samples, time_of};
+pub use mp4_lookup::{FoundNumber, Mp4Track, Samples, TimeRange, time_of};
 pub use mp4_mux::{Mp4Config, TrackConfig, mdat_header};
 pub use mp4_samples::{Comparisons, Mp4Sample, Place, SamplePlace, SampleRef, is_equal_sample};
 pub use mp4_source::{ByteSource, FileError, SeekSource, SourceError, Window};

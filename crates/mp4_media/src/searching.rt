@@ -1,8 +1,10 @@
 //! What a lookup is made of: the counted search in a table, and the runs that movie fragments add to a track.
 
 pub use mp4_fragments::{
-    Beginning, Member, RunCursor, RunIndex, SampleDefaults, index_of, traf_base, traf_end,
+    Beginning, Member, RunCursor, RunIndex, RunTimes, SampleDefaults, SeekIndex, SyncSpans,
+    index_of, seek_index_of, traf_base, traf_end,
 };
 pub use mp4_search::{
-    ByGuess, ByHalves, CappedSums, Found, LookedUp, Readings, RunningSizes, Search, SearchedNumbers,
+    ByGuess, ByHalves, CappedSums, Found, LookedUp, Parted, Readings, RunningSizes, Search,
+    SearchedNumbers, partition_point,
 };

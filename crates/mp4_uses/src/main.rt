@@ -12,7 +12,7 @@ use crate::copy::copy_track;
 use crate::count::sample_counts;
 use crate::large_file::read_sync_sample;
 use crate::round_trip::{movie_calls, movie_config, write_and_open};
-use crate::seek::sync_sample_at_or_before;
+use crate::seek::sync_sample_for;
 use crate::subtitles::subtitles;
 use anyhow::Result;
 use mp4_media::{Mp4File, Mp4Reader, SeekSource};
@@ -26,7 +26,7 @@ fn show(rt: &HostRuntime, alloc: Global, movie: &Mp4Reader) -> Result<()> {
     }
     let copied = copy_track(movie, 1, &mut fs::create(rt, "track_1.bin")?)?;
     println!(rt; "track 1 has {copied} bytes")?;
-    if let Some(sample) = sync_sample_at_or_before(movie, 1, 1500)? {
+    if let Some(sample) = sync_sample_for(movie, 1, 1500)? {
         println!(rt; "at 1500 decode from {}", sample.start_time)?;
     }
     print!(rt; "{}", subtitles(alloc, movie, 2)?)?;

@@ -1,22 +1,24 @@
 //! Where to begin decoding, to show what is decoded at a time.
 
-use mp4_media::{Mp4Reader, Result, SampleRef};
+use mp4_media::{Mp4Reader, Mp4Track, Result, SampleRef};
 
-/// The last sync sample of a track that is decoded at or before a time in ticks of the track.
-pub fn sync_sample_at_or_before<'a>(
+/// The number of the sample from which to decode: the last sync sample at or before the last sample that is decoded at
+/// or before a time in ticks of the track. None where no sample is decoded so early, or none is a sync sample.
+pub fn decode_from(track: &Mp4Track, time: u64) -> Option<u32> {
+    track.sync_sample_at_or_before(track.sample_at(time)?)
+}
+
+/// That sample.
+pub fn sync_sample_for<'a>(
     movie: &Mp4Reader<'a>,
     track_id: u32,
     time: u64,
 ) -> Result<Option<SampleRef<'a>>> {
-    let mut found = None;
-    for sample in movie.samples(track_id)? {
-        let sample = sample?;
-        if sample.start_time > time {
-            break;
-        }
-        if sample.is_sync {
-            found = Some(sample);
-        }
-    }
-    Ok(found)
+    let Some(track) = movie.tracks().get(&track_id) else {
+        return Ok(None);
+    };
+    let Some(number) = decode_from(track, time) else {
+        return Ok(None);
+    };
+    movie.read_sample_ref(track_id, number)
 }

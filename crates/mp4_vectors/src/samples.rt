@@ -316,7 +316,16 @@ pub fn comparisons(
     counts_text(alloc, least, most)
 }
 
-/// Whether two samples of a track are equal, as they are borrowed and as they are copied.
+/// A sample without where it lies.
+fn without_place(sample: Option<SampleRef<'_>>) -> Option<SampleRef<'_>> {
+    let sample = sample?;
+    Some(SampleRef {
+        offset: 0,
+        ..sample
+    })
+}
+
+/// Whether two samples of a track are equal but for where they lie, as they are borrowed and as they are copied.
 pub fn compared(
     alloc: Global,
     movie: &mut Mp4Reader,
@@ -324,13 +333,13 @@ pub fn compared(
     one: u32,
     other: u32,
 ) -> Result<String> {
-    let is_borrowed = movie.read_sample_ref(id, one)? == movie.read_sample_ref(id, other)?;
+    let is_borrowed = without_place(movie.read_sample_ref(id, one)?)
+        == without_place(movie.read_sample_ref(id, other)?);
     let is_copied = movie.read_sample(id, one)? == movie.read_sample(id, other)?;
     let text = match (is_borrowed, is_copied) {
         (true, true) => "equal",
         (false, false) => "different",
-        (false, true) => "equal as copies",
-        (true, false) => "equal as they are borrowed",
+        _ => "equal in one way",
     };
     Ok(String::from_str(alloc, text)?)
 }
