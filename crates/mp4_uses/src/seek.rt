@@ -2,8 +2,9 @@
 
 use mp4_media::{Mp4Reader, Mp4Track, Result, SampleRef};
 
-/// The number of the sample from which to decode: the last sync sample at or before the last sample that is decoded at
-/// or before a time in ticks of the track. None where no sample is decoded so early, or none is a sync sample.
+/// The number of the sample from which to decode: the last sync sample at or before the last sample that is
+/// decoded at or before a time in ticks of the track. None where no sample is decoded so early, or none is a sync
+/// sample.
 pub fn decode_from(track: &Mp4Track, time: u64) -> Option<u32> {
     track.sync_sample_at_or_before(track.sample_at(time)?)
 }
