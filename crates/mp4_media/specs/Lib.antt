@@ -9,7 +9,7 @@ pub mod Finished
 pub mod WriterCalls
 pub mod RoundTrip
 -- what callers cite of the crates below, by the name of this one: errors, places in bytes, the tables and samples of a
--- track, where a lookup leads and what it costs, a writer and its calls
+-- track, where a lookup leads, by number and by time, and what it costs, a writer and its calls
 pub use Rattle.mp4_codec.specs.Cause
 pub use Rattle.mp4_codec.specs.Cursor
 pub use Rattle.mp4_samples.specs.Tables
@@ -19,6 +19,8 @@ pub use Rattle.mp4_samples.specs.Samples
 pub use Rattle.mp4_lookup.specs.Rule
 pub use Rattle.mp4_lookup.specs.Tracks
 pub use Rattle.mp4_lookup.specs.TrackRuns
+pub use Rattle.mp4_lookup.specs.ByTime
+pub use Rattle.mp4_search.specs.Partition
 pub use Rattle.mp4_lookup.specs.Costs
 pub use Rattle.mp4_mux.specs.Calls
 pub use Rattle.mp4_mux.specs.Writing

@@ -1,12 +1,21 @@
 //! Where to begin decoding, to show what is decoded at a time.
 
+ghost use Rattle.std.specs.Prelude.{IfSome, IsTrue};
+ghost use Rattle.mp4_media.specs.ByTime.{is_sync_sample};
+ghost use Rattle.mp4_media.specs.Tables.{tables_of};
+ghost use Rattle.mp4_media.specs.TrackRuns.{track_runs};
+
 use mp4_media::{Mp4Reader, Mp4Track, Result, SampleRef};
 
 /// The number of the sample from which to decode: the last sync sample at or before the last sample that is
 /// decoded at or before a time in ticks of the track. None where no sample is decoded so early, or none is a sync
 /// sample.
-pub fn decode_from(track: &Mp4Track, time: u64) -> Option<u32> {
-    track.sync_sample_at_or_before(track.sample_at(time)?)
+pub fn decode_from(track: &Mp4Track, time: u64) -> Option<u32>
+    ensures { IfSome result (λ n. IsTrue (is_sync_sample (tables_of track.now.trak) (track_runs track.now) n)) }
+{
+    let shown = track.sample_at(time)?;
+    let first = track.sync_sample_at_or_before(shown)?;
+    Some(first)
 }
 
 /// That sample.
