@@ -27,7 +27,7 @@ use std::process::ExitCode;
 use std::{env, io};
 
 const USAGE: &[u8] =
-    b"usage: mp4_bench all | seek | list | scan | live | record | script | walk | numbers [SEED [PARTS]]\n";
+    b"usage: mp4_bench all | seek | list | scan | live | record | script | walk | numbers | times [SEED [PARTS]]\n";
 
 const FILE_USAGE: &[u8] = b"or a file: mp4_bench even | turning | fragments [SEED [PARTS]]\n";
 
@@ -87,6 +87,7 @@ fn run_job(alloc: Global, name: &str, seed: u32, parts: u32, digest: &mut Digest
         "script" => script::script(alloc, seed, parts, digest)?,
         "walk" => walk::walk(alloc, seed, parts, Way::InOrder, digest)?,
         "numbers" => walk::walk(alloc, seed, parts, Way::ByNumbers, digest)?,
+        "times" => walk::walk(alloc, seed, parts, Way::ByTimes, digest)?,
         _ => return Ok(false),
     }
     Ok(true)

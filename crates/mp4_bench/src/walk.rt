@@ -1,4 +1,5 @@
-//! A remuxer: where all samples of tracks lie, in their order: by a walk, or each by its number.
+//! A remuxer: where all samples of tracks lie, in their order: by a walk, or each by its number. Or a player that goes to
+//! random times.
 
 use crate::digest::Digest;
 use crate::files::{DATA, pattern};
@@ -21,6 +22,7 @@ const PASSES: u32 = 10;
 pub enum Way {
     InOrder,
     ByNumbers,
+    ByTimes,
 }
 
 /// Adds where a sample lies.
@@ -47,14 +49,31 @@ fn add_by_numbers(track: &Mp4Track, digest: &mut Digest) -> Result<()> {
     Ok(())
 }
 
+/// Adds the samples at random times, as many as the track has, and the sync samples before them.
+fn add_by_times(track: &Mp4Track, random: &mut Random, digest: &mut Digest) -> Result<()> {
+    let Some(range) = track.time_range() else {
+        return Ok(());
+    };
+    let end = u32::try_from(range.end).unwrap_or(u32::MAX).max(1);
+    for _ in 0..track.sample_count()? {
+        let number = track.sample_at(random.below(end).into()).unwrap_or(0);
+        let sync = track.sync_sample_at_or_before(number).unwrap_or(0);
+        digest.add(u64::from(number));
+        digest.add(u64::from(sync));
+    }
+    Ok(())
+}
+
 /// Adds the places of the track of a file, as often as it is gone over.
 fn add_places(alloc: Global, file: &[u8], way: Way, digest: &mut Digest) -> Result<()> {
     let movie = read_mp4(alloc, file)?;
     let track = movie.tracks().get(&1).ok_or(Error::TrakNotFound(1))?;
+    let mut random = Random::new(1);
     for _ in 0..PASSES {
         match way {
             Way::InOrder => add_in_order(track, digest)?,
             Way::ByNumbers => add_by_numbers(track, digest)?,
+            Way::ByTimes => add_by_times(track, &mut random, digest)?,
         }
     }
     Ok(())
