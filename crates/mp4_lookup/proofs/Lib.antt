@@ -1,3 +1,8 @@
+pub mod RunLaws
+pub mod PlaceLaws
+pub mod EntryLaws
+pub mod RuleLaws
+pub mod TrackLaws
 pub mod Times
 pub mod Searches
 pub mod Sums

@@ -17,7 +17,7 @@ use Rattle.mp4_table.specs.Stsc.{HasFirstSamples}
 use Rattle.mp4_search.specs.Search.{IsLastAtMost}
 use Rattle.mp4_search.specs.Sums.{SumsBefore64}
 use Rattle.mp4_samples.specs.LastLaws.{last_where_is, last_where_none}
-use Rattle.mp4_lookup.specs.EntryLaws.{first_samples_climb}
+use Rattle.mp4_lookup.proofs.EntryLaws.{first_samples_climb}
 
 -- what rises
 

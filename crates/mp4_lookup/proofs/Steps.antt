@@ -20,7 +20,7 @@ use Rattle.mp4_boxes.specs.declared.stbl.StblBox.{StblBox}
 use Rattle.mp4_samples.specs.LastLaws.{last_where_is}
 use Rattle.mp4_samples.specs.Tables.{chunk_offsets}
 use Rattle.mp4_search.specs.Search.{IsLastAtMost}
-use Rattle.mp4_lookup.specs.EntryLaws.{first_samples_climb, first_samples_positive}
+use Rattle.mp4_lookup.proofs.EntryLaws.{first_samples_climb, first_samples_positive}
 use Rattle.mp4_lookup.specs.Rule.{chunk_for, entry_for, first_in_chunk, spot_at, spot_by, spot_in_chunk}
 use Rattle.mp4_lookup.specs.Walk.{IsForSamples, IsOffsetRun, IsSyncGap, IsTimeRun}
 use Rattle.mp4_lookup.specs.declared.place.Chunk.{Chunk}

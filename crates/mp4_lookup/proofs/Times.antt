@@ -11,7 +11,7 @@ use Rattle.mp4_table.specs.Runs.{expand, durations}
 use Rattle.mp4_table.specs.Starts.{start_of}
 use Rattle.mp4_codec.specs.Cause.{entry_in_stbl_not_found}
 use Rattle.mp4_lookup.specs.Rule.{time_at}
-use Rattle.mp4_lookup.specs.RunLaws.{length-expand, get_or-expand, sum-expand, sum-take-expand, end_of_run}
+use Rattle.mp4_lookup.proofs.RunLaws.{length-expand, get_or-expand, sum-expand, sum-take-expand, end_of_run}
 
 start_is : (xs : List ℕ) (k : ℕ) → 1 ≤ k → start_of xs k ≡ sum (take (k - 1) xs)
 unfolding start_of

@@ -9,11 +9,6 @@ pub mod Headers
 pub mod Kind
 pub mod Rates
 pub mod Codec
-pub mod RunLaws
-pub mod PlaceLaws
-pub mod EntryLaws
-pub mod RuleLaws
-pub mod TrackLaws
 pub mod Walk
 pub mod InOrder
 pub mod ByTime

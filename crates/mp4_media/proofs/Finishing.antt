@@ -25,15 +25,15 @@ use Rattle.mp4_boxes.specs.Moov.{moov_of, moov_payload, moov_refusal, IsCanonica
 use Rattle.mp4_boxes.specs.MoovLaws.{moov_again}
 use Rattle.mp4_mux.specs.Mdat.{mdat_header_of}
 use Rattle.mp4_mux.specs.Config.{IsInRangeConfig}
-use Rattle.mp4_mux.specs.MdatLaws.{length-mdat_header_of}
+use Rattle.mp4_mux.proofs.MdatLaws.{length-mdat_header_of}
 use Rattle.mp4_mux.specs.Chunks.{placed_from}
 use Rattle.mp4_mux.specs.TrackHeaders.{PlacedChunk}
 use Rattle.mp4_mux.specs.FinishedTrack.{trak_with, trak_for, movie_for}
 use Rattle.mp4_mux.specs.Writing.{WriterState, AcceptedTrack, accepted, file_type_of, finished_from, movie_of, movie_bytes}
 use Rattle.mp4_mux.specs.Writing.{data_of, data_place, with_file_type, whole_of, start_cause}
-use Rattle.mp4_mux.specs.StartLaws.{file_type-canonical}
+use Rattle.mp4_mux.proofs.StartLaws.{file_type-canonical}
 use Rattle.mp4_mux.specs.Parts.{Parts, state_of, IsWriting}
-use Rattle.mp4_mux.specs.PartsLaws.{state-ended, state-config}
+use Rattle.mp4_mux.proofs.PartsLaws.{state-ended, state-config}
 use Rattle.mp4_media.specs.FileBoxes.{FileBox, BoxContent, Ftyp, Moov, Skipped}
 use Rattle.mp4_media.specs.FileBoxes.{read_as, meaning_of}
 use Rattle.mp4_media.specs.FileGrammar.{between, Holds, read, skipped, IsFileBox, no_more, AreFileBoxes, IsFile}

@@ -6,10 +6,10 @@ use Rattle.std.specs.List.{AllByRecursion}
 use Rattle.std.proofs.lemmas.List.{take_more, map-append}
 use Rattle.mp4_codec.specs.Cause.{AnswersCause}
 use Rattle.mp4_mux.specs.Writing.{WriterState}
-use Rattle.mp4_mux.specs.StateLaws.{sample_welcome, one_more}
-use Rattle.mp4_mux.specs.EndedStates.{all-append}
+use Rattle.mp4_mux.proofs.StateLaws.{sample_welcome, one_more}
+use Rattle.mp4_mux.proofs.EndedStates.{all-append}
 use Rattle.mp4_mux.specs.Calls.{Call, Reply, add_track, write_sample, write_end, is_end, step, call_cause, IsInRangeCall}
-use Rattle.mp4_mux.specs.CallLaws.{step_goes_on, answered_ok}
+use Rattle.mp4_mux.proofs.CallLaws.{step_goes_on, answered_ok}
 use Rattle.mp4_media.specs.declared.calls.WriterCall.{WriterCall}
 use Rattle.mp4_media.specs.Finished.{Opens}
 use Rattle.mp4_media.specs.WriterCalls.{call_of, calls_of}

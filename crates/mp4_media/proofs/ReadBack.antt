@@ -29,15 +29,15 @@ use Rattle.mp4_lookup.specs.Rule.{usable, entry_for, spot_at, rule}
 use Rattle.mp4_samples.specs.Samples.{Sample, TimedSample, timed_from, timed, read_in, plain_sample_at}
 use Rattle.mp4_lookup.specs.Tracks.{sample_at, answer_at}
 use Rattle.mp4_samples.specs.Tables.{tables_of}
-use Rattle.mp4_lookup.specs.TrackLaws.{sample_is_plain, unfragmented_is_of_movie}
+use Rattle.mp4_lookup.proofs.TrackLaws.{sample_is_plain, unfragmented_is_of_movie}
 use Rattle.mp4_lookup.specs.TrackRuns.{track_runs}
 use Rattle.mp4_mux.specs.FinishedTrack.{trak_for}
 use Rattle.mp4_mux.specs.Writing.{WriterState, AcceptedTrack, accepted, file_type_of, movie_of, whole_of}
 use Rattle.mp4_mux.specs.Calls.{none_accepted, Session, IsEnded, writer_of, accepted_by}
-use Rattle.mp4_mux.specs.SessionLaws.{session_accepts, session_keeps}
-use Rattle.mp4_mux.specs.EndedSessionLaws.{session_written}
-use Rattle.mp4_mux.specs.DescribesLaws.{length-timed_from}
-use Rattle.mp4_mux.specs.ReadBackLaws.{finds_each, none_past}
+use Rattle.mp4_mux.proofs.SessionLaws.{session_accepts, session_keeps}
+use Rattle.mp4_mux.proofs.EndedSessionLaws.{session_written}
+use Rattle.mp4_mux.proofs.DescribesLaws.{length-timed_from}
+use Rattle.mp4_mux.proofs.ReadBackLaws.{finds_each, none_past}
 use Rattle.mp4_mux.specs.Written.{Describes, Finds, IsWrittenTrack, IsWrittenMovie}
 use Rattle.mp4_media.specs.declared.reader.Mp4Reader.{Mp4Reader}
 use Rattle.mp4_media.specs.FileBoxes.{later, OpenedFile, opened_file}

@@ -24,7 +24,7 @@ use Rattle.mp4_samples.specs.Samples.{read_in, plain_sample_at}
 use Rattle.mp4_lookup.specs.Tracks.{sample_at, is_of_movie, begins_at, member_place, answer_at}
 use Rattle.mp4_samples.specs.Tables.{chunk_offsets, sizes, tables_of}
 use Rattle.mp4_lookup.specs.TrackRuns.{track_runs}
-use Rattle.mp4_lookup.specs.TrackLaws.{sample_is_plain}
+use Rattle.mp4_lookup.proofs.TrackLaws.{sample_is_plain}
 use Rattle.mp4_media.specs.MovieTracks.{at_id}
 use Rattle.mp4_media.specs.Reading.{track_or, needed_track, located_in, placed_in, sample_in, within}
 

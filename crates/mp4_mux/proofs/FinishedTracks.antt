@@ -20,13 +20,13 @@ use Rattle.mp4_entry.specs.Config.{entry_length}
 use Rattle.mp4_boxes.specs.Trak.{trak_payload}
 use Rattle.mp4_mux.specs.TrackHeaders.{header_length, media_header_length, durations_of}
 use Rattle.mp4_mux.specs.FinishedTrack.{trak_with, trak_for, sample_tables_length}
-use Rattle.mp4_mux.specs.FinishedTrackLaws.{counts_of-placed, offsets_of-placed, length-trak_with}
+use Rattle.mp4_mux.proofs.FinishedTrackLaws.{counts_of-placed, offsets_of-placed, length-trak_with}
 use Rattle.mp4_mux.specs.ChunkLists.{places_length}
 use Rattle.mp4_mux.proofs.TableSizes.{size_of_stco, size_of_co64}
 use Rattle.std.proofs.Common.{Bool}
 use Rattle.mp4_mux.specs.TrackParts.{HaveRoom}
 use Rattle.mp4_mux.specs.Building.{Building, TrackFields, IsTrack, building_of, pending_place}
-use Rattle.mp4_mux.specs.SampleLaws.{sum_by-push}
+use Rattle.mp4_mux.proofs.SampleLaws.{sum_by-push}
 use Rattle.mp4_mux.specs.Parts.{last_place, track_with, finished_building}
 use Rattle.mp4_mux.proofs.TrackLemmas.{pending-count}
 

@@ -31,7 +31,7 @@ use Rattle.mp4_mux.specs.SampleTables.{runs_of, same_duration, stts_run, same_of
 use Rattle.mp4_mux.specs.SampleTables.{sync_numbers_from, one_size, listed_sizes, are_far, stts_for, ctts_for, stss_for}
 use Rattle.mp4_mux.specs.SampleTables.{stsz_for, stsc_for, stco_for, co64_for}
 use Rattle.mp4_mux.specs.ChunkLists.{places_length}
-use Rattle.mp4_mux.specs.ChunkTableLaws.{length-stsc_for_changes}
+use Rattle.mp4_mux.proofs.ChunkTableLaws.{length-stsc_for_changes}
 
 pub size_of_stts : (ss : List SampleInfo)
     → length (stts_payload (stts_for ss)) ≡ 8 + length (runs_of same_duration stts_run ss) * 8

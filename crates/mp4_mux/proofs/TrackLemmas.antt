@@ -13,8 +13,8 @@ use Rattle.mp4_mux.specs.TrackHeaders.{media_duration, movie_duration}
 use Rattle.mp4_mux.specs.Writing.{info_of}
 use Rattle.mp4_mux.specs.Building.{TrackFields, IsTrack, building_of, sample_at, samples_in, pushed, popped, closed}
 use Rattle.mp4_mux.specs.Building.{pending_place}
-use Rattle.mp4_mux.specs.SampleLaws.{sum_by-push, media_duration-push, movie_duration-push, sum_by-drop, samples_in-push}
-use Rattle.mp4_mux.specs.SampleLaws.{length-samples_in, media_duration-small, all-push, all-init}
+use Rattle.mp4_mux.proofs.SampleLaws.{sum_by-push, media_duration-push, movie_duration-push, sum_by-drop, samples_in-push}
+use Rattle.mp4_mux.proofs.SampleLaws.{length-samples_in, media_duration-small, all-push, all-init}
 
 -- the fields with one more sample, of which the tables say this and which has these bytes
 abbrev pub with_push : TrackFields → SampleInfo → List ℕ → ℕ → TrackFields

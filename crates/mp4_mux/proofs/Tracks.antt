@@ -1,6 +1,6 @@
 -- What tracks have, for the check.
-use Rattle.mp4_mux.specs.ConfigLaws.{entry_length-accepted}
-use Rattle.mp4_mux.specs.FinishedTrackLaws.{counts_of-placed, offsets_of-placed, length-trak_with}
+use Rattle.mp4_mux.proofs.ConfigLaws.{entry_length-accepted}
+use Rattle.mp4_mux.proofs.FinishedTrackLaws.{counts_of-placed, offsets_of-placed, length-trak_with}
 
 -- a chunk as it was noted, and as it is placed
 pub ruleset placed = (counts_of-placed, offsets_of-placed)

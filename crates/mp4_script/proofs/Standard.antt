@@ -7,7 +7,7 @@ use Rattle.mp4_codec.specs.declared.error.Error.TheVariants.{OutOfMemory}
 use Rattle.mp4_codec.specs.Cause.{Cause, cause_of, Answers, AnswersCause}
 use Rattle.mp4_mux.specs.declared.config.Mp4Config.{Mp4Config}
 use Rattle.mp4_mux.specs.Writing.{WriterState, started, with_end, whole_of, start_cause, end_cause}
-use Rattle.mp4_mux.specs.StartLaws.{start_cause-few}
+use Rattle.mp4_mux.proofs.StartLaws.{start_cause-few}
 use Rattle.mp4_script.specs.declared.script.ScriptFault.{ScriptFault}
 use Rattle.mp4_script.specs.declared.script.ScriptFault.TheVariants.{End}
 use Rattle.mp4_script.specs.Script.{ScriptCause, script_cause_of, at_end, standard_config, standard_writer, run_all}

@@ -1,7 +1,7 @@
 use Rattle.std.proofs.Common.{get_or, arith}
 use Rattle.std.proofs.lemmas.Result.{err_from_is_err_and}
 use Rattle.mp4_table.specs.declared.stsc.StscEntry.{StscEntry}
-use Rattle.mp4_lookup.specs.EntryLaws.{first_samples_positive}
+use Rattle.mp4_lookup.proofs.EntryLaws.{first_samples_positive}
 use Rattle.mp4_lookup.proofs.Searches.{first_sample_found, last_where-searched}
 use Rattle.mp4_lookup.proofs.Steps.{entry_is, unusable}
 use Rattle.mp4_lookup.proofs.place.entry_at.Goals as goal

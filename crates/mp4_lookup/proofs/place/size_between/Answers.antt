@@ -1,5 +1,5 @@
 use Rattle.std.proofs.Common.{sym, arith}
-use Rattle.mp4_lookup.specs.RuleLaws.{sum-sizes_one, sizes_are_listed}
+use Rattle.mp4_lookup.proofs.RuleLaws.{sum-sizes_one, sizes_are_listed}
 use Rattle.mp4_lookup.proofs.Searches.{sums_between}
 use Rattle.mp4_lookup.proofs.place.size_between.Goals as goal
 

@@ -7,7 +7,7 @@ use Rattle.mp4_boxes.specs.declared.trak.TrakBox.{TrakBox}
 use Rattle.mp4_samples.specs.Plain.{Consistent}
 use Rattle.mp4_samples.specs.Samples.{timed_sample, plain_sample_at}
 use Rattle.mp4_samples.specs.Tables.{tables_of}
-use Rattle.mp4_lookup.specs.TrackLaws.{unfragmented_is_of_movie}
+use Rattle.mp4_lookup.proofs.TrackLaws.{unfragmented_is_of_movie}
 use Rattle.mp4_media.specs.FileBoxes.{opened_file}
 use Rattle.mp4_media.specs.RoundTrip.{IsPlace}
 use Rattle.mp4_media.proofs.ReadBack.{wanted_memory, found_track}

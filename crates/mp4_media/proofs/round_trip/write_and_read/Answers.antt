@@ -1,7 +1,7 @@
 use Rattle.std.proofs.Common.{◌≡◌, [], true, refl, ◌∙◌, arith}
 use Rattle.mp4_mux.specs.Writing.{WriterState, started, whole_of}
 use Rattle.mp4_mux.specs.Calls.{Session, IsAnswered, writer_of}
-use Rattle.mp4_mux.specs.EndedSessionLaws.{ended_after}
+use Rattle.mp4_mux.proofs.EndedSessionLaws.{ended_after}
 use Rattle.mp4_media.specs.WriterCalls.{calls_of}
 use Rattle.mp4_media.proofs.ReadBack.{read_back}
 use Rattle.mp4_media.proofs.round_trip.write_and_read.Goals as goal

@@ -1,7 +1,7 @@
 use Rattle.std.proofs.Common.{◌≡◌, List, ℕ, [], true, sym, ap, subst, ◌∙◌, true≢false}
 use Rattle.mp4_mux.specs.Writing.{WriterState, started, whole_of}
 use Rattle.mp4_mux.specs.Calls.{after, Answered}
-use Rattle.mp4_mux.specs.EndedSessionLaws.{ended_after}
+use Rattle.mp4_mux.proofs.EndedSessionLaws.{ended_after}
 use Rattle.mp4_media.specs.Finished.{Opens}
 use Rattle.mp4_media.specs.WriterCalls.{calls_of}
 use Rattle.mp4_media.proofs.round_trip.write_calls.Goals as goal

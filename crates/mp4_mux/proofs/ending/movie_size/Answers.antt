@@ -6,7 +6,7 @@ use Rattle.std.proofs.lemmas.List.Sums.{sum_by_more}
 use Rattle.mp4_boxes.specs.Trak.{trak_payload}
 use Rattle.mp4_mux.specs.TrackHeaders.{FinishedTrack, header_length}
 use Rattle.mp4_mux.specs.FinishedTrack.{trak_for}
-use Rattle.mp4_mux.specs.MovieLaws.{length-movie_for}
+use Rattle.mp4_mux.proofs.MovieLaws.{length-movie_for}
 use Rattle.mp4_mux.specs.Chunks.{sample_bytes}
 use Rattle.mp4_mux.specs.Building.{Building}
 use Rattle.mp4_mux.specs.Parts.{unwritten, finished_building, finished_buildings}

@@ -1,5 +1,5 @@
-use Rattle.mp4_mux.specs.EndedSessionLaws.{session_written}
-use Rattle.mp4_mux.specs.ByteLaws.{each_byte}
+use Rattle.mp4_mux.proofs.EndedSessionLaws.{session_written}
+use Rattle.mp4_mux.proofs.ByteLaws.{each_byte}
 use Rattle.mp4_mux.proofs.laws.an_end_writes_the_accepted_samples.Goals as goal
 
 pub returns : goal.returns

@@ -1,5 +1,5 @@
 use Rattle.mp4_mux.specs.Calls.{Session}
-use Rattle.mp4_mux.specs.SessionLaws.{session_accepts, session_sound, session_keeps}
+use Rattle.mp4_mux.proofs.SessionLaws.{session_accepts, session_sound, session_keeps}
 use Rattle.mp4_mux.proofs.laws.calls_accept_their_samples.Goals as goal
 
 pub returns : goal.returns

@@ -1,4 +1,4 @@
-use Rattle.mp4_mux.specs.SessionLaws.{session_layout}
+use Rattle.mp4_mux.proofs.SessionLaws.{session_layout}
 use Rattle.mp4_mux.proofs.laws.chunks_are_just_full.Goals as goal
 
 pub returns : goal.returns

@@ -1,7 +1,7 @@
 use Rattle.std.proofs.Common.{◌≡◌, ◌+◌, suc, Ok, None, arith, subst}
 use Rattle.mp4_samples.specs.Plain.{plain_at}
 use Rattle.mp4_mux.specs.Written.{Finds}
-use Rattle.mp4_mux.specs.ReadBackLaws.{finds_each, none_past}
+use Rattle.mp4_mux.proofs.ReadBackLaws.{finds_each, none_past}
 use Rattle.mp4_mux.proofs.laws.described_samples_are_found.Goals as goal
 
 pub returns : goal.returns

@@ -1,6 +1,6 @@
 use Rattle.std.proofs.Common.{◌∙◌, sym, arith, ◌<◌, length}
 use Rattle.std.proofs.lemmas.Bool.{eqb-true, eqb-false}
-use Rattle.mp4_mux.specs.RunTableLaws.{length-runs_of}
+use Rattle.mp4_mux.proofs.RunTableLaws.{length-runs_of}
 use Rattle.mp4_mux.proofs.RunSteps.{no_sample, no_turns, changes_at_first, changes_at_same, changes_at_other}
 use Rattle.mp4_mux.proofs.RunSteps.{changes_at_end}
 use Rattle.mp4_mux.proofs.runs.run_count.Goals as goal

@@ -2,7 +2,7 @@ use Rattle.std.proofs.Common.{◌≡◌, ◌<◌, length, arith}
 use Rattle.mp4_search.specs.Search.{IsCountByHalves}
 use Rattle.mp4_samples.specs.Tables.{tables_of}
 use Rattle.mp4_lookup.specs.Costs.{AreFew, AreFewForMember, AreTrackCounts, comparisons_of}
-use Rattle.mp4_lookup.specs.TrackLaws.{answer_is_plain}
+use Rattle.mp4_lookup.proofs.TrackLaws.{answer_is_plain}
 use Rattle.mp4_lookup.specs.TrackRuns.{track_runs}
 use Rattle.mp4_lookup.proofs.Counts.{counted_of, few_at, few_for_member, of_place, of_place_by}
 use Rattle.mp4_lookup.proofs.track.Mp4Track.locate.Goals as goal

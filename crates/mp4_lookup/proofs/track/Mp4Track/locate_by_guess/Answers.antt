@@ -3,7 +3,7 @@ use Rattle.mp4_search.specs.Search.{IsCountByGuess}
 use Rattle.mp4_search.specs.BitSet.{looks_at_bit}
 use Rattle.mp4_samples.specs.Tables.{tables_of}
 use Rattle.mp4_lookup.specs.Costs.{AreFewByGuess, AreFewForMemberByGuess, AreTrackCounts}
-use Rattle.mp4_lookup.specs.TrackLaws.{answer_is_plain}
+use Rattle.mp4_lookup.proofs.TrackLaws.{answer_is_plain}
 use Rattle.mp4_lookup.specs.TrackRuns.{track_runs}
 use Rattle.mp4_lookup.proofs.Counts.{few_by_guess_at, few_for_member_by_guess, of_place, of_place_by}
 use Rattle.mp4_lookup.proofs.track.Mp4Track.locate_by_guess.Goals as goal

@@ -1,9 +1,9 @@
 use Rattle.std.proofs.Common.{◌≡◌, sym, ap, ◌∙◌}
 use Rattle.std.proofs.Common.{None, false}
 use Rattle.mp4_mux.specs.Writing.{WriterState, track_cause}
-use Rattle.mp4_mux.specs.StateLaws.{track_welcome}
+use Rattle.mp4_mux.proofs.StateLaws.{track_welcome}
 use Rattle.mp4_mux.specs.Parts.{open_state, state_of}
-use Rattle.mp4_mux.specs.PartsLaws.{state-ended, state-open, state-track, writing-track}
+use Rattle.mp4_mux.proofs.PartsLaws.{state-ended, state-open, state-track, writing-track}
 use Rattle.mp4_media.specs.WriterFields.{parts_of}
 use Rattle.mp4_media.proofs.writer.Mp4Writer.add_track.Goals as goal
 use Rattle.mp4_media.proofs.writer.Mp4Writer.add_track.Goals.{In_ok-check_track}

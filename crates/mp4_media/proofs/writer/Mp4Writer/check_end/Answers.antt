@@ -1,8 +1,8 @@
 use Rattle.std.proofs.Common.{◌≡◌, length, arith}
-use Rattle.mp4_mux.specs.StateLaws.{end_cause-ended}
+use Rattle.mp4_mux.proofs.StateLaws.{end_cause-ended}
 use Rattle.mp4_mux.specs.Parts.{state_of}
-use Rattle.mp4_mux.specs.PartsLaws.{state-ended, state-open}
-use Rattle.mp4_mux.specs.EndLaws.{end_cause-kept, few-kept, clocks-kept}
+use Rattle.mp4_mux.proofs.PartsLaws.{state-ended, state-open}
+use Rattle.mp4_mux.proofs.EndLaws.{end_cause-kept, few-kept, clocks-kept}
 use Rattle.mp4_media.specs.WriterFields.{parts_of}
 use Rattle.mp4_media.proofs.writer.Mp4Writer.check_end.Goals as goal
 

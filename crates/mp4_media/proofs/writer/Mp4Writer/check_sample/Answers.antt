@@ -3,9 +3,9 @@ use Rattle.std.proofs.lemmas.List.{get_or_read}
 use Rattle.mp4_samples.specs.Samples.{sample_of}
 use Rattle.mp4_mux.specs.Media.{building_at, no_building}
 use Rattle.mp4_mux.specs.Sound.{IsIdOf}
-use Rattle.mp4_mux.specs.StateLaws.{sample_cause-ended, sample_cause-unknown}
+use Rattle.mp4_mux.proofs.StateLaws.{sample_cause-ended, sample_cause-unknown}
 use Rattle.mp4_mux.specs.Parts.{open_state, state_of}
-use Rattle.mp4_mux.specs.PartsLaws.{state-ended, state-open, track-count, cause-same, is_track}
+use Rattle.mp4_mux.proofs.PartsLaws.{state-ended, state-open, track-count, cause-same, is_track}
 use Rattle.mp4_media.specs.WriterFields.{parts_of}
 use Rattle.mp4_media.proofs.writer.Mp4Writer.check_sample.Goals as goal
 use Rattle.mp4_media.proofs.writer.Mp4Writer.check_sample.Goals.{then-id-eq0-via-then-id-eq0}

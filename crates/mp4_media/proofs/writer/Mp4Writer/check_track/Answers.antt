@@ -2,9 +2,9 @@ use Rattle.std.proofs.Common.{◌≡◌, Some, Result, Ok, Err, IsErrAnd, refl, 
 use Rattle.mp4_codec.specs.declared.error.Error.{Error}
 use Rattle.mp4_codec.specs.Cause.{Checks, cause_of}
 use Rattle.mp4_mux.specs.Writing.{track_cause}
-use Rattle.mp4_mux.specs.StateLaws.{track_cause-ended, track_cause-config, track_cause-many, track_cause-none}
+use Rattle.mp4_mux.proofs.StateLaws.{track_cause-ended, track_cause-config, track_cause-many, track_cause-none}
 use Rattle.mp4_mux.specs.Parts.{open_state, state_of}
-use Rattle.mp4_mux.specs.PartsLaws.{state-ended, state-open, track-count}
+use Rattle.mp4_mux.proofs.PartsLaws.{state-ended, state-open, track-count}
 use Rattle.mp4_media.specs.WriterFields.{parts_of}
 use Rattle.mp4_media.proofs.writer.Mp4Writer.check_track.Goals as goal
 

@@ -1,11 +1,11 @@
 use Rattle.std.proofs.Common.{◌≡◌, List, ℕ, sym, ap, ◌∙◌, subst, arith}
 use Rattle.std.proofs.Common.{None, true, false}
 use Rattle.mp4_mux.specs.Writing.{end_cause, with_end}
-use Rattle.mp4_mux.specs.StateLaws.{end_welcome}
+use Rattle.mp4_mux.proofs.StateLaws.{end_welcome}
 use Rattle.mp4_mux.specs.Parts.{Parts, open_state, state_of, IsWriting, parts_at_end}
-use Rattle.mp4_mux.specs.PartsLaws.{state-ended, state-open}
-use Rattle.mp4_mux.specs.EndLaws.{data_end-kept, few-kept, clocks-kept, state-then, writing-then}
-use Rattle.mp4_mux.specs.EndMovieLaws.{movie-written-kept}
+use Rattle.mp4_mux.proofs.PartsLaws.{state-ended, state-open}
+use Rattle.mp4_mux.proofs.EndLaws.{data_end-kept, few-kept, clocks-kept, state-then, writing-then}
+use Rattle.mp4_mux.proofs.EndMovieLaws.{movie-written-kept}
 use Rattle.mp4_media.specs.WriterFields.{parts_of}
 use Rattle.mp4_media.proofs.writer.Mp4Writer.end.Goals as goal
 use Rattle.mp4_media.proofs.writer.Mp4Writer.end.Goals.{In_ok-check_end, In_ok-add_end}

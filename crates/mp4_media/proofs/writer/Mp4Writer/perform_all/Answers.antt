@@ -2,7 +2,7 @@ use Rattle.std.proofs.Common.{◌≡◌, ◌+◌, [], ◌∷◌, ◌++◌, take,
 use Rattle.mp4_codec.specs.Cause.{AnswersCause}
 use Rattle.mp4_mux.specs.Writing.{WriterState}
 use Rattle.mp4_mux.specs.Calls.{Answered, call_cause, after, after_reply}
-use Rattle.mp4_mux.specs.CallLaws.{after_one_more, answered_one_more}
+use Rattle.mp4_mux.proofs.CallLaws.{after_one_more, answered_one_more}
 use Rattle.mp4_media.specs.WriterCalls.{call_of, calls_of}
 use Rattle.mp4_media.proofs.Performing.{calls_of-more, in_range-more}
 use Rattle.mp4_media.proofs.writer.Mp4Writer.perform_all.Goals as goal

@@ -1,5 +1,5 @@
 use Rattle.std.proofs.Common.{◌≡◌, length, arith}
-use Rattle.mp4_mux.specs.PartsLaws.{state_at_start, writing_at_start}
+use Rattle.mp4_mux.proofs.PartsLaws.{state_at_start, writing_at_start}
 use Rattle.mp4_media.proofs.writer.Mp4Writer.start_with.Goals as goal
 
 pub invariant_of-result : goal.invariant_of-result

@@ -2,13 +2,13 @@ use Rattle.std.proofs.Common.{◌≡◌, ◌+◌, ◌<◌, ◌^◌, length, true
 use Rattle.mp4_codec.specs.Cause.{Cause, AnswersCause}
 use Rattle.mp4_boxes.specs.Moov.{IsCanonicalMoov}
 use Rattle.mp4_mux.specs.Writing.{WriterState, end_cause, with_end, movie_of, whole_of, data_of, data_place}
-use Rattle.mp4_mux.specs.StateLaws.{end_welcome}
+use Rattle.mp4_mux.proofs.StateLaws.{end_welcome}
 use Rattle.mp4_mux.specs.Parts.{Parts, open_state, state_of}
-use Rattle.mp4_mux.specs.PartsLaws.{state-ended, state-open}
-use Rattle.mp4_mux.specs.FineLaws.{data_end-le-whole}
-use Rattle.mp4_mux.specs.EndMovieLaws.{movie-canonical-kept}
+use Rattle.mp4_mux.proofs.PartsLaws.{state-ended, state-open}
+use Rattle.mp4_mux.proofs.FineLaws.{data_end-le-whole}
+use Rattle.mp4_mux.proofs.EndMovieLaws.{movie-canonical-kept}
 use Rattle.mp4_mux.specs.Written.{IsWrittenMovie}
-use Rattle.mp4_mux.specs.WrittenLaws.{written_movie}
+use Rattle.mp4_mux.proofs.WrittenLaws.{written_movie}
 use Rattle.mp4_media.specs.Finished.{Opens}
 use Rattle.mp4_media.specs.WriterFields.{parts_of}
 use Rattle.mp4_media.proofs.Finishing.{opens}

@@ -3,10 +3,10 @@ use Rattle.mp4_mux.specs.SampleInfos.{IsInRangeSampleInfo}
 use Rattle.mp4_samples.specs.Samples.{sample_of}
 use Rattle.mp4_mux.specs.Writing.{WriterState, info_of, sample_cause, with_sample}
 use Rattle.mp4_mux.specs.Media.{Media}
-use Rattle.mp4_mux.specs.StateLaws.{IsWelcome, sample_welcome, sound_sample}
+use Rattle.mp4_mux.proofs.StateLaws.{IsWelcome, sample_welcome, sound_sample}
 use Rattle.mp4_mux.specs.Parts.{open_state, state_of, IsWriting}
-use Rattle.mp4_mux.specs.PartsLaws.{state-ended, state-open, is_track, ticks-same, count-same, state-sample}
-use Rattle.mp4_mux.specs.PartsLaws.{writing-sample}
+use Rattle.mp4_mux.proofs.PartsLaws.{state-ended, state-open, is_track, ticks-same, count-same, state-sample}
+use Rattle.mp4_mux.proofs.PartsLaws.{writing-sample}
 use Rattle.mp4_media.specs.WriterFields.{parts_of}
 use Rattle.mp4_media.proofs.writer.Mp4Writer.write_sample.Goals as goal
 use Rattle.mp4_media.proofs.writer.Mp4Writer.write_sample.Goals.{In_ok-check_sample, After-in_range-2}

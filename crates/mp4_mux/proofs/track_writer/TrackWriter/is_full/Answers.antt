@@ -1,7 +1,7 @@
 use Rattle.std.proofs.Common.{arith, drop}
 use Rattle.std.proofs.lemmas.Bool.Decides.{nat_tests}
 use Rattle.mp4_mux.specs.Chunks.{is_full}
-use Rattle.mp4_mux.specs.SampleLaws.{durations-samples_in, bytes-samples_in}
+use Rattle.mp4_mux.proofs.SampleLaws.{durations-samples_in, bytes-samples_in}
 use Rattle.mp4_mux.proofs.track_writer.TrackWriter.is_full.Goals as goal
 
 pub returns-then-self : goal.returns-then-self

@@ -3,7 +3,7 @@ use Rattle.std.proofs.lemmas.List.Elements.{All-nil}
 use Rattle.mp4_mux.specs.declared.chunk_place.ChunkPlace.{ChunkPlace}
 use Rattle.mp4_mux.specs.TrackHeaders.{media_duration, movie_duration}
 use Rattle.mp4_mux.specs.Building.{samples_in}
-use Rattle.mp4_mux.specs.ConfigLaws.{has_ticks}
+use Rattle.mp4_mux.proofs.ConfigLaws.{has_ticks}
 use Rattle.mp4_mux.proofs.track_writer.TrackWriter.new.Goals as goal
 
 pub invariant_of-result : goal.invariant_of-result

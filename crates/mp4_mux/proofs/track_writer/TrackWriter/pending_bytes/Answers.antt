@@ -1,5 +1,5 @@
 use Rattle.std.proofs.Common.{◌∙◌, sym, drop}
-use Rattle.mp4_mux.specs.SampleLaws.{bytes-samples_in}
+use Rattle.mp4_mux.proofs.SampleLaws.{bytes-samples_in}
 use Rattle.mp4_mux.proofs.track_writer.TrackWriter.pending_bytes.Goals as goal
 
 pub returns : goal.returns

@@ -1,6 +1,6 @@
 use Rattle.std.proofs.Common.{◌≡◌, ◌++◌, List, ℕ, length, drop, ap, sym, ◌∙◌, arith}
 use Rattle.mp4_mux.specs.TrackFields.{fields_of}
-use Rattle.mp4_mux.specs.SampleLaws.{bytes-samples_in}
+use Rattle.mp4_mux.proofs.SampleLaws.{bytes-samples_in}
 use Rattle.mp4_mux.proofs.TrackLemmas.{is_track-close, view-close}
 use Rattle.mp4_mux.proofs.track_writer.TrackWriter.write_chunk.Goals as goal
 

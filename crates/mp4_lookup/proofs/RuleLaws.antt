@@ -23,10 +23,10 @@ use Rattle.mp4_samples.specs.declared.sample.Place.{Place}
 use Rattle.mp4_samples.specs.Tables.{sizes, chunk_offsets, ctts_runs, is_sync_at}
 use Rattle.mp4_samples.specs.Plain.{Consistent, plain, plain_at, member, within_file, sample_places}
 use Rattle.mp4_lookup.specs.Rule.{rule, spot_at, entry_for, chunk_for, first_in_chunk, time_at}
-use Rattle.mp4_lookup.specs.PlaceLaws.{get_or-places}
+use Rattle.mp4_lookup.proofs.PlaceLaws.{get_or-places}
 use Rattle.mp4_samples.specs.ChunkLaws.{first_chunk_positive, length-counts, get_or-counts, samples_in_is}
-use Rattle.mp4_lookup.specs.EntryLaws.{Fine, belongs, lies_at, entry_for_is, chunk_within}
-use Rattle.mp4_lookup.specs.EntryLaws.{chunk_past, chunk_le, sum-take-before}
+use Rattle.mp4_lookup.proofs.EntryLaws.{Fine, belongs, lies_at, entry_for_is, chunk_within}
+use Rattle.mp4_lookup.proofs.EntryLaws.{chunk_past, chunk_le, sum-take-before}
 
 -- the steps on the times
 time_at_is : (runs : List SttsEntry) (track k : ℕ) → 1 ≤ k → k ≤ length (durations runs)

@@ -27,19 +27,19 @@ use Rattle.mp4_mux.specs.declared.config.TrackConfig.{TrackConfig}
 use Rattle.mp4_mux.specs.declared.sample_info.SampleInfo.{SampleInfo}
 use Rattle.mp4_mux.specs.Description.{stsd_for}
 use Rattle.mp4_mux.specs.SampleTables.{ctts_for, stsz_for, chunk_entries_from, stsc_for}
-use Rattle.mp4_mux.specs.SampleTableLaws.{length-stts_for, length-ctts_for}
-use Rattle.mp4_mux.specs.SizeTableLaws.{sizes-stsz_for}
-use Rattle.mp4_mux.specs.OffsetTableLaws.{offsets_of-stco_for-co64_for}
-use Rattle.mp4_mux.specs.ChunkTableLaws.{counts-stsc_for, length-stsc_for}
+use Rattle.mp4_mux.proofs.SampleTableLaws.{length-stts_for, length-ctts_for}
+use Rattle.mp4_mux.proofs.SizeTableLaws.{sizes-stsz_for}
+use Rattle.mp4_mux.proofs.OffsetTableLaws.{offsets_of-stco_for-co64_for}
+use Rattle.mp4_mux.proofs.ChunkTableLaws.{counts-stsc_for, length-stsc_for}
 use Rattle.mp4_mux.specs.TrackHeaders.{PlacedChunk, FinishedTrack, hdlr_for}
-use Rattle.mp4_mux.specs.TrackTables.{FillsChunks}
+use Rattle.mp4_mux.proofs.TrackTables.{FillsChunks}
 use Rattle.mp4_mux.specs.FinishedTrack.{counts_of, offsets_of, stbl_for, trak_with, trak_for}
 use Rattle.mp4_mux.specs.Chunks.{Chunk, chunk_bytes, samples_of, placed_from, of_track}
 use Rattle.mp4_mux.specs.Writing.{WriterState, info_of, whole_of}
-use Rattle.mp4_mux.specs.FineLaws.{counted}
+use Rattle.mp4_mux.proofs.FineLaws.{counted}
 use Rattle.mp4_mux.specs.Written.{Describes, HasFewestEntries, IsWrittenTrack}
-use Rattle.mp4_mux.specs.TileLaws.{table_places}
-use Rattle.mp4_mux.specs.DescribesLaws.{describes}
+use Rattle.mp4_mux.proofs.TileLaws.{table_places}
+use Rattle.mp4_mux.proofs.DescribesLaws.{describes}
 
 kind-hdlr_for : (kind : TrackType) → track_type_of (hdlr_for kind).handler_type ≡ Ok kind
 kind-hdlr_for Video = refl

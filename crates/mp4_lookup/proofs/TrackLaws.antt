@@ -11,7 +11,7 @@ use Rattle.mp4_samples.specs.Plain.{Consistent, plain_at}
 use Rattle.mp4_samples.specs.Samples.{read_in, plain_sample_at}
 use Rattle.mp4_lookup.specs.Tracks.{sample_at, is_of_movie, answer_at}
 use Rattle.mp4_samples.specs.Tables.{tables_of}
-use Rattle.mp4_lookup.specs.RuleLaws.{rule_is_plain}
+use Rattle.mp4_lookup.proofs.RuleLaws.{rule_is_plain}
 
 -- in a track that no fragment names, all numbers are the movie box's
 pub unfragmented_is_of_movie : (trak : TrakBox) (trafs : List TrafBox) (k : ℕ) → length trafs ≡ 0

@@ -8,7 +8,7 @@ use Rattle.mp4_leaf.specs.Language.{language_refusal}
 use Rattle.mp4_entry.specs.Config.{media_refusal, entry_length}
 use Rattle.mp4_mux.specs.declared.config.TrackConfig.{TrackConfig}
 use Rattle.mp4_mux.specs.Config.{config_cause}
-use Rattle.mp4_mux.specs.DescriptionLaws.{entry_length-small}
+use Rattle.mp4_mux.proofs.DescriptionLaws.{entry_length-small}
 
 -- neither its language nor its media are refused
 pub record IsAccepted (c : TrackConfig) : Type 0 where

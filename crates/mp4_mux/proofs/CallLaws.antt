@@ -9,12 +9,12 @@ use Rattle.mp4_codec.specs.Cause.{Cause, AnswersCause}
 use Rattle.mp4_samples.specs.Samples.{Sample}
 use Rattle.mp4_mux.specs.declared.config.TrackConfig.{TrackConfig}
 use Rattle.mp4_mux.specs.Chunks.{TrackState, Chunk, is_full, samples_of}
-use Rattle.mp4_mux.specs.ChunksLaws.{other_id}
+use Rattle.mp4_mux.proofs.ChunksLaws.{other_id}
 use Rattle.mp4_mux.specs.Writing.{WriterState, AcceptedTrack, no_track, track_at, accepted_of, accepted_from, accepted}
 use Rattle.mp4_mux.specs.Writing.{with_pending, with_chunk, with_sample, with_track, end_cause}
 use Rattle.mp4_mux.specs.Sound.{IsIdOf, IsKnownChunk, IsSound}
-use Rattle.mp4_mux.specs.StateLaws.{IsOneMore, one_more, sample_welcome, track_welcome, sound_track, sound_sample}
-use Rattle.mp4_mux.specs.EndedStates.{accepted-end, sound_end}
+use Rattle.mp4_mux.proofs.StateLaws.{IsOneMore, one_more, sample_welcome, track_welcome, sound_track, sound_sample}
+use Rattle.mp4_mux.proofs.EndedStates.{accepted-end, sound_end}
 use Rattle.mp4_mux.specs.Calls.{Call, add_track, write_sample, write_end, Reply, IsInRangeCall, step, call_cause}
 use Rattle.mp4_mux.specs.Calls.{after_reply, after, Answered, HasSameFront, none_accepted, accept, accepted_after}
 

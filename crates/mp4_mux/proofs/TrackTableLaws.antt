@@ -16,13 +16,13 @@ use Rattle.mp4_samples.specs.Plain.{Consistent, sample_places, member, plain}
 use Rattle.mp4_samples.specs.Tables.{chunk_offsets, offsets_of, sizes, ctts_runs, is_sync_at}
 use Rattle.mp4_mux.specs.declared.sample_info.SampleInfo.{SampleInfo}
 use Rattle.mp4_mux.specs.SampleTables.{ctts_for, stsz_for}
-use Rattle.mp4_mux.specs.SampleTableLaws.{durations-stts_for, Renders, ctts_for-renders}
-use Rattle.mp4_mux.specs.SyncTableLaws.{sync_numbers_rise, sync_numbers_within, is_sync_at-stss_for}
-use Rattle.mp4_mux.specs.SizeTableLaws.{sizes-stsz_for}
-use Rattle.mp4_mux.specs.ChunkTableLaws.{counts-stsc_for, first_chunk-stsc_for, stsc_for-rises, first_chunks_within}
-use Rattle.mp4_mux.specs.ChunkTableLaws.{samples_per_chunk-stsc_for}
-use Rattle.mp4_mux.specs.OffsetTableLaws.{offsets_of-stco_for-co64_for}
-use Rattle.mp4_mux.specs.TrackTables.{HasTables, FillsChunks, sample_at}
+use Rattle.mp4_mux.proofs.SampleTableLaws.{durations-stts_for, Renders, ctts_for-renders}
+use Rattle.mp4_mux.proofs.SyncTableLaws.{sync_numbers_rise, sync_numbers_within, is_sync_at-stss_for}
+use Rattle.mp4_mux.proofs.SizeTableLaws.{sizes-stsz_for}
+use Rattle.mp4_mux.proofs.ChunkTableLaws.{counts-stsc_for, first_chunk-stsc_for, stsc_for-rises, first_chunks_within}
+use Rattle.mp4_mux.proofs.ChunkTableLaws.{samples_per_chunk-stsc_for}
+use Rattle.mp4_mux.proofs.OffsetTableLaws.{offsets_of-stco_for-co64_for}
+use Rattle.mp4_mux.proofs.TrackTables.{HasTables, FillsChunks, sample_at}
 
 -- each piece has its sizes
 sizes-laid_from : (place : ℕ) (ms : List ℕ) → map (λ p. p.1) (laid_from place ms) ≡ ms

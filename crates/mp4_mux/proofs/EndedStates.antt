@@ -5,7 +5,7 @@ use Rattle.std.specs.List.{AllByRecursion}
 use Rattle.std.proofs.lemmas.List.{append-nil, length-map, get_or-map}
 use Rattle.mp4_samples.specs.Samples.{Sample}
 use Rattle.mp4_mux.specs.Chunks.{TrackState, Chunk, chunk_of, last_chunks, none_pending, samples_of}
-use Rattle.mp4_mux.specs.ChunksLaws.{samples_of-append, last_chunks-samples}
+use Rattle.mp4_mux.proofs.ChunksLaws.{samples_of-append, last_chunks-samples}
 use Rattle.mp4_mux.specs.Writing.{WriterState, AcceptedTrack, accepted, accepted_from, no_track, track_at, accepted_of}
 use Rattle.mp4_mux.specs.Writing.{with_end}
 use Rattle.mp4_mux.specs.Sound.{IsIdOf, IsKnownChunk, IsSound}

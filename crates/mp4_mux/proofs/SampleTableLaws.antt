@@ -11,7 +11,7 @@ use Rattle.mp4_table.specs.Runs.{durations, rendering_offsets, turns}
 use Rattle.mp4_mux.specs.declared.sample_info.SampleInfo.{SampleInfo}
 use Rattle.mp4_mux.specs.SampleTables.{runs_of, same_duration, stts_run, stts_for, same_offset, ctts_run, ctts_for}
 use Rattle.mp4_mux.specs.SampleTables.{are_in_order}
-use Rattle.mp4_mux.specs.RunTableLaws.{length-runs_of, turns-map, IsRun, expand-runs_of}
+use Rattle.mp4_mux.proofs.RunTableLaws.{length-runs_of, turns-map, IsRun, expand-runs_of}
 
 stts_runs : IsRun same_duration stts_run (λ r. r.sample_count) (λ r. r.sample_delta) (λ s. s.duration)
 stts_runs = record {

@@ -8,7 +8,7 @@ use Rattle.std.proofs.lemmas.List.Kept.{AllPairs-cons}
 use Rattle.std.specs.Prelude.{◌==◌}
 use Rattle.mp4_samples.specs.Samples.{Sample}
 use Rattle.mp4_mux.specs.Chunks.{TrackState, Chunk, chunk_of, last_chunks}
-use Rattle.mp4_mux.specs.ChunksLaws.{same_id, other_id}
+use Rattle.mp4_mux.proofs.ChunksLaws.{same_id, other_id}
 use Rattle.mp4_mux.specs.Writing.{WriterState, no_track, track_at}
 use Rattle.mp4_mux.specs.Layout.{chunks_of}
 

@@ -12,10 +12,10 @@ use Rattle.mp4_samples.specs.Plain.{member, plain, plain_at, within_file}
 use Rattle.mp4_samples.specs.Tables.{tables_of}
 use Rattle.mp4_mux.specs.Writing.{WriterState, AcceptedTrack, accepted, no_track, movie_of, whole_of, with_end}
 use Rattle.mp4_mux.specs.Sound.{IsSound}
-use Rattle.mp4_mux.specs.EndedStates.{accepted-end}
+use Rattle.mp4_mux.proofs.EndedStates.{accepted-end}
 use Rattle.mp4_mux.specs.Written.{Describes, Finds, IsWrittenTrack}
-use Rattle.mp4_mux.specs.DescribesLaws.{length-timed_from}
-use Rattle.mp4_mux.specs.WrittenLaws.{written_movie}
+use Rattle.mp4_mux.proofs.DescribesLaws.{length-timed_from}
+use Rattle.mp4_mux.proofs.WrittenLaws.{written_movie}
 
 -- A lookup in tables that describe these samples:
 module _ (file : List ℕ) (t : StblBox) (ss : List Sample) (h : Describes file t ss) where

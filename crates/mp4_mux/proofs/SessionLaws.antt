@@ -6,13 +6,13 @@ use Rattle.mp4_mux.specs.Chunks.{samples_of}
 use Rattle.mp4_mux.specs.Writing.{WriterState, AcceptedTrack, accepted_of, accepted_from, accepted}
 use Rattle.mp4_mux.specs.Writing.{with_end, started}
 use Rattle.mp4_mux.specs.Sound.{IsIdOf, IsSound}
-use Rattle.mp4_mux.specs.StateLaws.{sound_started}
-use Rattle.mp4_mux.specs.EndedStates.{end-count, end-none_pending}
+use Rattle.mp4_mux.proofs.StateLaws.{sound_started}
+use Rattle.mp4_mux.proofs.EndedStates.{end-count, end-none_pending}
 use Rattle.mp4_mux.specs.Calls.{HasSameFront, none_accepted, Session, IsAnswered, IsEnded, writer_of, accepted_by}
-use Rattle.mp4_mux.specs.CallLaws.{accepted-at, length-accepted, none_elsewhere, after_keeps, sound_after}
-use Rattle.mp4_mux.specs.CallLaws.{accepted_after-is}
+use Rattle.mp4_mux.proofs.CallLaws.{accepted-at, length-accepted, none_elsewhere, after_keeps, sound_after}
+use Rattle.mp4_mux.proofs.CallLaws.{accepted_after-is}
 use Rattle.mp4_mux.specs.Layout.{HasLayout}
-use Rattle.mp4_mux.specs.LayoutLaws.{laid_started, open_layout, layout_after}
+use Rattle.mp4_mux.proofs.LayoutLaws.{laid_started, open_layout, layout_after}
 
 module _ (session : Session) where
   -- what the movie was begun with stays

@@ -11,10 +11,10 @@ use Rattle.mp4_codec.specs.FramingLaws.{length-frame}
 use Rattle.mp4_boxes.specs.Trak.{trak_payload, trak_refusal, IsInRangeTrak, RemarksTrak}
 use Rattle.mp4_boxes.specs.Moov.{moov_payload, moov_refusal, IsInRangeMoov, RemarksMoov, IsCanonicalMoov}
 use Rattle.mp4_mux.specs.TrackHeaders.{FinishedTrack, track_duration, header_length}
-use Rattle.mp4_mux.specs.TrackHeaderLaws.{length-mvhd_for, mvhd_for-in_range, mvhd_for-sound}
+use Rattle.mp4_mux.proofs.TrackHeaderLaws.{length-mvhd_for, mvhd_for-in_range, mvhd_for-sound}
 use Rattle.mp4_mux.specs.FinishedTrack.{trak_for, longest, movie_for}
-use Rattle.mp4_mux.specs.FineTracks.{IsFineTrack}
-use Rattle.mp4_mux.specs.FineTrackLaws.{trak_for-in_range, trak_for-remarks, trak_for-sound}
+use Rattle.mp4_mux.proofs.FineTracks.{IsFineTrack}
+use Rattle.mp4_mux.proofs.FineTrackLaws.{trak_for-in_range, trak_for-remarks, trak_for-sound}
 
 -- the bytes of all tracks
 length-traks : (m : ℕ) (ts : List FinishedTrack) → length (all_frames trak trak_payload (map (trak_for m) ts))

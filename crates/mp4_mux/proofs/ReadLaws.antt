@@ -6,9 +6,9 @@ use Rattle.std.proofs.lemmas.List.{take_at, drop_at, map-append, length-append}
 use Rattle.mp4_table.specs.Chunks.{laid_from}
 use Rattle.mp4_samples.specs.Samples.{Sample}
 use Rattle.mp4_mux.specs.Chunks.{Chunk, sample_bytes, chunk_bytes, samples_of}
-use Rattle.mp4_mux.specs.EndedStates.{all-append}
+use Rattle.mp4_mux.proofs.EndedStates.{all-append}
 use Rattle.mp4_mux.specs.Written.{sizes_of, ranges_from, ranges_of}
-use Rattle.mp4_mux.specs.TileLaws.{ranges_of-append, ranges_of-owned, owned}
+use Rattle.mp4_mux.proofs.TileLaws.{ranges_of-append, ranges_of-owned, owned}
 
 -- the bytes of a range
 abbrev pub bytes_at : List ℕ → ℕ × ℕ → List ℕ

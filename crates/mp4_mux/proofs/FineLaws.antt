@@ -8,15 +8,15 @@ use Rattle.std.proofs.lemmas.List.Sums.{sum_by-cons}
 use Rattle.mp4_samples.specs.Samples.{Sample}
 use Rattle.mp4_mux.specs.SampleInfos.{IsInRangeSampleInfo}
 use Rattle.mp4_mux.specs.Mdat.{mdat_header_of}
-use Rattle.mp4_mux.specs.MdatLaws.{length-mdat_header_of}
+use Rattle.mp4_mux.proofs.MdatLaws.{length-mdat_header_of}
 use Rattle.mp4_mux.specs.Chunks.{TrackState, Chunk, sample_bytes, chunk_bytes, samples_of, placed_from, of_track}
 use Rattle.mp4_mux.specs.TrackHeaders.{PlacedChunk, FinishedTrack}
-use Rattle.mp4_mux.specs.FineTracks.{IsFineTrack}
+use Rattle.mp4_mux.proofs.FineTracks.{IsFineTrack}
 use Rattle.mp4_mux.specs.Writing.{WriterState, info_of, no_track, accepted_from, with_end}
 use Rattle.mp4_mux.specs.Writing.{before_data, data_of, data_place, finished_from, finished_tracks, movie_bytes}
 use Rattle.mp4_mux.specs.Writing.{whole_of}
 use Rattle.mp4_mux.specs.Sound.{IsFine, IsKnownChunk, IsSound}
-use Rattle.mp4_mux.specs.EndedStates.{end-count, end-none_pending, sound_end}
+use Rattle.mp4_mux.proofs.EndedStates.{end-count, end-none_pending, sound_end}
 
 -- the chunks of a track have all of its samples
 pub counted : (id place : ℕ) (cs : List Chunk)

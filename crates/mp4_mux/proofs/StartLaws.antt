@@ -12,7 +12,7 @@ use Rattle.mp4_boxes.specs.Moov.{moov_payload}
 use Rattle.mp4_mux.specs.declared.config.Mp4Config.{Mp4Config}
 use Rattle.mp4_mux.specs.Config.{IsInRangeConfig}
 use Rattle.mp4_mux.specs.FinishedTrack.{movie_for}
-use Rattle.mp4_mux.specs.MovieLaws.{length-movie_for}
+use Rattle.mp4_mux.proofs.MovieLaws.{length-movie_for}
 use Rattle.mp4_mux.specs.Chunks.{last_chunks}
 use Rattle.mp4_mux.specs.Writing.{file_type_of, started, start_cause, end_cause, accepted_from, finished_from}
 

@@ -14,8 +14,8 @@ use Rattle.mp4_mux.specs.declared.chunk_place.ChunkPlace.{ChunkPlace}
 use Rattle.mp4_mux.specs.ChunkLists.{sample_counts, offsets}
 use Rattle.mp4_mux.specs.TrackHeaders.{FinishedTrack, header_length}
 use Rattle.mp4_mux.specs.TrackHeaders.{placed_of, media_header_length}
-use Rattle.mp4_mux.specs.TrackHeaderLaws.{length-tkhd_for, length-mdhd_for, length-hdlr_for, length-media_header}
-use Rattle.mp4_mux.specs.DescriptionLaws.{length-stsd_for}
+use Rattle.mp4_mux.proofs.TrackHeaderLaws.{length-tkhd_for, length-mdhd_for, length-hdlr_for, length-media_header}
+use Rattle.mp4_mux.proofs.DescriptionLaws.{length-stsd_for}
 use Rattle.mp4_mux.specs.FinishedTrack.{counts_of, offsets_of, stbl_for, minf_for, mdia_for, trak_with}
 use Rattle.mp4_mux.specs.FinishedTrack.{sample_tables_length, chunk_tables_length, trak_length}
 

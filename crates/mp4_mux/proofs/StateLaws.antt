@@ -22,7 +22,7 @@ use Rattle.mp4_mux.specs.declared.sample_info.SampleInfo.{SampleInfo}
 use Rattle.mp4_mux.specs.Config.{config_cause, IsInRangeTrackConfig}
 use Rattle.mp4_mux.specs.TrackHeaders.{movie_duration}
 use Rattle.mp4_mux.specs.Chunks.{TrackState, Chunk, is_full, samples_of}
-use Rattle.mp4_mux.specs.ChunksLaws.{samples_of-append, samples_of-one, samples_of-other, other_id}
+use Rattle.mp4_mux.proofs.ChunksLaws.{samples_of-append, samples_of-one, samples_of-other, other_id}
 use Rattle.mp4_mux.specs.Writing.{WriterState, info_of, no_track, track_at, accepted_of, with_pending, with_chunk, with_sample}
 use Rattle.mp4_mux.specs.Writing.{with_track, started, sample_cause, track_cause, duration_with}
 use Rattle.mp4_mux.specs.Sound.{IsIdOf, IsFine, IsKnownChunk, IsSound}

@@ -23,8 +23,8 @@ use Rattle.mp4_mux.specs.declared.sample_info.SampleInfo.{SampleInfo}
 use Rattle.mp4_mux.specs.SampleTables.{runs_from, runs_of, same_duration, stts_run, same_offset, ctts_run, are_in_order}
 use Rattle.mp4_mux.specs.SampleTables.{sync_numbers_from, one_size, listed_sizes, chunk_entries_from, are_far, stts_for}
 use Rattle.mp4_mux.specs.SampleTables.{ctts_for, stss_for, stsz_for, stsc_for, stco_for, co64_for}
-use Rattle.mp4_mux.specs.SyncTableLaws.{sync_numbers_within}
-use Rattle.mp4_mux.specs.ChunkTableLaws.{stsc_for-has_first_samples}
+use Rattle.mp4_mux.proofs.SyncTableLaws.{sync_numbers_within}
+use Rattle.mp4_mux.proofs.ChunkTableLaws.{stsc_for-has_first_samples}
 
 -- what holds of a run of at most `most` members of which Q holds, holds of all runs
 module _ {X R : Type 0} (same : X → X → Bool) (run : ℕ → X → R) (P : R → Type 0) (Q : X → Type 0) (most : ℕ)

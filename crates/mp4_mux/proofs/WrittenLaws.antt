@@ -9,7 +9,7 @@ use Rattle.mp4_boxes.specs.declared.trak.TrakBox.{TrakBox}
 use Rattle.mp4_samples.specs.Plain.{sample_places}
 use Rattle.mp4_samples.specs.Tables.{tables_of}
 use Rattle.mp4_mux.specs.Mdat.{mdat_header_of}
-use Rattle.mp4_mux.specs.MdatLaws.{length-mdat_header_of}
+use Rattle.mp4_mux.proofs.MdatLaws.{length-mdat_header_of}
 use Rattle.mp4_mux.specs.TrackHeaders.{PlacedChunk, FinishedTrack}
 use Rattle.mp4_mux.specs.FinishedTrack.{stbl_for, trak_with, trak_for, movie_for}
 use Rattle.mp4_mux.specs.Chunks.{TrackState, Chunk, sample_bytes, chunk_bytes, samples_of, placed_from, of_track}
@@ -17,12 +17,12 @@ use Rattle.mp4_mux.specs.Writing.{WriterState, AcceptedTrack, info_of, no_track,
 use Rattle.mp4_mux.specs.Writing.{before_data, data_of, data_place, finished_from, finished_tracks, movie_bytes}
 use Rattle.mp4_mux.specs.Writing.{movie_of, whole_of}
 use Rattle.mp4_mux.specs.Sound.{IsKnownChunk, IsSound}
-use Rattle.mp4_mux.specs.EndedStates.{all-append, end-count, end-none_pending, sound_end}
-use Rattle.mp4_mux.specs.FineLaws.{within_data}
+use Rattle.mp4_mux.proofs.EndedStates.{all-append, end-count, end-none_pending, sound_end}
+use Rattle.mp4_mux.proofs.FineLaws.{within_data}
 use Rattle.mp4_mux.specs.Written.{IsWrittenTrack, IsWrittenMovie, Tiles, sizes_of, all_samples, SampleRange}
 use Rattle.mp4_mux.specs.Written.{ranges_from, ranges, ranges_of}
-use Rattle.mp4_mux.specs.TileLaws.{sum-sizes_of, all_samples-bytes, ranges_from-in_order, ranges_of-table, owned}
-use Rattle.mp4_mux.specs.WrittenTrackLaws.{track, leads, is_written}
+use Rattle.mp4_mux.proofs.TileLaws.{sum-sizes_of, all_samples-bytes, ranges_from-in_order, ranges_of-table, owned}
+use Rattle.mp4_mux.proofs.WrittenTrackLaws.{track, leads, is_written}
 
 -- the box of each track
 module _ (m : ℕ) (cs : List Chunk) (placed : List PlacedChunk) where

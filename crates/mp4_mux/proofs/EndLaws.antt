@@ -16,23 +16,23 @@ use Rattle.mp4_mux.specs.Writing.{end_cause, data_of, data_place}
 use Rattle.mp4_mux.specs.declared.sample_info.SampleInfo.{SampleInfo}
 use Rattle.mp4_mux.specs.declared.chunk_place.ChunkRef.{ChunkRef}
 use Rattle.mp4_mux.specs.Mdat.{mdat_header_of}
-use Rattle.mp4_mux.specs.MdatLaws.{length-mdat_header_of}
+use Rattle.mp4_mux.proofs.MdatLaws.{length-mdat_header_of}
 use Rattle.mp4_samples.specs.Samples.{Sample}
 use Rattle.mp4_mux.specs.TrackHeaders.{PlacedChunk, FinishedTrack, placed_of}
 use Rattle.mp4_mux.specs.Writing.{movie_bytes}
 use Rattle.mp4_mux.specs.Chunks.{TrackState, Chunk, sample_bytes, chunk_bytes, chunk_of, last_chunks, none_pending}
 use Rattle.mp4_mux.specs.Chunks.{samples_of, placed_from, of_track}
-use Rattle.mp4_mux.specs.ChunksLaws.{chunk_bytes-append, samples_of-append, of_track-append, placed_from-append}
-use Rattle.mp4_mux.specs.ChunksLaws.{pending_bytes, last_chunks-bytes, last_chunks-samples, last_chunks-placed}
+use Rattle.mp4_mux.proofs.ChunksLaws.{chunk_bytes-append, samples_of-append, of_track-append, placed_from-append}
+use Rattle.mp4_mux.proofs.ChunksLaws.{pending_bytes, last_chunks-bytes, last_chunks-samples, last_chunks-placed}
 use Rattle.mp4_mux.specs.Writing.{WriterState, info_of, no_track, track_at, accepted_of, accepted_from, before_data}
 use Rattle.mp4_mux.specs.Writing.{finished_from, finished_tracks, whole_of, with_end}
 use Rattle.mp4_mux.specs.Building.{Building, pending_place, samples_in}
 use Rattle.mp4_mux.specs.Media.{building_at, no_building, place_in, infos_in, chunk_in, track_of}
-use Rattle.mp4_mux.specs.MediaLaws.{samples_in-more}
+use Rattle.mp4_mux.proofs.MediaLaws.{samples_in-more}
 use Rattle.mp4_mux.specs.Sound.{IsSound}
 use Rattle.mp4_mux.specs.Parts.{Parts, open_state, state_of, IsChunkAt, IsWriting, unwritten, last_place, finished_buildings}
 use Rattle.mp4_mux.specs.Parts.{movie_at_end, parts_at_end}
-use Rattle.mp4_mux.specs.PartsLaws.{whole_now, length_now}
+use Rattle.mp4_mux.proofs.PartsLaws.{whole_now, length_now}
 
 -- what is pending of the tracks, as they are kept and as they are held
 unwritten-is : (bs : List Building) → unwritten bs ≡ pending_bytes (map track_of bs)

@@ -14,15 +14,15 @@ use Rattle.mp4_samples.specs.Samples.{Sample}
 use Rattle.mp4_mux.specs.declared.config.Mp4Config.{Mp4Config}
 use Rattle.mp4_mux.specs.declared.config.TrackConfig.{TrackConfig}
 use Rattle.mp4_mux.specs.Chunks.{TrackState, Chunk, sample_bytes, is_full}
-use Rattle.mp4_mux.specs.SampleLaws.{all-push}
+use Rattle.mp4_mux.proofs.SampleLaws.{all-push}
 use Rattle.mp4_mux.specs.Writing.{WriterState, no_track, track_at}
 use Rattle.mp4_mux.specs.Writing.{with_pending, with_chunk, with_sample, with_track, started}
 use Rattle.mp4_mux.specs.Sound.{IsIdOf, IsKnownChunk, IsSound}
-use Rattle.mp4_mux.specs.StateLaws.{pending-track, pending-other, pending-configs, pending-count, one_more}
-use Rattle.mp4_mux.specs.StateLaws.{sample_welcome}
+use Rattle.mp4_mux.proofs.StateLaws.{pending-track, pending-other, pending-configs, pending-count, one_more}
+use Rattle.mp4_mux.proofs.StateLaws.{sample_welcome}
 use Rattle.mp4_mux.specs.Calls.{Call, add_track, write_sample, write_end, Reply, IsInRangeCall, step, call_cause}
 use Rattle.mp4_mux.specs.Calls.{after, Answered}
-use Rattle.mp4_mux.specs.CallLaws.{sound_step, step_goes_on, answered_ok}
+use Rattle.mp4_mux.proofs.CallLaws.{sound_step, step_goes_on, answered_ok}
 use Rattle.mp4_mux.specs.Layout.{IsJustFull, IsJustFullChunk, IsWaiting, IsLaidOut, HasLayout}
 
 -- Samples that are just full.

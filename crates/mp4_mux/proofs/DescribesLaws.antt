@@ -16,12 +16,12 @@ use Rattle.mp4_mux.specs.declared.sample_info.SampleInfo.{SampleInfo}
 use Rattle.mp4_mux.specs.Chunks.{Chunk, chunk_bytes, samples_of, placed_from, of_track}
 use Rattle.mp4_mux.specs.FinishedTrack.{counts_of, offsets_of}
 use Rattle.mp4_mux.specs.TrackHeaders.{PlacedChunk}
-use Rattle.mp4_mux.specs.TrackTables.{HasTables, FillsChunks, sample_at}
-use Rattle.mp4_mux.specs.TrackTableLaws.{Consistent-tables, plain-tables, get_or-sizes-places}
+use Rattle.mp4_mux.proofs.TrackTables.{HasTables, FillsChunks, sample_at}
+use Rattle.mp4_mux.proofs.TrackTableLaws.{Consistent-tables, plain-tables, get_or-sizes-places}
 use Rattle.mp4_mux.specs.Writing.{info_of}
 use Rattle.mp4_mux.specs.Written.{Describes, sizes_of}
-use Rattle.mp4_mux.specs.TileLaws.{table_places, ranges_of-table}
-use Rattle.mp4_mux.specs.ReadLaws.{bytes_at, read_ranges, ranges-within}
+use Rattle.mp4_mux.proofs.TileLaws.{table_places, ranges_of-table}
+use Rattle.mp4_mux.proofs.ReadLaws.{bytes_at, read_ranges, ranges-within}
 
 pub length-timed_from : (time : ℕ) (ss : List Sample) → length (timed_from time ss) ≡ length ss
 unfolding timed_from

@@ -11,21 +11,21 @@ use Rattle.mp4_boxes.specs.Minf.{minf_refusal, IsInRangeMinf, RemarksMinf}
 use Rattle.mp4_boxes.specs.Stbl.{stbl_refusal, IsInRangeStbl, RemarksStbl}
 use Rattle.mp4_mux.specs.SampleInfos.{IsInRangeSampleInfo}
 use Rattle.mp4_mux.specs.declared.sample_info.SampleInfo.{SampleInfo}
-use Rattle.mp4_mux.specs.ConfigLaws.{is_accepted}
-use Rattle.mp4_mux.specs.SizeTableLaws.{stsz_for-is_not_refused}
-use Rattle.mp4_mux.specs.TableRangeLaws.{IsInRangeStts-stts_for, IsInRangeCtts-ctts_for}
-use Rattle.mp4_mux.specs.TableRangeLaws.{IsInRangeStss-stss_for, IsInRangeStsz-stsz_for, IsInRangeStsc-stsc_for}
-use Rattle.mp4_mux.specs.TableRangeLaws.{IsInRangeStco-stco_for, IsInRangeCo64-co64_for, RemarksStts-stts_for}
-use Rattle.mp4_mux.specs.TableRangeLaws.{RemarksCtts-ctts_for, RemarksStss-stss_for, RemarksStsz-stsz_for}
-use Rattle.mp4_mux.specs.TableRangeLaws.{RemarksStsc-stsc_for, RemarksStco-stco_for, RemarksCo64-co64_for}
-use Rattle.mp4_mux.specs.TableRangeLaws.{HasPlaces-stco_for-co64_for}
+use Rattle.mp4_mux.proofs.ConfigLaws.{is_accepted}
+use Rattle.mp4_mux.proofs.SizeTableLaws.{stsz_for-is_not_refused}
+use Rattle.mp4_mux.proofs.TableRangeLaws.{IsInRangeStts-stts_for, IsInRangeCtts-ctts_for}
+use Rattle.mp4_mux.proofs.TableRangeLaws.{IsInRangeStss-stss_for, IsInRangeStsz-stsz_for, IsInRangeStsc-stsc_for}
+use Rattle.mp4_mux.proofs.TableRangeLaws.{IsInRangeStco-stco_for, IsInRangeCo64-co64_for, RemarksStts-stts_for}
+use Rattle.mp4_mux.proofs.TableRangeLaws.{RemarksCtts-ctts_for, RemarksStss-stss_for, RemarksStsz-stsz_for}
+use Rattle.mp4_mux.proofs.TableRangeLaws.{RemarksStsc-stsc_for, RemarksStco-stco_for, RemarksCo64-co64_for}
+use Rattle.mp4_mux.proofs.TableRangeLaws.{HasPlaces-stco_for-co64_for}
 use Rattle.mp4_mux.specs.TrackHeaders.{FinishedTrack, PlacedChunk, media_duration}
-use Rattle.mp4_mux.specs.TrackHeaderLaws.{tkhd_for-in_range, tkhd_for-sound, mdhd_for-in_range, mdhd_for-sound}
-use Rattle.mp4_mux.specs.TrackHeaderLaws.{hdlr_for-in_range, hdlr_for-remarks, vmhd_for-in_range, vmhd_for-remarks}
-use Rattle.mp4_mux.specs.TrackHeaderLaws.{smhd_for-in_range, smhd_for-remarks}
-use Rattle.mp4_mux.specs.DescriptionLaws.{stsd_for-in_range, stsd_for-remarks, stsd_for-sound}
+use Rattle.mp4_mux.proofs.TrackHeaderLaws.{tkhd_for-in_range, tkhd_for-sound, mdhd_for-in_range, mdhd_for-sound}
+use Rattle.mp4_mux.proofs.TrackHeaderLaws.{hdlr_for-in_range, hdlr_for-remarks, vmhd_for-in_range, vmhd_for-remarks}
+use Rattle.mp4_mux.proofs.TrackHeaderLaws.{smhd_for-in_range, smhd_for-remarks}
+use Rattle.mp4_mux.proofs.DescriptionLaws.{stsd_for-in_range, stsd_for-remarks, stsd_for-sound}
 use Rattle.mp4_mux.specs.FinishedTrack.{counts_of, offsets_of, stbl_for, minf_for, mdia_for, trak_with, trak_for}
-use Rattle.mp4_mux.specs.FineTracks.{IsFineTrack}
+use Rattle.mp4_mux.proofs.FineTracks.{IsFineTrack}
 
 -- samples of 32 bits each, and fewer than 2^32, last for less than 2^64 ticks
 pub media_duration-small : (ss : List SampleInfo) → All IsInRangeSampleInfo ss → length ss < 2 ^ 32

@@ -17,22 +17,22 @@ use Rattle.mp4_mux.specs.declared.chunk_place.ChunkPlace.{ChunkPlace}
 use Rattle.mp4_mux.specs.declared.chunk_place.ChunkRef.{ChunkRef}
 use Rattle.mp4_mux.specs.Config.{IsInRangeConfig, IsInRangeTrackConfig}
 use Rattle.mp4_mux.specs.Mdat.{mdat_header_of}
-use Rattle.mp4_mux.specs.MdatLaws.{length-mdat_header_of}
+use Rattle.mp4_mux.proofs.MdatLaws.{length-mdat_header_of}
 use Rattle.mp4_samples.specs.Samples.{Sample}
 use Rattle.mp4_mux.specs.TrackHeaders.{placed_of}
 use Rattle.mp4_mux.specs.Chunks.{TrackState, Chunk, sample_bytes, chunk_bytes, samples_of, placed_from, of_track}
-use Rattle.mp4_mux.specs.ChunksLaws.{other_id}
+use Rattle.mp4_mux.proofs.ChunksLaws.{other_id}
 use Rattle.mp4_mux.specs.Writing.{WriterState, file_type_of, with_file_type, before_data, whole_of, started, with_track}
 use Rattle.mp4_mux.specs.Writing.{with_pending, with_chunk, with_end, start_cause, track_cause}
 use Rattle.mp4_mux.specs.Writing.{info_of, no_track, track_at, accepted_of}
 use Rattle.mp4_mux.specs.Building.{Building, new_building, pushed, closed, pending_place, samples_in}
-use Rattle.mp4_mux.specs.SampleLaws.{samples_again}
+use Rattle.mp4_mux.proofs.SampleLaws.{samples_again}
 use Rattle.mp4_mux.specs.Media.{building_at, no_building, no_place, place_in, infos_in, chunk_in, track_of}
 use Rattle.mp4_mux.specs.Media.{media_with_chunk}
-use Rattle.mp4_mux.specs.MediaLaws.{HaveGrown, grown-push, grown-set, chunks-stay, are_chunks-stay}
+use Rattle.mp4_mux.proofs.MediaLaws.{HaveGrown, grown-push, grown-set, chunks-stay, are_chunks-stay}
 use Rattle.mp4_mux.specs.Sound.{IsIdOf, IsSound, IsKnownChunk}
-use Rattle.mp4_mux.specs.StateLaws.{sound_started, sound_track}
-use Rattle.mp4_mux.specs.StateLaws.{accepted-stays, accepted-new}
+use Rattle.mp4_mux.proofs.StateLaws.{sound_started, sound_track}
+use Rattle.mp4_mux.proofs.StateLaws.{accepted-stays, accepted-new}
 use Rattle.mp4_mux.specs.Parts.{Parts, open_state, state_of, IsChunkAt, IsWriting, bytes_at_start, parts_at_start}
 use Rattle.std.proofs.Common.{Bool, true, false, length-set, get_or-set_other, ◌*◌, ◌/◌}
 use Rattle.std.proofs.lemmas.Bool.{cases_eq, ne_eqb, le-ltb}
@@ -42,13 +42,13 @@ use Rattle.mp4_mux.specs.Building.{room_cause}
 use Rattle.std.specs.List.{sum_by}
 use Rattle.mp4_mux.specs.TrackHeaders.{PlacedChunk, movie_duration}
 use Rattle.mp4_mux.specs.Chunks.{is_full}
-use Rattle.mp4_mux.specs.ChunksLaws.{chunk_bytes-append, chunk_bytes-one, of_track-append, of_track-one, of_track-other}
-use Rattle.mp4_mux.specs.ChunksLaws.{placed_from-append}
+use Rattle.mp4_mux.proofs.ChunksLaws.{chunk_bytes-append, chunk_bytes-one, of_track-append, of_track-one, of_track-other}
+use Rattle.mp4_mux.proofs.ChunksLaws.{placed_from-append}
 use Rattle.mp4_mux.specs.Writing.{with_sample, duration_with}
 use Rattle.mp4_mux.specs.Building.{ticks}
 use Rattle.mp4_mux.specs.Media.{media_with}
-use Rattle.mp4_mux.specs.SampleLaws.{sizes-infos, all-push}
-use Rattle.mp4_mux.specs.StateLaws.{IsOneMore, one_pending, one_chunk}
+use Rattle.mp4_mux.proofs.SampleLaws.{sizes-infos, all-push}
+use Rattle.mp4_mux.proofs.StateLaws.{IsOneMore, one_pending, one_chunk}
 
 -- The beginning.
 

@@ -4,17 +4,17 @@ use Rattle.std.proofs.Common.{refl, sym, ap, subst, ◌∙◌, true≢false}
 use Rattle.std.specs.List.{AllByRecursion}
 use Rattle.mp4_mux.specs.Writing.{WriterState, accepted, started, with_end}
 use Rattle.mp4_mux.specs.Sound.{IsSound}
-use Rattle.mp4_mux.specs.StateLaws.{sound_started, sample_welcome, one_more}
-use Rattle.mp4_mux.specs.EndedStates.{accepted-end}
+use Rattle.mp4_mux.proofs.StateLaws.{sound_started, sample_welcome, one_more}
+use Rattle.mp4_mux.proofs.EndedStates.{accepted-end}
 use Rattle.mp4_mux.specs.Calls.{Call, Reply, step, call_cause, after_reply, after, Answered, has_end, IsInRangeCall}
 use Rattle.mp4_mux.specs.Calls.{Session, IsEnded}
 use Rattle.mp4_mux.specs.Calls.{writer_of, accepted_by}
 use Rattle.mp4_mux.specs.Calls.Call.{add_track, write_sample, write_end}
-use Rattle.mp4_mux.specs.CallLaws.{step_goes_on, answered_ok, sound_step}
-use Rattle.mp4_mux.specs.SessionLaws.{sessions_agree}
+use Rattle.mp4_mux.proofs.CallLaws.{step_goes_on, answered_ok, sound_step}
+use Rattle.mp4_mux.proofs.SessionLaws.{sessions_agree}
 use Rattle.mp4_mux.specs.Written.{IsWrittenMovie, HaveSameSamples}
-use Rattle.mp4_mux.specs.WrittenLaws.{written_movie}
-use Rattle.mp4_mux.specs.ReadBackLaws.{same_samples}
+use Rattle.mp4_mux.proofs.WrittenLaws.{written_movie}
+use Rattle.mp4_mux.proofs.ReadBackLaws.{same_samples}
 
 -- this is the end of a sound writer
 record IsEndOfSound (st : WriterState) : Type 0 where

@@ -5,12 +5,12 @@ use Rattle.mp4_codec.specs.Boxes.{write_cause, size_cause}
 use Rattle.mp4_boxes.specs.Moov.{moov_payload, moov_refusal, IsCanonicalMoov}
 use Rattle.mp4_mux.specs.TrackHeaders.{FinishedTrack}
 use Rattle.mp4_mux.specs.FinishedTrack.{movie_for}
-use Rattle.mp4_mux.specs.FineTracks.{IsFineTrack}
-use Rattle.mp4_mux.specs.MovieLaws.{movie_for-written, movie_for-canonical}
+use Rattle.mp4_mux.proofs.FineTracks.{IsFineTrack}
+use Rattle.mp4_mux.proofs.MovieLaws.{movie_for-written, movie_for-canonical}
 use Rattle.mp4_mux.specs.Writing.{movie_of, with_end, end_cause, finished_tracks, data_place, data_of}
-use Rattle.mp4_mux.specs.FineLaws.{fine_tracks}
+use Rattle.mp4_mux.proofs.FineLaws.{fine_tracks}
 use Rattle.mp4_mux.specs.Parts.{Parts, open_state, IsWriting, finished_buildings}
-use Rattle.mp4_mux.specs.EndLaws.{finished-same, end_cause-kept}
+use Rattle.mp4_mux.proofs.EndLaws.{finished-same, end_cause-kept}
 
 module _ (p : Parts) (h : IsWriting p) (goes_on : p.ended ≡ false)
     (within : data_place (open_state p) + length (data_of (with_end (open_state p))) < 2 ^ 64)
