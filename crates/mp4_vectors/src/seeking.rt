@@ -12,30 +12,48 @@ fn track_of<'m>(movie: &'m Mp4Reader, id: u32) -> Result<&'m Mp4Track> {
     movie.tracks().get(&id).ok_or(Error::TrakNotFound(id))
 }
 
-/// Whether no sample behind a number, up to another one, passes a test, as far as they are located.
-fn is_last<F: Fn(&Place) -> bool>(
-    track: &Mp4Track,
-    number: Option<u32>,
-    end: u32,
-    passes: F,
-) -> bool {
+/// What is sought of a sample.
+#[derive(Clone, Copy)]
+enum Sought {
+    DecodedBy(u64),
+    Sync,
+}
+
+impl Sought {
+    /// Whether a sample has it.
+    fn is_had_by(self, place: &Place) -> bool {
+        match self {
+            Sought::DecodedBy(time) => place.start_time <= time,
+            Sought::Sync => place.is_sync,
+        }
+    }
+}
+
+/// Whether no sample behind a number, up to another one, has what is sought, as far as they are located.
+fn is_last(track: &Mp4Track, number: Option<u32>, end: u32, sought: Sought) -> bool {
     let passed = number.unwrap_or(0);
     let Some(next) = passed.checked_add(1) else {
         return true;
     };
-    let later = end.saturating_sub(passed).min(MOST_LATER);
-    track
-        .samples_from(next)
-        .take(later as usize)
-        .filter(|place| matches!(place, Ok(place) if passes(place)))
-        .count()
-        == 0
+    let mut samples = track.samples_from(next);
+    for _ in 0..end.saturating_sub(passed).min(MOST_LATER) {
+        if let Some(Ok(place)) = samples.next() {
+            if sought.is_had_by(&place) {
+                return false;
+            }
+        }
+    }
+    true
 }
 
-/// Whether the sample that was found passes a test, if it is located.
-fn is_one<F: Fn(&Place) -> bool>(track: &Mp4Track, number: Option<u32>, passes: F) -> bool {
-    match number.map(|number| track.samples_from(number).next()) {
-        Some(Some(Ok(place))) => passes(&place),
+/// Whether the sample that was found has what is sought, if it is located.
+fn is_one(track: &Mp4Track, number: Option<u32>, sought: Sought) -> bool {
+    let Some(number) = number else {
+        return true;
+    };
+    let mut samples = track.samples_from(number);
+    match samples.next() {
+        Some(Ok(place)) => sought.is_had_by(&place),
         _ => true,
     }
 }
@@ -65,8 +83,8 @@ fn found(
 pub fn sample_at(alloc: Global, movie: &Mp4Reader, id: u32, time: u64) -> Result<String> {
     let track = track_of(movie, id)?;
     let number = track.sample_at(time);
-    let is_early = |place: &Place| place.start_time <= time;
-    let is_right = is_one(track, number, is_early) && is_last(track, number, u32::MAX, is_early);
+    let sought = Sought::DecodedBy(time);
+    let is_right = is_one(track, number, sought) && is_last(track, number, u32::MAX, sought);
     found(alloc, number, track.find_sample_at(time), is_right)
 }
 
@@ -74,8 +92,7 @@ pub fn sample_at(alloc: Global, movie: &Mp4Reader, id: u32, time: u64) -> Result
 pub fn sync_sample(alloc: Global, movie: &Mp4Reader, id: u32, k: u32) -> Result<String> {
     let track = track_of(movie, id)?;
     let number = track.sync_sample_at_or_before(k);
-    let is_sync = |place: &Place| place.is_sync;
-    let is_right = is_one(track, number, is_sync) && is_last(track, number, k, is_sync);
+    let is_right = is_one(track, number, Sought::Sync) && is_last(track, number, k, Sought::Sync);
     found(
         alloc,
         number,
