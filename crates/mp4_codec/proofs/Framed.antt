@@ -18,7 +18,7 @@ use Rattle.mp4_codec.specs.Framing.{IsBytes, long_frame, IsSpellable, IsFrame, s
 use Rattle.mp4_codec.specs.Framing.{EndsChildren, closed, broken, IsFirst, AreChildren}
 use Rattle.mp4_codec.specs.FramingLaws.{spelled, off, opened, enlarged, head_with-small, short_head, long_head}
 use Rattle.mp4_codec.specs.FramingLaws.{short_regrouped, long_regrouped, length-box, child_at-box}
-use Rattle.mp4_codec.specs.BoxTypeLaws.{code_of-box_type, is_named}
+use Rattle.mp4_codec.proofs.BoxTypeLaws.{code_of-box_type, is_named}
 
 -- the bytes of a slice are bytes
 pub bytes_of : (bytes : List ℕ) → ((k : ℕ) → get_or bytes k 0 < 256) → IsBytes bytes

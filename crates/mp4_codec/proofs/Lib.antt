@@ -3,3 +3,8 @@ pub mod Frames
 pub mod Keyed
 pub mod Numbers
 pub mod EarlyGathering
+pub mod BoxTypeLaws
+pub mod EarlyLaws
+pub mod GatherLoop
+pub mod HeadLaws
+pub mod ListLoop

@@ -1,5 +1,4 @@
 pub mod BoxType
-pub mod BoxTypeLaws
 pub mod Cause
 pub mod Steps
 pub mod Bytes
@@ -11,15 +10,11 @@ pub mod PutLaws
 pub mod WriteLaws
 pub mod Children
 pub mod Early
-pub mod EarlyLaws
 pub mod ChildrenLaws
 pub mod GatherLaws
-pub mod GatherLoop
 pub mod Framing
 pub mod FramingLaws
-pub mod HeadLaws
 pub mod ListLaws
-pub mod ListLoop
 pub mod WrittenChildren
 pub mod WrittenParts
 pub mod SharedItems

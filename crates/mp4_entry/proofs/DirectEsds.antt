@@ -5,7 +5,7 @@ use Rattle.mp4_codec.specs.declared.error.Error.{Error}
 use Rattle.mp4_codec.specs.Cause.{Cause, Answers, Gives, fault_of}
 use Rattle.mp4_codec.specs.Children.{ChildBox, is_of, children, fault_in, last_of}
 use Rattle.mp4_codec.specs.Early.{Early, succeeds, Shows, at_once, unless_refused, early_last, early_gathered}
-use Rattle.mp4_codec.specs.EarlyLaws.{gathered-at_once, shown-gives}
+use Rattle.mp4_codec.proofs.EarlyLaws.{gathered-at_once, shown-gives}
 use Rattle.mp4_entry.specs.declared.esds.EsdsBox.{EsdsBox}
 use Rattle.mp4_entry.specs.Esds.{esds_of}
 use Rattle.mp4_entry.specs.Mp4a.{direct_esds}

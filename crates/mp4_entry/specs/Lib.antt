@@ -33,4 +33,3 @@ pub mod Tx3gLaws
 pub mod Config
 pub mod Stsd
 pub mod StsdLaws
-pub mod ConfigLaws

@@ -11,7 +11,7 @@ use Rattle.mp4_fragments.specs.Cursor.{IsIn, IsInRuns}
 use Rattle.mp4_fragments.specs.declared.cursor.RunCursor.{RunCursor}
 use Rattle.mp4_fragments.specs.declared.members.Member.{Member}
 use Rattle.mp4_search.specs.Search.{IsLastAtMost}
-use Rattle.mp4_search.specs.SumLaws.{before_found, past_found}
+use Rattle.mp4_search.proofs.SumLaws.{before_found, past_found}
 use Rattle.mp4_fragments.specs.Index.{Find, Indexes, placed_at}
 use Rattle.mp4_fragments.specs.declared.index.RunEntry.{RunEntry}
 use Rattle.mp4_fragments.specs.declared.index.RunIndex.{RunIndex}

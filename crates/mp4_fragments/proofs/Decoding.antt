@@ -12,7 +12,7 @@ use Rattle.std.proofs.lemmas.Option.{same_Some, slice_get-get_or, slice_get_past
 use Rattle.std.proofs.lemmas.Int.Digits.{length-digits_of-le}
 use Rattle.mp4_search.specs.Digits.{digits}
 use Rattle.mp4_search.specs.Partition.{ArePartedAt, IsLastWith, IsParted}
-use Rattle.mp4_search.specs.SumLaws.{sums_rise}
+use Rattle.mp4_search.proofs.SumLaws.{sums_rise}
 use Rattle.mp4_fragments.specs.Numbers.{plus, sum_of_first}
 use Rattle.mp4_fragments.specs.Members.{PlacedRun, all_members, at_member, member_of, run_count}
 use Rattle.mp4_fragments.specs.ByTime.{AreEarliest, AreKept, begin_of, decoded_by}

@@ -17,7 +17,7 @@ use Rattle.mp4_fragments.specs.Index.{Find, placed_at, member_in, IsRight, Index
 use Rattle.mp4_fragments.specs.declared.index.RunIndex.{RunIndex}
 use Rattle.mp4_fragments.specs.declared.index.RunEntry.{RunEntry}
 use Rattle.mp4_fragments.specs.declared.members.Member.{Member}
-use Rattle.mp4_search.specs.SumLaws.{before_found, past_found, none_found}
+use Rattle.mp4_search.proofs.SumLaws.{before_found, past_found, none_found}
 
 length-members_of : (run : PlacedRun) → length (members_of run) ≡ run_count run
 unfolding members_of

@@ -6,3 +6,4 @@ pub mod Finding
 pub mod Cursors
 pub mod Decoding
 pub mod Syncing
+pub mod IndexLaws

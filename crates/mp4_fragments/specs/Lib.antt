@@ -9,4 +9,3 @@ pub mod Cursor
 pub mod ByTime
 pub mod Sync
 pub mod Seek
-pub mod IndexLaws

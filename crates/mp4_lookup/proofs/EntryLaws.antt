@@ -12,8 +12,8 @@ use Rattle.mp4_table.specs.declared.stsc.StscEntry.{StscEntry}
 use Rattle.mp4_table.specs.Stsc.{HasFirstSamples}
 use Rattle.mp4_table.specs.Chunks.{counts, last_where}
 use Rattle.mp4_lookup.specs.Rule.{entry_for}
-use Rattle.mp4_samples.specs.LastLaws.{last_where_is}
-use Rattle.mp4_samples.specs.ChunkLaws.{Rises, sum-take-counts, length-counts, first_chunk_positive}
+use Rattle.mp4_samples.proofs.LastLaws.{last_where_is}
+use Rattle.mp4_samples.proofs.ChunkLaws.{Rises, sum-take-counts, length-counts, first_chunk_positive}
 
 -- what consistent tables say of stsc, with n chunks and so many samples in all
 pub record Fine (entries : List StscEntry) (n samples : ℕ) : Type 0 where

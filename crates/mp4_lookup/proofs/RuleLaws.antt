@@ -24,7 +24,7 @@ use Rattle.mp4_samples.specs.Tables.{sizes, chunk_offsets, ctts_runs, is_sync_at
 use Rattle.mp4_samples.specs.Plain.{Consistent, plain, plain_at, member, within_file, sample_places}
 use Rattle.mp4_lookup.specs.Rule.{rule, spot_at, entry_for, chunk_for, first_in_chunk, time_at}
 use Rattle.mp4_lookup.proofs.PlaceLaws.{get_or-places}
-use Rattle.mp4_samples.specs.ChunkLaws.{first_chunk_positive, length-counts, get_or-counts, samples_in_is}
+use Rattle.mp4_samples.proofs.ChunkLaws.{first_chunk_positive, length-counts, get_or-counts, samples_in_is}
 use Rattle.mp4_lookup.proofs.EntryLaws.{Fine, belongs, lies_at, entry_for_is, chunk_within}
 use Rattle.mp4_lookup.proofs.EntryLaws.{chunk_past, chunk_le, sum-take-before}
 

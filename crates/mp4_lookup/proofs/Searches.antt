@@ -16,7 +16,7 @@ use Rattle.mp4_table.specs.Chunks.{last_where}
 use Rattle.mp4_table.specs.Stsc.{HasFirstSamples}
 use Rattle.mp4_search.specs.Search.{IsLastAtMost}
 use Rattle.mp4_search.specs.Sums.{SumsBefore64}
-use Rattle.mp4_samples.specs.LastLaws.{last_where_is, last_where_none}
+use Rattle.mp4_samples.proofs.LastLaws.{last_where_is, last_where_none}
 use Rattle.mp4_lookup.proofs.EntryLaws.{first_samples_climb}
 
 -- what rises

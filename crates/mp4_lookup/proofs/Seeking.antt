@@ -13,7 +13,7 @@ use Rattle.mp4_table.specs.Runs.{durations, expand}
 use Rattle.mp4_table.specs.Starts.{start_of}
 use Rattle.mp4_fragments.specs.ByTime.{decoded_by}
 use Rattle.mp4_search.specs.Partition.{AnswersLast, ArePartedAt, IsLastWith, IsParted}
-use Rattle.mp4_search.specs.SumLaws.{sums_rise}
+use Rattle.mp4_search.proofs.SumLaws.{sums_rise}
 use Rattle.mp4_lookup.specs.ByTime.{time_in}
 use Rattle.mp4_lookup.proofs.RunLaws.{length-expand, sum-take-expand, end_of_run}
 use Rattle.mp4_lookup.specs.Sums.{TimesBefore}

@@ -17,7 +17,7 @@ use Rattle.mp4_table.specs.declared.stsc.StscEntry.{StscEntry}
 use Rattle.mp4_table.specs.declared.stts.SttsEntry.{SttsEntry}
 use Rattle.mp4_table.specs.Stsc.{HasFirstSamples}
 use Rattle.mp4_boxes.specs.declared.stbl.StblBox.{StblBox}
-use Rattle.mp4_samples.specs.LastLaws.{last_where_is}
+use Rattle.mp4_samples.proofs.LastLaws.{last_where_is}
 use Rattle.mp4_samples.specs.Tables.{chunk_offsets}
 use Rattle.mp4_search.specs.Search.{IsLastAtMost}
 use Rattle.mp4_lookup.proofs.EntryLaws.{first_samples_climb, first_samples_positive}

@@ -15,7 +15,7 @@ use Rattle.mp4_codec.specs.FieldLaws.{length-number}
 use Rattle.mp4_codec.specs.Boxes.{frame, all_refusal}
 use Rattle.mp4_codec.specs.Framing.{IsSpellable, IsFrame, short, long, long_frame, ReadsAsBox}
 use Rattle.mp4_codec.specs.FramingLaws.{reads_as_box, length-frame, length-long_frame}
-use Rattle.mp4_codec.specs.HeadLaws.{was_taken}
+use Rattle.mp4_codec.proofs.HeadLaws.{was_taken}
 use Rattle.mp4_codec.specs.WriteLaws.{is_written}
 use Rattle.mp4_leaf.specs.declared.ftyp.FtypBox.{FtypBox}
 use Rattle.mp4_leaf.specs.Ftyp.{ftyp_of, ftyp_payload, IsCanonicalFtyp}

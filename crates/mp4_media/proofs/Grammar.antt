@@ -12,7 +12,7 @@ use Rattle.mp4_codec.specs.Cursor.{Cursor, Head, head_at, header_at, reported, h
 use Rattle.mp4_codec.specs.Children.{last}
 use Rattle.mp4_codec.specs.FramingLaws.{said_why, why_no_head}
 use Rattle.mp4_codec.specs.Steps.{ok_is, both_steps}
-use Rattle.mp4_codec.specs.HeadLaws.{Closed, head_read}
+use Rattle.mp4_codec.proofs.HeadLaws.{Closed, head_read}
 use Rattle.mp4_leaf.specs.declared.ftyp.FtypBox.{FtypBox}
 use Rattle.mp4_boxes.specs.declared.moov.MoovBox.{MoovBox}
 use Rattle.mp4_media.specs.FileBoxes.{FileBox, BoxContent, Skipped}

@@ -12,7 +12,7 @@ use Rattle.mp4_codec.specs.Cause.{Cause, box_not_found, ◌>>=◌, seen, unless,
 use Rattle.mp4_codec.specs.Children.{ChildBox, children, gathered, first_fault, fault_in, last_of, needed}
 use Rattle.mp4_codec.specs.GatherLaws.{last-seen}
 use Rattle.mp4_codec.specs.Early.{Early, Shows, unless_refused, early_gathered}
-use Rattle.mp4_codec.specs.EarlyLaws.{gathered-at_once, shown-gives}
+use Rattle.mp4_codec.proofs.EarlyLaws.{gathered-at_once, shown-gives}
 use Rattle.mp4_leaf.specs.declared.hdlr.HdlrBox.{HdlrBox}
 use Rattle.mp4_leaf.specs.Hdlr.{hdlr_of}
 use Rattle.mp4_meta.specs.declared.meta.OtherChildren.{OtherChildren}

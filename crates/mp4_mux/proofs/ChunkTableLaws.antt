@@ -12,7 +12,7 @@ use Rattle.mp4_table.specs.declared.stsc.StscEntry.{StscEntry}
 use Rattle.mp4_table.specs.Chunks.{samples_in, counts}
 use Rattle.mp4_table.specs.Runs.{changes, turns}
 use Rattle.mp4_table.specs.Stsc.{HasFirstSamples}
-use Rattle.mp4_samples.specs.ChunkLaws.{Rises, length-counts, get_or-counts}
+use Rattle.mp4_samples.proofs.ChunkLaws.{Rises, length-counts, get_or-counts}
 use Rattle.mp4_mux.specs.SampleTables.{chunk_entries_from, stsc_for}
 
 -- the entry of a chunk that has another number of samples than the one before

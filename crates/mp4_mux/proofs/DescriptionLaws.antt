@@ -37,7 +37,7 @@ use Rattle.mp4_entry.specs.Mp4a.{samplerate_of, esds_of_config, mp4a_payload, mp
 use Rattle.mp4_entry.specs.Mp4a.{IsInRangeAacConfig}
 use Rattle.mp4_entry.specs.Mp4aLaws.{length-mp4a_payload}
 use Rattle.mp4_entry.specs.Config.{media_refusal, IsInRangeMediaConfig, entry_length}
-use Rattle.mp4_entry.specs.ConfigLaws.{length-stsd_of_config, media_written}
+use Rattle.mp4_entry.proofs.ConfigLaws.{length-stsd_of_config, media_written}
 use Rattle.mp4_entry.specs.Stsd.{stsd_payload, stsd_refusal, stsd_of_config, IsInRangeStsd, RemarksStsd}
 use Rattle.mp4_entry.specs.StsdLaws.{length-stsd_payload}
 use Rattle.mp4_mux.specs.declared.sample_info.SampleInfo.{SampleInfo}

@@ -1,1 +1,3 @@
 pub mod LentSamples
+pub mod ChunkLaws
+pub mod LastLaws

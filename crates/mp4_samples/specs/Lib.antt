@@ -3,5 +3,3 @@ pub mod Places
 pub mod Plain
 pub mod Samples
 pub mod Coding
-pub mod LastLaws
-pub mod ChunkLaws

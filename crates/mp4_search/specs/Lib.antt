@@ -3,5 +3,4 @@ pub mod Digits
 pub mod Search
 pub mod Partition
 pub mod Sums
-pub mod SumLaws
 pub mod CountLaws

@@ -13,7 +13,7 @@ use Rattle.mp4_codec.specs.declared.header.BoxHeader.{BoxHeader}
 use Rattle.mp4_codec.specs.BoxType.{box_type}
 use Rattle.mp4_codec.specs.Boxes.{box_at}
 use Rattle.mp4_codec.specs.Cause.{Cause, end_of_data, ◌>>=◌}
-use Rattle.mp4_codec.specs.HeadLaws.{was_taken}
+use Rattle.mp4_codec.proofs.HeadLaws.{was_taken}
 use Rattle.mp4_codec.specs.Steps.{ok_is, both_steps}
 use Rattle.mp4_codec.specs.Cursor.{Cursor, Head, here, take_at, head_with, head_after, head_at, header_at, reported}
 

@@ -6,7 +6,7 @@ use Rattle.mp4_codec.specs.Cause.{Cause, invalid_data, ◌>>=◌, fault_of}
 use Rattle.mp4_codec.specs.Bytes.{list_at}
 use Rattle.mp4_codec.specs.FieldLaws.{list-refuses}
 use Rattle.mp4_codec.specs.Early.{takes_memory, refused_at_once}
-use Rattle.mp4_codec.specs.EarlyLaws.{fault-is, no_fault-early}
+use Rattle.mp4_codec.proofs.EarlyLaws.{fault-is, no_fault-early}
 use Rattle.mp4_table.specs.declared.stsc.StscEntry.{StscEntry}
 use Rattle.mp4_table.specs.Stsc.{with_first_sample, stsc_entry_at, first_sample_after, numbered_after, runs_fault}
 use Rattle.mp4_table.specs.StscLaws.{stsc_entry-has_length}

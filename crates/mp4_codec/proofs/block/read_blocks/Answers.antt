@@ -2,7 +2,7 @@ use Rattle.std.proofs.Common.{◌≡◌, ℕ, suc, ◌+◌, ◌-◌, ◌*◌, �
 use Rattle.std.proofs.lemmas.List.{length-drop}
 use Rattle.mp4_codec.specs.Bytes.{list_at}
 use Rattle.mp4_codec.specs.Blocks.{block_at, block-is_block}
-use Rattle.mp4_codec.specs.ListLoop.{goes_on, is_done}
+use Rattle.mp4_codec.proofs.ListLoop.{goes_on, is_done}
 use Rattle.mp4_codec.proofs.block.read_blocks.Goals as goal
 
 pub loop-preserved : goal.loop-preserved

@@ -2,7 +2,7 @@ use Rattle.std.proofs.Common.{◌≡◌, ◌≤◌, ◌*◌, ◌-◌, length}
 use Rattle.std.specs.Prelude.{vec_len, vec_capacity}
 use Rattle.mp4_codec.specs.Bytes.{list_at}
 use Rattle.mp4_codec.specs.Blocks.{block_at}
-use Rattle.mp4_codec.specs.ListLoop.{with_front}
+use Rattle.mp4_codec.proofs.ListLoop.{with_front}
 use Rattle.mp4_codec.proofs.block.read_blocks.Given as goal
 
 abbrev pub invariant-loop : goal.invariant-loop

@@ -1,4 +1,4 @@
-use Rattle.mp4_codec.specs.BoxTypeLaws.{code_of-box_type}
+use Rattle.mp4_codec.proofs.BoxTypeLaws.{code_of-box_type}
 use Rattle.std.proofs.Common.{rules}
 use Rattle.mp4_codec.proofs.box_type.code_again.Goals as goal
 

@@ -3,7 +3,7 @@ use Rattle.std.proofs.lemmas.Result.{err_from_is_err_and}
 use Rattle.mp4_codec.specs.Cause.{cause_of}
 use Rattle.mp4_codec.specs.Children.{child_box}
 use Rattle.mp4_codec.specs.ChildrenLaws.{begins, ends, breaks}
-use Rattle.mp4_codec.specs.GatherLoop.{starts, takes, refuses, breaks_off, is_done}
+use Rattle.mp4_codec.proofs.GatherLoop.{starts, takes, refuses, breaks_off, is_done}
 use Rattle.mp4_codec.proofs.EarlyGathering as early
 use Rattle.mp4_codec.proofs.gather.gather_children.Goals as goal
 

@@ -1,5 +1,5 @@
 use Rattle.std.proofs.Common.{length}
-use Rattle.mp4_codec.specs.GatherLoop.{Gathering}
+use Rattle.mp4_codec.proofs.GatherLoop.{Gathering}
 use Rattle.mp4_codec.proofs.EarlyGathering.{EarlyGathering}
 use Rattle.mp4_codec.proofs.gather.gather_children.Given as goal
 

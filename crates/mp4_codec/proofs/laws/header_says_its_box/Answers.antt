@@ -1,4 +1,4 @@
-use Rattle.mp4_codec.specs.HeadLaws.{short_open_end, short_sized, long_open_end, long_sized}
+use Rattle.mp4_codec.proofs.HeadLaws.{short_open_end, short_sized, long_open_end, long_sized}
 use Rattle.mp4_codec.proofs.laws.header_says_its_box.Goals as goal
 
 pub returns : goal.returns

@@ -2,7 +2,7 @@ use Rattle.std.proofs.Common.{◌⊎◌, inl, inr}
 use Rattle.std.proofs.lemmas.Result.{err_from_is_err_and}
 use Rattle.mp4_codec.specs.Cause.{cause_of}
 use Rattle.mp4_codec.specs.Bytes.{list_at}
-use Rattle.mp4_codec.specs.ListLoop.{goes_on, ends, is_done}
+use Rattle.mp4_codec.proofs.ListLoop.{goes_on, ends, is_done}
 use Rattle.mp4_entry.specs.Avcc.{unit_at}
 use Rattle.mp4_entry.proofs.avcc.read_units.Goals as goal
 

@@ -1,6 +1,6 @@
 use Rattle.std.proofs.Common.{◌≡◌, ◌-◌}
 use Rattle.mp4_codec.specs.Bytes.{list_at}
-use Rattle.mp4_codec.specs.ListLoop.{with_front}
+use Rattle.mp4_codec.proofs.ListLoop.{with_front}
 use Rattle.mp4_entry.specs.Avcc.{unit_at}
 use Rattle.mp4_entry.proofs.avcc.read_units.Given as goal
 

@@ -1,4 +1,4 @@
-use Rattle.mp4_entry.specs.ConfigLaws.{length-stsd_of_config, media_written}
+use Rattle.mp4_entry.proofs.ConfigLaws.{length-stsd_of_config, media_written}
 use Rattle.mp4_entry.proofs.laws.configurations_are_written.Goals as goal
 
 pub returns-clause-size : goal.returns-clause-size

@@ -5,7 +5,7 @@ use Rattle.mp4_codec.specs.Cause.{cause_of}
 use Rattle.mp4_codec.specs.Children.{child_box, fault_in, all_of, last_of, with_last}
 use Rattle.mp4_codec.specs.ChildrenLaws.{begins, ends, breaks}
 use Rattle.mp4_codec.specs.GatherLaws.{with_last-last_of}
-use Rattle.mp4_codec.specs.GatherLoop.{starts, takes, breaks_off, is_done}
+use Rattle.mp4_codec.proofs.GatherLoop.{starts, takes, breaks_off, is_done}
 use Rattle.mp4_entry.specs.Mp4a.{as_it_is}
 use Rattle.mp4_entry.proofs.mp4a.last_payload.Goals as goal
 

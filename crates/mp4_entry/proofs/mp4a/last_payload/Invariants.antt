@@ -1,6 +1,6 @@
 use Rattle.std.proofs.Common.{length}
 use Rattle.std.specs.Option.{option_map}
-use Rattle.mp4_codec.specs.GatherLoop.{Gathering}
+use Rattle.mp4_codec.proofs.GatherLoop.{Gathering}
 use Rattle.mp4_codec.specs.Children.{fault_in, last_of}
 use Rattle.mp4_entry.specs.Mp4a.{as_it_is}
 use Rattle.mp4_entry.proofs.mp4a.last_payload.Given as goal

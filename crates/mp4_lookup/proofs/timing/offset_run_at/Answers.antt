@@ -2,7 +2,7 @@ use Rattle.std.proofs.Common.{◌+◌, ◌-◌, get_or, refl, arith, ◌∙◌, 
 use Rattle.std.specs.Prelude.{FitsSigned}
 use Rattle.std.proofs.lemmas.Int.{to_z-of_z}
 use Rattle.mp4_table.specs.declared.ctts.CttsEntry.{CttsEntry}
-use Rattle.mp4_search.specs.SumLaws.{counts_rise, before_found, past_found, none_found}
+use Rattle.mp4_search.proofs.SumLaws.{counts_rise, before_found, past_found, none_found}
 use Rattle.mp4_lookup.proofs.Steps.{all_before, offset_run}
 use Rattle.mp4_lookup.proofs.timing.offset_run_at.Goals as goal
 

@@ -1,7 +1,7 @@
 use Rattle.std.proofs.Common.{◌≡◌, ◌+◌, ◌-◌, ◌*◌, get_or, take, refl, arith, ◌∙◌}
 use Rattle.std.specs.List.{sum_by}
 use Rattle.mp4_table.specs.declared.stts.SttsEntry.{SttsEntry}
-use Rattle.mp4_search.specs.SumLaws.{counts_rise, before_found, past_found, none_found}
+use Rattle.mp4_search.proofs.SumLaws.{counts_rise, before_found, past_found, none_found}
 use Rattle.mp4_lookup.proofs.Times.{time_at_past}
 use Rattle.mp4_lookup.proofs.Sums.{ticks_before}
 use Rattle.mp4_lookup.proofs.Steps.{time_run}

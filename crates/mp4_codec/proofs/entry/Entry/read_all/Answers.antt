@@ -2,7 +2,7 @@ use Rattle.std.proofs.Common.{inr, rules}
 use Rattle.std.proofs.lemmas.Result.{err_from_is_err_and}
 use Rattle.mp4_codec.specs.Cause.{invalid_data}
 use Rattle.mp4_codec.specs.Bytes.{list_at}
-use Rattle.mp4_codec.specs.ListLoop.{goes_on, ends, is_done}
+use Rattle.mp4_codec.proofs.ListLoop.{goes_on, ends, is_done}
 use Rattle.mp4_codec.proofs.entry.Entry.read_all.Goals as goal
 
 pub returns-in_err-item : goal.returns-in_err-item

@@ -4,7 +4,7 @@ use Rattle.mp4_codec.specs.declared.error.Error.{Error}
 use Rattle.mp4_codec.specs.BoxType.{IsNamed}
 use Rattle.mp4_codec.specs.Cause.{Gives}
 use Rattle.mp4_codec.specs.Cursor.{Cursor, header_at}
-use Rattle.mp4_codec.specs.HeadLaws.{header_read}
+use Rattle.mp4_codec.proofs.HeadLaws.{header_read}
 use Rattle.mp4_codec.proofs.header.BoxHeader.read.Goals as goal
 
 moves : (place behind : Cursor) (result : Result BoxHeader Error) → Gives (λ h. (h, behind)) result (header_at place)

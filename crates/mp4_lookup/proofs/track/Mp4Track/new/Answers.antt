@@ -1,6 +1,6 @@
 use Rattle.std.proofs.Common.{◌-◌, ◌^◌, sym, subst}
 use Rattle.mp4_fragments.specs.Index.{Indexes, run_at}
-use Rattle.mp4_fragments.specs.IndexLaws.{indexed_runs}
+use Rattle.mp4_fragments.proofs.IndexLaws.{indexed_runs}
 use Rattle.mp4_fragments.specs.Seek.{IsSeekIndex}
 use Rattle.mp4_lookup.proofs.track.Mp4Track.new.Goals as goal
 

@@ -11,7 +11,7 @@ use Rattle.std.proofs.lemmas.List.Sums.{sum_by_more}
 use Rattle.mp4_table.specs.declared.stsc.StscEntry.{StscEntry}
 use Rattle.mp4_table.specs.Chunks.{samples_in, counts}
 use Rattle.mp4_table.specs.Stsc.{HasFirstSamples}
-use Rattle.mp4_samples.specs.LastLaws.{last_where_is}
+use Rattle.mp4_samples.proofs.LastLaws.{last_where_is}
 
 abbrev pub Rises : List StscEntry → Type 0
 Rises entries = AllPairs (λ a b. a.first_chunk < b.first_chunk) entries

@@ -16,7 +16,7 @@ use Rattle.mp4_codec.specs.Bytes.{number, ◌⧺◌}
 use Rattle.mp4_codec.specs.FieldLaws.{length-number, length-then}
 use Rattle.mp4_codec.specs.Framing.{IsSpellable, SaysBox, short_header, long_header}
 use Rattle.mp4_codec.specs.Steps.{ok_is, both_steps}
-use Rattle.mp4_codec.specs.BoxTypeLaws.{is_named}
+use Rattle.mp4_codec.proofs.BoxTypeLaws.{is_named}
 
 -- n bytes that were taken
 pub was_taken : (n : ℕ) (place : Cursor) (x : List ℕ × Cursor) → take_at n place ≡ Ok x
