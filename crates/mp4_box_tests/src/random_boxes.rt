@@ -29,6 +29,10 @@ fn numbers(alloc: Global, random: &mut Random) -> Result<Items<u32>> {
 }
 
 /// At most three bytes other than zero.
+fn shared_numbers(alloc: Global, random: &mut Random) -> Result<SharedItems<u32>> {
+    Ok(SharedItems::from_items(numbers(alloc, random)?)?)
+}
+
 fn letters(alloc: Global, random: &mut Random) -> Result<Items<u8>> {
     let mut list = Items::new(alloc);
     for _ in 0..random.few() {
@@ -208,7 +212,7 @@ fn sizes(alloc: Global, random: &mut Random) -> Result<StszBox> {
         sizes.sample_count = random.next();
         return Ok(sizes);
     }
-    sizes.sample_sizes = numbers(alloc, random)?;
+    sizes.sample_sizes = shared_numbers(alloc, random)?;
     sizes.sample_count = u32::try_from(sizes.sample_sizes.len()).unwrap_or(0);
     Ok(sizes)
 }
@@ -226,13 +230,13 @@ fn offsets(alloc: Global, random: &mut Random) -> Result<CttsBox> {
 
 fn syncs(alloc: Global, random: &mut Random) -> Result<StssBox> {
     let mut syncs = StssBox::default(alloc)?;
-    syncs.entries = numbers(alloc, random)?;
+    syncs.entries = shared_numbers(alloc, random)?;
     Ok(syncs)
 }
 
 fn places(alloc: Global, random: &mut Random) -> Result<StcoBox> {
     let mut places = StcoBox::default(alloc)?;
-    places.entries = numbers(alloc, random)?;
+    places.entries = shared_numbers(alloc, random)?;
     Ok(places)
 }
 

@@ -607,7 +607,7 @@ fn put_fields(alloc: Global) -> Result<bool> {
 fn put_entries(alloc: Global) -> Result<bool> {
     let mut entries = Items::new(alloc);
     entries.push(1u32)?;
-    put_list(&mut Vec::new(alloc), 0, &entries)?;
+    put_list(&mut Vec::new(alloc), 0, entries.as_slice())?;
     Ok(true)
 }
 

@@ -101,7 +101,7 @@ impl Row {
         Items<T>: Debug,
     {
         let list: Items<T> = fields.list(alloc, 0, count)?;
-        let put = put_list(&mut self.again, 0, &list);
+        let put = put_list(&mut self.again, 0, list.as_slice());
         self.keep(&list, put)
     }
 

@@ -87,17 +87,17 @@ impl<'a> Fields<'a> {
 }
 
 /// Adds the entries of a list, one after the other.
-pub fn put_list<T: Entry>(out: &mut Vec<u8>, version: u8, items: &Items<T>) -> Put
+pub fn put_list<T: Entry>(out: &mut Vec<u8>, version: u8, items: &[T]) -> Put
     ensures { OnOk result (Appends out.old.items out.new.items (flat_map (T.spelled version) items.now)) }
 {
-    for item in items.as_slice() {
+    for item in items {
         item.put(out, version)?;
     }
     Ok(())
 }
 
 /// The bytes of the entries of a list; it stops at 2^64 - 1.
-pub fn list_size<T: Entry>(version: u8, items: &Items<T>) -> u64
+pub fn list_size<T: Entry>(version: u8, items: &[T]) -> u64
     ensures { result ≡ min (length (flat_map (T.spelled version) items.now)) (2 ^ 64 - 1) }
 {
     (items.len() as u64).saturating_mul(T::size(version))

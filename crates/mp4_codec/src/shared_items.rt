@@ -41,6 +41,12 @@ impl SharedItem for u32 {
     }
 }
 
+impl SharedItem for u64 {
+    fn as_one(&self) -> &[u64] {
+        slice::from_ref(self)
+    }
+}
+
 /// The same values once more. Refused only where their owners are too many to count.
 fn another_owner<T>(values: &SharedValues<T>) -> std::result::Result<SharedValues<T>, AllocError>
     ensures { IfOk result (λ same. values_in same ≡ values_in values.now) }

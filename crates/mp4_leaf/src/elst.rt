@@ -154,7 +154,7 @@ impl ElstBox {
     pub fn get_size(&self) -> u64
         ensures { result ≡ size_around (elst_payload self.now) }
     {
-        list_size(self.version, &self.entries).saturating_add(16)
+        list_size(self.version, self.entries.as_slice()).saturating_add(16)
     }
 
     /// Whether the version has room for all edits.
@@ -238,7 +238,7 @@ impl WriteBox for ElstBox {
         put_u8(out, self.version)?;
         put_u24(out, self.flags)?;
         put_u32(out, self.entries.len() as u32)?;
-        put_list(out, self.version, &self.entries)?;
+        put_list(out, self.version, self.entries.as_slice())?;
         Ok(())
     }
 }

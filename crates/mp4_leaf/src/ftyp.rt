@@ -57,7 +57,7 @@ impl FtypBox {
     pub fn get_size(&self) -> u64
         ensures { result ≡ size_around (ftyp_payload self.now) }
     {
-        list_size(0, &self.compatible_brands).saturating_add(16)
+        list_size(0, self.compatible_brands.as_slice()).saturating_add(16)
     }
 }
 
@@ -127,7 +127,7 @@ impl WriteBox for FtypBox {
     fn put_payload(&self, out: &mut Vec<u8>) -> Put {
         put_four_cc(out, self.major_brand)?;
         put_u32(out, self.minor_version)?;
-        put_list(out, 0, &self.compatible_brands)?;
+        put_list(out, 0, self.compatible_brands.as_slice())?;
         Ok(())
     }
 }

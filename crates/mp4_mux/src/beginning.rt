@@ -34,7 +34,7 @@ pub fn file_type_size(config: &Mp4Config) -> u64
         minor_version: config.minor_version,
         compatible_brands: Items::new(config.compatible_brands.allocator()),
     };
-    list_size(0, &config.compatible_brands).saturating_add(without_brands.get_size())
+    list_size(0, config.compatible_brands.as_slice()).saturating_add(without_brands.get_size())
 }
 
 /// Whether a movie can be begun with this configuration: `TooLarge(BoxSize)` where its file type passes

@@ -11,7 +11,7 @@ ghost use Rattle.mp4_mux.specs.ChunkLists.{sample_counts, offsets};
 use crate::chunk_place::ChunkPlace;
 use crate::runs::runs;
 use crate::sample_info::SampleInfo;
-use mp4_codec::{Items, Result};
+use mp4_codec::{Result, SharedItems};
 use mp4_table::{Co64Box, CttsBox, StcoBox, StscBox, StscEntry, StssBox, StszBox, SttsBox};
 use std::alloc::{AllocError, Global};
 
@@ -25,7 +25,7 @@ pub fn stts(alloc: Global, samples: &[SampleInfo]) -> Result<SttsBox>
     Ok(SttsBox {
         version: 0,
         flags: 0,
-        entries: Items::from(entries),
+        entries: SharedItems::from_items(entries.into())?,
     })
 }
 
@@ -49,7 +49,7 @@ pub fn ctts(alloc: Global, samples: &[SampleInfo]) -> Result<Option<CttsBox>>
     Ok(Some(CttsBox {
         version: 0,
         flags: 0,
-        entries: Items::from(entries),
+        entries: SharedItems::from_items(entries.into())?,
     }))
 }
 
@@ -81,7 +81,7 @@ pub fn stss(alloc: Global, samples: &[SampleInfo]) -> Result<Option<StssBox>>
     Ok(Some(StssBox {
         version: 0,
         flags: 0,
-        entries: Items::from(entries),
+        entries: SharedItems::from_items(entries.into())?,
     }))
 }
 
@@ -126,7 +126,7 @@ pub fn stsz(alloc: Global, samples: &[SampleInfo]) -> Result<StszBox>
         flags: 0,
         sample_size: one_size(samples),
         sample_count: samples.len() as u32,
-        sample_sizes: Items::from(sample_sizes),
+        sample_sizes: SharedItems::from_items(sample_sizes.into())?,
     })
 }
 
@@ -173,7 +173,7 @@ pub fn stsc(alloc: Global, chunks: &[ChunkPlace]) -> Result<StscBox>
     Ok(StscBox {
         version: 0,
         flags: 0,
-        entries: Items::from(entries),
+        entries: SharedItems::from_items(entries.into())?,
     })
 }
 
@@ -211,7 +211,7 @@ pub fn stco(alloc: Global, chunks: &[ChunkPlace]) -> Result<Option<StcoBox>>
     Ok(Some(StcoBox {
         version: 0,
         flags: 0,
-        entries: Items::from(entries),
+        entries: SharedItems::from_items(entries.into())?,
     }))
 }
 
@@ -227,6 +227,6 @@ pub fn co64(alloc: Global, chunks: &[ChunkPlace]) -> Result<Option<Co64Box>>
     Ok(Some(Co64Box {
         version: 0,
         flags: 0,
-        entries: Items::from(entries),
+        entries: SharedItems::from_items(entries.into())?,
     }))
 }

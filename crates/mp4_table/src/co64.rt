@@ -11,7 +11,7 @@ ghost use Rattle.mp4_codec.specs.Early.{refused_at_once};
 
 use crate::table::{put_table, read_table, table_size};
 use mp4_codec::{
-    BoxType, ExactEq, InRange, Items, Mp4Box, Put, ReadBox, Result, TryClone, WriteBox,
+    BoxType, ExactEq, InRange, Mp4Box, Put, ReadBox, Result, SharedItems, TryClone, WriteBox,
 };
 use std::alloc::Global;
 
@@ -24,7 +24,7 @@ pub struct Co64Box {
     /// The low 24 bits are written.
     pub flags: u32,
     /// The bytes of the file before each chunk.
-    pub entries: Items<u64>,
+    pub entries: SharedItems<u64>,
 }
 
 impl ExactEq for Co64Box {
@@ -39,7 +39,7 @@ impl Co64Box {
         Ok(Co64Box {
             version: 0,
             flags: 0,
-            entries: Items::new(alloc),
+            entries: SharedItems::new(alloc),
         })
     }
 
@@ -55,7 +55,7 @@ impl Co64Box {
     pub fn get_size(&self) -> u64
         ensures { result ≡ size_around (co64_payload self.now) }
     {
-        table_size(self.version, self.flags, &self.entries)
+        table_size(self.version, self.flags, self.entries.as_slice())
     }
 }
 
@@ -119,7 +119,7 @@ impl WriteBox for Co64Box {
 
     #[tactic(auto, using(crate::proofs::Sizes::sizes), unfolding(crate::specs::Co64::co64_payload))]
     fn put_payload(&self, out: &mut Vec<u8>) -> Put {
-        put_table(out, self.version, self.flags, &self.entries)?;
+        put_table(out, self.version, self.flags, self.entries.as_slice())?;
         Ok(())
     }
 }

@@ -13,9 +13,10 @@ ghost use Rattle.mp4_codec.specs.Early.{refused_at_once};
 use crate::table::{put_table, read_table, table_size};
 use mp4_codec::{
     Block, BoxType, DebugItem, Entry, ExactEq, Field, Fields, InRange, Items, Mp4Box, Put, ReadBox,
-    Result, TryClone, WriteBox, put_i32, put_u32, read_blocks,
+    Result, SharedItem, SharedItems, TryClone, WriteBox, put_i32, put_u32, read_blocks,
 };
 use std::alloc::Global;
+use std::slice;
 
 /// A run of samples of one offset.
 #[derive(Debug, Clone, Copy, PartialEq, Eq)]
@@ -42,6 +43,12 @@ impl TryClone for CttsEntry {
 
     fn try_clone_all(alloc: Global, values: &[Self]) -> Result<Items<Self>> {
         Ok(Items::from(Vec::from_slice(alloc, values)?))
+    }
+}
+
+impl SharedItem for CttsEntry {
+    fn as_one(&self) -> &[CttsEntry] {
+        slice::from_ref(self)
     }
 }
 
@@ -123,7 +130,7 @@ pub struct CttsBox {
     /// The low 24 bits are written.
     pub flags: u32,
     /// The samples in runs of one offset.
-    pub entries: Items<CttsEntry>,
+    pub entries: SharedItems<CttsEntry>,
 }
 
 impl ExactEq for CttsBox {
@@ -138,7 +145,7 @@ impl CttsBox {
         Ok(CttsBox {
             version: 0,
             flags: 0,
-            entries: Items::new(alloc),
+            entries: SharedItems::new(alloc),
         })
     }
 
@@ -154,7 +161,7 @@ impl CttsBox {
     pub fn get_size(&self) -> u64
         ensures { result ≡ size_around (ctts_payload self.now) }
     {
-        table_size(self.version, self.flags, &self.entries)
+        table_size(self.version, self.flags, self.entries.as_slice())
     }
 }
 
@@ -218,7 +225,7 @@ impl WriteBox for CttsBox {
 
     #[tactic(auto, using(crate::proofs::Sizes::sizes), unfolding(crate::specs::Ctts::ctts_payload))]
     fn put_payload(&self, out: &mut Vec<u8>) -> Put {
-        put_table(out, self.version, self.flags, &self.entries)?;
+        put_table(out, self.version, self.flags, self.entries.as_slice())?;
         Ok(())
     }
 }

@@ -13,7 +13,8 @@ ghost use Rattle.mp4_codec.specs.Early.{refused_at_once};
 use crate::co64::Co64Box;
 use crate::table::{put_table, read_table, table_size};
 use mp4_codec::{
-    BoxType, Error, ExactEq, InRange, Items, Mp4Box, Put, ReadBox, Result, TryClone, WriteBox,
+    BoxType, Error, ExactEq, InRange, Items, Mp4Box, Put, ReadBox, Result, SharedItems, TryClone,
+    WriteBox,
 };
 use std::alloc::Global;
 
@@ -48,7 +49,7 @@ pub struct StcoBox {
     /// The low 24 bits are written.
     pub flags: u32,
     /// The bytes of the file before each chunk.
-    pub entries: Items<u32>,
+    pub entries: SharedItems<u32>,
 }
 
 impl ExactEq for StcoBox {
@@ -63,7 +64,7 @@ impl StcoBox {
         Ok(StcoBox {
             version: 0,
             flags: 0,
-            entries: Items::new(alloc),
+            entries: SharedItems::new(alloc),
         })
     }
 
@@ -76,7 +77,7 @@ impl StcoBox {
         Ok(StcoBox {
             version: co64.version,
             flags: co64.flags,
-            entries: narrowed(alloc, co64.entries.as_slice())?,
+            entries: SharedItems::from_items(narrowed(alloc, co64.entries.as_slice())?)?,
         })
     }
 
@@ -92,7 +93,7 @@ impl StcoBox {
     pub fn get_size(&self) -> u64
         ensures { result ≡ size_around (stco_payload self.now) }
     {
-        table_size(self.version, self.flags, &self.entries)
+        table_size(self.version, self.flags, self.entries.as_slice())
     }
 }
 
@@ -156,7 +157,7 @@ impl WriteBox for StcoBox {
 
     #[tactic(auto, using(crate::proofs::Sizes::sizes), unfolding(crate::specs::Stco::stco_payload))]
     fn put_payload(&self, out: &mut Vec<u8>) -> Put {
-        put_table(out, self.version, self.flags, &self.entries)?;
+        put_table(out, self.version, self.flags, self.entries.as_slice())?;
         Ok(())
     }
 }

@@ -10,12 +10,13 @@ ghost use Rattle.mp4_table.specs.StscLaws.{stsc_entry_again, length-stsc_entry, 
 ghost use Rattle.mp4_table.specs.EntryBlocks.{stsc_entry_in};
 ghost use Rattle.mp4_codec.specs.Early.{refused_at_once};
 
-use crate::table::{put_table, read_table, table_size};
+use crate::table::{put_table, read_entries, table_size};
 use mp4_codec::{
     Block, BoxType, DebugItem, Entry, Error, ExactEq, Field, Fields, InRange, Items, Mp4Box, Put,
-    ReadBox, Result, TryClone, WriteBox, put_u32, read_blocks,
+    ReadBox, Result, SharedItem, SharedItems, TryClone, WriteBox, put_u32, read_blocks,
 };
 use std::alloc::Global;
+use std::slice;
 
 /// A run of chunks that have equally many samples of one description.
 #[derive(Debug, Clone, Copy, PartialEq, Eq)]
@@ -47,6 +48,12 @@ impl TryClone for StscEntry {
 
     fn try_clone_all(alloc: Global, values: &[Self]) -> Result<Items<Self>> {
         Ok(Items::from(Vec::from_slice(alloc, values)?))
+    }
+}
+
+impl SharedItem for StscEntry {
+    fn as_one(&self) -> &[StscEntry] {
+        slice::from_ref(self)
     }
 }
 
@@ -210,7 +217,7 @@ pub struct StscBox {
     /// The low 24 bits are written.
     pub flags: u32,
     /// The chunks in runs that have equally many samples.
-    pub entries: Items<StscEntry>,
+    pub entries: SharedItems<StscEntry>,
 }
 
 impl ExactEq for StscBox {
@@ -225,7 +232,7 @@ impl StscBox {
         Ok(StscBox {
             version: 0,
             flags: 0,
-            entries: Items::new(alloc),
+            entries: SharedItems::new(alloc),
         })
     }
 
@@ -241,7 +248,7 @@ impl StscBox {
     pub fn get_size(&self) -> u64
         ensures { result ≡ size_around (stsc_payload self.now) }
     {
-        table_size(self.version, self.flags, &self.entries)
+        table_size(self.version, self.flags, self.entries.as_slice())
     }
 }
 
@@ -284,8 +291,8 @@ impl ReadBox for StscBox {
     #[tactic(auto, using(crate::proofs::Runs::checked), unfolding(crate::specs::Stsc::stsc_of))]
     fn read_payload(alloc: Global, payload: &[u8]) -> Result<Self> {
         check_payload(payload)?;
-        let (version, flags, stored) = read_table(alloc, payload)?;
-        let entries = numbered(stored)?;
+        let (version, flags, stored) = read_entries(alloc, payload)?;
+        let entries = SharedItems::from_items(numbered(stored)?)?;
         Ok(StscBox {
             version,
             flags,
@@ -307,7 +314,7 @@ impl WriteBox for StscBox {
 
     #[tactic(auto, using(crate::proofs::Sizes::sizes), unfolding(crate::specs::Stsc::stsc_payload))]
     fn put_payload(&self, out: &mut Vec<u8>) -> Put {
-        put_table(out, self.version, self.flags, &self.entries)?;
+        put_table(out, self.version, self.flags, self.entries.as_slice())?;
         Ok(())
     }
 }

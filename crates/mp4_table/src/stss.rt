@@ -11,7 +11,7 @@ ghost use Rattle.mp4_codec.specs.Early.{refused_at_once};
 
 use crate::table::{put_table, read_table, table_size};
 use mp4_codec::{
-    BoxType, ExactEq, InRange, Items, Mp4Box, Put, ReadBox, Result, TryClone, WriteBox,
+    BoxType, ExactEq, InRange, Mp4Box, Put, ReadBox, Result, SharedItems, TryClone, WriteBox,
 };
 use std::alloc::Global;
 
@@ -25,7 +25,7 @@ pub struct StssBox {
     /// The low 24 bits are written.
     pub flags: u32,
     /// The numbers of the sync samples, counted from 1. They rise, which is not tested.
-    pub entries: Items<u32>,
+    pub entries: SharedItems<u32>,
 }
 
 impl ExactEq for StssBox {
@@ -40,7 +40,7 @@ impl StssBox {
         Ok(StssBox {
             version: 0,
             flags: 0,
-            entries: Items::new(alloc),
+            entries: SharedItems::new(alloc),
         })
     }
 
@@ -56,7 +56,7 @@ impl StssBox {
     pub fn get_size(&self) -> u64
         ensures { result ≡ size_around (stss_payload self.now) }
     {
-        table_size(self.version, self.flags, &self.entries)
+        table_size(self.version, self.flags, self.entries.as_slice())
     }
 }
 
@@ -120,7 +120,7 @@ impl WriteBox for StssBox {
 
     #[tactic(auto, using(crate::proofs::Sizes::sizes), unfolding(crate::specs::Stss::stss_payload))]
     fn put_payload(&self, out: &mut Vec<u8>) -> Put {
-        put_table(out, self.version, self.flags, &self.entries)?;
+        put_table(out, self.version, self.flags, self.entries.as_slice())?;
         Ok(())
     }
 }

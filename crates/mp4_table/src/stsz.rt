@@ -10,7 +10,7 @@ ghost use Rattle.mp4_table.specs.StszLaws.{stsz_again};
 ghost use Rattle.mp4_codec.specs.Early.{refused_at_once};
 
 use mp4_codec::{
-    BoxType, Error, ExactEq, Fields, InRange, Items, Mp4Box, Put, ReadBox, Result, TryClone,
+    BoxType, Error, ExactEq, Fields, InRange, Mp4Box, Put, ReadBox, Result, SharedItems, TryClone,
     WriteBox, list_size, put_list, put_u8, put_u24, put_u32,
 };
 use std::alloc::Global;
@@ -30,7 +30,7 @@ pub struct StszBox {
     /// How many samples there are.
     pub sample_count: u32,
     /// The bytes of each sample, where `sample_size` is 0; else none.
-    pub sample_sizes: Items<u32>,
+    pub sample_sizes: SharedItems<u32>,
 }
 
 impl ExactEq for StszBox {
@@ -47,7 +47,7 @@ impl StszBox {
             flags: 0,
             sample_size: 0,
             sample_count: 0,
-            sample_sizes: Items::new(alloc),
+            sample_sizes: SharedItems::new(alloc),
         })
     }
 
@@ -63,7 +63,7 @@ impl StszBox {
     pub fn get_size(&self) -> u64
         ensures { result ≡ size_around (stsz_payload self.now) }
     {
-        list_size(self.version, &self.sample_sizes).saturating_add(20)
+        list_size(self.version, self.sample_sizes.as_slice()).saturating_add(20)
     }
 }
 
@@ -116,6 +116,7 @@ impl ReadBox for StszBox {
         let sample_count = fields.u32()?;
         let listed = if sample_size == 0 { sample_count } else { 0 };
         let sample_sizes = fields.list(alloc, version, listed as usize)?;
+        let sample_sizes = SharedItems::from_items(sample_sizes)?;
         Ok(StszBox {
             version,
             flags,
@@ -151,7 +152,7 @@ impl WriteBox for StszBox {
         put_u24(out, self.flags)?;
         put_u32(out, self.sample_size)?;
         put_u32(out, self.sample_count)?;
-        put_list(out, self.version, &self.sample_sizes)?;
+        put_list(out, self.version, self.sample_sizes.as_slice())?;
         Ok(())
     }
 }

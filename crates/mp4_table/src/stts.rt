@@ -13,9 +13,10 @@ ghost use Rattle.mp4_codec.specs.Early.{refused_at_once};
 use crate::table::{put_table, read_table, table_size};
 use mp4_codec::{
     Block, BoxType, DebugItem, Entry, ExactEq, Field, Fields, InRange, Items, Mp4Box, Put, ReadBox,
-    Result, TryClone, WriteBox, put_u32, read_blocks,
+    Result, SharedItem, SharedItems, TryClone, WriteBox, put_u32, read_blocks,
 };
 use std::alloc::Global;
+use std::slice;
 
 /// A run of samples of one duration.
 #[derive(Debug, Clone, Copy, PartialEq, Eq)]
@@ -41,6 +42,12 @@ impl TryClone for SttsEntry {
 
     fn try_clone_all(alloc: Global, values: &[Self]) -> Result<Items<Self>> {
         Ok(Items::from(Vec::from_slice(alloc, values)?))
+    }
+}
+
+impl SharedItem for SttsEntry {
+    fn as_one(&self) -> &[SttsEntry] {
+        slice::from_ref(self)
     }
 }
 
@@ -122,7 +129,7 @@ pub struct SttsBox {
     /// The low 24 bits are written.
     pub flags: u32,
     /// The samples in runs of one duration.
-    pub entries: Items<SttsEntry>,
+    pub entries: SharedItems<SttsEntry>,
 }
 
 impl ExactEq for SttsBox {
@@ -137,7 +144,7 @@ impl SttsBox {
         Ok(SttsBox {
             version: 0,
             flags: 0,
-            entries: Items::new(alloc),
+            entries: SharedItems::new(alloc),
         })
     }
 
@@ -153,7 +160,7 @@ impl SttsBox {
     pub fn get_size(&self) -> u64
         ensures { result ≡ size_around (stts_payload self.now) }
     {
-        table_size(self.version, self.flags, &self.entries)
+        table_size(self.version, self.flags, self.entries.as_slice())
     }
 }
 
@@ -217,7 +224,7 @@ impl WriteBox for SttsBox {
 
     #[tactic(auto, using(crate::proofs::Sizes::sizes), unfolding(crate::specs::Stts::stts_payload))]
     fn put_payload(&self, out: &mut Vec<u8>) -> Put {
-        put_table(out, self.version, self.flags, &self.entries)?;
+        put_table(out, self.version, self.flags, self.entries.as_slice())?;
         Ok(())
     }
 }

@@ -7,12 +7,15 @@ ghost use Rattle.mp4_codec.specs.Bytes.{Appends};
 ghost use Rattle.mp4_table.specs.Table.{table_of, table};
 ghost use Rattle.mp4_codec.specs.Early.{Shows, refused_at_once};
 
-use mp4_codec::{Entry, Fields, Items, Put, Result, list_size, put_list, put_u8, put_u24, put_u32};
+use mp4_codec::{
+    Entry, Fields, Items, Put, Result, SharedItem, SharedItems, list_size, put_list, put_u8,
+    put_u24, put_u32,
+};
 use std::alloc::Global;
 
 /// The version, the flags and the entries of a payload. What refuses it is found before memory is requested.
 #[tactic(auto, unfolding(crate::specs::Table::table_of))]
-pub(crate) fn read_table<T: Entry>(alloc: Global, payload: &[u8]) -> Result<(u8, u32, Items<T>)>
+pub(crate) fn read_entries<T: Entry>(alloc: Global, payload: &[u8]) -> Result<(u8, u32, Items<T>)>
     ensures value { Answers (λ table. table) result (table_of T.at payload.now) }
     ensures early { Shows (refused_at_once (table_of T.at payload.now)) result }
 {
@@ -24,13 +27,20 @@ pub(crate) fn read_table<T: Entry>(alloc: Global, payload: &[u8]) -> Result<(u8,
     Ok((version, flags, entries))
 }
 
+/// The same, with the entries in a list that copies share.
+pub(crate) fn read_table<T: Entry + SharedItem + Drop>(
+    alloc: Global,
+    payload: &[u8],
+) -> Result<(u8, u32, SharedItems<T>)>
+    ensures value { Answers (λ table. table) result (table_of T.at payload.now) }
+    ensures early { Shows (refused_at_once (table_of T.at payload.now)) result }
+{
+    let (version, flags, entries) = read_entries(alloc, payload)?;
+    Ok((version, flags, SharedItems::from_items(entries)?))
+}
+
 /// Adds the payload of a table at the end of a buffer.
-pub(crate) fn put_table<T: Entry>(
-    out: &mut Vec<u8>,
-    version: u8,
-    flags: u32,
-    entries: &Items<T>,
-) -> Put
+pub(crate) fn put_table<T: Entry>(out: &mut Vec<u8>, version: u8, flags: u32, entries: &[T]) -> Put
     requires { length entries.now < 2 ^ 32 }
     ensures { OnOk result (Appends out.old.items out.new.items (table T.spelled version flags entries.now)) }
 {
@@ -42,7 +52,7 @@ pub(crate) fn put_table<T: Entry>(
 }
 
 /// The bytes of a table's box, its header included; they stop at 2^64 - 1.
-pub(crate) fn table_size<T: Entry>(version: u8, flags: u32, entries: &Items<T>) -> u64
+pub(crate) fn table_size<T: Entry>(version: u8, flags: u32, entries: &[T]) -> u64
     ensures { result ≡ size_around (table T.spelled version flags entries.now) }
 {
     list_size(version, entries).saturating_add(16)
