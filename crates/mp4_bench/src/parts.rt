@@ -2,7 +2,7 @@
 
 use mp4_plain_movies::nested::{DINF, HDLR, MDHD, TKHD};
 use mp4_plain_movies::plain_bytes::put_over;
-use mp4_plain_movies::spelled::hex;
+use mp4_plain_movies::encoded::hex;
 use std::alloc::{AllocError, Global};
 
 /// Where the id stands in a track header.

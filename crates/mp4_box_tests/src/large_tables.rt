@@ -2,7 +2,7 @@
 
 use crate::asserts::check;
 use mp4_codec::Result;
-use mp4_plain_movies::spelled::{read_bytes, written};
+use mp4_plain_movies::encoded::{read_bytes, written};
 use mp4_table::{StscBox, SttsBox};
 use std::alloc::Global;
 

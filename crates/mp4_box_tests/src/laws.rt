@@ -2,7 +2,7 @@
 
 use mp4_boxes::read_tables_have_first_samples;
 use mp4_codec::{
-    code_again, frame_has_its_head, header_says_its_box, insertion_changes_one_key,
+    code_again, box_has_its_header, header_says_its_box, insertion_changes_one_key,
     payload_has_its_children, refused_head_says_why, what_is_written_reads_back,
 };
 use mp4_meta::{MetadataKey, equal_keys_hash_alike};
@@ -14,7 +14,7 @@ use mp4_table::{
 
 #[test]
 fn a_law_can_be_called(rt: HostRuntime) {
-    frame_has_its_head();
+    box_has_its_header();
     header_says_its_box();
     refused_head_says_why();
     payload_has_its_children(&[0, 0, 0, 8, b'f', b'r', b'e', b'e']);

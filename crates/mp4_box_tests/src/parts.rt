@@ -10,7 +10,7 @@ use mp4_entry::{
 };
 use mp4_leaf::{DataType, ElstEntry, Matrix, RgbColor};
 use mp4_plain_movies::sides::Side;
-use mp4_plain_movies::spelled::prints;
+use mp4_plain_movies::encoded::prints;
 use mp4_table::{CttsEntry, StscEntry, SttsEntry};
 use std::alloc::Global;
 use std::collections::HashMap;

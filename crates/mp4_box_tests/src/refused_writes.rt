@@ -7,7 +7,7 @@ use mp4_codec::{
 };
 use mp4_frag::{EmsgBox, MehdBox, TfdtBox, TfhdBox, TrunBox};
 use mp4_leaf::{DataBox, DataType, ElstBox, ElstEntry, HdlrBox, MdhdBox, MvhdBox, TkhdBox, UrlBox};
-use mp4_plain_movies::spelled::{
+use mp4_plain_movies::encoded::{
     also, hex, is_invalid, is_past_its_field, is_unrepresentable, writes,
 };
 use mp4_table::{Co64Box, StcoBox, StscBox, StscEntry, StszBox};

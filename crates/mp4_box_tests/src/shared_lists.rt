@@ -7,7 +7,7 @@ use mp4_entry::{AvcCBox, NalUnit};
 use mp4_frag::TrunBox;
 use mp4_moof::TrafBox;
 use mp4_plain_movies::equality::{are_alike, tells_each};
-use mp4_plain_movies::spelled::both;
+use mp4_plain_movies::encoded::both;
 use std::alloc::{AllocError, Global};
 use std::slice;
 

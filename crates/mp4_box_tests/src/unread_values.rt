@@ -9,7 +9,7 @@ use mp4_frag::TrunBox;
 use mp4_leaf::{DataBox, DataType, HdlrBox};
 use mp4_meta::{IlstBox, IlstItemBox, MetaBox, Metadata, MetadataKey};
 use mp4_moof::TrafBox;
-use mp4_plain_movies::spelled::{
+use mp4_plain_movies::encoded::{
     also, both, hex, is_invalid, is_unrepresentable, read_bytes, writes, written,
 };
 use std::alloc::Global;

@@ -6,7 +6,7 @@ use Rattle.mp4_codec.specs.Boxes.{optional, optional_refusal, IsCanonical}
 use Rattle.mp4_codec.specs.Early.{Early, succeeds, early_last, refused_at_once, ◌before◌}
 use Rattle.mp4_codec.specs.Children.{ChildBox, next_at, with_last}
 use Rattle.mp4_leaf.specs.declared.elst.ElstBox.{ElstBox}
-use Rattle.mp4_leaf.specs.Elst.{elst_of, elst_payload, elst_refusal, IsInRangeElst, RemarksElst}
+use Rattle.mp4_leaf.specs.Elst.{elst_of, elst_payload, elst_refusal, IsInRangeElst, IsWellFormedElst}
 use Rattle.mp4_boxes.specs.declared.edts.EdtsBox.{EdtsBox}
 
 -- the edit list that a first child is, if it is one
@@ -42,13 +42,13 @@ edts_refusal b = optional_refusal elst_refusal b.elst
 pub record IsInRangeEdts (b : EdtsBox) : Type 0 where
   pub elst : IfSome b.elst IsInRangeElst
 
--- the remarks of its child
-pub record RemarksEdts (b : EdtsBox) : Type 0 where
-  pub elst : IfSome b.elst RemarksElst
+-- its child is well-formed
+pub record IsWellFormedEdts (b : EdtsBox) : Type 0 where
+  pub elst : IfSome b.elst IsWellFormedElst
 
 -- edits that are written and read back equal
 abbrev pub IsCanonicalEdts : EdtsBox → Type 0
-IsCanonicalEdts = IsCanonical IsInRangeEdts RemarksEdts edts_payload edts_refusal
+IsCanonicalEdts = IsCanonical IsInRangeEdts IsWellFormedEdts edts_payload edts_refusal
 
 -- no edit list
 abbrev pub default_edts : EdtsBox

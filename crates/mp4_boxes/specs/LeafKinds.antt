@@ -5,33 +5,33 @@ use Rattle.mp4_codec.specs.declared.box_type.BoxType.TheVariants.{MdhdBox as mdh
 use Rattle.mp4_codec.specs.declared.box_type.BoxType.TheVariants.{SmhdBox as smhd, DinfBox as dinf}
 use Rattle.mp4_codec.specs.BoxType.{box_type}
 use Rattle.mp4_codec.specs.Boxes.{no_refusal}
-use Rattle.mp4_codec.specs.Framing.{IsSpellable}
+use Rattle.mp4_codec.specs.Framing.{IsEncodable}
 use Rattle.mp4_codec.specs.WrittenParts.{Kind}
 use Rattle.mp4_leaf.specs.declared.mvhd.MvhdBox.{MvhdBox}
-use Rattle.mp4_leaf.specs.Mvhd.{mvhd_of, mvhd_payload, mvhd_refusal, IsInRangeMvhd, RemarksMvhd}
+use Rattle.mp4_leaf.specs.Mvhd.{mvhd_of, mvhd_payload, mvhd_refusal, IsInRangeMvhd, IsWellFormedMvhd}
 use Rattle.mp4_leaf.specs.MvhdLaws.{mvhd_again}
 use Rattle.mp4_leaf.specs.declared.tkhd.TkhdBox.{TkhdBox}
-use Rattle.mp4_leaf.specs.Tkhd.{tkhd_of, tkhd_payload, tkhd_refusal, IsInRangeTkhd, RemarksTkhd}
+use Rattle.mp4_leaf.specs.Tkhd.{tkhd_of, tkhd_payload, tkhd_refusal, IsInRangeTkhd, IsWellFormedTkhd}
 use Rattle.mp4_leaf.specs.TkhdLaws.{tkhd_again}
 use Rattle.mp4_leaf.specs.declared.elst.ElstBox.{ElstBox}
-use Rattle.mp4_leaf.specs.Elst.{elst_of, elst_payload, elst_refusal, IsInRangeElst, RemarksElst}
+use Rattle.mp4_leaf.specs.Elst.{elst_of, elst_payload, elst_refusal, IsInRangeElst, IsWellFormedElst}
 use Rattle.mp4_leaf.specs.ElstLaws.{elst_again}
 use Rattle.mp4_leaf.specs.declared.mdhd.MdhdBox.{MdhdBox}
-use Rattle.mp4_leaf.specs.Mdhd.{mdhd_of, mdhd_payload, mdhd_refusal, IsInRangeMdhd, RemarksMdhd}
+use Rattle.mp4_leaf.specs.Mdhd.{mdhd_of, mdhd_payload, mdhd_refusal, IsInRangeMdhd, IsWellFormedMdhd}
 use Rattle.mp4_leaf.specs.MdhdLaws.{mdhd_again}
 use Rattle.mp4_leaf.specs.declared.vmhd.VmhdBox.{VmhdBox}
-use Rattle.mp4_leaf.specs.Vmhd.{vmhd_of, vmhd_payload, IsInRangeVmhd, RemarksVmhd}
+use Rattle.mp4_leaf.specs.Vmhd.{vmhd_of, vmhd_payload, IsInRangeVmhd, IsWellFormedVmhd}
 use Rattle.mp4_leaf.specs.VmhdLaws.{vmhd_again}
 use Rattle.mp4_leaf.specs.declared.smhd.SmhdBox.{SmhdBox}
-use Rattle.mp4_leaf.specs.Smhd.{smhd_of, smhd_payload, IsInRangeSmhd, RemarksSmhd}
+use Rattle.mp4_leaf.specs.Smhd.{smhd_of, smhd_payload, IsInRangeSmhd, IsWellFormedSmhd}
 use Rattle.mp4_leaf.specs.SmhdLaws.{smhd_again}
 use Rattle.mp4_leaf.specs.declared.dinf.DinfBox.{DinfBox}
-use Rattle.mp4_leaf.specs.Dinf.{dinf_of, dinf_payload, IsInRangeDinf, RemarksDinf}
+use Rattle.mp4_leaf.specs.Dinf.{dinf_of, dinf_payload, IsInRangeDinf, IsWellFormedDinf}
 use Rattle.mp4_leaf.specs.DinfLaws.{dinf_again}
 
-pub spellable_mvhd : IsSpellable mvhd
+pub encodable_mvhd : IsEncodable mvhd
 unfolding box_type
-spellable_mvhd = record { named = refl; code = lit< tt }
+encodable_mvhd = record { named = refl; code = lit< tt }
 
 abbrev pub mvhd_kind : Kind MvhdBox
 mvhd_kind = record {
@@ -40,14 +40,14 @@ mvhd_kind = record {
   value = mvhd_of;
   refusal = mvhd_refusal;
   IsInRange = IsInRangeMvhd;
-  Remarks = RemarksMvhd;
-  spellable = spellable_mvhd;
+  IsWellFormed = IsWellFormedMvhd;
+  encodable = encodable_mvhd;
   again = mvhd_again;
 }
 
-pub spellable_tkhd : IsSpellable tkhd
+pub encodable_tkhd : IsEncodable tkhd
 unfolding box_type
-spellable_tkhd = record { named = refl; code = lit< tt }
+encodable_tkhd = record { named = refl; code = lit< tt }
 
 abbrev pub tkhd_kind : Kind TkhdBox
 tkhd_kind = record {
@@ -56,14 +56,14 @@ tkhd_kind = record {
   value = tkhd_of;
   refusal = tkhd_refusal;
   IsInRange = IsInRangeTkhd;
-  Remarks = RemarksTkhd;
-  spellable = spellable_tkhd;
+  IsWellFormed = IsWellFormedTkhd;
+  encodable = encodable_tkhd;
   again = tkhd_again;
 }
 
-pub spellable_elst : IsSpellable elst
+pub encodable_elst : IsEncodable elst
 unfolding box_type
-spellable_elst = record { named = refl; code = lit< tt }
+encodable_elst = record { named = refl; code = lit< tt }
 
 abbrev pub elst_kind : Kind ElstBox
 elst_kind = record {
@@ -72,14 +72,14 @@ elst_kind = record {
   value = elst_of;
   refusal = elst_refusal;
   IsInRange = IsInRangeElst;
-  Remarks = RemarksElst;
-  spellable = spellable_elst;
+  IsWellFormed = IsWellFormedElst;
+  encodable = encodable_elst;
   again = elst_again;
 }
 
-pub spellable_mdhd : IsSpellable mdhd
+pub encodable_mdhd : IsEncodable mdhd
 unfolding box_type
-spellable_mdhd = record { named = refl; code = lit< tt }
+encodable_mdhd = record { named = refl; code = lit< tt }
 
 abbrev pub mdhd_kind : Kind MdhdBox
 mdhd_kind = record {
@@ -88,14 +88,14 @@ mdhd_kind = record {
   value = mdhd_of;
   refusal = mdhd_refusal;
   IsInRange = IsInRangeMdhd;
-  Remarks = RemarksMdhd;
-  spellable = spellable_mdhd;
+  IsWellFormed = IsWellFormedMdhd;
+  encodable = encodable_mdhd;
   again = mdhd_again;
 }
 
-pub spellable_vmhd : IsSpellable vmhd
+pub encodable_vmhd : IsEncodable vmhd
 unfolding box_type
-spellable_vmhd = record { named = refl; code = lit< tt }
+encodable_vmhd = record { named = refl; code = lit< tt }
 
 abbrev pub vmhd_kind : Kind VmhdBox
 vmhd_kind = record {
@@ -104,14 +104,14 @@ vmhd_kind = record {
   value = vmhd_of;
   refusal = no_refusal;
   IsInRange = IsInRangeVmhd;
-  Remarks = RemarksVmhd;
-  spellable = spellable_vmhd;
+  IsWellFormed = IsWellFormedVmhd;
+  encodable = encodable_vmhd;
   again = vmhd_again;
 }
 
-pub spellable_smhd : IsSpellable smhd
+pub encodable_smhd : IsEncodable smhd
 unfolding box_type
-spellable_smhd = record { named = refl; code = lit< tt }
+encodable_smhd = record { named = refl; code = lit< tt }
 
 abbrev pub smhd_kind : Kind SmhdBox
 smhd_kind = record {
@@ -120,14 +120,14 @@ smhd_kind = record {
   value = smhd_of;
   refusal = no_refusal;
   IsInRange = IsInRangeSmhd;
-  Remarks = RemarksSmhd;
-  spellable = spellable_smhd;
+  IsWellFormed = IsWellFormedSmhd;
+  encodable = encodable_smhd;
   again = smhd_again;
 }
 
-pub spellable_dinf : IsSpellable dinf
+pub encodable_dinf : IsEncodable dinf
 unfolding box_type
-spellable_dinf = record { named = refl; code = lit< tt }
+encodable_dinf = record { named = refl; code = lit< tt }
 
 abbrev pub dinf_kind : Kind DinfBox
 dinf_kind = record {
@@ -136,7 +136,7 @@ dinf_kind = record {
   value = dinf_of;
   refusal = no_refusal;
   IsInRange = IsInRangeDinf;
-  Remarks = RemarksDinf;
-  spellable = spellable_dinf;
+  IsWellFormed = IsWellFormedDinf;
+  encodable = encodable_dinf;
   again = dinf_again;
 }

@@ -3,15 +3,15 @@ use Rattle.std.specs.Prelude.{ℕ, List, Option, Result, Ok}
 use Rattle.mp4_codec.specs.declared.box_type.BoxType.TheVariants.{MdhdBox as mdhd, HdlrBox as hdlr, MinfBox as minf}
 use Rattle.mp4_codec.specs.Cause.{Cause, ◌>>=◌, ◌or◌}
 use Rattle.mp4_codec.specs.Bytes.{◌⧺◌}
-use Rattle.mp4_codec.specs.Boxes.{frame, IsCanonical}
+use Rattle.mp4_codec.specs.Boxes.{box_bytes, IsCanonical}
 use Rattle.mp4_codec.specs.Early.{Early, early_gathered, early_last, at_once, refused_at_once, ◌and_then◌}
 use Rattle.mp4_codec.specs.Children.{ChildBox, children, gathered, fault_in, last_of, with_last, needed}
-use Rattle.mp4_leaf.specs.Mdhd.{mdhd_of, mdhd_payload, mdhd_refusal, IsInRangeMdhd, RemarksMdhd, default_mdhd}
-use Rattle.mp4_leaf.specs.Hdlr.{hdlr_of, hdlr_payload, IsInRangeHdlr, RemarksHdlr, default_hdlr}
+use Rattle.mp4_leaf.specs.Mdhd.{mdhd_of, mdhd_payload, mdhd_refusal, IsInRangeMdhd, IsWellFormedMdhd, default_mdhd}
+use Rattle.mp4_leaf.specs.Hdlr.{hdlr_of, hdlr_payload, IsInRangeHdlr, IsWellFormedHdlr, default_hdlr}
 use Rattle.mp4_boxes.specs.declared.mdia.MdiaBox.{MdiaBox}
 use Rattle.mp4_boxes.specs.declared.mdia.MdiaParts.{MdiaParts}
 use Rattle.mp4_boxes.specs.Minf.{minf_of, minf_early, minf_payload}
-use Rattle.mp4_boxes.specs.Minf.{minf_refusal, IsInRangeMinf, RemarksMinf, default_minf}
+use Rattle.mp4_boxes.specs.Minf.{minf_refusal, IsInRangeMinf, IsWellFormedMinf, default_minf}
 
 -- why a child refuses the media
 unfoldable pub mdia_fault : ChildBox → Option Cause
@@ -52,7 +52,7 @@ mdia_early payload = early_gathered mdia_child_early (children payload) and_then
 -- the payload that holds media
 unfoldable pub mdia_payload : MdiaBox → List ℕ
 mdia_payload b =
-    frame mdhd (mdhd_payload b.mdhd) ⧺ frame hdlr (hdlr_payload b.hdlr) ⧺ frame minf (minf_payload b.minf)
+    box_bytes mdhd (mdhd_payload b.mdhd) ⧺ box_bytes hdlr (hdlr_payload b.hdlr) ⧺ box_bytes minf (minf_payload b.minf)
 
 -- why media are not written: the header first, then the media information; no handler is refused
 unfoldable pub mdia_refusal : MdiaBox → Option Cause
@@ -64,15 +64,15 @@ pub record IsInRangeMdia (b : MdiaBox) : Type 0 where
   pub hdlr : IsInRangeHdlr b.hdlr
   pub minf : IsInRangeMinf b.minf
 
--- the remarks of its children
-pub record RemarksMdia (b : MdiaBox) : Type 0 where
-  pub mdhd : RemarksMdhd b.mdhd
-  pub hdlr : RemarksHdlr b.hdlr
-  pub minf : RemarksMinf b.minf
+-- its children are well-formed
+pub record IsWellFormedMdia (b : MdiaBox) : Type 0 where
+  pub mdhd : IsWellFormedMdhd b.mdhd
+  pub hdlr : IsWellFormedHdlr b.hdlr
+  pub minf : IsWellFormedMinf b.minf
 
 -- media that are written and read back equal
 abbrev pub IsCanonicalMdia : MdiaBox → Type 0
-IsCanonicalMdia = IsCanonical IsInRangeMdia RemarksMdia mdia_payload mdia_refusal
+IsCanonicalMdia = IsCanonical IsInRangeMdia IsWellFormedMdia mdia_payload mdia_refusal
 
 -- media of defaults
 abbrev pub default_mdia : MdiaBox

@@ -4,8 +4,8 @@ use Rattle.mp4_codec.specs.declared.box_type.BoxType.TheVariants.{MdhdBox as mdh
 use Rattle.mp4_codec.specs.declared.box_type.BoxType.TheVariants.{MdiaBox as mdia}
 use Rattle.mp4_codec.specs.BoxType.{box_type}
 use Rattle.mp4_codec.specs.Cause.{unless}
-use Rattle.mp4_codec.specs.Boxes.{frame}
-use Rattle.mp4_codec.specs.Framing.{IsSpellable}
+use Rattle.mp4_codec.specs.Boxes.{box_bytes}
+use Rattle.mp4_codec.specs.Framing.{IsEncodable}
 use Rattle.mp4_codec.specs.Children.{ChildBox, children, gathered, fault_in, last_of, needed}
 use Rattle.mp4_codec.specs.GatherLaws.{unless-then, with_last-last_of, last_child-adds}
 use Rattle.mp4_codec.specs.Steps.{both_steps, ok_is}
@@ -24,7 +24,7 @@ use Rattle.mp4_boxes.specs.LeafKinds.{mdhd_kind}
 use Rattle.mp4_boxes.specs.Minf.{minf_of, minf_payload, minf_refusal}
 use Rattle.mp4_boxes.specs.MinfLaws.{minf_kind, minf_of-has_first_samples}
 use Rattle.mp4_boxes.specs.Mdia.{mdia_fault, mdia_taken, mdia_added, mdia_of, mdia_payload, mdia_refusal}
-use Rattle.mp4_boxes.specs.Mdia.{IsInRangeMdia, RemarksMdia, IsCanonicalMdia}
+use Rattle.mp4_boxes.specs.Mdia.{IsInRangeMdia, IsWellFormedMdia, IsCanonicalMdia}
 
 pub mdia_adds : (cs : List ChildBox) (c : ChildBox)
     → mdia_added (mdia_taken cs) c ≡ unless (mdia_fault c) (Ok (mdia_taken (cs ++ c ∷ [])))
@@ -41,9 +41,9 @@ groups b = (mdhd, payloads mdhd_payload (b.mdhd ∷ []))
     ∷ (minf, payloads minf_payload (b.minf ∷ [])) ∷ []
 
 record Parts (b : MdiaBox) : Type 0 where
-  mdhd : Part mdhd_kind (frame mdhd (mdhd_payload b.mdhd)) (b.mdhd ∷ [])
-  hdlr : Part hdlr_kind (frame hdlr (hdlr_payload b.hdlr)) (b.hdlr ∷ [])
-  minf : Part minf_kind (frame minf (minf_payload b.minf)) (b.minf ∷ [])
+  mdhd : Part mdhd_kind (box_bytes mdhd (mdhd_payload b.mdhd)) (b.mdhd ∷ [])
+  hdlr : Part hdlr_kind (box_bytes hdlr (hdlr_payload b.hdlr)) (b.hdlr ∷ [])
+  minf : Part minf_kind (box_bytes minf (minf_payload b.minf)) (b.minf ∷ [])
 
 parts : (b : MdiaBox) → IsCanonicalMdia b → Parts b
 unfolding mdia_payload mdia_refusal
@@ -54,9 +54,9 @@ parts b f =
     let handler = both_fit _ _ _ header.1 in
     let sound = or_parts (mdhd_refusal b.mdhd) (minf_refusal b.minf) written.sound in
     record {
-      mdhd = required_part mdhd_kind b.mdhd f.in_range.mdhd f.remarks.mdhd sound.0 header.0;
-      hdlr = required_part hdlr_kind b.hdlr f.in_range.hdlr f.remarks.hdlr refl handler.0;
-      minf = required_part minf_kind b.minf f.in_range.minf f.remarks.minf sound.1 handler.1;
+      mdhd = required_part mdhd_kind b.mdhd f.in_range.mdhd f.well_formed.mdhd sound.0 header.0;
+      hdlr = required_part hdlr_kind b.hdlr f.in_range.hdlr f.well_formed.hdlr refl handler.0;
+      minf = required_part minf_kind b.minf f.in_range.minf f.well_formed.minf sound.1 handler.1;
     }
 
 pub mdia_again : (b : MdiaBox) → IsCanonicalMdia b → mdia_of (mdia_payload b) ≡ Ok b
@@ -90,9 +90,9 @@ mdia_of-has_first_samples payload b e =
     needed-holds (λ (m : MinfBox). HasFirstSamples m.stbl.stsc.entries) minf minf_of minf_of-has_first_samples
     (children payload).0 b.minf last
 
-pub spellable_mdia : IsSpellable mdia
+pub encodable_mdia : IsEncodable mdia
 unfolding box_type
-spellable_mdia = record { named = refl; code = lit< tt }
+encodable_mdia = record { named = refl; code = lit< tt }
 
 abbrev pub mdia_kind : Kind MdiaBox
 mdia_kind = record {
@@ -101,7 +101,7 @@ mdia_kind = record {
   value = mdia_of;
   refusal = mdia_refusal;
   IsInRange = IsInRangeMdia;
-  Remarks = RemarksMdia;
-  spellable = spellable_mdia;
+  IsWellFormed = IsWellFormedMdia;
+  encodable = encodable_mdia;
   again = mdia_again;
 }

@@ -4,16 +4,16 @@ use Rattle.mp4_codec.specs.declared.box_type.BoxType.TheVariants.{VmhdBox as vmh
 use Rattle.mp4_codec.specs.declared.box_type.BoxType.TheVariants.{StblBox as stbl}
 use Rattle.mp4_codec.specs.Cause.{Cause, ◌>>=◌, ◌or◌}
 use Rattle.mp4_codec.specs.Bytes.{◌⧺◌}
-use Rattle.mp4_codec.specs.Boxes.{frame, optional, IsCanonical}
+use Rattle.mp4_codec.specs.Boxes.{box_bytes, optional, IsCanonical}
 use Rattle.mp4_codec.specs.Early.{Early, early_gathered, early_last, at_once, ◌and_then◌}
 use Rattle.mp4_codec.specs.Children.{ChildBox, children, gathered, fault_in, last_of, with_last, needed}
-use Rattle.mp4_leaf.specs.Vmhd.{vmhd_of, vmhd_payload, IsInRangeVmhd, RemarksVmhd}
-use Rattle.mp4_leaf.specs.Smhd.{smhd_of, smhd_payload, IsInRangeSmhd, RemarksSmhd}
-use Rattle.mp4_leaf.specs.Dinf.{dinf_of, dinf_early, dinf_payload, IsInRangeDinf, RemarksDinf, default_dinf}
+use Rattle.mp4_leaf.specs.Vmhd.{vmhd_of, vmhd_payload, IsInRangeVmhd, IsWellFormedVmhd}
+use Rattle.mp4_leaf.specs.Smhd.{smhd_of, smhd_payload, IsInRangeSmhd, IsWellFormedSmhd}
+use Rattle.mp4_leaf.specs.Dinf.{dinf_of, dinf_early, dinf_payload, IsInRangeDinf, IsWellFormedDinf, default_dinf}
 use Rattle.mp4_boxes.specs.declared.minf.MinfBox.{MinfBox}
 use Rattle.mp4_boxes.specs.declared.minf.MinfParts.{MinfParts}
 use Rattle.mp4_boxes.specs.Stbl.{stbl_of, stbl_early, stbl_payload}
-use Rattle.mp4_boxes.specs.Stbl.{stbl_refusal, IsInRangeStbl, RemarksStbl, default_stbl}
+use Rattle.mp4_boxes.specs.Stbl.{stbl_refusal, IsInRangeStbl, IsWellFormedStbl, default_stbl}
 
 -- why a child refuses the media information
 unfoldable pub minf_fault : ChildBox → Option Cause
@@ -61,8 +61,8 @@ minf_early payload = early_gathered minf_child_early (children payload) and_then
 -- the payload that holds media information
 unfoldable pub minf_payload : MinfBox → List ℕ
 minf_payload b =
-    optional vmhd vmhd_payload b.vmhd ⧺ optional smhd smhd_payload b.smhd ⧺ frame dinf (dinf_payload b.dinf)
-    ⧺ frame stbl (stbl_payload b.stbl)
+    optional vmhd vmhd_payload b.vmhd ⧺ optional smhd smhd_payload b.smhd ⧺ box_bytes dinf (dinf_payload b.dinf)
+    ⧺ box_bytes stbl (stbl_payload b.stbl)
 
 -- why media information is not written: no child but the sample table is refused
 unfoldable pub minf_refusal : MinfBox → Option Cause
@@ -75,16 +75,16 @@ pub record IsInRangeMinf (b : MinfBox) : Type 0 where
   pub dinf : IsInRangeDinf b.dinf
   pub stbl : IsInRangeStbl b.stbl
 
--- the remarks of its children
-pub record RemarksMinf (b : MinfBox) : Type 0 where
-  pub vmhd : IfSome b.vmhd RemarksVmhd
-  pub smhd : IfSome b.smhd RemarksSmhd
-  pub dinf : RemarksDinf b.dinf
-  pub stbl : RemarksStbl b.stbl
+-- its children are well-formed
+pub record IsWellFormedMinf (b : MinfBox) : Type 0 where
+  pub vmhd : IfSome b.vmhd IsWellFormedVmhd
+  pub smhd : IfSome b.smhd IsWellFormedSmhd
+  pub dinf : IsWellFormedDinf b.dinf
+  pub stbl : IsWellFormedStbl b.stbl
 
 -- media information that is written and reads back equal
 abbrev pub IsCanonicalMinf : MinfBox → Type 0
-IsCanonicalMinf = IsCanonical IsInRangeMinf RemarksMinf minf_payload minf_refusal
+IsCanonicalMinf = IsCanonical IsInRangeMinf IsWellFormedMinf minf_payload minf_refusal
 
 -- media information of defaults, of no kind of media
 abbrev pub default_minf : MinfBox

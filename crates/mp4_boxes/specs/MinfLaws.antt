@@ -5,8 +5,8 @@ use Rattle.mp4_codec.specs.declared.box_type.BoxType.TheVariants.{VmhdBox as vmh
 use Rattle.mp4_codec.specs.declared.box_type.BoxType.TheVariants.{StblBox as stbl, MinfBox as minf}
 use Rattle.mp4_codec.specs.BoxType.{box_type}
 use Rattle.mp4_codec.specs.Cause.{unless}
-use Rattle.mp4_codec.specs.Boxes.{frame, optional}
-use Rattle.mp4_codec.specs.Framing.{IsSpellable}
+use Rattle.mp4_codec.specs.Boxes.{box_bytes, optional}
+use Rattle.mp4_codec.specs.Framing.{IsEncodable}
 use Rattle.mp4_codec.specs.Children.{ChildBox, children, gathered, fault_in, last_of, needed}
 use Rattle.mp4_codec.specs.GatherLaws.{unless-then, with_last-last_of, last_child-adds}
 use Rattle.mp4_codec.specs.Steps.{both_steps, ok_is}
@@ -26,7 +26,7 @@ use Rattle.mp4_boxes.specs.LeafKinds.{vmhd_kind, smhd_kind, dinf_kind}
 use Rattle.mp4_boxes.specs.Stbl.{stbl_of, stbl_payload}
 use Rattle.mp4_boxes.specs.StblLaws.{stbl_kind, stbl_of-has_first_samples}
 use Rattle.mp4_boxes.specs.Minf.{minf_fault, minf_taken, minf_added, minf_of, minf_payload, minf_refusal}
-use Rattle.mp4_boxes.specs.Minf.{IsInRangeMinf, RemarksMinf, IsCanonicalMinf}
+use Rattle.mp4_boxes.specs.Minf.{IsInRangeMinf, IsWellFormedMinf, IsCanonicalMinf}
 
 pub minf_adds : (cs : List ChildBox) (c : ChildBox)
     → minf_added (minf_taken cs) c ≡ unless (minf_fault c) (Ok (minf_taken (cs ++ c ∷ [])))
@@ -47,8 +47,8 @@ groups b = (vmhd, payloads vmhd_payload (option_to_list b.vmhd))
 record Parts (b : MinfBox) : Type 0 where
   vmhd : Part vmhd_kind (optional vmhd vmhd_payload b.vmhd) (option_to_list b.vmhd)
   smhd : Part smhd_kind (optional smhd smhd_payload b.smhd) (option_to_list b.smhd)
-  dinf : Part dinf_kind (frame dinf (dinf_payload b.dinf)) (b.dinf ∷ [])
-  stbl : Part stbl_kind (frame stbl (stbl_payload b.stbl)) (b.stbl ∷ [])
+  dinf : Part dinf_kind (box_bytes dinf (dinf_payload b.dinf)) (b.dinf ∷ [])
+  stbl : Part stbl_kind (box_bytes stbl (stbl_payload b.stbl)) (b.stbl ∷ [])
 
 parts : (b : MinfBox) → IsCanonicalMinf b → Parts b
 unfolding minf_payload minf_refusal
@@ -59,10 +59,10 @@ parts b f =
     let sound = both_fit _ _ _ video.1 in
     let information = both_fit _ _ _ sound.1 in
     record {
-      vmhd = optional_part vmhd_kind b.vmhd f.in_range.vmhd f.remarks.vmhd (none_refuses b.vmhd) video.0;
-      smhd = optional_part smhd_kind b.smhd f.in_range.smhd f.remarks.smhd (none_refuses b.smhd) sound.0;
-      dinf = required_part dinf_kind b.dinf f.in_range.dinf f.remarks.dinf refl information.0;
-      stbl = required_part stbl_kind b.stbl f.in_range.stbl f.remarks.stbl written.sound information.1;
+      vmhd = optional_part vmhd_kind b.vmhd f.in_range.vmhd f.well_formed.vmhd (none_refuses b.vmhd) video.0;
+      smhd = optional_part smhd_kind b.smhd f.in_range.smhd f.well_formed.smhd (none_refuses b.smhd) sound.0;
+      dinf = required_part dinf_kind b.dinf f.in_range.dinf f.well_formed.dinf refl information.0;
+      stbl = required_part stbl_kind b.stbl f.in_range.stbl f.well_formed.stbl written.sound information.1;
     }
 
 pub minf_again : (b : MinfBox) → IsCanonicalMinf b → minf_of (minf_payload b) ≡ Ok b
@@ -97,9 +97,9 @@ minf_of-has_first_samples payload b e =
     needed-holds (λ (t : StblBox). HasFirstSamples t.stsc.entries) stbl stbl_of stbl_of-has_first_samples
     (children payload).0 b.stbl last
 
-pub spellable_minf : IsSpellable minf
+pub encodable_minf : IsEncodable minf
 unfolding box_type
-spellable_minf = record { named = refl; code = lit< tt }
+encodable_minf = record { named = refl; code = lit< tt }
 
 abbrev pub minf_kind : Kind MinfBox
 minf_kind = record {
@@ -108,7 +108,7 @@ minf_kind = record {
   value = minf_of;
   refusal = minf_refusal;
   IsInRange = IsInRangeMinf;
-  Remarks = RemarksMinf;
-  spellable = spellable_minf;
+  IsWellFormed = IsWellFormedMinf;
+  encodable = encodable_minf;
   again = minf_again;
 }

@@ -5,15 +5,15 @@ use Rattle.mp4_codec.specs.declared.box_type.BoxType.TheVariants.{MvhdBox as mvh
 use Rattle.mp4_codec.specs.declared.box_type.BoxType.TheVariants.{MetaBox as meta, UdtaBox as udta}
 use Rattle.mp4_codec.specs.Cause.{Cause, ◌>>=◌, ◌or◌}
 use Rattle.mp4_codec.specs.Bytes.{◌⧺◌}
-use Rattle.mp4_codec.specs.Boxes.{frame, optional, optional_refusal, all_frames, all_refusal, IsCanonical}
+use Rattle.mp4_codec.specs.Boxes.{box_bytes, optional, optional_refusal, all_box_bytes, all_refusal, IsCanonical}
 use Rattle.mp4_codec.specs.Early.{Early, early_gathered, early_last, early_next, at_once, ◌and_then◌}
 use Rattle.mp4_codec.specs.Children.{ChildBox, children, gathered, fault_in, last_of, all_of, with_last, with_next}
 use Rattle.mp4_codec.specs.Children.{needed}
-use Rattle.mp4_leaf.specs.Mvhd.{mvhd_of, mvhd_payload, mvhd_refusal, IsInRangeMvhd, RemarksMvhd, default_mvhd}
-use Rattle.mp4_boxes.specs.Trak.{trak_of, trak_early, trak_payload, trak_refusal, IsInRangeTrak, RemarksTrak}
-use Rattle.mp4_moof.specs.Mvex.{mvex_of, mvex_early, mvex_payload, mvex_refusal, IsInRangeMvex, RemarksMvex}
-use Rattle.mp4_meta.specs.Meta.{meta_of, meta_early, meta_payload, IsInRangeMeta, RemarksMeta}
-use Rattle.mp4_meta.specs.Udta.{udta_of, udta_early, udta_payload, IsInRangeUdta, RemarksUdta}
+use Rattle.mp4_leaf.specs.Mvhd.{mvhd_of, mvhd_payload, mvhd_refusal, IsInRangeMvhd, IsWellFormedMvhd, default_mvhd}
+use Rattle.mp4_boxes.specs.Trak.{trak_of, trak_early, trak_payload, trak_refusal, IsInRangeTrak, IsWellFormedTrak}
+use Rattle.mp4_moof.specs.Mvex.{mvex_of, mvex_early, mvex_payload, mvex_refusal, IsInRangeMvex, IsWellFormedMvex}
+use Rattle.mp4_meta.specs.Meta.{meta_of, meta_early, meta_payload, IsInRangeMeta, IsWellFormedMeta}
+use Rattle.mp4_meta.specs.Udta.{udta_of, udta_early, udta_payload, IsInRangeUdta, IsWellFormedUdta}
 use Rattle.mp4_boxes.specs.declared.moov.MoovBox.{MoovBox}
 use Rattle.mp4_boxes.specs.declared.moov.MoovParts.{MoovParts}
 
@@ -69,8 +69,8 @@ moov_early payload = early_gathered moov_child_early (children payload) and_then
 -- the payload that holds a movie
 unfoldable pub moov_payload : MoovBox → List ℕ
 moov_payload b =
-    frame mvhd (mvhd_payload b.mvhd)
-    ⧺ all_frames trak trak_payload b.traks
+    box_bytes mvhd (mvhd_payload b.mvhd)
+    ⧺ all_box_bytes trak trak_payload b.traks
     ⧺ optional mvex mvex_payload b.mvex
     ⧺ optional meta meta_payload b.meta
     ⧺ optional udta udta_payload b.udta
@@ -87,17 +87,17 @@ pub record IsInRangeMoov (b : MoovBox) : Type 0 where
   pub meta : IfSome b.meta IsInRangeMeta
   pub udta : IfSome b.udta IsInRangeUdta
 
--- the remarks of its children
-pub record RemarksMoov (b : MoovBox) : Type 0 where
-  pub mvhd : RemarksMvhd b.mvhd
-  pub traks : AllByRecursion RemarksTrak b.traks
-  pub mvex : IfSome b.mvex RemarksMvex
-  pub meta : IfSome b.meta RemarksMeta
-  pub udta : IfSome b.udta RemarksUdta
+-- its children are well-formed
+pub record IsWellFormedMoov (b : MoovBox) : Type 0 where
+  pub mvhd : IsWellFormedMvhd b.mvhd
+  pub traks : AllByRecursion IsWellFormedTrak b.traks
+  pub mvex : IfSome b.mvex IsWellFormedMvex
+  pub meta : IfSome b.meta IsWellFormedMeta
+  pub udta : IfSome b.udta IsWellFormedUdta
 
 -- a movie that is written and reads back equal
 abbrev pub IsCanonicalMoov : MoovBox → Type 0
-IsCanonicalMoov = IsCanonical IsInRangeMoov RemarksMoov moov_payload moov_refusal
+IsCanonicalMoov = IsCanonical IsInRangeMoov IsWellFormedMoov moov_payload moov_refusal
 
 -- a movie of a default header, without tracks
 abbrev pub default_moov : MoovBox

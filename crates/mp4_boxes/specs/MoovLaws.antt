@@ -7,7 +7,7 @@ use Rattle.mp4_codec.specs.declared.box_type.BoxType.TheVariants.{MvhdBox as mvh
 use Rattle.mp4_codec.specs.declared.box_type.BoxType.TheVariants.{MetaBox as meta, UdtaBox as udta}
 use Rattle.mp4_codec.specs.Cause.{unless}
 use Rattle.mp4_codec.specs.Bytes.{◌⧺◌}
-use Rattle.mp4_codec.specs.Boxes.{frame, optional, all_frames, optional_refusal, all_refusal}
+use Rattle.mp4_codec.specs.Boxes.{box_bytes, optional, all_box_bytes, optional_refusal, all_refusal}
 use Rattle.mp4_codec.specs.Steps.{both_steps, ok_is}
 use Rattle.mp4_codec.specs.Children.{ChildBox, children, gathered, fault_in, all_of, needed}
 use Rattle.mp4_codec.specs.GatherLaws.{gathered-taken, all_of-holds}
@@ -58,8 +58,8 @@ groups b = (mvhd, payloads mvhd_payload (b.mvhd ∷ []))
     ∷ (udta, payloads udta_payload (option_to_list b.udta)) ∷ []
 
 record Parts (b : MoovBox) : Type 0 where
-  mvhd : Part mvhd_kind (frame mvhd (mvhd_payload b.mvhd)) (b.mvhd ∷ [])
-  traks : Part trak_kind (all_frames trak trak_payload b.traks) b.traks
+  mvhd : Part mvhd_kind (box_bytes mvhd (mvhd_payload b.mvhd)) (b.mvhd ∷ [])
+  traks : Part trak_kind (all_box_bytes trak trak_payload b.traks) b.traks
   mvex : Part mvex_kind (optional mvex mvex_payload b.mvex) (option_to_list b.mvex)
   meta : Part meta_kind (optional meta meta_payload b.meta) (option_to_list b.meta)
   udta : Part udta_kind (optional udta udta_payload b.udta) (option_to_list b.udta)
@@ -71,19 +71,19 @@ parts b f =
     let behind_meta = optional udta udta_payload b.udta in
     let behind_mvex = optional meta meta_payload b.meta ⧺ behind_meta in
     let behind_trak = optional mvex mvex_payload b.mvex ⧺ behind_mvex in
-    let behind_mvhd = all_frames trak trak_payload b.traks ⧺ behind_trak in
-    let mvhd_fits = both_fit (frame mvhd (mvhd_payload b.mvhd)) behind_mvhd (2 ^ 32) (omega (arith, written.small)) in
-    let trak_fits = both_fit (all_frames trak trak_payload b.traks) behind_trak (2 ^ 32) mvhd_fits.1 in
+    let behind_mvhd = all_box_bytes trak trak_payload b.traks ⧺ behind_trak in
+    let mvhd_fits = both_fit (box_bytes mvhd (mvhd_payload b.mvhd)) behind_mvhd (2 ^ 32) (omega (arith, written.small)) in
+    let trak_fits = both_fit (all_box_bytes trak trak_payload b.traks) behind_trak (2 ^ 32) mvhd_fits.1 in
     let mvex_fits = both_fit (optional mvex mvex_payload b.mvex) behind_mvex (2 ^ 32) trak_fits.1 in
     let meta_fits = both_fit (optional meta meta_payload b.meta) behind_meta (2 ^ 32) mvex_fits.1 in
     let mvhd_sound = or_parts (mvhd_refusal b.mvhd) _ written.sound in
     let trak_sound = or_parts (all_refusal trak_refusal b.traks) _ mvhd_sound.1 in
     record {
-      mvhd = required_part mvhd_kind b.mvhd f.in_range.mvhd f.remarks.mvhd mvhd_sound.0 mvhd_fits.0;
-      traks = list_part trak_kind b.traks f.in_range.traks f.remarks.traks trak_sound.0 trak_fits.0;
-      mvex = optional_part mvex_kind b.mvex f.in_range.mvex f.remarks.mvex trak_sound.1 mvex_fits.0;
-      meta = optional_part meta_kind b.meta f.in_range.meta f.remarks.meta (none_refuses b.meta) meta_fits.0;
-      udta = optional_part udta_kind b.udta f.in_range.udta f.remarks.udta (none_refuses b.udta) meta_fits.1;
+      mvhd = required_part mvhd_kind b.mvhd f.in_range.mvhd f.well_formed.mvhd mvhd_sound.0 mvhd_fits.0;
+      traks = list_part trak_kind b.traks f.in_range.traks f.well_formed.traks trak_sound.0 trak_fits.0;
+      mvex = optional_part mvex_kind b.mvex f.in_range.mvex f.well_formed.mvex trak_sound.1 mvex_fits.0;
+      meta = optional_part meta_kind b.meta f.in_range.meta f.well_formed.meta (none_refuses b.meta) meta_fits.0;
+      udta = optional_part udta_kind b.udta f.in_range.udta f.well_formed.udta (none_refuses b.udta) meta_fits.1;
     }
 
 pub moov_again : (b : MoovBox) → IsCanonicalMoov b → moov_of (moov_payload b) ≡ Ok b

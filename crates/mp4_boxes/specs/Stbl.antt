@@ -5,7 +5,7 @@ use Rattle.mp4_codec.specs.declared.box_type.BoxType.TheVariants.{StssBox as sts
 use Rattle.mp4_codec.specs.declared.box_type.BoxType.TheVariants.{StcoBox as stco, Co64Box as co64}
 use Rattle.mp4_codec.specs.Cause.{Cause, box2_not_found, ◌>>=◌, ◌or◌}
 use Rattle.mp4_codec.specs.Bytes.{◌⧺◌}
-use Rattle.mp4_codec.specs.Boxes.{frame, optional, IsCanonical}
+use Rattle.mp4_codec.specs.Boxes.{box_bytes, optional, IsCanonical}
 use Rattle.mp4_codec.specs.Early.{Early, early_gathered, early_last, at_once, refused_at_once, ◌and_then◌}
 use Rattle.mp4_codec.specs.Children.{ChildBox, children, gathered, fault_in, last_of, with_last, needed}
 use Rattle.mp4_entry.specs.declared.stsd.StsdBox.{StsdBox}
@@ -15,14 +15,14 @@ use Rattle.mp4_table.specs.declared.stsz.StszBox.{StszBox}
 use Rattle.mp4_table.specs.declared.stco.StcoBox.{StcoBox}
 use Rattle.mp4_table.specs.declared.co64.Co64Box.{Co64Box}
 use Rattle.mp4_entry.specs.Stsd.{stsd_of, stsd_early, stsd_payload}
-use Rattle.mp4_entry.specs.Stsd.{stsd_refusal, IsInRangeStsd, RemarksStsd, default_stsd}
-use Rattle.mp4_table.specs.Stts.{stts_of, stts_payload, IsInRangeStts, RemarksStts, default_stts}
-use Rattle.mp4_table.specs.Ctts.{ctts_of, ctts_payload, IsInRangeCtts, RemarksCtts}
-use Rattle.mp4_table.specs.Stss.{stss_of, stss_payload, IsInRangeStss, RemarksStss}
-use Rattle.mp4_table.specs.Stsc.{stsc_of, stsc_payload, IsInRangeStsc, RemarksStsc, default_stsc}
-use Rattle.mp4_table.specs.Stsz.{stsz_of, stsz_payload, stsz_refusal, IsInRangeStsz, RemarksStsz, default_stsz}
-use Rattle.mp4_table.specs.Stco.{stco_of, stco_payload, IsInRangeStco, RemarksStco}
-use Rattle.mp4_table.specs.Co64.{co64_of, co64_payload, IsInRangeCo64, RemarksCo64}
+use Rattle.mp4_entry.specs.Stsd.{stsd_refusal, IsInRangeStsd, IsWellFormedStsd, default_stsd}
+use Rattle.mp4_table.specs.Stts.{stts_of, stts_payload, IsInRangeStts, IsWellFormedStts, default_stts}
+use Rattle.mp4_table.specs.Ctts.{ctts_of, ctts_payload, IsInRangeCtts, IsWellFormedCtts}
+use Rattle.mp4_table.specs.Stss.{stss_of, stss_payload, IsInRangeStss, IsWellFormedStss}
+use Rattle.mp4_table.specs.Stsc.{stsc_of, stsc_payload, IsInRangeStsc, IsWellFormedStsc, default_stsc}
+use Rattle.mp4_table.specs.Stsz.{stsz_of, stsz_payload, stsz_refusal, IsInRangeStsz, IsWellFormedStsz, default_stsz}
+use Rattle.mp4_table.specs.Stco.{stco_of, stco_payload, IsInRangeStco, IsWellFormedStco}
+use Rattle.mp4_table.specs.Co64.{co64_of, co64_payload, IsInRangeCo64, IsWellFormedCo64}
 use Rattle.mp4_boxes.specs.declared.stbl.StblBox.{StblBox}
 use Rattle.mp4_boxes.specs.declared.stbl.StblParts.{StblParts}
 
@@ -112,8 +112,8 @@ stbl_early payload = early_gathered stbl_child_early (children payload) and_then
 -- the payload that holds a sample table
 unfoldable pub stbl_payload : StblBox → List ℕ
 stbl_payload b =
-    frame stsd (stsd_payload b.stsd) ⧺ frame stts (stts_payload b.stts) ⧺ optional ctts ctts_payload b.ctts
-    ⧺ optional stss stss_payload b.stss ⧺ frame stsc (stsc_payload b.stsc) ⧺ frame stsz (stsz_payload b.stsz)
+    box_bytes stsd (stsd_payload b.stsd) ⧺ box_bytes stts (stts_payload b.stts) ⧺ optional ctts ctts_payload b.ctts
+    ⧺ optional stss stss_payload b.stss ⧺ box_bytes stsc (stsc_payload b.stsc) ⧺ box_bytes stsz (stsz_payload b.stsz)
     ⧺ optional stco stco_payload b.stco ⧺ optional co64 co64_payload b.co64
 
 -- why a sample table is not written: the description first, then the sizes; no other table is refused
@@ -137,21 +137,21 @@ HasPlaces None None = ⊥
 HasPlaces (Some places) far_places = Unit {0}
 HasPlaces None (Some far_places) = Unit {0}
 
--- the remarks of its children, and stco or co64 is there
-pub record RemarksStbl (b : StblBox) : Type 0 where
-  pub stsd : RemarksStsd b.stsd
-  pub stts : RemarksStts b.stts
-  pub ctts : IfSome b.ctts RemarksCtts
-  pub stss : IfSome b.stss RemarksStss
-  pub stsc : RemarksStsc b.stsc
-  pub stsz : RemarksStsz b.stsz
-  pub stco : IfSome b.stco RemarksStco
-  pub co64 : IfSome b.co64 RemarksCo64
+-- its children are well-formed, and stco or co64 is there
+pub record IsWellFormedStbl (b : StblBox) : Type 0 where
+  pub stsd : IsWellFormedStsd b.stsd
+  pub stts : IsWellFormedStts b.stts
+  pub ctts : IfSome b.ctts IsWellFormedCtts
+  pub stss : IfSome b.stss IsWellFormedStss
+  pub stsc : IsWellFormedStsc b.stsc
+  pub stsz : IsWellFormedStsz b.stsz
+  pub stco : IfSome b.stco IsWellFormedStco
+  pub co64 : IfSome b.co64 IsWellFormedCo64
   pub places : HasPlaces b.stco b.co64
 
 -- a sample table that is written and reads back equal
 abbrev pub IsCanonicalStbl : StblBox → Type 0
-IsCanonicalStbl = IsCanonical IsInRangeStbl RemarksStbl stbl_payload stbl_refusal
+IsCanonicalStbl = IsCanonical IsInRangeStbl IsWellFormedStbl stbl_payload stbl_refusal
 
 -- a sample table of defaults, without places of chunks
 abbrev pub default_stbl : StblBox

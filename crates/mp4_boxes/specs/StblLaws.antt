@@ -7,8 +7,8 @@ use Rattle.mp4_codec.specs.declared.box_type.BoxType.TheVariants.{StssBox as sts
 use Rattle.mp4_codec.specs.declared.box_type.BoxType.TheVariants.{StcoBox as stco, Co64Box as co64, StblBox as stbl}
 use Rattle.mp4_codec.specs.BoxType.{box_type}
 use Rattle.mp4_codec.specs.Cause.{unless, ◌>>=◌}
-use Rattle.mp4_codec.specs.Boxes.{frame, optional}
-use Rattle.mp4_codec.specs.Framing.{IsSpellable}
+use Rattle.mp4_codec.specs.Boxes.{box_bytes, optional}
+use Rattle.mp4_codec.specs.Framing.{IsEncodable}
 use Rattle.mp4_codec.specs.Children.{ChildBox, children, gathered, fault_in, last_of, needed}
 use Rattle.mp4_codec.specs.GatherLaws.{unless-then, with_last-last_of, last_child-adds}
 use Rattle.mp4_codec.specs.Steps.{both_steps, ok_is}
@@ -33,7 +33,7 @@ use Rattle.mp4_codec.specs.WrittenParts.{none_refuses}
 use Rattle.mp4_boxes.specs.TableKinds.{stsd_kind, stts_kind, ctts_kind, stss_kind, stsc_kind, stsz_kind, stco_kind}
 use Rattle.mp4_boxes.specs.TableKinds.{co64_kind}
 use Rattle.mp4_boxes.specs.Stbl.{stbl_fault, stbl_taken, stbl_added, stbl_of, stbl_payload, stbl_refusal, needed_places}
-use Rattle.mp4_boxes.specs.Stbl.{HasPlaces, IsInRangeStbl, RemarksStbl, IsCanonicalStbl}
+use Rattle.mp4_boxes.specs.Stbl.{HasPlaces, IsInRangeStbl, IsWellFormedStbl, IsCanonicalStbl}
 
 pub stbl_adds : (cs : List ChildBox) (c : ChildBox)
     → stbl_added (stbl_taken cs) c ≡ unless (stbl_fault c) (Ok (stbl_taken (cs ++ c ∷ [])))
@@ -68,12 +68,12 @@ groups b = (stsd, payloads stsd_payload (b.stsd ∷ []))
     ∷ (co64, payloads co64_payload (option_to_list b.co64)) ∷ []
 
 record Parts (b : StblBox) : Type 0 where
-  stsd : Part stsd_kind (frame stsd (stsd_payload b.stsd)) (b.stsd ∷ [])
-  stts : Part stts_kind (frame stts (stts_payload b.stts)) (b.stts ∷ [])
+  stsd : Part stsd_kind (box_bytes stsd (stsd_payload b.stsd)) (b.stsd ∷ [])
+  stts : Part stts_kind (box_bytes stts (stts_payload b.stts)) (b.stts ∷ [])
   ctts : Part ctts_kind (optional ctts ctts_payload b.ctts) (option_to_list b.ctts)
   stss : Part stss_kind (optional stss stss_payload b.stss) (option_to_list b.stss)
-  stsc : Part stsc_kind (frame stsc (stsc_payload b.stsc)) (b.stsc ∷ [])
-  stsz : Part stsz_kind (frame stsz (stsz_payload b.stsz)) (b.stsz ∷ [])
+  stsc : Part stsc_kind (box_bytes stsc (stsc_payload b.stsc)) (b.stsc ∷ [])
+  stsz : Part stsz_kind (box_bytes stsz (stsz_payload b.stsz)) (b.stsz ∷ [])
   stco : Part stco_kind (optional stco stco_payload b.stco) (option_to_list b.stco)
   co64 : Part co64_kind (optional co64 co64_payload b.co64) (option_to_list b.co64)
 
@@ -91,14 +91,14 @@ parts b f =
     let places = both_fit _ _ _ sizes.1 in
     let sound = or_parts (stsd_refusal b.stsd) (stsz_refusal b.stsz) written.sound in
     record {
-      stsd = required_part stsd_kind b.stsd f.in_range.stsd f.remarks.stsd sound.0 description.0;
-      stts = required_part stts_kind b.stts f.in_range.stts f.remarks.stts refl durations.0;
-      ctts = optional_part ctts_kind b.ctts f.in_range.ctts f.remarks.ctts (none_refuses b.ctts) offsets.0;
-      stss = optional_part stss_kind b.stss f.in_range.stss f.remarks.stss (none_refuses b.stss) syncs.0;
-      stsc = required_part stsc_kind b.stsc f.in_range.stsc f.remarks.stsc refl chunks.0;
-      stsz = required_part stsz_kind b.stsz f.in_range.stsz f.remarks.stsz sound.1 sizes.0;
-      stco = optional_part stco_kind b.stco f.in_range.stco f.remarks.stco (none_refuses b.stco) places.0;
-      co64 = optional_part co64_kind b.co64 f.in_range.co64 f.remarks.co64 (none_refuses b.co64) places.1;
+      stsd = required_part stsd_kind b.stsd f.in_range.stsd f.well_formed.stsd sound.0 description.0;
+      stts = required_part stts_kind b.stts f.in_range.stts f.well_formed.stts refl durations.0;
+      ctts = optional_part ctts_kind b.ctts f.in_range.ctts f.well_formed.ctts (none_refuses b.ctts) offsets.0;
+      stss = optional_part stss_kind b.stss f.in_range.stss f.well_formed.stss (none_refuses b.stss) syncs.0;
+      stsc = required_part stsc_kind b.stsc f.in_range.stsc f.well_formed.stsc refl chunks.0;
+      stsz = required_part stsz_kind b.stsz f.in_range.stsz f.well_formed.stsz sound.1 sizes.0;
+      stco = optional_part stco_kind b.stco f.in_range.stco f.well_formed.stco (none_refuses b.stco) places.0;
+      co64 = optional_part co64_kind b.co64 f.in_range.co64 f.well_formed.co64 (none_refuses b.co64) places.1;
     }
 
 places_again : (places : Option StcoBox) (far_places : Option Co64Box) → HasPlaces places far_places
@@ -130,7 +130,7 @@ stbl_again b f =
       last_of-part stsz_kind (Some b.stsz) (groups b) p.stsz refl,
       last_of-part stco_kind b.stco (groups b) p.stco refl,
       last_of-part co64_kind b.co64 (groups b) p.co64 refl,
-      places_again b.stco b.co64 f.remarks.places,
+      places_again b.stco b.co64 f.well_formed.places,
     ) refl
 
 -- the record that the steps of reading end with
@@ -169,9 +169,9 @@ stbl_of-has_first_samples payload b e =
     needed-holds (λ t. HasFirstSamples t.entries) stsc stsc_of stsc_of-has_first_samples (children payload).0 b.stsc
     chunks
 
-pub spellable_stbl : IsSpellable stbl
+pub encodable_stbl : IsEncodable stbl
 unfolding box_type
-spellable_stbl = record { named = refl; code = lit< tt }
+encodable_stbl = record { named = refl; code = lit< tt }
 
 abbrev pub stbl_kind : Kind StblBox
 stbl_kind = record {
@@ -180,7 +180,7 @@ stbl_kind = record {
   value = stbl_of;
   refusal = stbl_refusal;
   IsInRange = IsInRangeStbl;
-  Remarks = RemarksStbl;
-  spellable = spellable_stbl;
+  IsWellFormed = IsWellFormedStbl;
+  encodable = encodable_stbl;
   again = stbl_again;
 }

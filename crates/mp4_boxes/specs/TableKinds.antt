@@ -3,7 +3,7 @@ use Rattle.std.proofs.Common.{refl, lit<}
 use Rattle.mp4_codec.specs.declared.box_type.BoxType.TheVariants.{StsdBox as stsd, SttsBox as stts, CttsBox as ctts, StssBox as stss, StscBox as stsc, StszBox as stsz, StcoBox as stco, Co64Box as co64}
 use Rattle.mp4_codec.specs.BoxType.{box_type}
 use Rattle.mp4_codec.specs.Boxes.{no_refusal}
-use Rattle.mp4_codec.specs.Framing.{IsSpellable}
+use Rattle.mp4_codec.specs.Framing.{IsEncodable}
 use Rattle.mp4_codec.specs.WrittenParts.{Kind}
 use Rattle.mp4_entry.specs.declared.stsd.StsdBox.{StsdBox}
 use Rattle.mp4_table.specs.declared.stts.SttsBox.{SttsBox}
@@ -13,54 +13,54 @@ use Rattle.mp4_table.specs.declared.stsc.StscBox.{StscBox}
 use Rattle.mp4_table.specs.declared.stsz.StszBox.{StszBox}
 use Rattle.mp4_table.specs.declared.stco.StcoBox.{StcoBox}
 use Rattle.mp4_table.specs.declared.co64.Co64Box.{Co64Box}
-use Rattle.mp4_entry.specs.Stsd.{stsd_of, stsd_payload, stsd_refusal, IsInRangeStsd, RemarksStsd}
+use Rattle.mp4_entry.specs.Stsd.{stsd_of, stsd_payload, stsd_refusal, IsInRangeStsd, IsWellFormedStsd}
 use Rattle.mp4_entry.specs.StsdLaws.{stsd_again}
-use Rattle.mp4_table.specs.Stts.{stts_of, stts_payload, IsInRangeStts, RemarksStts}
+use Rattle.mp4_table.specs.Stts.{stts_of, stts_payload, IsInRangeStts, IsWellFormedStts}
 use Rattle.mp4_table.specs.SttsLaws.{stts_again}
-use Rattle.mp4_table.specs.Ctts.{ctts_of, ctts_payload, IsInRangeCtts, RemarksCtts}
+use Rattle.mp4_table.specs.Ctts.{ctts_of, ctts_payload, IsInRangeCtts, IsWellFormedCtts}
 use Rattle.mp4_table.specs.CttsLaws.{ctts_again}
-use Rattle.mp4_table.specs.Stss.{stss_of, stss_payload, IsInRangeStss, RemarksStss}
+use Rattle.mp4_table.specs.Stss.{stss_of, stss_payload, IsInRangeStss, IsWellFormedStss}
 use Rattle.mp4_table.specs.StssLaws.{stss_again}
-use Rattle.mp4_table.specs.Stsc.{stsc_of, stsc_payload, IsInRangeStsc, RemarksStsc}
+use Rattle.mp4_table.specs.Stsc.{stsc_of, stsc_payload, IsInRangeStsc, IsWellFormedStsc}
 use Rattle.mp4_table.specs.StscLaws.{stsc_again}
-use Rattle.mp4_table.specs.Stsz.{stsz_of, stsz_payload, stsz_refusal, IsInRangeStsz, RemarksStsz}
+use Rattle.mp4_table.specs.Stsz.{stsz_of, stsz_payload, stsz_refusal, IsInRangeStsz, IsWellFormedStsz}
 use Rattle.mp4_table.specs.StszLaws.{stsz_again}
-use Rattle.mp4_table.specs.Stco.{stco_of, stco_payload, IsInRangeStco, RemarksStco}
+use Rattle.mp4_table.specs.Stco.{stco_of, stco_payload, IsInRangeStco, IsWellFormedStco}
 use Rattle.mp4_table.specs.StcoLaws.{stco_again}
-use Rattle.mp4_table.specs.Co64.{co64_of, co64_payload, IsInRangeCo64, RemarksCo64}
+use Rattle.mp4_table.specs.Co64.{co64_of, co64_payload, IsInRangeCo64, IsWellFormedCo64}
 use Rattle.mp4_table.specs.Co64Laws.{co64_again}
 
-pub spellable_stsd : IsSpellable stsd
+pub encodable_stsd : IsEncodable stsd
 unfolding box_type
-spellable_stsd = record { named = refl; code = lit< tt }
+encodable_stsd = record { named = refl; code = lit< tt }
 
-pub spellable_stts : IsSpellable stts
+pub encodable_stts : IsEncodable stts
 unfolding box_type
-spellable_stts = record { named = refl; code = lit< tt }
+encodable_stts = record { named = refl; code = lit< tt }
 
-pub spellable_ctts : IsSpellable ctts
+pub encodable_ctts : IsEncodable ctts
 unfolding box_type
-spellable_ctts = record { named = refl; code = lit< tt }
+encodable_ctts = record { named = refl; code = lit< tt }
 
-pub spellable_stss : IsSpellable stss
+pub encodable_stss : IsEncodable stss
 unfolding box_type
-spellable_stss = record { named = refl; code = lit< tt }
+encodable_stss = record { named = refl; code = lit< tt }
 
-pub spellable_stsc : IsSpellable stsc
+pub encodable_stsc : IsEncodable stsc
 unfolding box_type
-spellable_stsc = record { named = refl; code = lit< tt }
+encodable_stsc = record { named = refl; code = lit< tt }
 
-pub spellable_stsz : IsSpellable stsz
+pub encodable_stsz : IsEncodable stsz
 unfolding box_type
-spellable_stsz = record { named = refl; code = lit< tt }
+encodable_stsz = record { named = refl; code = lit< tt }
 
-pub spellable_stco : IsSpellable stco
+pub encodable_stco : IsEncodable stco
 unfolding box_type
-spellable_stco = record { named = refl; code = lit< tt }
+encodable_stco = record { named = refl; code = lit< tt }
 
-pub spellable_co64 : IsSpellable co64
+pub encodable_co64 : IsEncodable co64
 unfolding box_type
-spellable_co64 = record { named = refl; code = lit< tt }
+encodable_co64 = record { named = refl; code = lit< tt }
 
 abbrev pub stsd_kind : Kind StsdBox
 stsd_kind = record {
@@ -69,8 +69,8 @@ stsd_kind = record {
   value = stsd_of;
   refusal = stsd_refusal;
   IsInRange = IsInRangeStsd;
-  Remarks = RemarksStsd;
-  spellable = spellable_stsd;
+  IsWellFormed = IsWellFormedStsd;
+  encodable = encodable_stsd;
   again = stsd_again;
 }
 
@@ -81,8 +81,8 @@ stts_kind = record {
   value = stts_of;
   refusal = no_refusal;
   IsInRange = IsInRangeStts;
-  Remarks = RemarksStts;
-  spellable = spellable_stts;
+  IsWellFormed = IsWellFormedStts;
+  encodable = encodable_stts;
   again = stts_again;
 }
 
@@ -93,8 +93,8 @@ ctts_kind = record {
   value = ctts_of;
   refusal = no_refusal;
   IsInRange = IsInRangeCtts;
-  Remarks = RemarksCtts;
-  spellable = spellable_ctts;
+  IsWellFormed = IsWellFormedCtts;
+  encodable = encodable_ctts;
   again = ctts_again;
 }
 
@@ -105,8 +105,8 @@ stss_kind = record {
   value = stss_of;
   refusal = no_refusal;
   IsInRange = IsInRangeStss;
-  Remarks = RemarksStss;
-  spellable = spellable_stss;
+  IsWellFormed = IsWellFormedStss;
+  encodable = encodable_stss;
   again = stss_again;
 }
 
@@ -117,8 +117,8 @@ stsc_kind = record {
   value = stsc_of;
   refusal = no_refusal;
   IsInRange = IsInRangeStsc;
-  Remarks = RemarksStsc;
-  spellable = spellable_stsc;
+  IsWellFormed = IsWellFormedStsc;
+  encodable = encodable_stsc;
   again = stsc_again;
 }
 
@@ -129,8 +129,8 @@ stsz_kind = record {
   value = stsz_of;
   refusal = stsz_refusal;
   IsInRange = IsInRangeStsz;
-  Remarks = RemarksStsz;
-  spellable = spellable_stsz;
+  IsWellFormed = IsWellFormedStsz;
+  encodable = encodable_stsz;
   again = stsz_again;
 }
 
@@ -141,8 +141,8 @@ stco_kind = record {
   value = stco_of;
   refusal = no_refusal;
   IsInRange = IsInRangeStco;
-  Remarks = RemarksStco;
-  spellable = spellable_stco;
+  IsWellFormed = IsWellFormedStco;
+  encodable = encodable_stco;
   again = stco_again;
 }
 
@@ -153,7 +153,7 @@ co64_kind = record {
   value = co64_of;
   refusal = no_refusal;
   IsInRange = IsInRangeCo64;
-  Remarks = RemarksCo64;
-  spellable = spellable_co64;
+  IsWellFormed = IsWellFormedCo64;
+  encodable = encodable_co64;
   again = co64_again;
 }

@@ -4,14 +4,14 @@ use Rattle.mp4_codec.specs.declared.box_type.BoxType.TheVariants.{TkhdBox as tkh
 use Rattle.mp4_codec.specs.declared.box_type.BoxType.TheVariants.{MdiaBox as mdia}
 use Rattle.mp4_codec.specs.Cause.{Cause, ◌>>=◌, ◌or◌}
 use Rattle.mp4_codec.specs.Bytes.{◌⧺◌}
-use Rattle.mp4_codec.specs.Boxes.{frame, optional, optional_refusal, IsCanonical}
+use Rattle.mp4_codec.specs.Boxes.{box_bytes, optional, optional_refusal, IsCanonical}
 use Rattle.mp4_codec.specs.Early.{Early, early_gathered, early_last, at_once, ◌and_then◌}
 use Rattle.mp4_codec.specs.Children.{ChildBox, children, gathered, fault_in, last_of, with_last, needed}
-use Rattle.mp4_leaf.specs.Tkhd.{tkhd_of, tkhd_payload, tkhd_refusal, IsInRangeTkhd, RemarksTkhd, default_tkhd}
-use Rattle.mp4_boxes.specs.Edts.{edts_of, edts_early, edts_payload, edts_refusal, IsInRangeEdts, RemarksEdts}
-use Rattle.mp4_meta.specs.Meta.{meta_of, meta_early, meta_payload, IsInRangeMeta, RemarksMeta}
+use Rattle.mp4_leaf.specs.Tkhd.{tkhd_of, tkhd_payload, tkhd_refusal, IsInRangeTkhd, IsWellFormedTkhd, default_tkhd}
+use Rattle.mp4_boxes.specs.Edts.{edts_of, edts_early, edts_payload, edts_refusal, IsInRangeEdts, IsWellFormedEdts}
+use Rattle.mp4_meta.specs.Meta.{meta_of, meta_early, meta_payload, IsInRangeMeta, IsWellFormedMeta}
 use Rattle.mp4_boxes.specs.Mdia.{mdia_of, mdia_early, mdia_payload}
-use Rattle.mp4_boxes.specs.Mdia.{mdia_refusal, IsInRangeMdia, RemarksMdia, default_mdia}
+use Rattle.mp4_boxes.specs.Mdia.{mdia_refusal, IsInRangeMdia, IsWellFormedMdia, default_mdia}
 use Rattle.mp4_boxes.specs.declared.trak.TrakBox.{TrakBox}
 use Rattle.mp4_boxes.specs.declared.trak.TrakParts.{TrakParts}
 
@@ -64,10 +64,10 @@ trak_early payload = early_gathered trak_child_early (children payload) and_then
 -- the payload that holds a track
 unfoldable pub trak_payload : TrakBox → List ℕ
 trak_payload b =
-    frame tkhd (tkhd_payload b.tkhd)
+    box_bytes tkhd (tkhd_payload b.tkhd)
     ⧺ optional edts edts_payload b.edts
     ⧺ optional meta meta_payload b.meta
-    ⧺ frame mdia (mdia_payload b.mdia)
+    ⧺ box_bytes mdia (mdia_payload b.mdia)
 
 -- why a track is not written: the first refusal in written order
 unfoldable pub trak_refusal : TrakBox → Option Cause
@@ -80,16 +80,16 @@ pub record IsInRangeTrak (b : TrakBox) : Type 0 where
   pub meta : IfSome b.meta IsInRangeMeta
   pub mdia : IsInRangeMdia b.mdia
 
--- the remarks of its children
-pub record RemarksTrak (b : TrakBox) : Type 0 where
-  pub tkhd : RemarksTkhd b.tkhd
-  pub edts : IfSome b.edts RemarksEdts
-  pub meta : IfSome b.meta RemarksMeta
-  pub mdia : RemarksMdia b.mdia
+-- its children are well-formed
+pub record IsWellFormedTrak (b : TrakBox) : Type 0 where
+  pub tkhd : IsWellFormedTkhd b.tkhd
+  pub edts : IfSome b.edts IsWellFormedEdts
+  pub meta : IfSome b.meta IsWellFormedMeta
+  pub mdia : IsWellFormedMdia b.mdia
 
 -- a track that is written and reads back equal
 abbrev pub IsCanonicalTrak : TrakBox → Type 0
-IsCanonicalTrak = IsCanonical IsInRangeTrak RemarksTrak trak_payload trak_refusal
+IsCanonicalTrak = IsCanonical IsInRangeTrak IsWellFormedTrak trak_payload trak_refusal
 
 -- a track of defaults, without edits and metadata
 abbrev pub default_trak : TrakBox

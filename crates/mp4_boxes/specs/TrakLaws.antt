@@ -6,10 +6,10 @@ use Rattle.std.proofs.Common.{lit<}
 use Rattle.mp4_codec.specs.declared.box_type.BoxType.TheVariants.{TkhdBox as tkhd, EdtsBox as edts, MetaBox as meta}
 use Rattle.mp4_codec.specs.declared.box_type.BoxType.TheVariants.{MdiaBox as mdia, TrakBox as trak}
 use Rattle.mp4_codec.specs.BoxType.{box_type}
-use Rattle.mp4_codec.specs.Framing.{IsSpellable}
+use Rattle.mp4_codec.specs.Framing.{IsEncodable}
 use Rattle.mp4_codec.specs.Cause.{unless}
 use Rattle.mp4_codec.specs.Bytes.{◌⧺◌}
-use Rattle.mp4_codec.specs.Boxes.{frame, optional, optional_refusal}
+use Rattle.mp4_codec.specs.Boxes.{box_bytes, optional, optional_refusal}
 use Rattle.mp4_codec.specs.Steps.{both_steps, ok_is}
 use Rattle.mp4_codec.specs.Children.{ChildBox, children, gathered, fault_in, last_of, needed}
 use Rattle.mp4_codec.specs.GatherLaws.{gathered-taken, needed-holds}
@@ -32,7 +32,7 @@ use Rattle.mp4_boxes.specs.LeafKinds.{tkhd_kind}
 use Rattle.mp4_boxes.specs.MdiaLaws.{mdia_kind}
 use Rattle.mp4_meta.specs.MetaLaws.{meta_kind}
 use Rattle.mp4_boxes.specs.Trak.{trak_fault, trak_taken, trak_added, trak_of, trak_payload, trak_refusal}
-use Rattle.mp4_boxes.specs.Trak.{IsInRangeTrak, RemarksTrak, IsCanonicalTrak}
+use Rattle.mp4_boxes.specs.Trak.{IsInRangeTrak, IsWellFormedTrak, IsCanonicalTrak}
 
 pub trak_adds : (cs : List ChildBox) (c : ChildBox)
     → trak_added (trak_taken cs) c ≡ unless (trak_fault c) (Ok (trak_taken (cs ++ c ∷ [])))
@@ -51,28 +51,28 @@ groups b = (tkhd, payloads tkhd_payload (b.tkhd ∷ []))
     ∷ (mdia, payloads mdia_payload (b.mdia ∷ [])) ∷ []
 
 record Parts (b : TrakBox) : Type 0 where
-  tkhd : Part tkhd_kind (frame tkhd (tkhd_payload b.tkhd)) (b.tkhd ∷ [])
+  tkhd : Part tkhd_kind (box_bytes tkhd (tkhd_payload b.tkhd)) (b.tkhd ∷ [])
   edts : Part edts_kind (optional edts edts_payload b.edts) (option_to_list b.edts)
   meta : Part meta_kind (optional meta meta_payload b.meta) (option_to_list b.meta)
-  mdia : Part mdia_kind (frame mdia (mdia_payload b.mdia)) (b.mdia ∷ [])
+  mdia : Part mdia_kind (box_bytes mdia (mdia_payload b.mdia)) (b.mdia ∷ [])
 
 parts : (b : TrakBox) → IsCanonicalTrak b → Parts b
 unfolding trak_payload trak_refusal
 parts b f =
     let written = is_written (trak_payload b) (trak_refusal b) f.written in
-    let behind_meta = frame mdia (mdia_payload b.mdia) in
+    let behind_meta = box_bytes mdia (mdia_payload b.mdia) in
     let behind_edts = optional meta meta_payload b.meta ⧺ behind_meta in
     let behind_tkhd = optional edts edts_payload b.edts ⧺ behind_edts in
-    let tkhd_fits = both_fit (frame tkhd (tkhd_payload b.tkhd)) behind_tkhd (2 ^ 32) (omega (arith, written.small)) in
+    let tkhd_fits = both_fit (box_bytes tkhd (tkhd_payload b.tkhd)) behind_tkhd (2 ^ 32) (omega (arith, written.small)) in
     let edts_fits = both_fit (optional edts edts_payload b.edts) behind_edts (2 ^ 32) tkhd_fits.1 in
     let meta_fits = both_fit (optional meta meta_payload b.meta) behind_meta (2 ^ 32) edts_fits.1 in
     let tkhd_sound = or_parts (tkhd_refusal b.tkhd) _ written.sound in
     let edts_sound = or_parts (optional_refusal edts_refusal b.edts) _ tkhd_sound.1 in
     record {
-      tkhd = required_part tkhd_kind b.tkhd f.in_range.tkhd f.remarks.tkhd tkhd_sound.0 tkhd_fits.0;
-      edts = optional_part edts_kind b.edts f.in_range.edts f.remarks.edts edts_sound.0 edts_fits.0;
-      meta = optional_part meta_kind b.meta f.in_range.meta f.remarks.meta (none_refuses b.meta) meta_fits.0;
-      mdia = required_part mdia_kind b.mdia f.in_range.mdia f.remarks.mdia edts_sound.1 meta_fits.1;
+      tkhd = required_part tkhd_kind b.tkhd f.in_range.tkhd f.well_formed.tkhd tkhd_sound.0 tkhd_fits.0;
+      edts = optional_part edts_kind b.edts f.in_range.edts f.well_formed.edts edts_sound.0 edts_fits.0;
+      meta = optional_part meta_kind b.meta f.in_range.meta f.well_formed.meta (none_refuses b.meta) meta_fits.0;
+      mdia = required_part mdia_kind b.mdia f.in_range.mdia f.well_formed.mdia edts_sound.1 meta_fits.1;
     }
 
 pub trak_again : (b : TrakBox) → IsCanonicalTrak b → trak_of (trak_payload b) ≡ Ok b
@@ -92,9 +92,9 @@ trak_again b f =
       last_of-part mdia_kind (Some b.mdia) (groups b) p.mdia refl,
     ) refl
 
-pub spellable_trak : IsSpellable trak
+pub encodable_trak : IsEncodable trak
 unfolding box_type
-spellable_trak = record { named = refl; code = lit< tt }
+encodable_trak = record { named = refl; code = lit< tt }
 
 abbrev pub trak_kind : Kind TrakBox
 trak_kind = record {
@@ -103,8 +103,8 @@ trak_kind = record {
   value = trak_of;
   refusal = trak_refusal;
   IsInRange = IsInRangeTrak;
-  Remarks = RemarksTrak;
-  spellable = spellable_trak;
+  IsWellFormed = IsWellFormedTrak;
+  encodable = encodable_trak;
   again = trak_again;
 }
 

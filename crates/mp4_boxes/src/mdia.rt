@@ -8,7 +8,7 @@ ghost use Rattle.std.specs.Prelude.{◌≡◌, Ok};
 ghost use Rattle.mp4_codec.specs.declared.box_type.BoxType.TheVariants.{MdiaBox as mdia};
 ghost use Rattle.mp4_codec.specs.Cause.{Answers};
 ghost use Rattle.mp4_codec.specs.Boxes.{size_around};
-ghost use Rattle.mp4_boxes.specs.Mdia.{mdia_payload, default_mdia, mdia_fault, mdia_child_early, mdia_taken, mdia_added, mdia_of, mdia_early, mdia_refusal, IsInRangeMdia, RemarksMdia};
+ghost use Rattle.mp4_boxes.specs.Mdia.{mdia_payload, default_mdia, mdia_fault, mdia_child_early, mdia_taken, mdia_added, mdia_of, mdia_early, mdia_refusal, IsInRangeMdia, IsWellFormedMdia};
 ghost use Rattle.mp4_boxes.specs.MdiaLaws.{mdia_adds, mdia_again};
 
 use crate::minf::MinfBox;
@@ -155,7 +155,7 @@ impl ReadBox for MdiaBox {
 impl WriteBox for MdiaBox {
     ghost refusal = { mdia_refusal };
 
-    ghost Remarks = { RemarksMdia };
+    ghost IsWellFormed = { IsWellFormedMdia };
 
     ghost reads_back = { mdia_again };
 

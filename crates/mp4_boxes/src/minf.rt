@@ -9,7 +9,7 @@ ghost use Rattle.std.specs.Prelude.{◌≡◌, Ok};
 ghost use Rattle.mp4_codec.specs.declared.box_type.BoxType.TheVariants.{MinfBox as minf};
 ghost use Rattle.mp4_codec.specs.Cause.{Gives};
 ghost use Rattle.mp4_codec.specs.Boxes.{size_around};
-ghost use Rattle.mp4_boxes.specs.Minf.{minf_payload, default_minf, minf_fault, minf_child_early, minf_taken, minf_added, minf_of, minf_early, minf_refusal, IsInRangeMinf, RemarksMinf};
+ghost use Rattle.mp4_boxes.specs.Minf.{minf_payload, default_minf, minf_fault, minf_child_early, minf_taken, minf_added, minf_of, minf_early, minf_refusal, IsInRangeMinf, IsWellFormedMinf};
 ghost use Rattle.mp4_boxes.specs.MinfLaws.{minf_adds, minf_again};
 
 use crate::parts::required_two;
@@ -176,7 +176,7 @@ impl ReadBox for MinfBox {
 impl WriteBox for MinfBox {
     ghost refusal = { minf_refusal };
 
-    ghost Remarks = { RemarksMinf };
+    ghost IsWellFormed = { IsWellFormedMinf };
 
     ghost reads_back = { minf_again };
 

@@ -10,7 +10,7 @@ ghost use Rattle.std.specs.Prelude.{◌≡◌, Ok};
 ghost use Rattle.mp4_codec.specs.declared.box_type.BoxType.TheVariants.{MoovBox as moov};
 ghost use Rattle.mp4_codec.specs.Cause.{Gives};
 ghost use Rattle.mp4_codec.specs.Boxes.{size_around};
-ghost use Rattle.mp4_boxes.specs.Moov.{moov_payload, default_moov, moov_fault, moov_child_early, moov_taken, moov_added, moov_of, moov_early, moov_refusal, IsInRangeMoov, RemarksMoov};
+ghost use Rattle.mp4_boxes.specs.Moov.{moov_payload, default_moov, moov_fault, moov_child_early, moov_taken, moov_added, moov_of, moov_early, moov_refusal, IsInRangeMoov, IsWellFormedMoov};
 ghost use Rattle.mp4_boxes.specs.MoovLaws.{moov_adds, moov_again};
 
 use crate::trak::TrakBox;
@@ -195,7 +195,7 @@ impl ReadBox for MoovBox {
 impl WriteBox for MoovBox {
     ghost refusal = { moov_refusal };
 
-    ghost Remarks = { RemarksMoov };
+    ghost IsWellFormed = { IsWellFormedMoov };
 
     ghost reads_back = { moov_again };
 

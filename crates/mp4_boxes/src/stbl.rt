@@ -13,7 +13,7 @@ ghost use Rattle.std.specs.Prelude.{◌≡◌, Ok};
 ghost use Rattle.mp4_codec.specs.declared.box_type.BoxType.TheVariants.{StblBox as stbl};
 ghost use Rattle.mp4_codec.specs.Cause.{Gives};
 ghost use Rattle.mp4_codec.specs.Boxes.{size_around};
-ghost use Rattle.mp4_boxes.specs.Stbl.{stbl_payload, default_stbl, stbl_fault, stbl_child_early, stbl_taken, stbl_added, stbl_of, stbl_early, stbl_refusal, needed_places, IsInRangeStbl, RemarksStbl};
+ghost use Rattle.mp4_boxes.specs.Stbl.{stbl_payload, default_stbl, stbl_fault, stbl_child_early, stbl_taken, stbl_added, stbl_of, stbl_early, stbl_refusal, needed_places, IsInRangeStbl, IsWellFormedStbl};
 ghost use Rattle.mp4_boxes.specs.StblLaws.{stbl_adds, stbl_again};
 
 use crate::parts::required_four;
@@ -256,7 +256,7 @@ impl ReadBox for StblBox {
 impl WriteBox for StblBox {
     ghost refusal = { stbl_refusal };
 
-    ghost Remarks = { RemarksStbl };
+    ghost IsWellFormed = { IsWellFormedStbl };
 
     ghost reads_back = { stbl_again };
 

@@ -9,7 +9,7 @@ ghost use Rattle.std.specs.Prelude.{◌≡◌, Ok};
 ghost use Rattle.mp4_codec.specs.declared.box_type.BoxType.TheVariants.{TrakBox as trak};
 ghost use Rattle.mp4_codec.specs.Cause.{Answers};
 ghost use Rattle.mp4_codec.specs.Boxes.{size_around};
-ghost use Rattle.mp4_boxes.specs.Trak.{trak_payload, default_trak, trak_fault, trak_child_early, trak_taken, trak_added, trak_of, trak_early, trak_refusal, IsInRangeTrak, RemarksTrak};
+ghost use Rattle.mp4_boxes.specs.Trak.{trak_payload, default_trak, trak_fault, trak_child_early, trak_taken, trak_added, trak_of, trak_early, trak_refusal, IsInRangeTrak, IsWellFormedTrak};
 ghost use Rattle.mp4_boxes.specs.TrakLaws.{trak_adds, trak_again};
 
 use crate::edts::EdtsBox;
@@ -181,7 +181,7 @@ impl ReadBox for TrakBox {
 impl WriteBox for TrakBox {
     ghost refusal = { trak_refusal };
 
-    ghost Remarks = { RemarksTrak };
+    ghost IsWellFormed = { IsWellFormedTrak };
 
     ghost reads_back = { trak_again };
 

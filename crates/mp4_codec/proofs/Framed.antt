@@ -9,14 +9,14 @@ use Rattle.mp4_codec.specs.BoxType.{box_type}
 use Rattle.mp4_codec.specs.Cause.{invalid_data}
 use Rattle.mp4_codec.specs.Cursor.{header_at, here}
 use Rattle.mp4_codec.specs.Bytes.{number}
-use Rattle.mp4_codec.specs.Boxes.{frame}
+use Rattle.mp4_codec.specs.Boxes.{box_bytes}
 use Rattle.mp4_codec.specs.Children.{ChildBox, child_at, walk, children}
 use Rattle.mp4_codec.specs.ChildrenLaws.{Begins, Breaks, walk-begins, walk-ends, walk-breaks}
 use Rattle.mp4_codec.specs.FieldLaws.{length-number}
 use Rattle.mp4_codec.specs.FramingLaws.{front, length-front}
-use Rattle.mp4_codec.specs.Framing.{IsBytes, long_frame, IsSpellable, IsFrame, short, long, NoFrameBegins}
+use Rattle.mp4_codec.specs.Framing.{IsBytes, long_box_bytes, IsEncodable, IsBox, short, long, NoBoxBegins}
 use Rattle.mp4_codec.specs.Framing.{EndsChildren, closed, broken, IsFirst, AreChildren}
-use Rattle.mp4_codec.specs.FramingLaws.{spelled, off, opened, enlarged, head_with-small, short_head, long_head}
+use Rattle.mp4_codec.specs.FramingLaws.{encoded, off, opened, enlarged, head_with-small, short_head, long_head}
 use Rattle.mp4_codec.specs.FramingLaws.{short_regrouped, long_regrouped, length-box, child_at-box}
 use Rattle.mp4_codec.proofs.BoxTypeLaws.{code_of-box_type, is_named}
 
@@ -41,7 +41,7 @@ pub record Framed (bytes : List ℕ) : Type 0 where
   pub payload : List ℕ
   pub box : List ℕ
   pub rest : List ℕ
-  pub frames : IsFrame name payload box
+  pub boxes : IsBox name payload box
   pub is : bytes ≡ box ++ rest
   pub others : IsBytes rest
 
@@ -58,8 +58,8 @@ passes bytes name n place e h =
     let size : 8 + n - 8 ≡ n = omega arith in
     rw (e, off (8 + n) 0 (omega arith), size, lt-ltb (length bytes) (place + n) h) refl
 
-spellable : (b : ℕ) → b < 2 ^ 32 → IsSpellable (box_type b)
-spellable b h = record { named = is_named (box_type b) b refl; code = rw (code_of-box_type b) h }
+encodable : (b : ℕ) → b < 2 ^ 32 → IsEncodable (box_type b)
+encodable b h = record { named = is_named (box_type b) b refl; code = rw (code_of-box_type b) h }
 
 module _ (b : ℕ) (hb : b < 2 ^ 32) where
   -- a size of 8 or more
@@ -73,14 +73,14 @@ module _ (b : ℕ) (hb : b < 2 ^ 32) where
   plain n c fits bytes (inr many) =
       let size : length (take n c) ≡ n = length-take-le n c many in
       let small : 8 + length (take n c) < 2 ^ 32 = rw size fits in
-      let whole : frame (box_type b) (take n c) ++ drop n c ≡ front (8 + n) b ++ c =
+      let whole : box_bytes (box_type b) (take n c) ++ drop n c ≡ front (8 + n) b ++ c =
       short_regrouped (box_type b) (take n c) (drop n c) ∙ rw (size, code_of-box_type b, take-append-drop n c) refl in
       inr (record {
         name = box_type b;
         payload = take n c;
-        box = frame (box_type b) (take n c);
+        box = box_bytes (box_type b) (take n c);
         rest = drop n c;
-        frames = short (spellable b hb) small refl;
+        boxes = short (encodable b hb) small refl;
         is = sym whole;
         others = IsBytes-drop n c bytes;
       })
@@ -102,14 +102,14 @@ module _ (b : ℕ) (hb : b < 2 ^ 32) where
   large n d fits bytes (inr many) =
       let size : length (take n d) ≡ n = length-take-le n d many in
       let small : 16 + length (take n d) < 2 ^ 64 = rw size fits in
-      let whole : long_frame (box_type b) (take n d) ++ drop n d ≡ front 1 b ++ (number 8 (16 + n) ++ d) =
+      let whole : long_box_bytes (box_type b) (take n d) ++ drop n d ≡ front 1 b ++ (number 8 (16 + n) ++ d) =
       long_regrouped (box_type b) (take n d) (drop n d) ∙ rw (size, code_of-box_type b, take-append-drop n d) refl in
       inr (record {
         name = box_type b;
         payload = take n d;
-        box = long_frame (box_type b) (take n d);
+        box = long_box_bytes (box_type b) (take n d);
         rest = drop n d;
-        frames = long (spellable b hb) small refl;
+        boxes = long (encodable b hb) small refl;
         is = sym whole;
         others = IsBytes-drop n d bytes;
       })
@@ -168,7 +168,7 @@ module _ (b : ℕ) (hb : b < 2 ^ 32) where
   by_one : (c : List ℕ) → IsBytes c → (length c < 8) ⊎ (8 ≤ length c) → Decided (front 1 b ++ c)
   by_one c bytes (inl few) = inl (large_cut c few)
   by_one c bytes (inr many) =
-      let s = spelled 8 c bytes many in
+      let s = encoded 8 c bytes many in
       subst (λ (x : List ℕ). Decided (front 1 b ++ x)) (sym s.is)
       (by_large s.value s.rest s.small s.others (cases_lt s.value 16))
 
@@ -187,18 +187,18 @@ together a b c = sym (append_assoc (number 4 a) (number 4 b) c)
 -- 8 bytes or more: no child begins them, or a box does
 framed : (bytes : List ℕ) → IsBytes bytes → 8 ≤ length bytes → Decided bytes
 framed bytes h many =
-    let s = spelled 4 bytes h (omega arith) in
+    let s = encoded 4 bytes h (omega arith) in
     let size : length bytes ≡ 4 + length s.rest = ap length s.is ∙ length-append (number 4 s.value) s.rest
     ∙ ap (λ (n : ℕ). n + length s.rest) (length-number 4 s.value) in
-    let t = spelled 4 s.rest s.others (omega arith) in
+    let t = encoded 4 s.rest s.others (omega arith) in
     let e : bytes ≡ front s.value t.value ++ t.rest = s.is ∙ ap (λ (x : List ℕ). number 4 s.value ++ x) t.is
     ∙ together s.value t.value t.rest in
     subst Decided (sym e) (by_size t.value t.small s.value t.rest s.small t.others (cases_lt s.value 8))
 
 -- where no child begins the bytes, no box does
-none_begins : (bytes : List ℕ) → child_at bytes ≡ None → NoFrameBegins bytes
-none_begins bytes none name payload f rest frames is =
-    not_none ((name, payload), rest) (sym (child_at-box name payload f rest frames) ∙ ap child_at (sym is) ∙ none)
+none_begins : (bytes : List ℕ) → child_at bytes ≡ None → NoBoxBegins bytes
+none_begins bytes none name payload f rest boxes is =
+    not_none ((name, payload), rest) (sym (child_at-box name payload f rest boxes) ∙ ap child_at (sym is) ∙ none)
   where
     not_none : (x : ChildBox × List ℕ) → Some x ≡ None → ⊥
     not_none x e = absurd cc
@@ -217,24 +217,24 @@ abbrev Walked : List ℕ → List ChildBox × List ℕ → Type 0
 Walked bytes w = AreChildren bytes w.0 w.1
 
 -- a box that begins the bytes is what the next step of a walk finds
-box_begins : (bytes : List ℕ) (name : BoxType) (payload f rest : List ℕ) → IsFrame name payload f → bytes ≡ f ++ rest
+box_begins : (bytes : List ℕ) (name : BoxType) (payload f rest : List ℕ) → IsBox name payload f → bytes ≡ f ++ rest
     → Begins bytes (name, payload) rest
-box_begins bytes name payload f rest frames is =
+box_begins bytes name payload f rest boxes is =
     let size : length bytes ≡ length f + length rest = ap length is ∙ length-append f rest in
     record {
-      long = omega (arith, size, length-box name payload f frames);
+      long = omega (arith, size, length-box name payload f boxes);
       is = ap child_at is
-          ∙ child_at-box name payload f rest frames;
+          ∙ child_at-box name payload f rest boxes;
     }
 
 -- no box begins the bytes, so a walk breaks there
 box_breaks : (bytes : List ℕ) → 8 ≤ length bytes → child_at bytes ≡ None → Breaks bytes invalid_data
 box_breaks bytes many none = record { long = many; none = none; cause = refl }
 
-shorter : (bytes : List ℕ) (name : BoxType) (payload f rest : List ℕ) (n : ℕ) → IsFrame name payload f
+shorter : (bytes : List ℕ) (name : BoxType) (payload f rest : List ℕ) (n : ℕ) → IsBox name payload f
     → bytes ≡ f ++ rest → length bytes ≤ suc n → length rest ≤ n
-shorter bytes name payload f rest n frames is enough =
-    omega (arith, ap length is ∙ length-append f rest, length-box name payload f frames)
+shorter bytes name payload f rest n boxes is enough =
+    omega (arith, ap length is ∙ length-append f rest, length-box name payload f boxes)
 
 module _ (n : ℕ) (others : (rest : List ℕ) → IsBytes rest → length rest ≤ n → Walked rest (walk n rest))
     (bytes : List ℕ) (enough : length bytes ≤ suc n) where
@@ -248,12 +248,12 @@ module _ (n : ℕ) (others : (rest : List ℕ) → IsBytes rest → length rest 
         box = b.box;
         rest = b.rest;
         is = b.is;
-        frames = b.frames;
+        boxes = b.boxes;
         others =
-            others b.rest b.others (shorter bytes b.name b.payload b.box b.rest n b.frames b.is enough);
+            others b.rest b.others (shorter bytes b.name b.payload b.box b.rest n b.boxes b.is enough);
       } in
       subst (Walked bytes) (sym (walk-begins n bytes (b.name, b.payload) b.rest
-      (box_begins bytes b.name b.payload b.box b.rest b.frames b.is)))
+      (box_begins bytes b.name b.payload b.box b.rest b.boxes b.is)))
       (AreChildren-some bytes (b.name, b.payload) (walk n b.rest).0 (walk n b.rest).1 first)
 
   walked_step : IsBytes bytes → (length bytes < 8) ⊎ (8 ≤ length bytes) → Walked bytes (walk (suc n) bytes)
@@ -280,18 +280,18 @@ walk-end n tail h (broken many none_there) = by (framed tail h many)
   where
     by : Decided tail → walk n tail ≡ ([], tail)
     by (inl none) = walk-breaks n tail invalid_data (box_breaks tail many none)
-    by (inr b) = absurd (none_there b.name b.payload b.box b.rest b.frames b.is)
+    by (inr b) = absurd (none_there b.name b.payload b.box b.rest b.boxes b.is)
 
 module _ (tail : List ℕ) (k : ChildBox) (list : List ChildBox) (bytes : List ℕ)
     (first : IsFirst bytes k (λ rest. AreChildren rest list tail)) where
   one_more : (n : ℕ) → length bytes ≤ n → ((m : ℕ) → length first.rest ≤ m → walk m first.rest ≡ (list, tail))
       → walk n bytes ≡ (k ∷ list, tail)
   one_more zero enough others =
-      absurd (omega (arith, (box_begins bytes k.0 k.1 first.box first.rest first.frames first.is).long))
+      absurd (omega (arith, (box_begins bytes k.0 k.1 first.box first.rest first.boxes first.is).long))
   one_more (suc n) enough others =
       let rest : walk n first.rest ≡ (list, tail) =
-      others n (shorter bytes k.0 k.1 first.box first.rest n first.frames first.is enough) in
-      walk-begins n bytes k first.rest (box_begins bytes k.0 k.1 first.box first.rest first.frames first.is)
+      others n (shorter bytes k.0 k.1 first.box first.rest n first.boxes first.is enough) in
+      walk-begins n bytes k first.rest (box_begins bytes k.0 k.1 first.box first.rest first.boxes first.is)
       ∙ ap (λ (w : List ChildBox × List ℕ). (k ∷ w.0, w.1)) rest
 
 -- a walk with enough steps finds these children

@@ -14,7 +14,7 @@ use Rattle.mp4_codec.specs.FramingLaws.{front, opened, enlarged, head_with-total
 use Rattle.mp4_codec.specs.BoxType.{code_of}
 use Rattle.mp4_codec.specs.Bytes.{number, ◌⧺◌}
 use Rattle.mp4_codec.specs.FieldLaws.{length-number, length-then}
-use Rattle.mp4_codec.specs.Framing.{IsSpellable, SaysBox, short_header, long_header}
+use Rattle.mp4_codec.specs.Framing.{IsEncodable, SaysBox, short_header, long_header}
 use Rattle.mp4_codec.specs.Steps.{ok_is, both_steps}
 use Rattle.mp4_codec.proofs.BoxTypeLaws.{is_named}
 
@@ -172,7 +172,7 @@ abbrev SaysTotal : BoxType → ℕ → ℕ → Option ℕ → Type 0
 SaysTotal name header size total =
     head_with name header size ≡ Ok (record { name = name; header = header; total = total })
 
-module _ (name : BoxType) (before after : List ℕ) (s : IsSpellable name) where
+module _ (name : BoxType) (before after : List ℕ) (s : IsEncodable name) where
   -- a size in 32 bits, other than 1
   short_says : (size : ℕ) (total : Option ℕ) → size < 2 ^ 32 → (size ≡ 1 → ⊥) → SaysTotal name 8 size total
       → SaysBox name total (short_header name size) before after

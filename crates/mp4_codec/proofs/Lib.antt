@@ -1,5 +1,5 @@
 pub mod Framed
-pub mod Frames
+pub mod HasBoxes
 pub mod Keyed
 pub mod Numbers
 pub mod EarlyGathering

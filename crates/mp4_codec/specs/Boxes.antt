@@ -16,8 +16,8 @@ abbrev pub size_around : List ℕ → ℕ
 size_around payload = min (8 + length payload) (2 ^ 64 - 1)
 
 -- a payload behind a header of 8 bytes
-unfoldable pub frame : BoxType → List ℕ → List ℕ
-frame name payload = number 4 (8 + length payload) ⧺ number 4 (code_of name) ⧺ payload
+unfoldable pub box_bytes : BoxType → List ℕ → List ℕ
+box_bytes name payload = number 4 (8 + length payload) ⧺ number 4 (code_of name) ⧺ payload
 
 -- the payload of a box of this size behind the place, and the place behind the box
 abbrev pub payload_at : ℕ → Cursor → Result (List ℕ × Cursor) Cause
@@ -48,19 +48,19 @@ header_cause size =
     None
 
 -- the eight bytes of a header
-abbrev pub header_spelling : BoxHeader → List ℕ
-header_spelling h = number 4 h.size ⧺ number 4 (code_of h.name)
+abbrev pub header_encoding : BoxHeader → List ℕ
+header_encoding h = number 4 h.size ⧺ number 4 (code_of h.name)
 
 -- A call adds these bytes at the end of a buffer and answers how many; a refused call leaves the buffer.
 abbrev pub Writes : List ℕ → List ℕ → Result ℕ Error → List ℕ → Type 0
 Writes old new (Ok n) bytes = (new ≡ old ++ bytes) × (n ≡ length bytes)
 Writes old new (Err e) bytes = new ≡ old
 
--- A canonical value: its numbers are within their types, the remarks of its layout hold of it, and it is written.
-pub record IsCanonical {B : Type 0} (IsInRange Remarks : B → Type 0) (payload : B → List ℕ)
+-- A canonical value: its numbers are within their types, it is well-formed, and it is written.
+pub record IsCanonical {B : Type 0} (IsInRange IsWellFormed : B → Type 0) (payload : B → List ℕ)
     (refusal : B → Option Cause) (b : B) : Type 0 where
   pub in_range : IsInRange b
-  pub remarks : Remarks b
+  pub well_formed : IsWellFormed b
   pub written : write_cause (payload b) (refusal b) ≡ None
 
 -- each value is written, but for its size
@@ -70,15 +70,15 @@ no_refusal b = None
 -- the box of a child that may be missing
 abbrev pub optional : {B : Type 0} → BoxType → (B → List ℕ) → Option B → List ℕ
 optional name payload None = []
-optional name payload (Some b) = frame name (payload b)
+optional name payload (Some b) = box_bytes name (payload b)
 
 abbrev pub optional_refusal : {B : Type 0} → (B → Option Cause) → Option B → Option Cause
 optional_refusal refusal None = None
 optional_refusal refusal (Some b) = refusal b
 
 -- the boxes of a list of children, one after the other
-abbrev pub all_frames : {B : Type 0} → BoxType → (B → List ℕ) → List B → List ℕ
-all_frames name payload bs = flat_map (λ b. frame name (payload b)) bs
+abbrev pub all_box_bytes : {B : Type 0} → BoxType → (B → List ℕ) → List B → List ℕ
+all_box_bytes name payload bs = flat_map (λ b. box_bytes name (payload b)) bs
 
 -- the first refusal of a list of children
 abbrev pub all_refusal : {B : Type 0} → (B → Option Cause) → List B → Option Cause

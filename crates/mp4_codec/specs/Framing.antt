@@ -7,7 +7,7 @@ use Rattle.mp4_codec.specs.BoxType.{code_of, IsNamed}
 use Rattle.mp4_codec.specs.Cause.{Cause, end_of_data, invalid_data}
 use Rattle.mp4_codec.specs.Cursor.{take_at, head_at, header_at}
 use Rattle.mp4_codec.specs.Bytes.{number, ◌⧺◌}
-use Rattle.mp4_codec.specs.Boxes.{frame}
+use Rattle.mp4_codec.specs.Boxes.{box_bytes}
 use Rattle.mp4_codec.specs.Children.{ChildBox}
 
 -- each element is a byte
@@ -15,18 +15,18 @@ abbrev pub IsBytes : List ℕ → Type 0
 IsBytes bytes = AllByRecursion (λ b. b < 256) bytes
 
 -- a payload behind a header of 16 bytes, whose size of 1 says that the size stands behind the type, in 64 bits
-unfoldable pub long_frame : BoxType → List ℕ → List ℕ
-long_frame name payload = number 4 1 ⧺ number 4 (code_of name) ⧺ number 8 (16 + length payload) ⧺ payload
+unfoldable pub long_box_bytes : BoxType → List ℕ → List ℕ
+long_box_bytes name payload = number 4 1 ⧺ number 4 (code_of name) ⧺ number 8 (16 + length payload) ⧺ payload
 
--- four bytes spell this type, and are read as this type
-pub record IsSpellable (name : BoxType) : Type 0 where
+-- four bytes encode this type, and are read as this type
+pub record IsEncodable (name : BoxType) : Type 0 where
   pub named : IsNamed name
   pub code : code_of name < 2 ^ 32
 
--- the bytes are a box of this type around this payload, in one of the two spellings of its size
-pub data IsFrame (name : BoxType) (payload bytes : List ℕ) : Type 0 where
-  short : IsSpellable name → 8 + length payload < 2 ^ 32 → bytes ≡ frame name payload → IsFrame name payload bytes
-  long : IsSpellable name → 16 + length payload < 2 ^ 64 → bytes ≡ long_frame name payload → IsFrame name payload bytes
+-- the bytes are a box of this type around this payload, with its size in one of its two encodings
+pub data IsBox (name : BoxType) (payload bytes : List ℕ) : Type 0 where
+  short : IsEncodable name → 8 + length payload < 2 ^ 32 → bytes ≡ box_bytes name payload → IsBox name payload bytes
+  long : IsEncodable name → 16 + length payload < 2 ^ 64 → bytes ≡ long_box_bytes name payload → IsBox name payload bytes
 
 -- Read at this place, the header says the type and eight more than the payload's length, whatever the encoding;
 -- the payload stands behind the header, and the place behind the payload is behind the whole box.
@@ -79,20 +79,20 @@ pub data WhyNoHead (left : List ℕ) (c : Cause) : Type 0 where
       → c ≡ invalid_data → WhyNoHead left c
 
 -- no box begins these bytes
-abbrev pub NoFrameBegins : List ℕ → Type 0
-NoFrameBegins bytes = (name : BoxType) (payload f rest : List ℕ) → IsFrame name payload f → bytes ≡ f ++ rest → ⊥
+abbrev pub NoBoxBegins : List ℕ → Type 0
+NoBoxBegins bytes = (name : BoxType) (payload f rest : List ℕ) → IsBox name payload f → bytes ≡ f ++ rest → ⊥
 
 -- where the children end: fewer bytes are left than a header has, or no box begins what is left
 pub data EndsChildren (tail : List ℕ) : Type 0 where
   closed : length tail < 8 → EndsChildren tail
-  broken : 8 ≤ length tail → NoFrameBegins tail → EndsChildren tail
+  broken : 8 ≤ length tail → NoBoxBegins tail → EndsChildren tail
 
 -- the payload is a box around this child, and then others
 pub record IsFirst (payload : List ℕ) (k : ChildBox) (Others : List ℕ → Type 0) : Type 0 where
   pub box : List ℕ
   pub rest : List ℕ
   pub is : payload ≡ box ++ rest
-  pub frames : IsFrame k.0 k.1 box
+  pub boxes : IsBox k.0 k.1 box
   pub others : Others rest
 
 -- the payload is a box around each child of the list, one after the other, and then the tail, where the children end

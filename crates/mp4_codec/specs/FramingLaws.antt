@@ -17,17 +17,17 @@ use Rattle.mp4_codec.specs.Cause.{Cause, end_of_data, invalid_data, ◌>>=◌}
 use Rattle.mp4_codec.specs.Cursor.{here, Cursor, left, moved, take_at, head_at, head_after, head_with, header_at}
 use Rattle.mp4_codec.specs.Cursor.{reported}
 use Rattle.mp4_codec.specs.Bytes.{number, ◌⧺◌}
-use Rattle.mp4_codec.specs.Boxes.{frame}
+use Rattle.mp4_codec.specs.Boxes.{box_bytes}
 use Rattle.mp4_codec.specs.Children.{child_at, begun}
 use Rattle.mp4_codec.specs.FieldLaws.{length-number, length-then, number_back}
-use Rattle.mp4_codec.specs.Framing.{IsBytes, long_frame, IsSpellable, IsFrame, short, long, ReadsAsBox, size_in}
+use Rattle.mp4_codec.specs.Framing.{IsBytes, long_box_bytes, IsEncodable, IsBox, short, long, ReadsAsBox, size_in}
 use Rattle.mp4_codec.specs.Framing.{large_size_in, WhyNoHead, cut_short, large_cut_short, too_small, large_too_small}
 
-pub length-frame : (name : BoxType) (payload : List ℕ) → length (frame name payload) ≡ 8 + length payload
-unfolding frame
-length-frame name payload = simp (length-then, length-number) (omega arith)
+pub length-box_bytes : (name : BoxType) (payload : List ℕ) → length (box_bytes name payload) ≡ 8 + length payload
+unfolding box_bytes
+length-box_bytes name payload = simp (length-then, length-number) (omega arith)
 
--- the first eight bytes of a frame
+-- the first eight bytes of a box
 unfoldable pub front : ℕ → ℕ → List ℕ
 front a b = number 4 a ++ number 4 b
 
@@ -78,16 +78,16 @@ low_bytes (suc n) c x =
     ∙ ap (λ (l : List ℕ). byte_at n x ∷ l) (low_bytes n (c * 256) x)
 
 -- the bytes begin with a number of n bytes
-pub record Spells (n : ℕ) (bytes : List ℕ) : Type 0 where
+pub record Encodes (n : ℕ) (bytes : List ℕ) : Type 0 where
   pub value : ℕ
   pub small : value < 256 ^ n
   pub rest : List ℕ
   pub is : bytes ≡ number n value ++ rest
   pub others : IsBytes rest
 
-spelled_more : (n a : ℕ) (bytes : List ℕ) → a < 256 → Spells n bytes → Spells (suc n) (a ∷ bytes)
+encoded_more : (n a : ℕ) (bytes : List ℕ) → a < 256 → Encodes n bytes → Encodes (suc n) (a ∷ bytes)
 unfolding number
-spelled_more n a bytes h s =
+encoded_more n a bytes h s =
     let x : ℕ = a * 256 ^ n + s.value in
     let top : a * 256 ^ n ≤ 255 * 256 ^ n = mul-le-mul_right (256 ^ n) (omega arith) in
     let small : s.value < 256 ^ n = s.small in
@@ -105,11 +105,11 @@ spelled_more n a bytes h s =
     }
 
 -- bytes that are enough begin with a number
-pub spelled : (n : ℕ) (bytes : List ℕ) → IsBytes bytes → n ≤ length bytes → Spells n bytes
+pub encoded : (n : ℕ) (bytes : List ℕ) → IsBytes bytes → n ≤ length bytes → Encodes n bytes
 unfolding number
-spelled zero bytes b h = record { value = 0; small = omega arith; rest = bytes; is = refl; others = b }
-spelled (suc n) [] b h = absurd (omega arith)
-spelled (suc n) (a ∷ bytes) b h = spelled_more n a bytes b.0 (spelled n bytes b.1 (omega arith))
+encoded zero bytes b h = record { value = 0; small = omega arith; rest = bytes; is = refl; others = b }
+encoded (suc n) [] b h = absurd (omega arith)
+encoded (suc n) (a ∷ bytes) b h = encoded_more n a bytes b.0 (encoded n bytes b.1 (omega arith))
 
 -- n bytes are taken where they stand
 pub taken : (n p : ℕ) (bytes a b c : List ℕ) → bytes ≡ a ++ (b ++ c) → length a ≡ p → length b ≡ n
@@ -182,19 +182,19 @@ long_head bytes before d name n b e hn hb named =
       place,
     ) refl
 
-pub length-long_frame : (name : BoxType) (payload : List ℕ) → length (long_frame name payload) ≡ 16 + length payload
-unfolding long_frame
-length-long_frame name payload = simp (length-then, length-number) (omega arith)
+pub length-long_box_bytes : (name : BoxType) (payload : List ℕ) → length (long_box_bytes name payload) ≡ 16 + length payload
+unfolding long_box_bytes
+length-long_box_bytes name payload = simp (length-then, length-number) (omega arith)
 
 pub short_regrouped : (name : BoxType) (payload rest : List ℕ)
-    → frame name payload ++ rest ≡ front (8 + length payload) (code_of name) ++ (payload ++ rest)
-unfolding frame front ◌⧺◌
+    → box_bytes name payload ++ rest ≡ front (8 + length payload) (code_of name) ++ (payload ++ rest)
+unfolding box_bytes front ◌⧺◌
 short_regrouped name payload rest = simp append_assoc
 
 pub long_regrouped : (name : BoxType) (payload rest : List ℕ)
-    → long_frame name payload ++ rest ≡ front 1 (code_of name)
+    → long_box_bytes name payload ++ rest ≡ front 1 (code_of name)
     ++ (number 8 (16 + length payload) ++ (payload ++ rest))
-unfolding long_frame front ◌⧺◌
+unfolding long_box_bytes front ◌⧺◌
 long_regrouped name payload rest = simp append_assoc
 
 -- the payload is taken behind a header of so many bytes
@@ -210,25 +210,25 @@ body bytes before header payload after n m e en em =
     taken (length payload) (length before + n) bytes (before ++ header) payload after e' place refl
     ∙ ap (λ (k : ℕ). Ok (payload, here bytes k)) behind
 
-reads_short : (name : BoxType) (payload before after : List ℕ) → IsSpellable name → 8 + length payload < 2 ^ 32
-    → ReadsAsBox name payload (frame name payload) (before ++ (frame name payload ++ after)) (length before)
+reads_short : (name : BoxType) (payload before after : List ℕ) → IsEncodable name → 8 + length payload < 2 ^ 32
+    → ReadsAsBox name payload (box_bytes name payload) (before ++ (box_bytes name payload ++ after)) (length before)
 reads_short name payload before after s h =
-    let bytes : List ℕ = before ++ (frame name payload ++ after) in
+    let bytes : List ℕ = before ++ (box_bytes name payload ++ after) in
     let e : bytes ≡ before ++ (front (8 + length payload) (code_of name) ++ (payload ++ after)) =
     ap (λ (x : List ℕ). before ++ x) (short_regrouped name payload after) in
     record {
       header = 8;
-      whole = sym (length-frame name payload);
+      whole = sym (length-box_bytes name payload);
       head = short_head bytes before (payload ++ after) name (length payload) (code_of name) e h s.code s.named;
       body = body bytes before (front (8 + length payload) (code_of name)) payload after 8
-          (length (frame name payload)) e (length-front (8 + length payload) (code_of name))
-          (sym (length-frame name payload));
+          (length (box_bytes name payload)) e (length-front (8 + length payload) (code_of name))
+          (sym (length-box_bytes name payload));
     }
 
-reads_long : (name : BoxType) (payload before after : List ℕ) → IsSpellable name → 16 + length payload < 2 ^ 64
-    → ReadsAsBox name payload (long_frame name payload) (before ++ (long_frame name payload ++ after)) (length before)
+reads_long : (name : BoxType) (payload before after : List ℕ) → IsEncodable name → 16 + length payload < 2 ^ 64
+    → ReadsAsBox name payload (long_box_bytes name payload) (before ++ (long_box_bytes name payload ++ after)) (length before)
 reads_long name payload before after s h =
-    let bytes : List ℕ = before ++ (long_frame name payload ++ after) in
+    let bytes : List ℕ = before ++ (long_box_bytes name payload ++ after) in
     let header : List ℕ = front 1 (code_of name) ++ number 8 (16 + length payload) in
     let e : bytes ≡ before ++ (front 1 (code_of name) ++ (number 8 (16 + length payload) ++ (payload ++ after))) =
     ap (λ (x : List ℕ). before ++ x) (long_regrouped name payload after) in
@@ -244,14 +244,14 @@ reads_long name payload before after s h =
     ) in
     record {
       header = 16;
-      whole = sym (length-long_frame name payload);
+      whole = sym (length-long_box_bytes name payload);
       head = long_head bytes before (payload ++ after) name (length payload) (code_of name) e h s.code s.named;
-      body = body bytes before header payload after 16 (length (long_frame name payload)) e' size
-          (sym (length-long_frame name payload));
+      body = body bytes before header payload after 16 (length (long_box_bytes name payload)) e' size
+          (sym (length-long_box_bytes name payload));
     }
 
 -- a box is read where it stands
-pub reads_as_box : (name : BoxType) (payload before f after : List ℕ) → IsFrame name payload f
+pub reads_as_box : (name : BoxType) (payload before f after : List ℕ) → IsBox name payload f
     → ReadsAsBox name payload f (before ++ (f ++ after)) (length before)
 reads_as_box name payload before f after (short s h e) =
     subst (λ (x : List ℕ). ReadsAsBox name payload x (before ++ (x ++ after)) (length before)) (sym e)
@@ -269,14 +269,14 @@ cut_off name payload f rest r =
     rw (r.head, not_open, size, r.body, behind) refl
 
 -- a box that begins the bytes is the child that begins them
-pub child_at-box : (name : BoxType) (payload f rest : List ℕ) → IsFrame name payload f
+pub child_at-box : (name : BoxType) (payload f rest : List ℕ) → IsBox name payload f
     → child_at (f ++ rest) ≡ Some ((name, payload), rest)
 unfolding child_at
 child_at-box name payload f rest h = cut_off name payload f rest (reads_as_box name payload [] f rest h)
 
-pub length-box : (name : BoxType) (payload f : List ℕ) → IsFrame name payload f → 8 ≤ length f
-length-box name payload f (short s h e) = rw (e, length-frame name payload) (omega arith)
-length-box name payload f (long s h e) = rw (e, length-long_frame name payload) (omega arith)
+pub length-box : (name : BoxType) (payload f : List ℕ) → IsBox name payload f → 8 ≤ length f
+length-box name payload f (short s h e) = rw (e, length-box_bytes name payload) (omega arith)
+length-box name payload f (long s h e) = rw (e, length-long_box_bytes name payload) (omega arith)
 
 -- the type in the first eight bytes of a header
 abbrev type_in : List ℕ → BoxType

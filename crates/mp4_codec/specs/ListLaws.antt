@@ -9,8 +9,8 @@ use Rattle.mp4_codec.specs.Cause.{Cause, ◌or◌}
 use Rattle.std.proofs.lemmas.List.Folds.{length-flat_map-take}
 use Rattle.mp4_codec.specs.declared.box_type.BoxType.{BoxType}
 use Rattle.mp4_codec.specs.Bytes.{Appends}
-use Rattle.mp4_codec.specs.Boxes.{frame, all_frames, all_refusal}
-use Rattle.mp4_codec.specs.FramingLaws.{length-frame}
+use Rattle.mp4_codec.specs.Boxes.{box_bytes, all_box_bytes, all_refusal}
+use Rattle.mp4_codec.specs.FramingLaws.{length-box_bytes}
 
 -- pieces of one length
 pub length-flat_map-same : {A : Type 0} (f : A → List ℕ) (n : ℕ) → ((x : A) → length (f x) ≡ n) → (xs : List A)
@@ -79,25 +79,25 @@ pieces-take_more f xs i x old mid new lt is before after = record {
 
 module _ {B : Type 0} (name : BoxType) (payload : B → List ℕ) (bs : List B) (i : ℕ) (b : B) (lt : i < length bs)
     (is : b ≡ get_or bs i b) where
-  -- the frame of a child is no longer than all
-  pub frame_fits : (limit : ℕ) → length (all_frames name payload bs) < limit → 8 + length (payload b) < limit
-  frame_fits limit small =
-      let all : length (flat_map (λ x. frame name (payload x)) (take i bs))
-      + length (frame name (payload (get_or bs i b))) ≤ length (all_frames name payload bs) =
-      length-flat_map-take (λ x. frame name (payload x)) bs i b lt in
-      let one : length (frame name (payload (get_or bs i b))) ≡ 8 + length (payload b) =
-      ap (λ x. length (frame name (payload x))) (sym is) ∙ length-frame name (payload b) in
+  -- the bytes of a child are no longer than all
+  pub box_fits : (limit : ℕ) → length (all_box_bytes name payload bs) < limit → 8 + length (payload b) < limit
+  box_fits limit small =
+      let all : length (flat_map (λ x. box_bytes name (payload x)) (take i bs))
+      + length (box_bytes name (payload (get_or bs i b))) ≤ length (all_box_bytes name payload bs) =
+      length-flat_map-take (λ x. box_bytes name (payload x)) bs i b lt in
+      let one : length (box_bytes name (payload (get_or bs i b))) ≡ 8 + length (payload b) =
+      ap (λ x. length (box_bytes name (payload x))) (sym is) ∙ length-box_bytes name (payload b) in
       omega (arith, small, all, one)
 
-  pub all_frames-size : (limit before own after : ℕ)
-      → before ≡ min (length (all_frames name payload (take i bs))) limit → own ≡ min (8 + length (payload b)) limit
+  pub all_box_bytes-size : (limit before own after : ℕ)
+      → before ≡ min (length (all_box_bytes name payload (take i bs))) limit → own ≡ min (8 + length (payload b)) limit
       → after ≡ min (before + own) limit
-      → after ≡ min (length (all_frames name payload (take (i + 1) bs))) limit
-  all_frames-size limit before own after e o a =
-      size-take_more (λ x. frame name (payload x)) bs i b limit before own after lt is e
-      (o ∙ ap (λ n. min n limit) (sym (length-frame name (payload b)))) a
+      → after ≡ min (length (all_box_bytes name payload (take (i + 1) bs))) limit
+  all_box_bytes-size limit before own after e o a =
+      size-take_more (λ x. box_bytes name (payload x)) bs i b limit before own after lt is e
+      (o ∙ ap (λ n. min n limit) (sym (length-box_bytes name (payload b)))) a
 
-  pub all_frames-more : (old mid new : List ℕ) → Appends old mid (all_frames name payload (take i bs))
-      → Appends mid new (frame name (payload b)) → Appends old new (all_frames name payload (take (i + 1) bs))
-  all_frames-more old mid new before after =
-      pieces-take_more (λ x. frame name (payload x)) bs i b old mid new lt is before after
+  pub all_box_bytes-more : (old mid new : List ℕ) → Appends old mid (all_box_bytes name payload (take i bs))
+      → Appends mid new (box_bytes name (payload b)) → Appends old new (all_box_bytes name payload (take (i + 1) bs))
+  all_box_bytes-more old mid new before after =
+      pieces-take_more (λ x. box_bytes name (payload x)) bs i b old mid new lt is before after

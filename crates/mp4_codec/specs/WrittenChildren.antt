@@ -11,9 +11,9 @@ use Rattle.mp4_codec.specs.BoxType.{code_of}
 use Rattle.mp4_codec.specs.Cause.{Cause}
 use Rattle.mp4_codec.specs.Bytes.{◌⧺◌}
 use Rattle.mp4_codec.specs.FieldLaws.{length-then, then_assoc, then_nothing, nothing_then}
-use Rattle.mp4_codec.specs.Boxes.{frame, optional, all_frames}
-use Rattle.mp4_codec.specs.Framing.{IsSpellable, short}
-use Rattle.mp4_codec.specs.FramingLaws.{child_at-box, length-frame}
+use Rattle.mp4_codec.specs.Boxes.{box_bytes, optional, all_box_bytes}
+use Rattle.mp4_codec.specs.Framing.{IsEncodable, short}
+use Rattle.mp4_codec.specs.FramingLaws.{child_at-box, length-box_bytes}
 use Rattle.mp4_codec.specs.Children.{ChildBox, child_at, next_at, walk, children, all_of, last, fault_in, last_of, gathered}
 use Rattle.mp4_codec.specs.ChildrenLaws.{Begins, walk-begins, walk-ends}
 use Rattle.mp4_codec.specs.GatherLaws.{NoFault, first_fault-none}
@@ -23,85 +23,85 @@ pub record Walks (bytes : List ℕ) (list : List ChildBox) : Type 0 where
   pub is : (n : ℕ) → length bytes ≤ n → walk n bytes ≡ (list, [])
 
 -- The bytes are these children, one after the other: a walk finds them before whatever other children follow.
-pub record Frames (bytes : List ℕ) (list : List ChildBox) : Type 0 where
+pub record HasBoxes (bytes : List ℕ) (list : List ChildBox) : Type 0 where
   pub before : (rest : List ℕ) (others : List ChildBox) → Walks rest others → Walks (bytes ⧺ rest) (list ++ others)
 
-pub children-frames : (payload : List ℕ) (list : List ChildBox) → Frames payload list → children payload ≡ (list, [])
+pub children-boxes : (payload : List ℕ) (list : List ChildBox) → HasBoxes payload list → children payload ≡ (list, [])
 unfolding children
-children-frames payload list f =
+children-boxes payload list f =
     let w : Walks (payload ⧺ []) (list ++ []) = f.before [] [] (record { is = λ n h. walk-ends n [] (omega arith) }) in
     let whole : walk (length payload) (payload ⧺ []) ≡ (list ++ [], []) =
     w.is (length payload) (omega (arith, ap length (then_nothing payload))) in
     ap (walk (length payload)) (sym (then_nothing payload)) ∙ whole
     ∙ ap (λ (cs : List ChildBox). (cs, [])) (append-nil list)
 
-pub Frames-none : Frames [] []
-Frames-none =
+pub HasBoxes-none : HasBoxes [] []
+HasBoxes-none =
     record { before = λ rest others w. subst (λ (bytes : List ℕ). Walks bytes others) (sym (nothing_then rest)) w }
 
-pub Frames-then : {a b : List ℕ} {cs ds : List ChildBox} → Frames a cs → Frames b ds → Frames (a ⧺ b) (cs ++ ds)
-Frames-then {a} {b} {cs} {ds} f g = record {
+pub HasBoxes-then : {a b : List ℕ} {cs ds : List ChildBox} → HasBoxes a cs → HasBoxes b ds → HasBoxes (a ⧺ b) (cs ++ ds)
+HasBoxes-then {a} {b} {cs} {ds} f g = record {
   before = λ rest others w. subst (λ (bytes : List ℕ). Walks bytes ((cs ++ ds) ++ others)) (sym (then_assoc a b rest))
       (subst (λ (list : List ChildBox). Walks (a ⧺ (b ⧺ rest)) list) (sym (append_assoc cs ds others))
       (f.before (b ⧺ rest) (ds ++ others) (g.before rest others w)));
 }
 
-child_at-frame : (t : BoxType) (payload rest : List ℕ) → IsSpellable t → 8 + length payload < 2 ^ 32
-    → child_at (frame t payload ⧺ rest) ≡ Some ((t, payload), rest)
+child_at-box_bytes : (t : BoxType) (payload rest : List ℕ) → IsEncodable t → 8 + length payload < 2 ^ 32
+    → child_at (box_bytes t payload ⧺ rest) ≡ Some ((t, payload), rest)
 unfolding ◌⧺◌
-child_at-frame t payload rest s small = child_at-box t payload (frame t payload) rest (short s small refl)
+child_at-box_bytes t payload rest s small = child_at-box t payload (box_bytes t payload) rest (short s small refl)
 
 -- the first child of a payload that is one box
-pub next_at-frame : (t : BoxType) (payload : List ℕ) → IsSpellable t → 8 + length payload < 2 ^ 32
-    → next_at (frame t payload) ≡ Ok (Some (t, payload), [])
-next_at-frame t payload s small =
-    let first : child_at (frame t payload) ≡ Some ((t, payload), []) =
-    ap child_at (sym (then_nothing (frame t payload))) ∙ child_at-frame t payload [] s small in
-    let long : 8 ≤ length (frame t payload) = omega (arith, length-frame t payload) in
+pub next_at-box_bytes : (t : BoxType) (payload : List ℕ) → IsEncodable t → 8 + length payload < 2 ^ 32
+    → next_at (box_bytes t payload) ≡ Ok (Some (t, payload), [])
+next_at-box_bytes t payload s small =
+    let first : child_at (box_bytes t payload) ≡ Some ((t, payload), []) =
+    ap child_at (sym (then_nothing (box_bytes t payload))) ∙ child_at-box_bytes t payload [] s small in
+    let long : 8 ≤ length (box_bytes t payload) = omega (arith, length-box_bytes t payload) in
     rw (le-ltb _ _ long, first) refl
 
-pub Frames-one : (t : BoxType) (payload : List ℕ) → IsSpellable t → 8 + length payload < 2 ^ 32
-    → Frames (frame t payload) ((t, payload) ∷ [])
-Frames-one t payload s small = record { before = λ rest others w. record { is = stepped rest others w } }
+pub HasBoxes-one : (t : BoxType) (payload : List ℕ) → IsEncodable t → 8 + length payload < 2 ^ 32
+    → HasBoxes (box_bytes t payload) ((t, payload) ∷ [])
+HasBoxes-one t payload s small = record { before = λ rest others w. record { is = stepped rest others w } }
   where
     stepped : (rest : List ℕ) (others : List ChildBox) → Walks rest others → (n : ℕ)
-        → length (frame t payload ⧺ rest) ≤ n → walk n (frame t payload ⧺ rest) ≡ ((t, payload) ∷ others, [])
-    stepped rest others w zero h = absurd (omega (arith, length-then (frame t payload) rest, length-frame t payload))
+        → length (box_bytes t payload ⧺ rest) ≤ n → walk n (box_bytes t payload ⧺ rest) ≡ ((t, payload) ∷ others, [])
+    stepped rest others w zero h = absurd (omega (arith, length-then (box_bytes t payload) rest, length-box_bytes t payload))
     stepped rest others w (suc n) h =
-        let size : length (frame t payload ⧺ rest) ≡ 8 + length payload + length rest =
-        length-then (frame t payload) rest ∙ ap (λ (k : ℕ). k + length rest) (length-frame t payload) in
-        let b : Begins (frame t payload ⧺ rest) (t, payload) rest =
-        record { long = omega (arith, size); is = child_at-frame t payload rest s small } in
+        let size : length (box_bytes t payload ⧺ rest) ≡ 8 + length payload + length rest =
+        length-then (box_bytes t payload) rest ∙ ap (λ (k : ℕ). k + length rest) (length-box_bytes t payload) in
+        let b : Begins (box_bytes t payload ⧺ rest) (t, payload) rest =
+        record { long = omega (arith, size); is = child_at-box_bytes t payload rest s small } in
         let more : walk n rest ≡ (others, []) = w.is n (omega (arith, size)) in
-        walk-begins n (frame t payload ⧺ rest) (t, payload) rest b ∙ rw more refl
+        walk-begins n (box_bytes t payload ⧺ rest) (t, payload) rest b ∙ rw more refl
 
 -- the children that hold these values
 abbrev pub boxed : {B : Type 0} → BoxType → (B → List ℕ) → List B → List ChildBox
 boxed t payload [] = []
 boxed t payload (b ∷ bs) = (t, payload b) ∷ boxed t payload bs
 
-pub Frames-optional : {B : Type 0} (t : BoxType) (payload : B → List ℕ) (o : Option B) → IsSpellable t
-    → length (optional t payload o) < 2 ^ 32 → Frames (optional t payload o) (boxed t payload (option_to_list o))
-Frames-optional t payload None s small = Frames-none
-Frames-optional t payload (Some b) s small = Frames-one t (payload b) s (omega (arith, length-frame t (payload b)))
+pub HasBoxes-optional : {B : Type 0} (t : BoxType) (payload : B → List ℕ) (o : Option B) → IsEncodable t
+    → length (optional t payload o) < 2 ^ 32 → HasBoxes (optional t payload o) (boxed t payload (option_to_list o))
+HasBoxes-optional t payload None s small = HasBoxes-none
+HasBoxes-optional t payload (Some b) s small = HasBoxes-one t (payload b) s (omega (arith, length-box_bytes t (payload b)))
 
-joined : (a b : List ℕ) (cs ds : List ChildBox) → Frames a cs → Frames b ds → Frames (a ++ b) (cs ++ ds)
+joined : (a b : List ℕ) (cs ds : List ChildBox) → HasBoxes a cs → HasBoxes b ds → HasBoxes (a ++ b) (cs ++ ds)
 unfolding ◌⧺◌
-joined a b cs ds f g = Frames-then f g
+joined a b cs ds f g = HasBoxes-then f g
 
-pub Frames-all : {B : Type 0} (t : BoxType) (payload : B → List ℕ) (bs : List B) → IsSpellable t
-    → length (all_frames t payload bs) < 2 ^ 32 → Frames (all_frames t payload bs) (boxed t payload bs)
-Frames-all t payload [] s small = Frames-none
-Frames-all t payload (b ∷ bs) s small =
-    let whole : all_frames t payload (b ∷ bs) ≡ frame t (payload b) ++ all_frames t payload bs =
-    flat_map-cons (λ x. frame t (payload x)) b bs in
-    let size : length (all_frames t payload (b ∷ bs)) ≡ 8 + length (payload b) + length (all_frames t payload bs) =
-    ap length whole ∙ length-append (frame t (payload b)) (all_frames t payload bs)
-    ∙ ap (λ (n : ℕ). n + length (all_frames t payload bs)) (length-frame t (payload b)) in
-    let first = Frames-one t (payload b) s (omega (arith, size, small)) in
-    let others = Frames-all t payload bs s (omega (arith, size, small)) in
-    subst (λ (bytes : List ℕ). Frames bytes ((t, payload b) ∷ boxed t payload bs)) (sym whole)
-    (joined (frame t (payload b)) (all_frames t payload bs) ((t, payload b) ∷ []) (boxed t payload bs) first
+pub HasBoxes-all : {B : Type 0} (t : BoxType) (payload : B → List ℕ) (bs : List B) → IsEncodable t
+    → length (all_box_bytes t payload bs) < 2 ^ 32 → HasBoxes (all_box_bytes t payload bs) (boxed t payload bs)
+HasBoxes-all t payload [] s small = HasBoxes-none
+HasBoxes-all t payload (b ∷ bs) s small =
+    let whole : all_box_bytes t payload (b ∷ bs) ≡ box_bytes t (payload b) ++ all_box_bytes t payload bs =
+    flat_map-cons (λ x. box_bytes t (payload x)) b bs in
+    let size : length (all_box_bytes t payload (b ∷ bs)) ≡ 8 + length (payload b) + length (all_box_bytes t payload bs) =
+    ap length whole ∙ length-append (box_bytes t (payload b)) (all_box_bytes t payload bs)
+    ∙ ap (λ (n : ℕ). n + length (all_box_bytes t payload bs)) (length-box_bytes t (payload b)) in
+    let first = HasBoxes-one t (payload b) s (omega (arith, size, small)) in
+    let others = HasBoxes-all t payload bs s (omega (arith, size, small)) in
+    subst (λ (bytes : List ℕ). HasBoxes bytes ((t, payload b) ∷ boxed t payload bs)) (sym whole)
+    (joined (box_bytes t (payload b)) (all_box_bytes t payload bs) ((t, payload b) ∷ []) (boxed t payload bs) first
     others)
 
 same_code : (n : ℕ) → eqb n n ≡ true
@@ -140,13 +140,13 @@ no_fault t payload value (b ∷ bs) reads =
 
 -- a child that was written, or was missing, is the last of its type among the children
 pub last_child-again : {B : Type 0} (t : BoxType) (payload : B → List ℕ) (value : List ℕ → Result B Cause)
-    (o : Option B) → IsSpellable t → length (optional t payload o) < 2 ^ 32
+    (o : Option B) → IsEncodable t → length (optional t payload o) < 2 ^ 32
     → AllByRecursion (λ b. value (payload b) ≡ Ok b) (option_to_list o)
     → gathered (fault_in t value) (last_of t value) (children (optional t payload o)) ≡ Ok o
 unfolding last_of
 last_child-again t payload value o s small reads =
     rw (
-      children-frames (optional t payload o) (boxed t payload (option_to_list o)) (Frames-optional t payload o s small),
+      children-boxes (optional t payload o) (boxed t payload (option_to_list o)) (HasBoxes-optional t payload o s small),
       first_fault-none (fault_in t value) (boxed t payload (option_to_list o)) []
           (NoFault-boxed (fault_in t value) t payload (option_to_list o)
           (no_fault t payload value (option_to_list o) reads)),

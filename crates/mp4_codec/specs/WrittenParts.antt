@@ -11,16 +11,16 @@ use Rattle.mp4_codec.specs.BoxType.{code_of}
 use Rattle.mp4_codec.specs.Cause.{Cause}
 use Rattle.mp4_codec.specs.Bytes.{◌⧺◌}
 use Rattle.mp4_codec.specs.FieldLaws.{length-then}
-use Rattle.mp4_codec.specs.Boxes.{frame, optional, optional_refusal, all_frames, all_refusal, no_refusal}
+use Rattle.mp4_codec.specs.Boxes.{box_bytes, optional, optional_refusal, all_box_bytes, all_refusal, no_refusal}
 use Rattle.mp4_codec.specs.Boxes.{IsCanonical}
-use Rattle.mp4_codec.specs.Framing.{IsSpellable}
-use Rattle.mp4_codec.specs.FramingLaws.{length-frame}
+use Rattle.mp4_codec.specs.Framing.{IsEncodable}
+use Rattle.mp4_codec.specs.FramingLaws.{length-box_bytes}
 use Rattle.mp4_codec.specs.Children.{ChildBox, children, gathered, value_of, all_of, last, last_of}
 use Rattle.mp4_codec.specs.Children.{some_needed}
 use Rattle.mp4_codec.specs.GatherLaws.{all_of-append, NoFault, NoFault-append, first_fault-none}
 use Rattle.mp4_codec.specs.WriteLaws.{or_parts, write_cause-none}
-use Rattle.mp4_codec.specs.WrittenChildren.{Frames, Frames-one, Frames-optional, Frames-all, Frames-then, boxed}
-use Rattle.mp4_codec.specs.WrittenChildren.{children-frames, last-option}
+use Rattle.mp4_codec.specs.WrittenChildren.{HasBoxes, HasBoxes-one, HasBoxes-optional, HasBoxes-all, HasBoxes-then, boxed}
+use Rattle.mp4_codec.specs.WrittenChildren.{children-boxes, last-option}
 
 -- a kind of box: what is known of it by its contract
 pub record Kind (B : Type 0) : Type 1 where
@@ -29,9 +29,9 @@ pub record Kind (B : Type 0) : Type 1 where
   pub value : List ℕ → Result B Cause
   pub refusal : B → Option Cause
   pub IsInRange : B → Type 0
-  pub Remarks : B → Type 0
-  pub spellable : IsSpellable name
-  pub again : (b : B) → IsCanonical IsInRange Remarks payload refusal b → value (payload b) ≡ Ok b
+  pub IsWellFormed : B → Type 0
+  pub encodable : IsEncodable name
+  pub again : (b : B) → IsCanonical IsInRange IsWellFormed payload refusal b → value (payload b) ≡ Ok b
 
 -- the payloads of these values
 abbrev pub payloads : {B : Type 0} → (B → List ℕ) → List B → List (List ℕ)
@@ -49,7 +49,7 @@ ReadBack k bs = AllByRecursion (λ b. k.value (k.payload b) ≡ Ok b) bs
 
 -- These bytes are the boxes of these values, one after the other, and each is read as it was written.
 pub record Part {B : Type 0} (k : Kind B) (bytes : List ℕ) (bs : List B) : Type 0 where
-  pub frames : Frames bytes (members k.name (payloads k.payload bs))
+  pub boxes : HasBoxes bytes (members k.name (payloads k.payload bs))
   pub reads : ReadBack k bs
 
 members-boxed : {B : Type 0} (t : BoxType) (payload : B → List ℕ) (bs : List B)
@@ -58,8 +58,8 @@ members-boxed t payload [] = refl
 members-boxed t payload (b ∷ bs) = ap (λ (cs : List ChildBox). (t, payload b) ∷ cs) (members-boxed t payload bs)
 
 as_members : {B : Type 0} (t : BoxType) (payload : B → List ℕ) (bytes : List ℕ) (bs : List B)
-    → Frames bytes (boxed t payload bs) → Frames bytes (members t (payloads payload bs))
-as_members t payload bytes bs f = subst (λ (cs : List ChildBox). Frames bytes cs) (members-boxed t payload bs) f
+    → HasBoxes bytes (boxed t payload bs) → HasBoxes bytes (members t (payloads payload bs))
+as_members t payload bytes bs f = subst (λ (cs : List ChildBox). HasBoxes bytes cs) (members-boxed t payload bs) f
 
 -- the bytes of two parts fit where those of both do
 pub both_fit : (a b : List ℕ) (n : ℕ) → length (a ⧺ b) < n → (length a < n) × (length b < n)
@@ -67,60 +67,60 @@ both_fit a b n small =
     (omega (arith, small, length-then a b), omega (arith, small, length-then a b))
 
 module _ {B : Type 0} (k : Kind B) where
-  one_again : (b : B) → k.IsInRange b → k.Remarks b → k.refusal b ≡ None → length (frame k.name (k.payload b)) < 2 ^ 32
+  one_again : (b : B) → k.IsInRange b → k.IsWellFormed b → k.refusal b ≡ None → length (box_bytes k.name (k.payload b)) < 2 ^ 32
       → k.value (k.payload b) ≡ Ok b
-  one_again b in_range remarks sound small =
-      let fits : 8 + length (k.payload b) < 2 ^ 32 = omega (arith, small, length-frame k.name (k.payload b)) in
+  one_again b in_range well_formed sound small =
+      let fits : 8 + length (k.payload b) < 2 ^ 32 = omega (arith, small, length-box_bytes k.name (k.payload b)) in
       k.again b (record {
         in_range = in_range;
-        remarks = remarks;
+        well_formed = well_formed;
         written = write_cause-none (k.payload b) (k.refusal b) fits sound;
       })
 
   -- a child that is there
-  pub required_part : (b : B) → k.IsInRange b → k.Remarks b → k.refusal b ≡ None
-      → length (frame k.name (k.payload b)) < 2 ^ 32 → Part k (frame k.name (k.payload b)) (b ∷ [])
-  required_part b in_range remarks sound small = record {
-    frames = Frames-one k.name (k.payload b) k.spellable (omega (arith, small, length-frame k.name (k.payload b)));
-    reads = (one_again b in_range remarks sound small, tt);
+  pub required_part : (b : B) → k.IsInRange b → k.IsWellFormed b → k.refusal b ≡ None
+      → length (box_bytes k.name (k.payload b)) < 2 ^ 32 → Part k (box_bytes k.name (k.payload b)) (b ∷ [])
+  required_part b in_range well_formed sound small = record {
+    boxes = HasBoxes-one k.name (k.payload b) k.encodable (omega (arith, small, length-box_bytes k.name (k.payload b)));
+    reads = (one_again b in_range well_formed sound small, tt);
   }
 
   -- a child that may be missing
-  pub optional_part : (o : Option B) → IfSome o k.IsInRange → IfSome o k.Remarks → optional_refusal k.refusal o ≡ None
+  pub optional_part : (o : Option B) → IfSome o k.IsInRange → IfSome o k.IsWellFormed → optional_refusal k.refusal o ≡ None
       → length (optional k.name k.payload o) < 2 ^ 32 → Part k (optional k.name k.payload o) (option_to_list o)
-  optional_part o in_range remarks sound small = record {
-    frames =
+  optional_part o in_range well_formed sound small = record {
+    boxes =
         as_members k.name k.payload (optional k.name k.payload o) (option_to_list o)
-        (Frames-optional k.name k.payload o k.spellable small);
-    reads = each o in_range remarks sound small;
+        (HasBoxes-optional k.name k.payload o k.encodable small);
+    reads = each o in_range well_formed sound small;
   }
     where
-      each : (o : Option B) → IfSome o k.IsInRange → IfSome o k.Remarks → optional_refusal k.refusal o ≡ None
+      each : (o : Option B) → IfSome o k.IsInRange → IfSome o k.IsWellFormed → optional_refusal k.refusal o ≡ None
           → length (optional k.name k.payload o) < 2 ^ 32 → ReadBack k (option_to_list o)
-      each None in_range remarks sound small = tt
-      each (Some b) in_range remarks sound small = (one_again b in_range remarks sound small, tt)
+      each None in_range well_formed sound small = tt
+      each (Some b) in_range well_formed sound small = (one_again b in_range well_formed sound small, tt)
 
   -- a list of children
-  pub list_part : (bs : List B) → AllByRecursion k.IsInRange bs → AllByRecursion k.Remarks bs
-      → all_refusal k.refusal bs ≡ None → length (all_frames k.name k.payload bs) < 2 ^ 32
-      → Part k (all_frames k.name k.payload bs) bs
-  list_part bs in_range remarks sound small = record {
-    frames =
-        as_members k.name k.payload (all_frames k.name k.payload bs) bs (Frames-all k.name k.payload bs k.spellable small);
-    reads = each bs in_range remarks sound small;
+  pub list_part : (bs : List B) → AllByRecursion k.IsInRange bs → AllByRecursion k.IsWellFormed bs
+      → all_refusal k.refusal bs ≡ None → length (all_box_bytes k.name k.payload bs) < 2 ^ 32
+      → Part k (all_box_bytes k.name k.payload bs) bs
+  list_part bs in_range well_formed sound small = record {
+    boxes =
+        as_members k.name k.payload (all_box_bytes k.name k.payload bs) bs (HasBoxes-all k.name k.payload bs k.encodable small);
+    reads = each bs in_range well_formed sound small;
   }
     where
-      each : (bs : List B) → AllByRecursion k.IsInRange bs → AllByRecursion k.Remarks bs
-          → all_refusal k.refusal bs ≡ None → length (all_frames k.name k.payload bs) < 2 ^ 32 → ReadBack k bs
-      each [] in_range remarks sound small = tt
-      each (b ∷ bs) in_range remarks sound small =
-          let whole : length (all_frames k.name k.payload (b ∷ bs))
-          ≡ length (frame k.name (k.payload b)) + length (all_frames k.name k.payload bs) =
-          ap length (flat_map-cons (λ x. frame k.name (k.payload x)) b bs)
-          ∙ length-append (frame k.name (k.payload b)) (all_frames k.name k.payload bs) in
+      each : (bs : List B) → AllByRecursion k.IsInRange bs → AllByRecursion k.IsWellFormed bs
+          → all_refusal k.refusal bs ≡ None → length (all_box_bytes k.name k.payload bs) < 2 ^ 32 → ReadBack k bs
+      each [] in_range well_formed sound small = tt
+      each (b ∷ bs) in_range well_formed sound small =
+          let whole : length (all_box_bytes k.name k.payload (b ∷ bs))
+          ≡ length (box_bytes k.name (k.payload b)) + length (all_box_bytes k.name k.payload bs) =
+          ap length (flat_map-cons (λ x. box_bytes k.name (k.payload x)) b bs)
+          ∙ length-append (box_bytes k.name (k.payload b)) (all_box_bytes k.name k.payload bs) in
           let none = or_parts (k.refusal b) (all_refusal k.refusal bs) sound in (
-            one_again b in_range.0 remarks.0 none.0 (omega (arith, small, whole)),
-            each bs in_range.1 remarks.1 none.1 (omega (arith, small, whole)),
+            one_again b in_range.0 well_formed.0 none.0 (omega (arith, small, whole)),
+            each bs in_range.1 well_formed.1 none.1 (omega (arith, small, whole)),
           )
 
 -- children of some types, those of a type side by side: the type and the payloads of each
@@ -135,7 +135,7 @@ children_in (g ∷ h ∷ gs) = members g.0 g.1 ++ children_in (h ∷ gs)
 
 -- The bytes are the children of these groups, of which the container refuses none.
 pub record Written (fault : ChildBox → Option Cause) (bytes : List ℕ) (gs : Groups) : Type 0 where
-  pub frames : Frames bytes (children_in gs)
+  pub boxes : HasBoxes bytes (children_in gs)
   pub none : NoFault fault (children_in gs)
 
 module _ {B : Type 0} (k : Kind B) {fault : ChildBox → Option Cause} {bytes : List ℕ} {bs : List B} where
@@ -143,7 +143,7 @@ module _ {B : Type 0} (k : Kind B) {fault : ChildBox → Option Cause} {bytes : 
   pub last_group : Part k bytes bs
       → ((b : B) → k.value (k.payload b) ≡ Ok b → fault (k.name, k.payload b) ≡ None)
       → Written fault bytes ((k.name, payloads k.payload bs) ∷ [])
-  last_group p accepts = record { frames = p.frames; none = each bs p.reads }
+  last_group p accepts = record { boxes = p.boxes; none = each bs p.reads }
     where
       each : (bs : List B) → ReadBack k bs → NoFault fault (members k.name (payloads k.payload bs))
       each [] reads = tt
@@ -155,7 +155,7 @@ module _ {B : Type 0} (k : Kind B) {fault : ChildBox → Option Cause} {bytes : 
       → Written fault rest (g ∷ gs)
       → Written fault (bytes ⧺ rest) ((k.name, payloads k.payload bs) ∷ g ∷ gs)
   group {rest} {g} {gs} p accepts others = record {
-    frames = Frames-then p.frames others.frames;
+    boxes = HasBoxes-then p.boxes others.boxes;
     none =
         NoFault-append fault (members k.name (payloads k.payload bs)) (children_in (g ∷ gs)) (last_group p accepts).none
         others.none;
@@ -166,7 +166,7 @@ pub gathered-written : {P : Type 0} {fault : ChildBox → Option Cause} {bytes :
     (taken : List ChildBox → P) → Written fault bytes gs
     → gathered fault taken (children bytes) ≡ Ok (taken (children_in gs))
 gathered-written {P} {fault} {bytes} {gs} taken w =
-    rw (children-frames bytes (children_in gs) w.frames, first_fault-none fault (children_in gs) [] w.none) refl
+    rw (children-boxes bytes (children_in gs) w.boxes, first_fault-none fault (children_in gs) [] w.none) refl
 
 -- the payloads of the children of this type
 abbrev pub of_type : BoxType → Groups → List (List ℕ)

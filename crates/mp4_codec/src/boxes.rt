@@ -5,7 +5,7 @@ ghost use Rattle.mp4_codec.specs.declared.box_type.BoxType.{BoxType};
 ghost use Rattle.mp4_codec.specs.Cause.{Cause, Answers, AnswersCause, Checks};
 ghost use Rattle.mp4_codec.specs.Early.{Early, Shows, early_at};
 ghost use Rattle.mp4_codec.specs.Bytes.{Appends};
-ghost use Rattle.mp4_codec.specs.Boxes.{size_around, box_at, frame, write_cause, Writes, IsCanonical};
+ghost use Rattle.mp4_codec.specs.Boxes.{size_around, box_at, box_bytes, write_cause, Writes, IsCanonical};
 
 use crate::box_type::BoxType;
 use crate::cursor::ByteCursor;
@@ -74,7 +74,7 @@ pub trait WriteBox: Mp4Box + ReadBox + InRange + ExactEq {
 
     /// What the layout asks of a value beside its ranges, so that it reads back equal: flags of 24 bits, a text without
     /// a zero byte and the like.
-    ghost Remarks: { Self → Type 0 };
+    ghost IsWellFormed: { Self → Type 0 };
 
     /// Whether the value can be written, whatever its size: the first refusal of a leaf in written order.
     fn check(&self) -> Result<()>
@@ -86,10 +86,10 @@ pub trait WriteBox: Mp4Box + ReadBox + InRange + ExactEq {
         ensures { OnOk result (Appends out.old.items out.new.items (Self.payload self.now)) };
 
     /// Adds the box at the end of a buffer. Where a request for memory is refused, the buffer may hold a part of it.
-    #[tactic(auto, unfolding(crate::specs::Boxes::frame))]
+    #[tactic(auto, unfolding(crate::specs::Boxes::box_bytes))]
     fn put_box(&self, out: &mut Vec<u8>) -> Put
         requires { 8 + length (Self.payload self.now) < 2 ^ 32 }
-        ensures { OnOk result (Appends out.old.items out.new.items (frame Self.KIND (Self.payload self.now))) }
+        ensures { OnOk result (Appends out.old.items out.new.items (box_bytes Self.KIND (Self.payload self.now))) }
     {
         put_u32(out, self.box_size() as u32)?;
         put_u32(out, u32::from(self.box_type()))?;
@@ -103,7 +103,7 @@ pub trait WriteBox: Mp4Box + ReadBox + InRange + ExactEq {
     /// memory is requested. A refused call leaves the buffer as before, also when memory ran out.
     fn write_box(&self, writer: &mut Vec<u8>) -> Result<u64>
         ensures cause { AnswersCause (write_cause (Self.payload self.now) (refusal self.now)) result }
-        ensures bytes { Writes writer.old.items writer.new.items result (frame Self.KIND (Self.payload self.now)) }
+        ensures bytes { Writes writer.old.items writer.new.items result (box_bytes Self.KIND (Self.payload self.now)) }
     {
         let size = self.box_size();
         if size > u32::MAX as u64 {
@@ -117,5 +117,5 @@ pub trait WriteBox: Mp4Box + ReadBox + InRange + ExactEq {
     }
 
     /// What is canonical reads back equal.
-    ghost reads_back: { (x : Self) → IsCanonical Self.IsInRange Remarks Self.payload refusal x → Self.value (Self.payload x) ≡ Ok x };
+    ghost reads_back: { (x : Self) → IsCanonical Self.IsInRange IsWellFormed Self.payload refusal x → Self.value (Self.payload x) ≡ Ok x };
 }

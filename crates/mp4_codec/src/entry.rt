@@ -19,7 +19,7 @@ use std::alloc::Global;
 pub trait Entry: Copy {
     ghost at: { ℕ → Reader Self };
 
-    ghost spelled: { ℕ → Self → List ℕ };
+    ghost encoded: { ℕ → Self → List ℕ };
 
     /// The values that a version encodes apart from one another.
     ghost Fits: { ℕ → Self → Type 0 };
@@ -54,11 +54,11 @@ pub trait Entry: Copy {
 
     /// Adds the entry at the end of a buffer.
     fn put(self, out: &mut Vec<u8>, version: u8) -> Put
-        ensures { OnOk result (Appends out.old.items out.new.items (spelled version self)) };
+        ensures { OnOk result (Appends out.old.items out.new.items (encoded version self)) };
 
-    ghost again: { (version : ℕ) (x : Self) (rest : List ℕ) → Fits version x → at version (spelled version x ⧺ rest) ≡ Ok (x, rest) };
+    ghost again: { (version : ℕ) (x : Self) (rest : List ℕ) → Fits version x → at version (encoded version x ⧺ rest) ≡ Ok (x, rest) };
 
-    ghost length_spelled: { (version : ℕ) (x : Self) → length (spelled version x) ≡ bytes_each version };
+    ghost length_encoded: { (version : ℕ) (x : Self) → length (encoded version x) ≡ bytes_each version };
 
     ghost has_length: { (version : ℕ) → HasLength (at version) (bytes_each version) };
 }
@@ -88,7 +88,7 @@ impl<'a> Fields<'a> {
 
 /// Adds the entries of a list, one after the other.
 pub fn put_list<T: Entry>(out: &mut Vec<u8>, version: u8, items: &[T]) -> Put
-    ensures { OnOk result (Appends out.old.items out.new.items (flat_map (T.spelled version) items.now)) }
+    ensures { OnOk result (Appends out.old.items out.new.items (flat_map (T.encoded version) items.now)) }
 {
     for item in items {
         item.put(out, version)?;
@@ -98,7 +98,7 @@ pub fn put_list<T: Entry>(out: &mut Vec<u8>, version: u8, items: &[T]) -> Put
 
 /// The bytes of the entries of a list; it stops at 2^64 - 1.
 pub fn list_size<T: Entry>(version: u8, items: &[T]) -> u64
-    ensures { result ≡ min (length (flat_map (T.spelled version) items.now)) (2 ^ 64 - 1) }
+    ensures { result ≡ min (length (flat_map (T.encoded version) items.now)) (2 ^ 64 - 1) }
 {
     (items.len() as u64).saturating_mul(T::size(version))
 }
@@ -106,7 +106,7 @@ pub fn list_size<T: Entry>(version: u8, items: &[T]) -> u64
 impl Entry for u32 {
     ghost at = { λ _. number_at 4 };
 
-    ghost spelled = { λ _. number 4 };
+    ghost encoded = { λ _. number 4 };
 
     ghost Fits = { λ _ n. n < 2 ^ 32 };
 
@@ -114,7 +114,7 @@ impl Entry for u32 {
 
     ghost again = { λ _. number_again 4 };
 
-    ghost length_spelled = { λ _. length-number 4 };
+    ghost length_encoded = { λ _. length-number 4 };
 
     ghost has_length = { λ _. number-has_length 4 };
 
@@ -143,7 +143,7 @@ impl Entry for u32 {
 impl Entry for u64 {
     ghost at = { λ _. number_at 8 };
 
-    ghost spelled = { λ _. number 8 };
+    ghost encoded = { λ _. number 8 };
 
     ghost Fits = { λ _ n. n < 2 ^ 64 };
 
@@ -151,7 +151,7 @@ impl Entry for u64 {
 
     ghost again = { λ _. number_again 8 };
 
-    ghost length_spelled = { λ _. length-number 8 };
+    ghost length_encoded = { λ _. length-number 8 };
 
     ghost has_length = { λ _. number-has_length 8 };
 
@@ -180,7 +180,7 @@ impl Entry for u64 {
 impl Entry for FourCC {
     ghost at = { λ _. four_cc_at };
 
-    ghost spelled = { λ _. four_cc };
+    ghost encoded = { λ _. four_cc };
 
     ghost Fits = { λ _. IsCode };
 
@@ -188,7 +188,7 @@ impl Entry for FourCC {
 
     ghost again = { λ _. four_cc_again };
 
-    ghost length_spelled = { λ _. length-four_cc };
+    ghost length_encoded = { λ _. length-four_cc };
 
     ghost has_length = { λ _. four_cc-has_length };
 

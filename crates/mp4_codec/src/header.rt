@@ -7,7 +7,7 @@ ghost use Rattle.mp4_codec.specs.Cause.{Gives, AnswersCause, Checks};
 ghost use Rattle.mp4_codec.specs.Cursor.{header_saying, header_behind, header_at};
 ghost use Rattle.mp4_codec.specs.BoxType.{IsNamed};
 ghost use Rattle.mp4_codec.specs.Bytes.{number, ◌⧺◌};
-ghost use Rattle.mp4_codec.specs.Boxes.{Writes, header_cause, header_spelling};
+ghost use Rattle.mp4_codec.specs.Boxes.{Writes, header_cause, header_encoding};
 
 use crate::box_type::BoxType;
 use crate::cursor::ByteCursor;
@@ -139,7 +139,7 @@ impl BoxHeader {
     /// refused call leaves the buffer as before, also when memory ran out.
     pub fn write(&self, writer: &mut Vec<u8>) -> Result<u64>
         ensures cause { AnswersCause (header_cause self.now.size) result }
-        ensures bytes { Writes writer.old.items writer.new.items result (header_spelling self.now) }
+        ensures bytes { Writes writer.old.items writer.new.items result (header_encoding self.now) }
     {
         check_size(self.size)?;
         writer.extend_from_slice(&header_bytes(self.size as u32, u32::from(self.name)))?;

@@ -71,10 +71,10 @@ impl InRange for i32 {
     }
 }
 
-/// The code again, of which it is known that four bytes spell it.
-fn spelled(code: FourCC) -> FourCC
+/// The code again, of which it is known that four bytes encode it.
+fn encoded(code: FourCC) -> FourCC
     ensures same { result ≡ code }
-    ensures spelled { IsCode result }
+    ensures encoded { IsCode result }
 {
     FourCC::from(u32::from(code))
 }
@@ -83,7 +83,7 @@ impl InRange for FourCC {
     ghost IsInRange = { IsCode };
 
     fn in_range(&self) {
-        let _code = spelled(*self);
+        let _code = encoded(*self);
     }
 }
 

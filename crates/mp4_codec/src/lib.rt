@@ -49,7 +49,7 @@ pub use in_range::InRange;
 pub use items::{DebugItem, Items};
 pub use keyed_items::{Key, KeyedItems};
 pub use laws::{
-    frame_has_its_head, header_says_its_box, insertion_changes_one_key, payload_has_its_children,
+    box_has_its_header, header_says_its_box, insertion_changes_one_key, payload_has_its_children,
     refused_head_says_why, what_is_written_reads_back,
 };
 pub use put::{

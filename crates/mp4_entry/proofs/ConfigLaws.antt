@@ -4,7 +4,7 @@ use Rattle.mp4_codec.specs.declared.box_type.BoxType.TheVariants.{Avc1Box as avc
 use Rattle.mp4_codec.specs.declared.box_type.BoxType.TheVariants.{Mp4aBox as mp4a, Tx3gBox as tx3g}
 use Rattle.mp4_codec.specs.Cause.{unrepresentable, ◌or◌}
 use Rattle.mp4_codec.specs.Boxes.{write_cause}
-use Rattle.mp4_codec.specs.FramingLaws.{length-frame}
+use Rattle.mp4_codec.specs.FramingLaws.{length-box_bytes}
 use Rattle.mp4_codec.specs.WriteLaws.{or_parts, write_cause-none}
 use Rattle.mp4_entry.specs.declared.avc1.AvcConfig.{AvcConfig}
 use Rattle.mp4_entry.specs.declared.mp4a.AacConfig.{AacConfig}
@@ -44,15 +44,15 @@ use Rattle.mp4_entry.specs.StsdLaws.{length-stsd_payload}
 -- the box of the entry of a configuration has its length
 length-entry : (c : MediaConfig) → length (entry_bytes (entry_of_config c)) ≡ entry_length c
 length-entry (Avc c) =
-    omega (arith, length-frame avc1 (avc1_payload (avc1_of_config c)), avc1_of_config_size c)
+    omega (arith, length-box_bytes avc1 (avc1_payload (avc1_of_config c)), avc1_of_config_size c)
 length-entry (Hevc c) =
-    omega (arith, length-frame hev1 (hev1_payload (hev1_of_config c)), hev1_of_config_size c)
+    omega (arith, length-box_bytes hev1 (hev1_payload (hev1_of_config c)), hev1_of_config_size c)
 length-entry (Vp9 c) =
-    omega (arith, length-frame vp09 (vp09_payload (vp09_of_config c)), vp09_of_config_size c)
+    omega (arith, length-box_bytes vp09 (vp09_payload (vp09_of_config c)), vp09_of_config_size c)
 length-entry (Aac c) =
-    omega (arith, length-frame mp4a (mp4a_payload (mp4a_of_config c)), mp4a_of_config_size c)
+    omega (arith, length-box_bytes mp4a (mp4a_payload (mp4a_of_config c)), mp4a_of_config_size c)
 length-entry (Ttxt c) =
-    omega (arith, length-frame tx3g (tx3g_payload default_tx3g), length-tx3g_payload default_tx3g)
+    omega (arith, length-box_bytes tx3g (tx3g_payload default_tx3g), length-tx3g_payload default_tx3g)
 
 pub length-stsd_of_config : (c : MediaConfig) → length (stsd_payload (stsd_of_config c)) ≡ 8 + entry_length c
 length-stsd_of_config (Avc c) = omega (arith, length-stsd_payload (stsd_of_config (Avc c)), length-entry (Avc c))

@@ -1,5 +1,5 @@
 -- The lengths of the entries, for the check.
-use Rattle.mp4_codec.specs.FramingLaws.{length-frame}
+use Rattle.mp4_codec.specs.FramingLaws.{length-box_bytes}
 use Rattle.mp4_codec.specs.PutLaws.{nothing_added}
 use Rattle.mp4_entry.specs.AvccLaws.{length-unit, length-avcc_payload}
 use Rattle.mp4_entry.specs.Avc1Laws.{length-avc1_payload}
@@ -27,4 +27,4 @@ pub ruleset sizes = (
 )
 
 -- the length of the box of an entry, and that none adds nothing
-pub ruleset frames = (length-frame, nothing_added)
+pub ruleset boxes = (length-box_bytes, nothing_added)

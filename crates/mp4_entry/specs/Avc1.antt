@@ -4,7 +4,7 @@ use Rattle.std.specs.List.{AllByRecursion}
 use Rattle.mp4_codec.specs.declared.box_type.BoxType.TheVariants.{AvcCBox as avcc}
 use Rattle.mp4_codec.specs.Cause.{Cause, ◌>>=◌}
 use Rattle.mp4_codec.specs.Bytes.{◌⧺◌}
-use Rattle.mp4_codec.specs.Boxes.{frame, IsCanonical}
+use Rattle.mp4_codec.specs.Boxes.{box_bytes, IsCanonical}
 use Rattle.mp4_codec.specs.Early.{Early, early_gathered, early_last, at_once, refused_at_once, ◌and_then◌, ◌before◌}
 use Rattle.mp4_codec.specs.Children.{children, gathered, fault_in, last_of}
 use Rattle.mp4_entry.specs.declared.visual.Visual.{Visual}
@@ -56,7 +56,7 @@ visual_of b = record {
 
 -- the payload that holds an entry
 unfoldable pub avc1_payload : Avc1Box → List ℕ
-avc1_payload b = visual (visual_of b) ⧺ frame avcc (avcc_payload b.avcc)
+avc1_payload b = visual (visual_of b) ⧺ box_bytes avcc (avcc_payload b.avcc)
 
 -- why an entry is not written: what it holds is not
 unfoldable pub avc1_refusal : Avc1Box → Option Cause
@@ -68,12 +68,12 @@ pub record IsInRangeAvc1 (b : Avc1Box) : Type 0 where
   pub avcc : IsInRangeAvcC b.avcc
 
 -- nothing beside what is written
-abbrev pub RemarksAvc1 : Avc1Box → Type 0
-RemarksAvc1 b = Unit {0}
+abbrev pub IsWellFormedAvc1 : Avc1Box → Type 0
+IsWellFormedAvc1 b = Unit {0}
 
 -- an entry that is written and reads back equal
 abbrev pub IsCanonicalAvc1 : Avc1Box → Type 0
-IsCanonicalAvc1 = IsCanonical IsInRangeAvc1 RemarksAvc1 avc1_payload avc1_refusal
+IsCanonicalAvc1 = IsCanonical IsInRangeAvc1 IsWellFormedAvc1 avc1_payload avc1_refusal
 
 -- pictures of no size
 abbrev pub default_avc1 : Avc1Box

@@ -78,7 +78,7 @@ avcc_payload b =
 abbrev pub unit_refusal : NalUnit → Option Cause
 unit_refusal u = past 0xffff (length u.bytes)
 
--- why a configuration is not written: the first number that its bits don't spell
+-- why a configuration is not written: the first number that its bits don't encode
 unfoldable pub avcc_refusal : AvcCBox → Option Cause
 avcc_refusal b =
     past 3 b.length_size_minus_one
@@ -100,12 +100,12 @@ pub record IsInRangeAvcC (b : AvcCBox) : Type 0 where
   pub length_size_minus_one : b.length_size_minus_one < 2 ^ 8
 
 -- nothing beside what is written
-abbrev pub RemarksAvcC : AvcCBox → Type 0
-RemarksAvcC b = Unit {0}
+abbrev pub IsWellFormedAvcC : AvcCBox → Type 0
+IsWellFormedAvcC b = Unit {0}
 
 -- a configuration that is written and reads back equal
 abbrev pub IsCanonicalAvcC : AvcCBox → Type 0
-IsCanonicalAvcC = IsCanonical IsInRangeAvcC RemarksAvcC avcc_payload avcc_refusal
+IsCanonicalAvcC = IsCanonical IsInRangeAvcC IsWellFormedAvcC avcc_payload avcc_refusal
 
 -- lengths of four bytes, and no sets
 abbrev pub default_avcc : AvcCBox

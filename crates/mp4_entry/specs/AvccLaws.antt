@@ -62,16 +62,16 @@ units : ReadsBack unit_at unit HasRoom
 units = record { again = unit_again }
 
 -- what a configuration that is written has
-pub record IsSpelled (b : AvcCBox) : Type 0 where
+pub record IsEncoded (b : AvcCBox) : Type 0 where
   pub length_size : b.length_size_minus_one < 4
   pub sequence_count : length b.sequence_parameter_sets < 32
   pub picture_count : length b.picture_parameter_sets < 256
   pub sequence_sets : AllByRecursion HasRoom b.sequence_parameter_sets
   pub picture_sets : AllByRecursion HasRoom b.picture_parameter_sets
 
-spelled : (b : AvcCBox) → avcc_refusal b ≡ None → IsSpelled b
+encoded : (b : AvcCBox) → avcc_refusal b ≡ None → IsEncoded b
 unfolding avcc_refusal
-spelled b e =
+encoded b e =
     let seqs = b.sequence_parameter_sets in
     let pics = b.picture_parameter_sets in
     let first = past 3 b.length_size_minus_one in
@@ -97,7 +97,7 @@ pub avcc_again : (b : AvcCBox) → IsCanonicalAvcC b → avcc_of (avcc_payload b
 unfolding avcc_of avcc_payload
 avcc_again b f =
     let in_range = f.in_range in
-    let fits = spelled b (is_written (avcc_payload b) (avcc_refusal b) f.written).sound in
+    let fits = encoded b (is_written (avcc_payload b) (avcc_refusal b) f.written).sound in
     let low : (0xfc + b.length_size_minus_one) % 4 ≡ b.length_size_minus_one =
     mod-mul-add 63 4 b.length_size_minus_one fits.length_size in
     let few : (0xe0 + length b.sequence_parameter_sets) % 32 ≡ length b.sequence_parameter_sets =

@@ -121,7 +121,7 @@ es_descriptor d =
 unfoldable pub esds_payload : EsdsBox → List ℕ
 esds_payload b = number 1 b.version ⧺ number 3 b.flags ⧺ descriptor 3 (es_descriptor b.es_desc)
 
--- why the numbers of a configuration are not written: the first that its bits don't spell
+-- why the numbers of a configuration are not written: the first that its bits don't encode
 abbrev pub specific_refusal : DecoderSpecificDescriptor → Option Cause
 specific_refusal d = past 30 d.profile or past 14 d.freq_index or past 15 d.chan_conf
 
@@ -145,12 +145,12 @@ pub record IsInRangeEsds (b : EsdsBox) : Type 0 where
   pub avg_bitrate : b.es_desc.dec_config.avg_bitrate < 2 ^ 32
 
 -- flags have 24 bits
-abbrev pub RemarksEsds : EsdsBox → Type 0
-RemarksEsds b = b.flags < 2 ^ 24
+abbrev pub IsWellFormedEsds : EsdsBox → Type 0
+IsWellFormedEsds b = b.flags < 2 ^ 24
 
 -- a box that is written and reads back equal
 abbrev pub IsCanonicalEsds : EsdsBox → Type 0
-IsCanonicalEsds = IsCanonical IsInRangeEsds RemarksEsds esds_payload esds_refusal
+IsCanonicalEsds = IsCanonical IsInRangeEsds IsWellFormedEsds esds_payload esds_refusal
 
 abbrev pub default_esds : EsdsBox
 default_esds = record {

@@ -176,7 +176,7 @@ esds_again b f =
     let size : length (es_descriptor b.es_desc) < 128 = omega (arith, length-es_descriptor b.es_desc) in
     rw (
       number_again 1 b.version _ f.in_range.version,
-      number_again 3 b.flags _ f.remarks,
+      number_again 3 b.flags _ f.well_formed,
       first_of-last 3 (es_descriptor b.es_desc) (omega arith) size,
       es_again b.es_desc f.in_range.es_id (config_fits b f.in_range sound),
     ) refl

@@ -3,7 +3,7 @@ use Rattle.std.specs.Prelude.{ℕ, ◌^◌, ◌<◌, List, Result, Ok}
 use Rattle.mp4_codec.specs.declared.box_type.BoxType.TheVariants.{HvcCBox as hvcc}
 use Rattle.mp4_codec.specs.Cause.{Cause, ◌>>=◌}
 use Rattle.mp4_codec.specs.Bytes.{◌⧺◌}
-use Rattle.mp4_codec.specs.Boxes.{frame, IsCanonical, no_refusal}
+use Rattle.mp4_codec.specs.Boxes.{box_bytes, IsCanonical, no_refusal}
 use Rattle.mp4_codec.specs.Early.{Early, early_gathered, early_last, at_once, refused_at_once, ◌and_then◌, ◌before◌}
 use Rattle.mp4_codec.specs.Children.{children, gathered, fault_in, last_of}
 use Rattle.mp4_entry.specs.declared.visual.Visual.{Visual}
@@ -55,19 +55,19 @@ visual_of b = record {
 
 -- the payload that holds an entry
 unfoldable pub hev1_payload : Hev1Box → List ℕ
-hev1_payload b = visual (visual_of b) ⧺ frame hvcc (hvcc_payload b.hvcc)
+hev1_payload b = visual (visual_of b) ⧺ box_bytes hvcc (hvcc_payload b.hvcc)
 
 -- each number is within its type
 pub record IsInRangeHev1 (b : Hev1Box) : Type 0 where
   pub visual : IsInRangeVisual (visual_of b)
 
 -- nothing beside what is written
-abbrev pub RemarksHev1 : Hev1Box → Type 0
-RemarksHev1 b = Unit {0}
+abbrev pub IsWellFormedHev1 : Hev1Box → Type 0
+IsWellFormedHev1 b = Unit {0}
 
 -- an entry that is written and reads back equal
 abbrev pub IsCanonicalHev1 : Hev1Box → Type 0
-IsCanonicalHev1 = IsCanonical IsInRangeHev1 RemarksHev1 hev1_payload no_refusal
+IsCanonicalHev1 = IsCanonical IsInRangeHev1 IsWellFormedHev1 hev1_payload no_refusal
 
 -- pictures of no size
 abbrev pub default_hev1 : Hev1Box

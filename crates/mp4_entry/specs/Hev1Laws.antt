@@ -3,8 +3,8 @@ use Rattle.std.proofs.Common.{◌≡◌, ◌+◌, ◌^◌, ◌<◌, length, None
 use Rattle.mp4_codec.specs.declared.box_type.BoxType.TheVariants.{HvcCBox as hvcc}
 use Rattle.mp4_codec.specs.BoxType.{box_type}
 use Rattle.mp4_codec.specs.Boxes.{optional}
-use Rattle.mp4_codec.specs.Framing.{IsSpellable}
-use Rattle.mp4_codec.specs.FramingLaws.{length-frame}
+use Rattle.mp4_codec.specs.Framing.{IsEncodable}
+use Rattle.mp4_codec.specs.FramingLaws.{length-box_bytes}
 use Rattle.mp4_codec.specs.FieldLaws.{length-then, length-number, length-zeros}
 use Rattle.mp4_codec.specs.WriteLaws.{is_written, write_cause-none}
 use Rattle.mp4_codec.specs.WrittenChildren.{last_child-again}
@@ -17,11 +17,11 @@ use Rattle.mp4_entry.specs.Hev1.{visual_of, hev1_of, hev1_payload, IsCanonicalHe
 
 pub length-hev1_payload : (b : Hev1Box) → length (hev1_payload b) ≡ 86 + length (hvcc_payload b.hvcc)
 unfolding hev1_payload
-length-hev1_payload b = simp (length-then, length-visual, length-frame) (omega arith)
+length-hev1_payload b = simp (length-then, length-visual, length-box_bytes) (omega arith)
 
-hvcc_spellable : IsSpellable hvcc
+hvcc_encodable : IsEncodable hvcc
 unfolding box_type
-hvcc_spellable = record { named = refl; code = omega arith }
+hvcc_encodable = record { named = refl; code = omega arith }
 
 pub hev1_again : (b : Hev1Box) → IsCanonicalHev1 b → hev1_of (hev1_payload b) ≡ Ok b
 unfolding hev1_of hev1_payload
@@ -30,17 +30,17 @@ hev1_again b f =
     let small : 8 + length (hvcc_payload b.hvcc) < 2 ^ 32 = omega (arith, written.small, length-hev1_payload b) in
     let again = hvcc_again b.hvcc (record {
       in_range = tt;
-      remarks = tt;
+      well_formed = tt;
       written = write_cause-none (hvcc_payload b.hvcc) None small written.sound;
     }) in
     let whole : length (optional hvcc hvcc_payload (Some b.hvcc)) < 2 ^ 32 =
-    omega (arith, small, length-frame hvcc (hvcc_payload b.hvcc)) in
+    omega (arith, small, length-box_bytes hvcc (hvcc_payload b.hvcc)) in
     rw (
       visual_again (visual_of b) _ f.in_range.visual,
-      last_child-again hvcc hvcc_payload hvcc_of (Some b.hvcc) hvcc_spellable whole (again, tt),
+      last_child-again hvcc hvcc_payload hvcc_of (Some b.hvcc) hvcc_encodable whole (again, tt),
     ) refl
 
 -- the bytes of the entry of a configuration, its header included
 pub hev1_of_config_size : (c : HevcConfig) → 8 + length (hev1_payload (hev1_of_config c)) ≡ 117
 unfolding hev1_payload hvcc_payload
-hev1_of_config_size c = simp (length-then, length-visual, length-frame, length-number, length-zeros) refl
+hev1_of_config_size c = simp (length-then, length-visual, length-box_bytes, length-number, length-zeros) refl

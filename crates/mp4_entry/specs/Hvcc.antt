@@ -18,12 +18,12 @@ abbrev pub IsInRangeHvcC : HvcCBox → Type 0
 IsInRangeHvcC b = Unit {0}
 
 -- nothing beside what is written
-abbrev pub RemarksHvcC : HvcCBox → Type 0
-RemarksHvcC b = Unit {0}
+abbrev pub IsWellFormedHvcC : HvcCBox → Type 0
+IsWellFormedHvcC b = Unit {0}
 
 -- a configuration that is written and reads back equal
 abbrev pub IsCanonicalHvcC : HvcCBox → Type 0
-IsCanonicalHvcC = IsCanonical IsInRangeHvcC RemarksHvcC hvcc_payload no_refusal
+IsCanonicalHvcC = IsCanonical IsInRangeHvcC IsWellFormedHvcC hvcc_payload no_refusal
 
 -- version 1 of the configuration, and all else zero
 abbrev pub default_hvcc : HvcCBox

@@ -15,7 +15,7 @@ use Rattle.mp4_entry.specs.declared.mp4a.AacConfig.{AacConfig}
 use Rattle.mp4_entry.specs.declared.sample_freq_index.SampleFreqIndex.{SampleFreqIndex}
 use Rattle.mp4_entry.specs.ChannelConfig.{channel_number}
 use Rattle.mp4_entry.specs.SampleFreqIndex.{freq_number, hertz}
-use Rattle.mp4_entry.specs.Esds.{esds_of, esds_payload, esds_refusal, IsInRangeEsds, RemarksEsds}
+use Rattle.mp4_entry.specs.Esds.{esds_of, esds_payload, esds_refusal, IsInRangeEsds, IsWellFormedEsds}
 
 -- any payload, as it stands
 abbrev pub as_it_is : List ℕ → Result (List ℕ) Cause
@@ -25,7 +25,7 @@ as_it_is payload = Ok payload
 abbrev pub last_payload : BoxType → List ℕ → Result (Option (List ℕ)) Cause
 last_payload t bytes = gathered (fault_in t as_it_is) (last_of t as_it_is) (children bytes)
 
--- the esds whose payload was found, if one was; children that don't frame have none
+-- the esds whose payload was found, if one was; children that are no boxes have none
 abbrev pub found_esds : Result (Option (List ℕ)) Cause → Result (Option EsdsBox) Cause
 found_esds (Err c) = Ok None
 found_esds (Ok None) = Ok None
@@ -103,13 +103,13 @@ pub record IsInRangeMp4a (b : Mp4aBox) : Type 0 where
   pub samplerate : b.samplerate.raw < 2 ^ 32
   pub esds : IfSome b.esds IsInRangeEsds
 
--- the remarks of its esds
-abbrev pub RemarksMp4a : Mp4aBox → Type 0
-RemarksMp4a b = IfSome b.esds RemarksEsds
+-- its esds is well-formed
+abbrev pub IsWellFormedMp4a : Mp4aBox → Type 0
+IsWellFormedMp4a b = IfSome b.esds IsWellFormedEsds
 
 -- an entry that is written and reads back equal
 abbrev pub IsCanonicalMp4a : Mp4aBox → Type 0
-IsCanonicalMp4a = IsCanonical IsInRangeMp4a RemarksMp4a mp4a_payload mp4a_refusal
+IsCanonicalMp4a = IsCanonical IsInRangeMp4a IsWellFormedMp4a mp4a_payload mp4a_refusal
 
 -- all zero, without an esds
 abbrev pub default_mp4a : Mp4aBox

@@ -4,7 +4,7 @@ use Rattle.mp4_codec.specs.declared.box_type.BoxType.TheVariants.{Avc1Box as avc
 use Rattle.mp4_codec.specs.declared.box_type.BoxType.TheVariants.{Mp4aBox as mp4a, Tx3gBox as tx3g}
 use Rattle.mp4_codec.specs.Cause.{Cause, ◌>>=◌, seen}
 use Rattle.mp4_codec.specs.Bytes.{number_at, number, ◌⧺◌}
-use Rattle.mp4_codec.specs.Boxes.{frame, IsCanonical}
+use Rattle.mp4_codec.specs.Boxes.{box_bytes, IsCanonical}
 use Rattle.mp4_codec.specs.Early.{Early, succeeds, at_once, ◌before◌}
 use Rattle.mp4_codec.specs.Children.{ChildBox, next_at, is_of}
 use Rattle.mp4_entry.specs.declared.config.MediaConfig.{MediaConfig}
@@ -17,11 +17,11 @@ use Rattle.mp4_entry.specs.declared.hev1.Hev1Box.{Hev1Box}
 use Rattle.mp4_entry.specs.declared.vp09.Vp09Box.{Vp09Box}
 use Rattle.mp4_entry.specs.declared.mp4a.Mp4aBox.{Mp4aBox}
 use Rattle.mp4_entry.specs.declared.tx3g.Tx3gBox.{Tx3gBox}
-use Rattle.mp4_entry.specs.Avc1.{avc1_of, avc1_early, avc1_payload, avc1_refusal, IsInRangeAvc1, RemarksAvc1, avc1_of_config}
-use Rattle.mp4_entry.specs.Hev1.{hev1_of, hev1_early, hev1_payload, IsInRangeHev1, RemarksHev1, hev1_of_config}
-use Rattle.mp4_entry.specs.Vp09.{vp09_of, vp09_early, vp09_payload, IsInRangeVp09, RemarksVp09, vp09_of_config}
-use Rattle.mp4_entry.specs.Mp4a.{mp4a_of, mp4a_payload, mp4a_refusal, IsInRangeMp4a, RemarksMp4a, mp4a_of_config}
-use Rattle.mp4_entry.specs.Tx3g.{tx3g_of, tx3g_payload, IsInRangeTx3g, RemarksTx3g, default_tx3g}
+use Rattle.mp4_entry.specs.Avc1.{avc1_of, avc1_early, avc1_payload, avc1_refusal, IsInRangeAvc1, IsWellFormedAvc1, avc1_of_config}
+use Rattle.mp4_entry.specs.Hev1.{hev1_of, hev1_early, hev1_payload, IsInRangeHev1, IsWellFormedHev1, hev1_of_config}
+use Rattle.mp4_entry.specs.Vp09.{vp09_of, vp09_early, vp09_payload, IsInRangeVp09, IsWellFormedVp09, vp09_of_config}
+use Rattle.mp4_entry.specs.Mp4a.{mp4a_of, mp4a_payload, mp4a_refusal, IsInRangeMp4a, IsWellFormedMp4a, mp4a_of_config}
+use Rattle.mp4_entry.specs.Tx3g.{tx3g_of, tx3g_payload, IsInRangeTx3g, IsWellFormedTx3g, default_tx3g}
 
 -- a sample entry; an entry of another type is as none
 pub data SampleEntry : Type 0 where
@@ -118,11 +118,11 @@ entry_count no_known = 0
 
 -- the box of an entry
 abbrev pub entry_bytes : SampleEntry → List ℕ
-entry_bytes (avc_video e) = frame avc1 (avc1_payload e)
-entry_bytes (hevc_video e) = frame hev1 (hev1_payload e)
-entry_bytes (vp9_video e) = frame vp09 (vp09_payload e)
-entry_bytes (aac_sound e) = frame mp4a (mp4a_payload e)
-entry_bytes (text e) = frame tx3g (tx3g_payload e)
+entry_bytes (avc_video e) = box_bytes avc1 (avc1_payload e)
+entry_bytes (hevc_video e) = box_bytes hev1 (hev1_payload e)
+entry_bytes (vp9_video e) = box_bytes vp09 (vp09_payload e)
+entry_bytes (aac_sound e) = box_bytes mp4a (mp4a_payload e)
+entry_bytes (text e) = box_bytes tx3g (tx3g_payload e)
 entry_bytes no_known = []
 
 -- why an entry is not written
@@ -152,23 +152,23 @@ pub record IsInRangeStsd (b : StsdBox) : Type 0 where
   pub tx3g : IfSome b.tx3g IsInRangeTx3g
 
 -- what the layout of an entry asks of it
-abbrev pub RemarksEntry : SampleEntry → Type 0
-RemarksEntry (avc_video e) = RemarksAvc1 e
-RemarksEntry (hevc_video e) = RemarksHev1 e
-RemarksEntry (vp9_video e) = RemarksVp09 e
-RemarksEntry (aac_sound e) = RemarksMp4a e
-RemarksEntry (text e) = RemarksTx3g e
-RemarksEntry no_known = Unit {0}
+abbrev pub IsWellFormedEntry : SampleEntry → Type 0
+IsWellFormedEntry (avc_video e) = IsWellFormedAvc1 e
+IsWellFormedEntry (hevc_video e) = IsWellFormedHev1 e
+IsWellFormedEntry (vp9_video e) = IsWellFormedVp09 e
+IsWellFormedEntry (aac_sound e) = IsWellFormedMp4a e
+IsWellFormedEntry (text e) = IsWellFormedTx3g e
+IsWellFormedEntry no_known = Unit {0}
 
--- flags have 24 bits, the remarks of the entry hold of it, and it is the only one
-pub record RemarksStsd (b : StsdBox) : Type 0 where
+-- flags have 24 bits, the entry is well-formed, and it is the only one
+pub record IsWellFormedStsd (b : StsdBox) : Type 0 where
   pub flags : b.flags < 2 ^ 24
-  pub entry : RemarksEntry (first_entry b)
+  pub entry : IsWellFormedEntry (first_entry b)
   pub only : with_entry b.version b.flags (first_entry b) ≡ b
 
 -- a description that is written and reads back equal
 abbrev pub IsCanonicalStsd : StsdBox → Type 0
-IsCanonicalStsd = IsCanonical IsInRangeStsd RemarksStsd stsd_payload stsd_refusal
+IsCanonicalStsd = IsCanonical IsInRangeStsd IsWellFormedStsd stsd_payload stsd_refusal
 
 abbrev pub default_stsd : StsdBox
 default_stsd = no_entry 0 0

@@ -8,11 +8,11 @@ use Rattle.mp4_codec.specs.declared.box_type.BoxType.TheVariants.{Avc1Box as avc
 use Rattle.mp4_codec.specs.declared.box_type.BoxType.TheVariants.{Mp4aBox as mp4a, Tx3gBox as tx3g}
 use Rattle.mp4_codec.specs.BoxType.{box_type}
 use Rattle.mp4_codec.specs.Bytes.{◌⧺◌}
-use Rattle.mp4_codec.specs.Boxes.{frame}
+use Rattle.mp4_codec.specs.Boxes.{box_bytes}
 use Rattle.mp4_codec.specs.Children.{ChildBox, child_at, next_at}
 use Rattle.mp4_codec.specs.FieldLaws.{number_again, length-number, length-then, then_nothing}
-use Rattle.mp4_codec.specs.Framing.{IsSpellable, short}
-use Rattle.mp4_codec.specs.FramingLaws.{child_at-box, length-frame}
+use Rattle.mp4_codec.specs.Framing.{IsEncodable, short}
+use Rattle.mp4_codec.specs.FramingLaws.{child_at-box, length-box_bytes}
 use Rattle.mp4_codec.specs.WriteLaws.{is_written, write_cause-none}
 use Rattle.mp4_entry.specs.declared.stsd.StsdBox.{StsdBox}
 use Rattle.mp4_entry.specs.Avc1.{avc1_payload, avc1_refusal, IsInRangeAvc1}
@@ -28,41 +28,41 @@ use Rattle.mp4_entry.specs.Tx3gLaws.{tx3g_again}
 use Rattle.mp4_entry.specs.Stsd.{SampleEntry, avc_video, hevc_video, vp9_video, aac_sound, text, no_known, entry_of}
 use Rattle.mp4_entry.specs.Stsd.{entry_in, stsd_of, present_or}
 use Rattle.mp4_entry.specs.Stsd.{first_entry, entry_count, entry_bytes, entry_refusal, stsd_payload, stsd_refusal}
-use Rattle.mp4_entry.specs.Stsd.{IsInRangeStsd, RemarksEntry, IsCanonicalStsd}
+use Rattle.mp4_entry.specs.Stsd.{IsInRangeStsd, IsWellFormedEntry, IsCanonicalStsd}
 
 pub length-stsd_payload : (b : StsdBox) → length (stsd_payload b) ≡ 8 + length (entry_bytes (first_entry b))
 unfolding stsd_payload
 length-stsd_payload b = simp (length-then, length-number) (omega arith)
 
--- a frame that was written is the next child
-next_at-frame : (t : BoxType) (payload : List ℕ) → IsSpellable t → 8 + length payload < 2 ^ 32
-    → next_at (frame t payload) ≡ Ok (Some (t, payload), [])
+-- a box that was written is the next child
+next_at-box_bytes : (t : BoxType) (payload : List ℕ) → IsEncodable t → 8 + length payload < 2 ^ 32
+    → next_at (box_bytes t payload) ≡ Ok (Some (t, payload), [])
 unfolding ◌⧺◌
-next_at-frame t payload s small =
-    let alone : frame t payload ⧺ [] ≡ frame t payload = then_nothing (frame t payload) in
-    let is : child_at (frame t payload) ≡ Some ((t, payload), []) =
-    ap child_at (sym alone) ∙ child_at-box t payload (frame t payload) [] (short s small refl) in
-    rw (le-ltb (length (frame t payload)) 8 (omega (arith, length-frame t payload)), is) refl
+next_at-box_bytes t payload s small =
+    let alone : box_bytes t payload ⧺ [] ≡ box_bytes t payload = then_nothing (box_bytes t payload) in
+    let is : child_at (box_bytes t payload) ≡ Some ((t, payload), []) =
+    ap child_at (sym alone) ∙ child_at-box t payload (box_bytes t payload) [] (short s small refl) in
+    rw (le-ltb (length (box_bytes t payload)) 8 (omega (arith, length-box_bytes t payload)), is) refl
 
-avc1_spellable : IsSpellable avc1
+avc1_encodable : IsEncodable avc1
 unfolding box_type
-avc1_spellable = record { named = refl; code = omega arith }
+avc1_encodable = record { named = refl; code = omega arith }
 
-hev1_spellable : IsSpellable hev1
+hev1_encodable : IsEncodable hev1
 unfolding box_type
-hev1_spellable = record { named = refl; code = omega arith }
+hev1_encodable = record { named = refl; code = omega arith }
 
-vp09_spellable : IsSpellable vp09
+vp09_encodable : IsEncodable vp09
 unfolding box_type
-vp09_spellable = record { named = refl; code = omega arith }
+vp09_encodable = record { named = refl; code = omega arith }
 
-mp4a_spellable : IsSpellable mp4a
+mp4a_encodable : IsEncodable mp4a
 unfolding box_type
-mp4a_spellable = record { named = refl; code = omega arith }
+mp4a_encodable = record { named = refl; code = omega arith }
 
-tx3g_spellable : IsSpellable tx3g
+tx3g_encodable : IsEncodable tx3g
 unfolding box_type
-tx3g_spellable = record { named = refl; code = omega arith }
+tx3g_encodable = record { named = refl; code = omega arith }
 
 -- the numbers of an entry are within their types
 abbrev IsInRangeEntry : SampleEntry → Type 0
@@ -94,75 +94,75 @@ record ReadsAs (bytes : List ℕ) (entry : SampleEntry) : Type 0 where
   next : next_at bytes ≡ Ok (first, rest)
   is : entry_in first ≡ Ok entry
 
-entry_again : (entry : SampleEntry) → IsInRangeEntry entry → RemarksEntry entry → entry_refusal entry ≡ None
+entry_again : (entry : SampleEntry) → IsInRangeEntry entry → IsWellFormedEntry entry → entry_refusal entry ≡ None
     → length (entry_bytes entry) < 2 ^ 32 → ReadsAs (entry_bytes entry) entry
 unfolding entry_of
-entry_again (avc_video e) in_range remarks sound small =
-    let fits : 8 + length (avc1_payload e) < 2 ^ 32 = omega (arith, small, length-frame avc1 (avc1_payload e)) in
+entry_again (avc_video e) in_range well_formed sound small =
+    let fits : 8 + length (avc1_payload e) < 2 ^ 32 = omega (arith, small, length-box_bytes avc1 (avc1_payload e)) in
     let again = avc1_again e (record {
       in_range = in_range;
-      remarks = remarks;
+      well_formed = well_formed;
       written = write_cause-none (avc1_payload e) (avc1_refusal e) fits sound;
     }) in
     record {
       first = Some (avc1, avc1_payload e);
       rest = [];
-      next = next_at-frame avc1 (avc1_payload e) avc1_spellable fits;
+      next = next_at-box_bytes avc1 (avc1_payload e) avc1_encodable fits;
       is = rw again refl;
     }
-entry_again (hevc_video e) in_range remarks sound small =
-    let fits : 8 + length (hev1_payload e) < 2 ^ 32 = omega (arith, small, length-frame hev1 (hev1_payload e)) in
+entry_again (hevc_video e) in_range well_formed sound small =
+    let fits : 8 + length (hev1_payload e) < 2 ^ 32 = omega (arith, small, length-box_bytes hev1 (hev1_payload e)) in
     let again = hev1_again e (record {
       in_range = in_range;
-      remarks = remarks;
+      well_formed = well_formed;
       written = write_cause-none (hev1_payload e) None fits refl;
     }) in
     record {
       first = Some (hev1, hev1_payload e);
       rest = [];
-      next = next_at-frame hev1 (hev1_payload e) hev1_spellable fits;
+      next = next_at-box_bytes hev1 (hev1_payload e) hev1_encodable fits;
       is = rw again refl;
     }
-entry_again (vp9_video e) in_range remarks sound small =
-    let fits : 8 + length (vp09_payload e) < 2 ^ 32 = omega (arith, small, length-frame vp09 (vp09_payload e)) in
+entry_again (vp9_video e) in_range well_formed sound small =
+    let fits : 8 + length (vp09_payload e) < 2 ^ 32 = omega (arith, small, length-box_bytes vp09 (vp09_payload e)) in
     let again = vp09_again e (record {
       in_range = in_range;
-      remarks = remarks;
+      well_formed = well_formed;
       written = write_cause-none (vp09_payload e) None fits refl;
     }) in
     record {
       first = Some (vp09, vp09_payload e);
       rest = [];
-      next = next_at-frame vp09 (vp09_payload e) vp09_spellable fits;
+      next = next_at-box_bytes vp09 (vp09_payload e) vp09_encodable fits;
       is = rw again refl;
     }
-entry_again (aac_sound e) in_range remarks sound small =
-    let fits : 8 + length (mp4a_payload e) < 2 ^ 32 = omega (arith, small, length-frame mp4a (mp4a_payload e)) in
+entry_again (aac_sound e) in_range well_formed sound small =
+    let fits : 8 + length (mp4a_payload e) < 2 ^ 32 = omega (arith, small, length-box_bytes mp4a (mp4a_payload e)) in
     let again = mp4a_again e (record {
       in_range = in_range;
-      remarks = remarks;
+      well_formed = well_formed;
       written = write_cause-none (mp4a_payload e) (mp4a_refusal e) fits sound;
     }) in
     record {
       first = Some (mp4a, mp4a_payload e);
       rest = [];
-      next = next_at-frame mp4a (mp4a_payload e) mp4a_spellable fits;
+      next = next_at-box_bytes mp4a (mp4a_payload e) mp4a_encodable fits;
       is = rw again refl;
     }
-entry_again (text e) in_range remarks sound small =
-    let fits : 8 + length (tx3g_payload e) < 2 ^ 32 = omega (arith, small, length-frame tx3g (tx3g_payload e)) in
+entry_again (text e) in_range well_formed sound small =
+    let fits : 8 + length (tx3g_payload e) < 2 ^ 32 = omega (arith, small, length-box_bytes tx3g (tx3g_payload e)) in
     let again = tx3g_again e (record {
       in_range = in_range;
-      remarks = remarks;
+      well_formed = well_formed;
       written = write_cause-none (tx3g_payload e) None fits refl;
     }) in
     record {
       first = Some (tx3g, tx3g_payload e);
       rest = [];
-      next = next_at-frame tx3g (tx3g_payload e) tx3g_spellable fits;
+      next = next_at-box_bytes tx3g (tx3g_payload e) tx3g_encodable fits;
       is = rw again refl;
     }
-entry_again no_known in_range remarks sound small = record { first = None; rest = []; next = refl; is = refl }
+entry_again no_known in_range well_formed sound small = record { first = None; rest = []; next = refl; is = refl }
 
 few : (entry : SampleEntry) → entry_count entry < 256 ^ 4
 few (avc_video e) = omega arith
@@ -177,12 +177,12 @@ unfolding stsd_of stsd_payload
 stsd_again b f =
     let written = is_written (stsd_payload b) (stsd_refusal b) f.written in
     let small : length (entry_bytes (first_entry b)) < 2 ^ 32 = omega (arith, written.small, length-stsd_payload b) in
-    let r = entry_again (first_entry b) (first_in_range b f.in_range) f.remarks.entry written.sound small in
+    let r = entry_again (first_entry b) (first_in_range b f.in_range) f.well_formed.entry written.sound small in
     rw (
       number_again 1 b.version _ f.in_range.version,
-      number_again 3 b.flags _ f.remarks.flags,
+      number_again 3 b.flags _ f.well_formed.flags,
       number_again 4 (entry_count (first_entry b)) _ (few (first_entry b)),
       r.next,
       r.is,
-      f.remarks.only,
+      f.well_formed.only,
     ) refl

@@ -23,12 +23,12 @@ pub record IsInRangeTx3g (b : Tx3gBox) : Type 0 where
   pub raw : length b.raw ≡ 30
 
 -- each value is written as it is
-abbrev pub RemarksTx3g : Tx3gBox → Type 0
-RemarksTx3g b = Unit {0}
+abbrev pub IsWellFormedTx3g : Tx3gBox → Type 0
+IsWellFormedTx3g b = Unit {0}
 
 -- an entry that is written and reads back equal
 abbrev pub IsCanonicalTx3g : Tx3gBox → Type 0
-IsCanonicalTx3g = IsCanonical IsInRangeTx3g RemarksTx3g tx3g_payload no_refusal
+IsCanonicalTx3g = IsCanonical IsInRangeTx3g IsWellFormedTx3g tx3g_payload no_refusal
 
 -- text in the middle of the bottom over opaque black, a text box of nothing, white text in font 1 of size 16
 abbrev pub default_style : List ℕ

@@ -3,7 +3,7 @@ use Rattle.std.specs.Prelude.{ℕ, ◌^◌, ◌<◌, List, Result, Ok}
 use Rattle.mp4_codec.specs.declared.box_type.BoxType.TheVariants.{VpccBox as vpcc}
 use Rattle.mp4_codec.specs.Cause.{Cause, ◌>>=◌}
 use Rattle.mp4_codec.specs.Bytes.{◌⧺◌}
-use Rattle.mp4_codec.specs.Boxes.{frame, IsCanonical, no_refusal}
+use Rattle.mp4_codec.specs.Boxes.{box_bytes, IsCanonical, no_refusal}
 use Rattle.mp4_codec.specs.Early.{Early, early_gathered, early_last, at_once, refused_at_once, ◌and_then◌, ◌before◌}
 use Rattle.mp4_codec.specs.Children.{children, gathered, fault_in, last_of}
 use Rattle.mp4_entry.specs.declared.visual.Visual.{Visual}
@@ -55,19 +55,19 @@ visual_of b = record {
 
 -- the payload that holds an entry
 unfoldable pub vp09_payload : Vp09Box → List ℕ
-vp09_payload b = visual (visual_of b) ⧺ frame vpcc (vpcc_payload b.vpcc)
+vp09_payload b = visual (visual_of b) ⧺ box_bytes vpcc (vpcc_payload b.vpcc)
 
 -- each number is within its type
 pub record IsInRangeVp09 (b : Vp09Box) : Type 0 where
   pub visual : IsInRangeVisual (visual_of b)
 
 -- nothing beside what is written
-abbrev pub RemarksVp09 : Vp09Box → Type 0
-RemarksVp09 b = Unit {0}
+abbrev pub IsWellFormedVp09 : Vp09Box → Type 0
+IsWellFormedVp09 b = Unit {0}
 
 -- an entry that is written and reads back equal
 abbrev pub IsCanonicalVp09 : Vp09Box → Type 0
-IsCanonicalVp09 = IsCanonical IsInRangeVp09 RemarksVp09 vp09_payload no_refusal
+IsCanonicalVp09 = IsCanonical IsInRangeVp09 IsWellFormedVp09 vp09_payload no_refusal
 
 -- pictures of no size
 abbrev pub default_vp09 : Vp09Box

@@ -18,12 +18,12 @@ abbrev pub IsInRangeVpcc : VpccBox → Type 0
 IsInRangeVpcc b = Unit {0}
 
 -- nothing beside what is written
-abbrev pub RemarksVpcc : VpccBox → Type 0
-RemarksVpcc b = Unit {0}
+abbrev pub IsWellFormedVpcc : VpccBox → Type 0
+IsWellFormedVpcc b = Unit {0}
 
 -- a configuration that is written and reads back equal
 abbrev pub IsCanonicalVpcc : VpccBox → Type 0
-IsCanonicalVpcc = IsCanonical IsInRangeVpcc RemarksVpcc vpcc_payload no_refusal
+IsCanonicalVpcc = IsCanonical IsInRangeVpcc IsWellFormedVpcc vpcc_payload no_refusal
 
 -- version 1 and no flags; profile 0, level 3.1, 8 bits a colour; no data for the codec
 abbrev pub default_vpcc : VpccBox

@@ -7,7 +7,7 @@ ghost use Rattle.mp4_codec.specs.declared.box_type.BoxType.TheVariants.{Avc1Box 
 ghost use Rattle.mp4_codec.specs.Cause.{Gives, Answers};
 ghost use Rattle.mp4_codec.specs.Boxes.{size_around};
 ghost use Rattle.mp4_entry.specs.declared.visual.Visual.{Visual};
-ghost use Rattle.mp4_entry.specs.Avc1.{avc1_of, avc1_early, avc1_payload, avc1_refusal, avc1_with, avc1_of_config, default_avc1, visual_of, IsInRangeAvc1, RemarksAvc1, IsInRangeAvcConfig};
+ghost use Rattle.mp4_entry.specs.Avc1.{avc1_of, avc1_early, avc1_payload, avc1_refusal, avc1_with, avc1_of_config, default_avc1, visual_of, IsInRangeAvc1, IsWellFormedAvc1, IsInRangeAvcConfig};
 ghost use Rattle.mp4_entry.specs.Avc1Laws.{avc1_again};
 
 use crate::avcc::AvcCBox;
@@ -201,7 +201,7 @@ impl ReadBox for Avc1Box {
 impl WriteBox for Avc1Box {
     ghost refusal = { avc1_refusal };
 
-    ghost Remarks = { RemarksAvc1 };
+    ghost IsWellFormed = { IsWellFormedAvc1 };
 
     ghost reads_back = { avc1_again };
 

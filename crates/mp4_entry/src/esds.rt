@@ -9,7 +9,7 @@ ghost use Rattle.mp4_codec.specs.Bytes.{Appends, number};
 ghost use Rattle.mp4_codec.specs.Boxes.{size_around};
 ghost use Rattle.mp4_entry.specs.Descriptor.{descriptor};
 ghost use Rattle.mp4_entry.specs.Esds.{bits, profile_in, profile_end, frequency_in, frequency_end, decoder_specific_of, decoder_config_of, es_descriptor_of, is_set, behind_id, behind_url, behind_options};
-ghost use Rattle.mp4_entry.specs.Esds.{esds_of, esds_payload, esds_refusal, specific_word, stream_byte, decoder_config, es_descriptor, specific_refusal, config_refusal, IsInRangeEsds, RemarksEsds, default_esds};
+ghost use Rattle.mp4_entry.specs.Esds.{esds_of, esds_payload, esds_refusal, specific_word, stream_byte, decoder_config, es_descriptor, specific_refusal, config_refusal, IsInRangeEsds, IsWellFormedEsds, default_esds};
 ghost use Rattle.mp4_entry.specs.EsdsLaws.{esds_again};
 ghost use Rattle.mp4_codec.specs.Early.{at_once};
 
@@ -433,7 +433,7 @@ impl ReadBox for EsdsBox {
 impl WriteBox for EsdsBox {
     ghost refusal = { esds_refusal };
 
-    ghost Remarks = { RemarksEsds };
+    ghost IsWellFormed = { IsWellFormedEsds };
 
     ghost reads_back = { esds_again };
 

@@ -5,7 +5,7 @@ ghost use Rattle.std.specs.Prelude.{◌≡◌, Ok};
 ghost use Rattle.mp4_codec.specs.declared.box_type.BoxType.TheVariants.{HvcCBox as hvcc};
 ghost use Rattle.mp4_codec.specs.Cause.{Answers};
 ghost use Rattle.mp4_codec.specs.Boxes.{size_around, no_refusal};
-ghost use Rattle.mp4_entry.specs.Hvcc.{hvcc_of, hvcc_payload, default_hvcc, IsInRangeHvcC, RemarksHvcC};
+ghost use Rattle.mp4_entry.specs.Hvcc.{hvcc_of, hvcc_payload, default_hvcc, IsInRangeHvcC, IsWellFormedHvcC};
 ghost use Rattle.mp4_entry.specs.HvccLaws.{hvcc_again};
 ghost use Rattle.mp4_codec.specs.Early.{refused_at_once};
 
@@ -96,7 +96,7 @@ impl ReadBox for HvcCBox {
 impl WriteBox for HvcCBox {
     ghost refusal = { no_refusal };
 
-    ghost Remarks = { RemarksHvcC };
+    ghost IsWellFormed = { IsWellFormedHvcC };
 
     ghost reads_back = { hvcc_again };
 

@@ -11,7 +11,7 @@ ghost use Rattle.mp4_codec.specs.declared.box_type.BoxType.TheVariants.{EsdsBox 
 ghost use Rattle.mp4_codec.specs.Cause.{Gives};
 ghost use Rattle.mp4_codec.specs.Children.{child_box, with_last};
 ghost use Rattle.mp4_codec.specs.Boxes.{size_around};
-ghost use Rattle.mp4_entry.specs.Mp4a.{as_it_is, last_payload, found_esds, direct_esds, child_esds, versioned_esds, mp4a_of, mp4a_payload, mp4a_refusal, IsInRangeMp4a, RemarksMp4a, default_mp4a, samplerate_of, esds_of_config, mp4a_of_config, IsInRangeAacConfig};
+ghost use Rattle.mp4_entry.specs.Mp4a.{as_it_is, last_payload, found_esds, direct_esds, child_esds, versioned_esds, mp4a_of, mp4a_payload, mp4a_refusal, IsInRangeMp4a, IsWellFormedMp4a, default_mp4a, samplerate_of, esds_of_config, mp4a_of_config, IsInRangeAacConfig};
 ghost use Rattle.mp4_entry.specs.Mp4aLaws.{mp4a_again};
 ghost use Rattle.mp4_codec.specs.Early.{at_once};
 
@@ -35,7 +35,7 @@ use std::alloc::Global;
 ///
 /// The last `esds` among the children stands; each of them is read, and the first fault in file order, of framing too,
 /// is the answer. Where there is none, the last `esds` of the last `wave` stands, and it alone is read there; a `wave`
-/// whose children don't frame has none. An entry isn't written where its `esds` isn't, for the same cause.
+/// whose children are no boxes has none. An entry isn't written where its `esds` isn't, for the same cause.
 #[derive(Clone, Copy, Debug, PartialEq, Eq)]
 pub struct Mp4aBox {
     /// Which of the track's data references has the samples, counted from 1.
@@ -149,7 +149,7 @@ fn last_payload(bytes: &[u8], kind: BoxType) -> Result<Option<&[u8]>>
     Ok(last)
 }
 
-/// The last `esds` among the children of a `wave`; None where they don't frame.
+/// The last `esds` among the children of a `wave`; None where they are no boxes.
 fn wave_esds(alloc: Global, wave: &[u8]) -> Result<Option<EsdsBox>>
     ensures { Gives (λ b. b) result (found_esds (last_payload esds wave.now)) }
 {
@@ -313,7 +313,7 @@ impl ReadBox for Mp4aBox {
 impl WriteBox for Mp4aBox {
     ghost refusal = { mp4a_refusal };
 
-    ghost Remarks = { RemarksMp4a };
+    ghost IsWellFormed = { IsWellFormedMp4a };
 
     ghost reads_back = { mp4a_again };
 

@@ -7,7 +7,7 @@ ghost use Rattle.mp4_entry.specs.Narrow.{past};
 
 use mp4_codec::{Error, Put, Result, put_bytes};
 
-/// Whether a number is at most the greatest that its bits spell; else it is `Unrepresentable`.
+/// Whether a number is at most the greatest that its bits encode; else it is `Unrepresentable`.
 pub(crate) fn check_most(n: u64, most: u64) -> Result<()>
     ensures { Checks result (past most n) }
 {

@@ -12,7 +12,7 @@ ghost use Rattle.mp4_codec.specs.Boxes.{size_around};
 ghost use Rattle.mp4_codec.specs.Bytes.{Appends};
 ghost use Rattle.mp4_codec.specs.Cause.{Answers, Checks, seen};
 ghost use Rattle.mp4_codec.specs.Children.{child_box};
-ghost use Rattle.mp4_entry.specs.Stsd.{stsd_payload, default_stsd, stsd_of, stsd_early, stsd_of_config, stsd_refusal, IsInRangeStsd, RemarksStsd, first_entry, with_entry, entry_of, entry_early, avc_video, hevc_video, vp9_video, aac_sound, text, entry_bytes, entry_count, no_entry};
+ghost use Rattle.mp4_entry.specs.Stsd.{stsd_payload, default_stsd, stsd_of, stsd_early, stsd_of_config, stsd_refusal, IsInRangeStsd, IsWellFormedStsd, first_entry, with_entry, entry_of, entry_early, avc_video, hevc_video, vp9_video, aac_sound, text, entry_bytes, entry_count, no_entry};
 ghost use Rattle.mp4_entry.specs.StsdLaws.{stsd_again};
 ghost use Rattle.mp4_codec.specs.Early.{Shows};
 
@@ -212,7 +212,7 @@ impl StsdBox {
     }
 
     /// The bytes of the entry that is written; they stop at 2^64 - 1.
-    #[tactic(auto, using(crate::proofs::Sizes::frames))]
+    #[tactic(auto, using(crate::proofs::Sizes::boxes))]
     fn entry_size(&self) -> u64
         ensures { result ≡ min (length (entry_bytes (first_entry self.now))) (2 ^ 64 - 1) }
     {
@@ -257,7 +257,7 @@ impl StsdBox {
     }
 
     /// Adds the entry that is written.
-    #[tactic(auto, using(crate::proofs::Sizes::frames))]
+    #[tactic(auto, using(crate::proofs::Sizes::boxes))]
     fn put_entry(&self, out: &mut Vec<u8>) -> Put
         requires { length (entry_bytes (first_entry self.now)) < 2 ^ 32 }
         ensures { OnOk result (Appends out.old.items out.new.items (entry_bytes (first_entry self.now))) }
@@ -353,7 +353,7 @@ impl ReadBox for StsdBox {
 impl WriteBox for StsdBox {
     ghost refusal = { stsd_refusal };
 
-    ghost Remarks = { RemarksStsd };
+    ghost IsWellFormed = { IsWellFormedStsd };
 
     ghost reads_back = { stsd_again };
 

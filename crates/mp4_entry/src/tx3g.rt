@@ -5,7 +5,7 @@ ghost use Rattle.std.specs.Prelude.{◌≡◌, Ok, refl};
 ghost use Rattle.mp4_codec.specs.declared.box_type.BoxType.TheVariants.{Tx3gBox as tx3g};
 ghost use Rattle.mp4_codec.specs.Boxes.{size_around, no_refusal};
 ghost use Rattle.mp4_codec.specs.Cause.{Gives};
-ghost use Rattle.mp4_entry.specs.Tx3g.{tx3g_payload, default_tx3g, tx3g_of, IsInRangeTx3g, RemarksTx3g};
+ghost use Rattle.mp4_entry.specs.Tx3g.{tx3g_payload, default_tx3g, tx3g_of, IsInRangeTx3g, IsWellFormedTx3g};
 ghost use Rattle.mp4_entry.specs.Tx3gLaws.{tx3g_again};
 ghost use Rattle.mp4_codec.specs.Early.{at_once};
 
@@ -147,7 +147,7 @@ impl ReadBox for Tx3gBox {
 impl WriteBox for Tx3gBox {
     ghost refusal = { no_refusal };
 
-    ghost Remarks = { RemarksTx3g };
+    ghost IsWellFormed = { IsWellFormedTx3g };
 
     ghost reads_back = { tx3g_again };
 

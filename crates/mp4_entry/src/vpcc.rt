@@ -5,7 +5,7 @@ ghost use Rattle.std.specs.Prelude.{◌≡◌, Ok};
 ghost use Rattle.mp4_codec.specs.declared.box_type.BoxType.TheVariants.{VpccBox as vpcc};
 ghost use Rattle.mp4_codec.specs.Cause.{Answers};
 ghost use Rattle.mp4_codec.specs.Boxes.{size_around, no_refusal};
-ghost use Rattle.mp4_entry.specs.Vpcc.{vpcc_of, vpcc_payload, default_vpcc, IsInRangeVpcc, RemarksVpcc};
+ghost use Rattle.mp4_entry.specs.Vpcc.{vpcc_of, vpcc_payload, default_vpcc, IsInRangeVpcc, IsWellFormedVpcc};
 ghost use Rattle.mp4_entry.specs.VpccLaws.{vpcc_again};
 ghost use Rattle.mp4_codec.specs.Early.{refused_at_once};
 
@@ -97,7 +97,7 @@ impl ReadBox for VpccBox {
 impl WriteBox for VpccBox {
     ghost refusal = { no_refusal };
 
-    ghost Remarks = { RemarksVpcc };
+    ghost IsWellFormed = { IsWellFormedVpcc };
 
     ghost reads_back = { vpcc_again };
 

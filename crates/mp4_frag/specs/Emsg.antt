@@ -121,14 +121,14 @@ pub record IsInRangeEmsg (b : EmsgBox) : Type 0 where
   pub id : b.id < 2 ^ 32
 
 -- flags have 24 bits, and no byte of the texts is zero
-pub record RemarksEmsg (b : EmsgBox) : Type 0 where
+pub record IsWellFormedEmsg (b : EmsgBox) : Type 0 where
   pub flags : b.flags < 2 ^ 24
   pub scheme_id_uri : HasNoZero b.scheme_id_uri
   pub value : HasNoZero b.value
 
 -- an event message that is written and reads back equal
 abbrev pub IsCanonicalEmsg : EmsgBox → Type 0
-IsCanonicalEmsg = IsCanonical IsInRangeEmsg RemarksEmsg emsg_payload emsg_refusal
+IsCanonicalEmsg = IsCanonical IsInRangeEmsg IsWellFormedEmsg emsg_payload emsg_refusal
 
 -- all zero and empty, with neither of the times
 abbrev pub default_emsg : EmsgBox

@@ -9,7 +9,7 @@ use Rattle.mp4_codec.specs.FieldLaws.{then_assoc}
 use Rattle.mp4_codec.specs.WriteLaws.{is_written}
 use Rattle.mp4_frag.specs.declared.emsg.EmsgBox.{EmsgBox}
 use Rattle.mp4_frag.specs.Emsg.{emsg_0_of, emsg_1_of, emsg_of, ended, emsg_0_payload, emsg_1_payload, emsg_payload}
-use Rattle.mp4_frag.specs.Emsg.{presentation_refusal, emsg_refusal, IsInRangeEmsg, RemarksEmsg, IsCanonicalEmsg}
+use Rattle.mp4_frag.specs.Emsg.{presentation_refusal, emsg_refusal, IsInRangeEmsg, IsWellFormedEmsg, IsCanonicalEmsg}
 
 until_zero-text : (text rest : List ℕ) → HasNoZero text → until_zero (text ⧺ zeros 1 ⧺ rest) ≡ text
 unfolding until_zero ◌⧺◌ zeros
@@ -69,39 +69,39 @@ with_times b version delta time = record {
 -- by version, and by the times that are there
 again_by_version : (b : EmsgBox) (version : ℕ) (delta time : Option ℕ)
     → presentation_refusal version (is_some delta) (is_some time) ≡ None
-    → IsInRangeEmsg (with_times b version delta time) → RemarksEmsg b
+    → IsInRangeEmsg (with_times b version delta time) → IsWellFormedEmsg b
     → emsg_of (emsg_payload (with_times b version delta time)) ≡ Ok (with_times b version delta time)
 unfolding emsg_of emsg_payload emsg_0_of emsg_1_of emsg_0_payload emsg_1_payload
-again_by_version b zero (Some delta) None sound in_range remarks =
+again_by_version b zero (Some delta) None sound in_range well_formed =
     rw (
       number_again 1 0 _ (omega arith),
-      number_again 3 b.flags _ remarks.flags,
-      text_again b.scheme_id_uri _ remarks.scheme_id_uri,
-      text_again b.value _ remarks.value,
+      number_again 3 b.flags _ well_formed.flags,
+      text_again b.scheme_id_uri _ well_formed.scheme_id_uri,
+      text_again b.value _ well_formed.value,
       number_again 4 b.timescale _ in_range.timescale,
       number_again 4 delta _ in_range.presentation_time_delta,
       number_again 4 b.event_duration _ in_range.event_duration,
       number_again 4 b.id _ in_range.id,
     ) refl
-again_by_version b zero (Some delta) (Some time) sound in_range remarks = absurd cc
-again_by_version b zero None time sound in_range remarks = absurd cc
-again_by_version b (suc zero) None (Some time) sound in_range remarks =
+again_by_version b zero (Some delta) (Some time) sound in_range well_formed = absurd cc
+again_by_version b zero None time sound in_range well_formed = absurd cc
+again_by_version b (suc zero) None (Some time) sound in_range well_formed =
     rw (
       number_again 1 1 _ (omega arith),
-      number_again 3 b.flags _ remarks.flags,
+      number_again 3 b.flags _ well_formed.flags,
       number_again 4 b.timescale _ in_range.timescale,
       number_again 8 time _ in_range.presentation_time,
       number_again 4 b.event_duration _ in_range.event_duration,
       number_again 4 b.id _ in_range.id,
-      text_again b.scheme_id_uri _ remarks.scheme_id_uri,
-      text_again b.value _ remarks.value,
+      text_again b.scheme_id_uri _ well_formed.scheme_id_uri,
+      text_again b.value _ well_formed.value,
     ) refl
-again_by_version b (suc zero) (Some delta) (Some time) sound in_range remarks = absurd cc
-again_by_version b (suc zero) delta None sound in_range remarks = absurd cc
-again_by_version b (suc (suc version)) delta time sound in_range remarks = absurd cc
+again_by_version b (suc zero) (Some delta) (Some time) sound in_range well_formed = absurd cc
+again_by_version b (suc zero) delta None sound in_range well_formed = absurd cc
+again_by_version b (suc (suc version)) delta time sound in_range well_formed = absurd cc
 
 pub emsg_again : (b : EmsgBox) → IsCanonicalEmsg b → emsg_of (emsg_payload b) ≡ Ok b
 unfolding emsg_refusal
 emsg_again b f =
     let sound = (is_written (emsg_payload b) (emsg_refusal b) f.written).sound in
-    again_by_version b b.version b.presentation_time_delta b.presentation_time sound f.in_range f.remarks
+    again_by_version b b.version b.presentation_time_delta b.presentation_time sound f.in_range f.well_formed

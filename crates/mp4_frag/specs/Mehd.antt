@@ -27,12 +27,12 @@ pub record IsInRangeMehd (b : MehdBox) : Type 0 where
   pub fragment_duration : b.fragment_duration < 2 ^ 64
 
 -- flags have 24 bits
-abbrev pub RemarksMehd : MehdBox → Type 0
-RemarksMehd b = b.flags < 2 ^ 24
+abbrev pub IsWellFormedMehd : MehdBox → Type 0
+IsWellFormedMehd b = b.flags < 2 ^ 24
 
 -- a movie extends header that is written and reads back equal
 abbrev pub IsCanonicalMehd : MehdBox → Type 0
-IsCanonicalMehd = IsCanonical IsInRangeMehd RemarksMehd mehd_payload mehd_refusal
+IsCanonicalMehd = IsCanonical IsInRangeMehd IsWellFormedMehd mehd_payload mehd_refusal
 
 -- no duration
 abbrev pub default_mehd : MehdBox

@@ -19,6 +19,6 @@ mehd_again b f =
     let fits = FitsVersion-written b.version b.fragment_duration sound.0 sound.1 f.in_range.fragment_duration in
     rw (
       number_again 1 b.version _ f.in_range.version,
-      number_again 3 b.flags _ f.remarks,
+      number_again 3 b.flags _ f.well_formed,
       versioned_last b.version b.fragment_duration fits,
     ) refl

@@ -30,12 +30,12 @@ pub record IsInRangeMfhd (b : MfhdBox) : Type 0 where
   pub sequence_number : b.sequence_number < 2 ^ 32
 
 -- flags have 24 bits
-abbrev pub RemarksMfhd : MfhdBox → Type 0
-RemarksMfhd b = b.flags < 2 ^ 24
+abbrev pub IsWellFormedMfhd : MfhdBox → Type 0
+IsWellFormedMfhd b = b.flags < 2 ^ 24
 
 -- a movie fragment header that is written and reads back equal
 abbrev pub IsCanonicalMfhd : MfhdBox → Type 0
-IsCanonicalMfhd = IsCanonical IsInRangeMfhd RemarksMfhd mfhd_payload no_refusal
+IsCanonicalMfhd = IsCanonical IsInRangeMfhd IsWellFormedMfhd mfhd_payload no_refusal
 
 -- the first fragment
 abbrev pub default_mfhd : MfhdBox

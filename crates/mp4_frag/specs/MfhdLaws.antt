@@ -13,6 +13,6 @@ unfolding mfhd_of mfhd_payload
 mfhd_again b f =
     rw (
       number_again 1 b.version _ f.in_range.version,
-      number_again 3 b.flags _ f.remarks,
+      number_again 3 b.flags _ f.well_formed,
       number_last 4 b.sequence_number f.in_range.sequence_number,
     ) refl

@@ -27,12 +27,12 @@ pub record IsInRangeTfdt (b : TfdtBox) : Type 0 where
   pub base_media_decode_time : b.base_media_decode_time < 2 ^ 64
 
 -- flags have 24 bits
-abbrev pub RemarksTfdt : TfdtBox → Type 0
-RemarksTfdt b = b.flags < 2 ^ 24
+abbrev pub IsWellFormedTfdt : TfdtBox → Type 0
+IsWellFormedTfdt b = b.flags < 2 ^ 24
 
 -- a decode time of a track fragment that is written and reads back equal
 abbrev pub IsCanonicalTfdt : TfdtBox → Type 0
-IsCanonicalTfdt = IsCanonical IsInRangeTfdt RemarksTfdt tfdt_payload tfdt_refusal
+IsCanonicalTfdt = IsCanonical IsInRangeTfdt IsWellFormedTfdt tfdt_payload tfdt_refusal
 
 -- the start of the media
 abbrev pub default_tfdt : TfdtBox

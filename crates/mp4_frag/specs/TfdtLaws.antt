@@ -20,6 +20,6 @@ tfdt_again b f =
     f.in_range.base_media_decode_time in
     rw (
       number_again 1 b.version _ f.in_range.version,
-      number_again 3 b.flags _ f.remarks,
+      number_again 3 b.flags _ f.well_formed,
       versioned_last b.version b.base_media_decode_time fits,
     ) refl

@@ -61,12 +61,12 @@ pub record IsInRangeTfhd (b : TfhdBox) : Type 0 where
   pub default_sample_flags : IfSome b.default_sample_flags (λ n. n < 2 ^ 32)
 
 -- flags have 24 bits
-abbrev pub RemarksTfhd : TfhdBox → Type 0
-RemarksTfhd b = b.flags < 2 ^ 24
+abbrev pub IsWellFormedTfhd : TfhdBox → Type 0
+IsWellFormedTfhd b = b.flags < 2 ^ 24
 
 -- a track fragment header that is written and reads back equal
 abbrev pub IsCanonicalTfhd : TfhdBox → Type 0
-IsCanonicalTfhd = IsCanonical IsInRangeTfhd RemarksTfhd tfhd_payload tfhd_refusal
+IsCanonicalTfhd = IsCanonical IsInRangeTfhd IsWellFormedTfhd tfhd_payload tfhd_refusal
 
 -- none of the fields that may be missing
 abbrev pub default_tfhd : TfhdBox

@@ -61,7 +61,7 @@ tfhd_again b f =
     let again4 = optional_again (number_at 4) (number 4) (λ x. x < 256 ^ 4) (number_back 4) in
     rw (
       number_again 1 b.version _ f.in_range.version,
-      number_again 3 b.flags _ f.remarks,
+      number_again 3 b.flags _ f.well_formed,
       number_again 4 b.track_id _ f.in_range.track_id,
       optional_again (number_at 8) (number 8) (λ x. x < 256 ^ 8) (number_back 8) 0x1 b.flags b.base_data_offset _
           agree.base_data_offset f.in_range.base_data_offset,

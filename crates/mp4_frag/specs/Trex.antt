@@ -46,12 +46,12 @@ pub record IsInRangeTrex (b : TrexBox) : Type 0 where
   pub default_sample_flags : b.default_sample_flags < 2 ^ 32
 
 -- flags have 24 bits
-abbrev pub RemarksTrex : TrexBox → Type 0
-RemarksTrex b = b.flags < 2 ^ 24
+abbrev pub IsWellFormedTrex : TrexBox → Type 0
+IsWellFormedTrex b = b.flags < 2 ^ 24
 
 -- a track extends box that is written and reads back equal
 abbrev pub IsCanonicalTrex : TrexBox → Type 0
-IsCanonicalTrex = IsCanonical IsInRangeTrex RemarksTrex trex_payload no_refusal
+IsCanonicalTrex = IsCanonical IsInRangeTrex IsWellFormedTrex trex_payload no_refusal
 
 -- no defaults of any track
 abbrev pub default_trex : TrexBox

@@ -13,7 +13,7 @@ unfolding trex_of trex_payload
 trex_again b f =
     rw (
       number_again 1 b.version _ f.in_range.version,
-      number_again 3 b.flags _ f.remarks,
+      number_again 3 b.flags _ f.well_formed,
       number_again 4 b.track_id _ f.in_range.track_id,
       number_again 4 b.default_sample_description_index _ f.in_range.default_sample_description_index,
       number_again 4 b.default_sample_duration _ f.in_range.default_sample_duration,

@@ -86,12 +86,12 @@ pub record IsInRangeTrun (b : TrunBox) : Type 0 where
   pub sample_cts : AllByRecursion (λ n. n < 2 ^ 32) b.sample_cts
 
 -- flags have 24 bits
-abbrev pub RemarksTrun : TrunBox → Type 0
-RemarksTrun b = b.flags < 2 ^ 24
+abbrev pub IsWellFormedTrun : TrunBox → Type 0
+IsWellFormedTrun b = b.flags < 2 ^ 24
 
 -- a run that is written and reads back equal
 abbrev pub IsCanonicalTrun : TrunBox → Type 0
-IsCanonicalTrun = IsCanonical IsInRangeTrun RemarksTrun trun_payload trun_refusal
+IsCanonicalTrun = IsCanonical IsInRangeTrun IsWellFormedTrun trun_payload trun_refusal
 
 -- no samples
 abbrev pub default_trun : TrunBox

@@ -85,7 +85,7 @@ trun_again b f =
     let offset_back : ReadsBack int32_at int32 (FitsSigned w32) = record { again = int32_again } in
     rw (
       number_again 1 b.version _ f.in_range.version,
-      number_again 3 b.flags _ f.remarks,
+      number_again 3 b.flags _ f.well_formed,
       number_again 4 b.sample_count _ f.in_range.sample_count,
       optional_again int32_at int32 (FitsSigned w32) offset_back 0x1 b.flags b.data_offset _ agree.data_offset
           f.in_range.data_offset,

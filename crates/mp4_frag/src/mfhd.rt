@@ -5,7 +5,7 @@ ghost use Rattle.std.specs.Prelude.{◌≡◌, Ok};
 ghost use Rattle.mp4_codec.specs.declared.box_type.BoxType.TheVariants.{MfhdBox as mfhd};
 ghost use Rattle.mp4_codec.specs.Cause.{Gives};
 ghost use Rattle.mp4_codec.specs.Boxes.{size_around, no_refusal};
-ghost use Rattle.mp4_frag.specs.Mfhd.{mfhd_payload, default_mfhd, mfhd_of, IsInRangeMfhd, RemarksMfhd};
+ghost use Rattle.mp4_frag.specs.Mfhd.{mfhd_payload, default_mfhd, mfhd_of, IsInRangeMfhd, IsWellFormedMfhd};
 ghost use Rattle.mp4_frag.specs.MfhdLaws.{mfhd_again};
 ghost use Rattle.mp4_codec.specs.Early.{at_once};
 
@@ -113,7 +113,7 @@ impl ReadBox for MfhdBox {
 impl WriteBox for MfhdBox {
     ghost refusal = { no_refusal };
 
-    ghost Remarks = { RemarksMfhd };
+    ghost IsWellFormed = { IsWellFormedMfhd };
 
     ghost reads_back = { mfhd_again };
 

@@ -12,7 +12,7 @@ use mp4_codec::{Error, Field, Fields, Put, Result, put_i32, put_u32, put_u64};
 pub(crate) trait Number: Copy {
     ghost at: { Reader Self };
 
-    ghost spelled: { Self → List ℕ };
+    ghost encoded: { Self → List ℕ };
 
     /// The next number.
     fn read(fields: &mut Fields) -> Field<Self>
@@ -20,13 +20,13 @@ pub(crate) trait Number: Copy {
 
     /// Adds the number at the end of a buffer.
     fn put(self, out: &mut Vec<u8>) -> Put
-        ensures { OnOk result (Appends out.old.items out.new.items (spelled self)) };
+        ensures { OnOk result (Appends out.old.items out.new.items (encoded self)) };
 }
 
 impl Number for u32 {
     ghost at = { number_at 4 };
 
-    ghost spelled = { number 4 };
+    ghost encoded = { number 4 };
 
     fn read(fields: &mut Fields) -> Field<u32> {
         fields.u32()
@@ -40,7 +40,7 @@ impl Number for u32 {
 impl Number for u64 {
     ghost at = { number_at 8 };
 
-    ghost spelled = { number 8 };
+    ghost encoded = { number 8 };
 
     fn read(fields: &mut Fields) -> Field<u64> {
         fields.u64()
@@ -54,7 +54,7 @@ impl Number for u64 {
 impl Number for i32 {
     ghost at = { int32_at };
 
-    ghost spelled = { int32 };
+    ghost encoded = { int32 };
 
     fn read(fields: &mut Fields) -> Field<i32> {
         fields.i32()
@@ -92,7 +92,7 @@ pub(crate) fn read_flagged<T: Number>(
 /// Adds a number at the end of a buffer, where there is one.
 #[tactic(auto, unfolding(crate::specs::Optional::optional_field))]
 pub(crate) fn put_flagged<T: Number>(out: &mut Vec<u8>, field: Option<T>) -> Put
-    ensures { OnOk result (Appends out.old.items out.new.items (optional_field T.spelled field)) }
+    ensures { OnOk result (Appends out.old.items out.new.items (optional_field T.encoded field)) }
 {
     match field {
         Some(number) => number.put(out),

@@ -5,7 +5,7 @@ ghost use Rattle.std.specs.Prelude.{◌≡◌, Ok};
 ghost use Rattle.mp4_codec.specs.declared.box_type.BoxType.TheVariants.{TfdtBox as tfdt};
 ghost use Rattle.mp4_codec.specs.Cause.{Gives};
 ghost use Rattle.mp4_codec.specs.Boxes.{size_around};
-ghost use Rattle.mp4_frag.specs.Tfdt.{tfdt_payload, default_tfdt, tfdt_of, tfdt_refusal, IsInRangeTfdt, RemarksTfdt};
+ghost use Rattle.mp4_frag.specs.Tfdt.{tfdt_payload, default_tfdt, tfdt_of, tfdt_refusal, IsInRangeTfdt, IsWellFormedTfdt};
 ghost use Rattle.mp4_frag.specs.TfdtLaws.{tfdt_again};
 ghost use Rattle.mp4_codec.specs.Early.{at_once};
 
@@ -115,7 +115,7 @@ impl ReadBox for TfdtBox {
 impl WriteBox for TfdtBox {
     ghost refusal = { tfdt_refusal };
 
-    ghost Remarks = { RemarksTfdt };
+    ghost IsWellFormed = { IsWellFormedTfdt };
 
     ghost reads_back = { tfdt_again };
 

@@ -5,7 +5,7 @@ ghost use Rattle.std.specs.Prelude.{◌≡◌, Ok};
 ghost use Rattle.mp4_codec.specs.declared.box_type.BoxType.TheVariants.{TrexBox as trex};
 ghost use Rattle.mp4_codec.specs.Cause.{Gives};
 ghost use Rattle.mp4_codec.specs.Boxes.{size_around, no_refusal};
-ghost use Rattle.mp4_frag.specs.Trex.{trex_payload, default_trex, trex_of, IsInRangeTrex, RemarksTrex};
+ghost use Rattle.mp4_frag.specs.Trex.{trex_payload, default_trex, trex_of, IsInRangeTrex, IsWellFormedTrex};
 ghost use Rattle.mp4_frag.specs.TrexLaws.{trex_again};
 ghost use Rattle.mp4_codec.specs.Early.{at_once};
 
@@ -140,7 +140,7 @@ impl ReadBox for TrexBox {
 impl WriteBox for TrexBox {
     ghost refusal = { no_refusal };
 
-    ghost Remarks = { RemarksTrex };
+    ghost IsWellFormed = { IsWellFormedTrex };
 
     ghost reads_back = { trex_again };
 

@@ -8,7 +8,7 @@ ghost use Rattle.mp4_codec.specs.Cause.{Answers, Checks, Gives};
 ghost use Rattle.mp4_codec.specs.Bytes.{Appends};
 ghost use Rattle.mp4_codec.specs.Boxes.{size_around};
 ghost use Rattle.mp4_frag.specs.Rows.{row, rows, row_of, longest};
-ghost use Rattle.mp4_frag.specs.Trun.{trun_payload, columns_of, ListsNothing, default_trun, trun_of, trun_refusal, IsInRangeTrun, RemarksTrun};
+ghost use Rattle.mp4_frag.specs.Trun.{trun_payload, columns_of, ListsNothing, default_trun, trun_of, trun_refusal, IsInRangeTrun, IsWellFormedTrun};
 ghost use Rattle.mp4_frag.specs.TrunLaws.{members, trun_again};
 ghost use Rattle.mp4_codec.specs.Early.{Shows, refused_at_once};
 
@@ -232,7 +232,7 @@ impl ReadBox for TrunBox {
 impl WriteBox for TrunBox {
     ghost refusal = { trun_refusal };
 
-    ghost Remarks = { RemarksTrun };
+    ghost IsWellFormed = { IsWellFormedTrun };
 
     ghost reads_back = { trun_again };
 

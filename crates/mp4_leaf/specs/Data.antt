@@ -44,12 +44,12 @@ pub record IsInRangeData (b : DataBox) : Type 0 where
   pub data_type : IsInRangeDataType b.data_type
 
 -- a type is not one of the named ones by its number
-abbrev pub RemarksData : DataBox → Type 0
-RemarksData b = data_type (data_code b.data_type) ≡ b.data_type
+abbrev pub IsWellFormedData : DataBox → Type 0
+IsWellFormedData b = data_type (data_code b.data_type) ≡ b.data_type
 
 -- a value that is written and reads back equal
 abbrev pub IsCanonicalData : DataBox → Type 0
-IsCanonicalData = IsCanonical IsInRangeData RemarksData data_payload no_refusal
+IsCanonicalData = IsCanonical IsInRangeData IsWellFormedData data_payload no_refusal
 
 -- no bytes
 abbrev pub default_data : DataBox

@@ -10,4 +10,4 @@ length-data_payload b = simp (length-then, length-number, length-zeros) (omega a
 
 pub data_again : (b : DataBox) → IsCanonicalData b → data_of (data_payload b) ≡ Ok b
 unfolding data_of data_payload
-data_again b f = rw (number_again 4 (data_code b.data_type) _ f.in_range.data_type, zeros_again 4 _, f.remarks) refl
+data_again b f = rw (number_again 4 (data_code b.data_type) _ f.in_range.data_type, zeros_again 4 _, f.well_formed) refl

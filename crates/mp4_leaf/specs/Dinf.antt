@@ -3,7 +3,7 @@ use Rattle.std.specs.Prelude.{ℕ, ◌^◌, ◌<◌, List, [], ◌∷◌, Option
 use Rattle.mp4_codec.specs.declared.box_type.BoxType.TheVariants.{DrefBox as dref, UrlBox as url}
 use Rattle.mp4_codec.specs.Cause.{Cause, ◌>>=◌}
 use Rattle.mp4_codec.specs.Bytes.{number_at, until_zero, number, zeros, ◌⧺◌, HasNoZero}
-use Rattle.mp4_codec.specs.Boxes.{frame, optional, IsCanonical, no_refusal}
+use Rattle.mp4_codec.specs.Boxes.{box_bytes, optional, IsCanonical, no_refusal}
 use Rattle.mp4_codec.specs.Early.{Early, early_gathered, early_last, at_once, refused_at_once, ◌and_then◌, ◌before◌}
 use Rattle.mp4_codec.specs.Children.{children, gathered, fault_in, last_of, needed}
 use Rattle.mp4_leaf.specs.declared.dinf.UrlBox.{UrlBox}
@@ -34,13 +34,13 @@ pub record IsInRangeUrl (b : UrlBox) : Type 0 where
   pub version : b.version < 2 ^ 8
 
 -- flags have 24 bits, and no byte of the location is zero
-pub record RemarksUrl (b : UrlBox) : Type 0 where
+pub record IsWellFormedUrl (b : UrlBox) : Type 0 where
   pub flags : b.flags < 2 ^ 24
   pub location : HasNoZero b.location
 
 -- a reference that is written and reads back equal
 abbrev pub IsCanonicalUrl : UrlBox → Type 0
-IsCanonicalUrl = IsCanonical IsInRangeUrl RemarksUrl url_payload no_refusal
+IsCanonicalUrl = IsCanonical IsInRangeUrl IsWellFormedUrl url_payload no_refusal
 
 -- media in the same file
 abbrev pub default_url : UrlBox
@@ -77,14 +77,14 @@ pub record IsInRangeDref (b : DrefBox) : Type 0 where
   pub version : b.version < 2 ^ 8
   pub url : IfSome b.url IsInRangeUrl
 
--- flags have 24 bits, and the remarks of a reference hold of the one that is there
-pub record RemarksDref (b : DrefBox) : Type 0 where
+-- flags have 24 bits, and the reference is well-formed where there is one
+pub record IsWellFormedDref (b : DrefBox) : Type 0 where
   pub flags : b.flags < 2 ^ 24
-  pub url : IfSome b.url RemarksUrl
+  pub url : IfSome b.url IsWellFormedUrl
 
 -- references that is written and reads back equal
 abbrev pub IsCanonicalDref : DrefBox → Type 0
-IsCanonicalDref = IsCanonical IsInRangeDref RemarksDref dref_payload no_refusal
+IsCanonicalDref = IsCanonical IsInRangeDref IsWellFormedDref dref_payload no_refusal
 
 -- one reference, to the same file
 abbrev pub default_dref : DrefBox
@@ -102,19 +102,19 @@ dinf_early payload = early_gathered (early_last dref dref_early) (children paylo
 
 -- the payload that holds data information
 unfoldable pub dinf_payload : DinfBox → List ℕ
-dinf_payload b = frame dref (dref_payload b.dref)
+dinf_payload b = box_bytes dref (dref_payload b.dref)
 
 -- each number is within its type
 pub record IsInRangeDinf (b : DinfBox) : Type 0 where
   pub dref : IsInRangeDref b.dref
 
--- the remarks of its references
-abbrev pub RemarksDinf : DinfBox → Type 0
-RemarksDinf b = RemarksDref b.dref
+-- its references are well-formed
+abbrev pub IsWellFormedDinf : DinfBox → Type 0
+IsWellFormedDinf b = IsWellFormedDref b.dref
 
 -- data information that is written and reads back equal
 abbrev pub IsCanonicalDinf : DinfBox → Type 0
-IsCanonicalDinf = IsCanonical IsInRangeDinf RemarksDinf dinf_payload no_refusal
+IsCanonicalDinf = IsCanonical IsInRangeDinf IsWellFormedDinf dinf_payload no_refusal
 
 abbrev pub default_dinf : DinfBox
 default_dinf = record { dref = default_dref }

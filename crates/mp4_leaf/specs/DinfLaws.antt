@@ -7,8 +7,8 @@ use Rattle.mp4_codec.specs.declared.box_type.BoxType.TheVariants.{DrefBox as dre
 use Rattle.mp4_codec.specs.BoxType.{box_type}
 use Rattle.mp4_codec.specs.Bytes.{until_zero, HasNoZero}
 use Rattle.mp4_codec.specs.Boxes.{optional}
-use Rattle.mp4_codec.specs.Framing.{IsSpellable}
-use Rattle.mp4_codec.specs.FramingLaws.{length-frame}
+use Rattle.mp4_codec.specs.Framing.{IsEncodable}
+use Rattle.mp4_codec.specs.FramingLaws.{length-box_bytes}
 use Rattle.mp4_codec.specs.FieldLaws.{number_again, until_zero-zero, length-number, length-zeros}
 use Rattle.mp4_codec.specs.FieldLaws.{length-then}
 use Rattle.mp4_codec.specs.WriteLaws.{is_written, write_cause-none}
@@ -16,7 +16,7 @@ use Rattle.mp4_codec.specs.WrittenChildren.{last_child-again}
 use Rattle.mp4_leaf.specs.declared.dinf.UrlBox.{UrlBox}
 use Rattle.mp4_leaf.specs.declared.dinf.DrefBox.{DrefBox}
 use Rattle.mp4_leaf.specs.declared.dinf.DinfBox.{DinfBox}
-use Rattle.mp4_leaf.specs.Dinf.{ended, url_of, url_payload, IsInRangeUrl, RemarksUrl, IsCanonicalUrl, dref_of}
+use Rattle.mp4_leaf.specs.Dinf.{ended, url_of, url_payload, IsInRangeUrl, IsWellFormedUrl, IsCanonicalUrl, dref_of}
 use Rattle.mp4_leaf.specs.Dinf.{count_of, dref_payload, IsCanonicalDref, dinf_of, dinf_payload, IsCanonicalDinf}
 
 abbrev length_of_ended : List ℕ → ℕ
@@ -41,32 +41,32 @@ unfolding url_of url_payload
 url_again b f =
     rw (
       number_again 1 b.version _ f.in_range.version,
-      number_again 3 b.flags _ f.remarks.flags,
-      until_zero-ended b.location f.remarks.location,
+      number_again 3 b.flags _ f.well_formed.flags,
+      until_zero-ended b.location f.well_formed.location,
     ) refl
 
 pub length-dref_payload : (b : DrefBox) → length (dref_payload b) ≡ 8 + length (optional url url_payload b.url)
 unfolding dref_payload
 length-dref_payload b = simp (length-then, length-number) (omega arith)
 
-url_spellable : IsSpellable url
+url_encodable : IsEncodable url
 unfolding box_type
-url_spellable = record { named = refl; code = omega arith }
+url_encodable = record { named = refl; code = omega arith }
 
-dref_spellable : IsSpellable dref
+dref_encodable : IsEncodable dref
 unfolding box_type
-dref_spellable = record { named = refl; code = omega arith }
+dref_encodable = record { named = refl; code = omega arith }
 
 -- a reference within its references is canonical where they are
-each_url : (o : Option UrlBox) → IfSome o IsInRangeUrl → IfSome o RemarksUrl
+each_url : (o : Option UrlBox) → IfSome o IsInRangeUrl → IfSome o IsWellFormedUrl
     → length (optional url url_payload o) < 2 ^ 32
     → AllByRecursion (λ b. url_of (url_payload b) ≡ Ok b) (option_to_list o)
-each_url None in_range remarks small = tt
-each_url (Some b) in_range remarks small =
-    let fits : 8 + length (url_payload b) < 2 ^ 32 = omega (arith, small, length-frame url (url_payload b)) in (
+each_url None in_range well_formed small = tt
+each_url (Some b) in_range well_formed small =
+    let fits : 8 + length (url_payload b) < 2 ^ 32 = omega (arith, small, length-box_bytes url (url_payload b)) in (
       url_again b (record {
         in_range = in_range;
-        remarks = remarks;
+        well_formed = well_formed;
         written =
             write_cause-none (url_payload b) None fits refl;
       }),
@@ -84,15 +84,15 @@ dref_again b f =
     let small : length (optional url url_payload b.url) < 2 ^ 32 = omega (arith, size, length-dref_payload b) in
     rw (
       number_again 1 b.version _ f.in_range.version,
-      number_again 3 b.flags _ f.remarks.flags,
+      number_again 3 b.flags _ f.well_formed.flags,
       number_again 4 (count_of b.url) _ (few b.url),
-      last_child-again url url_payload url_of b.url url_spellable small
-          (each_url b.url f.in_range.url f.remarks.url small),
+      last_child-again url url_payload url_of b.url url_encodable small
+          (each_url b.url f.in_range.url f.well_formed.url small),
     ) refl
 
 pub length-dinf_payload : (b : DinfBox) → length (dinf_payload b) ≡ 8 + length (dref_payload b.dref)
 unfolding dinf_payload
-length-dinf_payload b = length-frame dref (dref_payload b.dref)
+length-dinf_payload b = length-box_bytes dref (dref_payload b.dref)
 
 pub dinf_again : (b : DinfBox) → IsCanonicalDinf b → dinf_of (dinf_payload b) ≡ Ok b
 unfolding dinf_of dinf_payload
@@ -101,9 +101,9 @@ dinf_again b f =
     let small : 8 + length (dref_payload b.dref) < 2 ^ 32 = omega (arith, size, length-dinf_payload b) in
     let again = dref_again b.dref (record {
       in_range = f.in_range.dref;
-      remarks = f.remarks;
+      well_formed = f.well_formed;
       written = write_cause-none (dref_payload b.dref) None small refl;
     }) in
     let whole : length (optional dref dref_payload (Some b.dref)) < 2 ^ 32 =
-    omega (arith, small, length-frame dref (dref_payload b.dref)) in
-    rw (last_child-again dref dref_payload dref_of (Some b.dref) dref_spellable whole (again, tt)) refl
+    omega (arith, small, length-box_bytes dref (dref_payload b.dref)) in
+    rw (last_child-again dref dref_payload dref_of (Some b.dref) dref_encodable whole (again, tt)) refl

@@ -76,12 +76,12 @@ pub record IsInRangeElst (b : ElstBox) : Type 0 where
   pub entries : AllByRecursion IsInRangeElstEntry b.entries
 
 -- flags have 24 bits
-abbrev pub RemarksElst : ElstBox → Type 0
-RemarksElst b = b.flags < 2 ^ 24
+abbrev pub IsWellFormedElst : ElstBox → Type 0
+IsWellFormedElst b = b.flags < 2 ^ 24
 
 -- an edit list that is written and reads back equal
 abbrev pub IsCanonicalElst : ElstBox → Type 0
-IsCanonicalElst = IsCanonical IsInRangeElst RemarksElst elst_payload elst_refusal
+IsCanonicalElst = IsCanonical IsInRangeElst IsWellFormedElst elst_payload elst_refusal
 
 -- no edits
 abbrev pub default_elst : ElstBox

@@ -122,7 +122,7 @@ elst_again b f =
     record { again = elst_entry_again b.version } in
     rw (
       number_again 1 b.version _ f.in_range.version,
-      number_again 3 b.flags _ f.remarks,
+      number_again 3 b.flags _ f.well_formed,
       sound.0,
       number_again 4 (length b.entries) _ count,
       list_last (elst_entry_at b.version) (elst_entry b.version) (FitsElstEntry b.version) back _ b.entries refl fits,

@@ -25,12 +25,12 @@ pub record IsInRangeFtyp (b : FtypBox) : Type 0 where
   pub compatible_brands : AllByRecursion IsCode b.compatible_brands
 
 -- the layout asks nothing more
-abbrev pub RemarksFtyp : FtypBox → Type 0
-RemarksFtyp b = Unit {0}
+abbrev pub IsWellFormedFtyp : FtypBox → Type 0
+IsWellFormedFtyp b = Unit {0}
 
 -- a file type that is written and reads back equal
 abbrev pub IsCanonicalFtyp : FtypBox → Type 0
-IsCanonicalFtyp = IsCanonical IsInRangeFtyp RemarksFtyp ftyp_payload no_refusal
+IsCanonicalFtyp = IsCanonical IsInRangeFtyp IsWellFormedFtyp ftyp_payload no_refusal
 
 -- a brand of zeros and no other
 abbrev pub default_ftyp : FtypBox

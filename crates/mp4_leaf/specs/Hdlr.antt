@@ -26,13 +26,13 @@ pub record IsInRangeHdlr (b : HdlrBox) : Type 0 where
   pub handler_type : IsCode b.handler_type
 
 -- flags have 24 bits, and no byte of the name is zero
-pub record RemarksHdlr (b : HdlrBox) : Type 0 where
+pub record IsWellFormedHdlr (b : HdlrBox) : Type 0 where
   pub flags : b.flags < 2 ^ 24
   pub name : HasNoZero b.name
 
 -- a handler that is written and reads back equal
 abbrev pub IsCanonicalHdlr : HdlrBox → Type 0
-IsCanonicalHdlr = IsCanonical IsInRangeHdlr RemarksHdlr hdlr_payload no_refusal
+IsCanonicalHdlr = IsCanonical IsInRangeHdlr IsWellFormedHdlr hdlr_payload no_refusal
 
 -- a handler of no type and no name
 abbrev pub default_hdlr : HdlrBox

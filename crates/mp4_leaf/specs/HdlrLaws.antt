@@ -14,9 +14,9 @@ unfolding hdlr_of hdlr_payload
 hdlr_again b f =
     rw (
       number_again 1 b.version _ f.in_range.version,
-      number_again 3 b.flags _ f.remarks.flags,
+      number_again 3 b.flags _ f.well_formed.flags,
       zeros_again 4 _,
       four_cc_again b.handler_type _ f.in_range.handler_type,
       zeros_again 12 _,
-      until_zero-zero b.name f.remarks.name,
+      until_zero-zero b.name f.well_formed.name,
     ) refl

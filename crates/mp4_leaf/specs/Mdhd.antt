@@ -58,12 +58,12 @@ pub record IsInRangeMdhd (b : MdhdBox) : Type 0 where
   pub duration : b.duration < 2 ^ 64
 
 -- flags have 24 bits
-abbrev pub RemarksMdhd : MdhdBox → Type 0
-RemarksMdhd b = b.flags < 2 ^ 24
+abbrev pub IsWellFormedMdhd : MdhdBox → Type 0
+IsWellFormedMdhd b = b.flags < 2 ^ 24
 
 -- a media header that is written and reads back equal
 abbrev pub IsCanonicalMdhd : MdhdBox → Type 0
-IsCanonicalMdhd = IsCanonical IsInRangeMdhd RemarksMdhd mdhd_payload mdhd_refusal
+IsCanonicalMdhd = IsCanonical IsInRangeMdhd IsWellFormedMdhd mdhd_payload mdhd_refusal
 
 -- 1000 ticks a second, and the language "und"
 abbrev pub default_mdhd : MdhdBox

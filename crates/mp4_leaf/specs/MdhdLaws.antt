@@ -26,7 +26,7 @@ mdhd_again b f =
     let room = times-have_room b.version b.creation_time b.modification_time b.duration in_range.creation_time
     in_range.modification_time in_range.duration sound.0 in
     rw (
-      stamp_again (stamp_of b) _ in_range.version f.remarks room.creation_time room.modification_time,
+      stamp_again (stamp_of b) _ in_range.version f.well_formed room.creation_time room.modification_time,
       number_again 4 b.timescale _ in_range.timescale,
       versioned_again b.version b.duration _ room.duration,
       number_again 2 (packed b.language) _ (packed-small b.language),

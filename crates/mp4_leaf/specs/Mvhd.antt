@@ -79,12 +79,12 @@ pub record IsInRangeMvhd (b : MvhdBox) : Type 0 where
   pub next_track_id : b.next_track_id < 2 ^ 32
 
 -- flags have 24 bits
-abbrev pub RemarksMvhd : MvhdBox → Type 0
-RemarksMvhd b = b.flags < 2 ^ 24
+abbrev pub IsWellFormedMvhd : MvhdBox → Type 0
+IsWellFormedMvhd b = b.flags < 2 ^ 24
 
 -- a movie header that is written and reads back equal
 abbrev pub IsCanonicalMvhd : MvhdBox → Type 0
-IsCanonicalMvhd = IsCanonical IsInRangeMvhd RemarksMvhd mvhd_payload mvhd_refusal
+IsCanonicalMvhd = IsCanonical IsInRangeMvhd IsWellFormedMvhd mvhd_payload mvhd_refusal
 
 -- 1000 ticks a second, rate and volume 1.0, the first track id still free
 abbrev pub default_mvhd : MvhdBox

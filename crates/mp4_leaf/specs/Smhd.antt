@@ -25,12 +25,12 @@ pub record IsInRangeSmhd (b : SmhdBox) : Type 0 where
   pub balance : FitsSigned w16 b.balance.raw
 
 -- flags have 24 bits
-abbrev pub RemarksSmhd : SmhdBox → Type 0
-RemarksSmhd b = b.flags < 2 ^ 24
+abbrev pub IsWellFormedSmhd : SmhdBox → Type 0
+IsWellFormedSmhd b = b.flags < 2 ^ 24
 
 -- a sound media header that is written and reads back equal
 abbrev pub IsCanonicalSmhd : SmhdBox → Type 0
-IsCanonicalSmhd = IsCanonical IsInRangeSmhd RemarksSmhd smhd_payload no_refusal
+IsCanonicalSmhd = IsCanonical IsInRangeSmhd IsWellFormedSmhd smhd_payload no_refusal
 
 -- sound in the centre
 abbrev pub default_smhd : SmhdBox

@@ -14,7 +14,7 @@ unfolding smhd_of smhd_payload
 smhd_again b f =
     rw (
       number_again 1 b.version _ f.in_range.version,
-      number_again 3 b.flags _ f.remarks,
+      number_again 3 b.flags _ f.well_formed,
       int16_again b.balance.raw _ f.in_range.balance,
       zeros_last 2,
     ) refl

@@ -99,12 +99,12 @@ pub record IsInRangeTkhd (b : TkhdBox) : Type 0 where
   pub height : b.height.raw < 2 ^ 32
 
 -- flags have 24 bits
-abbrev pub RemarksTkhd : TkhdBox → Type 0
-RemarksTkhd b = b.flags < 2 ^ 24
+abbrev pub IsWellFormedTkhd : TkhdBox → Type 0
+IsWellFormedTkhd b = b.flags < 2 ^ 24
 
 -- a track header that is written and reads back equal
 abbrev pub IsCanonicalTkhd : TkhdBox → Type 0
-IsCanonicalTkhd = IsCanonical IsInRangeTkhd RemarksTkhd tkhd_payload tkhd_refusal
+IsCanonicalTkhd = IsCanonical IsInRangeTkhd IsWellFormedTkhd tkhd_payload tkhd_refusal
 
 -- an enabled track, at volume 1.0
 abbrev pub default_tkhd : TkhdBox

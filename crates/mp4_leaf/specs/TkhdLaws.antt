@@ -22,7 +22,7 @@ tkhd_again b f =
     let room = times-have_room b.version b.creation_time b.modification_time b.duration in_range.creation_time
     in_range.modification_time in_range.duration sound in
     rw (
-      stamp_again (stamp_of b) _ in_range.version f.remarks room.creation_time room.modification_time,
+      stamp_again (stamp_of b) _ in_range.version f.well_formed room.creation_time room.modification_time,
       number_again 4 b.track_id _ in_range.track_id,
       zeros_again 4 _,
       versioned_again b.version b.duration _ room.duration,

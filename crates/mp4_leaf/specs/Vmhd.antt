@@ -41,12 +41,12 @@ pub record IsInRangeVmhd (b : VmhdBox) : Type 0 where
   pub blue : b.op_color.blue < 2 ^ 16
 
 -- flags have 24 bits
-abbrev pub RemarksVmhd : VmhdBox → Type 0
-RemarksVmhd b = b.flags < 2 ^ 24
+abbrev pub IsWellFormedVmhd : VmhdBox → Type 0
+IsWellFormedVmhd b = b.flags < 2 ^ 24
 
 -- a video media header that is written and reads back equal
 abbrev pub IsCanonicalVmhd : VmhdBox → Type 0
-IsCanonicalVmhd = IsCanonical IsInRangeVmhd RemarksVmhd vmhd_payload no_refusal
+IsCanonicalVmhd = IsCanonical IsInRangeVmhd IsWellFormedVmhd vmhd_payload no_refusal
 
 -- video that covers what lies behind it
 abbrev pub default_vmhd : VmhdBox

@@ -13,7 +13,7 @@ unfolding vmhd_of vmhd_payload
 vmhd_again b f =
     rw (
       number_again 1 b.version _ f.in_range.version,
-      number_again 3 b.flags _ f.remarks,
+      number_again 3 b.flags _ f.well_formed,
       number_again 2 b.graphics_mode _ f.in_range.graphics_mode,
       number_again 2 b.op_color.red _ f.in_range.red,
       number_again 2 b.op_color.green _ f.in_range.green,

@@ -7,7 +7,7 @@ ghost use Rattle.mp4_leaf.specs.Dinf.{ended};
 ghost use Rattle.mp4_codec.specs.declared.box_type.BoxType.TheVariants.{UrlBox as url, DrefBox as dref, DinfBox as dinf};
 ghost use Rattle.mp4_codec.specs.Boxes.{size_around, no_refusal};
 ghost use Rattle.mp4_codec.specs.Cause.{Gives};
-ghost use Rattle.mp4_leaf.specs.Dinf.{url_payload, default_url, url_of, url_early, dref_payload, count_of, default_dref, dref_of, dref_early, dinf_payload, default_dinf, dinf_of, dinf_early, IsInRangeUrl, RemarksUrl, IsInRangeDref, RemarksDref, IsInRangeDinf, RemarksDinf};
+ghost use Rattle.mp4_leaf.specs.Dinf.{url_payload, default_url, url_of, url_early, dref_payload, count_of, default_dref, dref_of, dref_early, dinf_payload, default_dinf, dinf_of, dinf_early, IsInRangeUrl, IsWellFormedUrl, IsInRangeDref, IsWellFormedDref, IsInRangeDinf, IsWellFormedDinf};
 ghost use Rattle.mp4_leaf.specs.DinfLaws.{url_again, dref_again, dinf_again};
 
 use mp4_codec::{
@@ -129,7 +129,7 @@ impl ReadBox for UrlBox {
 impl WriteBox for UrlBox {
     ghost refusal = { no_refusal };
 
-    ghost Remarks = { RemarksUrl };
+    ghost IsWellFormed = { IsWellFormedUrl };
 
     ghost reads_back = { url_again };
 
@@ -253,7 +253,7 @@ impl ReadBox for DrefBox {
 impl WriteBox for DrefBox {
     ghost refusal = { no_refusal };
 
-    ghost Remarks = { RemarksDref };
+    ghost IsWellFormed = { IsWellFormedDref };
 
     ghost reads_back = { dref_again };
 
@@ -355,7 +355,7 @@ impl ReadBox for DinfBox {
 impl WriteBox for DinfBox {
     ghost refusal = { no_refusal };
 
-    ghost Remarks = { RemarksDinf };
+    ghost IsWellFormed = { IsWellFormedDinf };
 
     ghost reads_back = { dinf_again };
 

@@ -3,7 +3,7 @@
 ghost use Rattle.mp4_codec.specs.ExactTest.{by_test, field_tests};
 ghost use Rattle.std.specs.Prelude.{◌≡◌, Ok};
 ghost use Rattle.mp4_codec.specs.Cause.{Checks, Gives};
-ghost use Rattle.mp4_leaf.specs.Elst.{elst_entry_refusal, elst_entry_at, elst_entry, FitsElstEntry, elst_entry_length, elst_payload, elst_refusal, default_elst, elst_of, IsInRangeElst, RemarksElst, IsInRangeElstEntry};
+ghost use Rattle.mp4_leaf.specs.Elst.{elst_entry_refusal, elst_entry_at, elst_entry, FitsElstEntry, elst_entry_length, elst_payload, elst_refusal, default_elst, elst_of, IsInRangeElst, IsWellFormedElst, IsInRangeElstEntry};
 ghost use Rattle.mp4_leaf.specs.ElstLaws.{elst_entry_again, length-elst_entry, elst_entry-has_length, elst_again};
 ghost use Rattle.mp4_codec.specs.declared.box_type.BoxType.TheVariants.{ElstBox as elst};
 ghost use Rattle.mp4_codec.specs.Boxes.{size_around, all_refusal};
@@ -74,7 +74,7 @@ impl InRange for ElstEntry {
 impl Entry for ElstEntry {
     ghost at = { elst_entry_at };
 
-    ghost spelled = { elst_entry };
+    ghost encoded = { elst_entry };
 
     ghost Fits = { FitsElstEntry };
 
@@ -82,7 +82,7 @@ impl Entry for ElstEntry {
 
     ghost again = { elst_entry_again };
 
-    ghost length_spelled = { length-elst_entry };
+    ghost length_encoded = { length-elst_entry };
 
     ghost has_length = { elst_entry-has_length };
 
@@ -223,7 +223,7 @@ impl ReadBox for ElstBox {
 impl WriteBox for ElstBox {
     ghost refusal = { elst_refusal };
 
-    ghost Remarks = { RemarksElst };
+    ghost IsWellFormed = { IsWellFormedElst };
 
     ghost reads_back = { elst_again };
 

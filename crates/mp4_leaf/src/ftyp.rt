@@ -5,7 +5,7 @@ ghost use Rattle.std.specs.Prelude.{◌≡◌, Ok};
 ghost use Rattle.mp4_codec.specs.Cause.{Gives};
 ghost use Rattle.mp4_codec.specs.declared.box_type.BoxType.TheVariants.{FtypBox as ftyp};
 ghost use Rattle.mp4_codec.specs.Boxes.{size_around, no_refusal};
-ghost use Rattle.mp4_leaf.specs.Ftyp.{ftyp_payload, default_ftyp, ftyp_of, IsInRangeFtyp, RemarksFtyp};
+ghost use Rattle.mp4_leaf.specs.Ftyp.{ftyp_payload, default_ftyp, ftyp_of, IsInRangeFtyp, IsWellFormedFtyp};
 ghost use Rattle.mp4_leaf.specs.FtypLaws.{ftyp_again};
 ghost use Rattle.mp4_codec.specs.Early.{refused_at_once};
 
@@ -116,7 +116,7 @@ impl ReadBox for FtypBox {
 impl WriteBox for FtypBox {
     ghost refusal = { no_refusal };
 
-    ghost Remarks = { RemarksFtyp };
+    ghost IsWellFormed = { IsWellFormedFtyp };
 
     ghost reads_back = { ftyp_again };
 

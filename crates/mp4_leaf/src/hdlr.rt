@@ -5,7 +5,7 @@ ghost use Rattle.std.specs.Prelude.{◌≡◌, Ok};
 ghost use Rattle.mp4_codec.specs.declared.box_type.BoxType.TheVariants.{HdlrBox as hdlr};
 ghost use Rattle.mp4_codec.specs.Boxes.{size_around, no_refusal};
 ghost use Rattle.mp4_codec.specs.Cause.{Gives, seen};
-ghost use Rattle.mp4_leaf.specs.Hdlr.{hdlr_payload, default_hdlr, hdlr_of, IsInRangeHdlr, RemarksHdlr};
+ghost use Rattle.mp4_leaf.specs.Hdlr.{hdlr_payload, default_hdlr, hdlr_of, IsInRangeHdlr, IsWellFormedHdlr};
 ghost use Rattle.mp4_leaf.specs.HdlrLaws.{hdlr_again};
 ghost use Rattle.mp4_codec.specs.Early.{refused_at_once};
 
@@ -135,7 +135,7 @@ impl ReadBox for HdlrBox {
 impl WriteBox for HdlrBox {
     ghost refusal = { no_refusal };
 
-    ghost Remarks = { RemarksHdlr };
+    ghost IsWellFormed = { IsWellFormedHdlr };
 
     ghost reads_back = { hdlr_again };
 

@@ -5,7 +5,7 @@ ghost use Rattle.std.specs.Prelude.{◌≡◌, Ok};
 ghost use Rattle.mp4_codec.specs.declared.box_type.BoxType.TheVariants.{MdhdBox as mdhd};
 ghost use Rattle.mp4_codec.specs.Boxes.{size_around};
 ghost use Rattle.mp4_codec.specs.Cause.{Answers};
-ghost use Rattle.mp4_leaf.specs.Mdhd.{mdhd_payload, default_mdhd, mdhd_of, mdhd_refusal, IsInRangeMdhd, RemarksMdhd, stamp_of};
+ghost use Rattle.mp4_leaf.specs.Mdhd.{mdhd_payload, default_mdhd, mdhd_of, mdhd_refusal, IsInRangeMdhd, IsWellFormedMdhd, stamp_of};
 ghost use Rattle.mp4_leaf.specs.MdhdLaws.{mdhd_again};
 ghost use Rattle.mp4_codec.specs.Early.{refused_at_once};
 
@@ -154,7 +154,7 @@ impl ReadBox for MdhdBox {
 impl WriteBox for MdhdBox {
     ghost refusal = { mdhd_refusal };
 
-    ghost Remarks = { RemarksMdhd };
+    ghost IsWellFormed = { IsWellFormedMdhd };
 
     ghost reads_back = { mdhd_again };
 

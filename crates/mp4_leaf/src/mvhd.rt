@@ -6,7 +6,7 @@ ghost use Rattle.std.specs.Prelude.{◌≡◌, Ok};
 ghost use Rattle.mp4_codec.specs.Cause.{Gives, Reads};
 ghost use Rattle.mp4_codec.specs.declared.box_type.BoxType.TheVariants.{MvhdBox as mvhd};
 ghost use Rattle.mp4_codec.specs.Boxes.{size_around};
-ghost use Rattle.mp4_leaf.specs.Mvhd.{playback_at, mvhd_payload, default_mvhd, mvhd_of, mvhd_refusal, IsInRangeMvhd, RemarksMvhd, stamp_of};
+ghost use Rattle.mp4_leaf.specs.Mvhd.{playback_at, mvhd_payload, default_mvhd, mvhd_of, mvhd_refusal, IsInRangeMvhd, IsWellFormedMvhd, stamp_of};
 ghost use Rattle.mp4_leaf.specs.MvhdLaws.{mvhd_again};
 ghost use Rattle.mp4_codec.specs.Early.{at_once};
 
@@ -190,7 +190,7 @@ impl ReadBox for MvhdBox {
 impl WriteBox for MvhdBox {
     ghost refusal = { mvhd_refusal };
 
-    ghost Remarks = { RemarksMvhd };
+    ghost IsWellFormed = { IsWellFormedMvhd };
 
     ghost reads_back = { mvhd_again };
 

@@ -4,7 +4,7 @@ ghost use Rattle.mp4_codec.specs.ExactTest.{by_test, field_tests};
 ghost use Rattle.std.specs.Prelude.{◌≡◌, Ok};
 ghost use Rattle.mp4_codec.specs.declared.box_type.BoxType.TheVariants.{SmhdBox as smhd};
 ghost use Rattle.mp4_codec.specs.Boxes.{size_around, no_refusal};
-ghost use Rattle.mp4_leaf.specs.Smhd.{smhd_payload, default_smhd, smhd_of, IsInRangeSmhd, RemarksSmhd};
+ghost use Rattle.mp4_leaf.specs.Smhd.{smhd_payload, default_smhd, smhd_of, IsInRangeSmhd, IsWellFormedSmhd};
 ghost use Rattle.mp4_leaf.specs.SmhdLaws.{smhd_again};
 ghost use Rattle.mp4_codec.specs.Cause.{Gives};
 ghost use Rattle.mp4_codec.specs.Early.{at_once};
@@ -114,7 +114,7 @@ impl ReadBox for SmhdBox {
 impl WriteBox for SmhdBox {
     ghost refusal = { no_refusal };
 
-    ghost Remarks = { RemarksSmhd };
+    ghost IsWellFormed = { IsWellFormedSmhd };
 
     ghost reads_back = { smhd_again };
 

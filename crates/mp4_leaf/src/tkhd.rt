@@ -5,7 +5,7 @@ ghost use Rattle.mp4_leaf.specs.contracts.matrix.MatrixExactEq.TheImpl.Laws.{law
 ghost use Rattle.std.specs.Prelude.{◌≡◌, ◌*◌, Ok};
 ghost use Rattle.mp4_codec.specs.declared.box_type.BoxType.TheVariants.{TkhdBox as tkhd};
 ghost use Rattle.mp4_codec.specs.Boxes.{size_around};
-ghost use Rattle.mp4_leaf.specs.Tkhd.{presentation_at, tkhd_payload, default_tkhd, tkhd_of, tkhd_refusal, IsInRangeTkhd, RemarksTkhd, stamp_of};
+ghost use Rattle.mp4_leaf.specs.Tkhd.{presentation_at, tkhd_payload, default_tkhd, tkhd_of, tkhd_refusal, IsInRangeTkhd, IsWellFormedTkhd, stamp_of};
 ghost use Rattle.mp4_leaf.specs.TkhdLaws.{tkhd_again};
 ghost use Rattle.mp4_codec.specs.Cause.{Gives, Reads};
 ghost use Rattle.mp4_codec.specs.Early.{at_once};
@@ -224,7 +224,7 @@ impl ReadBox for TkhdBox {
 impl WriteBox for TkhdBox {
     ghost refusal = { tkhd_refusal };
 
-    ghost Remarks = { RemarksTkhd };
+    ghost IsWellFormed = { IsWellFormedTkhd };
 
     ghost reads_back = { tkhd_again };
 

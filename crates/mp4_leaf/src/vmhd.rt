@@ -4,7 +4,7 @@ ghost use Rattle.mp4_codec.specs.ExactTest.{by_test, field_tests};
 ghost use Rattle.std.specs.Prelude.{◌≡◌, Ok};
 ghost use Rattle.mp4_codec.specs.declared.box_type.BoxType.TheVariants.{VmhdBox as vmhd};
 ghost use Rattle.mp4_codec.specs.Boxes.{size_around, no_refusal};
-ghost use Rattle.mp4_leaf.specs.Vmhd.{vmhd_payload, default_vmhd, vmhd_of, IsInRangeVmhd, RemarksVmhd};
+ghost use Rattle.mp4_leaf.specs.Vmhd.{vmhd_payload, default_vmhd, vmhd_of, IsInRangeVmhd, IsWellFormedVmhd};
 ghost use Rattle.mp4_leaf.specs.VmhdLaws.{vmhd_again};
 ghost use Rattle.mp4_codec.specs.Cause.{Gives};
 ghost use Rattle.mp4_codec.specs.Early.{at_once};
@@ -156,7 +156,7 @@ impl ReadBox for VmhdBox {
 impl WriteBox for VmhdBox {
     ghost refusal = { no_refusal };
 
-    ghost Remarks = { RemarksVmhd };
+    ghost IsWellFormed = { IsWellFormedVmhd };
 
     ghost reads_back = { vmhd_again };
 

@@ -12,9 +12,9 @@ use Rattle.mp4_codec.specs.Cause.{Cause}
 use Rattle.mp4_codec.specs.Cursor.{Cursor, here}
 use Rattle.mp4_codec.specs.Bytes.{number, ◌⧺◌}
 use Rattle.mp4_codec.specs.FieldLaws.{length-number}
-use Rattle.mp4_codec.specs.Boxes.{frame, all_refusal}
-use Rattle.mp4_codec.specs.Framing.{IsSpellable, IsFrame, short, long, long_frame, ReadsAsBox}
-use Rattle.mp4_codec.specs.FramingLaws.{reads_as_box, length-frame, length-long_frame}
+use Rattle.mp4_codec.specs.Boxes.{box_bytes, all_refusal}
+use Rattle.mp4_codec.specs.Framing.{IsEncodable, IsBox, short, long, long_box_bytes, ReadsAsBox}
+use Rattle.mp4_codec.specs.FramingLaws.{reads_as_box, length-box_bytes, length-long_box_bytes}
 use Rattle.mp4_codec.proofs.HeadLaws.{was_taken}
 use Rattle.mp4_codec.specs.WriteLaws.{is_written}
 use Rattle.mp4_leaf.specs.declared.ftyp.FtypBox.{FtypBox}
@@ -41,30 +41,30 @@ use Rattle.mp4_media.specs.MovieTracks.{id_fault, zero_id}
 use Rattle.mp4_media.specs.Finished.{Opens}
 use Rattle.mp4_media.proofs.Contents.{meaning-ftyp, meaning-moov}
 
-spellable_ftyp : IsSpellable ftyp
+encodable_ftyp : IsEncodable ftyp
 unfolding box_type
-spellable_ftyp = record { named = refl; code = lit< tt }
+encodable_ftyp = record { named = refl; code = lit< tt }
 
-spellable_moov : IsSpellable moov
+encodable_moov : IsEncodable moov
 unfolding box_type
-spellable_moov = record { named = refl; code = lit< tt }
+encodable_moov = record { named = refl; code = lit< tt }
 
-spellable_mdat : IsSpellable mdat
+encodable_mdat : IsEncodable mdat
 unfolding box_type
-spellable_mdat = record { named = refl; code = lit< tt }
+encodable_mdat = record { named = refl; code = lit< tt }
 
 -- a box is at least 8 bytes longer than its payload
-frame-longer : (name : BoxType) (payload box : List ℕ) → IsFrame name payload box → 8 + length payload ≤ length box
-frame-longer name payload box (short s h e) = rw (e, length-frame name payload) (omega arith)
-frame-longer name payload box (long s h e) = rw (e, length-long_frame name payload) (omega arith)
+box_bytes-longer : (name : BoxType) (payload box : List ℕ) → IsBox name payload box → 8 + length payload ≤ length box
+box_bytes-longer name payload box (short s h e) = rw (e, length-box_bytes name payload) (omega arith)
+box_bytes-longer name payload box (long s h e) = rw (e, length-long_box_bytes name payload) (omega arith)
 
 -- a box that stands in the bytes of a file
 module _ (size : ℕ) (bytes : List ℕ) (name : BoxType) (payload before box after : List ℕ)
-    (is : bytes ≡ before ++ (box ++ after)) (frames : IsFrame name payload box)
+    (is : bytes ≡ before ++ (box ++ after)) (boxes : IsBox name payload box)
     (place next : ℕ) (at : place ≡ length before) (to : next ≡ place + length box) (fits : next ≤ size) where
   r : ReadsAsBox name payload box bytes place
   r =
-      let there = reads_as_box name payload before box after frames in
+      let there = reads_as_box name payload before box after boxes in
       let here_is = subst (λ (xs : List ℕ). ReadsAsBox name payload box xs (length before)) (sym is) there in
       subst (λ (n : ℕ). ReadsAsBox name payload box bytes n) (sym at) here_is
 
@@ -72,7 +72,7 @@ module _ (size : ℕ) (bytes : List ℕ) (name : BoxType) (payload before box af
   from = place + r.header
 
   longer : 8 + length payload ≤ length box
-  longer = frame-longer name payload box frames
+  longer = box_bytes-longer name payload box boxes
 
   own : next - from ≡ length payload
   unfolding from
@@ -119,18 +119,18 @@ module _ (size : ℕ) (bytes : List ℕ) (name : BoxType) (payload before box af
 -- the header of mdat and its data are a box
 pub record IsMdat (box : List ℕ) : Type 0 where
   pub payload : List ℕ
-  pub frames : IsFrame mdat payload box
+  pub boxes : IsBox mdat payload box
 
 large_mdat : (bytes : List ℕ) → 16 + length bytes < 2 ^ 64 → 2 ^ 32 - 1 < 16 + length bytes
     → IsMdat (mdat_header_of (16 + length bytes) ++ bytes)
-unfolding mdat_header_of long_frame ◌⧺◌
+unfolding mdat_header_of long_box_bytes ◌⧺◌
 large_mdat bytes h large = record {
   payload = bytes;
-  frames = long spellable_mdat h (rw (lt-ltb (2 ^ 32 - 1) (16 + length bytes) large) (simp append_assoc));
+  boxes = long encodable_mdat h (rw (lt-ltb (2 ^ 32 - 1) (16 + length bytes) large) (simp append_assoc));
 }
 
 small_mdat : (bytes : List ℕ) → 16 + length bytes ≤ 2 ^ 32 - 1 → IsMdat (mdat_header_of (16 + length bytes) ++ bytes)
-unfolding mdat_header_of frame ◌⧺◌
+unfolding mdat_header_of box_bytes ◌⧺◌
 small_mdat bytes small =
     let free : List ℕ = number 4 8 ++ number 4 (code_of wide) in
     let payload : List ℕ = free ++ bytes in
@@ -143,8 +143,8 @@ small_mdat bytes small =
     ) in
     record {
       payload = payload;
-      frames =
-          short spellable_mdat (omega (arith, size))
+      boxes =
+          short encodable_mdat (omega (arith, size))
           (rw (le-ltb (2 ^ 32 - 1) (16 + length bytes) small, size) (simp append_assoc));
     }
 
@@ -189,10 +189,10 @@ no_fault m none = rw none refl
 module _ (f : FtypBox) (m : MoovBox) (box : List ℕ) (canonical : IsCanonicalFtyp f) (movie : IsCanonicalMoov m)
     (media : IsMdat box) (ids : all_refusal zero_id m.traks ≡ None) where
   abbrev first : List ℕ
-  first = frame ftyp (ftyp_payload f)
+  first = box_bytes ftyp (ftyp_payload f)
 
   abbrev third : List ℕ
-  third = frame moov (moov_payload m)
+  third = box_bytes moov (moov_payload m)
 
   abbrev whole : List ℕ
   whole = (first ++ box) ++ third
@@ -208,20 +208,20 @@ module _ (f : FtypBox) (m : MoovBox) (box : List ℕ) (canonical : IsCanonicalFt
       let regrouped : whole ≡ first ++ (box ++ third) = append_assoc first box third in
       let closed : whole ≡ (first ++ box) ++ (third ++ []) =
       ap (λ (xs : List ℕ). (first ++ box) ++ xs) (sym (append-nil third)) in
-      let frames_first : IsFrame ftyp (ftyp_payload f) first =
-      short spellable_ftyp (is_written (ftyp_payload f) None canonical.written).small refl in
-      let frames_third : IsFrame moov (moov_payload m) third =
-      short spellable_moov (is_written (moov_payload m) (moov_refusal m) movie.written).small refl in
+      let boxes_first : IsBox ftyp (ftyp_payload f) first =
+      short encodable_ftyp (is_written (ftyp_payload f) None canonical.written).small refl in
+      let boxes_third : IsBox moov (moov_payload m) third =
+      short encodable_moov (is_written (moov_payload m) (moov_refusal m) movie.written).small refl in
       let one =
-      read_box (length whole) whole ftyp (ftyp_payload f) [] first (box ++ third) regrouped frames_first 0 p
+      read_box (length whole) whole ftyp (ftyp_payload f) [] first (box ++ third) regrouped boxes_first 0 p
       refl (sym (zero-add p)) (omega (arith, end)) Ftyp ftyp_of f (meaning-ftyp ftyp refl)
       (ftyp_again f canonical) in
       let two =
-      skipped_box (length whole) whole mdat media.payload first box third regrouped media.frames p q refl refl
+      skipped_box (length whole) whole mdat media.payload first box third regrouped media.boxes p q refl refl
       (omega (arith, end)) unknown_mdat (omega (arith, end, fits)) in
       let three_at : q ≡ length (first ++ box) = sym (length-append first box) in
       let last_box =
-      read_box (length whole) whole moov (moov_payload m) (first ++ box) third [] closed frames_third q
+      read_box (length whole) whole moov (moov_payload m) (first ++ box) third [] closed boxes_third q
       (length whole) three_at end (omega arith) Moov moov_of m (meaning-moov moov refl) (moov_again m movie) in
       record {
         boxes =
@@ -250,8 +250,8 @@ opens p h over canonical fits nothing =
     let st : WriterState = state_of p in
     let held : List ℕ = data_of st in
     let ended : st.ended ≡ true = state-ended p ∙ over in
-    let file_type : List ℕ = frame ftyp (ftyp_payload (file_type_of st.config)) in
-    let movie : List ℕ = frame moov (moov_payload (movie_of st)) in
+    let file_type : List ℕ = box_bytes ftyp (ftyp_payload (file_type_of st.config)) in
+    let movie : List ℕ = box_bytes moov (moov_payload (movie_of st)) in
     let header : List ℕ = mdat_header_of (16 + length held) in
     let bytes : List ℕ = (file_type ++ (header ++ held)) ++ movie in
     let is : whole_of st ≡ bytes =

@@ -1,4 +1,4 @@
-pub mod ChildFrames
+pub mod ChildBoxBytes
 pub mod Items
 pub mod MetaSizes
 pub mod Numerals

@@ -1,5 +1,5 @@
 -- The lengths of boxes in boxes, for the check.
 use Rattle.mp4_codec.specs.FieldLaws.{length-then}
-use Rattle.mp4_codec.specs.FramingLaws.{length-frame}
+use Rattle.mp4_codec.specs.FramingLaws.{length-box_bytes}
 
-pub ruleset sizes = (length-frame, length-then)
+pub ruleset sizes = (length-box_bytes, length-then)

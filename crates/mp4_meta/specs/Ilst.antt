@@ -5,11 +5,11 @@ use Rattle.mp4_codec.specs.declared.box_type.BoxType.TheVariants.{DataBox as dat
 use Rattle.mp4_codec.specs.declared.box_type.BoxType.TheVariants.{DayBox, CovrBox, DescBox}
 use Rattle.mp4_codec.specs.Cause.{Cause, ◌>>=◌, ◌or◌}
 use Rattle.mp4_codec.specs.Bytes.{◌⧺◌}
-use Rattle.mp4_codec.specs.Boxes.{frame, optional, no_refusal, IsCanonical}
+use Rattle.mp4_codec.specs.Boxes.{box_bytes, optional, no_refusal, IsCanonical}
 use Rattle.mp4_codec.specs.Early.{Early, takes_memory, early_gathered, early_last, at_once, refused_at_once}
 use Rattle.mp4_codec.specs.Early.{◌and_then◌}
 use Rattle.mp4_codec.specs.Children.{ChildBox, children, gathered, fault_in, last_of, with_last, needed}
-use Rattle.mp4_leaf.specs.Data.{data_of, data_payload, IsInRangeData, RemarksData, default_data}
+use Rattle.mp4_leaf.specs.Data.{data_of, data_payload, IsInRangeData, IsWellFormedData, default_data}
 use Rattle.mp4_meta.specs.declared.metadata_key.MetadataKey.{MetadataKey}
 use Rattle.mp4_meta.specs.declared.metadata_key.MetadataKey.TheVariants.{Title, Year, Poster, Summary}
 use Rattle.mp4_meta.specs.declared.ilst.IlstItemBox.{IlstItemBox}
@@ -31,13 +31,13 @@ item_early payload =
 
 -- the payload that holds an item
 unfoldable pub item_payload : IlstItemBox → List ℕ
-item_payload i = frame data_box (data_payload i.item)
+item_payload i = box_bytes data_box (data_payload i.item)
 
 abbrev pub IsInRangeItem : IlstItemBox → Type 0
 IsInRangeItem i = IsInRangeData i.item
 
-abbrev pub RemarksItem : IlstItemBox → Type 0
-RemarksItem i = RemarksData i.item
+abbrev pub IsWellFormedItem : IlstItemBox → Type 0
+IsWellFormedItem i = IsWellFormedData i.item
 
 -- an item of a default value
 abbrev pub default_item : IlstItemBox
@@ -71,8 +71,8 @@ items_with Summary item (title ∷ year ∷ poster ∷ summary ∷ held) = title
 items_with key item held = held
 
 -- the box of a key's item, where there is one
-abbrev pub item_frame : MetadataKey → Held → List ℕ
-item_frame key held = optional (item_type key) item_payload (item_at key held)
+abbrev pub item_box_bytes : MetadataKey → Held → List ℕ
+item_box_bytes key held = optional (item_type key) item_payload (item_at key held)
 
 -- why a child refuses the list
 unfoldable pub ilst_fault : ChildBox → Option Cause
@@ -119,7 +119,7 @@ ilst_early payload = early_gathered ilst_child_early (children payload) and_then
 -- the payload that holds a list
 unfoldable pub ilst_payload : IlstBox → List ℕ
 ilst_payload b =
-    item_frame Title b.items ⧺ item_frame Year b.items ⧺ item_frame Poster b.items ⧺ item_frame Summary b.items
+    item_box_bytes Title b.items ⧺ item_box_bytes Year b.items ⧺ item_box_bytes Poster b.items ⧺ item_box_bytes Summary b.items
 
 -- each number is within its type, and each of the four keys has its place
 pub record IsInRangeIlst (b : IlstBox) : Type 0 where
@@ -129,16 +129,16 @@ pub record IsInRangeIlst (b : IlstBox) : Type 0 where
   pub poster : IfSome (item_at Poster b.items) IsInRangeItem
   pub summary : IfSome (item_at Summary b.items) IsInRangeItem
 
--- the remarks of its items
-pub record RemarksIlst (b : IlstBox) : Type 0 where
-  pub title : IfSome (item_at Title b.items) RemarksItem
-  pub year : IfSome (item_at Year b.items) RemarksItem
-  pub poster : IfSome (item_at Poster b.items) RemarksItem
-  pub summary : IfSome (item_at Summary b.items) RemarksItem
+-- its items are well-formed
+pub record IsWellFormedIlst (b : IlstBox) : Type 0 where
+  pub title : IfSome (item_at Title b.items) IsWellFormedItem
+  pub year : IfSome (item_at Year b.items) IsWellFormedItem
+  pub poster : IfSome (item_at Poster b.items) IsWellFormedItem
+  pub summary : IfSome (item_at Summary b.items) IsWellFormedItem
 
 -- a list that is written and reads back equal
 abbrev pub IsCanonicalIlst : IlstBox → Type 0
-IsCanonicalIlst = IsCanonical IsInRangeIlst RemarksIlst ilst_payload no_refusal
+IsCanonicalIlst = IsCanonical IsInRangeIlst IsWellFormedIlst ilst_payload no_refusal
 
 -- no items
 abbrev pub default_ilst : IlstBox

@@ -8,8 +8,8 @@ use Rattle.mp4_codec.specs.declared.box_type.BoxType.TheVariants.{DayBox, CovrBo
 use Rattle.mp4_codec.specs.BoxType.{box_type}
 use Rattle.mp4_codec.specs.Cause.{unless}
 use Rattle.mp4_codec.specs.Bytes.{◌⧺◌}
-use Rattle.mp4_codec.specs.Boxes.{frame, optional, no_refusal, IsCanonical}
-use Rattle.mp4_codec.specs.Framing.{IsSpellable}
+use Rattle.mp4_codec.specs.Boxes.{box_bytes, optional, no_refusal, IsCanonical}
+use Rattle.mp4_codec.specs.Framing.{IsEncodable}
 use Rattle.mp4_codec.specs.Children.{ChildBox, fault_in, last_of}
 use Rattle.mp4_codec.specs.GatherLaws.{unless-then, with_last-last_of, last_child-adds}
 use Rattle.mp4_codec.specs.WriteLaws.{is_written}
@@ -19,20 +19,20 @@ use Rattle.mp4_leaf.specs.Data.{data_of, data_payload}
 use Rattle.mp4_meta.specs.declared.metadata_key.MetadataKey.TheVariants.{Title, Year, Poster, Summary}
 use Rattle.mp4_meta.specs.declared.ilst.IlstItemBox.{IlstItemBox}
 use Rattle.mp4_meta.specs.declared.ilst.IlstBox.{IlstBox}
-use Rattle.mp4_meta.specs.MetadataKinds.{data_kind, spellable_name, spellable_day, spellable_covr, spellable_desc}
-use Rattle.mp4_meta.specs.Ilst.{item_of, item_payload, IsInRangeItem, RemarksItem, Held, item_at, item_frame}
+use Rattle.mp4_meta.specs.MetadataKinds.{data_kind, encodable_name, encodable_day, encodable_covr, encodable_desc}
+use Rattle.mp4_meta.specs.Ilst.{item_of, item_payload, IsInRangeItem, IsWellFormedItem, Held, item_at, item_box_bytes}
 use Rattle.mp4_meta.specs.Ilst.{ilst_fault}
 use Rattle.mp4_meta.specs.Ilst.{ilst_taken, ilst_added, ilst_of, ilst_payload}
-use Rattle.mp4_meta.specs.Ilst.{IsInRangeIlst, RemarksIlst, IsCanonicalIlst}
+use Rattle.mp4_meta.specs.Ilst.{IsInRangeIlst, IsWellFormedIlst, IsCanonicalIlst}
 
-item_again : (i : IlstItemBox) → IsCanonical IsInRangeItem RemarksItem item_payload no_refusal i
+item_again : (i : IlstItemBox) → IsCanonical IsInRangeItem IsWellFormedItem item_payload no_refusal i
     → item_of (item_payload i) ≡ Ok i
 unfolding item_of item_payload
 item_again i f =
     let written = is_written (item_payload i) None f.written in
-    let part : Part data_kind (frame data_box (data_payload i.item)) (i.item ∷ []) =
-    required_part data_kind i.item f.in_range f.remarks refl (omega (arith, written.small)) in
-    let value : Written (fault_in data_box data_of) (frame data_box (data_payload i.item))
+    let part : Part data_kind (box_bytes data_box (data_payload i.item)) (i.item ∷ []) =
+    required_part data_kind i.item f.in_range f.well_formed refl (omega (arith, written.small)) in
+    let value : Written (fault_in data_box data_of) (box_bytes data_box (data_payload i.item))
     ((data_box, payloads data_payload (i.item ∷ [])) ∷ []) =
     last_group data_kind part (λ x e. rw e refl) in
     rw (
@@ -40,29 +40,29 @@ item_again i f =
       last_of-part data_kind (Some i.item) ((data_box, payloads data_payload (i.item ∷ [])) ∷ []) part refl,
     ) refl
 
-abbrev item_kind : (name : BoxType) → IsSpellable name → Kind IlstItemBox
-item_kind name spellable = record {
+abbrev item_kind : (name : BoxType) → IsEncodable name → Kind IlstItemBox
+item_kind name encodable = record {
   name = name;
   payload = item_payload;
   value = item_of;
   refusal = no_refusal;
   IsInRange = IsInRangeItem;
-  Remarks = RemarksItem;
-  spellable = spellable;
+  IsWellFormed = IsWellFormedItem;
+  encodable = encodable;
   again = item_again;
 }
 
 abbrev title_kind : Kind IlstItemBox
-title_kind = item_kind NameBox spellable_name
+title_kind = item_kind NameBox encodable_name
 
 abbrev year_kind : Kind IlstItemBox
-year_kind = item_kind DayBox spellable_day
+year_kind = item_kind DayBox encodable_day
 
 abbrev poster_kind : Kind IlstItemBox
-poster_kind = item_kind CovrBox spellable_covr
+poster_kind = item_kind CovrBox encodable_covr
 
 abbrev summary_kind : Kind IlstItemBox
-summary_kind = item_kind DescBox spellable_desc
+summary_kind = item_kind DescBox encodable_desc
 
 pub ilst_adds : (cs : List ChildBox) (c : ChildBox)
     → ilst_added (ilst_taken cs) c ≡ unless (ilst_fault c) (Ok (ilst_taken (cs ++ c ∷ [])))
@@ -96,26 +96,26 @@ groups b = (NameBox, payloads item_payload (option_to_list (item_at Title b.item
     ∷ (DescBox, payloads item_payload (option_to_list (item_at Summary b.items))) ∷ []
 
 record Parts (b : IlstBox) : Type 0 where
-  title : Part title_kind (item_frame Title b.items) (option_to_list (item_at Title b.items))
-  year : Part year_kind (item_frame Year b.items) (option_to_list (item_at Year b.items))
-  poster : Part poster_kind (item_frame Poster b.items) (option_to_list (item_at Poster b.items))
-  summary : Part summary_kind (item_frame Summary b.items) (option_to_list (item_at Summary b.items))
+  title : Part title_kind (item_box_bytes Title b.items) (option_to_list (item_at Title b.items))
+  year : Part year_kind (item_box_bytes Year b.items) (option_to_list (item_at Year b.items))
+  poster : Part poster_kind (item_box_bytes Poster b.items) (option_to_list (item_at Poster b.items))
+  summary : Part summary_kind (item_box_bytes Summary b.items) (option_to_list (item_at Summary b.items))
 
 parts : (b : IlstBox) → IsCanonicalIlst b → Parts b
 unfolding ilst_payload
 parts b f =
     let written = is_written (ilst_payload b) None f.written in
-    let behind_poster = item_frame Summary b.items in
-    let behind_year = item_frame Poster b.items ⧺ behind_poster in
-    let behind_title = item_frame Year b.items ⧺ behind_year in
-    let first = both_fit (item_frame Title b.items) behind_title (2 ^ 32) (omega (arith, written.small)) in
-    let second = both_fit (item_frame Year b.items) behind_year (2 ^ 32) first.1 in
-    let third = both_fit (item_frame Poster b.items) behind_poster (2 ^ 32) second.1 in
+    let behind_poster = item_box_bytes Summary b.items in
+    let behind_year = item_box_bytes Poster b.items ⧺ behind_poster in
+    let behind_title = item_box_bytes Year b.items ⧺ behind_year in
+    let first = both_fit (item_box_bytes Title b.items) behind_title (2 ^ 32) (omega (arith, written.small)) in
+    let second = both_fit (item_box_bytes Year b.items) behind_year (2 ^ 32) first.1 in
+    let third = both_fit (item_box_bytes Poster b.items) behind_poster (2 ^ 32) second.1 in
     record {
-      title = optional_part title_kind (item_at Title b.items) f.in_range.title f.remarks.title (none_refuses _) first.0;
-      year = optional_part year_kind (item_at Year b.items) f.in_range.year f.remarks.year (none_refuses _) second.0;
-      poster = optional_part poster_kind (item_at Poster b.items) f.in_range.poster f.remarks.poster (none_refuses _) third.0;
-      summary = optional_part summary_kind (item_at Summary b.items) f.in_range.summary f.remarks.summary (none_refuses _) third.1;
+      title = optional_part title_kind (item_at Title b.items) f.in_range.title f.well_formed.title (none_refuses _) first.0;
+      year = optional_part year_kind (item_at Year b.items) f.in_range.year f.well_formed.year (none_refuses _) second.0;
+      poster = optional_part poster_kind (item_at Poster b.items) f.in_range.poster f.well_formed.poster (none_refuses _) third.0;
+      summary = optional_part summary_kind (item_at Summary b.items) f.in_range.summary f.well_formed.summary (none_refuses _) third.1;
     }
 
 pub ilst_again : (b : IlstBox) → IsCanonicalIlst b → ilst_of (ilst_payload b) ≡ Ok b
@@ -136,9 +136,9 @@ ilst_again b f =
       places b.items f.in_range.keys,
     ) refl
 
-pub spellable_ilst : IsSpellable ilst
+pub encodable_ilst : IsEncodable ilst
 unfolding box_type
-spellable_ilst = record { named = refl; code = lit< tt }
+encodable_ilst = record { named = refl; code = lit< tt }
 
 abbrev pub ilst_kind : Kind IlstBox
 ilst_kind = record {
@@ -147,7 +147,7 @@ ilst_kind = record {
   value = ilst_of;
   refusal = no_refusal;
   IsInRange = IsInRangeIlst;
-  Remarks = RemarksIlst;
-  spellable = spellable_ilst;
+  IsWellFormed = IsWellFormedIlst;
+  encodable = encodable_ilst;
   again = ilst_again;
 }

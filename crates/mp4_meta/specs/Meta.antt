@@ -7,16 +7,16 @@ use Rattle.mp4_codec.specs.declared.box_type.BoxType.TheVariants.{HdlrBox as hdl
 use Rattle.mp4_codec.specs.BoxType.{code_of, IsNamed}
 use Rattle.mp4_codec.specs.Cause.{Cause, unsupported_version, ◌>>=◌, seen}
 use Rattle.mp4_codec.specs.Bytes.{number_at, zeros, ◌⧺◌, coded}
-use Rattle.mp4_codec.specs.Boxes.{frame, optional, no_refusal, IsCanonical}
+use Rattle.mp4_codec.specs.Boxes.{box_bytes, optional, no_refusal, IsCanonical}
 use Rattle.mp4_codec.specs.Early.{Early, succeeds, takes_memory, early_gathered, early_last, ◌before◌}
 use Rattle.mp4_codec.specs.Children.{ChildBox, children, gathered, is_of, fault_in, last_of, needed}
 use Rattle.mp4_codec.specs.declared.four_cc.FourCC.{FourCC}
 use Rattle.mp4_leaf.specs.declared.hdlr.HdlrBox.{HdlrBox}
-use Rattle.mp4_leaf.specs.Hdlr.{hdlr_of, hdlr_payload, IsInRangeHdlr, RemarksHdlr, default_hdlr}
+use Rattle.mp4_leaf.specs.Hdlr.{hdlr_of, hdlr_payload, IsInRangeHdlr, IsWellFormedHdlr, default_hdlr}
 use Rattle.mp4_meta.specs.declared.meta.MetaBox.{MetaBox}
 use Rattle.mp4_meta.specs.declared.meta.MetaBox.TheVariants.{Mdir, Unknown}
 use Rattle.mp4_meta.specs.declared.meta.OtherChildren.{OtherChildren}
-use Rattle.mp4_meta.specs.Ilst.{ilst_of, ilst_early, ilst_payload, IsInRangeIlst, RemarksIlst}
+use Rattle.mp4_meta.specs.Ilst.{ilst_of, ilst_early, ilst_payload, IsInRangeIlst, IsWellFormedIlst}
 
 -- the bytes begin with the type hdlr
 abbrev pub names_hdlr : List ℕ → Bool
@@ -106,13 +106,13 @@ unfoldable pub meta_early : List ℕ → Early
 meta_early payload = meta_body payload before λ body. last_handler body before λ handler. early_with body handler
 
 -- the boxes of these children, one after the other
-unfoldable pub child_frames : List ChildBox → List ℕ
-child_frames cs = flat_map (λ c. frame c.0 c.1) cs
+unfoldable pub child_box_bytes : List ChildBox → List ℕ
+child_box_bytes cs = flat_map (λ c. box_bytes c.0 c.1) cs
 
 -- the payload that holds metadata
 unfoldable pub meta_payload : MetaBox → List ℕ
-meta_payload (Mdir list) = zeros 4 ⧺ frame hdlr (hdlr_payload mdir_handler) ⧺ optional ilst ilst_payload list
-meta_payload (Unknown handler cs) = zeros 4 ⧺ frame hdlr (hdlr_payload handler) ⧺ child_frames cs
+meta_payload (Mdir list) = zeros 4 ⧺ box_bytes hdlr (hdlr_payload mdir_handler) ⧺ optional ilst ilst_payload list
+meta_payload (Unknown handler cs) = zeros 4 ⧺ box_bytes hdlr (hdlr_payload handler) ⧺ child_box_bytes cs
 
 -- the code of a child's type has 32 bits
 abbrev pub HasCode : ChildBox → Type 0
@@ -127,14 +127,14 @@ IsInRangeMeta (Unknown handler cs) = IsInRangeHdlr handler × AllByRecursion Has
 abbrev pub IsOther : ChildBox → Type 0
 IsOther c = (is_of hdlr c ≡ false) × IsNamed c.0
 
--- the remarks of its children; unknown metadata is not of handler mdir
-abbrev pub RemarksMeta : MetaBox → Type 0
-RemarksMeta (Mdir list) = IfSome list RemarksIlst
-RemarksMeta (Unknown handler cs) = RemarksHdlr handler × (is_mdir handler ≡ false) × AllByRecursion IsOther cs
+-- its children are well-formed; unknown metadata is not of handler mdir
+abbrev pub IsWellFormedMeta : MetaBox → Type 0
+IsWellFormedMeta (Mdir list) = IfSome list IsWellFormedIlst
+IsWellFormedMeta (Unknown handler cs) = IsWellFormedHdlr handler × (is_mdir handler ≡ false) × AllByRecursion IsOther cs
 
 -- metadata that is written and reads back equal
 abbrev pub IsCanonicalMeta : MetaBox → Type 0
-IsCanonicalMeta = IsCanonical IsInRangeMeta RemarksMeta meta_payload no_refusal
+IsCanonicalMeta = IsCanonical IsInRangeMeta IsWellFormedMeta meta_payload no_refusal
 
 -- metadata of a default handler, without other children
 abbrev pub default_meta : MetaBox

@@ -11,17 +11,17 @@ use Rattle.mp4_codec.specs.BoxType.{box_type}
 use Rattle.mp4_codec.specs.Cause.{Cause, unless}
 use Rattle.mp4_codec.specs.Bytes.{number, number_at, zeros, ◌⧺◌}
 use Rattle.mp4_codec.specs.FieldLaws.{number_again}
-use Rattle.mp4_codec.specs.Boxes.{frame, optional, no_refusal}
-use Rattle.mp4_codec.specs.Framing.{IsSpellable}
-use Rattle.mp4_codec.specs.FramingLaws.{length-frame}
+use Rattle.mp4_codec.specs.Boxes.{box_bytes, optional, no_refusal}
+use Rattle.mp4_codec.specs.Framing.{IsEncodable}
+use Rattle.mp4_codec.specs.FramingLaws.{length-box_bytes}
 use Rattle.mp4_codec.specs.Children.{ChildBox, gathered, is_of, fault_in, all_of, last_of}
 use Rattle.mp4_codec.specs.GatherLaws.{NoFault, first_fault-none}
 use Rattle.mp4_codec.specs.WriteLaws.{is_written}
-use Rattle.mp4_codec.specs.WrittenChildren.{Frames, Frames-none, Frames-one, Frames-then, children-frames}
+use Rattle.mp4_codec.specs.WrittenChildren.{HasBoxes, HasBoxes-none, HasBoxes-one, HasBoxes-then, children-boxes}
 use Rattle.mp4_codec.specs.WrittenParts.{Kind, Groups, Part, Written, payloads, required_part, optional_part}
 use Rattle.mp4_codec.specs.WrittenParts.{group, last_group, gathered-written, last_of-part, both_fit, none_refuses}
 use Rattle.mp4_leaf.specs.declared.hdlr.HdlrBox.{HdlrBox}
-use Rattle.mp4_leaf.specs.Hdlr.{hdlr_of, hdlr_payload, IsInRangeHdlr, RemarksHdlr}
+use Rattle.mp4_leaf.specs.Hdlr.{hdlr_of, hdlr_payload, IsInRangeHdlr, IsWellFormedHdlr}
 use Rattle.mp4_leaf.specs.HdlrLaws.{length-hdlr_payload}
 use Rattle.mp4_meta.specs.declared.ilst.IlstBox.{IlstBox}
 use Rattle.mp4_meta.specs.declared.meta.MetaBox.{MetaBox}
@@ -31,7 +31,7 @@ use Rattle.mp4_meta.specs.MetadataKinds.{hdlr_kind}
 use Rattle.mp4_meta.specs.Ilst.{ilst_of, ilst_payload}
 use Rattle.mp4_meta.specs.IlstLaws.{ilst_kind}
 use Rattle.mp4_meta.specs.Meta.{meta_body, mdir, mdir_handler, others, others_added, no_fault, HasCode, IsOther}
-use Rattle.mp4_meta.specs.Meta.{meta_of, child_frames, meta_payload, IsInRangeMeta, RemarksMeta, IsCanonicalMeta}
+use Rattle.mp4_meta.specs.Meta.{meta_of, child_box_bytes, meta_payload, IsInRangeMeta, IsWellFormedMeta, IsCanonicalMeta}
 
 -- the handler that is written for mdir has no name
 pub length-mdir_handler : length (hdlr_payload mdir_handler) ≡ 25
@@ -64,25 +64,25 @@ body_again : (rest : List ℕ) → meta_body (zeros 4 ⧺ rest) ≡ Ok rest
 unfolding meta_body
 body_again rest = rw (zero_again rest) refl
 
-joined : (a b : List ℕ) (ks ls : List ChildBox) → Frames a ks → Frames b ls → Frames (a ++ b) (ks ++ ls)
+joined : (a b : List ℕ) (ks ls : List ChildBox) → HasBoxes a ks → HasBoxes b ls → HasBoxes (a ++ b) (ks ++ ls)
 unfolding ◌⧺◌
-joined a b ks ls f g = Frames-then f g
+joined a b ks ls f g = HasBoxes-then f g
 
-frames_of : (cs : List ChildBox) → AllByRecursion HasCode cs → AllByRecursion IsOther cs
-    → length (child_frames cs) < 2 ^ 32 → Frames (child_frames cs) cs
-unfolding child_frames
-frames_of [] codes other small = Frames-none
-frames_of (c ∷ cs) codes other small =
-    let whole : child_frames (c ∷ cs) ≡ frame c.0 c.1 ++ child_frames cs =
-    flat_map-cons (λ (k : ChildBox). frame k.0 k.1) c cs in
-    let size : length (child_frames (c ∷ cs)) ≡ 8 + length c.1 + length (child_frames cs) =
-    ap length whole ∙ length-append (frame c.0 c.1) (child_frames cs)
-    ∙ ap (λ (n : ℕ). n + length (child_frames cs)) (length-frame c.0 c.1) in
-    let spellable : IsSpellable c.0 = record { named = other.0.1; code = codes.0 } in
-    let first = Frames-one c.0 c.1 spellable (omega (arith, size, small)) in
-    let rest = frames_of cs codes.1 other.1 (omega (arith, size, small)) in
-    subst (λ (bytes : List ℕ). Frames bytes (c ∷ cs)) (sym whole)
-    (joined (frame c.0 c.1) (child_frames cs) (c ∷ []) cs first rest)
+boxes_of : (cs : List ChildBox) → AllByRecursion HasCode cs → AllByRecursion IsOther cs
+    → length (child_box_bytes cs) < 2 ^ 32 → HasBoxes (child_box_bytes cs) cs
+unfolding child_box_bytes
+boxes_of [] codes other small = HasBoxes-none
+boxes_of (c ∷ cs) codes other small =
+    let whole : child_box_bytes (c ∷ cs) ≡ box_bytes c.0 c.1 ++ child_box_bytes cs =
+    flat_map-cons (λ (k : ChildBox). box_bytes k.0 k.1) c cs in
+    let size : length (child_box_bytes (c ∷ cs)) ≡ 8 + length c.1 + length (child_box_bytes cs) =
+    ap length whole ∙ length-append (box_bytes c.0 c.1) (child_box_bytes cs)
+    ∙ ap (λ (n : ℕ). n + length (child_box_bytes cs)) (length-box_bytes c.0 c.1) in
+    let encodable : IsEncodable c.0 = record { named = other.0.1; code = codes.0 } in
+    let first = HasBoxes-one c.0 c.1 encodable (omega (arith, size, small)) in
+    let rest = boxes_of cs codes.1 other.1 (omega (arith, size, small)) in
+    subst (λ (bytes : List ℕ). HasBoxes bytes (c ∷ cs)) (sym whole)
+    (joined (box_bytes c.0 c.1) (child_box_bytes cs) (c ∷ []) cs first rest)
 
 others_same : (cs : List ChildBox) → AllByRecursion IsOther cs → others cs ≡ cs
 unfolding others
@@ -130,21 +130,21 @@ mdir_groups list = (hdlr, payloads hdlr_payload (mdir_handler ∷ []))
 mdir_in_range : IsInRangeHdlr mdir_handler
 mdir_in_range = record { version = lit< tt; handler_type = (mdir, lit< tt, refl) }
 
-mdir_remarks : RemarksHdlr mdir_handler
-mdir_remarks = record { flags = lit< tt; name = tt }
+mdir_well_formed : IsWellFormedHdlr mdir_handler
+mdir_well_formed = record { flags = lit< tt; name = tt }
 
 pub meta_again : (b : MetaBox) → IsCanonicalMeta b → meta_of (meta_payload b) ≡ Ok b
 unfolding meta_of meta_payload
 meta_again (Mdir list) f =
     let written = is_written (meta_payload (Mdir list)) None f.written in
-    let handler_bytes = frame hdlr (hdlr_payload mdir_handler) in
+    let handler_bytes = box_bytes hdlr (hdlr_payload mdir_handler) in
     let list_bytes = optional ilst ilst_payload list in
     let fits = both_fit (zeros 4) (handler_bytes ⧺ list_bytes) (2 ^ 32) (omega (arith, written.small)) in
     let both = both_fit handler_bytes list_bytes (2 ^ 32) fits.1 in
     let first : Part hdlr_kind handler_bytes (mdir_handler ∷ []) =
-    required_part hdlr_kind mdir_handler mdir_in_range mdir_remarks refl both.0 in
+    required_part hdlr_kind mdir_handler mdir_in_range mdir_well_formed refl both.0 in
     let second : Part ilst_kind list_bytes (option_to_list list) =
-    optional_part ilst_kind list f.in_range f.remarks (none_refuses list) both.1 in
+    optional_part ilst_kind list f.in_range f.well_formed (none_refuses list) both.1 in
     let handlers : Written (fault_in hdlr hdlr_of) (handler_bytes ⧺ list_bytes) (mdir_groups list) =
     group hdlr_kind first (λ x e. rw e refl) (last_group ilst_kind second (λ x e. refl)) in
     let lists : Written (fault_in ilst ilst_of) (handler_bytes ⧺ list_bytes) (mdir_groups list) =
@@ -158,24 +158,24 @@ meta_again (Mdir list) f =
     ) refl
 meta_again (Unknown handler cs) f =
     let written = is_written (meta_payload (Unknown handler cs)) None f.written in
-    let handler_bytes = frame hdlr (hdlr_payload handler) in
-    let fits = both_fit (zeros 4) (handler_bytes ⧺ child_frames cs) (2 ^ 32) (omega (arith, written.small)) in
-    let both = both_fit handler_bytes (child_frames cs) (2 ^ 32) fits.1 in
+    let handler_bytes = box_bytes hdlr (hdlr_payload handler) in
+    let fits = both_fit (zeros 4) (handler_bytes ⧺ child_box_bytes cs) (2 ^ 32) (omega (arith, written.small)) in
+    let both = both_fit handler_bytes (child_box_bytes cs) (2 ^ 32) fits.1 in
     let first : Part hdlr_kind handler_bytes (handler ∷ []) =
-    required_part hdlr_kind handler f.in_range.0 f.remarks.0 refl both.0 in
-    let frames : Frames (handler_bytes ⧺ child_frames cs) (listed handler cs first.reads.0 f.remarks.2) =
-    Frames-then first.frames (frames_of cs f.in_range.1 f.remarks.2 both.1) in
+    required_part hdlr_kind handler f.in_range.0 f.well_formed.0 refl both.0 in
+    let boxes : HasBoxes (handler_bytes ⧺ child_box_bytes cs) (listed handler cs first.reads.0 f.well_formed.2) =
+    HasBoxes-then first.boxes (boxes_of cs f.in_range.1 f.well_formed.2 both.1) in
     rw (
-      body_again (handler_bytes ⧺ child_frames cs),
-      children-frames (handler_bytes ⧺ child_frames cs) (listed handler cs first.reads.0 f.remarks.2) frames,
-      its_handler handler cs first.reads.0 f.remarks.2,
-      f.remarks.1,
-      its_others handler cs first.reads.0 f.remarks.2,
+      body_again (handler_bytes ⧺ child_box_bytes cs),
+      children-boxes (handler_bytes ⧺ child_box_bytes cs) (listed handler cs first.reads.0 f.well_formed.2) boxes,
+      its_handler handler cs first.reads.0 f.well_formed.2,
+      f.well_formed.1,
+      its_others handler cs first.reads.0 f.well_formed.2,
     ) refl
 
-pub spellable_meta : IsSpellable meta
+pub encodable_meta : IsEncodable meta
 unfolding box_type
-spellable_meta = record { named = refl; code = lit< tt }
+encodable_meta = record { named = refl; code = lit< tt }
 
 abbrev pub meta_kind : Kind MetaBox
 meta_kind = record {
@@ -184,7 +184,7 @@ meta_kind = record {
   value = meta_of;
   refusal = no_refusal;
   IsInRange = IsInRangeMeta;
-  Remarks = RemarksMeta;
-  spellable = spellable_meta;
+  IsWellFormed = IsWellFormedMeta;
+  encodable = encodable_meta;
   again = meta_again;
 }

@@ -4,18 +4,18 @@ use Rattle.mp4_codec.specs.declared.box_type.BoxType.TheVariants.{DataBox as dat
 use Rattle.mp4_codec.specs.declared.box_type.BoxType.TheVariants.{DayBox as day, CovrBox as covr, DescBox as desc}
 use Rattle.mp4_codec.specs.BoxType.{box_type}
 use Rattle.mp4_codec.specs.Boxes.{no_refusal}
-use Rattle.mp4_codec.specs.Framing.{IsSpellable}
+use Rattle.mp4_codec.specs.Framing.{IsEncodable}
 use Rattle.mp4_codec.specs.WrittenParts.{Kind}
 use Rattle.mp4_leaf.specs.declared.hdlr.HdlrBox.{HdlrBox}
-use Rattle.mp4_leaf.specs.Hdlr.{hdlr_of, hdlr_payload, IsInRangeHdlr, RemarksHdlr}
+use Rattle.mp4_leaf.specs.Hdlr.{hdlr_of, hdlr_payload, IsInRangeHdlr, IsWellFormedHdlr}
 use Rattle.mp4_leaf.specs.HdlrLaws.{hdlr_again}
 use Rattle.mp4_leaf.specs.declared.data.DataBox.{DataBox}
-use Rattle.mp4_leaf.specs.Data.{data_of, data_payload, IsInRangeData, RemarksData}
+use Rattle.mp4_leaf.specs.Data.{data_of, data_payload, IsInRangeData, IsWellFormedData}
 use Rattle.mp4_leaf.specs.DataLaws.{data_again}
 
-pub spellable_hdlr : IsSpellable hdlr
+pub encodable_hdlr : IsEncodable hdlr
 unfolding box_type
-spellable_hdlr = record { named = refl; code = lit< tt }
+encodable_hdlr = record { named = refl; code = lit< tt }
 
 abbrev pub hdlr_kind : Kind HdlrBox
 hdlr_kind = record {
@@ -24,30 +24,30 @@ hdlr_kind = record {
   value = hdlr_of;
   refusal = no_refusal;
   IsInRange = IsInRangeHdlr;
-  Remarks = RemarksHdlr;
-  spellable = spellable_hdlr;
+  IsWellFormed = IsWellFormedHdlr;
+  encodable = encodable_hdlr;
   again = hdlr_again;
 }
 
-pub spellable_data : IsSpellable data_box
+pub encodable_data : IsEncodable data_box
 unfolding box_type
-spellable_data = record { named = refl; code = lit< tt }
+encodable_data = record { named = refl; code = lit< tt }
 
-pub spellable_name : IsSpellable name
+pub encodable_name : IsEncodable name
 unfolding box_type
-spellable_name = record { named = refl; code = lit< tt }
+encodable_name = record { named = refl; code = lit< tt }
 
-pub spellable_day : IsSpellable day
+pub encodable_day : IsEncodable day
 unfolding box_type
-spellable_day = record { named = refl; code = lit< tt }
+encodable_day = record { named = refl; code = lit< tt }
 
-pub spellable_covr : IsSpellable covr
+pub encodable_covr : IsEncodable covr
 unfolding box_type
-spellable_covr = record { named = refl; code = lit< tt }
+encodable_covr = record { named = refl; code = lit< tt }
 
-pub spellable_desc : IsSpellable desc
+pub encodable_desc : IsEncodable desc
 unfolding box_type
-spellable_desc = record { named = refl; code = lit< tt }
+encodable_desc = record { named = refl; code = lit< tt }
 
 abbrev pub data_kind : Kind DataBox
 data_kind = record {
@@ -56,7 +56,7 @@ data_kind = record {
   value = data_of;
   refusal = no_refusal;
   IsInRange = IsInRangeData;
-  Remarks = RemarksData;
-  spellable = spellable_data;
+  IsWellFormed = IsWellFormedData;
+  encodable = encodable_data;
   again = data_again;
 }

@@ -6,7 +6,7 @@ use Rattle.mp4_codec.specs.Boxes.{optional, no_refusal, IsCanonical}
 use Rattle.mp4_codec.specs.Early.{Early, early_gathered, early_last}
 use Rattle.mp4_codec.specs.Children.{children, gathered, fault_in, last_of}
 use Rattle.mp4_meta.specs.declared.udta.UdtaBox.{UdtaBox}
-use Rattle.mp4_meta.specs.Meta.{meta_of, meta_early, meta_payload, IsInRangeMeta, RemarksMeta}
+use Rattle.mp4_meta.specs.Meta.{meta_of, meta_early, meta_payload, IsInRangeMeta, IsWellFormedMeta}
 
 -- the user data that a payload holds: the last metadata
 unfoldable pub udta_of : List ℕ → Result UdtaBox Cause
@@ -26,13 +26,13 @@ udta_payload b = optional meta meta_payload b.meta
 pub record IsInRangeUdta (b : UdtaBox) : Type 0 where
   pub meta : IfSome b.meta IsInRangeMeta
 
--- the remarks of its metadata
-pub record RemarksUdta (b : UdtaBox) : Type 0 where
-  pub meta : IfSome b.meta RemarksMeta
+-- its metadata is well-formed
+pub record IsWellFormedUdta (b : UdtaBox) : Type 0 where
+  pub meta : IfSome b.meta IsWellFormedMeta
 
 -- user data that is written and reads back equal
 abbrev pub IsCanonicalUdta : UdtaBox → Type 0
-IsCanonicalUdta = IsCanonical IsInRangeUdta RemarksUdta udta_payload no_refusal
+IsCanonicalUdta = IsCanonical IsInRangeUdta IsWellFormedUdta udta_payload no_refusal
 
 -- no metadata
 abbrev pub default_udta : UdtaBox

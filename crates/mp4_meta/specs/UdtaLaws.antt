@@ -4,7 +4,7 @@ use Rattle.std.specs.Option.{option_to_list}
 use Rattle.mp4_codec.specs.declared.box_type.BoxType.TheVariants.{MetaBox as meta, UdtaBox as udta}
 use Rattle.mp4_codec.specs.BoxType.{box_type}
 use Rattle.mp4_codec.specs.Boxes.{optional, no_refusal}
-use Rattle.mp4_codec.specs.Framing.{IsSpellable}
+use Rattle.mp4_codec.specs.Framing.{IsEncodable}
 use Rattle.mp4_codec.specs.Children.{fault_in, last_of}
 use Rattle.mp4_codec.specs.WriteLaws.{is_written}
 use Rattle.mp4_codec.specs.WrittenParts.{Kind, Groups, Part, Written, payloads, optional_part, last_group}
@@ -13,7 +13,7 @@ use Rattle.mp4_meta.specs.declared.meta.MetaBox.{MetaBox}
 use Rattle.mp4_meta.specs.declared.udta.UdtaBox.{UdtaBox}
 use Rattle.mp4_meta.specs.Meta.{meta_of, meta_payload}
 use Rattle.mp4_meta.specs.MetaLaws.{meta_kind}
-use Rattle.mp4_meta.specs.Udta.{udta_of, udta_payload, IsInRangeUdta, RemarksUdta, IsCanonicalUdta}
+use Rattle.mp4_meta.specs.Udta.{udta_of, udta_payload, IsInRangeUdta, IsWellFormedUdta, IsCanonicalUdta}
 
 abbrev groups : UdtaBox → Groups
 groups b = (meta, payloads meta_payload (option_to_list b.meta)) ∷ []
@@ -23,7 +23,7 @@ unfolding udta_of udta_payload
 udta_again b f =
     let written = is_written (udta_payload b) None f.written in
     let part : Part meta_kind (optional meta meta_payload b.meta) (option_to_list b.meta) =
-    optional_part meta_kind b.meta f.in_range.meta f.remarks.meta (none_refuses b.meta) (omega (arith, written.small)) in
+    optional_part meta_kind b.meta f.in_range.meta f.well_formed.meta (none_refuses b.meta) (omega (arith, written.small)) in
     let child : Written (fault_in meta meta_of) (optional meta meta_payload b.meta) (groups b) =
     last_group meta_kind part (λ x e. rw e refl) in
     rw (
@@ -31,9 +31,9 @@ udta_again b f =
       last_of-part meta_kind b.meta (groups b) part refl,
     ) refl
 
-pub spellable_udta : IsSpellable udta
+pub encodable_udta : IsEncodable udta
 unfolding box_type
-spellable_udta = record { named = refl; code = lit< tt }
+encodable_udta = record { named = refl; code = lit< tt }
 
 abbrev pub udta_kind : Kind UdtaBox
 udta_kind = record {
@@ -42,7 +42,7 @@ udta_kind = record {
   value = udta_of;
   refusal = no_refusal;
   IsInRange = IsInRangeUdta;
-  Remarks = RemarksUdta;
-  spellable = spellable_udta;
+  IsWellFormed = IsWellFormedUdta;
+  encodable = encodable_udta;
   again = udta_again;
 }

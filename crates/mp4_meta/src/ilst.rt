@@ -8,10 +8,10 @@ ghost use Rattle.mp4_codec.specs.declared.box_type.BoxType.TheVariants.{IlstBox 
 ghost use Rattle.mp4_codec.specs.Cause.{Answers, Gives};
 ghost use Rattle.mp4_codec.specs.Early.{Shows, early_last};
 ghost use Rattle.mp4_codec.specs.Bytes.{Appends};
-ghost use Rattle.mp4_codec.specs.Boxes.{frame, size_around, no_refusal};
+ghost use Rattle.mp4_codec.specs.Boxes.{box_bytes, size_around, no_refusal};
 ghost use Rattle.mp4_codec.specs.Children.{child_box, with_last};
 ghost use Rattle.mp4_codec.specs.KeyedItems.{no_items};
-ghost use Rattle.mp4_meta.specs.Ilst.{item_type, item_of, item_early, item_payload, default_item, item_at, item_frame, items_with, IsInRangeItem, ilst_fault, ilst_child_early, ilst_taken, ilst_added, ilst_of, ilst_early, ilst_payload, IsInRangeIlst, RemarksIlst, default_ilst};
+ghost use Rattle.mp4_meta.specs.Ilst.{item_type, item_of, item_early, item_payload, default_item, item_at, item_box_bytes, items_with, IsInRangeItem, ilst_fault, ilst_child_early, ilst_taken, ilst_added, ilst_of, ilst_early, ilst_payload, IsInRangeIlst, IsWellFormedIlst, default_ilst};
 ghost use Rattle.mp4_meta.specs.IlstLaws.{ilst_adds, ilst_again};
 
 use crate::metadata_key::MetadataKey;
@@ -134,10 +134,10 @@ fn boxed_size(item: &IlstItemBox) -> u64
 }
 
 /// Adds the box of an item.
-#[tactic(auto, using(crate::proofs::Sizes::sizes), unfolding(mp4_codec::specs::Boxes::frame, crate::specs::Ilst::item_payload))]
+#[tactic(auto, using(crate::proofs::Sizes::sizes), unfolding(mp4_codec::specs::Boxes::box_bytes, crate::specs::Ilst::item_payload))]
 fn put_boxed(out: &mut Vec<u8>, name: BoxType, item: &IlstItemBox) -> Put
     requires { 8 + length (item_payload item.now) < 2 ^ 32 }
-    ensures { OnOk result (Appends out.old.items out.new.items (frame name (item_payload item.now))) }
+    ensures { OnOk result (Appends out.old.items out.new.items (box_bytes name (item_payload item.now))) }
 {
     put_u32(out, boxed_size(item) as u32)?;
     put_u32(out, u32::from(name))?;
@@ -148,7 +148,7 @@ fn put_boxed(out: &mut Vec<u8>, name: BoxType, item: &IlstItemBox) -> Put
 /// The bytes of the box of a key's item, 0 where there is none; they stop at 2^64 - 1.
 #[tactic(auto, using(crate::proofs::Sizes::sizes))]
 fn item_size(items: &KeyedItems<MetadataKey, IlstItemBox>, key: MetadataKey) -> u64
-    ensures { result ≡ min (length (item_frame key items.now)) (2 ^ 64 - 1) }
+    ensures { result ≡ min (length (item_box_bytes key items.now)) (2 ^ 64 - 1) }
 {
     match item_of_key(items, key) {
         None => 0,
@@ -163,8 +163,8 @@ fn put_item(
     items: &KeyedItems<MetadataKey, IlstItemBox>,
     key: MetadataKey,
 ) -> Put
-    requires { length (item_frame key items.now) < 2 ^ 32 }
-    ensures { OnOk result (Appends out.old.items out.new.items (item_frame key items.now)) }
+    requires { length (item_box_bytes key items.now) < 2 ^ 32 }
+    ensures { OnOk result (Appends out.old.items out.new.items (item_box_bytes key items.now)) }
 {
     match item_of_key(items, key) {
         None => Ok(()),
@@ -348,7 +348,7 @@ impl ReadBox for IlstBox {
 impl WriteBox for IlstBox {
     ghost refusal = { no_refusal };
 
-    ghost Remarks = { RemarksIlst };
+    ghost IsWellFormed = { IsWellFormedIlst };
 
     ghost reads_back = { ilst_again };
 

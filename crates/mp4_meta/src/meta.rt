@@ -13,8 +13,8 @@ ghost use Rattle.mp4_codec.specs.Early.{unless_refused};
 ghost use Rattle.mp4_codec.specs.Children.{fault_in, last_of, with_last};
 ghost use Rattle.mp4_codec.specs.GatherLaws.{last_child-adds};
 ghost use Rattle.mp4_codec.specs.Bytes.{Appends};
-ghost use Rattle.mp4_codec.specs.Boxes.{frame, size_around, no_refusal};
-ghost use Rattle.mp4_meta.specs.Meta.{names_hdlr, meta_body, mdir_handler, type_in, last_type, last_handler_type, others_early, meta_early, child_frames, others, others_added, no_fault, HasCode, meta_of, meta_payload, IsInRangeMeta, RemarksMeta, default_meta};
+ghost use Rattle.mp4_codec.specs.Boxes.{box_bytes, size_around, no_refusal};
+ghost use Rattle.mp4_meta.specs.Meta.{names_hdlr, meta_body, mdir_handler, type_in, last_type, last_handler_type, others_early, meta_early, child_box_bytes, others, others_added, no_fault, HasCode, meta_of, meta_payload, IsInRangeMeta, IsWellFormedMeta, default_meta};
 ghost use Rattle.mp4_meta.specs.MetaLaws.{others_adds, meta_again};
 
 use crate::ilst::IlstBox;
@@ -229,7 +229,7 @@ fn codes_in_range(children: &Items<(BoxType, Items<u8>)>)
 }
 
 /// The bytes of the box around a payload, its header included.
-fn framed_size(payload: &Items<u8>) -> u64
+fn size_as_box(payload: &Items<u8>) -> u64
     ensures { result ≡ size_around payload.now }
 {
     (payload.len() as u64).saturating_add(HEADER_SIZE)
@@ -237,11 +237,11 @@ fn framed_size(payload: &Items<u8>) -> u64
 
 /// The bytes of the boxes of children; they stop at 2^64 - 1.
 fn children_size(children: &Items<(BoxType, Items<u8>)>) -> u64
-    ensures { result ≡ min (length (child_frames children.now)) (2 ^ 64 - 1) }
+    ensures { result ≡ min (length (child_box_bytes children.now)) (2 ^ 64 - 1) }
 {
     let mut size = 0u64;
     for child in children.as_slice() {
-        size = size.saturating_add(framed_size(&child.1));
+        size = size.saturating_add(size_as_box(&child.1));
     }
     size
 }
@@ -249,9 +249,9 @@ fn children_size(children: &Items<(BoxType, Items<u8>)>) -> u64
 /// Adds the box of a child.
 fn put_child(out: &mut Vec<u8>, name: BoxType, payload: &Items<u8>) -> Put
     requires { 8 + length payload.now < 2 ^ 32 }
-    ensures { OnOk result (Appends out.old.items out.new.items (frame name payload.now)) }
+    ensures { OnOk result (Appends out.old.items out.new.items (box_bytes name payload.now)) }
 {
-    put_u32(out, framed_size(payload) as u32)?;
+    put_u32(out, size_as_box(payload) as u32)?;
     put_u32(out, u32::from(name))?;
     put_bytes(out, payload.as_slice())?;
     Ok(())
@@ -259,8 +259,8 @@ fn put_child(out: &mut Vec<u8>, name: BoxType, payload: &Items<u8>) -> Put
 
 /// Adds the boxes of children, one after the other.
 fn put_children(out: &mut Vec<u8>, children: &Items<(BoxType, Items<u8>)>) -> Put
-    requires { length (child_frames children.now) < 2 ^ 32 }
-    ensures { OnOk result (Appends out.old.items out.new.items (child_frames children.now)) }
+    requires { length (child_box_bytes children.now) < 2 ^ 32 }
+    ensures { OnOk result (Appends out.old.items out.new.items (child_box_bytes children.now)) }
 {
     for child in children.as_slice() {
         put_child(out, child.0, &child.1)?;
@@ -332,7 +332,7 @@ impl ReadBox for MetaBox {
 impl WriteBox for MetaBox {
     ghost refusal = { no_refusal };
 
-    ghost Remarks = { RemarksMeta };
+    ghost IsWellFormed = { IsWellFormedMeta };
 
     ghost reads_back = { meta_again };
 

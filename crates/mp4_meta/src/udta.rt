@@ -5,7 +5,7 @@ ghost use Rattle.mp4_meta.specs.contracts.meta.MetaBoxExactEq.TheImpl.Laws.{lawf
 ghost use Rattle.std.specs.Prelude.{◌≡◌};
 ghost use Rattle.mp4_codec.specs.declared.box_type.BoxType.TheVariants.{UdtaBox as udta};
 ghost use Rattle.mp4_codec.specs.Boxes.{size_around, no_refusal};
-ghost use Rattle.mp4_meta.specs.Udta.{udta_of, udta_early, udta_payload, IsInRangeUdta, RemarksUdta, default_udta};
+ghost use Rattle.mp4_meta.specs.Udta.{udta_of, udta_early, udta_payload, IsInRangeUdta, IsWellFormedUdta, default_udta};
 ghost use Rattle.mp4_meta.specs.UdtaLaws.{udta_again};
 
 use crate::meta::MetaBox;
@@ -97,7 +97,7 @@ impl ReadBox for UdtaBox {
 impl WriteBox for UdtaBox {
     ghost refusal = { no_refusal };
 
-    ghost Remarks = { RemarksUdta };
+    ghost IsWellFormed = { IsWellFormedUdta };
 
     ghost reads_back = { udta_again };
 

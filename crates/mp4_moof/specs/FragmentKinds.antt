@@ -4,30 +4,30 @@ use Rattle.mp4_codec.specs.declared.box_type.BoxType.TheVariants.{MehdBox as meh
 use Rattle.mp4_codec.specs.declared.box_type.BoxType.TheVariants.{TfhdBox as tfhd, TfdtBox as tfdt, TrunBox as trun}
 use Rattle.mp4_codec.specs.BoxType.{box_type}
 use Rattle.mp4_codec.specs.Boxes.{no_refusal}
-use Rattle.mp4_codec.specs.Framing.{IsSpellable}
+use Rattle.mp4_codec.specs.Framing.{IsEncodable}
 use Rattle.mp4_codec.specs.WrittenParts.{Kind}
 use Rattle.mp4_frag.specs.declared.mehd.MehdBox.{MehdBox}
-use Rattle.mp4_frag.specs.Mehd.{mehd_of, mehd_payload, mehd_refusal, IsInRangeMehd, RemarksMehd}
+use Rattle.mp4_frag.specs.Mehd.{mehd_of, mehd_payload, mehd_refusal, IsInRangeMehd, IsWellFormedMehd}
 use Rattle.mp4_frag.specs.MehdLaws.{mehd_again}
 use Rattle.mp4_frag.specs.declared.trex.TrexBox.{TrexBox}
-use Rattle.mp4_frag.specs.Trex.{trex_of, trex_payload, IsInRangeTrex, RemarksTrex}
+use Rattle.mp4_frag.specs.Trex.{trex_of, trex_payload, IsInRangeTrex, IsWellFormedTrex}
 use Rattle.mp4_frag.specs.TrexLaws.{trex_again}
 use Rattle.mp4_frag.specs.declared.mfhd.MfhdBox.{MfhdBox}
-use Rattle.mp4_frag.specs.Mfhd.{mfhd_of, mfhd_payload, IsInRangeMfhd, RemarksMfhd}
+use Rattle.mp4_frag.specs.Mfhd.{mfhd_of, mfhd_payload, IsInRangeMfhd, IsWellFormedMfhd}
 use Rattle.mp4_frag.specs.MfhdLaws.{mfhd_again}
 use Rattle.mp4_frag.specs.declared.tfhd.TfhdBox.{TfhdBox}
-use Rattle.mp4_frag.specs.Tfhd.{tfhd_of, tfhd_payload, tfhd_refusal, IsInRangeTfhd, RemarksTfhd}
+use Rattle.mp4_frag.specs.Tfhd.{tfhd_of, tfhd_payload, tfhd_refusal, IsInRangeTfhd, IsWellFormedTfhd}
 use Rattle.mp4_frag.specs.TfhdLaws.{tfhd_again}
 use Rattle.mp4_frag.specs.declared.tfdt.TfdtBox.{TfdtBox}
-use Rattle.mp4_frag.specs.Tfdt.{tfdt_of, tfdt_payload, tfdt_refusal, IsInRangeTfdt, RemarksTfdt}
+use Rattle.mp4_frag.specs.Tfdt.{tfdt_of, tfdt_payload, tfdt_refusal, IsInRangeTfdt, IsWellFormedTfdt}
 use Rattle.mp4_frag.specs.TfdtLaws.{tfdt_again}
 use Rattle.mp4_frag.specs.declared.trun.TrunBox.{TrunBox}
-use Rattle.mp4_frag.specs.Trun.{trun_of, trun_payload, trun_refusal, IsInRangeTrun, RemarksTrun}
+use Rattle.mp4_frag.specs.Trun.{trun_of, trun_payload, trun_refusal, IsInRangeTrun, IsWellFormedTrun}
 use Rattle.mp4_frag.specs.TrunLaws.{trun_again}
 
-pub spellable_mehd : IsSpellable mehd
+pub encodable_mehd : IsEncodable mehd
 unfolding box_type
-spellable_mehd = record { named = refl; code = lit< tt }
+encodable_mehd = record { named = refl; code = lit< tt }
 
 abbrev pub mehd_kind : Kind MehdBox
 mehd_kind = record {
@@ -36,14 +36,14 @@ mehd_kind = record {
   value = mehd_of;
   refusal = mehd_refusal;
   IsInRange = IsInRangeMehd;
-  Remarks = RemarksMehd;
-  spellable = spellable_mehd;
+  IsWellFormed = IsWellFormedMehd;
+  encodable = encodable_mehd;
   again = mehd_again;
 }
 
-pub spellable_trex : IsSpellable trex
+pub encodable_trex : IsEncodable trex
 unfolding box_type
-spellable_trex = record { named = refl; code = lit< tt }
+encodable_trex = record { named = refl; code = lit< tt }
 
 abbrev pub trex_kind : Kind TrexBox
 trex_kind = record {
@@ -52,14 +52,14 @@ trex_kind = record {
   value = trex_of;
   refusal = no_refusal;
   IsInRange = IsInRangeTrex;
-  Remarks = RemarksTrex;
-  spellable = spellable_trex;
+  IsWellFormed = IsWellFormedTrex;
+  encodable = encodable_trex;
   again = trex_again;
 }
 
-pub spellable_mfhd : IsSpellable mfhd
+pub encodable_mfhd : IsEncodable mfhd
 unfolding box_type
-spellable_mfhd = record { named = refl; code = lit< tt }
+encodable_mfhd = record { named = refl; code = lit< tt }
 
 abbrev pub mfhd_kind : Kind MfhdBox
 mfhd_kind = record {
@@ -68,14 +68,14 @@ mfhd_kind = record {
   value = mfhd_of;
   refusal = no_refusal;
   IsInRange = IsInRangeMfhd;
-  Remarks = RemarksMfhd;
-  spellable = spellable_mfhd;
+  IsWellFormed = IsWellFormedMfhd;
+  encodable = encodable_mfhd;
   again = mfhd_again;
 }
 
-pub spellable_tfhd : IsSpellable tfhd
+pub encodable_tfhd : IsEncodable tfhd
 unfolding box_type
-spellable_tfhd = record { named = refl; code = lit< tt }
+encodable_tfhd = record { named = refl; code = lit< tt }
 
 abbrev pub tfhd_kind : Kind TfhdBox
 tfhd_kind = record {
@@ -84,14 +84,14 @@ tfhd_kind = record {
   value = tfhd_of;
   refusal = tfhd_refusal;
   IsInRange = IsInRangeTfhd;
-  Remarks = RemarksTfhd;
-  spellable = spellable_tfhd;
+  IsWellFormed = IsWellFormedTfhd;
+  encodable = encodable_tfhd;
   again = tfhd_again;
 }
 
-pub spellable_tfdt : IsSpellable tfdt
+pub encodable_tfdt : IsEncodable tfdt
 unfolding box_type
-spellable_tfdt = record { named = refl; code = lit< tt }
+encodable_tfdt = record { named = refl; code = lit< tt }
 
 abbrev pub tfdt_kind : Kind TfdtBox
 tfdt_kind = record {
@@ -100,14 +100,14 @@ tfdt_kind = record {
   value = tfdt_of;
   refusal = tfdt_refusal;
   IsInRange = IsInRangeTfdt;
-  Remarks = RemarksTfdt;
-  spellable = spellable_tfdt;
+  IsWellFormed = IsWellFormedTfdt;
+  encodable = encodable_tfdt;
   again = tfdt_again;
 }
 
-pub spellable_trun : IsSpellable trun
+pub encodable_trun : IsEncodable trun
 unfolding box_type
-spellable_trun = record { named = refl; code = lit< tt }
+encodable_trun = record { named = refl; code = lit< tt }
 
 abbrev pub trun_kind : Kind TrunBox
 trun_kind = record {
@@ -116,7 +116,7 @@ trun_kind = record {
   value = trun_of;
   refusal = trun_refusal;
   IsInRange = IsInRangeTrun;
-  Remarks = RemarksTrun;
-  spellable = spellable_trun;
+  IsWellFormed = IsWellFormedTrun;
+  encodable = encodable_trun;
   again = trun_again;
 }

@@ -4,12 +4,12 @@ use Rattle.std.specs.List.{AllByRecursion}
 use Rattle.mp4_codec.specs.declared.box_type.BoxType.TheVariants.{MfhdBox as mfhd, TrafBox as traf}
 use Rattle.mp4_codec.specs.Cause.{Cause, ◌>>=◌, ◌or◌}
 use Rattle.mp4_codec.specs.Bytes.{◌⧺◌}
-use Rattle.mp4_codec.specs.Boxes.{frame, all_frames, all_refusal, IsCanonical}
+use Rattle.mp4_codec.specs.Boxes.{box_bytes, all_box_bytes, all_refusal, IsCanonical}
 use Rattle.mp4_codec.specs.Early.{Early, early_gathered, early_last, early_next, at_once, ◌and_then◌}
 use Rattle.mp4_codec.specs.Children.{ChildBox, children, gathered, fault_in, last_of, all_of, with_last, with_next}
 use Rattle.mp4_codec.specs.Children.{needed}
-use Rattle.mp4_frag.specs.Mfhd.{mfhd_of, mfhd_payload, IsInRangeMfhd, RemarksMfhd, default_mfhd}
-use Rattle.mp4_moof.specs.Traf.{traf_of, traf_early, traf_payload, traf_refusal, IsInRangeTraf, RemarksTraf}
+use Rattle.mp4_frag.specs.Mfhd.{mfhd_of, mfhd_payload, IsInRangeMfhd, IsWellFormedMfhd, default_mfhd}
+use Rattle.mp4_moof.specs.Traf.{traf_of, traf_early, traf_payload, traf_refusal, IsInRangeTraf, IsWellFormedTraf}
 use Rattle.mp4_moof.specs.declared.moof.MoofBox.{MoofBox}
 use Rattle.mp4_moof.specs.declared.moof.MoofParts.{MoofParts}
 
@@ -47,7 +47,7 @@ moof_early payload = early_gathered moof_child_early (children payload) and_then
 
 -- the payload that holds a movie fragment
 unfoldable pub moof_payload : MoofBox → List ℕ
-moof_payload b = frame mfhd (mfhd_payload b.mfhd) ⧺ all_frames traf traf_payload b.trafs
+moof_payload b = box_bytes mfhd (mfhd_payload b.mfhd) ⧺ all_box_bytes traf traf_payload b.trafs
 
 -- why a movie fragment is not written: the first refusal in written order
 unfoldable pub moof_refusal : MoofBox → Option Cause
@@ -58,14 +58,14 @@ pub record IsInRangeMoof (b : MoofBox) : Type 0 where
   pub mfhd : IsInRangeMfhd b.mfhd
   pub trafs : AllByRecursion IsInRangeTraf b.trafs
 
--- the remarks of its children
-pub record RemarksMoof (b : MoofBox) : Type 0 where
-  pub mfhd : RemarksMfhd b.mfhd
-  pub trafs : AllByRecursion RemarksTraf b.trafs
+-- its children are well-formed
+pub record IsWellFormedMoof (b : MoofBox) : Type 0 where
+  pub mfhd : IsWellFormedMfhd b.mfhd
+  pub trafs : AllByRecursion IsWellFormedTraf b.trafs
 
 -- a movie fragment that is written and reads back equal
 abbrev pub IsCanonicalMoof : MoofBox → Type 0
-IsCanonicalMoof = IsCanonical IsInRangeMoof RemarksMoof moof_payload moof_refusal
+IsCanonicalMoof = IsCanonical IsInRangeMoof IsWellFormedMoof moof_payload moof_refusal
 
 -- a movie fragment of a default header, without samples
 abbrev pub default_moof : MoofBox

@@ -2,7 +2,7 @@
 use Rattle.std.proofs.Common.{◌≡◌, ◌^◌, List, [], ◌∷◌, ◌++◌, Some, Ok, refl, arith}
 use Rattle.mp4_codec.specs.declared.box_type.BoxType.TheVariants.{MfhdBox as mfhd, TrafBox as traf}
 use Rattle.mp4_codec.specs.Cause.{unless}
-use Rattle.mp4_codec.specs.Boxes.{frame, all_frames}
+use Rattle.mp4_codec.specs.Boxes.{box_bytes, all_box_bytes}
 use Rattle.mp4_codec.specs.Children.{ChildBox, fault_in}
 use Rattle.mp4_codec.specs.GatherLaws.{unless-then, with_last-last_of, all_children-adds}
 use Rattle.mp4_codec.specs.WriteLaws.{is_written}
@@ -29,18 +29,18 @@ groups b = (mfhd, payloads mfhd_payload (b.mfhd ∷ []))
     ∷ (traf, payloads traf_payload b.trafs) ∷ []
 
 record Parts (b : MoofBox) : Type 0 where
-  mfhd : Part mfhd_kind (frame mfhd (mfhd_payload b.mfhd)) (b.mfhd ∷ [])
-  trafs : Part traf_kind (all_frames traf traf_payload b.trafs) b.trafs
+  mfhd : Part mfhd_kind (box_bytes mfhd (mfhd_payload b.mfhd)) (b.mfhd ∷ [])
+  trafs : Part traf_kind (all_box_bytes traf traf_payload b.trafs) b.trafs
 
 parts : (b : MoofBox) → IsCanonicalMoof b → Parts b
 unfolding moof_payload moof_refusal
 parts b f =
     let written = is_written (moof_payload b) (moof_refusal b) f.written in
-    let behind_mfhd = all_frames traf traf_payload b.trafs in
-    let mfhd_fits = both_fit (frame mfhd (mfhd_payload b.mfhd)) behind_mfhd (2 ^ 32) (omega (arith, written.small)) in
+    let behind_mfhd = all_box_bytes traf traf_payload b.trafs in
+    let mfhd_fits = both_fit (box_bytes mfhd (mfhd_payload b.mfhd)) behind_mfhd (2 ^ 32) (omega (arith, written.small)) in
     record {
-      mfhd = required_part mfhd_kind b.mfhd f.in_range.mfhd f.remarks.mfhd refl mfhd_fits.0;
-      trafs = list_part traf_kind b.trafs f.in_range.trafs f.remarks.trafs written.sound mfhd_fits.1;
+      mfhd = required_part mfhd_kind b.mfhd f.in_range.mfhd f.well_formed.mfhd refl mfhd_fits.0;
+      trafs = list_part traf_kind b.trafs f.in_range.trafs f.well_formed.trafs written.sound mfhd_fits.1;
     }
 
 pub moof_again : (b : MoofBox) → IsCanonicalMoof b → moof_of (moof_payload b) ≡ Ok b

@@ -4,12 +4,12 @@ use Rattle.std.specs.List.{AllByRecursion}
 use Rattle.mp4_codec.specs.declared.box_type.BoxType.TheVariants.{MehdBox as mehd, TrexBox as trex}
 use Rattle.mp4_codec.specs.Cause.{Cause, ◌>>=◌, ◌or◌}
 use Rattle.mp4_codec.specs.Bytes.{◌⧺◌}
-use Rattle.mp4_codec.specs.Boxes.{optional, optional_refusal, all_frames, IsCanonical}
+use Rattle.mp4_codec.specs.Boxes.{optional, optional_refusal, all_box_bytes, IsCanonical}
 use Rattle.mp4_codec.specs.Early.{Early, early_gathered, early_last, early_next, at_once, ◌and_then◌}
 use Rattle.mp4_codec.specs.Children.{ChildBox, children, gathered, fault_in, last_of, all_of, with_last, with_next}
 use Rattle.mp4_codec.specs.Children.{some_needed}
-use Rattle.mp4_frag.specs.Mehd.{mehd_of, mehd_payload, mehd_refusal, IsInRangeMehd, RemarksMehd}
-use Rattle.mp4_frag.specs.Trex.{trex_of, trex_payload, IsInRangeTrex, RemarksTrex}
+use Rattle.mp4_frag.specs.Mehd.{mehd_of, mehd_payload, mehd_refusal, IsInRangeMehd, IsWellFormedMehd}
+use Rattle.mp4_frag.specs.Trex.{trex_of, trex_payload, IsInRangeTrex, IsWellFormedTrex}
 use Rattle.mp4_moof.specs.declared.mvex.MvexBox.{MvexBox}
 use Rattle.mp4_moof.specs.declared.mvex.MvexParts.{MvexParts}
 
@@ -47,7 +47,7 @@ mvex_early payload = early_gathered mvex_child_early (children payload) and_then
 
 -- the payload that holds the box
 unfoldable pub mvex_payload : MvexBox → List ℕ
-mvex_payload b = optional mehd mehd_payload b.mehd ⧺ all_frames trex trex_payload b.trexs
+mvex_payload b = optional mehd mehd_payload b.mehd ⧺ all_box_bytes trex trex_payload b.trexs
 
 -- why the box is not written: the first refusal in written order
 unfoldable pub mvex_refusal : MvexBox → Option Cause
@@ -58,15 +58,15 @@ pub record IsInRangeMvex (b : MvexBox) : Type 0 where
   pub mehd : IfSome b.mehd IsInRangeMehd
   pub trexs : AllByRecursion IsInRangeTrex b.trexs
 
--- the remarks of its children; the defaults of a track are there
-pub record RemarksMvex (b : MvexBox) : Type 0 where
-  pub mehd : IfSome b.mehd RemarksMehd
-  pub trexs : AllByRecursion RemarksTrex b.trexs
+-- its children are well-formed; the defaults of a track are there
+pub record IsWellFormedMvex (b : MvexBox) : Type 0 where
+  pub mehd : IfSome b.mehd IsWellFormedMehd
+  pub trexs : AllByRecursion IsWellFormedTrex b.trexs
   pub some : b.trexs ≡ [] → ⊥
 
 -- the box that is written and reads back equal
 abbrev pub IsCanonicalMvex : MvexBox → Type 0
-IsCanonicalMvex = IsCanonical IsInRangeMvex RemarksMvex mvex_payload mvex_refusal
+IsCanonicalMvex = IsCanonical IsInRangeMvex IsWellFormedMvex mvex_payload mvex_refusal
 
 -- without a header and without defaults
 abbrev pub default_mvex : MvexBox

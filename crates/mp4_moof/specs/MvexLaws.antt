@@ -4,9 +4,9 @@ use Rattle.std.specs.Option.{option_to_list}
 use Rattle.std.proofs.Common.{lit<}
 use Rattle.mp4_codec.specs.declared.box_type.BoxType.TheVariants.{MehdBox as mehd, TrexBox as trex, MvexBox as mvex}
 use Rattle.mp4_codec.specs.BoxType.{box_type}
-use Rattle.mp4_codec.specs.Framing.{IsSpellable}
+use Rattle.mp4_codec.specs.Framing.{IsEncodable}
 use Rattle.mp4_codec.specs.Cause.{unless}
-use Rattle.mp4_codec.specs.Boxes.{optional, all_frames}
+use Rattle.mp4_codec.specs.Boxes.{optional, all_box_bytes}
 use Rattle.mp4_codec.specs.Children.{ChildBox, fault_in}
 use Rattle.mp4_codec.specs.GatherLaws.{unless-then, with_last-last_of, all_children-adds}
 use Rattle.mp4_codec.specs.WriteLaws.{is_written}
@@ -18,7 +18,7 @@ use Rattle.mp4_frag.specs.Trex.{trex_of, trex_payload}
 use Rattle.mp4_moof.specs.declared.mvex.MvexBox.{MvexBox}
 use Rattle.mp4_moof.specs.FragmentKinds.{mehd_kind, trex_kind}
 use Rattle.mp4_moof.specs.Mvex.{mvex_fault, mvex_taken, mvex_added, mvex_of, mvex_payload, mvex_refusal}
-use Rattle.mp4_moof.specs.Mvex.{IsInRangeMvex, RemarksMvex, IsCanonicalMvex}
+use Rattle.mp4_moof.specs.Mvex.{IsInRangeMvex, IsWellFormedMvex, IsCanonicalMvex}
 
 pub mvex_adds : (cs : List ChildBox) (c : ChildBox)
     → mvex_added (mvex_taken cs) c ≡ unless (mvex_fault c) (Ok (mvex_taken (cs ++ c ∷ [])))
@@ -34,17 +34,17 @@ groups b = (mehd, payloads mehd_payload (option_to_list b.mehd))
 
 record Parts (b : MvexBox) : Type 0 where
   mehd : Part mehd_kind (optional mehd mehd_payload b.mehd) (option_to_list b.mehd)
-  trexs : Part trex_kind (all_frames trex trex_payload b.trexs) b.trexs
+  trexs : Part trex_kind (all_box_bytes trex trex_payload b.trexs) b.trexs
 
 parts : (b : MvexBox) → IsCanonicalMvex b → Parts b
 unfolding mvex_payload mvex_refusal
 parts b f =
     let written = is_written (mvex_payload b) (mvex_refusal b) f.written in
-    let behind_mehd = all_frames trex trex_payload b.trexs in
+    let behind_mehd = all_box_bytes trex trex_payload b.trexs in
     let mehd_fits = both_fit (optional mehd mehd_payload b.mehd) behind_mehd (2 ^ 32) (omega (arith, written.small)) in
     record {
-      mehd = optional_part mehd_kind b.mehd f.in_range.mehd f.remarks.mehd written.sound mehd_fits.0;
-      trexs = list_part trex_kind b.trexs f.in_range.trexs f.remarks.trexs (none_refuse b.trexs) mehd_fits.1;
+      mehd = optional_part mehd_kind b.mehd f.in_range.mehd f.well_formed.mehd written.sound mehd_fits.0;
+      trexs = list_part trex_kind b.trexs f.in_range.trexs f.well_formed.trexs (none_refuse b.trexs) mehd_fits.1;
     }
 
 pub mvex_again : (b : MvexBox) → IsCanonicalMvex b → mvex_of (mvex_payload b) ≡ Ok b
@@ -58,12 +58,12 @@ mvex_again b f =
       gathered-written mvex_taken written,
       last_of-part mehd_kind b.mehd (groups b) p.mehd refl,
       all_of-part trex_kind b.trexs (groups b) p.trexs refl,
-      some_needed-again trex b.trexs f.remarks.some,
+      some_needed-again trex b.trexs f.well_formed.some,
     ) refl
 
-pub spellable_mvex : IsSpellable mvex
+pub encodable_mvex : IsEncodable mvex
 unfolding box_type
-spellable_mvex = record { named = refl; code = lit< tt }
+encodable_mvex = record { named = refl; code = lit< tt }
 
 abbrev pub mvex_kind : Kind MvexBox
 mvex_kind = record {
@@ -72,7 +72,7 @@ mvex_kind = record {
   value = mvex_of;
   refusal = mvex_refusal;
   IsInRange = IsInRangeMvex;
-  Remarks = RemarksMvex;
-  spellable = spellable_mvex;
+  IsWellFormed = IsWellFormedMvex;
+  encodable = encodable_mvex;
   again = mvex_again;
 }

@@ -4,13 +4,13 @@ use Rattle.std.specs.List.{AllByRecursion}
 use Rattle.mp4_codec.specs.declared.box_type.BoxType.TheVariants.{TfhdBox as tfhd, TfdtBox as tfdt, TrunBox as trun}
 use Rattle.mp4_codec.specs.Cause.{Cause, ◌>>=◌, ◌or◌}
 use Rattle.mp4_codec.specs.Bytes.{◌⧺◌}
-use Rattle.mp4_codec.specs.Boxes.{frame, optional, optional_refusal, all_frames, all_refusal, IsCanonical}
+use Rattle.mp4_codec.specs.Boxes.{box_bytes, optional, optional_refusal, all_box_bytes, all_refusal, IsCanonical}
 use Rattle.mp4_codec.specs.Early.{Early, early_gathered, early_last, early_next, at_once, refused_at_once, ◌and_then◌}
 use Rattle.mp4_codec.specs.Children.{ChildBox, children, gathered, fault_in, last_of, all_of, with_last, with_next}
 use Rattle.mp4_codec.specs.Children.{needed}
-use Rattle.mp4_frag.specs.Tfhd.{tfhd_of, tfhd_payload, tfhd_refusal, IsInRangeTfhd, RemarksTfhd, default_tfhd}
-use Rattle.mp4_frag.specs.Tfdt.{tfdt_of, tfdt_payload, tfdt_refusal, IsInRangeTfdt, RemarksTfdt}
-use Rattle.mp4_frag.specs.Trun.{trun_of, trun_payload, trun_refusal, IsInRangeTrun, RemarksTrun}
+use Rattle.mp4_frag.specs.Tfhd.{tfhd_of, tfhd_payload, tfhd_refusal, IsInRangeTfhd, IsWellFormedTfhd, default_tfhd}
+use Rattle.mp4_frag.specs.Tfdt.{tfdt_of, tfdt_payload, tfdt_refusal, IsInRangeTfdt, IsWellFormedTfdt}
+use Rattle.mp4_frag.specs.Trun.{trun_of, trun_payload, trun_refusal, IsInRangeTrun, IsWellFormedTrun}
 use Rattle.mp4_moof.specs.declared.traf.TrafBox.{TrafBox}
 use Rattle.mp4_moof.specs.declared.traf.TrafParts.{TrafParts}
 
@@ -55,9 +55,9 @@ traf_early payload = early_gathered traf_child_early (children payload) and_then
 -- the payload that holds a fragment
 unfoldable pub traf_payload : TrafBox → List ℕ
 traf_payload b =
-    frame tfhd (tfhd_payload b.tfhd)
+    box_bytes tfhd (tfhd_payload b.tfhd)
     ⧺ optional tfdt tfdt_payload b.tfdt
-    ⧺ all_frames trun trun_payload b.truns
+    ⧺ all_box_bytes trun trun_payload b.truns
 
 -- why a fragment is not written: the first refusal in written order
 unfoldable pub traf_refusal : TrafBox → Option Cause
@@ -69,15 +69,15 @@ pub record IsInRangeTraf (b : TrafBox) : Type 0 where
   pub tfdt : IfSome b.tfdt IsInRangeTfdt
   pub truns : AllByRecursion IsInRangeTrun b.truns
 
--- the remarks of its children
-pub record RemarksTraf (b : TrafBox) : Type 0 where
-  pub tfhd : RemarksTfhd b.tfhd
-  pub tfdt : IfSome b.tfdt RemarksTfdt
-  pub truns : AllByRecursion RemarksTrun b.truns
+-- its children are well-formed
+pub record IsWellFormedTraf (b : TrafBox) : Type 0 where
+  pub tfhd : IsWellFormedTfhd b.tfhd
+  pub tfdt : IfSome b.tfdt IsWellFormedTfdt
+  pub truns : AllByRecursion IsWellFormedTrun b.truns
 
 -- a fragment that is written and reads back equal
 abbrev pub IsCanonicalTraf : TrafBox → Type 0
-IsCanonicalTraf = IsCanonical IsInRangeTraf RemarksTraf traf_payload traf_refusal
+IsCanonicalTraf = IsCanonical IsInRangeTraf IsWellFormedTraf traf_payload traf_refusal
 
 -- a fragment of a default header, without samples
 abbrev pub default_traf : TrafBox

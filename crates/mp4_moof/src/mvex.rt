@@ -7,7 +7,7 @@ ghost use Rattle.std.specs.Prelude.{◌≡◌, Ok};
 ghost use Rattle.mp4_codec.specs.declared.box_type.BoxType.TheVariants.{MvexBox as mvex};
 ghost use Rattle.mp4_codec.specs.Cause.{Gives};
 ghost use Rattle.mp4_codec.specs.Boxes.{size_around};
-ghost use Rattle.mp4_moof.specs.Mvex.{mvex_payload, default_mvex, mvex_fault, mvex_child_early, mvex_taken, mvex_added, mvex_of, mvex_early, mvex_refusal, IsInRangeMvex, RemarksMvex};
+ghost use Rattle.mp4_moof.specs.Mvex.{mvex_payload, default_mvex, mvex_fault, mvex_child_early, mvex_taken, mvex_added, mvex_of, mvex_early, mvex_refusal, IsInRangeMvex, IsWellFormedMvex};
 ghost use Rattle.mp4_moof.specs.MvexLaws.{mvex_adds, mvex_again};
 
 use mp4_codec::{
@@ -144,7 +144,7 @@ impl ReadBox for MvexBox {
 impl WriteBox for MvexBox {
     ghost refusal = { mvex_refusal };
 
-    ghost Remarks = { RemarksMvex };
+    ghost IsWellFormed = { IsWellFormedMvex };
 
     ghost reads_back = { mvex_again };
 

@@ -8,7 +8,7 @@ ghost use Rattle.std.specs.Prelude.{◌≡◌, Ok};
 ghost use Rattle.mp4_codec.specs.declared.box_type.BoxType.TheVariants.{TrafBox as traf};
 ghost use Rattle.mp4_codec.specs.Cause.{Gives};
 ghost use Rattle.mp4_codec.specs.Boxes.{size_around};
-ghost use Rattle.mp4_moof.specs.Traf.{traf_payload, default_traf, traf_fault, traf_child_early, traf_taken, traf_added, traf_of, traf_early, traf_refusal, IsInRangeTraf, RemarksTraf};
+ghost use Rattle.mp4_moof.specs.Traf.{traf_payload, default_traf, traf_fault, traf_child_early, traf_taken, traf_added, traf_of, traf_early, traf_refusal, IsInRangeTraf, IsWellFormedTraf};
 ghost use Rattle.mp4_moof.specs.TrafLaws.{traf_adds, traf_again};
 
 use mp4_codec::{
@@ -156,7 +156,7 @@ impl ReadBox for TrafBox {
 impl WriteBox for TrafBox {
     ghost refusal = { traf_refusal };
 
-    ghost Remarks = { RemarksTraf };
+    ghost IsWellFormed = { IsWellFormedTraf };
 
     ghost reads_back = { traf_again };
 

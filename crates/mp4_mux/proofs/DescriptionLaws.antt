@@ -6,7 +6,7 @@ use Rattle.std.proofs.lemmas.Bool.{le-ltb}
 use Rattle.std.proofs.lemmas.Option.{unwrap_or-slice_get}
 use Rattle.mp4_codec.specs.declared.box_type.BoxType.TheVariants.{Mp4aBox as mp4a}
 use Rattle.mp4_codec.specs.Cause.{◌or◌}
-use Rattle.mp4_codec.specs.FramingLaws.{length-frame}
+use Rattle.mp4_codec.specs.FramingLaws.{length-box_bytes}
 use Rattle.mp4_codec.specs.WriteLaws.{is_written, or_parts}
 use Rattle.mp4_entry.specs.declared.config.MediaConfig.{MediaConfig}
 use Rattle.mp4_entry.specs.declared.config.MediaConfig.TheVariants.{AvcConfig as Avc, HevcConfig as Hevc}
@@ -38,7 +38,7 @@ use Rattle.mp4_entry.specs.Mp4a.{IsInRangeAacConfig}
 use Rattle.mp4_entry.specs.Mp4aLaws.{length-mp4a_payload}
 use Rattle.mp4_entry.specs.Config.{media_refusal, IsInRangeMediaConfig, entry_length}
 use Rattle.mp4_entry.proofs.ConfigLaws.{length-stsd_of_config, media_written}
-use Rattle.mp4_entry.specs.Stsd.{stsd_payload, stsd_refusal, stsd_of_config, IsInRangeStsd, RemarksStsd}
+use Rattle.mp4_entry.specs.Stsd.{stsd_payload, stsd_refusal, stsd_of_config, IsInRangeStsd, IsWellFormedStsd}
 use Rattle.mp4_entry.specs.StsdLaws.{length-stsd_payload}
 use Rattle.mp4_mux.specs.declared.sample_info.SampleInfo.{SampleInfo}
 use Rattle.mp4_mux.specs.Description.{buffer_size, mp4a_with, stsd_for}
@@ -50,7 +50,7 @@ buffer_size-small ss = omega arith
 -- the size of a buffer doesn't change the length of an entry
 
 length-mp4a_with : (size : ℕ) (c : AacConfig) → 8 + length (mp4a_payload (mp4a_with size c)) ≡ 75
-length-mp4a_with size c = simp (length-mp4a_payload, length-frame, length-esds_payload) refl
+length-mp4a_with size c = simp (length-mp4a_payload, length-box_bytes, length-esds_payload) refl
 
 pub length-stsd_for : (media : MediaConfig) (ss : List SampleInfo)
     → length (stsd_payload (stsd_for media ss)) ≡ 8 + entry_length media
@@ -61,7 +61,7 @@ length-stsd_for (Aac c) ss =
     omega (
       arith,
       length-stsd_payload (stsd_for (Aac c) ss),
-      length-frame mp4a (mp4a_payload (mp4a_with (buffer_size ss) c)),
+      length-box_bytes mp4a (mp4a_payload (mp4a_with (buffer_size ss) c)),
       length-mp4a_with (buffer_size ss) c,
     )
 length-stsd_for (Ttxt c) ss = length-stsd_of_config (Ttxt c)
@@ -190,9 +190,9 @@ stsd_for-in_range (Ttxt c) ss h =
 
 -- and it has the one entry that it is written with
 
-pub stsd_for-remarks : (media : MediaConfig) (ss : List SampleInfo) → RemarksStsd (stsd_for media ss)
-stsd_for-remarks (Avc c) ss = record { flags = lit< tt; entry = tt; only = refl }
-stsd_for-remarks (Hevc c) ss = record { flags = lit< tt; entry = tt; only = refl }
-stsd_for-remarks (Vp9 c) ss = record { flags = lit< tt; entry = tt; only = refl }
-stsd_for-remarks (Aac c) ss = record { flags = lit< tt; entry = lit< tt; only = refl }
-stsd_for-remarks (Ttxt c) ss = record { flags = lit< tt; entry = tt; only = refl }
+pub stsd_for-well_formed : (media : MediaConfig) (ss : List SampleInfo) → IsWellFormedStsd (stsd_for media ss)
+stsd_for-well_formed (Avc c) ss = record { flags = lit< tt; entry = tt; only = refl }
+stsd_for-well_formed (Hevc c) ss = record { flags = lit< tt; entry = tt; only = refl }
+stsd_for-well_formed (Vp9 c) ss = record { flags = lit< tt; entry = tt; only = refl }
+stsd_for-well_formed (Aac c) ss = record { flags = lit< tt; entry = lit< tt; only = refl }
+stsd_for-well_formed (Ttxt c) ss = record { flags = lit< tt; entry = tt; only = refl }

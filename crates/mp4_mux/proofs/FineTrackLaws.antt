@@ -1,29 +1,29 @@
--- The box of a fine track has its numbers within their types and the remarks of its layout, and is not refused.
+-- The box of a fine track has its numbers within their types, is well-formed, and is not refused.
 use Rattle.std.proofs.Common.{◌≡◌, ℕ, ◌-◌, ◌^◌, ◌≤◌, ◌<◌, List, length}
 use Rattle.std.proofs.Common.{None, arith, lit<}
 use Rattle.std.specs.List.{All, sum}
 use Rattle.std.proofs.lemmas.List.Elements.{All-map}
 use Rattle.std.proofs.lemmas.List.Sums.{sum_by-le, sum-map}
-use Rattle.mp4_leaf.specs.Dinf.{IsInRangeDinf, RemarksDinf, default_dinf}
-use Rattle.mp4_boxes.specs.Trak.{trak_refusal, IsInRangeTrak, RemarksTrak}
-use Rattle.mp4_boxes.specs.Mdia.{mdia_refusal, IsInRangeMdia, RemarksMdia}
-use Rattle.mp4_boxes.specs.Minf.{minf_refusal, IsInRangeMinf, RemarksMinf}
-use Rattle.mp4_boxes.specs.Stbl.{stbl_refusal, IsInRangeStbl, RemarksStbl}
+use Rattle.mp4_leaf.specs.Dinf.{IsInRangeDinf, IsWellFormedDinf, default_dinf}
+use Rattle.mp4_boxes.specs.Trak.{trak_refusal, IsInRangeTrak, IsWellFormedTrak}
+use Rattle.mp4_boxes.specs.Mdia.{mdia_refusal, IsInRangeMdia, IsWellFormedMdia}
+use Rattle.mp4_boxes.specs.Minf.{minf_refusal, IsInRangeMinf, IsWellFormedMinf}
+use Rattle.mp4_boxes.specs.Stbl.{stbl_refusal, IsInRangeStbl, IsWellFormedStbl}
 use Rattle.mp4_mux.specs.SampleInfos.{IsInRangeSampleInfo}
 use Rattle.mp4_mux.specs.declared.sample_info.SampleInfo.{SampleInfo}
 use Rattle.mp4_mux.proofs.ConfigLaws.{is_accepted}
 use Rattle.mp4_mux.proofs.SizeTableLaws.{stsz_for-is_not_refused}
 use Rattle.mp4_mux.proofs.TableRangeLaws.{IsInRangeStts-stts_for, IsInRangeCtts-ctts_for}
 use Rattle.mp4_mux.proofs.TableRangeLaws.{IsInRangeStss-stss_for, IsInRangeStsz-stsz_for, IsInRangeStsc-stsc_for}
-use Rattle.mp4_mux.proofs.TableRangeLaws.{IsInRangeStco-stco_for, IsInRangeCo64-co64_for, RemarksStts-stts_for}
-use Rattle.mp4_mux.proofs.TableRangeLaws.{RemarksCtts-ctts_for, RemarksStss-stss_for, RemarksStsz-stsz_for}
-use Rattle.mp4_mux.proofs.TableRangeLaws.{RemarksStsc-stsc_for, RemarksStco-stco_for, RemarksCo64-co64_for}
+use Rattle.mp4_mux.proofs.TableRangeLaws.{IsInRangeStco-stco_for, IsInRangeCo64-co64_for, IsWellFormedStts-stts_for}
+use Rattle.mp4_mux.proofs.TableRangeLaws.{IsWellFormedCtts-ctts_for, IsWellFormedStss-stss_for, IsWellFormedStsz-stsz_for}
+use Rattle.mp4_mux.proofs.TableRangeLaws.{IsWellFormedStsc-stsc_for, IsWellFormedStco-stco_for, IsWellFormedCo64-co64_for}
 use Rattle.mp4_mux.proofs.TableRangeLaws.{HasPlaces-stco_for-co64_for}
 use Rattle.mp4_mux.specs.TrackHeaders.{FinishedTrack, PlacedChunk, media_duration}
 use Rattle.mp4_mux.proofs.TrackHeaderLaws.{tkhd_for-in_range, tkhd_for-sound, mdhd_for-in_range, mdhd_for-sound}
-use Rattle.mp4_mux.proofs.TrackHeaderLaws.{hdlr_for-in_range, hdlr_for-remarks, vmhd_for-in_range, vmhd_for-remarks}
-use Rattle.mp4_mux.proofs.TrackHeaderLaws.{smhd_for-in_range, smhd_for-remarks}
-use Rattle.mp4_mux.proofs.DescriptionLaws.{stsd_for-in_range, stsd_for-remarks, stsd_for-sound}
+use Rattle.mp4_mux.proofs.TrackHeaderLaws.{hdlr_for-in_range, hdlr_for-well_formed, vmhd_for-in_range, vmhd_for-well_formed}
+use Rattle.mp4_mux.proofs.TrackHeaderLaws.{smhd_for-in_range, smhd_for-well_formed}
+use Rattle.mp4_mux.proofs.DescriptionLaws.{stsd_for-in_range, stsd_for-well_formed, stsd_for-sound}
 use Rattle.mp4_mux.specs.FinishedTrack.{counts_of, offsets_of, stbl_for, minf_for, mdia_for, trak_with, trak_for}
 use Rattle.mp4_mux.proofs.FineTracks.{IsFineTrack}
 
@@ -39,8 +39,8 @@ media_duration-small ss h few =
 dinf-in_range : IsInRangeDinf default_dinf
 dinf-in_range = record { dref = record { version = lit< tt; url = record { version = lit< tt } } }
 
-dinf-remarks : RemarksDinf default_dinf
-dinf-remarks = record { flags = lit< tt; url = record { flags = lit< tt; location = tt } }
+dinf-well_formed : IsWellFormedDinf default_dinf
+dinf-well_formed = record { flags = lit< tt; url = record { flags = lit< tt; location = tt } }
 
 module _ (m : ℕ) (t : FinishedTrack) (h : IsFineTrack m t) where
   some : All (λ n. 1 ≤ n) (counts_of t.chunks)
@@ -66,16 +66,16 @@ module _ (m : ℕ) (t : FinishedTrack) (h : IsFineTrack m t) where
         (All-map (λ o. o < 2 ^ 64) (λ (c : PlacedChunk). c.offset) t.chunks h.offsets);
   }
 
-  stbl-remarks : RemarksStbl (stbl_for t)
-  stbl-remarks = record {
-    stsd = stsd_for-remarks t.config.media_conf t.samples;
-    stts = RemarksStts-stts_for t.samples;
-    ctts = RemarksCtts-ctts_for t.samples;
-    stss = RemarksStss-stss_for t.samples;
-    stsc = RemarksStsc-stsc_for (counts_of t.chunks) some;
-    stsz = RemarksStsz-stsz_for t.samples;
-    stco = RemarksStco-stco_for (offsets_of t.chunks);
-    co64 = RemarksCo64-co64_for (offsets_of t.chunks);
+  stbl-well_formed : IsWellFormedStbl (stbl_for t)
+  stbl-well_formed = record {
+    stsd = stsd_for-well_formed t.config.media_conf t.samples;
+    stts = IsWellFormedStts-stts_for t.samples;
+    ctts = IsWellFormedCtts-ctts_for t.samples;
+    stss = IsWellFormedStss-stss_for t.samples;
+    stsc = IsWellFormedStsc-stsc_for (counts_of t.chunks) some;
+    stsz = IsWellFormedStsz-stsz_for t.samples;
+    stco = IsWellFormedStco-stco_for (offsets_of t.chunks);
+    co64 = IsWellFormedCo64-co64_for (offsets_of t.chunks);
     places = HasPlaces-stco_for-co64_for (offsets_of t.chunks);
   }
 
@@ -87,12 +87,12 @@ module _ (m : ℕ) (t : FinishedTrack) (h : IsFineTrack m t) where
     stbl = stbl-in_range;
   }
 
-  minf-remarks : RemarksMinf (minf_for t)
-  minf-remarks = record {
-    vmhd = vmhd_for-remarks t.config.media_conf;
-    smhd = smhd_for-remarks t.config.media_conf;
-    dinf = dinf-remarks;
-    stbl = stbl-remarks;
+  minf-well_formed : IsWellFormedMinf (minf_for t)
+  minf-well_formed = record {
+    vmhd = vmhd_for-well_formed t.config.media_conf;
+    smhd = smhd_for-well_formed t.config.media_conf;
+    dinf = dinf-well_formed;
+    stbl = stbl-well_formed;
   }
 
   mdia-in_range : IsInRangeMdia (mdia_for (media_duration t.samples) t)
@@ -104,8 +104,8 @@ module _ (m : ℕ) (t : FinishedTrack) (h : IsFineTrack m t) where
     minf = minf-in_range;
   }
 
-  mdia-remarks : RemarksMdia (mdia_for (media_duration t.samples) t)
-  mdia-remarks = record { mdhd = lit< tt; hdlr = hdlr_for-remarks t.config.track_type; minf = minf-remarks }
+  mdia-well_formed : IsWellFormedMdia (mdia_for (media_duration t.samples) t)
+  mdia-well_formed = record { mdhd = lit< tt; hdlr = hdlr_for-well_formed t.config.track_type; minf = minf-well_formed }
 
   -- its numbers are within their types
   pub trak_for-in_range : IsInRangeTrak (trak_for m t)
@@ -117,10 +117,10 @@ module _ (m : ℕ) (t : FinishedTrack) (h : IsFineTrack m t) where
     mdia = mdia-in_range;
   }
 
-  -- it has the remarks of its layout
-  pub trak_for-remarks : RemarksTrak (trak_for m t)
+  -- it is well-formed
+  pub trak_for-well_formed : IsWellFormedTrak (trak_for m t)
   unfolding trak_with
-  trak_for-remarks = record { tkhd = lit< tt; edts = tt; meta = tt; mdia = mdia-remarks }
+  trak_for-well_formed = record { tkhd = lit< tt; edts = tt; meta = tt; mdia = mdia-well_formed }
 
   minf-sound : minf_refusal (minf_for t) ≡ None
   unfolding minf_refusal stbl_refusal

@@ -1,7 +1,7 @@
 -- The box of a track that is written has the length that is counted for it, is written and reads back equal.
 use Rattle.std.proofs.Common.{◌≡◌, ℕ, ◌+◌, List, [], ◌∷◌, length, map, refl, ap, arith}
 use Rattle.mp4_codec.specs.FieldLaws.{length-then}
-use Rattle.mp4_codec.specs.FramingLaws.{length-frame}
+use Rattle.mp4_codec.specs.FramingLaws.{length-box_bytes}
 use Rattle.mp4_leaf.specs.Dinf.{dinf_payload, default_dinf}
 use Rattle.mp4_leaf.specs.DinfLaws.{length-dinf_payload, length-dref_payload, length-url_payload}
 use Rattle.mp4_entry.specs.Config.{entry_length}
@@ -34,17 +34,17 @@ offsets_of-placed id (c ∷ cs) = ap (λ os. c.offset ∷ os) (offsets_of-placed
 length-stbl_for : (t : FinishedTrack) → length (stbl_payload (stbl_for t))
     ≡ 16 + entry_length t.config.media_conf + sample_tables_length t.samples + chunk_tables_length t.chunks
 unfolding stbl_payload sample_tables_length chunk_tables_length
-length-stbl_for t = simp (length-then, length-frame, length-stsd_for) (omega arith)
+length-stbl_for t = simp (length-then, length-box_bytes, length-stsd_for) (omega arith)
 
 length-default_dinf : length (dinf_payload default_dinf) ≡ 28
-length-default_dinf = simp (length-dinf_payload, length-dref_payload, length-frame, length-url_payload) refl
+length-default_dinf = simp (length-dinf_payload, length-dref_payload, length-box_bytes, length-url_payload) refl
 
 length-minf_for : (t : FinishedTrack) → length (minf_payload (minf_for t))
     ≡ 60 + media_header_length t.config.media_conf + entry_length t.config.media_conf
     + sample_tables_length t.samples + chunk_tables_length t.chunks
 unfolding minf_payload
 length-minf_for t =
-    simp (length-then, length-frame, length-default_dinf, length-stbl_for)
+    simp (length-then, length-box_bytes, length-default_dinf, length-stbl_for)
     (omega (arith, length-media_header t.config.media_conf))
 
 length-mdia_for : (duration : ℕ) (t : FinishedTrack) → length (mdia_payload (mdia_for duration t))
@@ -52,7 +52,7 @@ length-mdia_for : (duration : ℕ) (t : FinishedTrack) → length (mdia_payload 
     + sample_tables_length t.samples + chunk_tables_length t.chunks
 unfolding mdia_payload
 length-mdia_for duration t =
-    simp (length-then, length-frame, length-minf_for)
+    simp (length-then, length-box_bytes, length-minf_for)
     (omega (arith, length-mdhd_for duration t.config, length-hdlr_for t.config.track_type))
 
 -- the bytes of the box of a track
@@ -60,5 +60,5 @@ pub length-trak_with : (durations : Durations) (t : FinishedTrack)
     → 8 + length (trak_payload (trak_with durations t)) ≡ trak_length durations t
 unfolding trak_payload trak_with
 length-trak_with durations t =
-    simp (length-then, length-frame, length-mdia_for)
+    simp (length-then, length-box_bytes, length-mdia_for)
     (omega (arith, length-tkhd_for t.id durations.movie t.config.media_conf))

@@ -5,24 +5,24 @@ use Rattle.std.proofs.lemmas.List.{length-append}
 use Rattle.std.proofs.lemmas.List.Elements.{recursion_from_All}
 use Rattle.std.proofs.lemmas.List.Sums.{sum_by-cons}
 use Rattle.mp4_codec.specs.declared.box_type.BoxType.TheVariants.{TrakBox as trak}
-use Rattle.mp4_codec.specs.Boxes.{frame, all_frames, all_refusal, size_cause, write_cause}
+use Rattle.mp4_codec.specs.Boxes.{box_bytes, all_box_bytes, all_refusal, size_cause, write_cause}
 use Rattle.mp4_codec.specs.FieldLaws.{length-then}
-use Rattle.mp4_codec.specs.FramingLaws.{length-frame}
-use Rattle.mp4_boxes.specs.Trak.{trak_payload, trak_refusal, IsInRangeTrak, RemarksTrak}
-use Rattle.mp4_boxes.specs.Moov.{moov_payload, moov_refusal, IsInRangeMoov, RemarksMoov, IsCanonicalMoov}
+use Rattle.mp4_codec.specs.FramingLaws.{length-box_bytes}
+use Rattle.mp4_boxes.specs.Trak.{trak_payload, trak_refusal, IsInRangeTrak, IsWellFormedTrak}
+use Rattle.mp4_boxes.specs.Moov.{moov_payload, moov_refusal, IsInRangeMoov, IsWellFormedMoov, IsCanonicalMoov}
 use Rattle.mp4_mux.specs.TrackHeaders.{FinishedTrack, track_duration, header_length}
 use Rattle.mp4_mux.proofs.TrackHeaderLaws.{length-mvhd_for, mvhd_for-in_range, mvhd_for-sound}
 use Rattle.mp4_mux.specs.FinishedTrack.{trak_for, longest, movie_for}
 use Rattle.mp4_mux.proofs.FineTracks.{IsFineTrack}
-use Rattle.mp4_mux.proofs.FineTrackLaws.{trak_for-in_range, trak_for-remarks, trak_for-sound}
+use Rattle.mp4_mux.proofs.FineTrackLaws.{trak_for-in_range, trak_for-well_formed, trak_for-sound}
 
 -- the bytes of all tracks
-length-traks : (m : ℕ) (ts : List FinishedTrack) → length (all_frames trak trak_payload (map (trak_for m) ts))
+length-traks : (m : ℕ) (ts : List FinishedTrack) → length (all_box_bytes trak trak_payload (map (trak_for m) ts))
     ≡ sum_by (λ (t : FinishedTrack). 8 + length (trak_payload (trak_for m t))) ts
 length-traks m [] = refl
 length-traks m (t ∷ ts) =
-    length-append (frame trak (trak_payload (trak_for m t))) (all_frames trak trak_payload (map (trak_for m) ts))
-    ∙ rw (length-frame trak (trak_payload (trak_for m t)), length-traks m ts)
+    length-append (box_bytes trak (trak_payload (trak_for m t))) (all_box_bytes trak trak_payload (map (trak_for m) ts))
+    ∙ rw (length-box_bytes trak (trak_payload (trak_for m t)), length-traks m ts)
     (rw (sum_by-cons (λ (t : FinishedTrack). 8 + length (trak_payload (trak_for m t))) t ts) refl)
 
 -- the bytes of the movie, but for its own header
@@ -30,7 +30,7 @@ pub length-movie_for : (m : ℕ) (ts : List FinishedTrack) → length (moov_payl
     ≡ header_length 108 (longest m ts) + sum_by (λ (t : FinishedTrack). 8 + length (trak_payload (trak_for m t))) ts
 unfolding moov_payload movie_for
 length-movie_for m ts =
-    simp (length-then, length-frame)
+    simp (length-then, length-box_bytes)
     (omega (arith, length-mvhd_for m (longest m ts), length-traks m ts))
 
 longest-small : (m : ℕ) (ts : List FinishedTrack) (first : ℕ) → first < 2 ^ 64 → AllByRecursion (IsFineTrack m) ts
@@ -46,10 +46,10 @@ traks-in_range : (m : ℕ) (ts : List FinishedTrack) → AllByRecursion (IsFineT
 traks-in_range m [] h = tt
 traks-in_range m (t ∷ ts) h = (trak_for-in_range m t h.0, traks-in_range m ts h.1)
 
-traks-remarks : (m : ℕ) (ts : List FinishedTrack) → AllByRecursion (IsFineTrack m) ts
-    → AllByRecursion RemarksTrak (map (trak_for m) ts)
-traks-remarks m [] h = tt
-traks-remarks m (t ∷ ts) h = (trak_for-remarks m t h.0, traks-remarks m ts h.1)
+traks-well_formed : (m : ℕ) (ts : List FinishedTrack) → AllByRecursion (IsFineTrack m) ts
+    → AllByRecursion IsWellFormedTrak (map (trak_for m) ts)
+traks-well_formed m [] h = tt
+traks-well_formed m (t ∷ ts) h = (trak_for-well_formed m t h.0, traks-well_formed m ts h.1)
 
 traks-sound : (m : ℕ) (ts : List FinishedTrack) → AllByRecursion (IsFineTrack m) ts
     → all_refusal trak_refusal (map (trak_for m) ts) ≡ None
@@ -70,9 +70,9 @@ module _ (m : ℕ) (ts : List FinishedTrack) (ticks : m < 2 ^ 32) (fine : All (I
     udta = tt;
   }
 
-  movie-remarks : RemarksMoov (movie_for m ts)
+  movie-well_formed : IsWellFormedMoov (movie_for m ts)
   unfolding movie_for
-  movie-remarks = record { mvhd = lit< tt; traks = traks-remarks m ts each; mvex = tt; meta = tt; udta = tt }
+  movie-well_formed = record { mvhd = lit< tt; traks = traks-well_formed m ts each; mvex = tt; meta = tt; udta = tt }
 
   -- nothing but its size refuses the movie
   pub movie_for-sound : moov_refusal (movie_for m ts) ≡ None
@@ -87,4 +87,4 @@ module _ (m : ℕ) (ts : List FinishedTrack) (ticks : m < 2 ^ 32) (fine : All (I
     -- and then it reads back equal
     pub movie_for-canonical : IsCanonicalMoov (movie_for m ts)
     movie_for-canonical =
-        record { in_range = movie-in_range; remarks = movie-remarks; written = movie_for-written }
+        record { in_range = movie-in_range; well_formed = movie-well_formed; written = movie_for-written }

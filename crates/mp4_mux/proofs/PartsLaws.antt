@@ -8,7 +8,7 @@ use Rattle.std.proofs.lemmas.List.{take_at as take-exactly, take_all, take-appen
 use Rattle.std.proofs.lemmas.List.{get_or_push, get_or_append_left}
 use Rattle.std.proofs.lemmas.Bool.{cases_lt}
 use Rattle.mp4_codec.specs.declared.box_type.BoxType.TheVariants.{FtypBox as ftyp}
-use Rattle.mp4_codec.specs.Boxes.{frame}
+use Rattle.mp4_codec.specs.Boxes.{box_bytes}
 use Rattle.mp4_leaf.specs.Ftyp.{ftyp_payload}
 use Rattle.mp4_mux.specs.declared.config.Mp4Config.{Mp4Config}
 use Rattle.mp4_mux.specs.declared.config.TrackConfig.{TrackConfig}
@@ -54,7 +54,7 @@ use Rattle.mp4_mux.proofs.StateLaws.{IsOneMore, one_pending, one_chunk}
 
 module _ (front : List ℕ) (config : Mp4Config) where
   abbrev file_type : List ℕ
-  file_type = frame ftyp (ftyp_payload (file_type_of config))
+  file_type = box_bytes ftyp (ftyp_payload (file_type_of config))
 
   front_at_start : take (length front) (bytes_at_start front config) ≡ front
   unfolding with_file_type

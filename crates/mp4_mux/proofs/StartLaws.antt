@@ -22,7 +22,7 @@ pub file_type-canonical : (config : Mp4Config) → IsInRangeConfig config → st
 file_type-canonical config h begun = record {
   in_range =
       record { major_brand = h.major_brand; minor_version = h.minor_version; compatible_brands = h.compatible_brands };
-  remarks = tt;
+  well_formed = tt;
   written = rw begun refl;
 }
 

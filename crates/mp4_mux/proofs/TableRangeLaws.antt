@@ -1,4 +1,4 @@
--- What is known of samples and chunks has room in the tables, and the remarks of the tables' layouts hold.
+-- What is known of samples and chunks has room in the tables, and the tables are well-formed.
 use Rattle.std.proofs.Common.{◌≡◌, ℕ, ◌+◌, ◌-◌, ◌^◌, ◌<◌, ◌≤◌, Bool, true, false, cond, eqb, ltb, List, [], ◌∷◌, length}
 use Rattle.std.proofs.Common.{map, sum, Some, None, arith}
 use Rattle.std.specs.Prelude.{IfSome}
@@ -10,13 +10,13 @@ use Rattle.mp4_table.specs.declared.ctts.CttsBox.{CttsBox}
 use Rattle.mp4_table.specs.declared.stsc.StscEntry.{StscEntry}
 use Rattle.mp4_table.specs.declared.stco.StcoBox.{StcoBox}
 use Rattle.mp4_table.specs.declared.co64.Co64Box.{Co64Box}
-use Rattle.mp4_table.specs.Stts.{IsInRangeSttsEntry, IsInRangeStts, RemarksStts}
-use Rattle.mp4_table.specs.Ctts.{IsInRangeCttsEntry, IsInRangeCtts, RemarksCtts}
-use Rattle.mp4_table.specs.Stss.{IsInRangeStss, RemarksStss}
-use Rattle.mp4_table.specs.Stsc.{IsInRangeStscEntry, IsInRangeStsc, RemarksStsc}
-use Rattle.mp4_table.specs.Stsz.{IsInRangeStsz, RemarksStsz}
-use Rattle.mp4_table.specs.Stco.{IsInRangeStco, RemarksStco}
-use Rattle.mp4_table.specs.Co64.{IsInRangeCo64, RemarksCo64}
+use Rattle.mp4_table.specs.Stts.{IsInRangeSttsEntry, IsInRangeStts, IsWellFormedStts}
+use Rattle.mp4_table.specs.Ctts.{IsInRangeCttsEntry, IsInRangeCtts, IsWellFormedCtts}
+use Rattle.mp4_table.specs.Stss.{IsInRangeStss, IsWellFormedStss}
+use Rattle.mp4_table.specs.Stsc.{IsInRangeStscEntry, IsInRangeStsc, IsWellFormedStsc}
+use Rattle.mp4_table.specs.Stsz.{IsInRangeStsz, IsWellFormedStsz}
+use Rattle.mp4_table.specs.Stco.{IsInRangeStco, IsWellFormedStco}
+use Rattle.mp4_table.specs.Co64.{IsInRangeCo64, IsWellFormedCo64}
 use Rattle.mp4_boxes.specs.Stbl.{HasPlaces}
 use Rattle.mp4_mux.specs.SampleInfos.{IsInRangeSampleInfo}
 use Rattle.mp4_mux.specs.declared.sample_info.SampleInfo.{SampleInfo}
@@ -55,9 +55,9 @@ IsInRangeStts-stts_for ss fit h = record {
       (λ n s le r. record { sample_count = omega (arith, le); sample_delta = r.duration }) ss (omega arith) fit;
 }
 
-pub RemarksStts-stts_for : (ss : List SampleInfo) → RemarksStts (stts_for ss)
+pub IsWellFormedStts-stts_for : (ss : List SampleInfo) → IsWellFormedStts (stts_for ss)
 unfolding stts_for
-RemarksStts-stts_for ss = omega arith
+IsWellFormedStts-stts_for ss = omega arith
 
 pub IsInRangeCtts-ctts_for : (ss : List SampleInfo) → All IsInRangeSampleInfo ss → length ss < 2 ^ 32
     → IfSome (ctts_for ss) IsInRangeCtts
@@ -73,11 +73,11 @@ IsInRangeCtts-ctts_for ss fit h =
           fit;
     })
 
-pub RemarksCtts-ctts_for : (ss : List SampleInfo) → IfSome (ctts_for ss) RemarksCtts
+pub IsWellFormedCtts-ctts_for : (ss : List SampleInfo) → IfSome (ctts_for ss) IsWellFormedCtts
 unfolding ctts_for
-RemarksCtts-ctts_for ss =
+IsWellFormedCtts-ctts_for ss =
     let table : CttsBox = record { version = 0; flags = 0; entries = runs_of same_offset ctts_run ss } in
-    cond_both (are_in_order ss) None (Some table) (λ ctts. IfSome ctts RemarksCtts) (λ _. tt) (λ _. omega arith)
+    cond_both (are_in_order ss) None (Some table) (λ ctts. IfSome ctts IsWellFormedCtts) (λ _. tt) (λ _. omega arith)
 
 pub IsInRangeStss-stss_for : (ss : List SampleInfo) → length ss < 2 ^ 32 → IfSome (stss_for ss) IsInRangeStss
 unfolding stss_for
@@ -90,10 +90,10 @@ IsInRangeStss-stss_for (s ∷ ss) h = record {
       (sync_numbers_from 1 (s ∷ ss)) (sync_numbers_within (s ∷ ss)));
 }
 
-pub RemarksStss-stss_for : (ss : List SampleInfo) → IfSome (stss_for ss) RemarksStss
+pub IsWellFormedStss-stss_for : (ss : List SampleInfo) → IfSome (stss_for ss) IsWellFormedStss
 unfolding stss_for
-RemarksStss-stss_for [] = tt
-RemarksStss-stss_for (s ∷ ss) = omega arith
+IsWellFormedStss-stss_for [] = tt
+IsWellFormedStss-stss_for (s ∷ ss) = omega arith
 
 -- where all sizes fit, one that is all samples' does, and those that are listed do
 one_size_fits : (ss : List SampleInfo) → All IsInRangeSampleInfo ss → one_size ss < 2 ^ 32
@@ -126,9 +126,9 @@ IsInRangeStsz-stsz_for ss fit h = record {
   sample_sizes = listed_sizes_fit ss fit;
 }
 
-pub RemarksStsz-stsz_for : (ss : List SampleInfo) → RemarksStsz (stsz_for ss)
+pub IsWellFormedStsz-stsz_for : (ss : List SampleInfo) → IsWellFormedStsz (stsz_for ss)
 unfolding stsz_for
-RemarksStsz-stsz_for ss = omega arith
+IsWellFormedStsz-stsz_for ss = omega arith
 
 -- chunks have at least as many samples as there are chunks
 pub length-le-sum : (ns : List ℕ) → All (λ n. 1 ≤ n) ns → length ns ≤ sum ns
@@ -178,9 +178,9 @@ IsInRangeStsc-stsc_for ns some h = record {
       chunk_entries_fit 0 1 1 ns some (omega arith) (omega (arith, length-le-sum ns some)) (omega arith);
 }
 
-pub RemarksStsc-stsc_for : (ns : List ℕ) → All (λ n. 1 ≤ n) ns → RemarksStsc (stsc_for ns)
+pub IsWellFormedStsc-stsc_for : (ns : List ℕ) → All (λ n. 1 ≤ n) ns → IsWellFormedStsc (stsc_for ns)
 unfolding stsc_for
-RemarksStsc-stsc_for ns some = record {
+IsWellFormedStsc-stsc_for ns some = record {
   flags = omega arith;
   first_samples = stsc_for-has_first_samples ns some;
 }
@@ -199,11 +199,11 @@ IsInRangeStco-stco_for os =
     cond_both (are_far os) None (Some table) (λ stco. IfSome stco IsInRangeStco) (λ _. tt)
     (λ near. record { version_fits = omega arith; entries_fit = near_fit os near })
 
-pub RemarksStco-stco_for : (os : List ℕ) → IfSome (stco_for os) RemarksStco
+pub IsWellFormedStco-stco_for : (os : List ℕ) → IfSome (stco_for os) IsWellFormedStco
 unfolding stco_for
-RemarksStco-stco_for os =
+IsWellFormedStco-stco_for os =
     let table : StcoBox = record { version = 0; flags = 0; entries = os } in
-    cond_both (are_far os) None (Some table) (λ stco. IfSome stco RemarksStco) (λ _. tt) (λ _. omega arith)
+    cond_both (are_far os) None (Some table) (λ stco. IfSome stco IsWellFormedStco) (λ _. tt) (λ _. omega arith)
 
 pub IsInRangeCo64-co64_for : (os : List ℕ) → All (λ o. o < 2 ^ 64) os → IfSome (co64_for os) IsInRangeCo64
 unfolding co64_for
@@ -212,11 +212,11 @@ IsInRangeCo64-co64_for os fit =
     cond_both (are_far os) (Some table) None (λ co64. IfSome co64 IsInRangeCo64)
     (λ _. record { version_fits = omega arith; entries_fit = recursion_from_All (λ o. o < 2 ^ 64) os fit }) (λ _. tt)
 
-pub RemarksCo64-co64_for : (os : List ℕ) → IfSome (co64_for os) RemarksCo64
+pub IsWellFormedCo64-co64_for : (os : List ℕ) → IfSome (co64_for os) IsWellFormedCo64
 unfolding co64_for
-RemarksCo64-co64_for os =
+IsWellFormedCo64-co64_for os =
     let table : Co64Box = record { version = 0; flags = 0; entries = os } in
-    cond_both (are_far os) (Some table) None (λ co64. IfSome co64 RemarksCo64) (λ _. omega arith) (λ _. tt)
+    cond_both (are_far os) (Some table) None (λ co64. IfSome co64 IsWellFormedCo64) (λ _. omega arith) (λ _. tt)
 
 -- stco or co64 is there
 pub HasPlaces-stco_for-co64_for : (os : List ℕ) → HasPlaces (stco_for os) (co64_for os)

@@ -7,7 +7,7 @@ use Rattle.std.proofs.lemmas.Bool.{eq-eqb, ne_eqb}
 use Rattle.std.proofs.lemmas.List.{drop_more, drop_all, length-map}
 use Rattle.std.proofs.lemmas.List.Sums.{sum_by-cons}
 use Rattle.mp4_codec.specs.Boxes.{optional}
-use Rattle.mp4_codec.specs.FramingLaws.{length-frame}
+use Rattle.mp4_codec.specs.FramingLaws.{length-box_bytes}
 use Rattle.mp4_codec.specs.declared.box_type.BoxType.TheVariants.{CttsBox as ctts, StssBox as stss, StcoBox as stco}
 use Rattle.mp4_codec.specs.declared.box_type.BoxType.TheVariants.{Co64Box as co64}
 use Rattle.mp4_table.specs.Runs.{changes}
@@ -47,7 +47,7 @@ pub size_of_ctts : (ss : List SampleInfo) → are_in_order ss ≡ false
     → length (optional ctts ctts_payload (ctts_for ss)) ≡ 16 + length (runs_of same_offset ctts_run ss) * 8
 unfolding ctts_for
 size_of_ctts ss e =
-    rw e (length-frame ctts _ ∙ omega (
+    rw e (length-box_bytes ctts _ ∙ omega (
       arith,
       length-ctts_payload (record { version = 0; flags = 0; entries = runs_of same_offset ctts_run ss }),
     ))
@@ -75,7 +75,7 @@ unfolding stss_for
 size_of_stss [] h = absurd (omega arith)
 size_of_stss (s ∷ ss) h =
     let numbers = sync_numbers_from 1 (s ∷ ss) in
-    length-frame stss _ ∙ omega (
+    length-box_bytes stss _ ∙ omega (
       arith,
       length-stss_payload (record { version = 0; flags = 0; entries = numbers }),
       length-sync_numbers_from 1 (s ∷ ss),
@@ -134,7 +134,7 @@ unfolding stco_for co64_for
 size_of_stco os e =
     rw e (omega (
       arith,
-      length-frame stco (stco_payload (record { version = 0; flags = 0; entries = os })),
+      length-box_bytes stco (stco_payload (record { version = 0; flags = 0; entries = os })),
       length-stco_payload (record { version = 0; flags = 0; entries = os }),
     ))
 
@@ -143,7 +143,7 @@ unfolding stco_for co64_for
 size_of_co64 os e =
     rw e (omega (
       arith,
-      length-frame co64 (co64_payload (record { version = 0; flags = 0; entries = os })),
+      length-box_bytes co64 (co64_payload (record { version = 0; flags = 0; entries = os })),
       length-co64_payload (record { version = 0; flags = 0; entries = os }),
     ))
 

@@ -7,7 +7,7 @@ use Rattle.mp4_codec.specs.declared.box_type.BoxType.TheVariants.{VmhdBox as vmh
 use Rattle.mp4_codec.specs.Cause.{◌or◌}
 use Rattle.mp4_codec.specs.Bytes.{version_refusal, value_refusal}
 use Rattle.mp4_codec.specs.Boxes.{optional}
-use Rattle.mp4_codec.specs.FramingLaws.{length-frame}
+use Rattle.mp4_codec.specs.FramingLaws.{length-box_bytes}
 use Rattle.mp4_leaf.specs.Matrix.{IsInRangeMatrix, unity}
 use Rattle.mp4_leaf.specs.Times.{times_refusal}
 use Rattle.mp4_leaf.specs.Language.{language_refusal}
@@ -17,11 +17,11 @@ use Rattle.mp4_leaf.specs.Mdhd.{mdhd_payload, mdhd_refusal, IsInRangeMdhd}
 use Rattle.mp4_leaf.specs.MdhdLaws.{length-mdhd_payload}
 use Rattle.mp4_leaf.specs.Mvhd.{mvhd_payload, mvhd_refusal, IsInRangeMvhd}
 use Rattle.mp4_leaf.specs.MvhdLaws.{length-mvhd_payload}
-use Rattle.mp4_leaf.specs.Hdlr.{hdlr_payload, IsInRangeHdlr, RemarksHdlr}
+use Rattle.mp4_leaf.specs.Hdlr.{hdlr_payload, IsInRangeHdlr, IsWellFormedHdlr}
 use Rattle.mp4_leaf.specs.HdlrLaws.{length-hdlr_payload}
-use Rattle.mp4_leaf.specs.Vmhd.{vmhd_payload, IsInRangeVmhd, RemarksVmhd, default_vmhd}
+use Rattle.mp4_leaf.specs.Vmhd.{vmhd_payload, IsInRangeVmhd, IsWellFormedVmhd, default_vmhd}
 use Rattle.mp4_leaf.specs.VmhdLaws.{length-vmhd_payload}
-use Rattle.mp4_leaf.specs.Smhd.{smhd_payload, IsInRangeSmhd, RemarksSmhd, default_smhd}
+use Rattle.mp4_leaf.specs.Smhd.{smhd_payload, IsInRangeSmhd, IsWellFormedSmhd, default_smhd}
 use Rattle.mp4_leaf.specs.SmhdLaws.{length-smhd_payload}
 use Rattle.mp4_entry.specs.declared.config.MediaConfig.{MediaConfig}
 use Rattle.mp4_entry.specs.declared.config.MediaConfig.TheVariants.{AvcConfig as Avc, HevcConfig as Hevc}
@@ -149,8 +149,8 @@ pub hdlr_for-in_range : (kind : TrackType) → IsInRangeHdlr (hdlr_for kind)
 hdlr_for-in_range kind =
     record { version = lit< tt; handler_type = (handler_number kind, handler_number-small kind, refl) }
 
-pub hdlr_for-remarks : (kind : TrackType) → RemarksHdlr (hdlr_for kind)
-hdlr_for-remarks kind = record { flags = lit< tt; name = tt }
+pub hdlr_for-well_formed : (kind : TrackType) → IsWellFormedHdlr (hdlr_for kind)
+hdlr_for-well_formed kind = record { flags = lit< tt; name = tt }
 
 -- the headers of video and of sound
 
@@ -164,12 +164,12 @@ default_smhd-in_range = record { version = lit< tt; balance = omega arith }
 pub length-media_header : (media : MediaConfig) → length (optional vmhd vmhd_payload (vmhd_for media))
     + length (optional smhd smhd_payload (smhd_for media)) ≡ media_header_length media
 length-media_header (Avc c) =
-    omega (arith, length-frame vmhd (vmhd_payload default_vmhd), length-vmhd_payload default_vmhd)
+    omega (arith, length-box_bytes vmhd (vmhd_payload default_vmhd), length-vmhd_payload default_vmhd)
 length-media_header (Hevc c) =
-    omega (arith, length-frame vmhd (vmhd_payload default_vmhd), length-vmhd_payload default_vmhd)
+    omega (arith, length-box_bytes vmhd (vmhd_payload default_vmhd), length-vmhd_payload default_vmhd)
 length-media_header (Vp9 c) = refl
 length-media_header (Aac c) =
-    omega (arith, length-frame smhd (smhd_payload default_smhd), length-smhd_payload default_smhd)
+    omega (arith, length-box_bytes smhd (smhd_payload default_smhd), length-smhd_payload default_smhd)
 length-media_header (Ttxt c) = refl
 
 pub vmhd_for-in_range : (media : MediaConfig) → IfSome (vmhd_for media) IsInRangeVmhd
@@ -179,12 +179,12 @@ vmhd_for-in_range (Vp9 c) = tt
 vmhd_for-in_range (Aac c) = tt
 vmhd_for-in_range (Ttxt c) = tt
 
-pub vmhd_for-remarks : (media : MediaConfig) → IfSome (vmhd_for media) RemarksVmhd
-vmhd_for-remarks (Avc c) = lit< tt
-vmhd_for-remarks (Hevc c) = lit< tt
-vmhd_for-remarks (Vp9 c) = tt
-vmhd_for-remarks (Aac c) = tt
-vmhd_for-remarks (Ttxt c) = tt
+pub vmhd_for-well_formed : (media : MediaConfig) → IfSome (vmhd_for media) IsWellFormedVmhd
+vmhd_for-well_formed (Avc c) = lit< tt
+vmhd_for-well_formed (Hevc c) = lit< tt
+vmhd_for-well_formed (Vp9 c) = tt
+vmhd_for-well_formed (Aac c) = tt
+vmhd_for-well_formed (Ttxt c) = tt
 
 pub smhd_for-in_range : (media : MediaConfig) → IfSome (smhd_for media) IsInRangeSmhd
 smhd_for-in_range (Avc c) = tt
@@ -193,12 +193,12 @@ smhd_for-in_range (Vp9 c) = tt
 smhd_for-in_range (Aac c) = default_smhd-in_range
 smhd_for-in_range (Ttxt c) = tt
 
-pub smhd_for-remarks : (media : MediaConfig) → IfSome (smhd_for media) RemarksSmhd
-smhd_for-remarks (Avc c) = tt
-smhd_for-remarks (Hevc c) = tt
-smhd_for-remarks (Vp9 c) = tt
-smhd_for-remarks (Aac c) = lit< tt
-smhd_for-remarks (Ttxt c) = tt
+pub smhd_for-well_formed : (media : MediaConfig) → IfSome (smhd_for media) IsWellFormedSmhd
+smhd_for-well_formed (Avc c) = tt
+smhd_for-well_formed (Hevc c) = tt
+smhd_for-well_formed (Vp9 c) = tt
+smhd_for-well_formed (Aac c) = lit< tt
+smhd_for-well_formed (Ttxt c) = tt
 
 -- the header of a movie
 

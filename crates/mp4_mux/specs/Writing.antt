@@ -4,7 +4,7 @@ use Rattle.std.specs.Prelude.{Option, Some, None, nat_le, nat_lt, if◌then◌el
 use Rattle.mp4_codec.specs.declared.box_type.BoxType.TheVariants.{FtypBox as ftyp, MoovBox as moov}
 use Rattle.mp4_codec.specs.declared.error.Limit.TheVariants.{SampleBytes, SampleCount, TrackDuration, TrackCount}
 use Rattle.mp4_codec.specs.Cause.{Cause, ended, trak_not_found, too_large, ◌or◌}
-use Rattle.mp4_codec.specs.Boxes.{frame, size_cause}
+use Rattle.mp4_codec.specs.Boxes.{box_bytes, size_cause}
 use Rattle.mp4_leaf.specs.declared.ftyp.FtypBox.{FtypBox}
 use Rattle.mp4_leaf.specs.Ftyp.{ftyp_payload}
 use Rattle.mp4_entry.specs.declared.config.MediaConfig.TheVariants.{TtxtConfig as Ttxt}
@@ -84,7 +84,7 @@ file_type_of config =
 
 -- the buffer handed in, and the file type behind it
 unfoldable pub with_file_type : List ℕ → Mp4Config → List ℕ
-with_file_type front config = front ++ frame ftyp (ftyp_payload (file_type_of config))
+with_file_type front config = front ++ box_bytes ftyp (ftyp_payload (file_type_of config))
 
 -- the bytes before the data
 abbrev pub before_data : WriterState → List ℕ
@@ -107,7 +107,7 @@ finished_from id (t ∷ ts) cs =
 
 -- the bytes of the movie of these tracks
 unfoldable pub movie_bytes : ℕ → List FinishedTrack → List ℕ
-movie_bytes timescale ts = frame moov (moov_payload (movie_for timescale ts))
+movie_bytes timescale ts = box_bytes moov (moov_payload (movie_for timescale ts))
 
 -- the finished tracks of what a writer holds
 abbrev pub finished_tracks : WriterState → List FinishedTrack

@@ -5,7 +5,7 @@ ghost use Rattle.std.specs.Prelude.{◌≡◌, ◌+◌, ◌^◌, ◌<◌, ◌≤
 ghost use Rattle.std.specs.List.{All};
 ghost use Rattle.mp4_codec.specs.Cause.{Answers, Checks};
 ghost use Rattle.mp4_codec.specs.Bytes.{Appends};
-ghost use Rattle.mp4_codec.specs.Boxes.{frame, size_around, size_cause, write_cause};
+ghost use Rattle.mp4_codec.specs.Boxes.{box_bytes, size_around, size_cause, write_cause};
 ghost use Rattle.mp4_boxes.specs.Moov.{moov_payload, moov_refusal};
 ghost use Rattle.mp4_mux.specs.Mdat.{mdat_header_of};
 ghost use Rattle.mp4_mux.specs.TrackHeaders.{movie_duration};
@@ -121,7 +121,7 @@ fn movie_box(alloc: Global, timescale: u32, tracks: &[TrackWriter], end: u64) ->
 /// has nothing to drop. Where a request for memory is refused, the buffer may hold a part of the box.
 fn put_owned<B: WriteBox>(value: B, out: &mut Vec<u8>) -> Put
     requires { write_cause (B.payload value) (B.refusal value) ≡ None }
-    ensures { OnOk result (Appends out.old.items out.new.items (frame B.KIND (B.payload value))) }
+    ensures { OnOk result (Appends out.old.items out.new.items (box_bytes B.KIND (B.payload value))) }
 {
     out.reserve_exact(value.box_size() as usize)?;
     value.put_box(out)?;

@@ -17,4 +17,4 @@ pub mod random;
 pub mod random_tables;
 pub mod sample_boxes;
 pub mod sides;
-pub mod spelled;
+pub mod encoded;

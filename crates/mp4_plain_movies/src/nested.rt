@@ -1,9 +1,9 @@
-//! Texts that spell boxes of boxes.
+//! Texts that encode boxes of boxes.
 
 use std::alloc::{AllocError, Global};
 
 /// How many bytes a text encodes.
-fn spelled_bytes(text: &str) -> usize {
+fn encoded_bytes(text: &str) -> usize {
     text.as_bytes()
         .iter()
         .filter(|digit| **digit != b' ')
@@ -11,12 +11,12 @@ fn spelled_bytes(text: &str) -> usize {
         / 2
 }
 
-/// A box around children; the text of its type and that of each child spell bytes, two digits each.
+/// A box around children; the text of its type and that of each child encode bytes, two digits each.
 pub fn nest(alloc: Global, kind: &str, children: &[&str]) -> Result<String, AllocError> {
     let mut size = 8usize;
     let mut inner = String::new(alloc);
     for child in children {
-        size = size.wrapping_add(spelled_bytes(child));
+        size = size.wrapping_add(encoded_bytes(child));
         inner.push_str(child)?;
     }
     Ok(format!(in alloc; "{size:08x} {kind} {inner}")?)

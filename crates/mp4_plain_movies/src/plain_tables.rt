@@ -6,7 +6,7 @@ use crate::plain_bytes::{
     begin_box, end_box, put, put_chunks, put_durations, put_near_offsets, put_offsets,
     put_rendering_offsets, put_sizes, put_sync_samples,
 };
-use crate::spelled::hex;
+use crate::encoded::hex;
 use std::alloc::{AllocError, Global};
 
 /// Where each chunk begins.
@@ -82,7 +82,7 @@ fn written_tables(alloc: Global, tables: &Tables) -> Result<Vec<u8>, AllocError>
     Ok(bytes)
 }
 
-/// What these texts spell, and behind it a box of this type around a payload.
+/// What these texts encode, and behind it a box of this type around a payload.
 fn with_box(
     alloc: Global,
     texts: &[&str],

@@ -66,7 +66,7 @@ impl ReadBox for Number {
 impl WriteBox for Number {
     ghost refusal = { no_refusal };
 
-    ghost Remarks = { λ _. Unit {0} };
+    ghost IsWellFormed = { λ _. Unit {0} };
 
     ghost reads_back = { λ n canonical. Prim.rw (number_last 4 n.value canonical.in_range) refl };
 

@@ -21,12 +21,12 @@ abbrev pub IsInRangeCo64 : Co64Box → Type 0
 IsInRangeCo64 b = IsInRangeTable (λ n. n < 2 ^ 64) b.version b.entries
 
 -- flags have 24 bits
-abbrev pub RemarksCo64 : Co64Box → Type 0
-RemarksCo64 b = b.flags < 2 ^ 24
+abbrev pub IsWellFormedCo64 : Co64Box → Type 0
+IsWellFormedCo64 b = b.flags < 2 ^ 24
 
 -- a table that is written and reads back equal
 abbrev pub IsCanonicalCo64 : Co64Box → Type 0
-IsCanonicalCo64 = IsCanonical IsInRangeCo64 RemarksCo64 co64_payload no_refusal
+IsCanonicalCo64 = IsCanonical IsInRangeCo64 IsWellFormedCo64 co64_payload no_refusal
 
 abbrev pub default_co64 : Co64Box
 default_co64 = record { version = 0; flags = 0; entries = [] }

@@ -17,4 +17,4 @@ co64_again b f =
     let size = (is_written (co64_payload b) None f.written).small in
     let count : length b.entries < 2 ^ 32 = omega (arith, size, length-co64_payload b) in
     rw (table_again (λ _. number_at 8) (λ _. number 8) (λ n. n < 2 ^ 64) b.version b.flags b.entries
-    (record { again = number_again 8 }) f.in_range f.remarks count) refl
+    (record { again = number_again 8 }) f.in_range f.well_formed count) refl

@@ -38,12 +38,12 @@ abbrev pub IsInRangeCtts : CttsBox → Type 0
 IsInRangeCtts b = IsInRangeTable IsInRangeCttsEntry b.version b.entries
 
 -- flags have 24 bits
-abbrev pub RemarksCtts : CttsBox → Type 0
-RemarksCtts b = b.flags < 2 ^ 24
+abbrev pub IsWellFormedCtts : CttsBox → Type 0
+IsWellFormedCtts b = b.flags < 2 ^ 24
 
 -- a table that is written and reads back equal
 abbrev pub IsCanonicalCtts : CttsBox → Type 0
-IsCanonicalCtts = IsCanonical IsInRangeCtts RemarksCtts ctts_payload no_refusal
+IsCanonicalCtts = IsCanonical IsInRangeCtts IsWellFormedCtts ctts_payload no_refusal
 
 abbrev pub default_ctts : CttsBox
 default_ctts = record { version = 0; flags = 0; entries = [] }

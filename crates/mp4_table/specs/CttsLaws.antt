@@ -47,4 +47,4 @@ ctts_again b f =
     let size = (is_written (ctts_payload b) None f.written).small in
     let count : length b.entries < 2 ^ 32 = omega (arith, size, length-ctts_payload b) in
     rw (table_again (λ _. ctts_entry_at) (λ _. ctts_entry) IsInRangeCttsEntry b.version b.flags b.entries
-    (record { again = ctts_entry_again }) f.in_range f.remarks count) refl
+    (record { again = ctts_entry_again }) f.in_range f.well_formed count) refl

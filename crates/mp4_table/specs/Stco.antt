@@ -23,12 +23,12 @@ abbrev pub IsInRangeStco : StcoBox → Type 0
 IsInRangeStco b = IsInRangeTable (λ n. n < 2 ^ 32) b.version b.entries
 
 -- flags have 24 bits
-abbrev pub RemarksStco : StcoBox → Type 0
-RemarksStco b = b.flags < 2 ^ 24
+abbrev pub IsWellFormedStco : StcoBox → Type 0
+IsWellFormedStco b = b.flags < 2 ^ 24
 
 -- a table that is written and reads back equal
 abbrev pub IsCanonicalStco : StcoBox → Type 0
-IsCanonicalStco = IsCanonical IsInRangeStco RemarksStco stco_payload no_refusal
+IsCanonicalStco = IsCanonical IsInRangeStco IsWellFormedStco stco_payload no_refusal
 
 abbrev pub default_stco : StcoBox
 default_stco = record { version = 0; flags = 0; entries = [] }

@@ -99,13 +99,13 @@ abbrev pub IsInRangeStsc : StscBox → Type 0
 IsInRangeStsc b = IsInRangeTable IsInRangeStscEntry b.version b.entries
 
 -- flags have 24 bits, and the entries have the first samples that reading finds
-pub record RemarksStsc (b : StscBox) : Type 0 where
+pub record IsWellFormedStsc (b : StscBox) : Type 0 where
   pub flags : b.flags < 2 ^ 24
   pub first_samples : HasFirstSamples b.entries
 
 -- a table that is written and reads back equal
 abbrev pub IsCanonicalStsc : StscBox → Type 0
-IsCanonicalStsc = IsCanonical IsInRangeStsc RemarksStsc stsc_payload no_refusal
+IsCanonicalStsc = IsCanonical IsInRangeStsc IsWellFormedStsc stsc_payload no_refusal
 
 abbrev pub default_stsc : StscBox
 default_stsc = record { version = 0; flags = 0; entries = [] }

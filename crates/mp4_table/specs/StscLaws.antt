@@ -214,6 +214,6 @@ stsc_again b f =
     let size = (is_written (stsc_payload b) None f.written).small in
     let count : length b.entries < 2 ^ 32 = omega (arith, size, length-stsc_payload b) in
     rw (
-      stored_again b f.in_range f.remarks.flags count,
-      first_samples_again b.entries f.in_range.entries_fit f.remarks.first_samples,
+      stored_again b f.in_range f.well_formed.flags count,
+      first_samples_again b.entries f.in_range.entries_fit f.well_formed.first_samples,
     ) refl

@@ -21,12 +21,12 @@ abbrev pub IsInRangeStss : StssBox → Type 0
 IsInRangeStss b = IsInRangeTable (λ n. n < 2 ^ 32) b.version b.entries
 
 -- flags have 24 bits
-abbrev pub RemarksStss : StssBox → Type 0
-RemarksStss b = b.flags < 2 ^ 24
+abbrev pub IsWellFormedStss : StssBox → Type 0
+IsWellFormedStss b = b.flags < 2 ^ 24
 
 -- a table that is written and reads back equal
 abbrev pub IsCanonicalStss : StssBox → Type 0
-IsCanonicalStss = IsCanonical IsInRangeStss RemarksStss stss_payload no_refusal
+IsCanonicalStss = IsCanonical IsInRangeStss IsWellFormedStss stss_payload no_refusal
 
 abbrev pub default_stss : StssBox
 default_stss = record { version = 0; flags = 0; entries = [] }

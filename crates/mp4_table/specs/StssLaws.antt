@@ -17,4 +17,4 @@ stss_again b f =
     let size = (is_written (stss_payload b) None f.written).small in
     let count : length b.entries < 2 ^ 32 = omega (arith, size, length-stss_payload b) in
     rw (table_again (λ _. number_at 4) (λ _. number 4) (λ n. n < 2 ^ 32) b.version b.flags b.entries
-    (record { again = number_again 4 }) f.in_range f.remarks count) refl
+    (record { again = number_again 4 }) f.in_range f.well_formed count) refl

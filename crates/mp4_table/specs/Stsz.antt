@@ -44,12 +44,12 @@ pub record IsInRangeStsz (b : StszBox) : Type 0 where
   pub sample_sizes : AllByRecursion (λ n. n < 2 ^ 32) b.sample_sizes
 
 -- flags have 24 bits
-abbrev pub RemarksStsz : StszBox → Type 0
-RemarksStsz b = b.flags < 2 ^ 24
+abbrev pub IsWellFormedStsz : StszBox → Type 0
+IsWellFormedStsz b = b.flags < 2 ^ 24
 
 -- a table that is written and reads back equal
 abbrev pub IsCanonicalStsz : StszBox → Type 0
-IsCanonicalStsz = IsCanonical IsInRangeStsz RemarksStsz stsz_payload stsz_refusal
+IsCanonicalStsz = IsCanonical IsInRangeStsz IsWellFormedStsz stsz_payload stsz_refusal
 
 abbrev pub default_stsz : StszBox
 default_stsz = record { version = 0; flags = 0; sample_size = 0; sample_count = 0; sample_sizes = [] }

@@ -28,7 +28,7 @@ stsz_again b f =
     let sound = (is_written (stsz_payload b) (stsz_refusal b) f.written).sound in
     rw (
       number_again 1 b.version _ f.in_range.version,
-      number_again 3 b.flags _ f.remarks,
+      number_again 3 b.flags _ f.well_formed,
       number_again 4 b.sample_size _ f.in_range.sample_size,
       number_again 4 b.sample_count _ f.in_range.sample_count,
       numbers_last 4 (listed b.sample_size b.sample_count) b.sample_sizes (are_listed b sound) f.in_range.sample_sizes,

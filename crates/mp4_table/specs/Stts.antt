@@ -36,12 +36,12 @@ abbrev pub IsInRangeStts : SttsBox → Type 0
 IsInRangeStts b = IsInRangeTable IsInRangeSttsEntry b.version b.entries
 
 -- flags have 24 bits
-abbrev pub RemarksStts : SttsBox → Type 0
-RemarksStts b = b.flags < 2 ^ 24
+abbrev pub IsWellFormedStts : SttsBox → Type 0
+IsWellFormedStts b = b.flags < 2 ^ 24
 
 -- a table that is written and reads back equal
 abbrev pub IsCanonicalStts : SttsBox → Type 0
-IsCanonicalStts = IsCanonical IsInRangeStts RemarksStts stts_payload no_refusal
+IsCanonicalStts = IsCanonical IsInRangeStts IsWellFormedStts stts_payload no_refusal
 
 abbrev pub default_stts : SttsBox
 default_stts = record { version = 0; flags = 0; entries = [] }

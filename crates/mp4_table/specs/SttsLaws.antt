@@ -44,4 +44,4 @@ stts_again b f =
     let size = (is_written (stts_payload b) None f.written).small in
     let count : length b.entries < 2 ^ 32 = omega (arith, size, length-stts_payload b) in
     rw (table_again (λ _. stts_entry_at) (λ _. stts_entry) IsInRangeSttsEntry b.version b.flags b.entries
-    (record { again = stts_entry_again }) f.in_range f.remarks count) refl
+    (record { again = stts_entry_again }) f.in_range f.well_formed count) refl

@@ -15,8 +15,8 @@ table_of entry_at payload = do
 
 -- the payload of a table
 unfoldable pub table : {A : Type 0} → (ℕ → A → List ℕ) → ℕ → ℕ → List A → List ℕ
-table spelled version flags entries =
-    number 1 version ⧺ number 3 flags ⧺ number 4 (length entries) ⧺ flat_map (spelled version) entries
+table encoded version flags entries =
+    number 1 version ⧺ number 3 flags ⧺ number 4 (length entries) ⧺ flat_map (encoded version) entries
 
 -- each number of a table is within its type
 pub record IsInRangeTable {A : Type 0} (IsInRangeEntry : A → Type 0) (version : ℕ) (entries : List A) : Type 0 where

@@ -6,28 +6,28 @@ use Rattle.mp4_codec.specs.Bytes.{Reader, ReadsBack}
 use Rattle.mp4_codec.specs.FieldLaws.{number_again, list_last, length-number, length-then}
 use Rattle.mp4_table.specs.Table.{table_of, table, IsInRangeTable}
 
-pub length-table : {A : Type 0} (spelled : ℕ → A → List ℕ) (version flags : ℕ) (entries : List A)
-    → length (table spelled version flags entries) ≡ 8 + length (flat_map (spelled version) entries)
+pub length-table : {A : Type 0} (encoded : ℕ → A → List ℕ) (version flags : ℕ) (entries : List A)
+    → length (table encoded version flags entries) ≡ 8 + length (flat_map (encoded version) entries)
 unfolding table
-length-table spelled version flags entries = simp (length-then, length-number) (omega arith)
+length-table encoded version flags entries = simp (length-then, length-number) (omega arith)
 
 -- where each entry is of n bytes
-pub length-table_of_same : {A : Type 0} (spelled : ℕ → A → List ℕ) (n version flags : ℕ) (entries : List A)
-    → ((e : A) → length (spelled version e) ≡ n)
-    → length (table spelled version flags entries) ≡ 8 + length entries * n
-length-table_of_same spelled n version flags entries each =
-    rw (length-table spelled version flags entries, length-flat_map-same (spelled version) n each entries) refl
+pub length-table_of_same : {A : Type 0} (encoded : ℕ → A → List ℕ) (n version flags : ℕ) (entries : List A)
+    → ((e : A) → length (encoded version e) ≡ n)
+    → length (table encoded version flags entries) ≡ 8 + length entries * n
+length-table_of_same encoded n version flags entries each =
+    rw (length-table encoded version flags entries, length-flat_map-same (encoded version) n each entries) refl
 
-pub table_again : {A : Type 0} (entry_at : ℕ → Reader A) (spelled : ℕ → A → List ℕ) (FitsEntry : A → Type 0)
+pub table_again : {A : Type 0} (entry_at : ℕ → Reader A) (encoded : ℕ → A → List ℕ) (FitsEntry : A → Type 0)
     (version flags : ℕ) (entries : List A)
-    → ReadsBack (entry_at version) (spelled version) FitsEntry → IsInRangeTable FitsEntry version entries
+    → ReadsBack (entry_at version) (encoded version) FitsEntry → IsInRangeTable FitsEntry version entries
     → flags < 2 ^ 24 → length entries < 2 ^ 32
-    → table_of entry_at (table spelled version flags entries) ≡ Ok (version, flags, entries)
+    → table_of entry_at (table encoded version flags entries) ≡ Ok (version, flags, entries)
 unfolding table_of table
-table_again entry_at spelled FitsEntry version flags entries back f flags_fit count_fits =
+table_again entry_at encoded FitsEntry version flags entries back f flags_fit count_fits =
     rw (
       number_again 1 version _ f.version_fits,
       number_again 3 flags _ flags_fit,
       number_again 4 (length entries) _ count_fits,
-      list_last (entry_at version) (spelled version) FitsEntry back (length entries) entries refl f.entries_fit,
+      list_last (entry_at version) (encoded version) FitsEntry back (length entries) entries refl f.entries_fit,
     ) refl

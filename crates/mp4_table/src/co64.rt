@@ -5,7 +5,7 @@ ghost use Rattle.std.specs.Prelude.{◌≡◌, Ok};
 ghost use Rattle.mp4_codec.specs.Cause.{Gives};
 ghost use Rattle.mp4_codec.specs.Boxes.{size_around, no_refusal};
 ghost use Rattle.mp4_codec.specs.declared.box_type.BoxType.TheVariants.{Co64Box as co64};
-ghost use Rattle.mp4_table.specs.Co64.{co64_payload, default_co64, co64_of, IsInRangeCo64, RemarksCo64};
+ghost use Rattle.mp4_table.specs.Co64.{co64_payload, default_co64, co64_of, IsInRangeCo64, IsWellFormedCo64};
 ghost use Rattle.mp4_table.specs.Co64Laws.{co64_again};
 ghost use Rattle.mp4_codec.specs.Early.{refused_at_once};
 
@@ -109,7 +109,7 @@ impl ReadBox for Co64Box {
 impl WriteBox for Co64Box {
     ghost refusal = { no_refusal };
 
-    ghost Remarks = { RemarksCo64 };
+    ghost IsWellFormed = { IsWellFormedCo64 };
 
     ghost reads_back = { co64_again };
 

@@ -5,7 +5,7 @@ ghost use Rattle.std.specs.Prelude.{◌≡◌, Ok};
 ghost use Rattle.mp4_codec.specs.Cause.{Gives};
 ghost use Rattle.mp4_codec.specs.Boxes.{size_around, no_refusal};
 ghost use Rattle.mp4_codec.specs.declared.box_type.BoxType.TheVariants.{CttsBox as ctts};
-ghost use Rattle.mp4_table.specs.Ctts.{ctts_payload, default_ctts, ctts_entry_at, ctts_entry, IsInRangeCttsEntry, ctts_of, IsInRangeCtts, RemarksCtts};
+ghost use Rattle.mp4_table.specs.Ctts.{ctts_payload, default_ctts, ctts_entry_at, ctts_entry, IsInRangeCttsEntry, ctts_of, IsInRangeCtts, IsWellFormedCtts};
 ghost use Rattle.mp4_table.specs.CttsLaws.{ctts_entry_again, length-ctts_entry, ctts_entry-has_length, ctts_again};
 ghost use Rattle.mp4_table.specs.EntryBlocks.{ctts_entry_in};
 ghost use Rattle.mp4_codec.specs.Early.{refused_at_once};
@@ -79,7 +79,7 @@ impl Block for CttsEntry {
 impl Entry for CttsEntry {
     ghost at = { λ _. ctts_entry_at };
 
-    ghost spelled = { λ _. ctts_entry };
+    ghost encoded = { λ _. ctts_entry };
 
     ghost Fits = { λ _. IsInRangeCttsEntry };
 
@@ -87,7 +87,7 @@ impl Entry for CttsEntry {
 
     ghost again = { λ _. ctts_entry_again };
 
-    ghost length_spelled = { λ _. length-ctts_entry };
+    ghost length_encoded = { λ _. length-ctts_entry };
 
     ghost has_length = { λ _. ctts_entry-has_length };
 
@@ -215,7 +215,7 @@ impl ReadBox for CttsBox {
 impl WriteBox for CttsBox {
     ghost refusal = { no_refusal };
 
-    ghost Remarks = { RemarksCtts };
+    ghost IsWellFormed = { IsWellFormedCtts };
 
     ghost reads_back = { ctts_again };
 

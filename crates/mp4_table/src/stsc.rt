@@ -5,7 +5,7 @@ ghost use Rattle.std.specs.Prelude.{◌≡◌, None, Ok};
 ghost use Rattle.mp4_codec.specs.Cause.{Checks, Gives, fault_of};
 ghost use Rattle.mp4_codec.specs.Boxes.{size_around, no_refusal};
 ghost use Rattle.mp4_codec.specs.declared.box_type.BoxType.TheVariants.{StscBox as stsc};
-ghost use Rattle.mp4_table.specs.Stsc.{stsc_payload, first_sample_after, numbered_after, runs_fault, default_stsc, stsc_entry_at, stsc_entry, FitsStoredEntry, stsc_of, IsInRangeStscEntry, IsInRangeStsc, RemarksStsc};
+ghost use Rattle.mp4_table.specs.Stsc.{stsc_payload, first_sample_after, numbered_after, runs_fault, default_stsc, stsc_entry_at, stsc_entry, FitsStoredEntry, stsc_of, IsInRangeStscEntry, IsInRangeStsc, IsWellFormedStsc};
 ghost use Rattle.mp4_table.specs.StscLaws.{stsc_entry_again, length-stsc_entry, stsc_entry-has_length, stsc_again};
 ghost use Rattle.mp4_table.specs.EntryBlocks.{stsc_entry_in};
 ghost use Rattle.mp4_codec.specs.Early.{refused_at_once};
@@ -88,7 +88,7 @@ impl Block for StscEntry {
 impl Entry for StscEntry {
     ghost at = { λ _. stsc_entry_at };
 
-    ghost spelled = { λ _. stsc_entry };
+    ghost encoded = { λ _. stsc_entry };
 
     ghost Fits = { λ _. FitsStoredEntry };
 
@@ -96,7 +96,7 @@ impl Entry for StscEntry {
 
     ghost again = { λ _. stsc_entry_again };
 
-    ghost length_spelled = { λ _. length-stsc_entry };
+    ghost length_encoded = { λ _. length-stsc_entry };
 
     ghost has_length = { λ _. stsc_entry-has_length };
 
@@ -304,7 +304,7 @@ impl ReadBox for StscBox {
 impl WriteBox for StscBox {
     ghost refusal = { no_refusal };
 
-    ghost Remarks = { RemarksStsc };
+    ghost IsWellFormed = { IsWellFormedStsc };
 
     ghost reads_back = { stsc_again };
 

@@ -5,7 +5,7 @@ ghost use Rattle.std.specs.Prelude.{◌≡◌, Ok};
 ghost use Rattle.mp4_codec.specs.Cause.{Gives};
 ghost use Rattle.mp4_codec.specs.Boxes.{size_around, no_refusal};
 ghost use Rattle.mp4_codec.specs.declared.box_type.BoxType.TheVariants.{StssBox as stss};
-ghost use Rattle.mp4_table.specs.Stss.{stss_payload, default_stss, stss_of, IsInRangeStss, RemarksStss};
+ghost use Rattle.mp4_table.specs.Stss.{stss_payload, default_stss, stss_of, IsInRangeStss, IsWellFormedStss};
 ghost use Rattle.mp4_table.specs.StssLaws.{stss_again};
 ghost use Rattle.mp4_codec.specs.Early.{refused_at_once};
 
@@ -110,7 +110,7 @@ impl ReadBox for StssBox {
 impl WriteBox for StssBox {
     ghost refusal = { no_refusal };
 
-    ghost Remarks = { RemarksStss };
+    ghost IsWellFormed = { IsWellFormedStss };
 
     ghost reads_back = { stss_again };
 

@@ -5,7 +5,7 @@ ghost use Rattle.std.specs.Prelude.{◌≡◌, Ok};
 ghost use Rattle.mp4_codec.specs.Cause.{Gives};
 ghost use Rattle.mp4_codec.specs.Boxes.{size_around, no_refusal};
 ghost use Rattle.mp4_codec.specs.declared.box_type.BoxType.TheVariants.{SttsBox as stts};
-ghost use Rattle.mp4_table.specs.Stts.{stts_payload, default_stts, stts_entry_at, stts_entry, IsInRangeSttsEntry, stts_of, IsInRangeStts, RemarksStts};
+ghost use Rattle.mp4_table.specs.Stts.{stts_payload, default_stts, stts_entry_at, stts_entry, IsInRangeSttsEntry, stts_of, IsInRangeStts, IsWellFormedStts};
 ghost use Rattle.mp4_table.specs.SttsLaws.{stts_entry_again, length-stts_entry, stts_entry-has_length, stts_again};
 ghost use Rattle.mp4_table.specs.EntryBlocks.{stts_entry_in};
 ghost use Rattle.mp4_codec.specs.Early.{refused_at_once};
@@ -78,7 +78,7 @@ impl Block for SttsEntry {
 impl Entry for SttsEntry {
     ghost at = { λ _. stts_entry_at };
 
-    ghost spelled = { λ _. stts_entry };
+    ghost encoded = { λ _. stts_entry };
 
     ghost Fits = { λ _. IsInRangeSttsEntry };
 
@@ -86,7 +86,7 @@ impl Entry for SttsEntry {
 
     ghost again = { λ _. stts_entry_again };
 
-    ghost length_spelled = { λ _. length-stts_entry };
+    ghost length_encoded = { λ _. length-stts_entry };
 
     ghost has_length = { λ _. stts_entry-has_length };
 
@@ -214,7 +214,7 @@ impl ReadBox for SttsBox {
 impl WriteBox for SttsBox {
     ghost refusal = { no_refusal };
 
-    ghost Remarks = { RemarksStts };
+    ghost IsWellFormed = { IsWellFormedStts };
 
     ghost reads_back = { stts_again };
 

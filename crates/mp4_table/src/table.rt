@@ -42,7 +42,7 @@ pub(crate) fn read_table<T: Entry + SharedItem + Drop>(
 /// Adds the payload of a table at the end of a buffer.
 pub(crate) fn put_table<T: Entry>(out: &mut Vec<u8>, version: u8, flags: u32, entries: &[T]) -> Put
     requires { length entries.now < 2 ^ 32 }
-    ensures { OnOk result (Appends out.old.items out.new.items (table T.spelled version flags entries.now)) }
+    ensures { OnOk result (Appends out.old.items out.new.items (table T.encoded version flags entries.now)) }
 {
     put_u8(out, version)?;
     put_u24(out, flags)?;
@@ -53,7 +53,7 @@ pub(crate) fn put_table<T: Entry>(out: &mut Vec<u8>, version: u8, flags: u32, en
 
 /// The bytes of a table's box, its header included; they stop at 2^64 - 1.
 pub(crate) fn table_size<T: Entry>(version: u8, flags: u32, entries: &[T]) -> u64
-    ensures { result ≡ size_around (table T.spelled version flags entries.now) }
+    ensures { result ≡ size_around (table T.encoded version flags entries.now) }
 {
     list_size(version, entries).saturating_add(16)
 }

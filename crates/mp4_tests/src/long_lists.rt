@@ -12,7 +12,7 @@ use mp4_plain_movies::calls::{Call, ISOM};
 use mp4_plain_movies::movie_bytes::TEXT_MOVIE;
 use mp4_plain_movies::plain_movie::PlainMovie;
 use mp4_plain_movies::random::Random;
-use mp4_plain_movies::spelled::hex;
+use mp4_plain_movies::encoded::hex;
 use std::alloc::Global;
 
 /// Calls as data, and what the model answers them.

@@ -1,10 +1,10 @@
 //! Files that a test writes down.
 
 use mp4_plain_movies::nested::{DINF, HDLR, MDHD, MVHD, STSD, TKHD, nest};
-use mp4_plain_movies::spelled::hex;
+use mp4_plain_movies::encoded::hex;
 use std::alloc::{AllocError, Global};
 
-/// A file of a movie with one text track, in texts that spell its boxes.
+/// A file of a movie with one text track, in texts that encode its boxes.
 #[derive(Clone, Copy)]
 pub struct TextFile<'a> {
     /// The boxes before the movie.
@@ -45,8 +45,8 @@ pub const FRAGMENTED: TextFile<'static> = TextFile {
     behind: &[MOOF, "0000000f 6d646174 61626364656667 "],
 };
 
-/// What these texts spell, one behind the other.
-fn all_spelled(alloc: Global, texts: &[&str]) -> Result<Vec<u8>, AllocError> {
+/// What these texts encode, one behind the other.
+fn all_encoded(alloc: Global, texts: &[&str]) -> Result<Vec<u8>, AllocError> {
     let mut bytes = Vec::new(alloc);
     for text in texts {
         bytes.extend_from_slice(&hex(alloc, text)?)?;
@@ -66,8 +66,8 @@ fn movie_of(alloc: Global, file: &TextFile) -> Result<String, AllocError> {
 /// The bytes of a file.
 pub fn file_of(alloc: Global, file: &TextFile) -> Result<Vec<u8>, AllocError> {
     let movie = movie_of(alloc, file)?;
-    let mut bytes = all_spelled(alloc, file.before)?;
+    let mut bytes = all_encoded(alloc, file.before)?;
     bytes.extend_from_slice(&hex(alloc, movie.as_str())?)?;
-    bytes.extend_from_slice(&all_spelled(alloc, file.behind)?)?;
+    bytes.extend_from_slice(&all_encoded(alloc, file.behind)?)?;
     Ok(bytes)
 }

@@ -19,7 +19,7 @@ use mp4_plain_movies::listed_calls::{five_calls, five_media, text_calls};
 use mp4_plain_movies::movie_bytes::{EMPTY_MOVIE, FRAGMENT, FULL_MOVIE, TEXT_MOVIE};
 use mp4_plain_movies::nested::nest;
 use mp4_plain_movies::plain_tables::{Offsets, TEXT, Tables, put_movie};
-use mp4_plain_movies::spelled::hex;
+use mp4_plain_movies::encoded::hex;
 use mp4_samples::{Mp4Sample, SampleRef};
 use mp4_script::samples_text;
 use std::alloc::Global;

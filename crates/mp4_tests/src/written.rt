@@ -5,7 +5,7 @@ use mp4_codec::{Error, Result};
 use mp4_media::Mp4Writer;
 use mp4_plain_movies::calls::{Beginning, Call};
 use mp4_plain_movies::plain_movie::PlainMovie;
-use mp4_plain_movies::spelled::hex;
+use mp4_plain_movies::encoded::hex;
 use std::alloc::Global;
 
 /// Whether an answer is the one that the model gives, the texts of refusals left out.
@@ -99,7 +99,7 @@ fn end_of(bytes: &[u8], from: usize, piece: &[u8]) -> Option<usize> {
     None
 }
 
-/// Whether bytes have all that these texts spell, one behind the other, perhaps with others between
+/// Whether bytes have all that these texts encode, one behind the other, perhaps with others between
 /// them.
 pub fn have_in_order(alloc: Global, bytes: &[u8], texts: &[&str]) -> Result<bool> {
     let mut from = 0usize;

@@ -17,7 +17,7 @@ fn track_type_of(word: &str) -> Option<TrackType> {
     }
 }
 
-/// The language that bytes spell.
+/// The language that bytes encode.
 fn language_of(alloc: Global, word: &str) -> Result<Option<Text>> {
     match str::from_utf8(&encoded_word(alloc, word)?) {
         Ok(language) => Ok(Some(Text::from_str(alloc, language)?)),

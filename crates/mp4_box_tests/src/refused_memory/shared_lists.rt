@@ -6,7 +6,7 @@ use crate::asserts::check;
 use mp4_codec::{Error, Items, ReadBox, Result, SharedItems, TryClone};
 use mp4_entry::AvcCBox;
 use mp4_moof::TrafBox;
-use mp4_plain_movies::spelled::read_bytes;
+use mp4_plain_movies::encoded::read_bytes;
 use std::alloc::Global;
 
 /// Whether lists without values, and a copy of one, are made without memory.

@@ -1,11 +1,11 @@
 use Rattle.std.proofs.Common.{◌≡◌, ◌+◌, length, arith}
-use Rattle.mp4_codec.specs.Boxes.{frame}
+use Rattle.mp4_codec.specs.Boxes.{box_bytes}
 use Rattle.mp4_codec.specs.PutLaws.{◌then◌, number_piece}
 use Rattle.mp4_meta.specs.Ilst.{item_payload}
 use Rattle.mp4_meta.proofs.ilst.put_boxed.Goals as goal
 
 pub returns : goal.returns
-unfolding frame item_payload
+unfolding box_bytes item_payload
 returns c =
     let size : c.boxed_size.result ≡ 8 + length (item_payload c.args.item.now) =
     omega (arith, c.boxed_size.ensures, c.requires) in

@@ -1,5 +1,5 @@
 use Rattle.mp4_meta.specs.Meta.{HasCode}
-use Rattle.mp4_meta.proofs.ChildFrames.{all_more}
+use Rattle.mp4_meta.proofs.ChildBoxBytes.{all_more}
 use Rattle.mp4_meta.proofs.meta.codes_in_range.Goals as goal
 
 pub loop-child-preserved : goal.loop-child-preserved

@@ -1,11 +1,11 @@
 use Rattle.std.proofs.Common.{◌^◌}
 use Rattle.mp4_codec.specs.PutLaws.{nothing_added}
-use Rattle.mp4_meta.specs.Meta.{child_frames}
-use Rattle.mp4_meta.proofs.ChildFrames.{child_fits, child_frames-more}
+use Rattle.mp4_meta.specs.Meta.{child_box_bytes}
+use Rattle.mp4_meta.proofs.ChildBoxBytes.{child_fits, child_box_bytes-more}
 use Rattle.mp4_meta.proofs.meta.put_children.Goals as goal
 
 pub loop-child-init : goal.loop-child-init
-unfolding child_frames
+unfolding child_box_bytes
 loop-child-init c = nothing_added c.args.out.now.items
 
 pub put_child-requires : goal.put_child-requires
@@ -16,7 +16,7 @@ put_child-requires c =
 
 pub loop-child-preserved : goal.loop-child-preserved
 loop-child-preserved c =
-    child_frames-more c.as_slice-child-items.result.now c.loop-child.child-index c.child-item.result
+    child_box_bytes-more c.as_slice-child-items.result.now c.loop-child.child-index c.child-item.result
     c.loop-child-test.true
     c.child-item.is c.args.out.now.items c.loop-child.out.items c.put_child.new.out.items c.loop-child.invariant
     c.in_ok-put_child.ensures

@@ -1,11 +1,11 @@
 use Rattle.std.proofs.Common.{◌∙◌, ap, arith, ◌+◌, length, ◌≡◌}
 use Rattle.mp4_codec.specs.BoxType.{code_of}
-use Rattle.mp4_codec.specs.Boxes.{frame}
+use Rattle.mp4_codec.specs.Boxes.{box_bytes}
 use Rattle.mp4_codec.specs.PutLaws.{◌then◌, number_piece}
 use Rattle.mp4_codec.proofs.boxes.WriteBox.put_box.Goals as goal
 
 pub returns : goal.returns
-unfolding frame
+unfolding box_bytes
 returns g c =
     let payload = g.Self.Mp4Box.payload c.args.self.now in
     let size : c.box_size.result ≡ 8 + length payload = omega (arith, c.box_size.ensures) in

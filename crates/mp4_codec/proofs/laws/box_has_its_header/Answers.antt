@@ -1,5 +1,5 @@
 use Rattle.mp4_codec.specs.FramingLaws.{reads_as_box}
-use Rattle.mp4_codec.proofs.laws.frame_has_its_head.Goals as goal
+use Rattle.mp4_codec.proofs.laws.box_has_its_header.Goals as goal
 
 pub returns : goal.returns
 returns c = reads_as_box
