@@ -9,4 +9,4 @@ returns g c =
     let whole : length (flat_map (g.T.Entry.encoded c.args.version) c.args.items.now) ≡ length c.args.items.now * n =
     length-flat_map-same (g.T.Entry.encoded c.args.version) n (g.met.T.Entry.length_encoded c.args.version)
     c.args.items.now in
-    rw (whole, c.saturating_mul.ensures, c.size.ensures, c.len.ensures.value) refl
+    rw (whole, c.saturating_mul.ensures, c.size.ensures) refl
