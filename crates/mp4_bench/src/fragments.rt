@@ -89,7 +89,7 @@ fn put_run(
     Ok(sum)
 }
 
-/// A track's part of a fragment, whose first sample is decoded then.
+/// A track fragment, whose first sample is decoded then.
 fn put_part(
     bytes: &mut Vec<u8>,
     random: &mut Random,

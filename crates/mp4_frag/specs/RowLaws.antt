@@ -273,20 +273,20 @@ column_fits : (flag flags count : ℕ) (xs : List ℕ) → column_refusal flag f
 column_fits flag flags count xs e =
     at_most (is_set flags flag) (length xs) count (are_listed flag flags count xs e)
 
-member_agrees : (flag flags count : ℕ) (xs : List ℕ) → length xs ≡ listed flag flags count → (k : ℕ) → k < count
+listed_value_agrees : (flag flags count : ℕ) (xs : List ℕ) → length xs ≡ listed flag flags count → (k : ℕ) → k < count
     → flag_refusal flag flags (slice_get xs k) ≡ None
 unfolding flag_refusal
-member_agrees flag flags count xs e k lt = chosen (is_set flags flag) refl e
+listed_value_agrees flag flags count xs e k lt = chosen (is_set flags flag) refl e
   where
     chosen : (b : Bool) → is_set flags flag ≡ b → length xs ≡ cond b count 0
         → flag_refusal flag flags (slice_get xs k) ≡ None
     chosen true is e = rw (slice_get-get_or xs k 0 (omega arith), is) refl
     chosen false is e = rw (slice_get_past xs k (omega arith), is) refl
 
-member_range : (P : ℕ → Type 0) (xs : List ℕ) → AllByRecursion P xs → (k : ℕ) → IfSome (slice_get xs k) P
-member_range P [] h k = tt
-member_range P (x ∷ xs) h zero = h.0
-member_range P (x ∷ xs) h (suc k) = member_range P xs h.1 k
+listed_value_range : (P : ℕ → Type 0) (xs : List ℕ) → AllByRecursion P xs → (k : ℕ) → IfSome (slice_get xs k) P
+listed_value_range P [] h k = tt
+listed_value_range P (x ∷ xs) h zero = h.0
+listed_value_range P (x ∷ xs) h (suc k) = listed_value_range P xs h.1 k
 
 all_pushed : {A : Type 0} (P : A → Type 0) (xs : List A) (x : A) → AllByRecursion P xs → P x
     → AllByRecursion P (xs ++ x ∷ [])
@@ -296,14 +296,14 @@ all_pushed P (y ∷ ys) x h p = (h.0, all_pushed P ys x h.1 p)
 row_fits : (flags count : ℕ) (c : Columns) → FitsColumns flags count c → (k : ℕ) → k < count
     → FitsRow flags (row_of c k)
 row_fits flags count c f k lt = record {
-  duration = member_agrees 0x100 flags count c.durations (are_listed 0x100 flags count c.durations f.durations) k lt;
-  size = member_agrees 0x200 flags count c.sizes (are_listed 0x200 flags count c.sizes f.sizes) k lt;
-  sample_flags = member_agrees 0x400 flags count c.flags (are_listed 0x400 flags count c.flags f.sample_flags) k lt;
-  cts = member_agrees 0x800 flags count c.cts (are_listed 0x800 flags count c.cts f.cts) k lt;
-  duration_range = member_range (λ n. n < 2 ^ 32) c.durations f.durations_range k;
-  size_range = member_range (λ n. n < 2 ^ 32) c.sizes f.sizes_range k;
-  sample_flags_range = member_range (λ n. n < 2 ^ 32) c.flags f.sample_flags_range k;
-  cts_range = member_range (λ n. n < 2 ^ 32) c.cts f.cts_range k;
+  duration = listed_value_agrees 0x100 flags count c.durations (are_listed 0x100 flags count c.durations f.durations) k lt;
+  size = listed_value_agrees 0x200 flags count c.sizes (are_listed 0x200 flags count c.sizes f.sizes) k lt;
+  sample_flags = listed_value_agrees 0x400 flags count c.flags (are_listed 0x400 flags count c.flags f.sample_flags) k lt;
+  cts = listed_value_agrees 0x800 flags count c.cts (are_listed 0x800 flags count c.cts f.cts) k lt;
+  duration_range = listed_value_range (λ n. n < 2 ^ 32) c.durations f.durations_range k;
+  size_range = listed_value_range (λ n. n < 2 ^ 32) c.sizes f.sizes_range k;
+  sample_flags_range = listed_value_range (λ n. n < 2 ^ 32) c.flags f.sample_flags_range k;
+  cts_range = listed_value_range (λ n. n < 2 ^ 32) c.cts f.cts_range k;
 }
 
 rows_fit : (flags count : ℕ) (c : Columns) → FitsColumns flags count c → (n : ℕ) → n ≤ count

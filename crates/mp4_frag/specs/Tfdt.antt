@@ -1,4 +1,4 @@
--- When a track's part of a movie fragment begins (ISO/IEC 14496-12, 8.8.12).
+-- When a track fragment begins (ISO/IEC 14496-12, 8.8.12).
 use Rattle.std.specs.Prelude.{ℕ, ◌^◌, ◌<◌, List, Option, Result, Ok}
 use Rattle.mp4_codec.specs.Cause.{Cause, ◌>>=◌, ◌or◌}
 use Rattle.mp4_codec.specs.Bytes.{number_at, versioned_at, number, versioned, ◌⧺◌, version_refusal, value_refusal}

@@ -54,7 +54,7 @@ columns_of b = record {
   cts = b.sample_cts;
 }
 
--- the payload that holds a run: each field that is there, and then as many rows as its longest list has members
+-- the payload that holds a run: each field that is there, and then as many rows as its longest list has values
 unfoldable pub trun_payload : TrunBox → List ℕ
 trun_payload b =
     number 1 b.version
@@ -64,7 +64,7 @@ trun_payload b =
     ⧺ optional_field (number 4) b.first_sample_flags
     ⧺ flat_map row (rows (columns_of b) (longest (columns_of b)))
 
--- a run is not written where a flag and its field disagree, or a list has too many members or too few
+-- a run is not written where a flag and its field disagree, or a list has too many values or too few
 unfoldable pub trun_refusal : TrunBox → Option Cause
 trun_refusal b =
     flag_refusal 0x1 b.flags b.data_offset

@@ -14,12 +14,12 @@ use Rattle.mp4_frag.specs.RowLaws.{length-rows, FitsColumns, columns_again}
 use Rattle.mp4_frag.specs.declared.trun.TrunBox.{TrunBox}
 use Rattle.mp4_frag.specs.Trun.{trun_of, columns_of, trun_payload, trun_refusal, IsInRangeTrun, IsCanonicalTrun}
 
--- the members of the four lists
-abbrev pub members : TrunBox → ℕ
-members b = length b.sample_durations + length b.sample_sizes + length b.sample_flags + length b.sample_cts
+-- how many values the four lists have
+abbrev pub listed_values : TrunBox → ℕ
+listed_values b = length b.sample_durations + length b.sample_sizes + length b.sample_flags + length b.sample_cts
 
 pub length-trun_payload : (b : TrunBox) → length (trun_payload b)
-    ≡ 8 + 4 * option_len b.data_offset + 4 * option_len b.first_sample_flags + 4 * members b
+    ≡ 8 + 4 * option_len b.data_offset + 4 * option_len b.first_sample_flags + 4 * listed_values b
 unfolding trun_payload
 length-trun_payload b =
     simp (

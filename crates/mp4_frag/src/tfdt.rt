@@ -1,4 +1,4 @@
-//! When a track's part of a movie fragment begins.
+//! When a track fragment begins.
 
 ghost use Rattle.mp4_codec.specs.ExactTest.{by_test, field_tests};
 ghost use Rattle.std.specs.Prelude.{◌≡◌, Ok};
@@ -15,7 +15,7 @@ use mp4_codec::{
 };
 use std::alloc::Global;
 
-/// The track fragment decode time, `tfdt`: when the first sample of a track's part of a movie fragment is decoded
+/// The track fragment decode time, `tfdt`: when the first sample of a track fragment is decoded
 /// (ISO/IEC 14496-12, 8.8.12).
 ///
 /// Version 1 has 64 bits for the time, version 0 has 32. Any other version is `InvalidData`, both ways; a time past

@@ -31,7 +31,7 @@ const DEFAULT_SAMPLE_SIZE: u32 = 0x10;
 /// The flag of `default_sample_flags`.
 const DEFAULT_SAMPLE_FLAGS: u32 = 0x20;
 
-/// The track fragment header, `tfhd`: whose samples a part of a movie fragment has, and what holds of them where they
+/// The track fragment header, `tfhd`: whose samples a track fragment has, and what holds of them where they
 /// say nothing else (ISO/IEC 14496-12, 8.8.7).
 ///
 /// Any version is read and written. Each field that may be missing has a flag: it is read where its flag is set, and

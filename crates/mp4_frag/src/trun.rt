@@ -9,7 +9,7 @@ ghost use Rattle.mp4_codec.specs.Bytes.{Appends};
 ghost use Rattle.mp4_codec.specs.Boxes.{size_around};
 ghost use Rattle.mp4_frag.specs.Rows.{row, rows, row_of, longest};
 ghost use Rattle.mp4_frag.specs.Trun.{trun_payload, columns_of, ListsNothing, default_trun, trun_of, trun_refusal, IsInRangeTrun, IsWellFormedTrun};
-ghost use Rattle.mp4_frag.specs.TrunLaws.{members, trun_again};
+ghost use Rattle.mp4_frag.specs.TrunLaws.{listed_values, trun_again};
 ghost use Rattle.mp4_codec.specs.Early.{Shows, refused_at_once};
 
 use crate::optional::{check_flagged, how_many, put_flagged, read_flagged};
@@ -34,7 +34,7 @@ const FIRST_SAMPLE_FLAGS: u32 = 0x4;
 /// Any version is read and written. Each field and list that may be missing has a flag: it is read where its flag is
 /// set, and written where it is there. More samples than the payload has room for are `InvalidData`, before memory is
 /// requested; without any of the lists samples take no bytes and no memory, however many they are. Where a flag and
-/// its field disagree, or a list hasn't `sample_count` members where its flag is set or isn't empty where it isn't,
+/// its field disagree, or a list hasn't `sample_count` values where its flag is set or isn't empty where it isn't,
 /// the box isn't written, but `InvalidData`.
 #[derive(Debug, PartialEq, Eq, Drop)]
 pub struct TrunBox {
@@ -95,25 +95,27 @@ impl TrunBox {
         BoxType::TrunBox
     }
 
-    /// The bytes of the box, its header included: 16, and 4 for each field that is there and each member of the lists.
+    /// The bytes of the box, its header included: 16, and 4 for each field that is there and each value of the lists.
     #[tactic(auto, using(crate::proofs::Sizes::sizes))]
     pub fn get_size(&self) -> u64
         ensures { result ≡ size_around (trun_payload self.now) }
     {
         let fields = 4 * how_many(&self.data_offset) + 4 * how_many(&self.first_sample_flags);
-        self.members().saturating_mul(4).saturating_add(16 + fields)
+        self.listed_values()
+            .saturating_mul(4)
+            .saturating_add(16 + fields)
     }
 
-    /// The members of the four lists; it stops at 2^64 - 1.
-    fn members(&self) -> u64
-        ensures { result ≡ min (members self.now) (2 ^ 64 - 1) }
+    /// The values of the four lists; it stops at 2^64 - 1.
+    fn listed_values(&self) -> u64
+        ensures { result ≡ min (listed_values self.now) (2 ^ 64 - 1) }
     {
         let front = self.sample_durations.len() as u64 + self.sample_sizes.len() as u64;
         let rest = self.sample_flags.len() as u64 + self.sample_cts.len() as u64;
         front.saturating_add(rest)
     }
 
-    /// How many members the longest of the four lists has.
+    /// How many values the longest of the four lists has.
     fn longest(&self) -> usize
         ensures { result ≡ longest (columns_of self.now) }
     {

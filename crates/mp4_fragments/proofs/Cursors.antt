@@ -1,4 +1,4 @@
--- A walk over the members of runs.
+-- A walk over the samples of runs.
 use Rattle.std.proofs.Common.{◌≡◌, ℕ, ◌+◌, ◌-◌, ◌^◌, ◌<◌, ◌≤◌, List, [], ◌∷◌, length, get_or, take, Option, Some, None}
 use Rattle.std.proofs.Common.{refl, sym, ap, ◌∙◌, arith}
 use Rattle.std.specs.Prelude.{IfNone, IfSome, slice_get, slice_index}
@@ -6,18 +6,18 @@ use Rattle.std.specs.List.{sum_by}
 use Rattle.std.proofs.lemmas.List.Sums.{sum_by_more}
 use Rattle.std.proofs.lemmas.Option.{slice_get-get_or, same_Some}
 use Rattle.mp4_fragments.specs.Numbers.{plus}
-use Rattle.mp4_fragments.specs.Members.{PlacedRun, all_members, at_member, member_of, run_count}
+use Rattle.mp4_fragments.specs.RunSamples.{PlacedRun, all_run_samples, at_run_sample, run_sample_of, run_count}
 use Rattle.mp4_fragments.specs.Cursor.{IsIn, IsInRuns}
 use Rattle.mp4_fragments.specs.declared.cursor.RunCursor.{RunCursor}
-use Rattle.mp4_fragments.specs.declared.members.Member.{Member}
+use Rattle.mp4_fragments.specs.declared.run_samples.RunSample.{RunSample}
 use Rattle.mp4_search.specs.Search.{IsLastAtMost}
 use Rattle.mp4_search.proofs.SumLaws.{before_found, past_found}
 use Rattle.mp4_fragments.specs.Index.{Find, Indexes, placed_at}
 use Rattle.mp4_fragments.specs.declared.index.RunEntry.{RunEntry}
 use Rattle.mp4_fragments.specs.declared.index.RunIndex.{RunIndex}
-use Rattle.mp4_fragments.proofs.Finding.{entry_of, slice_get-all_members, slice_get-all_members_past}
+use Rattle.mp4_fragments.proofs.Finding.{entry_of, slice_get-all_run_samples, slice_get-all_run_samples_past}
 use Rattle.mp4_fragments.proofs.ListedValues.{sum_of_first-more}
-use Rattle.mp4_fragments.proofs.Places.{at_member-on}
+use Rattle.mp4_fragments.proofs.Places.{at_run_sample-on}
 
 -- the run that a cursor is in
 abbrev own : RunCursor → PlacedRun
@@ -33,44 +33,44 @@ same_run : (p : PlacedRun) (c : RunCursor) → IsIn p c → p ≡ record { at = 
 same_run p c at = ap (λ r. record { at = p.at; run = r; defaults = p.defaults }) at.run
     ∙ ap (λ d. record { at = p.at; run = c.run.now; defaults = d }) at.defaults
 
--- the next member, if the run has one
+-- the next sample, if the run has one
 next_is : (runs : List PlacedRun) (c : RunCursor) → IsInRuns runs c → c.passed < c.run.now.sample_count
-    → slice_get (all_members runs) c.number ≡ Some (member_of (run_in runs c) c.passed)
+    → slice_get (all_run_samples runs) c.number ≡ Some (run_sample_of (run_in runs c) c.passed)
 next_is runs c at before =
     let counted = at.counted in
     let passed : c.number - sum_by run_count (take c.entry runs) ≡ c.passed = omega (arith, counted) in
     let inside : c.passed < (run_in runs c).run.sample_count = rw (is_in runs c at).run before in
-    slice_get-all_members runs c.number c.entry (sum_by run_count (take c.entry runs)) (own c) at.within refl
+    slice_get-all_run_samples runs c.number c.entry (sum_by run_count (take c.entry runs)) (own c) at.within refl
     (omega (arith, counted)) (rw passed inside)
-    ∙ ap (λ j. Some (member_of (run_in runs c) j)) passed
+    ∙ ap (λ j. Some (run_sample_of (run_in runs c) j)) passed
 
-pub member_is : (runs : List PlacedRun) (c : RunCursor) (m : Member) → IsInRuns runs c
+pub run_sample_is : (runs : List PlacedRun) (c : RunCursor) (m : RunSample) → IsInRuns runs c
     → c.passed < c.run.now.sample_count
     → ((p : PlacedRun) → IsIn p c
-    → m ≡ member_of (record { at = p.at; run = c.run.now; defaults = c.defaults }) c.passed)
-    → slice_get (all_members runs) c.number ≡ Some m
-member_is runs c m at before is =
+    → m ≡ run_sample_of (record { at = p.at; run = c.run.now; defaults = c.defaults }) c.passed)
+    → slice_get (all_run_samples runs) c.number ≡ Some m
+run_sample_is runs c m at before is =
     let p = run_in runs c in
     next_is runs c at before
-    ∙ ap (λ q. Some (member_of q c.passed)) (same_run p c (is_in runs c at))
+    ∙ ap (λ q. Some (run_sample_of q c.passed)) (same_run p c (is_in runs c at))
     ∙ ap Some (sym (is p (is_in runs c at)))
 
--- the cursor behind that member
-pub stepped : (runs : List PlacedRun) (old new : RunCursor) (m : Member) → IsInRuns runs old
-    → old.passed < old.run.now.sample_count → slice_get (all_members runs) old.number ≡ Some m
+-- the cursor behind that sample
+pub stepped : (runs : List PlacedRun) (old new : RunCursor) (m : RunSample) → IsInRuns runs old
+    → old.passed < old.run.now.sample_count → slice_get (all_run_samples runs) old.number ≡ Some m
     → new.run.now ≡ old.run.now → new.defaults ≡ old.defaults → new.entry ≡ old.entry
     → new.passed ≡ old.passed + 1 → new.number ≡ old.number + 1
     → new.at ≡ record { place = plus old.at.place m.size; time = plus old.at.time m.duration }
     → IsInRuns runs new
-unfolding member_of
+unfolding run_sample_of
 stepped runs old new m at before is run defaults entry passed number on =
     let q = run_in runs old in
     let here = is_in runs old at in
-    let member : m ≡ member_of q old.passed = same_Some _ _ (sym is ∙ next_is runs old at before) in
-    let more : new.at ≡ at_member q.run q.defaults q.at (old.passed + 1) = on
-    ∙ at_member-on q.run q.defaults q.at old.at old.passed (old.passed + 1) m.size m.duration
-    (rw member (sym (sum_of_first-more old.passed q.run.sample_sizes q.defaults.size)))
-    (rw member (sym (sum_of_first-more old.passed q.run.sample_durations q.defaults.duration))) here.begins in
+    let run_sample : m ≡ run_sample_of q old.passed = same_Some _ _ (sym is ∙ next_is runs old at before) in
+    let more : new.at ≡ at_run_sample q.run q.defaults q.at (old.passed + 1) = on
+    ∙ at_run_sample-on q.run q.defaults q.at old.at old.passed (old.passed + 1) m.size m.duration
+    (rw run_sample (sym (sum_of_first-more old.passed q.run.sample_sizes q.defaults.size)))
+    (rw run_sample (sym (sum_of_first-more old.passed q.run.sample_durations q.defaults.duration))) here.begins in
     record {
       within = rw entry at.within;
       inside = rw (run, passed) (omega (arith, before));
@@ -104,13 +104,13 @@ placed_by find es runs index i entry d s e1 is h =
     ap (placed_at find) (is ∙ ap (λ (xs : List RunEntry). get_or xs i entry) e1)
     ∙ entry_of find runs index i entry d s h
 
--- what is known of a cursor before member j of an entry's run
+-- what is known of a cursor before sample j of an entry's run
 abbrev pub IsBefore : Find → RunEntry → ℕ → ℕ → ℕ → RunCursor → Type 0
 IsBefore find entry i j number c = (c.entry ≡ i) × (c.passed ≡ j) × (c.number ≡ number)
     × (j < c.run.now.sample_count) × (j < 2 ^ 32 - 1)
     × ((p : PlacedRun) → placed_at find entry ≡ Some p → IsIn p c)
 
--- such a cursor, by the members of the runs before
+-- such a cursor, by the samples of the runs before
 in_runs : (find : Find) (es : List RunEntry) (runs : List PlacedRun) (index : RunIndex) (i j number : ℕ)
     (entry : RunEntry) (c : RunCursor) → Indexes find runs index → es ≡ index.entries → entry ≡ get_or es i entry
     → i < length runs → number ≡ sum_by run_count (take i runs) + j → IsBefore find entry i j number c
@@ -134,7 +134,7 @@ in_runs find es runs index i j number entry c s e1 is within counted at =
       small,
     )
 
--- a cursor before the member with a number that was searched
+-- a cursor before the sample with a number that was searched
 pub found_at : (find : Find) (es : List RunEntry) (runs : List PlacedRun) (index : RunIndex) (key i number : ℕ)
     (entry : RunEntry) (c : Option RunCursor) → key < 2 ^ 32 - 1 → Indexes find runs index → es ≡ index.entries
     → entry ≡ get_or es i entry → IsLastAtMost index.counts key i → number ≡ slice_index index.counts i
@@ -146,12 +146,12 @@ found_at find es runs index key i number entry c limit s e1 is at e2 before =
     of_cursor c _ _ before (λ x.
     in_runs find es runs index i (key - number) key entry x s e1 is found.0 (omega (arith, e2, found.1, found.2)))
 
--- none is found past the last member
+-- none is found past the last sample
 pub found_none : (find : Find) (es : List RunEntry) (runs : List PlacedRun) (index : RunIndex) (key i number : ℕ)
     (entry : RunEntry) (c : Option RunCursor) → key < 2 ^ 32 - 1 → Indexes find runs index → es ≡ index.entries
     → entry ≡ get_or es i entry → IsLastAtMost index.counts key i → number ≡ slice_index index.counts i
     → IfNone c ((p : PlacedRun) → placed_at find entry ≡ Some p → p.run.sample_count ≤ key - number)
-    → IfNone c (slice_get (all_members runs) key ≡ None)
+    → IfNone c (slice_get (all_run_samples runs) key ≡ None)
 found_none find es [] index key i number entry c limit s e1 is at e2 none =
     absurd (omega (arith, at.within, s.counts.count))
 found_none find es (d ∷ runs) index key i number entry c limit s e1 is at e2 none =
@@ -160,9 +160,9 @@ found_none find es (d ∷ runs) index key i number entry c limit s e1 is at e2 n
     of_none c _ _ none (λ few.
     let past = past_found run_count all index.counts key i d s.counts limit at
     (rw (← e2) (few (get_or all i d) (placed_by find es all index i entry d s e1 is found.0))) in
-    slice_get-all_members_past all key (i + 1) past.0 past.1)
+    slice_get-all_run_samples_past all key (i + 1) past.0 past.1)
 
--- a cursor before the first member of the next run
+-- a cursor before the first sample of the next run
 pub next_at : (find : Find) (es : List RunEntry) (runs : List PlacedRun) (index : RunIndex) (entry : RunEntry)
     (old : RunCursor) (c : Option RunCursor) → Indexes find runs index → IsInRuns runs old
     → old.run.now.sample_count ≤ old.passed → es ≡ index.entries → entry ≡ get_or es (old.entry + 1) entry

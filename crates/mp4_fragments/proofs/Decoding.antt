@@ -1,4 +1,4 @@
--- When runs begin, and the last member that is decoded at or before a time.
+-- When runs begin, and the last sample that is decoded at or before a time.
 use Rattle.std.proofs.Common.{◌≡◌, ℕ, zero, suc, ◌+◌, ◌-◌, ◌^◌, ◌<◌, ◌≤◌, ◌⊎◌, inl, inr, min, Bool, true, false}
 use Rattle.std.proofs.Common.{List, [], ◌∷◌, ◌++◌, length, take, get_or, Option, Some, None}
 use Rattle.std.proofs.Common.{refl, sym, ap, ◌∙◌, arith, ⊎_elim}
@@ -14,16 +14,16 @@ use Rattle.mp4_search.specs.Digits.{digits}
 use Rattle.mp4_search.specs.Partition.{ArePartedAt, IsLastWith, IsParted}
 use Rattle.mp4_search.proofs.SumLaws.{sums_rise}
 use Rattle.mp4_fragments.specs.Numbers.{plus, sum_of_first}
-use Rattle.mp4_fragments.specs.Members.{PlacedRun, all_members, at_member, member_of, run_count}
+use Rattle.mp4_fragments.specs.RunSamples.{PlacedRun, all_run_samples, at_run_sample, run_sample_of, run_count}
 use Rattle.mp4_fragments.specs.ByTime.{AreEarliest, AreKept, begin_of, decoded_by}
-use Rattle.mp4_fragments.specs.ByTime.{earlier, first_decoded, member_by, member_time}
+use Rattle.mp4_fragments.specs.ByTime.{earlier, first_decoded, run_sample_by, run_sample_time}
 use Rattle.mp4_frag.specs.declared.trun.TrunBox.{TrunBox}
 use Rattle.mp4_fragments.specs.Index.{Find, Indexes, placed_at}
 use Rattle.mp4_fragments.specs.declared.defaults.SampleDefaults.{SampleDefaults}
 use Rattle.mp4_fragments.specs.declared.index.RunEntry.{RunEntry}
 use Rattle.mp4_fragments.specs.declared.index.RunIndex.{RunIndex}
-use Rattle.mp4_fragments.specs.declared.members.Beginning.{Beginning}
-use Rattle.mp4_fragments.proofs.Finding.{entry_of, length-all_members, length-entries, slice_get-all_members}
+use Rattle.mp4_fragments.specs.declared.run_samples.RunStart.{RunStart}
+use Rattle.mp4_fragments.proofs.Finding.{entry_of, length-all_run_samples, length-entries, slice_get-all_run_samples}
 use Rattle.mp4_fragments.proofs.Cursors.{placed_by}
 use Rattle.mp4_fragments.proofs.ListedValues.{sum_of_first-more}
 
@@ -229,7 +229,7 @@ begins_at runs end i t d e =
     (λ (above : end ≤ before). let wrong : None ≡ Some t = rw (le-ltb before end above) at e in absurd cc)
     (cases_lt before end)
 
--- when a run begins whose first member has a number below the end
+-- when a run begins whose first sample has a number below the end
 pub begin_is : (runs : List PlacedRun) (end i : ℕ) (d : PlacedRun) → i < length runs
     → sum_by run_count (take i runs) < end → begin_of runs end i ≡ first_decoded (get_or runs i d)
 unfolding begin_of
@@ -252,18 +252,18 @@ begin_past runs end i above =
     none_if true o e = rw e refl
     none_if false o e = refl
 
--- when member j of a run is decoded
+-- when sample j of a run is decoded
 pub time_is : (runs : List PlacedRun) (n i : ℕ) (d : PlacedRun) → i < length runs
     → sum_by run_count (take i runs) ≤ n → n - sum_by run_count (take i runs) < run_count (get_or runs i d)
-    → member_time runs n ≡ (at_member (get_or runs i d).run (get_or runs i d).defaults (get_or runs i d).at
+    → run_sample_time runs n ≡ (at_run_sample (get_or runs i d).run (get_or runs i d).defaults (get_or runs i d).at
     (n - sum_by run_count (take i runs))).time
-unfolding member_time member_of
+unfolding run_sample_time run_sample_of
 time_is runs n i d h reached inside =
-    rw (slice_get-all_members runs n i (sum_by run_count (take i runs)) d h refl reached inside) refl
+    rw (slice_get-all_run_samples runs n i (sum_by run_count (take i runs)) d h refl reached inside) refl
 
-time_past : (runs : List PlacedRun) (n : ℕ) → length (all_members runs) ≤ n → member_time runs n ≡ None
-unfolding member_time
-time_past runs n past = rw (slice_get_past (all_members runs) n past) refl
+time_past : (runs : List PlacedRun) (n : ℕ) → length (all_run_samples runs) ≤ n → run_sample_time runs n ≡ None
+unfolding run_sample_time
+time_past runs n past = rw (slice_get_past (all_run_samples runs) n past) refl
 
 -- the run that a number is in
 in_run : (runs : List PlacedRun) (n : ℕ) (d : PlacedRun) → n < sum_by run_count runs
@@ -322,7 +322,7 @@ unfolding placed_at
 placed_nowhere find e p none there =
     let wrong : None ≡ Some p = rw (← none) at there in absurd cc
 
--- the times of a run's members rise, up to the first that is broken
+-- the times of a run's samples rise, up to the first that is overflowed
 sum_rises : (values : List ℕ) (default i j : ℕ) → i ≤ j
     → sum_of_first i values default ≤ sum_of_first j values default
 sum_rises values default i zero h = let e : i ≡ 0 = omega arith in rw e (omega arith)
@@ -347,16 +347,16 @@ earlier_on time a b (Some t) h e =
     (λ (broken : 2 ^ 64 ≤ t + b). absurd (true≢false (sym (rw (le-ltb _ _ broken) at e))))
     (cases_lt (t + b) (2 ^ 64))
 
-pub members_parted : (run : TrunBox) (defaults : SampleDefaults) (first : Beginning) (time n : ℕ)
-    → IsParted (λ j. decoded_by time (at_member run defaults first j).time) n
-unfolding at_member
-members_parted run defaults first time n = record {
+pub run_samples_parted : (run : TrunBox) (defaults : SampleDefaults) (first : RunStart) (time n : ℕ)
+    → IsParted (λ j. decoded_by time (at_run_sample run defaults first j).time) n
+unfolding at_run_sample
+run_samples_parted run defaults first time n = record {
   earlier = λ i j h k. earlier_on time (sum_of_first i run.sample_durations defaults.duration)
       (sum_of_first j run.sample_durations defaults.duration) first.time
       (sum_rises run.sample_durations defaults.duration i j h);
 }
 
--- which runs begin with a member below an end
+-- which runs begin with a sample below an end
 pub below_end : (find : Find) (runs : List PlacedRun) (index : RunIndex) (end r : ℕ) → Indexes find runs index
     → 1 ≤ end → end < 2 ^ 32 → r < length index.counts → slice_index index.counts r ≤ end - 1
     → sum_by run_count (take r runs) < end
@@ -467,12 +467,12 @@ few_times runs end times s =
 first_is : (p : PlacedRun) → 0 < run_count p → first_decoded p ≡ p.at.time
 first_is p some = rw (lt-ltb 0 (run_count p) some) refl
 
--- no member of a run that begins late is decoded early
-late_member : (runs : List PlacedRun) (end time n r : ℕ) (d : PlacedRun) → r < length runs
+-- no sample of a run that begins late is decoded early
+late_run_sample : (runs : List PlacedRun) (end time n r : ℕ) (d : PlacedRun) → r < length runs
     → sum_by run_count (take r runs) ≤ n → n - sum_by run_count (take r runs) < run_count (get_or runs r d) → n < end
-    → decoded_by time (begin_of runs end r) ≡ false → decoded_by time (member_time runs n) ≡ false
-unfolding at_member
-late_member runs end time n r d h reached inside below late =
+    → decoded_by time (begin_of runs end r) ≡ false → decoded_by time (run_sample_time runs n) ≡ false
+unfolding at_run_sample
+late_run_sample runs end time n r d h reached inside below late =
     let p = get_or runs r d in
     let begin : begin_of runs end r ≡ p.at.time =
     begin_is runs end r d h (omega (arith, reached, below)) ∙ first_is p (omega (arith, inside)) in
@@ -481,61 +481,61 @@ late_member runs end time n r d h reached inside below late =
     (rw begin at late))
 
 past_early : (runs : List PlacedRun) (time j : ℕ) → sum_by run_count runs ≤ j
-    → decoded_by time (member_time runs j) ≡ false
-past_early runs time j past = rw (time_past runs j (omega (arith, length-all_members runs, past))) refl
+    → decoded_by time (run_sample_time runs j) ≡ false
+past_early runs time j past = rw (time_past runs j (omega (arith, length-all_run_samples runs, past))) refl
 
--- no member is decoded so early where no run begins so early
+-- no sample is decoded so early where no run begins so early
 pub none_early : (runs : List PlacedRun) (end time : ℕ)
     → ((r : ℕ) → decoded_by time (begin_of runs end r) ≡ false)
-    → (j : ℕ) → j < end → decoded_by time (member_time runs j) ≡ false
+    → (j : ℕ) → j < end → decoded_by time (run_sample_time runs j) ≡ false
 none_early [] end time late j h = past_early [] time j (omega arith)
 none_early (d ∷ runs) end time late j h =
     let all = d ∷ runs in
     ⊎_elim
     (λ (inside : j < sum_by run_count all).
     let at = in_run all j d inside in
-    late_member all end time j at.0 d at.1 at.2 at.3 h (late at.0))
+    late_run_sample all end time j at.0 d at.1 at.2 at.3 h (late at.0))
     (λ (past : sum_by run_count all ≤ j). past_early all time j past)
     (cases_lt j (sum_by run_count all))
 
--- the first member of a run is decoded when the run begins
+-- the first sample of a run is decoded when the run begins
 at_first : (p : PlacedRun) (time t : ℕ) → p.at.time ≡ Some t → t ≤ time → time < 2 ^ 64
-    → decoded_by time (at_member p.run p.defaults p.at 0).time ≡ true
-unfolding at_member sum_of_first
+    → decoded_by time (at_run_sample p.run p.defaults p.at 0).time ≡ true
+unfolding at_run_sample sum_of_first
 at_first p time t e early small =
     let same : t + 0 ≡ t = omega arith in
     rw (e, same, lt-ltb t (2 ^ 64) (omega (arith, early, small))) (le-leb t time early)
 
--- the members of a run that are decoded at or before a time, of those below an end: some, and the last of all
-pub last_early : (runs : List PlacedRun) (end time c before members : ℕ) (d : PlacedRun) (times : List ℕ)
+-- the samples of a run that are decoded at or before a time, of those below an end: some, and the last of all
+pub last_early : (runs : List PlacedRun) (end time c before run_samples : ℕ) (d : PlacedRun) (times : List ℕ)
     → AreEarliest (begin_of runs end) 0 times → ArePartedAt (runs_by times time) (length times) c → 1 ≤ c
     → time < 2 ^ 64 → before ≡ sum_by run_count (take (c - 1) runs)
-    → ArePartedAt (λ j. decoded_by time (at_member (get_or runs (c - 1) d).run (get_or runs (c - 1) d).defaults
-    (get_or runs (c - 1) d).at j).time) (min (end - before) (run_count (get_or runs (c - 1) d))) members
-    → (1 ≤ members) × IsLastWith (member_by runs time) end (before + members - 1)
-last_early runs end time c before members d times s at some small counted parted =
+    → ArePartedAt (λ j. decoded_by time (at_run_sample (get_or runs (c - 1) d).run (get_or runs (c - 1) d).defaults
+    (get_or runs (c - 1) d).at j).time) (min (end - before) (run_count (get_or runs (c - 1) d))) run_samples
+    → (1 ≤ run_samples) × IsLastWith (run_sample_by runs time) end (before + run_samples - 1)
+last_early runs end time c before run_samples d times s at some small counted parted =
     let p = get_or runs (c - 1) d in
     let found = found_run (begin_of runs end) times time c s at some in
     let begin = begins_at runs end (c - 1) found.0 d found.1 in
-    let one : 1 ≤ members =
+    let one : 1 ≤ run_samples =
     ⊎_elim
-    (λ (none : members < 1).
+    (λ (none : run_samples < 1).
     absurd (true≢false (sym (at_first p time found.0 begin.3 found.2 small)
     ∙ parted.others 0 (omega arith) (omega (arith, counted, begin.1, begin.2)))))
     (λ q. q)
-    (cases_lt members 1) in
+    (cases_lt run_samples 1) in
     let within = parted.within in
-    let n = before + members - 1 in
-    let passed : n - sum_by run_count (take (c - 1) runs) ≡ members - 1 = omega (arith, counted, one) in
+    let n = before + run_samples - 1 in
+    let passed : n - sum_by run_count (take (c - 1) runs) ≡ run_samples - 1 = omega (arith, counted, one) in
     let time_of : (j : ℕ) → sum_by run_count (take (c - 1) runs) ≤ j
     → j - sum_by run_count (take (c - 1) runs) < run_count p
-    → member_time runs j ≡ (at_member p.run p.defaults p.at (j - sum_by run_count (take (c - 1) runs))).time =
+    → run_sample_time runs j ≡ (at_run_sample p.run p.defaults p.at (j - sum_by run_count (take (c - 1) runs))).time =
     λ j h k. time_is runs j (c - 1) d begin.0 h k in (
       one,
       record {
         within = omega (arith, within, one, counted, begin.1);
         own = rw (time_of n (omega (arith, counted, one)) (omega (arith, passed, within, one)), passed)
-            (parted.first (members - 1) (omega (arith, one)));
+            (parted.first (run_samples - 1) (omega (arith, one)));
         later = λ j h k. ⊎_elim
             (λ (inside : j < sum_by run_count runs).
             let r = in_run runs j d inside in
@@ -551,7 +551,7 @@ last_early runs end time c before members d times s at some small counted parted
             let inside_run = rw same at r.3 in
             rw (time_of j reached inside_run) (parted.others (j - sum_by run_count (take (c - 1) runs))
             (omega (arith, h, counted, one)) (omega (arith, k, counted, reached, inside_run))))
-            (λ (behind : c ≤ r.0). late_member runs end time j r.0 d r.1 r.2 r.3 k
+            (λ (behind : c ≤ r.0). late_run_sample runs end time j r.0 d r.1 r.2 r.3 k
             (late_runs (begin_of runs end) times time c r.0 s at behind))
             (cases_lt r.0 c))
             (cases_lt r.0 (c - 1)))
@@ -560,7 +560,7 @@ last_early runs end time c before members d times s at some small counted parted
       },
     )
 
--- the run that was found has an entry, and begins with a member below the end
+-- the run that was found has an entry, and begins with a sample below the end
 pub run_found : (find : Find) (runs : List PlacedRun) (index : RunIndex) (end time c i : ℕ) (times : List ℕ)
     → Indexes find runs index → AreEarliest (begin_of runs end) 0 times
     → ArePartedAt (runs_by times time) (length times) c → 1 ≤ c → i ≡ c - 1 → end < 2 ^ 32
@@ -585,24 +585,24 @@ run_found find (d ∷ runs) index end time c i times s earliest at some e small 
       below,
     )
 
--- its members that are decoded at or before the time: some, and the last of all
+-- its samples that are decoded at or before the time: some, and the last of all
 pub answer_early : (find : Find) (es : List RunEntry) (runs : List PlacedRun) (index : RunIndex)
-    (end time c i before members : ℕ) (entry : RunEntry) (times : List ℕ) → Indexes find runs index
+    (end time c i before run_samples : ℕ) (entry : RunEntry) (times : List ℕ) → Indexes find runs index
     → es ≡ index.entries → entry ≡ get_or es i entry → AreEarliest (begin_of runs end) 0 times
     → ArePartedAt (runs_by times time) (length times) c → 1 ≤ c → i ≡ c - 1 → time < 2 ^ 64 → end < 2 ^ 32
     → before ≡ slice_index index.counts i
     → ((p : PlacedRun) → placed_at find entry ≡ Some p
-    → ArePartedAt (λ j. decoded_by time (at_member p.run p.defaults p.at j).time) (min (end - before) (run_count p))
-    members)
-    → (1 ≤ members) × IsLastWith (member_by runs time) end (before + members - 1)
-answer_early find es [] index end time c i before members entry times s e1 is earliest at some e small limit counted
+    → ArePartedAt (λ j. decoded_by time (at_run_sample p.run p.defaults p.at j).time) (min (end - before) (run_count p))
+    run_samples)
+    → (1 ≤ run_samples) × IsLastWith (run_sample_by runs time) end (before + run_samples - 1)
+answer_early find es [] index end time c i before run_samples entry times s e1 is earliest at some e small limit counted
     parted =
     let found = run_found find [] index end time c i times s earliest at some e limit in
     absurd (omega (arith, found.0))
-answer_early find es (d ∷ runs) index end time c i before members entry times s e1 is earliest at some e small limit
+answer_early find es (d ∷ runs) index end time c i before run_samples entry times s e1 is earliest at some e small limit
     counted parted =
     let all = d ∷ runs in
     let found = run_found find all index end time c i times s earliest at some e limit in
     let mine = parted (get_or all i d) (placed_by find es all index i entry d s e1 is found.0) in
-    last_early all end time c before members d times earliest at some small
+    last_early all end time c before run_samples d times earliest at some small
     (rw (← e) (counted ∙ found.3)) (rw (← e) mine)

@@ -5,10 +5,10 @@ use Rattle.std.specs.Prelude.{slice_get}
 use Rattle.std.specs.List.{filter_map}
 use Rattle.mp4_moof.specs.declared.traf.TrafBox.{TrafBox}
 use Rattle.mp4_fragments.specs.Index.{Indexes, placed_at, run_at, runs_of}
-use Rattle.mp4_fragments.specs.Members.{PlacedRun, all_members}
+use Rattle.mp4_fragments.specs.RunSamples.{PlacedRun, all_run_samples}
 use Rattle.mp4_fragments.specs.declared.defaults.SampleDefaults.{SampleDefaults}
 use Rattle.mp4_fragments.specs.declared.index.RunIndex.{RunIndex}
-use Rattle.mp4_fragments.specs.declared.members.Member.{Member}
+use Rattle.mp4_fragments.specs.declared.run_samples.RunSample.{RunSample}
 
 -- where each item is found, they are what is found
 found_of_map : {X A : Type 0} (f : X → Option A) (xs : List X) (ys : List A) → map f xs ≡ map Some ys
@@ -27,8 +27,8 @@ pub indexed_runs : (trafs : List TrafBox) (track : SampleDefaults) (runs : List 
 unfolding runs_of
 indexed_runs trafs track runs index s = found_of_map (placed_at (run_at trafs track)) index.entries runs s.entries
 
--- where there is a member there is a run
-pub member_has_run : (runs : List PlacedRun) (number : ℕ) (m : Member) → slice_get (all_members runs) number ≡ Some m
+-- where there is a sample there is a run
+pub run_sample_has_run : (runs : List PlacedRun) (number : ℕ) (m : RunSample) → slice_get (all_run_samples runs) number ≡ Some m
     → 0 < length runs
-member_has_run [] number m e = absurd cc
-member_has_run (run ∷ runs) number m e = omega arith
+run_sample_has_run [] number m e = absurd cc
+run_sample_has_run (run ∷ runs) number m e = omega arith

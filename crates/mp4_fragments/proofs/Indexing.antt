@@ -6,7 +6,7 @@ use Rattle.std.proofs.lemmas.Bool.{cases_lt}
 use Rattle.std.proofs.lemmas.List.{length_push, get_or_append_left, get_or_push, map_push, take-append-le, take_all}
 use Rattle.std.proofs.lemmas.List.Sums.{sum_by_push}
 use Rattle.mp4_search.specs.Sums.{CountsBefore}
-use Rattle.mp4_fragments.specs.Members.{PlacedRun, run_count}
+use Rattle.mp4_fragments.specs.RunSamples.{PlacedRun, run_count}
 use Rattle.mp4_fragments.specs.Index.{Find, placed_at, IsRight, Indexes, Pushed}
 use Rattle.mp4_fragments.specs.declared.index.RunIndex.{RunIndex}
 use Rattle.mp4_fragments.specs.declared.index.RunEntry.{RunEntry}

@@ -1,4 +1,4 @@
--- Which members of runs are sync samples, and the spans of them.
+-- Which samples of runs are sync samples, and the spans of them.
 use Rattle.std.proofs.Common.{◌≡◌, ℕ, zero, suc, ◌+◌, ◌-◌, ◌<◌, ◌≤◌, min, Bool, false, List, [], ◌∷◌, length}
 use Rattle.std.proofs.Common.{take, get_or, Some, None, refl, ap, ◌∙◌, arith, ⊎_elim}
 use Rattle.std.specs.Prelude.{◌==◌}
@@ -10,34 +10,34 @@ use Rattle.std.proofs.lemmas.List.Sums.{sum_by_more}
 use Rattle.std.proofs.lemmas.Option.{slice_get_past}
 use Rattle.mp4_frag.specs.declared.trun.TrunBox.{TrunBox}
 use Rattle.mp4_fragments.specs.Index.{Find, Indexes, placed_at}
-use Rattle.mp4_fragments.specs.Members.{PlacedRun, all_members, is_sync_in, member_of, run_count}
+use Rattle.mp4_fragments.specs.RunSamples.{PlacedRun, all_run_samples, is_sync_in, run_sample_of, run_count}
 use Rattle.mp4_fragments.specs.Sync.{AreBuilt, AreSpans, sync_at}
 use Rattle.mp4_fragments.specs.declared.defaults.SampleDefaults.{SampleDefaults}
 use Rattle.mp4_fragments.specs.declared.index.RunEntry.{RunEntry}
 use Rattle.mp4_fragments.specs.declared.index.RunIndex.{RunIndex}
 use Rattle.mp4_fragments.specs.declared.sync.SpanBuilder.{SpanBuilder}
-use Rattle.mp4_fragments.proofs.Finding.{entry_of, length-all_members, length-entries, slice_get-all_members}
+use Rattle.mp4_fragments.proofs.Finding.{entry_of, length-all_run_samples, length-entries, slice_get-all_run_samples}
 
--- a member behind those that list their flags has the default's
+-- a sample behind those that list their flags has the default's
 pub default_sync : (run : TrunBox) (defaults : SampleDefaults) (j : ℕ) → 1 ≤ j → length run.sample_flags ≤ j
     → is_sync_in run defaults j ≡ (bit_and defaults.flags 0x10000 == 0)
 default_sync run defaults zero some past = absurd (omega (arith, some))
 default_sync run defaults (suc j) some past = rw (get_or_past run.sample_flags (suc j) defaults.flags past) refl
 
--- whether the member of a run with a number over all runs is a sync sample
+-- whether the sample of a run with a number over all runs is a sync sample
 sync_in_run : (runs : List PlacedRun) (i j : ℕ) (d : PlacedRun) → i < length runs → j < run_count (get_or runs i d)
     → sync_at runs (sum_by run_count (take i runs) + j)
     ≡ is_sync_in (get_or runs i d).run (get_or runs i d).defaults j
-unfolding sync_at member_of
+unfolding sync_at run_sample_of
 sync_in_run runs i j d h inside =
     let before = sum_by run_count (take i runs) in
     let rest : before + j - before ≡ j = omega arith in
-    rw (slice_get-all_members runs (before + j) i before d h refl (omega arith) (rw rest inside), rest) refl
+    rw (slice_get-all_run_samples runs (before + j) i before d h refl (omega arith) (rw rest inside), rest) refl
 
--- none is, past all members
+-- none is, past all samples
 pub no_sync_past : (runs : List PlacedRun) (n : ℕ) → sum_by run_count runs ≤ n → sync_at runs n ≡ false
 unfolding sync_at
-no_sync_past runs n past = rw (slice_get_past (all_members runs) n (omega (arith, past, length-all_members runs))) refl
+no_sync_past runs n past = rw (slice_get_past (all_run_samples runs) n (omega (arith, past, length-all_run_samples runs))) refl
 
 -- no span is kept yet
 pub none_built : (has : ℕ → Bool) (b : SpanBuilder) → b.firsts.items ≡ [] → b.lasts.items ≡ [] → b.begun ≡ None
@@ -86,7 +86,7 @@ entry_built find es (d ∷ rest) index end r entry old new s e is h own count bu
 -- all runs are built
 pub all_built : (runs : List PlacedRun) (b : SpanBuilder) (end n : ℕ) → AreBuilt (sync_at runs) b → b.begun ≡ None
     → b.count ≡ min end (sum_by run_count (take n runs)) → length runs ≤ n
-    → AreSpans (sync_at runs) end b.firsts.items b.lasts.items × (length b.firsts.items ≤ length (all_members runs))
+    → AreSpans (sync_at runs) end b.firsts.items b.lasts.items × (length b.firsts.items ≤ length (all_run_samples runs))
 all_built runs b end n built begun count all =
     let whole : take n runs ≡ runs = take_all n runs all in
     let so_many : b.count ≡ min end (sum_by run_count runs) = count ∙ ap (λ rs. min end (sum_by run_count rs)) whole in
@@ -104,5 +104,5 @@ all_built runs b end n built begun count all =
         lasts_rise = spans.lasts_rise;
         before = λ i h. omega (arith, spans.before i h, so_many);
       },
-      omega (arith, spans.few, so_many, length-all_members runs),
+      omega (arith, spans.few, so_many, length-all_run_samples runs),
     )

@@ -8,26 +8,26 @@ use Rattle.std.proofs.lemmas.Option.{slice_get-get_or}
 use Rattle.std.proofs.lemmas.Slice.Zip.{get_or-zip}
 use Rattle.mp4_frag.specs.declared.trun.TrunBox.{TrunBox}
 use Rattle.mp4_moof.specs.declared.traf.TrafBox.{TrafBox}
-use Rattle.mp4_fragments.specs.Members.{PlacedRun, at_member}
+use Rattle.mp4_fragments.specs.RunSamples.{PlacedRun, at_run_sample}
 use Rattle.mp4_fragments.specs.Defaults.{defaults_in}
-use Rattle.mp4_fragments.specs.Fragments.{Walk, begins, first_time, has_members, with_run, with_traf}
+use Rattle.mp4_fragments.specs.Fragments.{Walk, begins, first_time, has_run_samples, with_run, with_traf}
 use Rattle.mp4_fragments.specs.Checkpoints.{AreCheckpoints}
 use Rattle.mp4_fragments.specs.Index.{Find, placed_at, IsRight, Indexes, Pushed, Walks, KnowsRuns, KnowsTrafs, run_at}
 use Rattle.mp4_fragments.specs.Index.{run_of_traf}
 use Rattle.mp4_fragments.specs.declared.index.RunIndex.{RunIndex}
 use Rattle.mp4_fragments.specs.declared.index.RunEntry.{RunEntry}
-use Rattle.mp4_fragments.specs.declared.members.Beginning.{Beginning}
+use Rattle.mp4_fragments.specs.declared.run_samples.RunStart.{RunStart}
 use Rattle.mp4_fragments.specs.declared.defaults.SampleDefaults.{SampleDefaults}
 use Rattle.mp4_fragments.proofs.Indexing.{Indexes-push}
 
 -- a loop begins
-pub Walks-start : {X : Type 0} (knows : Find → Type 0) (f : Walk → X → Walk) (xs : List X) (at : Beginning)
+pub Walks-start : {X : Type 0} (knows : Find → Type 0) (f : Walk → X → Walk) (xs : List X) (at : RunStart)
     (index : RunIndex) → Walks knows (λ walk. fold f walk (take 0 xs)) at at index index
 Walks-start knows f xs at index = record { at = λ runs. refl; index = λ find runs k h. h }
 
 -- and takes one step more
 pub Walks-more : {X : Type 0} (knows here : Find → Type 0) (f : Walk → X → Walk) (xs : List X) (i : ℕ) (x : X)
-    (a b c : Beginning) (j k l : RunIndex) → i < length xs → x ≡ get_or xs i x → ((find : Find) → knows find
+    (a b c : RunStart) (j k l : RunIndex) → i < length xs → x ≡ get_or xs i x → ((find : Find) → knows find
     → here find) →
     Walks knows (λ walk. fold f walk (take i xs)) a b j k → Walks here (λ walk. f walk x) b c k l
     → Walks knows (λ walk. fold f walk (take (i + 1) xs)) a c j l
@@ -36,7 +36,7 @@ Walks-more {X} knows here f xs i x a b c j k l h is to walks step =
     let before : List PlacedRun → Walk = λ runs. fold f (begin runs) (take i xs) in
     let one : (runs : List PlacedRun) → f (record { at = b; runs = (before runs).runs }) x ≡ fold f (begin runs)
     (take (i + 1) xs) =
-    λ runs. ap (λ (at : Beginning). f (record { at = at; runs = (before runs).runs }) x) (walks.at runs)
+    λ runs. ap (λ (at : RunStart). f (record { at = at; runs = (before runs).runs }) x) (walks.at runs)
     ∙ ap (f (before runs)) is ∙ sym (fold_more f (begin runs) xs i x h) in
     record {
       at = λ runs. step.at (before runs).runs ∙ ap (λ (w : Walk). w.at) (one runs);
@@ -46,7 +46,7 @@ Walks-more {X} knows here f xs i x a b c j k l h is to walks step =
     }
 
 -- a loop over the whole list
-pub Walks-whole : {X : Type 0} (knows : Find → Type 0) (f : Walk → X → Walk) (xs : List X) (i : ℕ) (a b : Beginning)
+pub Walks-whole : {X : Type 0} (knows : Find → Type 0) (f : Walk → X → Walk) (xs : List X) (i : ℕ) (a b : RunStart)
     (j k : RunIndex) → length xs ≡ i → Walks knows (λ walk. fold f walk (take i xs)) a b j k
     → Walks knows (λ walk. fold f walk xs) a b j k
 Walks-whole {X} knows f xs i a b j k e walks =
@@ -63,29 +63,29 @@ right_at find e p there checks = record {
 
 -- a run
 pub Walks-run : (knows : Find → Type 0) (base : Option ℕ) (defaults : SampleDefaults) (run : TrunBox)
-    (a at after : Beginning) (checks : List Beginning) (old new : RunIndex) (t i : ℕ) →
+    (a at after : RunStart) (checks : List RunStart) (old new : RunIndex) (t i : ℕ) →
     ((find : Find) → knows find → find t i ≡ Some (run, defaults)) →
-    at ≡ begins base run a → after ≡ at_member run defaults at run.sample_count
+    at ≡ begins base run a → after ≡ at_run_sample run defaults at run.sample_count
     → AreCheckpoints run defaults at checks →
     Pushed old new (record { at = at; checks = checks; traf = t; run = i }) run.sample_count →
     Walks knows (λ walk. with_run base defaults walk run) a after old new
 unfolding with_run placed_at
 Walks-run knows base defaults run a at after checks old new t i there e1 e2 right pushed =
-    let placed : Beginning → PlacedRun = λ a. record { at = a; run = run; defaults = defaults } in
-    let begin : Beginning = begins base run a in
+    let placed : RunStart → PlacedRun = λ a. record { at = a; run = run; defaults = defaults } in
+    let begin : RunStart = begins base run a in
     let entry : RunEntry = record { at = at; checks = checks; traf = t; run = i } in
     record {
-      at = λ runs. e2 ∙ ap (λ (a : Beginning). at_member run defaults a run.sample_count) e1;
+      at = λ runs. e2 ∙ ap (λ (a : RunStart). at_run_sample run defaults a run.sample_count) e1;
       index = λ find runs known s.
           let found : placed_at find entry ≡ Some (placed at) = rw (there find known) refl in
-          Indexes-push find runs old new entry (placed begin) pushed (found ∙ ap (λ (a : Beginning). Some
+          Indexes-push find runs old new entry (placed begin) pushed (found ∙ ap (λ (a : RunStart). Some
           (placed a)) e1) (right_at find entry (placed at) found right) s;
     }
 
--- a track's part of a fragment
-own : (track : SampleDefaults) (traf : TrafBox) (base : Option ℕ) (t : ℕ) (at last after : Beginning)
+-- a track fragment
+own : (track : SampleDefaults) (traf : TrafBox) (base : Option ℕ) (t : ℕ) (at last after : RunStart)
     (old new : RunIndex) →
-    after ≡ record { place = last.place; time = if has_members traf then last.time else at.time } →
+    after ≡ record { place = last.place; time = if has_run_samples traf then last.time else at.time } →
     Walks (KnowsRuns t traf.truns (defaults_in traf track)) (λ walk. fold (with_run base
     (defaults_in traf track)) walk traf.truns) (record {
       place = base;
@@ -95,18 +95,18 @@ own : (track : SampleDefaults) (traf : TrafBox) (base : Option ℕ) (t : ℕ) (a
     Walks (KnowsRuns t traf.truns (defaults_in traf track)) (λ walk. with_traf track walk (traf, base)) at after old new
 unfolding with_traf
 own track traf base t at last after old new e walks = record {
-  at = λ runs. e ∙ ap (λ (l : Beginning). record {
+  at = λ runs. e ∙ ap (λ (l : RunStart). record {
     place = l.place;
     time =
-        if has_members traf then l.time else at.time;
+        if has_run_samples traf then l.time else at.time;
   }) (walks.at runs);
   index = walks.index;
 }
 
-pub Walks-traf : (track : SampleDefaults) (traf : TrafBox) (base : Option ℕ) (t : ℕ) (at last after : Beginning)
+pub Walks-traf : (track : SampleDefaults) (traf : TrafBox) (base : Option ℕ) (t : ℕ) (at last after : RunStart)
     (old new : RunIndex) (time : Option ℕ) (defaults : SampleDefaults) (runs : List TrunBox) →
     time ≡ first_time traf.tfdt at.time → defaults ≡ defaults_in traf track → runs ≡ traf.truns →
-    after ≡ record { place = last.place; time = if has_members traf then last.time else at.time } →
+    after ≡ record { place = last.place; time = if has_run_samples traf then last.time else at.time } →
     Walks (KnowsRuns t runs defaults) (λ walk. fold (with_run base defaults) walk runs) (record {
       place =
           base;

@@ -1,4 +1,4 @@
--- Where the data of fragments lies: the base of each track's part of a fragment (ISO/IEC 14496-12, 8.8.4, 8.8.7 and
+-- Where the data of fragments lies: the base data offset of each track fragment (ISO/IEC 14496-12, 8.8.4, 8.8.7 and
 -- 8.8.8).
 use Rattle.std.specs.Prelude.{ℕ, ℤ, List, [], ◌∷◌, fold, Option, Some, None, if◌then◌else◌}
 use Rattle.mp4_frag.specs.Optional.{is_set}
@@ -22,24 +22,25 @@ abbrev pub data_begins : Option ℕ → Option ℤ → Option ℕ → Option ℕ
 data_begins base None before = before
 data_begins base (Some offset) before = moved base offset
 
--- and ends behind its last member
+-- and ends behind its last sample
 abbrev pub data_ends : Option ℕ → SampleDefaults → Option ℕ → TrunBox → Option ℕ
 data_ends base defaults before run =
     plus (data_begins base run.data_offset before) (sum_of_first run.sample_count run.sample_sizes defaults.size)
 
--- Where the data of a part of a fragment ends: where its last run does, or at its base where it has none. The first run
--- that says no place begins at the base.
+-- Where the data of a track fragment ends: where its last run does, or at its base data offset where it has none. The
+-- first run that says no place begins at the base.
 unfoldable pub traf_ends : SampleDefaults → Option ℕ → TrafBox → Option ℕ
 traf_ends track base traf = fold (data_ends base (defaults_in traf track)) base traf.truns
 
--- The bases of these parts of a fragment, which begins at a place: each rests on the data before it, of whatever track.
--- A track's defaults are found by its id.
+-- The base data offsets of these track fragments of a movie fragment that begins at a place: each depends on the data
+-- before it, of whatever track. A track's defaults are found by its id.
 unfoldable pub bases_from : (ℕ → SampleDefaults) → ℕ → Option ℕ → List TrafBox → List (Option ℕ)
 bases_from defaults moof before [] = []
 bases_from defaults moof before (traf ∷ trafs) =
     let base : Option ℕ = base_of traf moof before in
     base ∷ bases_from defaults moof (traf_ends (defaults traf.tfhd.track_id) base traf) trafs
 
--- the bases of all parts of a fragment: the first rests on the fragment's first byte
+-- the base data offsets of all track fragments of a movie fragment: the first depends on the movie fragment's first
+-- byte
 abbrev pub bases_of : (ℕ → SampleDefaults) → ℕ → List TrafBox → List (Option ℕ)
 bases_of defaults moof trafs = bases_from defaults moof (Some moof) trafs

@@ -1,29 +1,29 @@
--- The members of a track's runs by the time at which they are decoded (ISO/IEC 14496-12, 8.8.8 and 8.8.12).
+-- The samples of a track's runs by the time at which they are decoded (ISO/IEC 14496-12, 8.8.8 and 8.8.12).
 use Rattle.std.specs.Prelude.{◌≡◌, ℕ, ◌+◌, ◌-◌, ◌<◌, ◌≤◌, Bool, false, nat_lt, nat_le, min, List, length, take}
 use Rattle.std.specs.Prelude.{slice_get, slice_index, Option, Some, None, MatchOption, if◌then◌else◌}
 use Rattle.std.specs.List.{sum_by}
 use Rattle.std.specs.Option.{option_and_then}
-use Rattle.mp4_fragments.specs.Members.{PlacedRun, all_members, run_count}
+use Rattle.mp4_fragments.specs.RunSamples.{PlacedRun, all_run_samples, run_count}
 
 -- whether something is decoded at or before a time; what has no time is not
 abbrev pub decoded_by : ℕ → Option ℕ → Bool
 decoded_by time None = false
 decoded_by time (Some t) = nat_le t time
 
--- when the member with a number is decoded, which counts from 0 over all runs
-unfoldable pub member_time : List PlacedRun → ℕ → Option ℕ
-member_time runs n = option_and_then (λ m. m.at.time) (slice_get (all_members runs) n)
+-- when the sample with a number is decoded, which counts from 0 over all runs
+unfoldable pub run_sample_time : List PlacedRun → ℕ → Option ℕ
+run_sample_time runs n = option_and_then (λ m. m.at.time) (slice_get (all_run_samples runs) n)
 
--- Whether the member with a number is decoded at or before a time. Times need not rise from one fragment to the next:
--- the last such member is the one behind which nothing is decoded so early.
-abbrev pub member_by : List PlacedRun → ℕ → ℕ → Bool
-member_by runs time n = decoded_by time (member_time runs n)
+-- Whether the sample with a number is decoded at or before a time. Times need not rise from one fragment to the next:
+-- the last such sample is the one behind which nothing is decoded so early.
+abbrev pub run_sample_by : List PlacedRun → ℕ → ℕ → Bool
+run_sample_by runs time n = decoded_by time (run_sample_time runs n)
 
--- when the first member of a run is decoded, if it has one
+-- when the first sample of a run is decoded, if it has one
 abbrev pub first_decoded : PlacedRun → Option ℕ
 first_decoded p = if nat_lt 0 (run_count p) then p.at.time else None
 
--- the same of run i of these, if that member's number is below an end
+-- the same of run i of these, if that sample's number is below an end
 unfoldable pub begin_of : List PlacedRun → ℕ → ℕ → Option ℕ
 begin_of runs end i =
     if nat_lt (sum_by run_count (take i runs)) end then option_and_then first_decoded (slice_get runs i) else None

@@ -1,16 +1,16 @@
--- Where a walk over the members of a track's runs is.
+-- Where a walk over the samples of a track's runs is.
 use Rattle.std.specs.Prelude.{◌≡◌, ◌+◌, ◌<◌, ◌≤◌, List, length, take, Some, slice_get}
 use Rattle.std.specs.List.{sum_by}
-use Rattle.mp4_fragments.specs.Members.{PlacedRun, at_member, run_count}
+use Rattle.mp4_fragments.specs.RunSamples.{PlacedRun, at_run_sample, run_count}
 use Rattle.mp4_fragments.specs.declared.cursor.RunCursor.{RunCursor}
 
--- the cursor is in this run, and its next member begins there
+-- the cursor is in this run, and its next sample begins there
 pub record IsIn (p : PlacedRun) (c : RunCursor) : Type 0 where
   pub run : p.run ≡ c.run.now
   pub defaults : p.defaults ≡ c.defaults
-  pub begins : c.at ≡ at_member p.run p.defaults p.at c.passed
+  pub begins : c.at ≡ at_run_sample p.run p.defaults p.at c.passed
 
--- the cursor is in one of these runs: before the member with that number over all of them, or behind the run's last
+-- the cursor is in one of these runs: before the sample with that number over all of them, or behind the run's last
 pub record IsInRuns (runs : List PlacedRun) (c : RunCursor) : Type 0 where
   pub within : c.entry < length runs
   pub inside : c.passed ≤ c.run.now.sample_count

@@ -6,37 +6,37 @@ use Rattle.mp4_frag.specs.declared.trun.TrunBox.{TrunBox}
 use Rattle.mp4_moof.specs.declared.traf.TrafBox.{TrafBox}
 use Rattle.mp4_fragments.specs.Bases.{data_begins}
 use Rattle.mp4_fragments.specs.Defaults.{defaults_in}
-use Rattle.mp4_fragments.specs.Members.{PlacedRun, at_member, all_members}
+use Rattle.mp4_fragments.specs.RunSamples.{PlacedRun, at_run_sample, all_run_samples}
 use Rattle.mp4_fragments.specs.declared.defaults.SampleDefaults.{SampleDefaults}
-use Rattle.mp4_fragments.specs.declared.members.Beginning.{Beginning}
-use Rattle.mp4_fragments.specs.declared.members.Member.{Member}
+use Rattle.mp4_fragments.specs.declared.run_samples.RunStart.{RunStart}
+use Rattle.mp4_fragments.specs.declared.run_samples.RunSample.{RunSample}
 
--- what was walked: where and when the next member begins if nothing else is said, and the runs so far
+-- what was walked: where and when the next sample begins if nothing else is said, and the runs so far
 pub record Walk : Type 0 where
-  pub at : Beginning
+  pub at : RunStart
   pub runs : List PlacedRun
 
--- the first member of a run begins when the member before it has lasted, and where the run's data begins
-abbrev pub begins : Option ℕ → TrunBox → Beginning → Beginning
+-- the first sample of a run begins when the sample before it has lasted, and where the run's data begins
+abbrev pub begins : Option ℕ → TrunBox → RunStart → RunStart
 begins base run at = record { place = data_begins base run.data_offset at.place; time = at.time }
 
 unfoldable pub with_run : Option ℕ → SampleDefaults → Walk → TrunBox → Walk
 with_run base defaults walk run =
-    let at : Beginning = begins base run walk.at in
+    let at : RunStart = begins base run walk.at in
     record {
-      at = at_member run defaults at run.sample_count;
+      at = at_run_sample run defaults at run.sample_count;
       runs = walk.runs ++ record { at = at; run = run; defaults = defaults } ∷ [];
     }
 
--- a part of a fragment begins at its own time, or when the track's members before it have lasted
+-- a track fragment begins at its own time, or when the track's samples before it have lasted
 abbrev pub first_time : Option TfdtBox → Option ℕ → Option ℕ
 first_time None end = end
 first_time (Some tfdt) end = Some tfdt.base_media_decode_time
 
-abbrev pub has_members : TrafBox → Bool
-has_members traf = list_any (λ run. nat_lt 0 run.sample_count) traf.truns
+abbrev pub has_run_samples : TrafBox → Bool
+has_run_samples traf = list_any (λ run. nat_lt 0 run.sample_count) traf.truns
 
--- a part of a fragment, and its base: one without members doesn't move the time
+-- a track fragment, and its base data offset: one without samples doesn't move the time
 unfoldable pub with_traf : SampleDefaults → Walk → TrafBox × Option ℕ → Walk
 with_traf track walk (traf, base) =
     let first : Walk = record {
@@ -46,11 +46,11 @@ with_traf track walk (traf, base) =
     } in
     let last : Walk = fold (with_run base (defaults_in traf track)) first traf.truns in
     record {
-      at = record { place = last.at.place; time = if has_members traf then last.at.time else walk.at.time };
+      at = record { place = last.at.place; time = if has_run_samples traf then last.at.time else walk.at.time };
       runs = last.runs;
     }
 
--- The runs of a track with these defaults, whose parts of the fragments have these bases, and whose samples before the
+-- The runs of a track with these defaults, whose fragments have these base data offsets, and whose samples before the
 -- fragments end at a time.
 unfoldable pub placed_runs : SampleDefaults → ℕ → List TrafBox → List (Option ℕ) → List PlacedRun
 placed_runs track end trafs bases =
@@ -58,5 +58,5 @@ placed_runs track end trafs bases =
     (fold (with_traf track) none (zip trafs bases)).runs
 
 -- and the samples that they add to it
-unfoldable pub fragment_members : SampleDefaults → ℕ → List TrafBox → List (Option ℕ) → List Member
-fragment_members track end trafs bases = all_members (placed_runs track end trafs bases)
+unfoldable pub fragment_samples : SampleDefaults → ℕ → List TrafBox → List (Option ℕ) → List RunSample
+fragment_samples track end trafs bases = all_run_samples (placed_runs track end trafs bases)

@@ -1,4 +1,4 @@
--- What is kept of the runs of a track, so that its members are found fast.
+-- What is kept of the runs of a track, so that its samples are found fast.
 use Rattle.std.specs.Prelude.{◌≡◌, ℕ, ◌+◌, ◌-◌, ◌^◌, ◌<◌, min, List, [], ◌∷◌, ◌++◌, length, map, slice_get, get_or}
 use Rattle.std.specs.Prelude.{Option, Some, None, nat_lt, if◌then◌else◌}
 use Rattle.std.specs.List.{sum_by, filter_map}
@@ -9,12 +9,12 @@ use Rattle.mp4_search.specs.Sums.{CountsBefore}
 use Rattle.mp4_fragments.specs.Checkpoints.{AreCheckpoints}
 use Rattle.mp4_fragments.specs.Defaults.{defaults_in}
 use Rattle.mp4_fragments.specs.Fragments.{Walk}
-use Rattle.mp4_fragments.specs.Members.{PlacedRun, member_of, run_count}
+use Rattle.mp4_fragments.specs.RunSamples.{PlacedRun, run_sample_of, run_count}
 use Rattle.mp4_fragments.specs.declared.defaults.SampleDefaults.{SampleDefaults}
 use Rattle.mp4_fragments.specs.declared.index.RunEntry.{RunEntry}
 use Rattle.mp4_fragments.specs.declared.index.RunIndex.{RunIndex}
-use Rattle.mp4_fragments.specs.declared.members.Beginning.{Beginning}
-use Rattle.mp4_fragments.specs.declared.members.Member.{Member}
+use Rattle.mp4_fragments.specs.declared.run_samples.RunStart.{RunStart}
+use Rattle.mp4_fragments.specs.declared.run_samples.RunSample.{RunSample}
 
 -- a run by the numbers of its fragment, of those of the track, and of itself, which count from 0
 abbrev pub Find : Type 0
@@ -47,7 +47,7 @@ pub record Indexes (find : Find) (runs : List PlacedRun) (index : RunIndex) : Ty
   pub total : index.total ≡ min (2 ^ 64 - 1) (sum_by run_count runs)
 
 -- a call that walks: it comes from one place to the next, and adds the runs on its way to the index
-pub record Walks (knows : Find → Type 0) (step : Walk → Walk) (first after : Beginning)
+pub record Walks (knows : Find → Type 0) (step : Walk → Walk) (first after : RunStart)
     (old new : RunIndex) : Type 0 where
   pub at : (runs : List PlacedRun) → after ≡ (step (record { at = first; runs = runs })).at
   pub index : (find : Find) (runs : List PlacedRun) → knows find → Indexes find runs old
@@ -68,6 +68,6 @@ pub record KnowsTrafs (track : SampleDefaults) (trafs : List TrafBox) (find : Fi
   pub traf : (t : ℕ) (d : TrafBox) → t < length trafs → KnowsRuns t (get_or trafs t d).truns (defaults_in
       (get_or trafs t d) track) find
 
--- member j of a run, if it has so many
-abbrev pub member_in : ℕ → PlacedRun → Option Member
-member_in j p = if nat_lt j (run_count p) then Some (member_of p j) else None
+-- sample j of a run, if it has so many
+abbrev pub run_sample_in : ℕ → PlacedRun → Option RunSample
+run_sample_in j p = if nat_lt j (run_count p) then Some (run_sample_of p j) else None

@@ -1,5 +1,5 @@
 pub mod Numbers
-pub mod Members
+pub mod RunSamples
 pub mod Defaults
 pub mod Bases
 pub mod Fragments

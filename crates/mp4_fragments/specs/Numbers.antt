@@ -1,13 +1,13 @@
--- Places and times: numbers of 64 bits, or None where they are broken.
+-- Places and times: numbers of 64 bits, or None where they are overflowed.
 use Rattle.std.specs.Prelude.{ℕ, zero, suc, ℤ, pos, negsuc, ◌+ℤ◌, ◌+◌, ◌^◌, List, get_or, Option, Some, None, nat_lt}
 use Rattle.std.specs.Prelude.{if◌then◌else◌}
 
--- a number below 0 or past 64 bits is broken
+-- a number below 0 or past 64 bits is overflowed
 abbrev pub whole : ℤ → Option ℕ
 whole (pos n) = if nat_lt n (2 ^ 64) then Some n else None
 whole (negsuc n) = None
 
--- so far on; what rests on something broken is broken
+-- so far on; what rests on something overflowed is overflowed
 abbrev pub plus : Option ℕ → ℕ → Option ℕ
 plus None n = None
 plus (Some m) n = whole (pos (m + n))

@@ -1,11 +1,11 @@
-//! Where the data of fragments lies: the base of each track's part of a fragment.
+//! Where the data of fragments lies: the base data offset of each track fragment.
 
 ghost use Rattle.std.specs.Prelude.{◌≡◌, fold};
 ghost use Rattle.mp4_frag.specs.Optional.{is_set};
 ghost use Rattle.mp4_fragments.specs.Bases.{base_of, data_ends, traf_ends};
 
-use crate::beginnings::{add, data_begin};
 use crate::defaults::SampleDefaults;
+use crate::run_starts::{add, data_begin};
 use crate::values::sum_of;
 use mp4_frag::TrunBox;
 use mp4_moof::TrafBox;
@@ -13,7 +13,7 @@ use mp4_moof::TrafBox;
 /// The flag of a header whose base is the first byte of its fragment.
 const DEFAULT_BASE_IS_MOOF: u32 = 0x20000;
 
-/// Where the places of a track's part of a fragment count from (ISO/IEC 14496-12, 8.8.7): its own base where it says
+/// Where the places of a track fragment count from (ISO/IEC 14496-12, 8.8.7): its own base where it says
 /// one; else `moof`, the first byte of the fragment, where it says so; else `before`, where the data before it ended.
 #[tactic(auto, unfolding(mp4_frag::specs::Optional::is_set))]
 pub fn traf_base(traf: &TrafBox, moof: u64, before: Option<u64>) -> Option<u64>
@@ -44,7 +44,7 @@ fn data_end(
     add(data_begin(base, run.data_offset, before), bytes)
 }
 
-/// Where the data of a track's part of a fragment ends: behind its last run, at its base where it has none. `track` is what
+/// Where the data of a track fragment ends: behind its last run, at its base where it has none. `track` is what
 /// the movie says of the track's samples.
 #[tactic(auto, unfolding(crate::specs::Bases::traf_ends))]
 pub fn traf_end(traf: &TrafBox, track: SampleDefaults, base: Option<u64>) -> Option<u64>

@@ -1,19 +1,19 @@
-//! A member of a track's fragments by the time at which it is decoded.
+//! A sample of a track's fragments by the time at which it is decoded.
 
 ghost use Rattle.std.proofs.Props.{props};
 ghost use Rattle.std.specs.Prelude.{◌≡◌, ℕ, ◌+◌, ◌-◌, ◌^◌, ◌<◌, ◌≤◌, Some, length, min, nat_le, slice_index};
-ghost use Rattle.mp4_fragments.specs.ByTime.{AreEarliest, begin_of, decoded_by, member_by};
+ghost use Rattle.mp4_fragments.specs.ByTime.{AreEarliest, begin_of, decoded_by, run_sample_by};
 ghost use Rattle.mp4_fragments.specs.Checkpoints.{AreCheckpoints};
 ghost use Rattle.mp4_fragments.specs.Index.{Indexes, IsRight, placed_at, run_at, runs_of};
-ghost use Rattle.mp4_fragments.specs.Members.{PlacedRun, at_member, run_count};
+ghost use Rattle.mp4_fragments.specs.RunSamples.{PlacedRun, at_run_sample, run_count};
 ghost use Rattle.mp4_search.specs.Digits.{digits};
 ghost use Rattle.mp4_search.specs.Partition.{AnswersLast, ArePartedAt};
 
-use crate::beginnings::at_by_checkpoints;
 use crate::defaults::SampleDefaults;
 use crate::index::{RunEntry, RunIndex};
 use crate::lookup::run_of;
-use crate::members::Beginning;
+use crate::run_samples::RunStart;
+use crate::run_starts::at_by_checkpoints;
 use crate::times::RunTimes;
 use mp4_frag::TrunBox;
 use mp4_moof::TrafBox;
@@ -36,22 +36,22 @@ impl<'t> Parted for RunsBy<'t> {
     }
 }
 
-/// The members of a run: the first of them are decoded at or before a time.
+/// The samples of a run: the first of them are decoded at or before a time.
 #[derive(Drop)]
-struct MembersBy<'t> {
+struct RunSamplesBy<'t> {
     run: &'t TrunBox,
     defaults: SampleDefaults,
-    first: Beginning,
-    checks: &'t [Beginning],
+    first: RunStart,
+    checks: &'t [RunStart],
     time: u64,
     ghost right: { AreCheckpoints run.now defaults first checks.now } by { Prim.hlevel props },
     ghost counted: { run.now.sample_count < 2 ^ 32 } by { Prim.hlevel props },
 }
 
-impl<'t> Parted for MembersBy<'t> {
+impl<'t> Parted for RunSamplesBy<'t> {
     ghost len = { λ m. m.run.now.sample_count };
 
-    ghost has = { λ m j. decoded_by m.time (at_member m.run.now m.defaults m.first j).time };
+    ghost has = { λ m j. decoded_by m.time (at_run_sample m.run.now m.defaults m.first j).time };
 
     fn has(&self, index: usize) -> bool {
         let j = index as u32;
@@ -62,8 +62,8 @@ impl<'t> Parted for MembersBy<'t> {
     }
 }
 
-/// How many of the first `n` members of an entry's run are decoded at or before a time.
-fn members_by(
+/// How many of the first `n` samples of an entry's run are decoded at or before a time.
+fn run_samples_by(
     trafs: &[TrafBox],
     track: SampleDefaults,
     entry: &RunEntry,
@@ -74,13 +74,13 @@ fn members_by(
     requires right { IsRight (run_at trafs.now track) entry.now }
     requires room { readings.old < 2 ^ 31 }
     ensures point { (p : PlacedRun) → placed_at (run_at trafs.now track) entry.now ≡ Some p
-        → ArePartedAt (λ j. decoded_by time (at_member p.run p.defaults p.at j).time) (min n (run_count p)) result }
+        → ArePartedAt (λ j. decoded_by time (at_run_sample p.run p.defaults p.at j).time) (min n (run_count p)) result }
     ensures few { readings.new ≤ readings.old + 32 }
 {
     let Some((run, defaults)) = run_of(trafs, track, entry.traf, entry.run) else {
         return 0;
     };
-    let members = MembersBy {
+    let run_samples = RunSamplesBy {
         run,
         defaults,
         first: entry.at,
@@ -88,11 +88,11 @@ fn members_by(
         time,
     };
     let n = n.min(run.sample_count);
-    partition_point(&members, n as usize, readings) as u32
+    partition_point(&run_samples, n as usize, readings) as u32
 }
 
 impl RunIndex {
-    /// The number of the last member that is decoded at or before a time, of those whose numbers are below `end`; they
+    /// The number of the last sample that is decoded at or before a time, of those whose numbers are below `end`; they
     /// count from 0 over all fragments of the track. None where none is decoded so early. Each time that is compared is
     /// counted, and one reading more.
     pub fn last_decoded(
@@ -107,7 +107,7 @@ impl RunIndex {
         requires indexed { Indexes (run_at trafs.now track) (runs_of trafs.now track self.now) self.now }
         requires times { AreEarliest (begin_of (runs_of trafs.now track self.now) end) 0 times.now.latest_first.items }
         requires fresh { readings.old ≡ 0 }
-        ensures number { AnswersLast (member_by (runs_of trafs.now track self.now) time) end result }
+        ensures number { AnswersLast (run_sample_by (runs_of trafs.now track self.now) time) end result }
         ensures few { readings.new ≤ digits (length (runs_of trafs.now track self.now)) + 33 }
     {
         let runs = RunsBy {
@@ -120,7 +120,7 @@ impl RunIndex {
         };
         let before = self.counts.read(index, readings);
         let entry = &self.entries.as_slice()[index];
-        let members = members_by(trafs, track, entry, end - before, time, readings);
-        Some(before + members - 1)
+        let run_samples = run_samples_by(trafs, track, entry, end - before, time, readings);
+        Some(before + run_samples - 1)
     }
 }

@@ -1,20 +1,20 @@
-//! What is kept of the runs of a track, so that their members are found fast.
+//! What is kept of the runs of a track, so that their samples are found fast.
 
 ghost use Rattle.std.specs.Prelude.{◌≡◌, ℕ, ◌+◌, ◌-◌, ◌^◌, min, [], ◌∷◌, ◌++◌, IfOk};
 ghost use Rattle.mp4_fragments.specs.Index.{Pushed};
 
-use crate::members::Beginning;
+use crate::run_samples::RunStart;
 use mp4_codec::{DebugItem, Items};
 use mp4_search::SearchedNumbers;
 use std::alloc::{AllocError, Global};
 
-/// A run: where it stands, and where its members begin.
+/// A run: where it stands, and where its samples begin.
 #[derive(Debug, Drop)]
 pub(crate) struct RunEntry {
-    /// Where and when its first member begins.
-    pub at: Beginning,
-    /// Where every 64th member begins, from the 64th on, if the run lists sizes or durations.
-    pub checks: Items<Beginning>,
+    /// Where and when its first sample begins.
+    pub at: RunStart,
+    /// Where every 64th sample begins, from the 64th on, if the run lists sizes or durations.
+    pub checks: Items<RunStart>,
     /// The number of its fragment among those of the track, counted from 0.
     pub traf: usize,
     /// Its number in the fragment, counted from 0.
@@ -23,13 +23,13 @@ pub(crate) struct RunEntry {
 
 impl DebugItem for RunEntry {}
 
-/// The runs of a track's fragments, one entry each: however many members a run has, none is written out.
+/// The runs of a track's fragments, one entry each: however many samples a run has, none is written out.
 #[derive(Debug, Drop)]
 pub struct RunIndex {
-    /// How many members come before each run; the counts stop at 2^32 - 1.
+    /// How many samples come before each run; the counts stop at 2^32 - 1.
     pub(crate) counts: SearchedNumbers,
     pub(crate) entries: Items<RunEntry>,
-    /// How many members all runs have; it stops at 2^32 - 1.
+    /// How many samples all runs have; it stops at 2^32 - 1.
     pub(crate) before: u32,
     /// The same; it stops at 2^64 - 1.
     pub(crate) total: u64,
@@ -53,7 +53,7 @@ impl RunIndex {
         })
     }
 
-    /// One more run, of `count` members.
+    /// One more run, of `count` samples.
     pub(crate) fn push(&mut self, entry: RunEntry, count: u32) -> Result<(), AllocError>
         ensures { IfOk result (λ u. Pushed self.old self.new entry count) }
     {

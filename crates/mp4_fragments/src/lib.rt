@@ -2,14 +2,14 @@
 #![tactic(auto)]
 
 mod bases;
-mod beginnings;
 mod by_time;
 mod cursor;
 mod defaults;
 mod index;
 mod lookup;
-mod members;
 mod placing;
+mod run_samples;
+mod run_starts;
 mod seek;
 mod sync;
 mod times;
@@ -19,8 +19,8 @@ pub use bases::{traf_base, traf_end};
 pub use cursor::RunCursor;
 pub use defaults::SampleDefaults;
 pub use index::RunIndex;
-pub use members::{Beginning, Member};
 pub use placing::index_of;
+pub use run_samples::{RunSample, RunStart};
 pub use seek::{SeekIndex, seek_index_of};
 pub use sync::SyncSpans;
 pub use times::RunTimes;

@@ -1,21 +1,21 @@
-//! A member of a track's fragments by its number.
+//! A sample of a track's fragments by its number.
 
 ghost use Rattle.std.specs.Prelude.{◌≡◌, ◌-◌, ◌^◌, ◌<◌, ◌≤◌, List, Some, None, length, min, slice_get, IfNone, IfSome};
 ghost use Rattle.std.specs.Option.{option_map};
 ghost use Rattle.mp4_fragments.specs.Cursor.{IsIn, IsInRuns};
-ghost use Rattle.mp4_fragments.specs.Members.{PlacedRun, all_members};
+ghost use Rattle.mp4_fragments.specs.RunSamples.{PlacedRun, all_run_samples};
 ghost use Rattle.mp4_fragments.specs.Index.{Find, Indexes, IsRight, placed_at, run_at, runs_of};
 
-use crate::beginnings::at_by_checkpoints;
 use crate::cursor::RunCursor;
 use crate::defaults::SampleDefaults;
 use crate::index::{RunEntry, RunIndex};
-use crate::members::Member;
+use crate::run_samples::RunSample;
+use crate::run_starts::at_by_checkpoints;
 use mp4_frag::TrunBox;
 use mp4_moof::TrafBox;
 use mp4_search::{ByGuess, Readings, Search};
 
-/// Run `i` of fragment `t` of a track, and what its members have where it says nothing.
+/// Run `i` of fragment `t` of a track, and what its samples have where it says nothing.
 #[tactic(auto, unfolding(crate::specs::Index::run_at, crate::specs::Index::run_of_traf))]
 pub(crate) fn run_of(
     trafs: &[TrafBox],
@@ -34,7 +34,7 @@ pub(crate) fn run_of(
     }
 }
 
-/// A walk before member `j` of the run of the entry with this index, if it has so many; the number of that member over
+/// A walk before sample `j` of the run of the entry with this index, if it has so many; the number of that sample over
 /// all runs is `number`.
 #[inline(always)]
 fn cursor_in<'t>(
@@ -69,7 +69,7 @@ fn cursor_in<'t>(
 }
 
 impl RunIndex {
-    /// A walk before the member with this number, if there is one; its run is searched.
+    /// A walk before the sample with this number, if there is one; its run is searched.
     #[inline(always)]
     fn cursor_at<'t, S: Search>(
         &self,
@@ -83,7 +83,7 @@ impl RunIndex {
         requires fresh { readings.old ≡ 0 }
         ensures some { IfSome result (λ c. IsInRuns (runs_of trafs.now track self.now) c × (c.number ≡ number)
             × (c.passed < c.run.now.sample_count) × (c.passed < 2 ^ 32 - 1)) }
-        ensures none { IfNone result (slice_get (all_members (runs_of trafs.now track self.now)) number ≡ None) }
+        ensures none { IfNone result (slice_get (all_run_samples (runs_of trafs.now track self.now)) number ≡ None) }
         ensures counted { S.Counts self.now.counts number readings.new }
     {
         let Some(found) = S::last_at_most(&self.counts, number, readings) else {
@@ -100,7 +100,7 @@ impl RunIndex {
         )
     }
 
-    /// A walk before the first member of the run behind that of a cursor, which is behind its last member; None where
+    /// A walk before the first sample of the run behind that of a cursor, which is behind its last sample; None where
     /// that run has none.
     #[inline(always)]
     fn next_run<'t>(
@@ -123,7 +123,7 @@ impl RunIndex {
         cursor_in(trafs, track, entry, index, 0, cursor.number)
     }
 
-    /// A walk before the member with this number, if there is one: where another is behind the last member before it,
+    /// A walk before the sample with this number, if there is one: where another is behind the last sample before it,
     /// mostly in the run behind that one's, else by a search.
     #[inline(always)]
     fn cursor_after<'t>(
@@ -140,10 +140,10 @@ impl RunIndex {
         requires cursor { IfSome cursor (λ c. IsInRuns (runs_of trafs.now track self.now) c) }
         ensures some { IfSome result (λ c. IsInRuns (runs_of trafs.now track self.now) c × (c.number ≡ number)
             × (c.passed < c.run.now.sample_count) × (c.passed < 2 ^ 32 - 1)) }
-        ensures none { IfNone result (slice_get (all_members (runs_of trafs.now track self.now)) number ≡ None) }
+        ensures none { IfNone result (slice_get (all_run_samples (runs_of trafs.now track self.now)) number ≡ None) }
     {
         if let Some(cursor) = cursor {
-            if cursor.number == number && !cursor.is_before_member() {
+            if cursor.number == number && !cursor.is_before_run_sample() {
                 if let Some(next) = self.next_run(trafs, track, &cursor) {
                     return Some(next);
                 }
@@ -152,7 +152,7 @@ impl RunIndex {
         self.cursor_at::<ByGuess>(trafs, track, number, readings)
     }
 
-    /// The member with this number, which counts from 0 over all fragments of the track; its run is searched. They are
+    /// The sample with this number, which counts from 0 over all fragments of the track; its run is searched. They are
     /// those that the index was made of, and `track` is what the movie says of their samples.
     #[inline(always)]
     pub fn find<S: Search>(
@@ -161,21 +161,21 @@ impl RunIndex {
         track: SampleDefaults,
         number: u32,
         readings: &mut Readings,
-    ) -> Option<Member>
+    ) -> Option<RunSample>
         requires number { number < 2 ^ 32 - 1 }
         requires indexed { Indexes (run_at trafs.now track) (runs_of trafs.now track self.now) self.now }
         requires fresh { readings.old ≡ 0 }
-        ensures member { result ≡ slice_get (all_members (runs_of trafs.now track self.now)) number }
+        ensures run_sample { result ≡ slice_get (all_run_samples (runs_of trafs.now track self.now)) number }
         ensures counted { S.Counts self.now.counts number readings.new }
     {
         let Some(cursor) = self.cursor_at::<S>(trafs, track, number, readings) else {
             return None;
         };
-        Some(cursor.member())
+        Some(cursor.run_sample())
     }
 
-    /// What [`find`](RunIndex::find) answers at numbers that come in order: the walk goes on from the member before, so
-    /// that a step costs a constant, and searches only where it comes from elsewhere or passes a run without members.
+    /// What [`find`](RunIndex::find) answers at numbers that come in order: the walk goes on from the sample before, so
+    /// that a step costs a constant, and searches only where it comes from elsewhere or passes a run without samples.
     #[inline(always)]
     pub fn find_next<'t>(
         &self,
@@ -184,30 +184,30 @@ impl RunIndex {
         number: u32,
         readings: &mut Readings,
         cursor: &mut Option<RunCursor<'t>>,
-    ) -> Option<Member>
+    ) -> Option<RunSample>
         requires number { number < 2 ^ 32 - 1 }
         requires indexed { Indexes (run_at trafs.now track) (runs_of trafs.now track self.now) self.now }
         requires fresh { readings.old ≡ 0 }
         requires cursor { IfSome cursor.old (λ c. IsInRuns (runs_of trafs.now track self.now) c) }
-        ensures member { result ≡ slice_get (all_members (runs_of trafs.now track self.now)) number }
+        ensures run_sample { result ≡ slice_get (all_run_samples (runs_of trafs.now track self.now)) number }
         ensures cursor { IfSome cursor.new (λ c. IsInRuns (runs_of trafs.now track self.now) c) }
     {
         if let Some(cursor) = cursor {
-            if cursor.number == number && cursor.is_before_member() {
+            if cursor.number == number && cursor.is_before_run_sample() {
                 return Some(cursor.step());
             }
         }
         let Some(mut found) = self.cursor_after(trafs, track, number, readings, *cursor) else {
             return None;
         };
-        let member = found.step();
+        let run_sample = found.step();
         *cursor = Some(found);
-        Some(member)
+        Some(run_sample)
     }
 
-    /// How many members there are; it stops at 2^64 - 1.
+    /// How many samples there are; it stops at 2^64 - 1.
     pub fn count(&self) -> u64
-        ensures { (find : Find) (runs : List PlacedRun) → Indexes find runs self.now → result ≡ min (2 ^ 64 - 1) (length (all_members runs)) }
+        ensures { (find : Find) (runs : List PlacedRun) → Indexes find runs self.now → result ≡ min (2 ^ 64 - 1) (length (all_run_samples runs)) }
     {
         self.total
     }

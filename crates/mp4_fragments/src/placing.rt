@@ -4,28 +4,29 @@ ghost use Rattle.std.specs.Prelude.{◌≡◌, ℕ, ◌-◌, ◌^◌, ◌<◌, L
 ghost use Rattle.std.specs.List.{sum_by};
 ghost use Rattle.mp4_fragments.specs.Bases.{data_begins};
 ghost use Rattle.mp4_fragments.specs.Defaults.{defaults_in};
-ghost use Rattle.mp4_fragments.specs.Fragments.{begins, first_time, has_members, with_run, with_traf, placed_runs};
+ghost use Rattle.mp4_fragments.specs.Fragments.{begins, first_time, has_run_samples, with_run, with_traf, placed_runs};
 ghost use Rattle.mp4_fragments.specs.Index.{Indexes, Walks, KnowsRuns, KnowsTrafs, run_at};
 
-use crate::beginnings::{at_by_checkpoints, checkpoints, data_begin};
 use crate::defaults::SampleDefaults;
 use crate::index::{RunEntry, RunIndex};
-use crate::members::Beginning;
+use crate::run_samples::RunStart;
+use crate::run_starts::{at_by_checkpoints, checkpoints, data_begin};
 use mp4_frag::{TfdtBox, TrunBox};
 use mp4_moof::TrafBox;
 use std::alloc::{AllocError, Global};
 
-/// Where and when a run begins, if the member before it ends at `at`.
-fn run_begin(base: Option<u64>, run: &TrunBox, at: Beginning) -> Beginning
+/// Where and when a run begins, if the sample before it ends at `at`.
+fn run_begin(base: Option<u64>, run: &TrunBox, at: RunStart) -> RunStart
     ensures { result ≡ begins base run.now at }
 {
-    Beginning {
+    RunStart {
         place: data_begin(base, run.data_offset, at.place),
         time: at.time,
     }
 }
 
-/// When the first member of a fragment begins: when it says so itself, else when the track's members before it have lasted.
+/// When the first sample of a fragment begins: when it says so itself, else when the track's samples before it have
+/// lasted.
 fn traf_time(tfdt: &Option<TfdtBox>, end: Option<u64>) -> Option<u64>
     ensures { result ≡ first_time tfdt.now end }
 {
@@ -35,9 +36,9 @@ fn traf_time(tfdt: &Option<TfdtBox>, end: Option<u64>) -> Option<u64>
     }
 }
 
-/// Whether a fragment has members.
-fn any_members(traf: &TrafBox) -> bool
-    ensures { result ≡ has_members traf.now }
+/// Whether a fragment has samples.
+fn any_run_samples(traf: &TrafBox) -> bool
+    ensures { result ≡ has_run_samples traf.now }
 {
     traf.truns.as_slice().iter().any(|run| 0 < run.sample_count)
 }
@@ -51,8 +52,8 @@ fn add_run(
     run: &TrunBox,
     base: Option<u64>,
     defaults: SampleDefaults,
-    end: Beginning,
-) -> Result<Beginning, AllocError>
+    end: RunStart,
+) -> Result<RunStart, AllocError>
     ensures { IfOk result (λ after. Walks (λ find. find t i ≡ Some (run.now, defaults)) (λ walk. with_run base defaults walk run.now) end after index.old index.new) }
 {
     let at = run_begin(base, run, end);
@@ -78,8 +79,8 @@ fn add_runs(
     runs: &[TrunBox],
     base: Option<u64>,
     defaults: SampleDefaults,
-    first: Beginning,
-) -> Result<Beginning, AllocError>
+    first: RunStart,
+) -> Result<RunStart, AllocError>
     ensures { IfOk result (λ after. Walks (KnowsRuns t runs.now defaults) (λ walk. fold (with_run base defaults) walk runs.now) first after index.old index.new) }
 {
     let mut at = first;
@@ -89,8 +90,8 @@ fn add_runs(
     Ok(at)
 }
 
-/// Places the runs of fragment `t`, and adds them to the index. The answer is their end; the time is as it was where they
-/// have no members.
+/// Places the runs of fragment `t`, and adds them to the index. The answer is their end; the time is as it was where
+/// they have no samples.
 fn add_traf(
     alloc: Global,
     index: &mut RunIndex,
@@ -98,21 +99,21 @@ fn add_traf(
     t: usize,
     traf: &TrafBox,
     base: Option<u64>,
-    at: Beginning,
-) -> Result<Beginning, AllocError>
+    at: RunStart,
+) -> Result<RunStart, AllocError>
     ensures { IfOk result (λ after. Walks (KnowsRuns t traf.now.truns (defaults_in traf.now track)) (λ walk. with_traf track walk (traf.now, base)) at after index.old index.new) }
 {
     let defaults = track.in_traf(traf);
-    let first = Beginning {
+    let first = RunStart {
         place: base,
         time: traf_time(&traf.tfdt, at.time),
     };
     let runs = traf.truns.as_slice();
     let last = add_runs(alloc, index, t, runs, base, defaults, first)?;
-    if any_members(traf) {
+    if any_run_samples(traf) {
         Ok(last)
     } else {
-        Ok(Beginning {
+        Ok(RunStart {
             place: last.place,
             time: at.time,
         })
@@ -126,8 +127,8 @@ fn add_trafs(
     track: SampleDefaults,
     trafs: &[TrafBox],
     bases: &[Option<u64>],
-    first: Beginning,
-) -> Result<Beginning, AllocError>
+    first: RunStart,
+) -> Result<RunStart, AllocError>
     requires { length bases.now ≡ length trafs.now }
     ensures { IfOk result (λ after. Walks (KnowsTrafs track trafs.now) (λ walk. fold (with_traf track) walk (zip trafs.now bases.now)) first after index.old index.new) }
 {
@@ -151,7 +152,7 @@ fn count_runs(trafs: &[TrafBox]) -> usize
 }
 
 /// The index of a track's runs: those of its fragments, which have these bases. Its samples before the
-/// fragments end at `end`, in ticks of its timescale. No member is written out, and the lists of runs grow
+/// fragments end at `end`, in ticks of its timescale. No sample is written out, and the lists of runs grow
 /// once. Refused only where memory runs out.
 #[tactic(auto, unfolding(crate::specs::Fragments::placed_runs))]
 pub fn index_of(
@@ -165,7 +166,7 @@ pub fn index_of(
     ensures { IfOk result (λ index. Indexes (run_at trafs.now track) (placed_runs track end trafs.now bases.now) index) }
 {
     let mut index = RunIndex::with_capacity(alloc, count_runs(trafs))?;
-    let first = Beginning {
+    let first = RunStart {
         place: None,
         time: Some(end),
     };

@@ -1,4 +1,4 @@
-//! What is kept of the runs of a track so that its members are found by their times, and the sync samples among them.
+//! What is kept of the runs of a track so that its samples are found by their times, and the sync samples among them.
 
 ghost use Rattle.std.specs.Prelude.{IfOk};
 ghost use Rattle.mp4_fragments.specs.Index.{Indexes, run_at, runs_of};
@@ -11,14 +11,14 @@ use crate::times::{RunTimes, times_of};
 use mp4_moof::TrafBox;
 use std::alloc::{AllocError, Global};
 
-/// When runs begin, and which of their members are sync samples.
+/// When runs begin, and which of their samples are sync samples.
 #[derive(Debug, Drop)]
 pub struct SeekIndex {
     pub times: RunTimes,
     pub sync: SyncSpans,
 }
 
-/// What is kept of the runs of an index, as far as their members have numbers below `end`, which count from 0 over all
+/// What is kept of the runs of an index, as far as their samples have numbers below `end`, which count from 0 over all
 /// fragments of the track.
 pub fn seek_index_of(
     alloc: Global,

@@ -1,10 +1,10 @@
-//! Which members of a track's fragments are sync samples, kept so that the last of them before a number is found.
+//! Which samples of a track's fragments are sync samples, kept so that the last of them before a number is found.
 
 ghost use Rattle.std.proofs.Props.{props};
 ghost use Rattle.std.specs.Prelude.{◌≡◌, ℕ, ◌+◌, ◌-◌, ◌<◌, ◌≤◌, Bool, true, false, Some, None, min, length, nat_le, slice_index};
 ghost use Rattle.std.specs.Prelude.{IfOk, IfSome, OnOk};
 ghost use Rattle.mp4_fragments.specs.Index.{Indexes, placed_at, run_at, runs_of};
-ghost use Rattle.mp4_fragments.specs.Members.{PlacedRun, all_members, is_sync_in, run_count};
+ghost use Rattle.mp4_fragments.specs.RunSamples.{PlacedRun, all_run_samples, is_sync_in, run_count};
 ghost use Rattle.mp4_fragments.specs.Sync.{AreBuilt, AreSpans, sync_at};
 ghost use Rattle.mp4_search.specs.Digits.{digits};
 ghost use Rattle.mp4_search.specs.Partition.{AnswersLast};
@@ -12,17 +12,17 @@ ghost use Rattle.mp4_search.specs.Partition.{AnswersLast};
 use crate::defaults::SampleDefaults;
 use crate::index::{RunEntry, RunIndex};
 use crate::lookup::run_of;
-use crate::members::{IS_NO_SYNC_SAMPLE, is_sync};
+use crate::run_samples::{IS_NO_SYNC_SAMPLE, is_sync};
 use mp4_frag::TrunBox;
 use mp4_moof::TrafBox;
 use mp4_search::{Parted, Readings, partition_point};
 use std::alloc::{AllocError, Global};
 
-/// The sync samples that fragments add to a track, as spans of members that follow each other: most often one for each
-/// fragment of a video track, and one for all of a sound track. Members are numbered from 0 over all fragments.
+/// The sync samples that fragments add to a track, as spans of samples that follow each other: most often one for each
+/// fragment of a video track, and one for all of a sound track. Samples are numbered from 0 over all fragments.
 #[derive(Debug, Drop)]
 pub struct SyncSpans {
-    /// The number of the first member of each span.
+    /// The number of the first sample of each span.
     pub(crate) firsts: Vec<u32>,
     /// The number of the last.
     pub(crate) lasts: Vec<u32>,
@@ -30,21 +30,21 @@ pub struct SyncSpans {
     ghost rise: { (i j : ℕ) → i ≤ j → j < length firsts.items → slice_index firsts.items i ≤ slice_index firsts.items j } by { Prim.hlevel props },
 }
 
-/// Spans that are being made, of members that come in their order.
+/// Spans that are being made, of samples that come in their order.
 #[derive(Drop)]
 struct SpanBuilder {
     firsts: Vec<u32>,
     lasts: Vec<u32>,
-    /// The first member of a span whose last isn't known yet.
+    /// The first sample of a span whose last isn't known yet.
     begun: Option<u32>,
-    /// How many members came so far.
+    /// How many samples came so far.
     count: u32,
-    /// How many members are kept at most.
+    /// How many samples are kept at most.
     end: u32,
 }
 
 impl SpanBuilder {
-    /// Ends the span that is open, if one is, with the member that came last.
+    /// Ends the span that is open, if one is, with the sample that came last.
     fn close(&mut self) -> Result<(), AllocError>
         requires opened { IfSome self.old.begun (λ first. first < self.old.count) }
         ensures built { OnOk result ((has : ℕ → Bool) → AreBuilt has self.old → AreBuilt has self.new) }
@@ -61,7 +61,7 @@ impl SpanBuilder {
         Ok(())
     }
 
-    /// The next members are so many sync samples.
+    /// The next samples are so many sync samples.
     fn add_sync(&mut self, n: u32)
         requires opened { IfSome self.old.begun (λ first. first < self.old.count) }
         requires some { 0 < n }
@@ -76,7 +76,7 @@ impl SpanBuilder {
         self.count += n;
     }
 
-    /// The next members are so many others.
+    /// The next samples are so many others.
     fn add_others(&mut self, n: u32) -> Result<(), AllocError>
         requires opened { IfSome self.old.begun (λ first. first < self.old.count) }
         requires within { self.old.count + n ≤ self.old.end }
@@ -91,7 +91,7 @@ impl SpanBuilder {
         Ok(())
     }
 
-    /// The next members, all of them sync samples or none. Those past the end are left out.
+    /// The next samples, all of them sync samples or none. Those past the end are left out.
     fn add(&mut self, n: u32, is_sync: bool) -> Result<(), AllocError>
         requires opened { IfSome self.old.begun (λ first. first < self.old.count) }
         requires within { self.old.count ≤ self.old.end }
@@ -112,7 +112,7 @@ impl SpanBuilder {
         Ok(())
     }
 
-    /// The members of a run that list their flags, from the second on.
+    /// The samples of a run that list their flags, from the second on.
     fn add_listed(
         &mut self,
         run: &TrunBox,
@@ -134,7 +134,7 @@ impl SpanBuilder {
         Ok(())
     }
 
-    /// The members of a run.
+    /// The samples of a run.
     fn add_run(&mut self, run: &TrunBox, defaults: SampleDefaults) -> Result<(), AllocError>
         requires opened { IfSome self.old.begun (λ first. first < self.old.count) }
         requires within { self.old.count ≤ self.old.end }
@@ -158,7 +158,7 @@ impl SpanBuilder {
         Ok(())
     }
 
-    /// The members of an entry's run.
+    /// The samples of an entry's run.
     fn add_entry(
         &mut self,
         trafs: &[TrafBox],
@@ -183,7 +183,7 @@ impl SpanBuilder {
     }
 }
 
-/// The sync samples among the members of a track's runs whose numbers are below `end`.
+/// The sync samples among the samples of a track's runs whose numbers are below `end`.
 pub(crate) fn spans_of(
     alloc: Global,
     trafs: &[TrafBox],
@@ -193,7 +193,7 @@ pub(crate) fn spans_of(
 ) -> Result<SyncSpans, AllocError>
     requires { Indexes (run_at trafs.now track) (runs_of trafs.now track index.now) index.now }
     ensures spans { IfOk result (λ spans. AreSpans (sync_at (runs_of trafs.now track index.now)) end spans.firsts.items spans.lasts.items) }
-    ensures few { IfOk result (λ spans. length spans.firsts.items ≤ length (all_members (runs_of trafs.now track index.now))) }
+    ensures few { IfOk result (λ spans. length spans.firsts.items ≤ length (all_run_samples (runs_of trafs.now track index.now))) }
 {
     let mut builder = SpanBuilder {
         firsts: Vec::new(alloc),
@@ -210,7 +210,7 @@ pub(crate) fn spans_of(
     Ok(SyncSpans { firsts, lasts })
 }
 
-/// The spans of a track: the first of them begin at or before a member.
+/// The spans of a track: the first of them begin at or before a sample.
 #[derive(Drop)]
 struct SpansBefore<'t> {
     firsts: &'t [u32],
@@ -228,7 +228,7 @@ impl<'t> Parted for SpansBefore<'t> {
 }
 
 impl SyncSpans {
-    /// The number of the last sync sample among the members up to one with this number. Each number that is compared
+    /// The number of the last sync sample among the samples up to one with this number. Each number that is compared
     /// is counted.
     pub fn last_upto(&self, number: u32, readings: &mut Readings) -> Option<u32>
         requires fresh { readings.old ≡ 0 }

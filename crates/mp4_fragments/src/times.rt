@@ -1,10 +1,10 @@
-//! When the runs of a track begin, kept so that members are found by their times.
+//! When the runs of a track begin, kept so that samples are found by their times.
 
 ghost use Rattle.std.specs.Prelude.{◌≡◌, ℕ, ◌+◌, ◌<◌, ◌≤◌, Option, length, take, IfOk};
 ghost use Rattle.std.specs.List.{sum_by};
 ghost use Rattle.mp4_fragments.specs.ByTime.{AreEarliest, AreKept, begin_of, earlier, first_decoded};
 ghost use Rattle.mp4_fragments.specs.Index.{Indexes, placed_at, run_at, runs_of};
-ghost use Rattle.mp4_fragments.specs.Members.{PlacedRun, run_count};
+ghost use Rattle.mp4_fragments.specs.RunSamples.{PlacedRun, run_count};
 
 use crate::defaults::SampleDefaults;
 use crate::index::{RunEntry, RunIndex};
@@ -21,7 +21,7 @@ pub struct RunTimes {
     pub(crate) latest_first: Vec<u64>,
 }
 
-/// When a run begins, if it has a member.
+/// When a run begins, if it has a sample.
 fn begin_of(trafs: &[TrafBox], track: SampleDefaults, entry: &RunEntry) -> Option<u64>
     ensures { (p : PlacedRun) → placed_at (run_at trafs.now track) entry.now ≡ Some p → result ≡ first_decoded p }
 {
@@ -62,7 +62,7 @@ fn keep_begin(
     Ok(earliest)
 }
 
-/// How many runs begin with a member whose number is below `end`, or have none and stand before such a run.
+/// How many runs begin with a sample whose number is below `end`, or have none and stand before such a run.
 fn runs_below(trafs: &[TrafBox], track: SampleDefaults, index: &RunIndex, end: u32) -> usize
     requires { Indexes (run_at trafs.now track) (runs_of trafs.now track index.now) index.now }
     ensures within { result ≤ length index.now.entries }
@@ -76,7 +76,7 @@ fn runs_below(trafs: &[TrafBox], track: SampleDefaults, index: &RunIndex, end: u
     }
 }
 
-/// When the runs of an index begin, as far as their members have numbers below `end`, which count from 0 over all
+/// When the runs of an index begin, as far as their samples have numbers below `end`, which count from 0 over all
 /// fragments of the track.
 pub(crate) fn times_of(
     alloc: Global,

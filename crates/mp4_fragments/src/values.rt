@@ -1,10 +1,10 @@
-//! Values that a run lists, or that are one number for all its members.
+//! Values that a run lists, or that are one number for all its samples.
 
 ghost use Rattle.std.specs.Prelude.{◌≡◌, ℕ, ◌+◌, ◌-◌, ◌*◌, ◌^◌, ◌<◌, ◌≤◌, get_or, length};
 ghost use Rattle.std.specs.List.{sum};
 ghost use Rattle.mp4_fragments.specs.Numbers.{sum_of_first};
 
-/// The value of member `j`.
+/// The value of sample `j`.
 pub fn value_at(values: &[u32], default_value: u32, j: u32) -> u32
     ensures { result ≡ get_or values.now j default_value }
 {

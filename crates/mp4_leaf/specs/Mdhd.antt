@@ -2,8 +2,8 @@
 use Rattle.std.specs.Prelude.{ℕ, ◌^◌, ◌<◌, List, [], ◌∷◌, Option, Result, Ok}
 use Rattle.mp4_codec.specs.Cause.{Cause, ◌>>=◌, ◌or◌}
 use Rattle.mp4_codec.specs.Bytes.{number_at, bytes_at, versioned_at, number, zeros, versioned, ◌⧺◌}
-use Rattle.mp4_leaf.specs.declared.times.Stamp.{Stamp}
-use Rattle.mp4_leaf.specs.Times.{stamp_at, stamp, times_refusal}
+use Rattle.mp4_leaf.specs.declared.times.HeaderTimes.{HeaderTimes}
+use Rattle.mp4_leaf.specs.Times.{header_times_at, header_times, times_refusal}
 use Rattle.mp4_leaf.specs.declared.mdhd.MdhdBox.{MdhdBox}
 use Rattle.mp4_leaf.specs.Language.{unpacked, packed, language_refusal}
 use Rattle.mp4_codec.specs.Boxes.{IsCanonical}
@@ -11,24 +11,24 @@ use Rattle.mp4_codec.specs.Boxes.{IsCanonical}
 -- the media header that a payload holds, field by field; what follows is skipped
 unfoldable pub mdhd_of : List ℕ → Result MdhdBox Cause
 mdhd_of payload = do
-  stamp ← stamp_at payload
-  timescale ← number_at 4 stamp.1
-  duration ← versioned_at stamp.0.version timescale.1
+  header_times ← header_times_at payload
+  timescale ← number_at 4 header_times.1
+  duration ← versioned_at header_times.0.version timescale.1
   language ← number_at 2 duration.1
   predefined ← bytes_at 2 language.1
   Ok (record {
-    version = stamp.0.version;
-    flags = stamp.0.flags;
-    creation_time = stamp.0.creation_time;
-    modification_time = stamp.0.modification_time;
+    version = header_times.0.version;
+    flags = header_times.0.flags;
+    creation_time = header_times.0.creation_time;
+    modification_time = header_times.0.modification_time;
     timescale = timescale.0;
     duration = duration.0;
     language = unpacked language.0;
   })
 
 -- what the header begins with
-abbrev pub stamp_of : MdhdBox → Stamp
-stamp_of b = record {
+abbrev pub header_times_of : MdhdBox → HeaderTimes
+header_times_of b = record {
   version = b.version;
   flags = b.flags;
   creation_time = b.creation_time;
@@ -38,7 +38,7 @@ stamp_of b = record {
 -- the payload that holds a media header
 unfoldable pub mdhd_payload : MdhdBox → List ℕ
 mdhd_payload b =
-    stamp (stamp_of b)
+    header_times (header_times_of b)
     ⧺ number 4 b.timescale
     ⧺ versioned b.version b.duration
     ⧺ number 2 (packed b.language)

@@ -7,13 +7,13 @@ use Rattle.mp4_leaf.specs.declared.mdhd.MdhdBox.{MdhdBox}
 use Rattle.mp4_leaf.specs.LanguageLaws.{unpacked-packed, packed-small, language-written}
 use Rattle.mp4_leaf.specs.Language.{packed, language_refusal}
 use Rattle.mp4_leaf.specs.Times.{times_refusal}
-use Rattle.mp4_leaf.specs.TimesLaws.{times-have_room, with_duration, length-stamp, stamp_again}
-use Rattle.mp4_leaf.specs.Mdhd.{stamp_of, mdhd_of, mdhd_payload, mdhd_refusal, IsCanonicalMdhd}
+use Rattle.mp4_leaf.specs.TimesLaws.{times-have_room, with_duration, length-header_times, header_times_again}
+use Rattle.mp4_leaf.specs.Mdhd.{header_times_of, mdhd_of, mdhd_payload, mdhd_refusal, IsCanonicalMdhd}
 
 pub length-mdhd_payload : (b : MdhdBox) → length (mdhd_payload b) ≡ cond (eqb b.version 1) 36 24
 unfolding mdhd_payload
 length-mdhd_payload b =
-    simp (length-then, length-number, length-zeros, length-versioned, length-stamp)
+    simp (length-then, length-number, length-zeros, length-versioned, length-header_times)
     (omega (arith, with_duration (eqb b.version 1) 8))
 
 pub mdhd_again : (b : MdhdBox) → IsCanonicalMdhd b → mdhd_of (mdhd_payload b) ≡ Ok b
@@ -26,7 +26,7 @@ mdhd_again b f =
     let room = times-have_room b.version b.creation_time b.modification_time b.duration in_range.creation_time
     in_range.modification_time in_range.duration sound.0 in
     rw (
-      stamp_again (stamp_of b) _ in_range.version f.well_formed room.creation_time room.modification_time,
+      header_times_again (header_times_of b) _ in_range.version f.well_formed room.creation_time room.modification_time,
       number_again 4 b.timescale _ in_range.timescale,
       versioned_again b.version b.duration _ room.duration,
       number_again 2 (packed b.language) _ (packed-small b.language),

@@ -2,8 +2,8 @@
 use Rattle.std.specs.Prelude.{ℕ, ◌^◌, ◌<◌, List, Option, Result, Ok}
 use Rattle.mp4_codec.specs.Cause.{Cause, ◌>>=◌}
 use Rattle.mp4_codec.specs.Bytes.{Reader, number_at, bytes_at, versioned_at, number, zeros, versioned, ◌⧺◌}
-use Rattle.mp4_leaf.specs.declared.times.Stamp.{Stamp}
-use Rattle.mp4_leaf.specs.Times.{stamp_at, stamp, times_refusal}
+use Rattle.mp4_leaf.specs.declared.times.HeaderTimes.{HeaderTimes}
+use Rattle.mp4_leaf.specs.Times.{header_times_at, header_times, times_refusal}
 use Rattle.mp4_leaf.specs.declared.mvhd.MvhdBox.{MvhdBox}
 use Rattle.mp4_leaf.specs.declared.mvhd.Playback.{Playback}
 use Rattle.mp4_leaf.specs.Matrix.{matrix_at, matrix, IsInRangeMatrix, unity}
@@ -21,17 +21,17 @@ playback_at bytes = do
 -- the movie header that a payload holds, field by field; what follows is skipped
 unfoldable pub mvhd_of : List ℕ → Result MvhdBox Cause
 mvhd_of payload = do
-  stamp ← stamp_at payload
-  timescale ← number_at 4 stamp.1
-  duration ← versioned_at stamp.0.version timescale.1
+  header_times ← header_times_at payload
+  timescale ← number_at 4 header_times.1
+  duration ← versioned_at header_times.0.version timescale.1
   playback ← playback_at duration.1
   predefined ← bytes_at 24 playback.1
   next_track_id ← number_at 4 predefined.1
   Ok (record {
-    version = stamp.0.version;
-    flags = stamp.0.flags;
-    creation_time = stamp.0.creation_time;
-    modification_time = stamp.0.modification_time;
+    version = header_times.0.version;
+    flags = header_times.0.flags;
+    creation_time = header_times.0.creation_time;
+    modification_time = header_times.0.modification_time;
     timescale = timescale.0;
     duration = duration.0;
     rate = playback.0.rate;
@@ -41,8 +41,8 @@ mvhd_of payload = do
   })
 
 -- what the header begins with
-abbrev pub stamp_of : MvhdBox → Stamp
-stamp_of b = record {
+abbrev pub header_times_of : MvhdBox → HeaderTimes
+header_times_of b = record {
   version = b.version;
   flags = b.flags;
   creation_time = b.creation_time;
@@ -52,7 +52,7 @@ stamp_of b = record {
 -- the payload that holds a movie header
 unfoldable pub mvhd_payload : MvhdBox → List ℕ
 mvhd_payload b =
-    stamp (stamp_of b)
+    header_times (header_times_of b)
     ⧺ number 4 b.timescale
     ⧺ versioned b.version b.duration
     ⧺ number 4 b.rate.raw

@@ -5,13 +5,13 @@ use Rattle.mp4_codec.specs.FieldLaws.{length-zeros, length-versioned, length-the
 use Rattle.mp4_codec.specs.WriteLaws.{is_written}
 use Rattle.mp4_leaf.specs.declared.mvhd.MvhdBox.{MvhdBox}
 use Rattle.mp4_leaf.specs.MatrixLaws.{matrix_again, length-matrix}
-use Rattle.mp4_leaf.specs.TimesLaws.{times-have_room, with_duration, length-stamp, stamp_again}
-use Rattle.mp4_leaf.specs.Mvhd.{stamp_of, playback_at, mvhd_of, mvhd_payload, mvhd_refusal, IsCanonicalMvhd}
+use Rattle.mp4_leaf.specs.TimesLaws.{times-have_room, with_duration, length-header_times, header_times_again}
+use Rattle.mp4_leaf.specs.Mvhd.{header_times_of, playback_at, mvhd_of, mvhd_payload, mvhd_refusal, IsCanonicalMvhd}
 
 pub length-mvhd_payload : (b : MvhdBox) → length (mvhd_payload b) ≡ cond (eqb b.version 1) 112 100
 unfolding mvhd_payload
 length-mvhd_payload b =
-    simp (length-then, length-number, length-zeros, length-versioned, length-matrix, length-stamp)
+    simp (length-then, length-number, length-zeros, length-versioned, length-matrix, length-header_times)
     (omega (arith, with_duration (eqb b.version 1) 84))
 
 pub mvhd_again : (b : MvhdBox) → IsCanonicalMvhd b → mvhd_of (mvhd_payload b) ≡ Ok b
@@ -22,7 +22,7 @@ mvhd_again b f =
     let room = times-have_room b.version b.creation_time b.modification_time b.duration in_range.creation_time
     in_range.modification_time in_range.duration sound in
     rw (
-      stamp_again (stamp_of b) _ in_range.version f.well_formed room.creation_time room.modification_time,
+      header_times_again (header_times_of b) _ in_range.version f.well_formed room.creation_time room.modification_time,
       number_again 4 b.timescale _ in_range.timescale,
       versioned_again b.version b.duration _ room.duration,
       number_again 4 b.rate.raw _ in_range.rate,

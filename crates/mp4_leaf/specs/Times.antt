@@ -3,11 +3,11 @@ use Rattle.std.specs.Prelude.{ℕ, List, Option, Ok}
 use Rattle.mp4_codec.specs.Cause.{Cause, ◌>>=◌, ◌or◌}
 use Rattle.mp4_codec.specs.Bytes.{Reader, number_at, versioned_at, number, versioned, ◌⧺◌, version_refusal}
 use Rattle.mp4_codec.specs.Bytes.{value_refusal}
-use Rattle.mp4_leaf.specs.declared.times.Stamp.{Stamp}
+use Rattle.mp4_leaf.specs.declared.times.HeaderTimes.{HeaderTimes}
 
 -- what such a header begins with: its version and flags, and when it was made and changed
-unfoldable pub stamp_at : Reader Stamp
-stamp_at bytes = do
+unfoldable pub header_times_at : Reader HeaderTimes
+header_times_at bytes = do
   version ← number_at 1 bytes
   flags ← number_at 3 version.1
   creation_time ← versioned_at version.0 flags.1
@@ -22,8 +22,8 @@ stamp_at bytes = do
     modification_time.1,
   )
 
-unfoldable pub stamp : Stamp → List ℕ
-stamp s = number 1 s.version ⧺ number 3 s.flags ⧺ versioned s.version s.creation_time
+unfoldable pub header_times : HeaderTimes → List ℕ
+header_times s = number 1 s.version ⧺ number 3 s.flags ⧺ versioned s.version s.creation_time
     ⧺ versioned s.version s.modification_time
 
 -- why a header of these times is not written: its version, then the first time that its version has no room for

@@ -7,8 +7,8 @@ use Rattle.mp4_codec.specs.FieldLaws.{FitsVersion-written}
 use Rattle.mp4_codec.specs.Bytes.{◌⧺◌}
 use Rattle.mp4_codec.specs.FieldLaws.{number_again, versioned_again, length-number, length-versioned, length-then}
 use Rattle.mp4_codec.specs.FieldLaws.{then_assoc}
-use Rattle.mp4_leaf.specs.declared.times.Stamp.{Stamp}
-use Rattle.mp4_leaf.specs.Times.{stamp_at, stamp, times_refusal}
+use Rattle.mp4_leaf.specs.declared.times.HeaderTimes.{HeaderTimes}
+use Rattle.mp4_leaf.specs.Times.{header_times_at, header_times, times_refusal}
 
 -- the version is 0 or 1, and has room for each time
 pub record HaveRoom (version created modified lasts : ℕ) : Type 0 where
@@ -35,24 +35,24 @@ times-have_room version creation_time modification_time duration made changed lo
       duration = FitsVersion-written version duration second.0 last.1 long;
     }
 
-pub length-stamp : (s : Stamp) → length (stamp s) ≡ cond (eqb s.version 1) 20 12
-unfolding stamp
-length-stamp s = simp (length-then, length-number, length-versioned) (both (eqb s.version 1))
+pub length-header_times : (s : HeaderTimes) → length (header_times s) ≡ cond (eqb s.version 1) 20 12
+unfolding header_times
+length-header_times s = simp (length-then, length-number, length-versioned) (both (eqb s.version 1))
   where
     both : (b : Bool) → 1 + (3 + (cond b 8 4 + cond b 8 4)) ≡ cond b 20 12
     both true = refl
     both false = refl
 
--- a stamp and one time more beside n other bytes
+-- header times and one time more beside n other bytes
 pub with_duration : (b : Bool) (n : ℕ) → n + (cond b 20 12 + cond b 8 4) ≡ cond b (n + 28) (n + 16)
 with_duration true n = omega arith
 with_duration false n = omega arith
 
-pub stamp_again : (s : Stamp) (rest : List ℕ) → s.version < 2 ^ 8 → s.flags < 2 ^ 24
+pub header_times_again : (s : HeaderTimes) (rest : List ℕ) → s.version < 2 ^ 8 → s.flags < 2 ^ 24
     → FitsVersion s.version s.creation_time
-    → FitsVersion s.version s.modification_time → stamp_at (stamp s ⧺ rest) ≡ Ok (s, rest)
-unfolding stamp_at stamp
-stamp_again s rest version flags made changed =
+    → FitsVersion s.version s.modification_time → header_times_at (header_times s ⧺ rest) ≡ Ok (s, rest)
+unfolding header_times_at header_times
+header_times_again s rest version flags made changed =
     simp then_assoc (rw (
       number_again 1 s.version _ version,
       number_again 3 s.flags _ flags,

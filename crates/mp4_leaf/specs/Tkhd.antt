@@ -2,8 +2,8 @@
 use Rattle.std.specs.Prelude.{ℕ, ◌^◌, ◌<◌, List, Option, Result, Ok}
 use Rattle.mp4_codec.specs.Cause.{Cause, ◌>>=◌}
 use Rattle.mp4_codec.specs.Bytes.{Reader, number_at, bytes_at, versioned_at, number, zeros, versioned, ◌⧺◌}
-use Rattle.mp4_leaf.specs.declared.times.Stamp.{Stamp}
-use Rattle.mp4_leaf.specs.Times.{stamp_at, stamp, times_refusal}
+use Rattle.mp4_leaf.specs.declared.times.HeaderTimes.{HeaderTimes}
+use Rattle.mp4_leaf.specs.Times.{header_times_at, header_times, times_refusal}
 use Rattle.mp4_leaf.specs.declared.tkhd.Presentation.{Presentation}
 use Rattle.mp4_leaf.specs.declared.tkhd.TkhdBox.{TkhdBox}
 use Rattle.mp4_leaf.specs.Matrix.{matrix_at, matrix, IsInRangeMatrix, unity}
@@ -34,17 +34,17 @@ presentation_at bytes = do
 -- the track header that a payload holds, field by field; what follows is skipped
 unfoldable pub tkhd_of : List ℕ → Result TkhdBox Cause
 tkhd_of payload = do
-  stamp ← stamp_at payload
-  track_id ← number_at 4 stamp.1
+  header_times ← header_times_at payload
+  track_id ← number_at 4 header_times.1
   reserved ← bytes_at 4 track_id.1
-  duration ← versioned_at stamp.0.version reserved.1
+  duration ← versioned_at header_times.0.version reserved.1
   reserved_too ← bytes_at 8 duration.1
   presentation ← presentation_at reserved_too.1
   Ok (record {
-    version = stamp.0.version;
-    flags = stamp.0.flags;
-    creation_time = stamp.0.creation_time;
-    modification_time = stamp.0.modification_time;
+    version = header_times.0.version;
+    flags = header_times.0.flags;
+    creation_time = header_times.0.creation_time;
+    modification_time = header_times.0.modification_time;
     track_id = track_id.0;
     duration = duration.0;
     layer = presentation.0.layer;
@@ -56,8 +56,8 @@ tkhd_of payload = do
   })
 
 -- what the header begins with
-abbrev pub stamp_of : TkhdBox → Stamp
-stamp_of b = record {
+abbrev pub header_times_of : TkhdBox → HeaderTimes
+header_times_of b = record {
   version = b.version;
   flags = b.flags;
   creation_time = b.creation_time;
@@ -67,7 +67,7 @@ stamp_of b = record {
 -- the payload that holds a track header
 unfoldable pub tkhd_payload : TkhdBox → List ℕ
 tkhd_payload b =
-    stamp (stamp_of b)
+    header_times (header_times_of b)
     ⧺ number 4 b.track_id
     ⧺ zeros 4
     ⧺ versioned b.version b.duration

@@ -5,13 +5,13 @@ use Rattle.mp4_codec.specs.FieldLaws.{length-zeros, length-versioned, length-the
 use Rattle.mp4_codec.specs.WriteLaws.{is_written}
 use Rattle.mp4_leaf.specs.declared.tkhd.TkhdBox.{TkhdBox}
 use Rattle.mp4_leaf.specs.MatrixLaws.{matrix_again, length-matrix}
-use Rattle.mp4_leaf.specs.TimesLaws.{times-have_room, with_duration, length-stamp, stamp_again}
-use Rattle.mp4_leaf.specs.Tkhd.{stamp_of, presentation_at, tkhd_of, tkhd_payload, tkhd_refusal, IsCanonicalTkhd}
+use Rattle.mp4_leaf.specs.TimesLaws.{times-have_room, with_duration, length-header_times, header_times_again}
+use Rattle.mp4_leaf.specs.Tkhd.{header_times_of, presentation_at, tkhd_of, tkhd_payload, tkhd_refusal, IsCanonicalTkhd}
 
 pub length-tkhd_payload : (b : TkhdBox) → length (tkhd_payload b) ≡ cond (eqb b.version 1) 96 84
 unfolding tkhd_payload
 length-tkhd_payload b =
-    simp (length-then, length-number, length-zeros, length-versioned, length-matrix, length-stamp)
+    simp (length-then, length-number, length-zeros, length-versioned, length-matrix, length-header_times)
     (omega (arith, with_duration (eqb b.version 1) 68))
 
 pub tkhd_again : (b : TkhdBox) → IsCanonicalTkhd b → tkhd_of (tkhd_payload b) ≡ Ok b
@@ -22,7 +22,7 @@ tkhd_again b f =
     let room = times-have_room b.version b.creation_time b.modification_time b.duration in_range.creation_time
     in_range.modification_time in_range.duration sound in
     rw (
-      stamp_again (stamp_of b) _ in_range.version f.well_formed room.creation_time room.modification_time,
+      header_times_again (header_times_of b) _ in_range.version f.well_formed room.creation_time room.modification_time,
       number_again 4 b.track_id _ in_range.track_id,
       zeros_again 4 _,
       versioned_again b.version b.duration _ room.duration,

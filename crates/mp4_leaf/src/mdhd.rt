@@ -5,12 +5,12 @@ ghost use Rattle.std.specs.Prelude.{◌≡◌, Ok};
 ghost use Rattle.mp4_codec.specs.declared.box_type.BoxType.TheVariants.{MdhdBox as mdhd};
 ghost use Rattle.mp4_codec.specs.Boxes.{size_around};
 ghost use Rattle.mp4_codec.specs.Cause.{Answers};
-ghost use Rattle.mp4_leaf.specs.Mdhd.{mdhd_payload, default_mdhd, mdhd_of, mdhd_refusal, IsInRangeMdhd, IsWellFormedMdhd, stamp_of};
+ghost use Rattle.mp4_leaf.specs.Mdhd.{mdhd_payload, default_mdhd, mdhd_of, mdhd_refusal, IsInRangeMdhd, IsWellFormedMdhd, header_times_of};
 ghost use Rattle.mp4_leaf.specs.MdhdLaws.{mdhd_again};
 ghost use Rattle.mp4_codec.specs.Early.{refused_at_once};
 
 use crate::language::{check_language, pack_language, unpack_language};
-use crate::times::{Stamp, check_times, put_stamp, read_stamp};
+use crate::times::{HeaderTimes, check_times, put_header_times, read_header_times};
 use mp4_codec::{
     BoxType, ExactEq, Fields, InRange, Mp4Box, Put, ReadBox, Result, Text, TryClone, WriteBox,
     put_u16, put_u32, put_versioned, put_zeros,
@@ -67,10 +67,10 @@ impl MdhdBox {
     }
 
     /// What the header begins with.
-    fn stamp(&self) -> Stamp
-        ensures { result ≡ stamp_of self.now }
+    fn header_times(&self) -> HeaderTimes
+        ensures { result ≡ header_times_of self.now }
     {
-        Stamp {
+        HeaderTimes {
             version: self.version,
             flags: self.flags,
             creation_time: self.creation_time,
@@ -133,17 +133,17 @@ impl ReadBox for MdhdBox {
     #[tactic(auto, unfolding(crate::specs::Mdhd::mdhd_of))]
     fn read_payload(alloc: Global, payload: &[u8]) -> Result<Self> {
         let mut fields = Fields::new(payload);
-        let stamp = read_stamp(&mut fields)?;
+        let header_times = read_header_times(&mut fields)?;
         let timescale = fields.u32()?;
-        let duration = fields.versioned(stamp.version)?;
+        let duration = fields.versioned(header_times.version)?;
         let code = fields.u16()?;
         fields.bytes(2)?;
         let language = unpack_language(alloc, code)?;
         Ok(MdhdBox {
-            version: stamp.version,
-            flags: stamp.flags,
-            creation_time: stamp.creation_time,
-            modification_time: stamp.modification_time,
+            version: header_times.version,
+            flags: header_times.flags,
+            creation_time: header_times.creation_time,
+            modification_time: header_times.modification_time,
             timescale,
             duration,
             language,
@@ -171,7 +171,7 @@ impl WriteBox for MdhdBox {
     }
 
     fn put_payload(&self, out: &mut Vec<u8>) -> Put {
-        put_stamp(out, self.stamp())?;
+        put_header_times(out, self.header_times())?;
         put_u32(out, self.timescale)?;
         put_versioned(out, self.version, self.duration)?;
         put_u16(out, pack_language(&self.language))?;

@@ -6,12 +6,12 @@ ghost use Rattle.std.specs.Prelude.{◌≡◌, Ok};
 ghost use Rattle.mp4_codec.specs.Cause.{Gives, Reads};
 ghost use Rattle.mp4_codec.specs.declared.box_type.BoxType.TheVariants.{MvhdBox as mvhd};
 ghost use Rattle.mp4_codec.specs.Boxes.{size_around};
-ghost use Rattle.mp4_leaf.specs.Mvhd.{playback_at, mvhd_payload, default_mvhd, mvhd_of, mvhd_refusal, IsInRangeMvhd, IsWellFormedMvhd, stamp_of};
+ghost use Rattle.mp4_leaf.specs.Mvhd.{playback_at, mvhd_payload, default_mvhd, mvhd_of, mvhd_refusal, IsInRangeMvhd, IsWellFormedMvhd, header_times_of};
 ghost use Rattle.mp4_leaf.specs.MvhdLaws.{mvhd_again};
 ghost use Rattle.mp4_codec.specs.Early.{at_once};
 
 use crate::matrix::{Matrix, put_matrix, read_matrix};
-use crate::times::{Stamp, check_times, put_stamp, read_stamp};
+use crate::times::{HeaderTimes, check_times, put_header_times, read_header_times};
 use mp4_codec::{
     BoxType, ExactEq, Field, Fields, FixedPointU8, FixedPointU16, InRange, Mp4Box, Put, ReadBox,
     Result, TryClone, WriteBox, put_u16, put_u32, put_versioned, put_zeros,
@@ -81,10 +81,10 @@ impl MvhdBox {
     }
 
     /// What the header begins with.
-    fn stamp(&self) -> Stamp
-        ensures { result ≡ stamp_of self.now }
+    fn header_times(&self) -> HeaderTimes
+        ensures { result ≡ header_times_of self.now }
     {
-        Stamp {
+        HeaderTimes {
             version: self.version,
             flags: self.flags,
             creation_time: self.creation_time,
@@ -166,17 +166,17 @@ impl ReadBox for MvhdBox {
         ensures { Gives (λ x. x) result (mvhd_of payload.now) }
     {
         let mut fields = Fields::new(payload);
-        let stamp = read_stamp(&mut fields)?;
+        let header_times = read_header_times(&mut fields)?;
         let timescale = fields.u32()?;
-        let duration = fields.versioned(stamp.version)?;
+        let duration = fields.versioned(header_times.version)?;
         let playback = read_playback(&mut fields)?;
         fields.bytes(24)?;
         let next_track_id = fields.u32()?;
         Ok(MvhdBox {
-            version: stamp.version,
-            flags: stamp.flags,
-            creation_time: stamp.creation_time,
-            modification_time: stamp.modification_time,
+            version: header_times.version,
+            flags: header_times.flags,
+            creation_time: header_times.creation_time,
+            modification_time: header_times.modification_time,
             timescale,
             duration,
             rate: playback.rate,
@@ -206,7 +206,7 @@ impl WriteBox for MvhdBox {
     }
 
     fn put_payload(&self, out: &mut Vec<u8>) -> Put {
-        put_stamp(out, self.stamp())?;
+        put_header_times(out, self.header_times())?;
         put_u32(out, self.timescale)?;
         put_versioned(out, self.version, self.duration)?;
         put_u32(out, self.rate.raw)?;

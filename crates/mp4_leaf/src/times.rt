@@ -3,7 +3,7 @@
 ghost use Rattle.std.specs.Prelude.{OnOk};
 ghost use Rattle.mp4_codec.specs.Cause.{Checks, Gives, Reads};
 ghost use Rattle.mp4_codec.specs.Bytes.{Appends};
-ghost use Rattle.mp4_leaf.specs.Times.{stamp_at, stamp, times_refusal};
+ghost use Rattle.mp4_leaf.specs.Times.{header_times_at, header_times, times_refusal};
 
 use mp4_codec::{
     Field, Fields, Put, Result, check_value, check_version, put_u8, put_u24, put_versioned,
@@ -11,7 +11,7 @@ use mp4_codec::{
 
 /// What such a header begins with.
 #[derive(Clone, Copy)]
-pub(crate) struct Stamp {
+pub(crate) struct HeaderTimes {
     pub version: u8,
     pub flags: u32,
     /// Seconds since 1904-01-01 00:00 UTC.
@@ -20,16 +20,16 @@ pub(crate) struct Stamp {
     pub modification_time: u64,
 }
 
-/// The next stamp of a payload: 12 bytes in version 0, 20 in version 1; any other version is `InvalidData`.
-#[tactic(auto, unfolding(crate::specs::Times::stamp_at))]
-pub(crate) fn read_stamp(fields: &mut Fields) -> Field<Stamp>
-    ensures { Reads (λ s. (s, fields.new)) result (stamp_at fields.old) }
+/// The next header times of a payload: 12 bytes in version 0, 20 in version 1; any other version is `InvalidData`.
+#[tactic(auto, unfolding(crate::specs::Times::header_times_at))]
+pub(crate) fn read_header_times(fields: &mut Fields) -> Field<HeaderTimes>
+    ensures { Reads (λ s. (s, fields.new)) result (header_times_at fields.old) }
 {
     let version = fields.u8()?;
     let flags = fields.u24()?;
     let creation_time = fields.versioned(version)?;
     let modification_time = fields.versioned(version)?;
-    Ok(Stamp {
+    Ok(HeaderTimes {
         version,
         flags,
         creation_time,
@@ -37,9 +37,9 @@ pub(crate) fn read_stamp(fields: &mut Fields) -> Field<Stamp>
     })
 }
 
-/// Adds the bytes of a stamp.
-pub(crate) fn put_stamp(out: &mut Vec<u8>, s: Stamp) -> Put
-    ensures { OnOk result (Appends out.old.items out.new.items (stamp s)) }
+/// Adds the bytes of header times.
+pub(crate) fn put_header_times(out: &mut Vec<u8>, s: HeaderTimes) -> Put
+    ensures { OnOk result (Appends out.old.items out.new.items (header_times s)) }
 {
     put_u8(out, s.version)?;
     put_u24(out, s.flags)?;

@@ -5,13 +5,13 @@ ghost use Rattle.mp4_leaf.specs.contracts.matrix.MatrixExactEq.TheImpl.Laws.{law
 ghost use Rattle.std.specs.Prelude.{◌≡◌, ◌*◌, Ok};
 ghost use Rattle.mp4_codec.specs.declared.box_type.BoxType.TheVariants.{TkhdBox as tkhd};
 ghost use Rattle.mp4_codec.specs.Boxes.{size_around};
-ghost use Rattle.mp4_leaf.specs.Tkhd.{presentation_at, tkhd_payload, default_tkhd, tkhd_of, tkhd_refusal, IsInRangeTkhd, IsWellFormedTkhd, stamp_of};
+ghost use Rattle.mp4_leaf.specs.Tkhd.{presentation_at, tkhd_payload, default_tkhd, tkhd_of, tkhd_refusal, IsInRangeTkhd, IsWellFormedTkhd, header_times_of};
 ghost use Rattle.mp4_leaf.specs.TkhdLaws.{tkhd_again};
 ghost use Rattle.mp4_codec.specs.Cause.{Gives, Reads};
 ghost use Rattle.mp4_codec.specs.Early.{at_once};
 
 use crate::matrix::{Matrix, put_matrix, read_matrix};
-use crate::times::{Stamp, check_times, put_stamp, read_stamp};
+use crate::times::{HeaderTimes, check_times, put_header_times, read_header_times};
 use mp4_codec::{
     BoxType, ExactEq, Field, Fields, FixedPointU8, FixedPointU16, InRange, Mp4Box, Put, ReadBox,
     Result, TryClone, WriteBox, put_u16, put_u32, put_versioned, put_zeros,
@@ -95,10 +95,10 @@ impl TkhdBox {
     }
 
     /// What the header begins with.
-    fn stamp(&self) -> Stamp
-        ensures { result ≡ stamp_of self.now }
+    fn header_times(&self) -> HeaderTimes
+        ensures { result ≡ header_times_of self.now }
     {
-        Stamp {
+        HeaderTimes {
             version: self.version,
             flags: self.flags,
             creation_time: self.creation_time,
@@ -198,17 +198,17 @@ impl ReadBox for TkhdBox {
         ensures { Gives (λ x. x) result (tkhd_of payload.now) }
     {
         let mut fields = Fields::new(payload);
-        let stamp = read_stamp(&mut fields)?;
+        let header_times = read_header_times(&mut fields)?;
         let track_id = fields.u32()?;
         fields.bytes(4)?;
-        let duration = fields.versioned(stamp.version)?;
+        let duration = fields.versioned(header_times.version)?;
         fields.bytes(8)?;
         let presentation = read_presentation(&mut fields)?;
         Ok(TkhdBox {
-            version: stamp.version,
-            flags: stamp.flags,
-            creation_time: stamp.creation_time,
-            modification_time: stamp.modification_time,
+            version: header_times.version,
+            flags: header_times.flags,
+            creation_time: header_times.creation_time,
+            modification_time: header_times.modification_time,
             track_id,
             duration,
             layer: presentation.layer,
@@ -240,7 +240,7 @@ impl WriteBox for TkhdBox {
     }
 
     fn put_payload(&self, out: &mut Vec<u8>) -> Put {
-        put_stamp(out, self.stamp())?;
+        put_header_times(out, self.header_times())?;
         put_u32(out, self.track_id)?;
         put_zeros(out, 4)?;
         put_versioned(out, self.version, self.duration)?;

@@ -5,7 +5,7 @@ use Rattle.std.specs.Prelude.{IsTrue, IfOk, IfSome, Option, if◌then◌else◌,
 use Rattle.std.proofs.lemmas.List.{length-map}
 use Rattle.mp4_boxes.specs.declared.stbl.StblBox.{StblBox}
 use Rattle.mp4_fragments.specs.Index.{Find, Indexes}
-use Rattle.mp4_fragments.specs.Members.{PlacedRun}
+use Rattle.mp4_fragments.specs.RunSamples.{PlacedRun}
 use Rattle.mp4_fragments.specs.declared.index.RunIndex.{RunIndex}
 use Rattle.mp4_samples.specs.Tables.{tables_of}
 use Rattle.mp4_samples.specs.declared.sample.Comparisons.{Comparisons}
@@ -14,8 +14,8 @@ use Rattle.mp4_search.specs.BitSet.{looks_at_bit}
 use Rattle.mp4_search.specs.Search.{IsCountByGuess, IsCountByHalves, IsFew, IsFewByGuess, comparisons_in}
 use Rattle.mp4_search.specs.declared.bit_set.BitSet.{BitSet}
 use Rattle.mp4_table.specs.declared.stsc.StscEntry.{StscEntry}
-use Rattle.mp4_lookup.specs.Costs.{AreCounts, AreFew, AreFewByGuess, AreFewForMember, AreFewForMemberByGuess}
-use Rattle.mp4_lookup.specs.Costs.{AreMemberCounts, AreTrackCounts, comparisons_at, comparisons_in_runs, comparisons_of}
+use Rattle.mp4_lookup.specs.Costs.{AreCounts, AreFew, AreFewByGuess, AreFewForRunSample, AreFewForRunSampleByGuess}
+use Rattle.mp4_lookup.specs.Costs.{AreRunSampleCounts, AreTrackCounts, comparisons_at, comparisons_in_runs, comparisons_of}
 use Rattle.mp4_lookup.specs.Index.{IsIndexOf}
 use Rattle.mp4_lookup.specs.Tracks.{is_of_movie}
 use Rattle.mp4_lookup.specs.declared.index.TrackIndex.{TrackIndex}
@@ -53,7 +53,7 @@ counted_at index k c a = λ i. record {
   runs = a.runs i;
 }
 
-counted_in_runs : (index : RunIndex) (number : ℕ) (c : Comparisons) → AreMemberCounts IsCountByHalves index number c
+counted_in_runs : (index : RunIndex) (number : ℕ) (c : Comparisons) → AreRunSampleCounts IsCountByHalves index number c
     → c ≡ comparisons_in_runs index number
 counted_in_runs index number c a = λ i. record {
   stsc = a.stsc i;
@@ -69,7 +69,7 @@ unfolding comparisons_of
 counted_of t k c a = step (is_of_movie t.trak t.trafs k) a.tables a.added
   where
     step : (b : Bool) → (IsTrue b → AreCounts IsCountByHalves (λ bits n. 0) t.index k c)
-        → (b ≡ false → AreMemberCounts IsCountByHalves t.runs (k - (tables_of t.trak).stsz.sample_count - 1) c)
+        → (b ≡ false → AreRunSampleCounts IsCountByHalves t.runs (k - (tables_of t.trak).stsz.sample_count - 1) c)
         → c ≡ (if b then comparisons_at t.index k else
         comparisons_in_runs t.runs (k - (tables_of t.trak).stsz.sample_count - 1))
     step true tables added = counted_at t.index k c (tables refl)
@@ -116,10 +116,10 @@ few_by_guess_at t index k c is a = record {
   runs = a.runs;
 }
 
-pub few_for_member : (find : Find) (runs : List PlacedRun) (index : RunIndex) (number : ℕ) (c : Comparisons)
-    → Indexes find runs index → AreMemberCounts IsCountByHalves index number c → 0 < length runs
-    → AreFewForMember runs c
-few_for_member find runs index number c is a some =
+pub few_for_run_sample : (find : Find) (runs : List PlacedRun) (index : RunIndex) (number : ℕ) (c : Comparisons)
+    → Indexes find runs index → AreRunSampleCounts IsCountByHalves index number c → 0 < length runs
+    → AreFewForRunSample runs c
+few_for_run_sample find runs index number c is a some =
     let few : IsFew c.runs (length runs) = subst (IsFew c.runs) is.counts.count a.runs.few in
     record {
       stsc = a.stsc;
@@ -130,10 +130,10 @@ few_for_member find runs index number c is a some =
       runs = few.most;
     }
 
-pub few_for_member_by_guess : (find : Find) (runs : List PlacedRun) (index : RunIndex) (number : ℕ) (c : Comparisons)
-    → Indexes find runs index → AreMemberCounts IsCountByGuess index number c → 0 < length runs
-    → AreFewForMemberByGuess runs c
-few_for_member_by_guess find runs index number c is a some =
+pub few_for_run_sample_by_guess : (find : Find) (runs : List PlacedRun) (index : RunIndex) (number : ℕ) (c : Comparisons)
+    → Indexes find runs index → AreRunSampleCounts IsCountByGuess index number c → 0 < length runs
+    → AreFewForRunSampleByGuess runs c
+few_for_run_sample_by_guess find runs index number c is a some =
     let few : IsFewByGuess c.runs (length runs) = subst (IsFewByGuess c.runs) is.counts.count a.runs.few in
     record {
       stsc = a.stsc;

@@ -6,10 +6,10 @@ use Rattle.std.specs.Option.{SomeIff}
 use Rattle.std.proofs.lemmas.Bool.{cases_lt, le-leb, le-ltb, lt-leb, lt-ltb}
 use Rattle.mp4_boxes.specs.declared.stbl.StblBox.{StblBox}
 use Rattle.mp4_table.specs.Runs.{durations}
-use Rattle.mp4_fragments.specs.ByTime.{decoded_by, member_by, member_time}
-use Rattle.mp4_fragments.specs.Members.{PlacedRun, all_members}
+use Rattle.mp4_fragments.specs.ByTime.{decoded_by, run_sample_by, run_sample_time}
+use Rattle.mp4_fragments.specs.RunSamples.{PlacedRun, all_run_samples}
 use Rattle.mp4_fragments.specs.Sync.{sync_at}
-use Rattle.mp4_fragments.specs.declared.members.Member.{Member}
+use Rattle.mp4_fragments.specs.declared.run_samples.RunSample.{RunSample}
 use Rattle.mp4_search.specs.Partition.{AnswersLast, IsLastWith}
 use Rattle.mp4_lookup.specs.ByTime.{decode_time, duration_of, is_sync_in_table, is_sync_sample, sample_by, time_in}
 use Rattle.mp4_lookup.specs.ByTime.{end_time, last_number, time_range}
@@ -21,7 +21,7 @@ unfolding decode_time
 movie_time t runs k h = rw (le-leb k t.stsz.sample_count h) refl
 
 pub added_time : (t : StblBox) (runs : List PlacedRun) (k : ℕ) → t.stsz.sample_count < k
-    → decode_time t runs k ≡ member_time runs (k - t.stsz.sample_count - 1)
+    → decode_time t runs k ≡ run_sample_time runs (k - t.stsz.sample_count - 1)
 unfolding decode_time
 added_time t runs k h = rw (lt-leb k t.stsz.sample_count h) refl
 
@@ -38,23 +38,23 @@ added_sync t runs k h = rw (lt-leb k t.stsz.sample_count h) refl
 -- the last by time
 
 pub added_by : (t : StblBox) (runs : List PlacedRun) (time n : ℕ) → t.stsz.sample_count < 2 ^ 32
-    → IsLastWith (member_by runs time) (2 ^ 32 - 1 - t.stsz.sample_count) n
+    → IsLastWith (run_sample_by runs time) (2 ^ 32 - 1 - t.stsz.sample_count) n
     → IsLastWith (sample_by t runs time) (2 ^ 32) (t.stsz.sample_count + 1 + n)
 added_by t runs time n small last =
     let count = t.stsz.sample_count in
     let whole : count + 1 + (2 ^ 32 - 1 - count) ≡ 2 ^ 32 = omega (arith, small) in
-    rw whole at (last_of_added (sample_by t runs time) (member_by runs time) count (2 ^ 32 - 1 - count) n
+    rw whole at (last_of_added (sample_by t runs time) (run_sample_by runs time) count (2 ^ 32 - 1 - count) n
     (λ j h. ap (decoded_by time) (added_time t runs j h)) last)
 
 pub movie_by : (t : StblBox) (runs : List PlacedRun) (time : ℕ) (last : Option ℕ) → t.stsz.sample_count < 2 ^ 32
-    → ((n : ℕ) → n < 2 ^ 32 - 1 - t.stsz.sample_count → member_by runs time n ≡ false)
+    → ((n : ℕ) → n < 2 ^ 32 - 1 - t.stsz.sample_count → run_sample_by runs time n ≡ false)
     → AnswersLast (λ k. decoded_by time (time_in (durations t.stts.entries) k)) (t.stsz.sample_count + 1) last
     → AnswersLast (sample_by t runs time) (2 ^ 32) last
 movie_by t runs time last small none s =
     let count = t.stsz.sample_count in
     let whole : count + 1 + (2 ^ 32 - 1 - count) ≡ 2 ^ 32 = omega (arith, small) in
     rw whole at (last_of_movie (sample_by t runs time) (λ k. decoded_by time (time_in (durations t.stts.entries) k))
-    (member_by runs time) count (2 ^ 32 - 1 - count) last
+    (run_sample_by runs time) count (2 ^ 32 - 1 - count) last
     (λ j h. ap (decoded_by time) (movie_time t runs j h)) (λ j h. ap (decoded_by time) (added_time t runs j h)) none s)
 
 -- the last sync sample
@@ -98,15 +98,15 @@ pub movie_duration : (t : StblBox) (runs : List PlacedRun) (k : ℕ) → k ≤ t
 unfolding duration_of
 movie_duration t runs k h = rw (le-leb k t.stsz.sample_count h) refl
 
-pub added_timing : (t : StblBox) (runs : List PlacedRun) (k : ℕ) (m : Member) → t.stsz.sample_count < k
-    → slice_get (all_members runs) (k - t.stsz.sample_count - 1) ≡ Some m
+pub added_timing : (t : StblBox) (runs : List PlacedRun) (k : ℕ) (m : RunSample) → t.stsz.sample_count < k
+    → slice_get (all_run_samples runs) (k - t.stsz.sample_count - 1) ≡ Some m
     → (decode_time t runs k ≡ m.at.time) × (duration_of t runs k ≡ m.duration)
-unfolding decode_time duration_of member_time
+unfolding decode_time duration_of run_sample_time
 added_timing t runs k m h e = rw (lt-leb k t.stsz.sample_count h, e) (refl, refl)
 
 pub no_timing : (t : StblBox) (runs : List PlacedRun) (k : ℕ) → t.stsz.sample_count < k
-    → slice_get (all_members runs) (k - t.stsz.sample_count - 1) ≡ None → decode_time t runs k ≡ None
-unfolding decode_time member_time
+    → slice_get (all_run_samples runs) (k - t.stsz.sample_count - 1) ≡ None → decode_time t runs k ≡ None
+unfolding decode_time run_sample_time
 no_timing t runs k h e = rw (lt-leb k t.stsz.sample_count h, e) refl
 
 -- when they end

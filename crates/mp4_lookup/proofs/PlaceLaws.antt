@@ -45,8 +45,8 @@ get_or-places (n ∷ counts) (offset ∷ offsets) sizes (suc c) j d h1 h2 h3 h4 
     let whole : length piece ≡ n = length-laid_from offset (take n sizes) ∙ length-take-le n sizes fits in
     let rest : before + j < length (drop n sizes) = rw (length-drop n sizes) (omega (arith, cut)) in
     let at : sum (n ∷ take c counts) + j ≡ length piece + (before + j) = omega (arith, cut, whole) in
-    let spot : n + (before + j) ≡ sum (n ∷ take c counts) + j = omega (arith, cut) in
+    let located : n + (before + j) ≡ sum (n ∷ take c counts) + j = omega (arith, cut) in
     ap (λ m. get_or (piece ++ places counts offsets (drop n sizes)) m d) at
     ∙ get_or-append-add piece (places counts offsets (drop n sizes)) (before + j) d
     ∙ get_or-places counts offsets (drop n sizes) c j d (omega arith) (omega arith) h3 rest
-    ∙ rw (drop-drop before n sizes, get_or-drop n sizes (before + j) 0, spot, sym cut) refl
+    ∙ rw (drop-drop before n sizes, get_or-drop n sizes (before + j) 0, located, sym cut) refl

@@ -21,8 +21,8 @@ use Rattle.mp4_table.specs.Starts.{start_of}
 use Rattle.mp4_codec.specs.Cause.{Cause, invalid_data, ◌>>=◌}
 use Rattle.mp4_samples.specs.declared.sample.Place.{Place}
 use Rattle.mp4_samples.specs.Tables.{sizes, chunk_offsets, ctts_runs, is_sync_at}
-use Rattle.mp4_samples.specs.Plain.{Consistent, plain, plain_at, member, within_file, sample_places}
-use Rattle.mp4_lookup.specs.Rule.{rule, spot_at, entry_for, chunk_for, first_in_chunk, time_at}
+use Rattle.mp4_samples.specs.Plain.{Consistent, plain, plain_at, sample_place, within_file, sample_places}
+use Rattle.mp4_lookup.specs.Rule.{rule, located_at, entry_for, chunk_for, first_in_chunk, time_at}
 use Rattle.mp4_lookup.proofs.PlaceLaws.{get_or-places}
 use Rattle.mp4_samples.proofs.ChunkLaws.{first_chunk_positive, length-counts, get_or-counts, samples_in_is}
 use Rattle.mp4_lookup.proofs.EntryLaws.{Fine, belongs, lies_at, entry_for_is, chunk_within}
@@ -100,13 +100,13 @@ unfolding chunk_for
 chunk_for_is e k c h small = rw (← h, ne_eqb (c + 1) 0 (λ z. omega (arith, z)), lt-leb (2 ^ 32) (c + 1) small) refl
 
 plain_at_within : (t : StblBox) (k : ℕ) → 1 ≤ k → k ≤ t.stsz.sample_count
-    → plain_at t k ≡ within_file (Some (member t k))
+    → plain_at t k ≡ within_file (Some (sample_place t k))
 unfolding plain_at
 plain_at_within t zero first within = absurd (omega arith)
 plain_at_within t (suc k) first within =
-    ap within_file (slice_get-get_or (plain t) k (member t (suc k))
-    (rw (length-map-range_with_len (member t) 1 t.stsz.sample_count) (omega arith))
-    ∙ ap Some (get_or-map-range_with_len (member t) 1 t.stsz.sample_count k (suc k) (member t (suc k)) (omega arith)
+    ap within_file (slice_get-get_or (plain t) k (sample_place t (suc k))
+    (rw (length-map-range_with_len (sample_place t) 1 t.stsz.sample_count) (omega arith))
+    ∙ ap Some (get_or-map-range_with_len (sample_place t) 1 t.stsz.sample_count k (suc k) (sample_place t (suc k)) (omega arith)
     (omega arith)))
 
 plain_at_past : (t : StblBox) (k : ℕ) → t.stsz.sample_count < k → plain_at t k ≡ Ok None
@@ -114,11 +114,11 @@ unfolding plain_at
 plain_at_past t zero past = absurd (omega arith)
 plain_at_past t (suc k) past =
     ap within_file (slice_get_past (plain t) k
-    (rw (length-map-range_with_len (member t) 1 t.stsz.sample_count) (omega arith)))
+    (rw (length-map-range_with_len (sample_place t) 1 t.stsz.sample_count) (omega arith)))
 
 rule_past : (t : StblBox) (track k c : ℕ) (e : StscEntry) → entry_for t.stsc.entries k ≡ Ok e
     → chunk_for e k ≡ Ok (c + 1) → slice_get (chunk_offsets t) (c + 1 - 1) ≡ None → rule t track k ≡ Ok None
-unfolding rule spot_at
+unfolding rule located_at
 rule_past t track k c e h1 h2 h3 = rw (h1, h2, h3) refl
 
 rule_found : (t : StblBox) (track k c offset size x duration begin : ℕ) (e : StscEntry)
@@ -134,7 +134,7 @@ rule_found : (t : StblBox) (track k c offset size x duration begin : ℕ) (e : S
       rendering_offset = get_or (rendering_offsets (ctts_runs t.ctts)) (k - 1) (pos 0);
       is_sync = is_sync_at t.stss k;
     }))
-unfolding rule spot_at
+unfolding rule located_at
 rule_found t track k c offset size x duration begin e h1 h2 h3 h4 h5 h6 =
     rw (h1, h2, h3, h4, h5) (bind_within (nat_le (2 ^ 64) x) x size _ _ (rw h6 refl))
 
@@ -162,7 +162,7 @@ within t track k i c r d fits firsts first last small h1 h2 h3 there whole rest 
     ≡ take r (drop before (sizes t.stsz n)) =
     rw (h3, begin, at) (let go : before + r - before ≡ r = omega arith in
     rw go (sizes_agree t.stsz k n before r (omega (arith, whole)) (omega (arith, whole)))) in
-    let spot : get_or (sample_places t) (k - 1) (0, 0)
+    let located : get_or (sample_places t) (k - 1) (0, 0)
     ≡ (
       get_or (chunk_offsets t) c 0 + sum (take r (drop before (sizes t.stsz n))),
       get_or (sizes t.stsz n) (k - 1) 0,
@@ -188,12 +188,12 @@ within t track k i c r d fits firsts first last small h1 h2 h3 there whole rest 
           get_or (rendering_offsets (ctts_runs t.ctts)) (k - 1) (pos 0);
       is_sync =
           is_sync_at t.stss k;
-    }))) spot)
+    }))) located)
 
 -- the law
 pub rule_is_plain : (t : StblBox) (track k : ℕ) → Consistent t → HasFirstSamples t.stsc.entries → k < 2 ^ 32
     → rule t track k ≡ plain_at t k
-unfolding rule spot_at plain_at entry_for
+unfolding rule located_at plain_at entry_for
 rule_is_plain t track zero fits firsts small = refl
 rule_is_plain t track (suc p) fits firsts small =
     let k = suc p in

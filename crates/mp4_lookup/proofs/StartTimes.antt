@@ -12,16 +12,16 @@ use Rattle.mp4_table.specs.Starts.{start_of}
 use Rattle.mp4_boxes.specs.declared.stbl.StblBox.{StblBox}
 use Rattle.mp4_boxes.specs.declared.trak.TrakBox.{TrakBox}
 use Rattle.mp4_moof.specs.declared.traf.TrafBox.{TrafBox}
-use Rattle.mp4_fragments.specs.ByTime.{member_time}
-use Rattle.mp4_fragments.specs.Members.{PlacedRun, all_members}
-use Rattle.mp4_fragments.specs.Sync.{is_sync_member, sync_at}
-use Rattle.mp4_fragments.specs.declared.members.Member.{Member}
+use Rattle.mp4_fragments.specs.ByTime.{run_sample_time}
+use Rattle.mp4_fragments.specs.RunSamples.{PlacedRun, all_run_samples}
+use Rattle.mp4_fragments.specs.Sync.{is_sync_run_sample, sync_at}
+use Rattle.mp4_fragments.specs.declared.run_samples.RunSample.{RunSample}
 use Rattle.mp4_samples.specs.Tables.{ctts_runs, is_sync_at, tables_of}
 use Rattle.mp4_samples.specs.declared.sample.Place.{Place}
-use Rattle.mp4_lookup.specs.ByTime.{decode_time, duration_of, member_duration, time_in}
+use Rattle.mp4_lookup.specs.ByTime.{decode_time, duration_of, run_sample_duration, time_in}
 use Rattle.mp4_lookup.specs.ByTime.{is_sync_in_table, is_sync_sample}
-use Rattle.mp4_lookup.specs.Rule.{entry_for, if_there, rule, spot_at, time_at}
-use Rattle.mp4_lookup.specs.Tracks.{answer_at, begins_at, is_of_movie, member_place}
+use Rattle.mp4_lookup.specs.Rule.{entry_for, if_there, rule, located_at, time_at}
+use Rattle.mp4_lookup.specs.Tracks.{answer_at, begins_at, is_of_movie, run_sample_place}
 
 abbrev as_time : ℕ → ℕ → Result (ℕ × ℕ) Cause
 as_time duration start = Ok (duration, start)
@@ -78,10 +78,10 @@ unfolding place_in
 same_place p q e = ap (place_in p) e
 
 -- what a step by step answer says of its time
-placed_time : (spot : Result (Option (ℕ × ℕ)) Cause) (time : Result (ℕ × ℕ) Cause) (make : ℕ × ℕ → ℕ × ℕ → Place)
+placed_time : (located : Result (Option (ℕ × ℕ)) Cause) (time : Result (ℕ × ℕ) Cause) (make : ℕ × ℕ → ℕ × ℕ → Place)
     (sync : Bool) (p : Place)
     → ((f t : ℕ × ℕ) → ((make f t).duration ≡ t.0) × ((make f t).start_time ≡ t.1) × ((make f t).is_sync ≡ sync))
-    → (spot >>= (λ spot. if_there spot (λ found. time >>= (λ time. Ok (Some (make found time)))))) ≡ Ok (Some p)
+    → (located >>= (λ located. if_there located (λ found. time >>= (λ time. Ok (Some (make found time)))))) ≡ Ok (Some p)
     → (time ≡ Ok (p.duration, p.start_time)) × (sync ≡ p.is_sync)
 placed_time (Err c) time make sync p made e = absurd cc
 placed_time (Ok None) time make sync p made e = absurd cc
@@ -98,7 +98,7 @@ placed_time (Ok (Some f)) (Ok t) make sync p made e =
 -- by the rule
 rule_time : (t : StblBox) (track k : ℕ) (p : Place) → rule t track k ≡ Ok (Some p)
     → (1 ≤ k) × (time_at t.stts.entries track k ≡ Ok (p.duration, p.start_time)) × (is_sync_at t.stss k ≡ p.is_sync)
-unfolding rule spot_at entry_for
+unfolding rule located_at entry_for
 rule_time t track zero p e = absurd cc
 rule_time t track (suc k) p e =
     let make : ℕ × ℕ → ℕ × ℕ → Place = λ found time. record {
@@ -109,12 +109,12 @@ rule_time t track (suc k) p e =
       rendering_offset = get_or (rendering_offsets (ctts_runs t.ctts)) (suc k - 1) (pos 0);
       is_sync = is_sync_at t.stss (suc k);
     } in
-    let told = placed_time (spot_at t (suc k)) (time_at t.stts.entries track (suc k)) make (is_sync_at t.stss (suc k)) p
+    let told = placed_time (located_at t (suc k)) (time_at t.stts.entries track (suc k)) make (is_sync_at t.stss (suc k)) p
     (λ f t. (refl, refl, refl)) e in
     (omega arith, told.0, told.1)
 
 -- by what begins at a place and a time
-begun_time : (place time : Option ℕ) (m : Member) (p : Place) → begins_at place time m ≡ Ok (Some p)
+begun_time : (place time : Option ℕ) (m : RunSample) (p : Place) → begins_at place time m ≡ Ok (Some p)
     → (time ≡ Some p.start_time) × (m.duration ≡ p.duration) × (m.is_sync ≡ p.is_sync)
 begun_time None time m p e = absurd cc
 begun_time (Some place) None m p e = absurd cc
@@ -133,18 +133,18 @@ begun_time (Some place) (Some time) m p e =
       ap (λ (q : Place). q.is_sync) is,
     )
 
-member_times : (member : Option Member) (p : Place) → member_place member ≡ Ok (Some p)
-    → (option_and_then (λ m. m.at.time) member ≡ Some p.start_time) × (member_duration member ≡ p.duration)
-    × (is_sync_member member ≡ p.is_sync)
-member_times None p e = absurd cc
-member_times (Some m) p e = begun_time m.at.place m.at.time m p e
+run_sample_times : (run_sample : Option RunSample) (p : Place) → run_sample_place run_sample ≡ Ok (Some p)
+    → (option_and_then (λ m. m.at.time) run_sample ≡ Some p.start_time) × (run_sample_duration run_sample ≡ p.duration)
+    × (is_sync_run_sample run_sample ≡ p.is_sync)
+run_sample_times None p e = absurd cc
+run_sample_times (Some m) p e = begun_time m.at.place m.at.time m p e
 
 -- at the number of a sample that is located
 pub times_of_place : (trak : TrakBox) (trafs : List TrafBox) (runs : List PlacedRun) (k : ℕ) (p : Place)
     → (length trafs ≡ 0 → k ≤ (tables_of trak).stsz.sample_count) → answer_at trak trafs runs k ≡ Ok (Some p)
     → (decode_time (tables_of trak) runs k ≡ Some p.start_time) × (duration_of (tables_of trak) runs k ≡ p.duration)
     × (is_sync_sample (tables_of trak) runs k ≡ p.is_sync)
-unfolding answer_at decode_time duration_of is_sync_sample is_sync_in_table member_time sync_at
+unfolding answer_at decode_time duration_of is_sync_sample is_sync_in_table run_sample_time sync_at
 times_of_place trak trafs runs k p counted e =
     let t = tables_of trak in
     let count = t.stsz.sample_count in
@@ -152,7 +152,7 @@ times_of_place trak trafs runs k p counted e =
     (λ (past : count < k).
     let added : is_of_movie trak trafs k ≡ false = or_from (length trafs == 0) (nat_le k count)
     (ne_eqb (length trafs) 0 (λ none. omega (arith, past, counted none))) (lt-leb k count past) in
-    rw (lt-leb k count past) (member_times (slice_get (all_members runs) (k - count - 1)) p (rw added at e)))
+    rw (lt-leb k count past) (run_sample_times (slice_get (all_run_samples runs) (k - count - 1)) p (rw added at e)))
     (λ (inside : k ≤ count).
     let of_movie : is_of_movie trak trafs k ≡ true =
     or_right (length trafs == 0) (nat_le k count) (le-leb k count inside) in

@@ -21,7 +21,7 @@ use Rattle.mp4_samples.proofs.LastLaws.{last_where_is}
 use Rattle.mp4_samples.specs.Tables.{chunk_offsets}
 use Rattle.mp4_search.specs.Search.{IsLastAtMost}
 use Rattle.mp4_lookup.proofs.EntryLaws.{first_samples_climb, first_samples_positive}
-use Rattle.mp4_lookup.specs.Rule.{chunk_for, entry_for, first_in_chunk, spot_at, spot_by, spot_in_chunk}
+use Rattle.mp4_lookup.specs.Rule.{chunk_for, entry_for, first_in_chunk, located_at, located_by, located_in_chunk}
 use Rattle.mp4_lookup.specs.Walk.{IsForSamples, IsOffsetRun, IsSyncGap, IsTimeRun}
 use Rattle.mp4_lookup.specs.declared.place.Chunk.{Chunk}
 use Rattle.mp4_lookup.specs.declared.place.EntryRun.{EntryRun}
@@ -80,10 +80,10 @@ entry_is entries k n i d firsts at from to some =
       ne_eqb (get_or entries i d).samples_per_chunk 0 (λ z. omega (arith, z, some)),
     ) refl
 
-pub spot_by_entry : (t : StblBox) (e : StscEntry) (k : ℕ) → entry_for t.stsc.entries k ≡ Ok e
-    → spot_at t k ≡ spot_by t e k
-unfolding spot_at
-spot_by_entry t e k is = rw is refl
+pub located_by_entry : (t : StblBox) (e : StscEntry) (k : ℕ) → entry_for t.stsc.entries k ≡ Ok e
+    → located_at t k ≡ located_by t e k
+unfolding located_at
+located_by_entry t e k is = rw is refl
 
 -- an entry that has no samples in a chunk is refused
 pub unusable : (entries : List StscEntry) (k : ℕ) (e : StscEntry) → 1 ≤ k
@@ -92,9 +92,9 @@ pub unusable : (entries : List StscEntry) (k : ℕ) (e : StscEntry) → 1 ≤ k
 unfolding entry_for
 unusable entries k e first last none = rw (ne_eqb k 0 (λ z. omega (arith, z, first)), last, eq-eqb _ _ none) refl
 
-pub spot_refused : (t : StblBox) (k : ℕ) (c : Cause) → entry_for t.stsc.entries k ≡ Err c → spot_at t k ≡ Err c
-unfolding spot_at
-spot_refused t k c is = rw is refl
+pub located_refused : (t : StblBox) (k : ℕ) (c : Cause) → entry_for t.stsc.entries k ≡ Err c → located_at t k ≡ Err c
+unfolding located_at
+located_refused t k c is = rw is refl
 
 -- what follows of a chunk that was looked up, if there is one, and where there is none
 pub of_chunk : (r : Result (Option Chunk) Error) (P Q : Chunk → Type 0) → IfOk r (λ c. IfSome c P)
@@ -124,7 +124,7 @@ of_refused (Err e) P Q p f = f e p
 pub chunk_same : (t : StblBox) (e : StscEntry) (k n c offset : ℕ) → e.first_sample ≤ k → 1 ≤ e.samples_per_chunk
     → chunk_for e k ≡ Ok c → slice_get (chunk_offsets t) (c - 1) ≡ Some offset
     → first_in_chunk e k ≤ n → n < first_in_chunk e k + e.samples_per_chunk
-    → (e.first_sample ≤ n) × (spot_by t e n ≡ spot_in_chunk t offset (first_in_chunk e k) n)
+    → (e.first_sample ≤ n) × (located_by t e n ≡ located_in_chunk t offset (first_in_chunk e k) n)
 unfolding chunk_for
 chunk_same t e k n c offset reached some chunk there from to =
     let m = k - e.first_sample in

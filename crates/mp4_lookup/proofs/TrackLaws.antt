@@ -6,7 +6,7 @@ use Rattle.mp4_codec.specs.Cause.{◌>>=◌}
 use Rattle.mp4_table.specs.Stsc.{HasFirstSamples}
 use Rattle.mp4_boxes.specs.declared.trak.TrakBox.{TrakBox}
 use Rattle.mp4_moof.specs.declared.traf.TrafBox.{TrafBox}
-use Rattle.mp4_fragments.specs.Members.{PlacedRun}
+use Rattle.mp4_fragments.specs.RunSamples.{PlacedRun}
 use Rattle.mp4_samples.specs.Plain.{Consistent, plain_at}
 use Rattle.mp4_samples.specs.Samples.{read_in, plain_sample_at}
 use Rattle.mp4_lookup.specs.Tracks.{sample_at, is_of_movie, answer_at}

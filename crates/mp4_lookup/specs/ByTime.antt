@@ -8,10 +8,10 @@ use Rattle.mp4_table.specs.declared.stss.StssBox.{StssBox}
 use Rattle.mp4_table.specs.Runs.{durations}
 use Rattle.mp4_table.specs.Starts.{start_of}
 use Rattle.mp4_boxes.specs.declared.stbl.StblBox.{StblBox}
-use Rattle.mp4_fragments.specs.ByTime.{decoded_by, member_time}
-use Rattle.mp4_fragments.specs.Members.{PlacedRun, all_members}
+use Rattle.mp4_fragments.specs.ByTime.{decoded_by, run_sample_time}
+use Rattle.mp4_fragments.specs.RunSamples.{PlacedRun, all_run_samples}
 use Rattle.mp4_fragments.specs.Sync.{sync_at}
-use Rattle.mp4_fragments.specs.declared.members.Member.{Member}
+use Rattle.mp4_fragments.specs.declared.run_samples.RunSample.{RunSample}
 use Rattle.mp4_samples.specs.Tables.{is_sync_at}
 use Rattle.mp4_lookup.specs.declared.by_time.TimeRange.{TimeRange}
 
@@ -24,7 +24,7 @@ time_in durations k = if nat_lt 0 k && nat_le k (length durations) then Some (st
 unfoldable pub decode_time : StblBox → List PlacedRun → ℕ → Option ℕ
 decode_time t runs k =
     if nat_le k t.stsz.sample_count then time_in (durations t.stts.entries) k else
-    member_time runs (k - t.stsz.sample_count - 1)
+    run_sample_time runs (k - t.stsz.sample_count - 1)
 
 -- Sample k is decoded at or before a time. Times need not rise from one fragment to the next: the last such sample is
 -- the one behind which none is decoded so early.
@@ -54,18 +54,18 @@ is_sync_sample t runs k =
 
 -- how many samples a track has that 32 bits number
 abbrev pub last_number : StblBox → List PlacedRun → ℕ
-last_number t runs = min (t.stsz.sample_count + length (all_members runs)) (2 ^ 32 - 1)
+last_number t runs = min (t.stsz.sample_count + length (all_run_samples runs)) (2 ^ 32 - 1)
 
 -- how long a sample of a fragment lasts
-abbrev pub member_duration : Option Member → ℕ
-member_duration None = 0
-member_duration (Some m) = m.duration
+abbrev pub run_sample_duration : Option RunSample → ℕ
+run_sample_duration None = 0
+run_sample_duration (Some m) = m.duration
 
 -- how long sample k of a track lasts
 unfoldable pub duration_of : StblBox → List PlacedRun → ℕ → ℕ
 duration_of t runs k =
     if nat_le k t.stsz.sample_count then get_or (durations t.stts.entries) (k - 1) 0 else
-    member_duration (slice_get (all_members runs) (k - t.stsz.sample_count - 1))
+    run_sample_duration (slice_get (all_run_samples runs) (k - t.stsz.sample_count - 1))
 
 -- when sample k of a track has lasted: none is known past 64 bits
 unfoldable pub end_time : StblBox → List PlacedRun → ℕ → Option ℕ

@@ -3,7 +3,7 @@ use Rattle.std.specs.Prelude.{◌≡◌, ℕ, ◌+◌, ◌-◌, ◌<◌, ◌≤�
 use Rattle.std.specs.List.Sorted.{IsStrictlyIncreasing}
 use Rattle.mp4_boxes.specs.declared.stbl.StblBox.{StblBox}
 use Rattle.mp4_fragments.specs.declared.index.RunIndex.{RunIndex}
-use Rattle.mp4_fragments.specs.Members.{PlacedRun}
+use Rattle.mp4_fragments.specs.RunSamples.{PlacedRun}
 use Rattle.mp4_lookup.specs.declared.counters.Counters.{Counters}
 use Rattle.mp4_lookup.specs.declared.index.TrackIndex.{TrackIndex}
 use Rattle.mp4_samples.specs.declared.sample.Comparisons.{Comparisons}
@@ -41,7 +41,7 @@ pub record AreCounts (counts : List ℕ → ℕ → ℕ → Type 0) (looks : Bit
   pub runs : c.runs ≡ 0
 
 -- the same for the sample with this number among those that fragments add: one search in the runs
-pub record AreMemberCounts (counts : List ℕ → ℕ → ℕ → Type 0) (index : RunIndex) (number : ℕ)
+pub record AreRunSampleCounts (counts : List ℕ → ℕ → ℕ → Type 0) (index : RunIndex) (number : ℕ)
     (c : Comparisons) : Type 0 where
   pub stsc : c.stsc ≡ 0
   pub stts : c.stts ≡ 0
@@ -54,7 +54,7 @@ pub record AreTrackCounts (counts : List ℕ → ℕ → ℕ → Type 0) (looks 
     (c : Comparisons) : Type 0 where
   pub tables : IsTrue (is_of_movie t.trak t.trafs k) → AreCounts counts looks t.index k c
   pub added : is_of_movie t.trak t.trafs k ≡ false
-      → AreMemberCounts counts t.runs (k - (tables_of t.trak).stsz.sample_count - 1) c
+      → AreRunSampleCounts counts t.runs (k - (tables_of t.trak).stsz.sample_count - 1) c
 
 -- What the lookup of sample k of a track by a guess counts: in each table, or in the runs, the comparisons of one
 -- search, by halves or from some entry on; where the numbers of stss don't strictly rise, one look at the bit of k, and
@@ -107,9 +107,9 @@ pub record AreFewByGuess (t : StblBox) (c : Comparisons) : Type 0 where
   pub unsorted : (IsStrictlyIncreasing (sync_numbers t.stss) → ⊥) → c.stss ≤ 1
   pub runs : c.runs ≡ 0
 
--- A sample that a fragment adds is found by a search in the runs alone: at least one comparison, and at most as many as the
--- number of the runs has binary digits.
-pub record AreFewForMember (placed : List PlacedRun) (c : Comparisons) : Type 0 where
+-- A sample that a fragment adds is found by a search in the runs alone: at least one comparison, and at most as many as
+-- the number of the runs has binary digits.
+pub record AreFewForRunSample (placed : List PlacedRun) (c : Comparisons) : Type 0 where
   pub stsc : c.stsc ≡ 0
   pub stts : c.stts ≡ 0
   pub ctts : c.ctts ≡ 0
@@ -118,7 +118,7 @@ pub record AreFewForMember (placed : List PlacedRun) (c : Comparisons) : Type 0 
   pub runs : c.runs ≤ digits (length placed)
 
 -- the same by a guess: at least one comparison, and at most four more
-pub record AreFewForMemberByGuess (placed : List PlacedRun) (c : Comparisons) : Type 0 where
+pub record AreFewForRunSampleByGuess (placed : List PlacedRun) (c : Comparisons) : Type 0 where
   pub stsc : c.stsc ≡ 0
   pub stts : c.stts ≡ 0
   pub ctts : c.ctts ≡ 0

@@ -53,30 +53,30 @@ time_at runs track k = timed track k (slice_get (durations runs) (k - 1)) (start
 
 -- where sample k lies, and its size, in a chunk that begins there with this sample: behind the samples between them; a
 -- size that isn't there is no sample
-abbrev pub spot_in_chunk : StblBox → ℕ → ℕ → ℕ → Result (Option (ℕ × ℕ)) Cause
-spot_in_chunk t chunk_offset first k =
+abbrev pub located_in_chunk : StblBox → ℕ → ℕ → ℕ → Result (Option (ℕ × ℕ)) Cause
+located_in_chunk t chunk_offset first k =
     if_there (slice_get (sizes t.stsz k) (k - 1)) (λ size. do
       offset ← within_64_bits (chunk_offset + sum (slice_range (sizes t.stsz k) (first - 1) (k - 1)))
       Ok (Some (offset, size)))
 
 -- the same by its entry of stsc; a chunk that isn't there is no sample
-abbrev pub spot_by : StblBox → StscEntry → ℕ → Result (Option (ℕ × ℕ)) Cause
-spot_by t entry k = do
+abbrev pub located_by : StblBox → StscEntry → ℕ → Result (Option (ℕ × ℕ)) Cause
+located_by t entry k = do
   chunk ← chunk_for entry k
   if_there (slice_get (chunk_offsets t) (chunk - 1)) (λ chunk_offset.
-      spot_in_chunk t chunk_offset (first_in_chunk entry k) k)
+      located_in_chunk t chunk_offset (first_in_chunk entry k) k)
 
 -- the same, by its number alone
-unfoldable pub spot_at : StblBox → ℕ → Result (Option (ℕ × ℕ)) Cause
-spot_at t k = do
+unfoldable pub located_at : StblBox → ℕ → Result (Option (ℕ × ℕ)) Cause
+located_at t k = do
   entry ← entry_for t.stsc.entries k
-  spot_by t entry k
+  located_by t entry k
 
 -- what is answered at number k of a track
 unfoldable pub rule : StblBox → ℕ → ℕ → Result (Option Place) Cause
 rule t track k = do
-  spot ← spot_at t k
-  if_there spot (λ found. do
+  located ← located_at t k
+  if_there located (λ found. do
     time ← time_at t.stts.entries track k
     Ok (Some (record {
       offset = found.0;

@@ -7,8 +7,8 @@ use Rattle.mp4_table.specs.Runs.{durations}
 use Rattle.mp4_table.specs.Starts.{start_of}
 use Rattle.mp4_boxes.specs.declared.trak.TrakBox.{TrakBox}
 use Rattle.mp4_moof.specs.declared.traf.TrafBox.{TrafBox}
-use Rattle.mp4_fragments.specs.Members.{PlacedRun, all_members}
-use Rattle.mp4_fragments.specs.declared.members.Member.{Member}
+use Rattle.mp4_fragments.specs.RunSamples.{PlacedRun, all_run_samples}
+use Rattle.mp4_fragments.specs.declared.run_samples.RunSample.{RunSample}
 use Rattle.mp4_samples.specs.declared.sample.Place.{Place}
 use Rattle.mp4_samples.specs.Samples.{TimedSample, read_in}
 use Rattle.mp4_samples.specs.Tables.{tables_of}
@@ -22,8 +22,8 @@ movie_end trak = start_of (durations (tables_of trak).stts.entries) ((tables_of 
 abbrev pub is_of_movie : TrakBox → List TrafBox → ℕ → Bool
 is_of_movie trak trafs k = (length trafs == 0) || nat_le k (tables_of trak).stsz.sample_count
 
--- a place or a time that is broken is refused
-abbrev pub begins_at : Option ℕ → Option ℕ → Member → Result (Option Place) Cause
+-- a place or a time that is overflowed is refused
+abbrev pub begins_at : Option ℕ → Option ℕ → RunSample → Result (Option Place) Cause
 begins_at (Some place) (Some time) m = Ok (Some (record {
   offset = place;
   size = m.size;
@@ -36,16 +36,16 @@ begins_at None time m = Err invalid_data
 begins_at (Some place) None m = Err invalid_data
 
 -- where a sample that a fragment adds lies; past all there is none
-abbrev pub member_place : Option Member → Result (Option Place) Cause
-member_place None = Ok None
-member_place (Some m) = begins_at m.at.place m.at.time m
+abbrev pub run_sample_place : Option RunSample → Result (Option Place) Cause
+run_sample_place None = Ok None
+run_sample_place (Some m) = begins_at m.at.place m.at.time m
 
 -- What is answered at number k of a track, to which fragments add these runs: the samples of the movie box first, then
--- the members of the runs.
+-- the samples of the runs.
 unfoldable pub answer_at : TrakBox → List TrafBox → List PlacedRun → ℕ → Result (Option Place) Cause
 answer_at trak trafs runs k =
     if is_of_movie trak trafs k then rule (tables_of trak) trak.tkhd.track_id k else
-    member_place (slice_get (all_members runs) (k - (tables_of trak).stsz.sample_count - 1))
+    run_sample_place (slice_get (all_run_samples runs) (k - (tables_of trak).stsz.sample_count - 1))
 
 -- what is read at number k of a track of a file, to which fragments add these runs
 unfoldable pub sample_at : List ℕ → TrakBox → List TrafBox → List PlacedRun → ℕ → Result (Option TimedSample) Cause

@@ -8,7 +8,7 @@ use Rattle.mp4_table.specs.declared.stts.SttsEntry.{SttsEntry}
 use Rattle.mp4_table.specs.Chunks.{last_where}
 use Rattle.mp4_table.specs.Runs.{rendering_offsets}
 use Rattle.mp4_boxes.specs.declared.stbl.StblBox.{StblBox}
-use Rattle.mp4_lookup.specs.Rule.{spot_at, spot_in_chunk, time_at}
+use Rattle.mp4_lookup.specs.Rule.{located_at, located_in_chunk, time_at}
 use Rattle.mp4_samples.specs.Tables.{ctts_runs, sync_numbers}
 use Rattle.mp4_lookup.specs.declared.place.Chunk.{Chunk}
 use Rattle.mp4_lookup.specs.declared.place.EntryRun.{EntryRun}
@@ -26,7 +26,7 @@ pub record IsForSamples (entries : List StscEntry) (r : EntryRun) : Type 0 where
 -- the samples of a chunk, from its first to before its end
 pub record IsChunk (t : StblBox) (c : Chunk) : Type 0 where
   pub first : c.first < c.end → 1 ≤ c.first
-  pub samples : (k : ℕ) → c.first ≤ k → k < c.end → spot_at t k ≡ spot_in_chunk t c.offset c.first k
+  pub samples : (k : ℕ) → c.first ≤ k → k < c.end → located_at t k ≡ located_in_chunk t c.offset c.first k
 
 -- The samples of a run of stts, and when they are decoded; and what comes before the run behind it. No time passes 64
 -- bits.

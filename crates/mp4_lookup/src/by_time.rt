@@ -3,8 +3,8 @@
 
 ghost use Rattle.std.specs.Prelude.{◌≡◌, ℕ, ◌+◌, ◌-◌, ◌^◌, ◌<◌, ◌≤◌, false, get_or, length, option_map};
 ghost use Rattle.std.specs.Prelude.{IfNone, IfSome};
-ghost use Rattle.mp4_fragments.specs.ByTime.{member_by};
-ghost use Rattle.mp4_fragments.specs.Members.{all_members};
+ghost use Rattle.mp4_fragments.specs.ByTime.{run_sample_by};
+ghost use Rattle.mp4_fragments.specs.RunSamples.{all_run_samples};
 ghost use Rattle.mp4_fragments.specs.Sync.{sync_at};
 ghost use Rattle.mp4_lookup.specs.ByTime.{decode_time, duration_of, is_sync_sample, last_number, sample_by};
 ghost use Rattle.mp4_lookup.specs.ByTime.{end_time, time_in, time_range};
@@ -17,7 +17,7 @@ ghost use Rattle.mp4_table.specs.Runs.{durations};
 use crate::seek::{last_by_time, last_sync_upto};
 use crate::timing::time_at;
 use crate::track::Mp4Track;
-use mp4_fragments::Member;
+use mp4_fragments::RunSample;
 use mp4_search::{ByGuess, Readings};
 
 /// The number of a sample that was searched by a time, or among the sync samples, and what it cost.
@@ -39,13 +39,13 @@ pub struct TimeRange {
 }
 
 /// When a sample of a fragment is decoded, if that is known, and how long it lasts.
-fn timing_of_member(member: &Member) -> Option<(u64, u32)>
-    ensures begin { option_map (λ x. x.0) result ≡ member.now.at.time }
-    ensures duration { IfSome result (λ x. x.1 ≡ member.now.duration) }
+fn timing_of_run_sample(run_sample: &RunSample) -> Option<(u64, u32)>
+    ensures begin { option_map (λ x. x.0) result ≡ run_sample.now.at.time }
+    ensures duration { IfSome result (λ x. x.1 ≡ run_sample.now.duration) }
 {
-    match member.at.time {
+    match run_sample.at.time {
         None => None,
-        Some(begin) => Some((begin, member.duration)),
+        Some(begin) => Some((begin, run_sample.duration)),
     }
 }
 
@@ -92,7 +92,7 @@ impl Mp4Track {
         requires fresh { readings.old ≡ 0 }
         ensures some { IfSome result (IsLastWith (sample_by (tables_of self.now.trak) (track_runs self.now) time) (2 ^ 32)) }
         ensures none { IfNone result ((n : ℕ) → n < 2 ^ 32 - 1 - (tables_of self.now.trak).stsz.sample_count
-            → member_by (track_runs self.now) time n ≡ false) }
+            → run_sample_by (track_runs self.now) time n ≡ false) }
         ensures few { readings.new ≤ digits (length (track_runs self.now)) + 33 }
     {
         let count = self.trak.mdia.minf.stbl.stsz.sample_count;
@@ -122,7 +122,7 @@ impl Mp4Track {
     /// digits. Where the numbers of stss don't strictly rise, all of them are looked at; that isn't counted.
     pub fn find_sync_sample_at_or_before(&self, k: u32) -> FoundNumber
         ensures number { AnswersLast (is_sync_sample (tables_of self.now.trak) (track_runs self.now)) (k + 1) result.number }
-        ensures comparisons { result.comparisons ≤ digits (length (all_members (track_runs self.now)))
+        ensures comparisons { result.comparisons ≤ digits (length (all_run_samples (track_runs self.now)))
             + digits (length (sync_numbers (tables_of self.now.trak).stss)) }
     {
         let mut added = Readings::of(self);
@@ -148,7 +148,7 @@ impl Mp4Track {
         ensures some { IfSome result (IsLastWith (is_sync_sample (tables_of self.now.trak) (track_runs self.now)) (k + 1)) }
         ensures none { IfNone result ((n : ℕ) → (tables_of self.now.trak).stsz.sample_count + 1 + n ≤ k
             → sync_at (track_runs self.now) n ≡ false) }
-        ensures few { readings.new ≤ digits (length (all_members (track_runs self.now))) }
+        ensures few { readings.new ≤ digits (length (all_run_samples (track_runs self.now))) }
     {
         let count = self.trak.mdia.minf.stbl.stsz.sample_count;
         if k <= count {
@@ -199,13 +199,13 @@ impl Mp4Track {
         let trafs = self.trafs.as_slice();
         let number = k - count - 1;
         let mut readings = Readings::of(self);
-        let Some(member) = self
+        let Some(run_sample) = self
             .runs
             .find::<ByGuess>(trafs, self.defaults, number, &mut readings)
         else {
             return None;
         };
-        timing_of_member(&member)
+        timing_of_run_sample(&run_sample)
     }
 
     /// The same of a sample of the movie box, as stts says it.

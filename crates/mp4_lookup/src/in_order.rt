@@ -11,7 +11,7 @@ ghost use Rattle.mp4_lookup.specs.TrackRuns.{track_runs};
 ghost use Rattle.mp4_lookup.specs.Walk.{AreIn};
 
 use crate::counters::Counters;
-use crate::lookup::member_placed;
+use crate::lookup::run_sample_placed;
 use crate::position::Position;
 use crate::samples::Samples;
 use crate::track::Mp4Track;
@@ -61,13 +61,13 @@ impl Mp4Track {
         }
         let number = k - stbl.stsz.sample_count - 1;
         let trafs = self.trafs.as_slice();
-        let Some(member) = self
+        let Some(run_sample) = self
             .runs
             .find_next(trafs, self.defaults, number, &mut counters.runs, cursor)
         else {
             return Ok(None);
         };
-        Ok(Some(member_placed(&member)?))
+        Ok(Some(run_sample_placed(&run_sample)?))
     }
 }
 

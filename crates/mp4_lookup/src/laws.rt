@@ -6,7 +6,7 @@ ghost use Rattle.std.specs.Prelude.{◌≡◌, ℕ, ◌^◌, ◌<◌, ◌≤◌,
 ghost use Rattle.mp4_table.specs.Stsc.{HasFirstSamples};
 ghost use Rattle.mp4_boxes.specs.declared.stbl.StblBox.{StblBox};
 ghost use Rattle.mp4_boxes.specs.declared.trak.TrakBox.{TrakBox};
-ghost use Rattle.mp4_fragments.specs.Members.{PlacedRun};
+ghost use Rattle.mp4_fragments.specs.RunSamples.{PlacedRun};
 ghost use Rattle.mp4_moof.specs.declared.traf.TrafBox.{TrafBox};
 ghost use Rattle.mp4_samples.specs.declared.sample.Place.{Place};
 ghost use Rattle.mp4_samples.specs.Plain.{Consistent, plain_at};

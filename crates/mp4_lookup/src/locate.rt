@@ -10,7 +10,7 @@ ghost use Rattle.mp4_lookup.specs.Rule.{rule};
 
 use crate::counters::Counters;
 use crate::index::{TrackIndex, runs_of_ctts};
-use crate::place::spot_at;
+use crate::place::located_at;
 use crate::timing::{is_sync, rendering_offset_at, time_at};
 use mp4_boxes::StblBox;
 use mp4_codec::Result;
@@ -35,7 +35,8 @@ pub fn place_at<S: Search>(
     ensures counted { IfOk result (λ p. IfSome p (λ p. AreCounts S.Counts S.looks index.now k p.comparisons)) }
     ensures size_reads { IfOk result (λ p. IfSome p (λ p. AreFewSizeReads stbl.now p.size_reads)) }
 {
-    let Some(spot) = spot_at::<S>(stbl, index, k, &mut counters.stsc, &mut counters.sizes)? else {
+    let Some(located) = located_at::<S>(stbl, index, k, &mut counters.stsc, &mut counters.sizes)?
+    else {
         return Ok(None);
     };
     let (duration, start_time) = time_at::<S>(
@@ -54,8 +55,8 @@ pub fn place_at<S: Search>(
     );
     let is_sync = is_sync::<S>(&stbl.stss, index, k, &mut counters.stss);
     Ok(Some(counters.counted(Place {
-        offset: spot.offset,
-        size: spot.size,
+        offset: located.offset,
+        size: located.size,
         start_time,
         duration,
         rendering_offset,

@@ -4,39 +4,39 @@
 ghost use Rattle.std.specs.Prelude.{◌≡◌, ◌-◌, ◌^◌, ◌<◌, false, Some, length, min, option_map, slice_get};
 ghost use Rattle.std.specs.Prelude.{IfOk, IfSome, IsTrue};
 ghost use Rattle.mp4_codec.specs.Cause.{Gives};
-ghost use Rattle.mp4_fragments.specs.Members.{all_members};
+ghost use Rattle.mp4_fragments.specs.RunSamples.{all_run_samples};
 ghost use Rattle.mp4_samples.specs.Places.{place_of};
 ghost use Rattle.mp4_samples.specs.Plain.{Consistent, plain_at};
-ghost use Rattle.mp4_lookup.specs.Costs.{AreFew, AreFewForMember, AreFewSizeReads, comparisons_of};
-ghost use Rattle.mp4_lookup.specs.Costs.{AreFewByGuess, AreFewForMemberByGuess, AreTrackCountsByGuess};
-ghost use Rattle.mp4_lookup.specs.Costs.{AreFresh, AreMemberCounts, AreTrackCounts, comparisons_counted};
+ghost use Rattle.mp4_lookup.specs.Costs.{AreFew, AreFewForRunSample, AreFewSizeReads, comparisons_of};
+ghost use Rattle.mp4_lookup.specs.Costs.{AreFewByGuess, AreFewForRunSampleByGuess, AreTrackCountsByGuess};
+ghost use Rattle.mp4_lookup.specs.Costs.{AreFresh, AreRunSampleCounts, AreTrackCounts, comparisons_counted};
 ghost use Rattle.mp4_samples.specs.Tables.{tables_of};
-ghost use Rattle.mp4_lookup.specs.Tracks.{is_of_movie, member_place, answer_at};
+ghost use Rattle.mp4_lookup.specs.Tracks.{is_of_movie, run_sample_place, answer_at};
 ghost use Rattle.mp4_lookup.specs.TrackRuns.{track_runs};
 
 use crate::counters::Counters;
 use crate::locate::place_at;
 use crate::track::Mp4Track;
 use mp4_codec::{Error, Result};
-use mp4_fragments::Member;
+use mp4_fragments::RunSample;
 use mp4_samples::{Place, SamplePlace};
 use mp4_search::{ByGuess, ByHalves, LookedUp, Search};
 
-/// Where a sample lies that a fragment adds. A place or a time that is broken is refused.
+/// Where a sample lies that a fragment adds. A place or a time that is overflowed is refused.
 #[inline(always)]
-pub(crate) fn member_placed(member: &Member) -> Result<Place>
-    ensures { Gives (λ p. Some p) result (member_place (Some member.now)) }
+pub(crate) fn run_sample_placed(run_sample: &RunSample) -> Result<Place>
+    ensures { Gives (λ p. Some p) result (run_sample_place (Some run_sample.now)) }
 {
-    let (Some(offset), Some(start_time)) = (member.at.place, member.at.time) else {
+    let (Some(offset), Some(start_time)) = (run_sample.at.place, run_sample.at.time) else {
         return Err(Error::InvalidData("a sample of a fragment has no place or no time"));
     };
     Ok(Place {
         offset,
-        size: member.size,
+        size: run_sample.size,
         start_time,
-        duration: member.duration,
-        rendering_offset: member.rendering_offset,
-        is_sync: member.is_sync,
+        duration: run_sample.duration,
+        rendering_offset: run_sample.rendering_offset,
+        is_sync: run_sample.is_sync,
     })
 }
 
@@ -44,23 +44,23 @@ pub(crate) fn member_placed(member: &Member) -> Result<Place>
 impl LookedUp for Mp4Track {}
 
 impl Mp4Track {
-    /// Where sample `k` of the track lies, and when it is decoded and shown; samples are numbered from 1: first those of
-    /// the movie box, as many as stsz says, then those that fragments add, in file order (ISO/IEC 14496-12, 8.8.8). In a
-    /// track that no fragment names, all numbers belong to the movie box.
+    /// Where sample `k` of the track lies, and when it is decoded and shown; samples are numbered from 1: first those
+    /// of the movie box, as many as stsz says, then those that fragments add, in file order (ISO/IEC 14496-12, 8.8.8).
+    /// In a track that no fragment names, all numbers belong to the movie box.
     ///
     /// A sample of the movie box: `Ok(None)` where its chunk or its size isn't there, as past the last sample.
     /// `InvalidData` for number 0, where stsc has no entry for it or one without samples, where its chunk's number is 0
     /// or passes 32 bits, and where its place passes 64 bits; then `EntryInStblNotFound` where stts ends before it.
     ///
-    /// A sample that a fragment adds: `Ok(None)` past the last, and `InvalidData` where its place or its time is below 0
-    /// or passes 64 bits, or follows from one that does.
+    /// A sample that a fragment adds: `Ok(None)` past the last, and `InvalidData` where its place or its time is below
+    /// 0 or passes 64 bits, or follows from one that does.
     pub fn locate(&self, k: u32) -> Result<Option<SamplePlace>>
         ensures rule { Gives (λ p. option_map place_of p) result (answer_at self.now.trak self.now.trafs (track_runs self.now) k) }
         ensures plain { IsTrue (is_of_movie self.now.trak self.now.trafs k) → Consistent (tables_of self.now.trak) → Gives (λ p. option_map place_of p) result (plain_at (tables_of self.now.trak) k) }
         ensures counted { IfOk result (λ p. IfSome p (λ p. p.comparisons ≡ comparisons_of self.now k)) }
         ensures comparisons { IsTrue (is_of_movie self.now.trak self.now.trafs k) → IfOk result (λ p. IfSome p (λ p. AreFew (tables_of self.now.trak) p.comparisons)) }
         ensures size_reads { IsTrue (is_of_movie self.now.trak self.now.trafs k) → IfOk result (λ p. IfSome p (λ p. AreFewSizeReads (tables_of self.now.trak) p.size_reads)) }
-        ensures added { is_of_movie self.now.trak self.now.trafs k ≡ false → IfOk result (λ p. IfSome p (λ p. AreFewForMember (track_runs self.now) p.comparisons × (p.size_reads ≡ 0))) }
+        ensures added { is_of_movie self.now.trak self.now.trafs k ≡ false → IfOk result (λ p. IfSome p (λ p. AreFewForRunSample (track_runs self.now) p.comparisons × (p.size_reads ≡ 0))) }
     {
         self.answer::<ByHalves>(k)
     }
@@ -81,7 +81,7 @@ impl Mp4Track {
         ensures counted { IfOk result (λ p. IfSome p (λ p. AreTrackCountsByGuess self.now k p.comparisons)) }
         ensures comparisons { IsTrue (is_of_movie self.now.trak self.now.trafs k) → IfOk result (λ p. IfSome p (λ p. AreFewByGuess (tables_of self.now.trak) p.comparisons)) }
         ensures size_reads { IsTrue (is_of_movie self.now.trak self.now.trafs k) → IfOk result (λ p. IfSome p (λ p. AreFewSizeReads (tables_of self.now.trak) p.size_reads)) }
-        ensures added { is_of_movie self.now.trak self.now.trafs k ≡ false → IfOk result (λ p. IfSome p (λ p. AreFewForMemberByGuess (track_runs self.now) p.comparisons × (p.size_reads ≡ 0))) }
+        ensures added { is_of_movie self.now.trak self.now.trafs k ≡ false → IfOk result (λ p. IfSome p (λ p. AreFewForRunSampleByGuess (track_runs self.now) p.comparisons × (p.size_reads ≡ 0))) }
     {
         self.answer::<ByGuess>(k)
     }
@@ -123,24 +123,24 @@ impl Mp4Track {
     ) -> Result<Option<SamplePlace>>
         requires number { number < 2 ^ 32 - 1 }
         requires fresh { AreFresh counters.old }
-        ensures rule { Gives (λ p. option_map place_of p) result (member_place (slice_get (all_members (track_runs self.now)) number)) }
-        ensures counted { IfOk result (λ p. IfSome p (λ p. AreMemberCounts S.Counts self.now.runs number p.comparisons)) }
+        ensures rule { Gives (λ p. option_map place_of p) result (run_sample_place (slice_get (all_run_samples (track_runs self.now)) number)) }
+        ensures counted { IfOk result (λ p. IfSome p (λ p. AreRunSampleCounts S.Counts self.now.runs number p.comparisons)) }
         ensures some_runs { IfOk result (λ p. IfSome p (λ p. 0 < length (track_runs self.now))) }
         ensures size_reads { IfOk result (λ p. IfSome p (λ p. p.size_reads ≡ 0)) }
     {
         let trafs = self.trafs.as_slice();
-        let Some(member) = self
+        let Some(run_sample) = self
             .runs
             .find::<S>(trafs, self.defaults, number, &mut counters.runs)
         else {
             return Ok(None);
         };
-        Ok(Some(counters.counted(member_placed(&member)?)))
+        Ok(Some(counters.counted(run_sample_placed(&run_sample)?)))
     }
 
     /// How many samples the fragments add; it stops at 2^64 - 1.
     pub(crate) fn added_samples(&self) -> u64
-        ensures { result ≡ min (2 ^ 64 - 1) (length (all_members (track_runs self.now))) }
+        ensures { result ≡ min (2 ^ 64 - 1) (length (all_run_samples (track_runs self.now))) }
     {
         self.runs.count()
     }

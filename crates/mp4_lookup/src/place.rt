@@ -12,7 +12,7 @@ ghost use Rattle.std.specs.List.{All};
 ghost use Rattle.mp4_samples.specs.Tables.{chunk_offsets, sizes};
 ghost use Rattle.mp4_lookup.specs.Index.{IsIndexOf};
 ghost use Rattle.mp4_lookup.specs.Costs.{AreFewSizeReads};
-ghost use Rattle.mp4_lookup.specs.Rule.{chunk_for, entry_for, spot_at, spot_by, spot_in_chunk, within_64_bits};
+ghost use Rattle.mp4_lookup.specs.Rule.{chunk_for, entry_for, located_at, located_by, located_in_chunk, within_64_bits};
 ghost use Rattle.mp4_lookup.specs.Walk.{IsChunk, IsForSamples};
 
 use crate::index::TrackIndex;
@@ -23,12 +23,12 @@ use mp4_table::{StscEntry, StszBox};
 
 /// Where a sample lies.
 #[derive(Clone, Copy, Debug, PartialEq, Eq)]
-pub struct Spot {
+pub struct LocatedBytes {
     pub offset: u64,
     pub size: u32,
 }
 
-impl ExactEq for Spot {
+impl ExactEq for LocatedBytes {
     ghost exact = { by_test (Prim.hlevel field_tests) };
 }
 
@@ -280,10 +280,10 @@ fn chunk_by(stbl: &StblBox, entry: &StscEntry, end: u64, k: u32) -> Result<Optio
     requires end { k < end }
     ensures samples { IfOk result (λ c. IfSome c (λ c. (n : ℕ) → c.first ≤ n → n < c.end
         → (entry.now.first_sample ≤ n) × (n < end)
-        × (spot_by stbl.now entry.now n ≡ spot_in_chunk stbl.now c.offset c.first n))) }
+        × (located_by stbl.now entry.now n ≡ located_in_chunk stbl.now c.offset c.first n))) }
     ensures inside { IfOk result (λ c. IfSome c (λ c. (1 ≤ c.first) × (c.first ≤ k) × (k < c.end))) }
-    ensures none { IfOk result (λ c. IfNone c (spot_by stbl.now entry.now k ≡ Ok None)) }
-    ensures refused { IfErr result (λ e. spot_by stbl.now entry.now k ≡ Err (cause_of e)) }
+    ensures none { IfOk result (λ c. IfNone c (located_by stbl.now entry.now k ≡ Ok None)) }
+    ensures refused { IfErr result (λ e. located_by stbl.now entry.now k ≡ Err (cause_of e)) }
 {
     let chunk = chunk_of(entry, k)?;
     let Some(offset) = chunk_offset_at(stbl, chunk) else {
@@ -308,20 +308,20 @@ impl Chunk {
 
     /// Where sample `k` of the chunk lies, and its size.
     #[inline(always)]
-    fn spot(
+    fn located(
         &self,
         stbl: &StblBox,
         sums: &CappedSums,
         k: u32,
         readings: &mut Readings,
-    ) -> Result<Option<Spot>>
+    ) -> Result<Option<LocatedBytes>>
         requires sums { SumsBefore64 (λ s. s) stbl.now.stsz.sample_sizes sums.now }
         requires small { All (λ s. s < 2 ^ 32) stbl.now.stsz.sample_sizes }
         requires from { 1 ≤ self.now.first }
         requires to { self.now.first ≤ k }
         requires fresh { readings.old ≡ 0 }
-        ensures spot { Gives (λ s. option_map (λ s. (s.offset, s.size)) s) result
-            (spot_in_chunk stbl.now self.now.offset self.now.first k) }
+        ensures located { Gives (λ s. option_map (λ s. (s.offset, s.size)) s) result
+            (located_in_chunk stbl.now self.now.offset self.now.first k) }
         ensures size_reads { IfOk result (λ s. IfSome s (λ s. AreFewSizeReads stbl.now readings.new)) }
     {
         let Some(size) = size_at(&stbl.stsz, k) else {
@@ -329,7 +329,7 @@ impl Chunk {
         };
         let earlier = size_between(&stbl.stsz, sums, self.first, k, readings);
         let offset = place_within(self.offset, earlier)?;
-        Ok(Some(Spot { offset, size }))
+        Ok(Some(LocatedBytes { offset, size }))
     }
 }
 
@@ -346,8 +346,8 @@ fn chunk_at<S: Search>(
     requires fresh { entries.old ≡ 0 }
     ensures samples { IfOk result (λ c. IfSome c (IsChunk stbl.now)) }
     ensures inside { IfOk result (λ c. IfSome c (λ c. (c.first ≤ k) × (k < c.end))) }
-    ensures none { IfOk result (λ c. IfNone c (spot_at stbl.now k ≡ Ok None)) }
-    ensures refused { IfErr result (λ e. spot_at stbl.now k ≡ Err (cause_of e)) }
+    ensures none { IfOk result (λ c. IfNone c (located_at stbl.now k ≡ Ok None)) }
+    ensures refused { IfErr result (λ e. located_at stbl.now k ≡ Err (cause_of e)) }
     ensures counts { OnOk result (1 ≤ k) }
     ensures counted { OnOk result (S.Counts index.now.first_samples k entries.new) }
 {
@@ -362,18 +362,18 @@ fn chunk_at<S: Search>(
 
 /// Where sample `k` lies, and its size.
 #[inline(always)]
-pub fn spot_at<S: Search>(
+pub fn located_at<S: Search>(
     stbl: &StblBox,
     index: &TrackIndex,
     k: u32,
     entries: &mut Readings,
     sizes: &mut Readings,
-) -> Result<Option<Spot>>
+) -> Result<Option<LocatedBytes>>
     requires firsts { HasFirstSamples stbl.now.stsc.entries }
     requires index { IsIndexOf stbl.now index.now }
     requires fresh_entries { entries.old ≡ 0 }
     requires fresh_sizes { sizes.old ≡ 0 }
-    ensures spot { Gives (λ s. option_map (λ s. (s.offset, s.size)) s) result (spot_at stbl.now k) }
+    ensures located { Gives (λ s. option_map (λ s. (s.offset, s.size)) s) result (located_at stbl.now k) }
     ensures counts { OnOk result (1 ≤ k) }
     ensures counted { OnOk result (S.Counts index.now.first_samples k entries.new) }
     ensures size_reads { IfOk result (λ s. IfSome s (λ s. AreFewSizeReads stbl.now sizes.new)) }
@@ -381,7 +381,7 @@ pub fn spot_at<S: Search>(
     let Some(chunk) = chunk_at::<S>(stbl, index, k, entries)? else {
         return Ok(None);
     };
-    chunk.spot(stbl, &index.size_sums, k, sizes)
+    chunk.located(stbl, &index.size_sums, k, sizes)
 }
 
 /// The chunk of sample `k`, if it is there, in a walk that is in this entry of stsc and this chunk, or else moves to
@@ -403,8 +403,8 @@ fn chunk_in_order(
     ensures entries { IsForSamples stbl.now.stsc.entries run.new }
     ensures samples { IfOk result (λ c. IfSome c (IsChunk stbl.now)) }
     ensures inside { IfOk result (λ c. IfSome c (λ c. (c.first ≤ k) × (k < c.end))) }
-    ensures none { IfOk result (λ c. IfNone c (spot_at stbl.now k ≡ Ok None)) }
-    ensures refused { IfErr result (λ e. spot_at stbl.now k ≡ Err (cause_of e)) }
+    ensures none { IfOk result (λ c. IfNone c (located_at stbl.now k ≡ Ok None)) }
+    ensures refused { IfErr result (λ e. located_at stbl.now k ≡ Err (cause_of e)) }
     ensures counts { OnOk result (1 ≤ k) }
 {
     if chunk.first <= k && u64::from(k) < chunk.end {
@@ -418,7 +418,7 @@ fn chunk_in_order(
 
 /// Where sample `k` lies, and its size, in a walk that is in this entry of stsc and this chunk, or else moves there.
 #[inline(always)]
-pub fn spot_in_order(
+pub fn located_in_order(
     stbl: &StblBox,
     index: &TrackIndex,
     k: u32,
@@ -426,7 +426,7 @@ pub fn spot_in_order(
     chunk: &mut Chunk,
     searched: &mut Readings,
     sizes: &mut Readings,
-) -> Result<Option<Spot>>
+) -> Result<Option<LocatedBytes>>
     requires firsts { HasFirstSamples stbl.now.stsc.entries }
     requires index { IsIndexOf stbl.now index.now }
     requires fresh_entries { searched.old ≡ 0 }
@@ -435,12 +435,12 @@ pub fn spot_in_order(
     requires chunk { IsChunk stbl.now chunk.old }
     ensures entries { IsForSamples stbl.now.stsc.entries run.new }
     ensures chunk { IsChunk stbl.now chunk.new }
-    ensures spot { Gives (λ s. option_map (λ s. (s.offset, s.size)) s) result (spot_at stbl.now k) }
+    ensures located { Gives (λ s. option_map (λ s. (s.offset, s.size)) s) result (located_at stbl.now k) }
     ensures counts { OnOk result (1 ≤ k) }
 {
     let Some(found) = chunk_in_order(stbl, index, k, run, *chunk, searched)? else {
         return Ok(None);
     };
     *chunk = found;
-    found.spot(stbl, &index.size_sums, k, sizes)
+    found.located(stbl, &index.size_sums, k, sizes)
 }

@@ -11,7 +11,7 @@ ghost use Rattle.mp4_lookup.specs.Walk.{AreIn};
 
 use crate::counters::Counters;
 use crate::index::{TrackIndex, runs_of_ctts};
-use crate::place::{Chunk, EntryRun, spot_in_order};
+use crate::place::{Chunk, EntryRun, located_in_order};
 use crate::timing::{
     OffsetRun, SyncGap, TimeRun, is_sync_in_order, rendering_offset_in_order, time_in_order,
 };
@@ -62,7 +62,7 @@ impl Position {
         ensures rule { Gives (λ p. p) result (rule stbl.now track_id k) }
         ensures here { AreIn stbl.now self.new }
     {
-        let Some(spot) = spot_in_order(
+        let Some(located) = located_in_order(
             stbl,
             index,
             k,
@@ -91,8 +91,8 @@ impl Position {
         );
         let is_sync = is_sync_in_order(&stbl.stss, index, k, &mut self.sync, &mut counters.stss);
         Ok(Some(Place {
-            offset: spot.offset,
-            size: spot.size,
+            offset: located.offset,
+            size: located.size,
             start_time,
             duration,
             rendering_offset,

@@ -1,4 +1,4 @@
--- The bases of each track's parts of the fragments, as they are gathered.
+-- The base data offsets of each track's fragments, as they are gathered.
 use Rattle.std.proofs.Common.{◌≡◌, ℕ, ◌+◌, ◌<◌, ◌≤◌, suc, Bool, true, false, cond, eqb, List, [], ◌∷◌, ◌++◌, length, drop}
 use Rattle.std.proofs.Common.{get_or, Option, Some, refl, sym, ap, ap₂, ◌∙◌, arith, length-append, append_assoc}
 use Rattle.std.specs.Prelude.{map, zip, nat_eq}

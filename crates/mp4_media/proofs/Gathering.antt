@@ -18,7 +18,7 @@ use Rattle.mp4_moof.specs.declared.moof.MoofBox.{MoofBox}
 use Rattle.mp4_moof.specs.declared.traf.TrafBox.{TrafBox}
 use Rattle.mp4_fragments.specs.declared.defaults.SampleDefaults.{SampleDefaults}
 use Rattle.mp4_fragments.specs.Defaults.{defaults_of_trex}
-use Rattle.mp4_fragments.specs.Fragments.{placed_runs, fragment_members}
+use Rattle.mp4_fragments.specs.Fragments.{placed_runs, fragment_samples}
 use Rattle.mp4_lookup.specs.declared.track.Mp4Track.{Mp4Track}
 use Rattle.mp4_lookup.specs.TrackRuns.{track_runs}
 use Rattle.mp4_lookup.specs.Tracks.{movie_end}
@@ -83,8 +83,8 @@ module _ {S : Type 0} where
       is (then id)
       ∙ sym (defaults-more id trexs i d lt)
 
--- The tracks that are made of the last so many boxes of a movie, of equal ids the last; and the fragments of all others,
--- which are still kept.
+-- The tracks that are made of the last so many boxes of a movie, of equal ids the last; and the fragments of all
+-- others, which are still kept.
 pub record Made {S T : Type 0} (moov : MoovBox) (moofs : List MoofBox) (places : List ℕ) (traks : List TrakBox)
     (tracks : HashMap ℕ Mp4Track S) (fragments : HashMap ℕ (List TrafBox) T) : Type 0 where
   pub made : (id : ℕ) → option_map opened_track (at_id tracks id)
@@ -181,7 +181,7 @@ module _ {S T : Type 0} (moov : MoovBox) (moofs : List MoofBox) (places : List �
       same_trafs = trafs_is ∙ own_fragments fresh
 
       is : opened_track track ≡ with_fragments moov moofs places t
-      unfolding fragment_members
+      unfolding fragment_samples
       is = rw (runs_is, duration_is, defaults_is, bases_is, trak_is, same_trafs) refl
 
       -- its track is made

@@ -19,13 +19,13 @@ use Rattle.mp4_moof.specs.declared.traf.TrafBox.{TrafBox}
 use Rattle.mp4_boxes.specs.declared.moov.MoovBox.{MoovBox}
 use Rattle.mp4_moof.specs.declared.moof.MoofBox.{MoofBox}
 use Rattle.mp4_fragments.specs.Fragments.{placed_runs}
-use Rattle.mp4_fragments.specs.Members.{PlacedRun}
+use Rattle.mp4_fragments.specs.RunSamples.{PlacedRun}
 use Rattle.mp4_lookup.specs.declared.track.Mp4Track.{Mp4Track}
 use Rattle.mp4_lookup.specs.Kind.{media_type_of}
 use Rattle.mp4_samples.specs.declared.sample.Place.{Place}
 use Rattle.mp4_samples.specs.Plain.{Consistent, plain_at}
 use Rattle.mp4_lookup.specs.Rates.{sample_count_of}
-use Rattle.mp4_lookup.specs.Rule.{usable, entry_for, spot_at, rule}
+use Rattle.mp4_lookup.specs.Rule.{usable, entry_for, located_at, rule}
 use Rattle.mp4_samples.specs.Samples.{Sample, TimedSample, timed_from, timed, read_in, plain_sample_at}
 use Rattle.mp4_lookup.specs.Tracks.{sample_at, answer_at}
 use Rattle.mp4_samples.specs.Tables.{tables_of}
@@ -156,7 +156,7 @@ no_entry k = elim (eqb k 0) as (λ b. cond b (Err invalid_data) (usable None) �
 
 no_numbers : (file : List ℕ) (trak : TrakBox) (trafs : List TrafBox) (runs : List PlacedRun) (k : ℕ)
     → length trafs ≡ 0 → (tables_of trak).stsc.entries ≡ [] → sample_at file trak trafs runs k ≡ Err invalid_data
-unfolding sample_at answer_at rule spot_at
+unfolding sample_at answer_at rule located_at
 no_numbers file trak trafs runs k whole none = rw (eq-eqb (length trafs) 0 whole, none, no_entry k) refl
 
 -- a sample that is found is read

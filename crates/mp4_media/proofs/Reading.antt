@@ -1,5 +1,5 @@
--- What is read of a sample: no step of a lookup wants memory, and at the movie box's numbers the tables written out lead
--- to it.
+-- What is read of a sample: no step of a lookup wants memory, and at the movie box's numbers the tables written out
+-- lead to it.
 use Rattle.std.proofs.Common.{◌≡◌, ℕ, ◌+◌, ◌-◌, ◌/◌, ◌^◌, ◌<◌, Bool, true, false, cond, eqb, leb, ltb, List, length, sum}
 use Rattle.std.proofs.Common.{Option, Some, None, Result, Ok, Err, subst}
 use Rattle.std.specs.Prelude.{slice_get, slice_range}
@@ -13,15 +13,15 @@ use Rattle.mp4_table.specs.Starts.{start_of}
 use Rattle.mp4_boxes.specs.declared.stbl.StblBox.{StblBox}
 use Rattle.mp4_boxes.specs.declared.trak.TrakBox.{TrakBox}
 use Rattle.mp4_moof.specs.declared.traf.TrafBox.{TrafBox}
-use Rattle.mp4_fragments.specs.declared.members.Member.{Member}
-use Rattle.mp4_fragments.specs.Members.{PlacedRun, all_members}
+use Rattle.mp4_fragments.specs.declared.run_samples.RunSample.{RunSample}
+use Rattle.mp4_fragments.specs.RunSamples.{PlacedRun, all_run_samples}
 use Rattle.mp4_lookup.specs.declared.track.Mp4Track.{Mp4Track}
 use Rattle.mp4_samples.specs.declared.sample.Place.{Place}
 use Rattle.mp4_samples.specs.Plain.{Consistent}
 use Rattle.mp4_lookup.specs.Rule.{if_there, usable, entry_for, chunk_number, chunk_for, within_64_bits, timed, time_at}
-use Rattle.mp4_lookup.specs.Rule.{first_in_chunk, spot_at, rule}
+use Rattle.mp4_lookup.specs.Rule.{first_in_chunk, located_at, rule}
 use Rattle.mp4_samples.specs.Samples.{read_in, plain_sample_at}
-use Rattle.mp4_lookup.specs.Tracks.{sample_at, is_of_movie, begins_at, member_place, answer_at}
+use Rattle.mp4_lookup.specs.Tracks.{sample_at, is_of_movie, begins_at, run_sample_place, answer_at}
 use Rattle.mp4_samples.specs.Tables.{chunk_offsets, sizes, tables_of}
 use Rattle.mp4_lookup.specs.TrackRuns.{track_runs}
 use Rattle.mp4_lookup.proofs.TrackLaws.{sample_is_plain}
@@ -73,9 +73,9 @@ chunk-none e k = by (e.first_chunk + (k - e.first_sample) / e.samples_per_chunk)
 abbrev bytes_before : StblBox → ℕ → StscEntry → ℕ
 bytes_before t k entry = sum (slice_range (sizes t.stsz k) (first_in_chunk entry k - 1) (k - 1))
 
-spot-none : (t : StblBox) (k : ℕ) → WantsNone (spot_at t k)
-unfolding spot_at
-spot-none t k =
+located-none : (t : StblBox) (k : ℕ) → WantsNone (located_at t k)
+unfolding located_at
+located-none t k =
     next (entry_for t.stsc.entries k) _ (entry-none t.stsc.entries k) (λ entry.
     next (chunk_for entry k) _ (chunk-none entry k) (λ chunk.
     with_chunk entry (slice_get (chunk_offsets t) (chunk - 1))))
@@ -107,13 +107,13 @@ time-none runs track k = by (slice_get (durations runs) (k - 1)) (start_of (dura
 rule-none : (t : StblBox) (track k : ℕ) → WantsNone (rule t track k)
 unfolding rule
 rule-none t track k =
-    next (spot_at t k) _ (spot-none t k)
-    (λ spot. there spot _ (λ found. next (time_at t.stts.entries track k) _ (time-none t.stts.entries track k)
+    next (located_at t k) _ (located-none t k)
+    (λ located. there located _ (λ found. next (time_at t.stts.entries track k) _ (time-none t.stts.entries track k)
     (λ time. tt)))
 
-member-none : (o : Option Member) → WantsNone (member_place o)
-member-none None = tt
-member-none (Some m) = by m.at.place m.at.time
+run_sample-none : (o : Option RunSample) → WantsNone (run_sample_place o)
+run_sample-none None = tt
+run_sample-none (Some m) = by m.at.place m.at.time
   where
     by : (place time : Option ℕ) → WantsNone (begins_at place time m)
     by (Some place) (Some time) = tt
@@ -124,9 +124,9 @@ answer-none : (trak : TrakBox) (trafs : List TrafBox) (runs : List PlacedRun) (k
     → WantsNone (answer_at trak trafs runs k)
 unfolding answer_at
 answer-none trak trafs runs k =
-    let member : Option Member = slice_get (all_members runs) (k - (tables_of trak).stsz.sample_count - 1) in
-    either (is_of_movie trak trafs k) (rule (tables_of trak) trak.tkhd.track_id k) (member_place member)
-    (rule-none (tables_of trak) trak.tkhd.track_id k) (member-none member)
+    let run_sample : Option RunSample = slice_get (all_run_samples runs) (k - (tables_of trak).stsz.sample_count - 1) in
+    either (is_of_movie trak trafs k) (rule (tables_of trak) trak.tkhd.track_id k) (run_sample_place run_sample)
+    (rule-none (tables_of trak) trak.tkhd.track_id k) (run_sample-none run_sample)
 
 read-none : (file : List ℕ) (p : Option Place) → WantsNone (read_in file p)
 read-none file None = tt

@@ -18,9 +18,9 @@ use Rattle.mp4_moof.specs.declared.traf.TrafBox.{TrafBox}
 use Rattle.mp4_fragments.specs.declared.defaults.SampleDefaults.{SampleDefaults}
 use Rattle.mp4_fragments.specs.Bases.{bases_of}
 use Rattle.mp4_fragments.specs.Defaults.{defaults_of_trex, no_defaults}
-use Rattle.mp4_fragments.specs.Fragments.{placed_runs, fragment_members}
-use Rattle.mp4_fragments.specs.Members.{PlacedRun, all_members}
-use Rattle.mp4_fragments.specs.declared.members.Member.{Member}
+use Rattle.mp4_fragments.specs.Fragments.{placed_runs, fragment_samples}
+use Rattle.mp4_fragments.specs.RunSamples.{PlacedRun, all_run_samples}
+use Rattle.mp4_fragments.specs.declared.run_samples.RunSample.{RunSample}
 use Rattle.mp4_lookup.specs.declared.track.Mp4Track.{Mp4Track}
 use Rattle.mp4_lookup.specs.TrackRuns.{track_runs}
 use Rattle.mp4_samples.specs.Tables.{tables_of}
@@ -30,7 +30,7 @@ use Rattle.mp4_lookup.specs.Tracks.{movie_end}
 abbrev pub trak_with_id : List TrakBox → ℕ → Option TrakBox
 trak_with_id traks id = last (filter (λ (t : TrakBox). t.tkhd.track_id == id) traks)
 
--- the parts of all fragments, in file order: each adds samples to one track
+-- all track fragments, in file order: each adds samples to one track
 abbrev pub trafs_in : List MoofBox → List TrafBox
 trafs_in moofs = flat_map (λ (m : MoofBox). m.trafs) moofs
 
@@ -56,24 +56,25 @@ movie_defaults moov id = unwrap_or (defaults_with_id (trexs_in moov.mvex) id) no
 abbrev pub default_duration : List TrafBox → SampleDefaults → ℕ
 default_duration trafs defaults = if length trafs == 0 then 0 else defaults.duration
 
--- of the bases of these parts of a fragment, those of this track's
+-- of the base data offsets of these track fragments, those of this track's
 unfoldable pub own_bases : ℕ → List TrafBox → List (Option ℕ) → List (Option ℕ)
 own_bases id trafs bases =
     map (λ (x : TrafBox × Option ℕ). x.1) (filter (λ (x : TrafBox × Option ℕ). x.0.tfhd.track_id == id) (zip trafs bases))
 
--- The bases of this track's parts of the fragments, which begin at these places: a part may rest on the data of another
--- track's.
+-- The base data offsets of this track's fragments; the movie fragments begin at these places, and one may depend on the
+-- data of another track's.
 unfoldable pub track_bases : (ℕ → SampleDefaults) → List MoofBox → List ℕ → ℕ → List (Option ℕ)
 track_bases defaults moofs places id =
     flat_map (λ (x : MoofBox × ℕ). own_bases id x.0.trafs (bases_of defaults x.1 x.0.trafs)) (zip moofs places)
 
--- a track of an opened movie: what the movie says of it, its fragments, the runs that they add, and the samples of these
+-- a track of an opened movie: what the movie says of it, its fragments, the runs that they add, and the samples of
+-- these
 pub record OpenedTrack : Type 0 where
   pub trak : TrakBox
   pub trafs : List TrafBox
   pub default_sample_duration : ℕ
   pub runs : List PlacedRun
-  pub members : List Member
+  pub run_samples : List RunSample
 
 -- The track with this box, to which these fragments add samples: they begin at these places, and its first run at the
 -- end of the samples of its box.
@@ -87,7 +88,7 @@ with_fragments moov moofs places trak =
       trafs = trafs;
       default_sample_duration = default_duration trafs (movie_defaults moov id);
       runs = placed_runs (movie_defaults moov id) (movie_end trak) trafs bases;
-      members = fragment_members (movie_defaults moov id) (movie_end trak) trafs bases;
+      run_samples = fragment_samples (movie_defaults moov id) (movie_end trak) trafs bases;
     }
 
 -- the track with this id in an opened movie with these fragments, which begin at these places
@@ -102,7 +103,7 @@ zero_id t = if t.tkhd.track_id == 0 then Some invalid_data else None
 abbrev pub unknown_id : (ℕ → Bool) → TrafBox → Option Cause
 unknown_id known f = if known f.tfhd.track_id then None else Some (trak_not_found f.tfhd.track_id)
 
--- the first such part of the fragments
+-- the first such track fragment
 abbrev pub unknown_ids : (ℕ → Bool) → List MoofBox → Option Cause
 unknown_ids known moofs = all_refusal (λ (m : MoofBox). all_refusal (unknown_id known) m.trafs) moofs
 
@@ -119,7 +120,8 @@ unfoldable pub id_fault : MoovBox → List MoofBox → Option Cause
 id_fault moov moofs =
     all_refusal zero_id moov.traks or unknown_ids (λ id. is_some (trak_with_id moov.traks id)) moofs
 
--- A call is refused for this cause and no other, or memory ran out; where there is no cause it is Ok, or memory ran out.
+-- A call is refused for this cause and no other, or memory ran out; where there is no cause it is Ok, or memory ran
+-- out.
 abbrev pub RefusedBy : {X : Type 0} → Option Cause → Result X Error → Type 0
 RefusedBy cause (Ok x) = cause ≡ None
 RefusedBy cause (Err e) = (e ≡ OutOfMemory) ⊎ (cause ≡ Some (cause_of e))
@@ -131,7 +133,7 @@ opened_track t = record {
   trafs = t.trafs;
   default_sample_duration = t.default_sample_duration;
   runs = track_runs t;
-  members = all_members (track_runs t);
+  run_samples = all_run_samples (track_runs t);
 }
 
 module _ {X S : Type 0} where

@@ -12,7 +12,7 @@ use Rattle.mp4_boxes.specs.declared.stbl.StblBox.{StblBox}
 use Rattle.mp4_boxes.specs.declared.trak.TrakBox.{TrakBox}
 use Rattle.mp4_samples.specs.declared.sample.SamplePlace.{SamplePlace}
 use Rattle.mp4_lookup.specs.declared.track.Mp4Track.{Mp4Track}
-use Rattle.mp4_lookup.specs.Costs.{AreFew, AreFewForMember, AreFewSizeReads, comparisons_of}
+use Rattle.mp4_lookup.specs.Costs.{AreFew, AreFewForRunSample, AreFewSizeReads, comparisons_of}
 use Rattle.mp4_lookup.specs.Kind.{media_type_of}
 use Rattle.mp4_samples.specs.Places.{place_of}
 use Rattle.mp4_samples.specs.Plain.{Consistent, plain_at}
@@ -44,7 +44,8 @@ abbrev pub accepted_with_id : List AcceptedTrack → ℕ → Result AcceptedTrac
 accepted_with_id accepted zero = Err (trak_not_found 0)
 accepted_with_id accepted (suc k) = track_or (suc k) (slice_get accepted k)
 
--- what is read at a number of the track with this id, if exactly these tracks were accepted, and how many samples it has
+-- what is read at a number of the track with this id, if exactly these tracks were accepted, and how many samples it
+-- has
 abbrev pub accepted_sample : List AcceptedTrack → ℕ → ℕ → Result (Option TimedSample) Cause
 accepted_sample accepted id k = accepted_with_id accepted id >>= λ t. sample_number t.samples k
 
@@ -58,8 +59,8 @@ sample_read movie id k = sample_in movie.bytes.now movie.movie.tracks id k
 abbrev pub samples_counted : Mp4Reader → ℕ → Result ℕ Cause
 samples_counted movie id = sample_count_in movie.movie.tracks id
 
--- a track is described as it was accepted: the ticks in a second and the language (8.4.2), the kind of track (8.4.3), and
--- how its samples are coded (8.5.2)
+-- a track is described as it was accepted: the ticks in a second and the language (8.4.2), the kind of track (8.4.3),
+-- and how its samples are coded (8.5.2)
 pub record IsDescribed (trak : TrakBox) (config : TrackConfig) : Type 0 where
   pub timescale : trak.mdia.mdhd.timescale ≡ config.timescale
   pub language : trak.mdia.mdhd.language ≡ config.language
@@ -123,7 +124,7 @@ pub record IsCheap (t : Mp4Track) (k : ℕ) (place : Result (Option SamplePlace)
       → IfOk place (λ p. IfSome p (λ p. AreFew (tables_of t.trak) p.comparisons
       × AreFewSizeReads (tables_of t.trak) p.size_reads))
   pub added : is_of_movie t.trak t.trafs k ≡ false
-      → IfOk place (λ p. IfSome p (λ p. AreFewForMember (track_runs t) p.comparisons × (p.size_reads ≡ 0)))
+      → IfOk place (λ p. IfSome p (λ p. AreFewForRunSample (track_runs t) p.comparisons × (p.size_reads ≡ 0)))
 
 -- The place at number k of the track with this id, whatever its tables and its fragments say, and what it cost.
 pub record IsLocated (movie : Mp4Reader) (id k : ℕ) (place : Result (Option SamplePlace) Error) : Type 0 where

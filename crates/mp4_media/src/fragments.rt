@@ -1,5 +1,5 @@
-//! What the fragments of a movie add to its tracks: the parts of each track, where the places of each part count from, and
-//! what the movie says of their samples (ISO/IEC 14496-12, 8.8).
+//! What the fragments of a movie add to its tracks: the track fragments of each track, where the places of each count
+//! from, and what the movie says of their samples (ISO/IEC 14496-12, 8.8).
 
 ghost use Rattle.std.specs.Prelude.{◌≡◌, ℕ, [], ◌∷◌, ◌++◌, length, ◌==◌, if◌then◌else◌, IfOk, IfErr, OnOk};
 ghost use Rattle.mp4_fragments.specs.Bases.{bases_of};
@@ -90,7 +90,7 @@ pub(crate) fn track_defaults(defaults: &HashMap<u32, SampleDefaults>, id: u32) -
     defaults.get(&id).copied().unwrap_or(SampleDefaults::none())
 }
 
-/// Adds the base of a part of a fragment to those of its track.
+/// Adds the base data offset of a track fragment to those of its track.
 fn add_base(
     alloc: Global,
     bases: &mut HashMap<u32, Items<Option<u64>>>,
@@ -103,7 +103,7 @@ fn add_base(
     Ok(())
 }
 
-/// Adds the base of each of these parts of a fragment, which begins at `moof`, to those of its track.
+/// Adds the base of each of these track fragments, whose movie fragment begins at `moof`, to those of its track.
 fn add_bases(
     alloc: Global,
     bases: &mut HashMap<u32, Items<Option<u64>>>,
@@ -123,7 +123,7 @@ fn add_bases(
     Ok(())
 }
 
-/// Where the places of all parts of the fragments count from, for each track in file order, by one pass over all
+/// Where the places of all track fragments count from, for each track in file order, by one pass over all
 /// fragments. Each fragment begins at its place.
 pub(crate) fn bases_by_id(
     alloc: Global,

@@ -11,7 +11,7 @@ ghost use Rattle.mp4_media.specs.RoundTrip.{HasExactly, IsOpening, OpensAs, samp
 
 pub use mp4_boxes::read_tables_have_first_samples;
 pub use mp4_codec::{
-    code_again, box_has_its_header, header_says_its_box, insertion_changes_one_key,
+    box_has_its_header, code_again, header_says_its_box, insertion_changes_one_key,
     payload_has_its_children, refused_head_says_why, what_is_written_reads_back,
 };
 pub use mp4_entry::{

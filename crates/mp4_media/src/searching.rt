@@ -1,7 +1,7 @@
 //! What a lookup is made of: the counted search in a table, and the runs that movie fragments add to a track.
 
 pub use mp4_fragments::{
-    Beginning, Member, RunCursor, RunIndex, RunTimes, SampleDefaults, SeekIndex, SyncSpans,
+    RunCursor, RunIndex, RunSample, RunStart, RunTimes, SampleDefaults, SeekIndex, SyncSpans,
     index_of, seek_index_of, traf_base, traf_end,
 };
 pub use mp4_search::{

@@ -19,7 +19,7 @@ use mp4_codec::{
 use mp4_frag::{TfdtBox, TfhdBox, TrunBox};
 use std::alloc::Global;
 
-/// The part of a movie fragment that adds samples to one track, `traf` (ISO/IEC 14496-12, 8.8.6).
+/// The track fragment, `traf`: the part of a movie fragment that adds samples to one track (ISO/IEC 14496-12, 8.8.6).
 ///
 /// Its children may come in any order, and types that it doesn't name are skipped. The first refused
 /// child in file order is the answer, then `InvalidData` for a broken tail, then `BoxNotFound(TfhdBox)`.

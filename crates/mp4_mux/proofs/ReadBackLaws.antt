@@ -8,7 +8,7 @@ use Rattle.std.proofs.lemmas.Option.{same_Some, slice_get-get_or, slice_get_past
 use Rattle.mp4_boxes.specs.declared.stbl.StblBox.{StblBox}
 use Rattle.mp4_boxes.specs.declared.trak.TrakBox.{TrakBox}
 use Rattle.mp4_samples.specs.Samples.{Sample, TimedSample, timed_from, timed, read_at}
-use Rattle.mp4_samples.specs.Plain.{member, plain, plain_at, within_file}
+use Rattle.mp4_samples.specs.Plain.{sample_place, plain, plain_at, within_file}
 use Rattle.mp4_samples.specs.Tables.{tables_of}
 use Rattle.mp4_mux.specs.Writing.{WriterState, AcceptedTrack, accepted, no_track, movie_of, whole_of, with_end}
 use Rattle.mp4_mux.specs.Sound.{IsSound}
@@ -27,15 +27,15 @@ module _ (file : List ℕ) (t : StblBox) (ss : List Sample) (h : Describes file 
       → Finds file (plain_at t (suc k)) s
   unfolding plain_at
   finds_each fits k s e =
-      let p = get_or (plain t) k (member t 0) in
+      let p = get_or (plain t) k (sample_place t 0) in
       let l : k < length (plain t) =
       omega (arith, slice_get_within (timed ss) k s e, length-timed_from 0 ss, length-plain) in
-      let within = h.within k (member t 0) l in
+      let within = h.within k (sample_place t 0) l in
       let small : p.offset < 2 ^ 64 = omega (arith, within, fits) in
-      let found : slice_get (plain t) k ≡ Some p = slice_get-get_or (plain t) k (member t 0) l in
+      let found : slice_get (plain t) k ≡ Some p = slice_get-get_or (plain t) k (sample_place t 0) l in
       let all = map (read_at file) (plain t) in
       let read : Some (read_at file p) ≡ Some s =
-      ap Some (sym (get_or-map (read_at file) (plain t) k (member t 0) s l))
+      ap Some (sym (get_or-map (read_at file) (plain t) k (sample_place t 0) s l))
       ∙ sym (slice_get-get_or all k s (omega (arith, l, length-map (plain t) (read_at file))))
       ∙ ap (λ xs. slice_get xs k) h.samples ∙ e in
       record {
@@ -59,8 +59,8 @@ pub samples_read : (st : WriterState) (id : ℕ) (a : AcceptedTrack) (trak : Tra
     → map (read_at (whole_of st)) (plain (tables_of trak)) ≡ timed a.samples
 samples_read st id a trak h = go a.samples refl
   where
-    none : (n : ℕ) → n ≡ 0 → map (member (tables_of trak)) (range_with_len 1 n) ≡ []
-    none n e = ap (λ m. map (member (tables_of trak)) (range_with_len 1 m)) e
+    none : (n : ℕ) → n ≡ 0 → map (sample_place (tables_of trak)) (range_with_len 1 n) ≡ []
+    none n e = ap (λ m. map (sample_place (tables_of trak)) (range_with_len 1 m)) e
 
     go : (ss : List Sample) → a.samples ≡ ss
         → map (read_at (whole_of st)) (plain (tables_of trak)) ≡ timed a.samples

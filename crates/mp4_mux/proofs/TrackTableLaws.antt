@@ -12,7 +12,7 @@ use Rattle.mp4_table.specs.declared.stsc.StscBox.{StscBox}
 use Rattle.mp4_table.specs.Chunks.{counts, laid_from, places}
 use Rattle.mp4_table.specs.Runs.{expand, durations, rendering_offsets}
 use Rattle.mp4_boxes.specs.declared.stbl.StblBox.{StblBox}
-use Rattle.mp4_samples.specs.Plain.{Consistent, sample_places, member, plain}
+use Rattle.mp4_samples.specs.Plain.{Consistent, sample_places, sample_place, plain}
 use Rattle.mp4_samples.specs.Tables.{chunk_offsets, offsets_of, sizes, ctts_runs, is_sync_at}
 use Rattle.mp4_mux.specs.declared.sample_info.SampleInfo.{SampleInfo}
 use Rattle.mp4_mux.specs.SampleTables.{ctts_for, stsz_for}
@@ -129,8 +129,8 @@ module _ (ss : List SampleInfo) (ns os : List ℕ) (t : StblBox) (tables : HasTa
       ∙ sym (get_or-map (λ s. s.is_sync) ss (k - 1) d false (omega arith))
 
   -- a lookup finds of sample k what is known of it
-  pub member-tables : (k : ℕ) → 1 ≤ k → k ≤ length ss → member t k ≡ sample_at ss ns os k
-  member-tables k first last =
+  pub sample_place-tables : (k : ℕ) → 1 ≤ k → k ≤ length ss → sample_place t k ≡ sample_at ss ns os k
+  sample_place-tables k first last =
       let within : k - 1 < length ss = omega arith in
       let ms = map (λ (s : SampleInfo). s.size) ss in
       let size_is : (get_or (places ns os ms) (k - 1) (0, 0)).1 ≡ get_or ms (k - 1) 0 =
@@ -148,6 +148,6 @@ module _ (ss : List SampleInfo) (ns os : List ℕ) (t : StblBox) (tables : HasTa
   -- the samples in order
   pub plain-tables : plain t ≡ map (sample_at ss ns os) (range_with_len 1 (length ss))
   plain-tables =
-      ap (λ n. map (member t) (range_with_len 1 n)) count_is
-      ∙ map-range_same (member t) (sample_at ss ns os) 1 (length ss)
-      (λ k first last. member-tables k first (omega (arith, last)))
+      ap (λ n. map (sample_place t) (range_with_len 1 n)) count_is
+      ∙ map-range_same (sample_place t) (sample_at ss ns os) 1 (length ss)
+      (λ k first last. sample_place-tables k first (omega (arith, last)))

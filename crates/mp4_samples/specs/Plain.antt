@@ -31,8 +31,8 @@ sample_places t =
     places (counts t.stsc.entries (length (chunk_offsets t))) (chunk_offsets t) (sizes t.stsz t.stsz.sample_count)
 
 -- sample k, read off the tables written out
-abbrev pub member : StblBox → ℕ → Place
-member t k = record {
+abbrev pub sample_place : StblBox → ℕ → Place
+sample_place t k = record {
   offset = (get_or (sample_places t) (k - 1) (0, 0)).0;
   size = (get_or (sample_places t) (k - 1) (0, 0)).1;
   start_time = start_of (durations t.stts.entries) k;
@@ -43,7 +43,7 @@ member t k = record {
 
 -- the samples in order
 abbrev pub plain : StblBox → List Place
-plain t = map (member t) (range_with_len 1 t.stsz.sample_count)
+plain t = map (sample_place t) (range_with_len 1 t.stsz.sample_count)
 
 -- no place is past 64 bits
 abbrev pub within_file : Option Place → Result (Option Place) Cause

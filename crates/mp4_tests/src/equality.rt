@@ -4,7 +4,7 @@ use crate::asserts::{check, holds};
 use bytes::Bytes;
 use mp4_codec::{FourCC, Items, Result, Text};
 use mp4_entry::{MediaConfig, TrackType, TtxtConfig, Vp9Config};
-use mp4_fragments::{Beginning, Member, SampleDefaults};
+use mp4_fragments::{RunSample, RunStart, SampleDefaults};
 use mp4_media::searching::Found;
 use mp4_media::writing::{ChunkPlace, ChunkRef, Durations, SampleInfo};
 use mp4_media::{Mp4Config, SampleQuery, TrackConfig, WriterCall, is_equal_sample};
@@ -150,20 +150,20 @@ fn defaults_differ() -> bool {
     tells_each(&one, &alike, &others)
 }
 
-/// Whether beginnings of members that differ in any one field are unequal.
-fn beginnings_differ() -> bool {
-    let one = Beginning {
+/// Whether starts of run samples that differ in any one field are unequal.
+fn run_starts_differ() -> bool {
+    let one = RunStart {
         place: Some(1),
         time: None,
     };
     let alike = one;
     let others = [
-        Beginning {
+        RunStart {
             place: Some(2),
             ..one
         },
-        Beginning { place: None, ..one },
-        Beginning {
+        RunStart { place: None, ..one },
+        RunStart {
             time: Some(0),
             ..one
         },
@@ -171,10 +171,10 @@ fn beginnings_differ() -> bool {
     tells_each(&one, &alike, &others)
 }
 
-/// A member of a run.
-fn member() -> Member {
-    Member {
-        at: Beginning {
+/// A sample of a track run.
+fn run_sample() -> RunSample {
+    RunSample {
+        at: RunStart {
             place: Some(1),
             time: None,
         },
@@ -185,34 +185,34 @@ fn member() -> Member {
     }
 }
 
-/// Whether members that differ in any one field are unequal.
-fn members_differ() -> bool {
-    let one = member();
-    let late = Beginning {
+/// Whether run samples that differ in any one field are unequal.
+fn run_samples_differ() -> bool {
+    let one = run_sample();
+    let late = RunStart {
         time: Some(0),
         ..one.at
     };
     let others = [
-        Member { at: late, ..one },
-        Member { size: 4, ..one },
-        Member { duration: 4, ..one },
-        Member {
+        RunSample { at: late, ..one },
+        RunSample { size: 4, ..one },
+        RunSample { duration: 4, ..one },
+        RunSample {
             rendering_offset: 3,
             ..one
         },
-        Member {
+        RunSample {
             is_sync: false,
             ..one
         },
     ];
-    tells_each(&one, &member(), &others)
+    tells_each(&one, &run_sample(), &others)
 }
 
 #[test]
 fn samples_of_fragments_that_differ_are_unequal(rt: HostRuntime) {
     holds(&rt, "defaults", defaults_differ());
-    holds(&rt, "beginnings", beginnings_differ());
-    holds(&rt, "members", members_differ());
+    holds(&rt, "run starts", run_starts_differ());
+    holds(&rt, "run samples", run_samples_differ());
 }
 
 /// Whether places of chunks that differ in any one field are unequal.

@@ -9,10 +9,10 @@ use crate::written::is_expected;
 use mp4_codec::{Error, Result};
 use mp4_media::{FoundSample, RoundTrip, SampleQuery, WriterCall, write_and_read};
 use mp4_plain_movies::calls::{Call, ISOM};
+use mp4_plain_movies::encoded::hex;
 use mp4_plain_movies::movie_bytes::TEXT_MOVIE;
 use mp4_plain_movies::plain_movie::PlainMovie;
 use mp4_plain_movies::random::Random;
-use mp4_plain_movies::encoded::hex;
 use std::alloc::Global;
 
 /// Calls as data, and what the model answers them.

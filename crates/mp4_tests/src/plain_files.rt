@@ -17,7 +17,7 @@ pub struct PlainFile {
     pub ids: Vec<u32>,
     /// The ids and durations of the last movie's defaults of fragments, in file order.
     pub defaults: Vec<(u32, u32)>,
-    /// The ids of the parts of all fragments, in file order.
+    /// The ids of all track fragments, in file order.
     pub parts: Vec<u32>,
 }
 

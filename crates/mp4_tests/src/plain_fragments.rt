@@ -1,5 +1,5 @@
-//! The samples of a movie's tracks that its fragments add, written out member by member. They are compared with what the
-//! lookup finds, and not proved.
+//! The samples of a movie's tracks that its fragments add, written out sample by sample. They are compared with what
+//! the lookup finds, and not proved.
 
 use crate::walked_lookup::{WalkedPlace, walk};
 use mp4_boxes::{StblBox, TrakBox};
@@ -41,10 +41,10 @@ pub const NOTHING: PlainValues = PlainValues {
 pub struct PlainRun {
     pub data_offset: Option<i32>,
     pub first_flags: Option<u32>,
-    pub members: Vec<PlainValues>,
+    pub samples: Vec<PlainValues>,
 }
 
-/// A track's part of a fragment.
+/// A track fragment.
 #[derive(Drop)]
 pub struct PlainPart {
     pub id: u32,
@@ -64,19 +64,19 @@ pub struct PlainFragment {
 
 /// Where and when a sample begins.
 #[derive(Clone, Copy, Debug)]
-pub struct Beginning {
+pub struct RunStart {
     place: Option<u64>,
     time: Option<u64>,
 }
 
-/// What a track keeps of a run of one of its parts of fragments.
+/// What a track keeps of a run of one of its track fragments.
 #[derive(Debug, Drop)]
 pub struct RunEntry {
     /// Where its first sample begins.
-    at: Beginning,
+    at: RunStart,
     /// Where every 64th sample begins, from the 65th on, if the run lists sizes or durations.
-    pub checks: Vec<Beginning>,
-    /// The number of its part among those of the track, counted from 0.
+    pub checks: Vec<RunStart>,
+    /// The number of its track fragment among those of the track, counted from 0.
     traf: usize,
     /// Its number in the part, counted from 0.
     run: usize,
@@ -85,7 +85,7 @@ pub struct RunEntry {
 /// A sample that a fragment adds.
 #[derive(Clone, Copy)]
 struct PlainSample {
-    at: Beginning,
+    at: RunStart,
     size: u32,
     duration: u32,
     rendering_offset: i32,
@@ -117,7 +117,7 @@ pub struct PlainTrack {
     pub values: PlainValues,
     /// When its samples have lasted.
     end: Option<u64>,
-    /// How many parts of fragments it has.
+    /// How many track fragments it has.
     parts: usize,
     samples: Vec<PlainSample>,
     /// How many samples come before each run.
@@ -163,7 +163,7 @@ fn behind(place: Option<u64>, distance: u32) -> Option<u64> {
 }
 
 /// Adds a sample of these values to a track. The answer is where the next one begins.
-fn add_sample(track: &mut PlainTrack, values: &PlainValues, at: Beginning) -> Result<Beginning> {
+fn add_sample(track: &mut PlainTrack, values: &PlainValues, at: RunStart) -> Result<RunStart> {
     let size = values.size.unwrap_or(0);
     let duration = values.duration.unwrap_or(0);
     track.samples.push(PlainSample {
@@ -173,7 +173,7 @@ fn add_sample(track: &mut PlainTrack, values: &PlainValues, at: Beginning) -> Re
         rendering_offset: values.composition_offset.unwrap_or(0).cast_signed(),
         is_sync: values.flags.unwrap_or(0) / 0x1_0000 % 2 == 0,
     })?;
-    Ok(Beginning {
+    Ok(RunStart {
         place: behind(at.place, size),
         time: behind(at.time, duration),
     })
@@ -185,33 +185,33 @@ fn add_samples(
     track: &mut PlainTrack,
     run: &PlainRun,
     values: &PlainValues,
-    first: Beginning,
-    checks: &mut Vec<Beginning>,
-) -> Result<Beginning> {
+    first: RunStart,
+    checks: &mut Vec<RunStart>,
+) -> Result<RunStart> {
     let mut at = first;
     let mut first_flags = run.first_flags;
     let mut count = 0u32;
-    for member in run.members.as_slice() {
-        let own = member.or(values).or(&track.values);
+    for sample in run.samples.as_slice() {
+        let own = sample.or(values).or(&track.values);
         let flags = first_flags.or(own.flags);
         first_flags = None;
         at = add_sample(track, &PlainValues { flags, ..own }, at)?;
         count = count.wrapping_add(1);
-        if count % 64 == 0 && (member.size.is_some() || member.duration.is_some()) {
+        if count % 64 == 0 && (sample.size.is_some() || sample.duration.is_some()) {
             checks.push(at)?;
         }
     }
     Ok(at)
 }
 
-/// Adds a run to a track, which has this number in the last of its parts. The answer is where the next one begins.
+/// Adds a run to a track, which has this number in the last of its fragments. The answer is where the next one begins.
 fn add_run(
     track: &mut PlainTrack,
     number: usize,
     run: &PlainRun,
     values: &PlainValues,
-    first: Beginning,
-) -> Result<Beginning> {
+    first: RunStart,
+) -> Result<RunStart> {
     let mut checks = Vec::new(*track.runs.allocator());
     let before = track.added();
     track.counts.push(before)?;
@@ -225,11 +225,11 @@ fn add_run(
     Ok(end)
 }
 
-/// Adds the runs of a part of a fragment, whose places count from a base, to its track. The answer is where its data ends.
+/// Adds the runs of a track fragment, whose places count from a base, to its track. The answer is where its data ends.
 fn add_runs(track: &mut PlainTrack, part: &PlainPart, base: Option<u64>) -> Result<Option<u64>> {
     track.parts = track.parts.wrapping_add(1);
     let before = track.samples.len();
-    let mut at = Beginning {
+    let mut at = RunStart {
         place: base,
         time: part.time.or(track.end),
     };
@@ -245,7 +245,7 @@ fn add_runs(track: &mut PlainTrack, part: &PlainPart, base: Option<u64>) -> Resu
     Ok(at.place)
 }
 
-/// Adds a part of a fragment to its track. The answer is where its data ends.
+/// Adds a track fragment to its track. The answer is where its data ends.
 fn add_part(
     tracks: &mut Vec<PlainTrack>,
     part: &PlainPart,
@@ -260,7 +260,7 @@ fn add_part(
     Ok(end)
 }
 
-/// Adds the parts of a fragment to their tracks.
+/// Adds the track fragments of a movie fragment to their tracks.
 fn add_fragment(tracks: &mut Vec<PlainTrack>, fragment: &PlainFragment) -> Result<()> {
     let mut end = Some(fragment.place);
     for part in fragment.parts.as_slice() {

@@ -9,7 +9,7 @@ use mp4_media::{Mp4Reader, read_mp4};
 use mp4_plain_movies::random::Random;
 use std::alloc::Global;
 
-/// The first of the parts of fragments whose track isn't there.
+/// The first of the track fragments whose track isn't there.
 fn unknown_part(file: &PlainFile) -> Option<u32> {
     for id in file.parts.as_slice() {
         if !file.ids.contains(id) {
@@ -46,7 +46,7 @@ fn place_of(ids: &[u32], id: u32) -> usize {
     last
 }
 
-/// How many parts of fragments a track has.
+/// How many track fragments a track has.
 fn count_of(parts: &[u32], id: u32) -> usize {
     let mut count = 0usize;
     for other in parts {
@@ -68,7 +68,7 @@ fn duration_of(defaults: &[(u32, u32)], id: u32) -> u32 {
     duration
 }
 
-/// Whether the track of an id is the one at this place of its movie, with so many parts of fragments.
+/// Whether the track of an id is the one at this place of its movie, with so many track fragments.
 fn is_there(reader: &Mp4Reader, file: &PlainFile, id: u32, place: usize, parts: usize) -> bool {
     let duration = match parts {
         0 => 0,

@@ -1,5 +1,5 @@
 //! Random files of fragments, from fixed seeds: each number of each track is answered as a plain program says, which
-//! writes all members out.
+//! writes all samples out.
 
 use crate::asked::{locates, reads_there};
 use crate::asserts::check;
@@ -44,8 +44,8 @@ fn is_answered(
     locates(reader, track.id, k, &expected) && reads_there(bytes, reader, track.id, k)
 }
 
-/// Whether the track at an index has as many samples as the plain program says, and each number up to behind the last is
-/// answered so.
+/// Whether the track at an index has as many samples as the plain program says, and each number up to behind the last
+/// is answered so.
 fn track_is_answered(
     bytes: &[u8],
     reader: &mut Mp4Reader,

@@ -57,7 +57,7 @@ fn put_flagged(
 }
 
 /// Puts what a run says of a sample.
-fn put_member(
+fn put_sample(
     bytes: &mut Vec<u8>,
     random: &mut Random,
     flags: u32,
@@ -80,18 +80,18 @@ fn count(random: &mut Random) -> u32 {
 }
 
 /// Puts what a run says of its samples, if it says more than how many there are.
-fn put_members(
+fn put_samples(
     alloc: Global,
     bytes: &mut Vec<u8>,
     random: &mut Random,
     flags: u32,
     count: u32,
 ) -> Result<Vec<PlainValues>, AllocError> {
-    let mut members = Vec::new(alloc);
+    let mut samples = Vec::new(alloc);
     for _ in 0..count {
-        members.push(put_member(bytes, random, flags)?)?;
+        samples.push(put_sample(bytes, random, flags)?)?;
     }
-    Ok(members)
+    Ok(samples)
 }
 
 /// Puts a run of random flags, in a version that says nothing.
@@ -108,16 +108,16 @@ fn put_run(
     let offset = distance(random);
     let data_offset = put_flagged(bytes, flags, 0x1, offset.cast_unsigned())?;
     let first_flags = put_flagged(bytes, flags, 0x4, random.next())?;
-    let members = put_members(alloc, bytes, random, flags, count)?;
+    let samples = put_samples(alloc, bytes, random, flags, count)?;
     end_box(bytes, start);
     Ok(PlainRun {
         data_offset: data_offset.map(|_| offset),
         first_flags,
-        members,
+        samples,
     })
 }
 
-/// Puts the base of a part of a fragment if its flag is set.
+/// Puts the base data offset of a track fragment if its flag is set.
 fn put_base(
     bytes: &mut Vec<u8>,
     random: &mut Random,
@@ -131,7 +131,7 @@ fn put_base(
     Ok(Some(base))
 }
 
-/// Puts the header of a part of a fragment, of random flags; one of four has a base of its own.
+/// Puts the header of a track fragment, of random flags; one of four has a base of its own.
 fn put_header(
     alloc: Global,
     bytes: &mut Vec<u8>,
@@ -161,7 +161,7 @@ fn put_header(
     })
 }
 
-/// Puts the time of a part of a fragment, in 32 or 64 bits, or no time.
+/// Puts the time of a track fragment, in 32 or 64 bits, or no time.
 fn put_time(bytes: &mut Vec<u8>, random: &mut Random) -> Result<Option<u64>, AllocError> {
     match random.few() {
         0 => {
@@ -180,7 +180,7 @@ fn put_time(bytes: &mut Vec<u8>, random: &mut Random) -> Result<Option<u64>, All
     }
 }
 
-/// Puts a part of a fragment, with up to three runs.
+/// Puts a track fragment, with up to three runs.
 fn put_part(
     alloc: Global,
     bytes: &mut Vec<u8>,

@@ -1,7 +1,7 @@
 //! Files that a test writes down.
 
-use mp4_plain_movies::nested::{DINF, HDLR, MDHD, MVHD, STSD, TKHD, nest};
 use mp4_plain_movies::encoded::hex;
+use mp4_plain_movies::nested::{DINF, HDLR, MDHD, MVHD, STSD, TKHD, nest};
 use std::alloc::{AllocError, Global};
 
 /// A file of a movie with one text track, in texts that encode its boxes.

@@ -15,11 +15,11 @@ use mp4_media::{
     write_and_read,
 };
 use mp4_plain_movies::calls::{Call, ISOM, Media, add_text, write_sync};
+use mp4_plain_movies::encoded::hex;
 use mp4_plain_movies::listed_calls::{five_calls, five_media, text_calls};
 use mp4_plain_movies::movie_bytes::{EMPTY_MOVIE, FRAGMENT, FULL_MOVIE, TEXT_MOVIE};
 use mp4_plain_movies::nested::nest;
 use mp4_plain_movies::plain_tables::{Offsets, TEXT, Tables, put_movie};
-use mp4_plain_movies::encoded::hex;
 use mp4_samples::{Mp4Sample, SampleRef};
 use mp4_script::samples_text;
 use std::alloc::Global;
@@ -223,7 +223,7 @@ fn a_refused_sample_of_five_tracks_is_read_again(rt: HostRuntime) {
     check(&rt, 1, five_are_read(&rt));
 }
 
-/// A file of a text track with defaults of fragments, and a fragment of two parts of it.
+/// A file of a text track with defaults of fragments, and a movie fragment with two track fragments of it.
 fn fragmented(alloc: Global) -> Result<Vec<u8>> {
     let mut bytes = (&EMPTY_MOVIE[..32]).to_vec(alloc)?;
     bytes.extend_from_slice(&FULL_MOVIE)?;
@@ -317,8 +317,8 @@ fn with_boxes_again(rt: &HostRuntime, behind: &[&str]) -> Result<Vec<u8>> {
     )
 }
 
-/// Whether the 65th sample of this run is read, which begins behind the first that is kept; each call is made again after
-/// a refusal.
+/// Whether the 65th sample of this run is read, which begins behind the first that is kept; each call is made again
+/// after a refusal.
 fn long_run_is_read(rt: &HostRuntime) -> Result<bool> {
     let fragment = long_run_again(rt)?;
     let bytes = with_boxes_again(rt, &[fragment.as_str()])?;

@@ -4,8 +4,8 @@ use crate::writer_calls::{config_of, make};
 use mp4_codec::{Error, Result};
 use mp4_media::Mp4Writer;
 use mp4_plain_movies::calls::{Beginning, Call};
-use mp4_plain_movies::plain_movie::PlainMovie;
 use mp4_plain_movies::encoded::hex;
+use mp4_plain_movies::plain_movie::PlainMovie;
 use std::alloc::Global;
 
 /// Whether an answer is the one that the model gives, the texts of refusals left out.

@@ -1,6 +1,6 @@
 use Rattle.std.proofs.Common.{◌≡◌, Some, None, refl, sym, ◌∙◌, arith}
 use Rattle.std.proofs.lemmas.Option.{same_Some}
-use Rattle.mp4_fragments.specs.Members.{PlacedRun}
+use Rattle.mp4_fragments.specs.RunSamples.{PlacedRun}
 use Rattle.mp4_fragments.specs.Index.{placed_at, run_at}
 use Rattle.mp4_fragments.proofs.lookup.cursor_in.Goals as goal
 

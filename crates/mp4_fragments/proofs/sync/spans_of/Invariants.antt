@@ -2,7 +2,7 @@ use Rattle.std.proofs.Common.{◌≡◌, ◌<◌, min, take}
 use Rattle.std.specs.Prelude.{IfSome}
 use Rattle.std.specs.List.{sum_by}
 use Rattle.mp4_fragments.specs.Index.{runs_of}
-use Rattle.mp4_fragments.specs.Members.{run_count}
+use Rattle.mp4_fragments.specs.RunSamples.{run_count}
 use Rattle.mp4_fragments.specs.Sync.{AreBuilt, sync_at}
 use Rattle.mp4_fragments.proofs.sync.spans_of.Given as goal
 

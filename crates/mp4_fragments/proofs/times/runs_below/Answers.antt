@@ -1,5 +1,5 @@
 use Rattle.mp4_search.proofs.SumLaws.{counts_rise}
-use Rattle.mp4_fragments.specs.Members.{run_count}
+use Rattle.mp4_fragments.specs.RunSamples.{run_count}
 use Rattle.mp4_fragments.specs.Index.{runs_of}
 use Rattle.mp4_fragments.proofs.times.runs_below.Goals as goal
 

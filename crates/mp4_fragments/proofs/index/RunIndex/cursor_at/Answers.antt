@@ -1,6 +1,6 @@
 use Rattle.std.proofs.Common.{arith}
 use Rattle.mp4_search.proofs.SumLaws.{counts_rise}
-use Rattle.mp4_fragments.specs.Members.{run_count}
+use Rattle.mp4_fragments.specs.RunSamples.{run_count}
 use Rattle.mp4_fragments.specs.Index.{run_at, runs_of}
 use Rattle.mp4_fragments.proofs.Cursors.{found_at, found_none}
 use Rattle.mp4_fragments.proofs.Finding.{length-entries, located_none, right_by}

@@ -86,8 +86,8 @@ overflow_sub-end c =
     c.in-Some.ensures.1 (omega arith) in
     omega (arith, c.read-before.ensures.number, found.3, found.4)
 
-pub members_by-members-requires-clause-right : goal.members_by-members-requires-clause-right
-members_by-members-requires-clause-right c =
+pub run_samples_by-run_samples-requires-clause-right : goal.run_samples_by-run_samples-requires-clause-right
+run_samples_by-run_samples-requires-clause-right c =
     let index = c.args.self.now in
     let known = run_at c.args.trafs.now c.args.track in
     let runs = runs_of c.args.trafs.now c.args.track index in
@@ -99,8 +99,8 @@ members_by-members-requires-clause-right c =
     right_by known c.as_slice-2.result.now runs index c.in-Some.index c.index-as_slice-index.result c.requires.indexed
     c.as_slice-2.ensures c.index-as_slice-index.is found.2
 
-pub members_by-members-requires-clause-room : goal.members_by-members-requires-clause-room
-members_by-members-requires-clause-room c =
+pub run_samples_by-run_samples-requires-clause-room : goal.run_samples_by-run_samples-requires-clause-room
+run_samples_by-run_samples-requires-clause-room c =
     omega (
       arith,
       c.read-before.ensures.counted,
@@ -117,10 +117,10 @@ overflow_add-result c =
     let earliest : AreEarliest (begin_of runs c.args.end) 0 c.as_slice.result.now =
     rw c.as_slice.ensures.value c.requires.times in
     let answer = answer_early known c.as_slice-2.result.now runs index c.args.end c.args.time
-    c.partition_point-count.result c.in-Some.index c.read-before.result c.members_by-members.result
+    c.partition_point-count.result c.in-Some.index c.read-before.result c.run_samples_by-run_samples.result
     c.index-as_slice-index.result c.as_slice.result.now c.requires.indexed c.as_slice-2.ensures
     c.index-as_slice-index.is earliest c.partition_point-count.ensures.point c.in-Some.ensures.0 c.in-Some.ensures.1
-    (omega arith) (omega arith) c.read-before.ensures.number c.members_by-members.ensures.point in
+    (omega arith) (omega arith) c.read-before.ensures.number c.run_samples_by-run_samples.ensures.point in
     omega (arith, answer.0, answer.1.within)
 
 pub overflow_sub-result : goal.overflow_sub-result
@@ -131,10 +131,10 @@ overflow_sub-result c =
     let earliest : AreEarliest (begin_of runs c.args.end) 0 c.as_slice.result.now =
     rw c.as_slice.ensures.value c.requires.times in
     let answer = answer_early known c.as_slice-2.result.now runs index c.args.end c.args.time
-    c.partition_point-count.result c.in-Some.index c.read-before.result c.members_by-members.result
+    c.partition_point-count.result c.in-Some.index c.read-before.result c.run_samples_by-run_samples.result
     c.index-as_slice-index.result c.as_slice.result.now c.requires.indexed c.as_slice-2.ensures
     c.index-as_slice-index.is earliest c.partition_point-count.ensures.point c.in-Some.ensures.0 c.in-Some.ensures.1
-    (omega arith) (omega arith) c.read-before.ensures.number c.members_by-members.ensures.point in
+    (omega arith) (omega arith) c.read-before.ensures.number c.run_samples_by-run_samples.ensures.point in
     omega (arith, answer.0)
 
 pub returns-clause-number : goal.returns-clause-number
@@ -145,10 +145,10 @@ returns-clause-number c =
     let earliest : AreEarliest (begin_of runs c.args.end) 0 c.as_slice.result.now =
     rw c.as_slice.ensures.value c.requires.times in
     let answer = answer_early known c.as_slice-2.result.now runs index c.args.end c.args.time
-    c.partition_point-count.result c.in-Some.index c.read-before.result c.members_by-members.result
+    c.partition_point-count.result c.in-Some.index c.read-before.result c.run_samples_by-run_samples.result
     c.index-as_slice-index.result c.as_slice.result.now c.requires.indexed c.as_slice-2.ensures
     c.index-as_slice-index.is earliest c.partition_point-count.ensures.point c.in-Some.ensures.0 c.in-Some.ensures.1
-    (omega arith) (omega arith) c.read-before.ensures.number c.members_by-members.ensures.point in
+    (omega arith) (omega arith) c.read-before.ensures.number c.run_samples_by-run_samples.ensures.point in
     answer.1
 
 pub returns-clause-few : goal.returns-clause-few
@@ -164,5 +164,5 @@ returns-clause-few c =
       many,
       c.partition_point-count.ensures.few,
       c.read-before.ensures.counted,
-      c.members_by-members.ensures.few,
+      c.run_samples_by-run_samples.ensures.few,
     )

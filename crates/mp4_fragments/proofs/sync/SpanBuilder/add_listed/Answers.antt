@@ -3,7 +3,7 @@ use Rattle.mp4_fragments.proofs.sync.SpanBuilder.add_listed.Goals as goal
 
 pub loop-j-init : goal.loop-j-init
 loop-j-init c = record {
-  built = λ has built members. built;
+  built = λ has built run_samples. built;
   opened = c.requires.opened;
   count = omega (arith, c.requires.within);
   end = refl;
@@ -15,8 +15,8 @@ loop-j-preserved c =
     let l = c.loop-j in
     let first = c.args.self.now.count in
     record {
-      built = λ has built members.
-          let before = l.invariant.built has built (λ i h k inside. members i h (omega (arith, k))
+      built = λ has built run_samples.
+          let before = l.invariant.built has built (λ i h k inside. run_samples i h (omega (arith, k))
           (omega (arith, inside, c.in_ok-add.ensures.count))) in
           c.in_ok-add.ensures.built has before (λ n h k.
           let at : first + (l.j - 1) ≡ n = omega (
@@ -27,7 +27,7 @@ loop-j-preserved c =
             l.invariant.count,
             l.invariant.end,
           ) in
-          rw at at (members l.j (omega arith) (omega arith) (omega (arith, at, k))) ∙ sym c.is_sync.ensures);
+          rw at at (run_samples l.j (omega arith) (omega arith) (omega (arith, at, k))) ∙ sym c.is_sync.ensures);
       opened = c.in_ok-add.ensures.opened;
       count = omega (arith, c.in_ok-add.ensures.count, l.invariant.count, l.invariant.end);
       end = c.add.ensures.end ∙ l.invariant.end;
@@ -37,8 +37,8 @@ loop-j-preserved c =
 pub returns-clause-built : goal.returns-clause-built
 returns-clause-built c =
     let l = c.loop-j in
-    λ has built members. l.invariant.built has built
-    (λ i h k inside. members i h (omega (arith, h, k, l.invariant.last)) inside)
+    λ has built run_samples. l.invariant.built has built
+    (λ i h k inside. run_samples i h (omega (arith, h, k, l.invariant.last)) inside)
 
 pub returns-clause-count : goal.returns-clause-count
 returns-clause-count c =

@@ -1,6 +1,6 @@
 use Rattle.std.proofs.Common.{◌≡◌, ℕ, ◌+◌, ◌-◌, ◌<◌, ◌≤◌, min, max, Bool}
 use Rattle.std.specs.Prelude.{IfSome}
-use Rattle.mp4_fragments.specs.Members.{is_sync_in}
+use Rattle.mp4_fragments.specs.RunSamples.{is_sync_in}
 use Rattle.mp4_fragments.specs.Sync.{AreBuilt}
 use Rattle.mp4_fragments.proofs.sync.SpanBuilder.add_listed.Given as goal
 

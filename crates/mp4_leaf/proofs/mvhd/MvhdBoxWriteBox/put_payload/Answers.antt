@@ -5,7 +5,7 @@ use Rattle.mp4_leaf.proofs.mvhd.MvhdBoxWriteBox.put_payload.Goals as goal
 pub returns : goal.returns
 unfolding mvhd_payload
 returns c =
-    (rw (← c.stamp.ensures) c.in_ok-put_stamp.ensures)
+    (rw (← c.header_times.ensures) c.in_ok-put_header_times.ensures)
     then c.in_ok-put_u32.ensures
     then c.in_ok-put_versioned.ensures
     then c.in_ok-put_u32-2.ensures

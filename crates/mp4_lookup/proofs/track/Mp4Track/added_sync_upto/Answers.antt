@@ -1,5 +1,5 @@
 use Rattle.std.proofs.Common.{◌-◌, ◌^◌, length, arith}
-use Rattle.mp4_fragments.specs.Members.{all_members}
+use Rattle.mp4_fragments.specs.RunSamples.{all_run_samples}
 use Rattle.mp4_fragments.specs.Sync.{sync_at}
 use Rattle.mp4_search.proofs.Digits.{digits_grow}
 use Rattle.mp4_samples.specs.Tables.{tables_of}
@@ -28,7 +28,7 @@ returns-in-None-clause-few c =
     omega (
       arith,
       c.last_upto.ensures.few,
-      digits_grow (length t.seek.sync.firsts.items) (length (all_members (track_runs t))) t.sought.few,
+      digits_grow (length t.seek.sync.firsts.items) (length (all_run_samples (track_runs t))) t.sought.few,
     )
 
 pub returns-in-Some-clause-some : goal.returns-in-Some-clause-some
@@ -45,5 +45,5 @@ returns-in-Some-clause-few c =
     omega (
       arith,
       c.last_upto.ensures.few,
-      digits_grow (length t.seek.sync.firsts.items) (length (all_members (track_runs t))) t.sought.few,
+      digits_grow (length t.seek.sync.firsts.items) (length (all_run_samples (track_runs t))) t.sought.few,
     )

@@ -1,6 +1,6 @@
 use Rattle.std.proofs.Common.{◌≡◌, ◌-◌, ◌<◌, length, true≢false, sym, ◌∙◌}
 use Rattle.mp4_samples.specs.Tables.{tables_of}
-use Rattle.mp4_lookup.specs.Costs.{AreCounts, AreMemberCounts, AreTrackCounts}
+use Rattle.mp4_lookup.specs.Costs.{AreCounts, AreRunSampleCounts, AreTrackCounts}
 use Rattle.mp4_lookup.specs.TrackRuns.{track_runs}
 use Rattle.mp4_lookup.proofs.Counts.{of_place, of_place_by}
 use Rattle.mp4_lookup.proofs.track.Mp4Track.answer.Goals as goal
@@ -24,7 +24,7 @@ returns-else-is_of_movie-clause-counted g c =
     let counts = g.S.Search.Counts in
     let looks = g.S.Search.looks in
     let added = sym c.is_of_movie.ensures.value ∙ c.if-is_of_movie.false in
-    of_place (λ p. AreMemberCounts counts t.runs (k - (tables_of t.trak).stsz.sample_count - 1) p.comparisons)
+    of_place (λ p. AreRunSampleCounts counts t.runs (k - (tables_of t.trak).stsz.sample_count - 1) p.comparisons)
     (λ p. AreTrackCounts counts looks t k p.comparisons) c.added_at.result
     (λ p a. record { tables = λ yes. absurd (true≢false (sym yes ∙ added)); added = λ _. a })
     c.added_at.ensures.counted

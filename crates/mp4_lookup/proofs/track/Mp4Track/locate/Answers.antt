@@ -1,10 +1,10 @@
 use Rattle.std.proofs.Common.{◌≡◌, ◌<◌, length, arith}
 use Rattle.mp4_search.specs.Search.{IsCountByHalves}
 use Rattle.mp4_samples.specs.Tables.{tables_of}
-use Rattle.mp4_lookup.specs.Costs.{AreFew, AreFewForMember, AreTrackCounts, comparisons_of}
+use Rattle.mp4_lookup.specs.Costs.{AreFew, AreFewForRunSample, AreTrackCounts, comparisons_of}
 use Rattle.mp4_lookup.proofs.TrackLaws.{answer_is_plain}
 use Rattle.mp4_lookup.specs.TrackRuns.{track_runs}
-use Rattle.mp4_lookup.proofs.Counts.{counted_of, few_at, few_for_member, of_place, of_place_by}
+use Rattle.mp4_lookup.proofs.Counts.{counted_of, few_at, few_for_run_sample, of_place, of_place_by}
 use Rattle.mp4_lookup.proofs.track.Mp4Track.locate.Goals as goal
 
 pub returns-clause-plain : goal.returns-clause-plain
@@ -36,7 +36,7 @@ returns-clause-added c = λ added.
     let k = c.args.k in
     of_place_by (λ p. AreTrackCounts IsCountByHalves (λ bits n. 0) t k p.comparisons)
     (λ p. (0 < length (track_runs t)) × (p.size_reads ≡ 0))
-    (λ p. AreFewForMember (track_runs t) p.comparisons × (p.size_reads ≡ 0))
+    (λ p. AreFewForRunSample (track_runs t) p.comparisons × (p.size_reads ≡ 0))
     c.answer.result
-    (λ p a b. (few_for_member _ (track_runs t) t.runs _ p.comparisons t.placed (a.added added) b.0, b.1))
+    (λ p a b. (few_for_run_sample _ (track_runs t) t.runs _ p.comparisons t.placed (a.added added) b.0, b.1))
     c.answer.ensures.counted (c.answer.ensures.added added)

@@ -2,10 +2,10 @@ use Rattle.std.proofs.Common.{◌≡◌, ◌<◌, length, arith}
 use Rattle.mp4_search.specs.Search.{IsCountByGuess}
 use Rattle.mp4_search.specs.BitSet.{looks_at_bit}
 use Rattle.mp4_samples.specs.Tables.{tables_of}
-use Rattle.mp4_lookup.specs.Costs.{AreFewByGuess, AreFewForMemberByGuess, AreTrackCounts}
+use Rattle.mp4_lookup.specs.Costs.{AreFewByGuess, AreFewForRunSampleByGuess, AreTrackCounts}
 use Rattle.mp4_lookup.proofs.TrackLaws.{answer_is_plain}
 use Rattle.mp4_lookup.specs.TrackRuns.{track_runs}
-use Rattle.mp4_lookup.proofs.Counts.{few_by_guess_at, few_for_member_by_guess, of_place, of_place_by}
+use Rattle.mp4_lookup.proofs.Counts.{few_by_guess_at, few_for_run_sample_by_guess, of_place, of_place_by}
 use Rattle.mp4_lookup.proofs.track.Mp4Track.locate_by_guess.Goals as goal
 
 pub returns-clause-plain : goal.returns-clause-plain
@@ -29,7 +29,7 @@ returns-clause-added c = λ added.
     let k = c.args.k in
     of_place_by (λ p. AreTrackCounts IsCountByGuess (looks_at_bit) t k p.comparisons)
     (λ p. (0 < length (track_runs t)) × (p.size_reads ≡ 0))
-    (λ p. AreFewForMemberByGuess (track_runs t) p.comparisons × (p.size_reads ≡ 0))
+    (λ p. AreFewForRunSampleByGuess (track_runs t) p.comparisons × (p.size_reads ≡ 0))
     c.answer.result
-    (λ p a b. (few_for_member_by_guess _ (track_runs t) t.runs _ p.comparisons t.placed (a.added added) b.0, b.1))
+    (λ p a b. (few_for_run_sample_by_guess _ (track_runs t) t.runs _ p.comparisons t.placed (a.added added) b.0, b.1))
     c.answer.ensures.counted (c.answer.ensures.added added)

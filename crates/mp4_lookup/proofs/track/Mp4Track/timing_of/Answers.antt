@@ -18,20 +18,20 @@ pub returns-in_default-clause-begin : goal.returns-in_default-clause-begin
 returns-in_default-clause-begin c =
     let t = c.args.self.now in
     sym (no_timing (tables_of t.trak) (track_runs t) c.args.k (omega (arith, c.if-k-count.false))
-    (sym (rw c.as_slice-trafs.ensures at c.in_default.ensures.member)))
+    (sym (rw c.as_slice-trafs.ensures at c.in_default.ensures.run_sample)))
 
 pub returns-clause-begin : goal.returns-clause-begin
 returns-clause-begin c =
     let t = c.args.self.now in
-    let told = added_timing (tables_of t.trak) (track_runs t) c.args.k c.in-Some.member
+    let told = added_timing (tables_of t.trak) (track_runs t) c.args.k c.in-Some.run_sample
     (omega (arith, c.if-k-count.false))
-    (sym (rw c.as_slice-trafs.ensures at c.in-Some.ensures.member)) in
-    c.timing_of_member.ensures.begin ∙ sym told.0
+    (sym (rw c.as_slice-trafs.ensures at c.in-Some.ensures.run_sample)) in
+    c.timing_of_run_sample.ensures.begin ∙ sym told.0
 
 pub returns-clause-duration : goal.returns-clause-duration
 returns-clause-duration c =
     let t = c.args.self.now in
-    let told = added_timing (tables_of t.trak) (track_runs t) c.args.k c.in-Some.member
+    let told = added_timing (tables_of t.trak) (track_runs t) c.args.k c.in-Some.run_sample
     (omega (arith, c.if-k-count.false))
-    (sym (rw c.as_slice-trafs.ensures at c.in-Some.ensures.member)) in
-    rw told.1 c.timing_of_member.ensures.duration
+    (sym (rw c.as_slice-trafs.ensures at c.in-Some.ensures.run_sample)) in
+    rw told.1 c.timing_of_run_sample.ensures.duration

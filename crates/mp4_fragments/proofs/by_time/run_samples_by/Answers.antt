@@ -1,15 +1,15 @@
 use Rattle.std.proofs.Common.{arith}
 use Rattle.mp4_fragments.proofs.Decoding.{digits_32}
 use Rattle.mp4_fragments.specs.Index.{run_at}
-use Rattle.mp4_fragments.proofs.Decoding.{members_parted, placed_here, placed_is, placed_nowhere}
-use Rattle.mp4_fragments.proofs.by_time.members_by.Goals as goal
+use Rattle.mp4_fragments.proofs.Decoding.{run_samples_parted, placed_here, placed_is, placed_nowhere}
+use Rattle.mp4_fragments.proofs.by_time.run_samples_by.Goals as goal
 
 pub returns-in_default-clause-point : goal.returns-in_default-clause-point
 returns-in_default-clause-point c = λ p there.
     absurd (placed_nowhere (run_at c.args.trafs.now c.args.track) c.args.entry.now p c.in_default.ensures there)
 
-pub invariant_of-members : goal.invariant_of-members
-invariant_of-members c = record {
+pub invariant_of-run_samples : goal.invariant_of-run_samples
+invariant_of-run_samples c = record {
   right = rw c.as_slice.ensures (c.requires.right.checks _ (placed_here (run_at c.args.trafs.now c.args.track)
       c.args.entry.now c.in-Some.run'.now c.in-Some.defaults c.in-Some.ensures));
   counted = omega arith;
@@ -17,7 +17,7 @@ invariant_of-members c = record {
 
 pub partition_point-requires-clause-parted : goal.partition_point-requires-clause-parted
 partition_point-requires-clause-parted c =
-    members_parted c.in-Some.run'.now c.in-Some.defaults c.args.entry.now.at c.args.time c.min-n.result
+    run_samples_parted c.in-Some.run'.now c.in-Some.defaults c.args.entry.now.at c.args.time c.min-n.result
 
 pub returns-clause-point : goal.returns-clause-point
 returns-clause-point c = λ p there.

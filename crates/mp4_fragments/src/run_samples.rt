@@ -1,8 +1,8 @@
-//! The members of a run.
+//! The samples of a run.
 
 ghost use Rattle.mp4_codec.specs.ExactTest.{by_test, field_tests};
 ghost use Rattle.std.specs.Prelude.{◌≡◌};
-ghost use Rattle.mp4_fragments.specs.Members.{at_member, member_of, flags_of, is_sync_in};
+ghost use Rattle.mp4_fragments.specs.RunSamples.{at_run_sample, run_sample_of, flags_of, is_sync_in};
 
 use crate::defaults::SampleDefaults;
 use crate::values::value_at;
@@ -12,25 +12,25 @@ use mp4_frag::TrunBox;
 /// The flag of a sample that can't be decoded without those before it (ISO/IEC 14496-12, 8.8.3.1).
 pub(crate) const IS_NO_SYNC_SAMPLE: u32 = 0x10000;
 
-/// Where a member of a run begins: the place of its first byte in the file, and its decoding time in ticks of the track's
-/// timescale. None is a number below 0 or past 64 bits, or one that rests on such a number.
+/// Where a sample of a run begins: the place of its first byte in the file, and its decoding time in ticks of the
+/// track's timescale. None is a number below 0 or past 64 bits, or one that rests on such a number.
 #[derive(Clone, Copy, Debug, PartialEq, Eq)]
-pub struct Beginning {
+pub struct RunStart {
     pub place: Option<u64>,
     pub time: Option<u64>,
 }
 
-impl ExactEq for Beginning {
+impl ExactEq for RunStart {
     ghost exact = { by_test (Prim.hlevel field_tests) };
 }
 
-impl DebugItem for Beginning {}
+impl DebugItem for RunStart {}
 
-/// A member of a run: a sample that a fragment adds to a track.
+/// A sample of a run: a sample that a fragment adds to a track.
 #[derive(Clone, Copy, Debug, PartialEq, Eq)]
-pub struct Member {
+pub struct RunSample {
     /// Where and when it begins.
-    pub at: Beginning,
+    pub at: RunStart,
     /// How many bytes it has.
     pub size: u32,
     /// How long it lasts, in ticks of the track's timescale.
@@ -41,11 +41,11 @@ pub struct Member {
     pub is_sync: bool,
 }
 
-impl ExactEq for Member {
+impl ExactEq for RunSample {
     ghost exact = { by_test (Prim.hlevel field_tests) };
 }
 
-/// The sample flags of member `j`.
+/// The sample flags of sample `j`.
 fn flags(run: &TrunBox, defaults: SampleDefaults, j: u32) -> u32
     ensures { result ≡ flags_of run.now defaults j }
 {
@@ -57,7 +57,7 @@ fn flags(run: &TrunBox, defaults: SampleDefaults, j: u32) -> u32
     }
 }
 
-/// Whether member `j` of a run can be decoded without the samples before it.
+/// Whether sample `j` of a run can be decoded without the samples before it.
 #[inline(always)]
 pub(crate) fn is_sync(run: &TrunBox, defaults: SampleDefaults, j: u32) -> bool
     ensures { result ≡ is_sync_in run.now defaults j }
@@ -65,19 +65,19 @@ pub(crate) fn is_sync(run: &TrunBox, defaults: SampleDefaults, j: u32) -> bool
     flags(run, defaults, j) & IS_NO_SYNC_SAMPLE == 0
 }
 
-/// Member `j` of a run, by its index, which counts from 0, where it begins there.
+/// Sample `j` of a run, by its index, which counts from 0, where it begins there.
 #[inline(always)]
-#[tactic(auto, unfolding(crate::specs::Members::member_of))]
-pub(crate) fn member_beginning(
+#[tactic(auto, unfolding(crate::specs::RunSamples::run_sample_of))]
+pub(crate) fn run_sample_run_start(
     run: &TrunBox,
     defaults: SampleDefaults,
-    at: Beginning,
+    at: RunStart,
     j: u32,
-) -> Member
-    ensures { (first : Beginning) → at ≡ at_member run.now defaults first j
-        → result ≡ member_of (record { at = first; run = run.now; defaults = defaults }) j }
+) -> RunSample
+    ensures { (first : RunStart) → at ≡ at_run_sample run.now defaults first j
+        → result ≡ run_sample_of (record { at = first; run = run.now; defaults = defaults }) j }
 {
-    Member {
+    RunSample {
         at,
         size: value_at(run.sample_sizes.as_slice(), defaults.size, j),
         duration: value_at(run.sample_durations.as_slice(), defaults.duration, j),

@@ -1,19 +1,19 @@
-//! Where and when members of a run begin.
+//! Where and when samples of a run begin.
 
 ghost use Rattle.std.specs.Prelude.{◌≡◌, ℕ, ℤ, ◌+◌, ◌-◌, ◌*◌, ◌/◌, ◌<◌, ◌≤◌, length, IfOk};
 ghost use Rattle.mp4_fragments.specs.Numbers.{plus, moved};
 ghost use Rattle.mp4_fragments.specs.Bases.{data_begins};
-ghost use Rattle.mp4_fragments.specs.Members.{at_member};
+ghost use Rattle.mp4_fragments.specs.RunSamples.{at_run_sample};
 ghost use Rattle.mp4_fragments.specs.Checkpoints.{AreCheckpoints};
 
 use crate::defaults::SampleDefaults;
-use crate::members::Beginning;
+use crate::run_samples::RunStart;
 use crate::values::{sum_between, sum_of};
 use mp4_codec::Items;
 use mp4_frag::TrunBox;
 use std::alloc::{AllocError, Global};
 
-/// How many members lie between two checkpoints of a run.
+/// How many samples lie between two checkpoints of a run.
 const BETWEEN_CHECKPOINTS: u32 = 64;
 
 /// So far on.
@@ -40,18 +40,18 @@ pub(crate) fn data_begin(base: Option<u64>, offset: Option<i32>, before: Option<
     }
 }
 
-/// Where member `j` of a run begins, by its index, which counts from 0, if the first begins at `first`.
-#[tactic(auto, unfolding(crate::specs::Members::at_member))]
-pub(crate) fn at_member(
+/// Where sample `j` of a run begins, by its index, which counts from 0, if the first begins at `first`.
+#[tactic(auto, unfolding(crate::specs::RunSamples::at_run_sample))]
+pub(crate) fn at_run_sample(
     run: &TrunBox,
     defaults: SampleDefaults,
-    first: Beginning,
+    first: RunStart,
     j: u32,
-) -> Beginning
-    ensures { result ≡ at_member run.now defaults first j }
+) -> RunStart
+    ensures { result ≡ at_run_sample run.now defaults first j }
 {
     let durations = run.sample_durations.as_slice();
-    Beginning {
+    RunStart {
         place: add(
             first.place,
             sum_of(run.sample_sizes.as_slice(), defaults.size, j),
@@ -60,33 +60,33 @@ pub(crate) fn at_member(
     }
 }
 
-/// Where member `to` of a run begins, from where member `from` does.
-pub(crate) fn at_later_member(
+/// Where sample `to` of a run begins, from where sample `from` does.
+pub(crate) fn at_later_run_sample(
     run: &TrunBox,
     defaults: SampleDefaults,
-    at: Beginning,
+    at: RunStart,
     from: u32,
     to: u32,
-) -> Beginning
+) -> RunStart
     requires { from ≤ to }
-    ensures { (first : Beginning) → at ≡ at_member run.now defaults first from → result ≡ at_member run.now defaults first to }
+    ensures { (first : RunStart) → at ≡ at_run_sample run.now defaults first from → result ≡ at_run_sample run.now defaults first to }
 {
     let sizes = run.sample_sizes.as_slice();
     let durations = run.sample_durations.as_slice();
-    Beginning {
+    RunStart {
         place: add(at.place, sum_between(sizes, defaults.size, from, to)),
         time: add(at.time, sum_between(durations, defaults.duration, from, to)),
     }
 }
 
-/// Where every 64th member of a run with listed sizes or durations begins, from the 64th on, in a list that
+/// Where every 64th sample of a run with listed sizes or durations begins, from the 64th on, in a list that
 /// grows once.
 pub(crate) fn checkpoints(
     alloc: Global,
     run: &TrunBox,
     defaults: SampleDefaults,
-    first: Beginning,
-) -> Result<Items<Beginning>, AllocError>
+    first: RunStart,
+) -> Result<Items<RunStart>, AllocError>
     ensures right { IfOk result (λ checks. AreCheckpoints run.now defaults first checks) }
     ensures every { IfOk result (λ checks. 0 < length run.now.sample_sizes + length run.now.sample_durations → length checks ≡ run.now.sample_count / 64) }
 {
@@ -98,34 +98,34 @@ pub(crate) fn checkpoints(
         return Ok(Items::new(alloc));
     }
     let mut checks = Items::with_capacity(alloc, count as usize)?;
-    let mut at = at_member(run, defaults, first, BETWEEN_CHECKPOINTS);
+    let mut at = at_run_sample(run, defaults, first, BETWEEN_CHECKPOINTS);
     checks.push(at)?;
     for q in 1..count {
         let from = BETWEEN_CHECKPOINTS * q;
-        at = at_later_member(run, defaults, at, from, from + BETWEEN_CHECKPOINTS);
+        at = at_later_run_sample(run, defaults, at, from, from + BETWEEN_CHECKPOINTS);
         checks.push(at)?;
     }
     Ok(checks)
 }
 
-/// Where member `j` of a run begins, from the last checkpoint that isn't behind it; the first begins at `first`. It is
-/// inlined, since each look-up of a member asks for it.
+/// Where sample `j` of a run begins, from the last checkpoint that isn't behind it; the first begins at `first`. It is
+/// inlined, since each look-up of a sample asks for it.
 #[inline(always)]
 pub(crate) fn at_by_checkpoints(
     run: &TrunBox,
     defaults: SampleDefaults,
-    first: Beginning,
-    checks: &[Beginning],
+    first: RunStart,
+    checks: &[RunStart],
     j: u32,
-) -> Beginning
+) -> RunStart
     requires { AreCheckpoints run.now defaults first checks.now }
-    ensures { result ≡ at_member run.now defaults first j }
+    ensures { result ≡ at_run_sample run.now defaults first j }
 {
     let q = j / BETWEEN_CHECKPOINTS;
     if 0 < q && q as usize <= checks.len() {
         let at = checks[q as usize - 1];
-        at_later_member(run, defaults, at, BETWEEN_CHECKPOINTS * q, j)
+        at_later_run_sample(run, defaults, at, BETWEEN_CHECKPOINTS * q, j)
     } else {
-        at_member(run, defaults, first, j)
+        at_run_sample(run, defaults, first, j)
     }
 }
