@@ -18,9 +18,9 @@ use mp4_leaf::{
 };
 use mp4_meta::{IlstBox, IlstItemBox, MetaBox, MetadataKey, UdtaBox};
 use mp4_moof::{MoofBox, MvexBox, TrafBox};
+use mp4_plain_movies::encoded::read_bytes;
 use mp4_plain_movies::equality::{are_apart, compares_each, tells_each};
 use mp4_plain_movies::movie_bytes::{FRAGMENT, FULL_MOVIE};
-use mp4_plain_movies::encoded::read_bytes;
 use mp4_samples::{Comparisons, SamplePlace};
 use mp4_table::{
     Co64Box, CttsBox, CttsEntry, StcoBox, StscBox, StscEntry, StssBox, StszBox, SttsBox, SttsEntry,

@@ -2,7 +2,7 @@
 
 use mp4_boxes::read_tables_have_first_samples;
 use mp4_codec::{
-    code_again, box_has_its_header, header_says_its_box, insertion_changes_one_key,
+    box_has_its_header, code_again, header_says_its_box, insertion_changes_one_key,
     payload_has_its_children, refused_head_says_why, what_is_written_reads_back,
 };
 use mp4_meta::{MetadataKey, equal_keys_hash_alike};

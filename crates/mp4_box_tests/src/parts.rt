@@ -9,8 +9,8 @@ use mp4_entry::{
     DecoderConfigDescriptor, DecoderSpecificDescriptor, ESDescriptor, SLConfigDescriptor,
 };
 use mp4_leaf::{DataType, ElstEntry, Matrix, RgbColor};
-use mp4_plain_movies::sides::Side;
 use mp4_plain_movies::encoded::prints;
+use mp4_plain_movies::sides::Side;
 use mp4_table::{CttsEntry, StscEntry, SttsEntry};
 use std::alloc::Global;
 use std::collections::HashMap;

@@ -12,8 +12,8 @@ use mp4_leaf::{
 };
 use mp4_meta::{IlstBox, IlstItemBox, MetaBox, MetadataKey, UdtaBox};
 use mp4_moof::{MoofBox, MvexBox, TrafBox};
-use mp4_plain_movies::random::Random;
 use mp4_plain_movies::encoded::{read_bytes, written};
+use mp4_plain_movies::random::Random;
 use mp4_table::{
     Co64Box, CttsBox, CttsEntry, StcoBox, StscBox, StscEntry, StssBox, StszBox, SttsBox, SttsEntry,
 };

@@ -23,10 +23,10 @@ use mp4_leaf::{
 };
 use mp4_meta::{IlstBox, IlstItemBox, MetaBox, Metadata};
 use mp4_moof::{MoofBox, MvexBox, TrafBox};
+use mp4_plain_movies::encoded::{both, read_bytes};
 use mp4_plain_movies::movie_bytes::{EMPTY_MOVIE, FRAGMENT, FULL_MOVIE};
 use mp4_plain_movies::sample_boxes::Number;
 use mp4_plain_movies::sides::Side;
-use mp4_plain_movies::encoded::{both, read_bytes};
 use mp4_table::{Co64Box, CttsBox, StcoBox, StscBox, StssBox, StszBox, SttsBox};
 use std::alloc::Global;
 

@@ -16,7 +16,8 @@ use Rattle.mp4_boxes.specs.declared.edts.EdtsBox.{EdtsBox}
 use Rattle.mp4_boxes.specs.LeafKinds.{encodable_elst}
 use Rattle.mp4_boxes.specs.Edts.{edts_of, edts_payload, edts_refusal, IsInRangeEdts, IsWellFormedEdts, IsCanonicalEdts}
 
-again : (o : Option ElstBox) → IfSome o IsInRangeElst → IfSome o IsWellFormedElst → optional_refusal elst_refusal o ≡ None
+again : (o : Option ElstBox) → IfSome o IsInRangeElst → IfSome o IsWellFormedElst
+    → optional_refusal elst_refusal o ≡ None
     → length (optional elst elst_payload o) < 2 ^ 32
     → edts_of (optional elst elst_payload o) ≡ Ok (record { elst = o })
 unfolding edts_of

@@ -19,7 +19,11 @@ mdia_fault c = fault_in mdhd mdhd_of c or (fault_in hdlr hdlr_of c or fault_in m
 
 -- what is taken of the children: the last of each type
 unfoldable pub mdia_taken : List ChildBox → MdiaParts
-mdia_taken cs = record { mdhd = last_of mdhd mdhd_of cs; hdlr = last_of hdlr hdlr_of cs; minf = last_of minf minf_of cs }
+mdia_taken cs = record {
+  mdhd = last_of mdhd mdhd_of cs;
+  hdlr = last_of hdlr hdlr_of cs;
+  minf = last_of minf minf_of cs;
+}
 
 -- the same with one child more
 unfoldable pub mdia_added : MdiaParts → ChildBox → Result MdiaParts Cause

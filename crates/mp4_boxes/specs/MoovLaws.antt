@@ -1,5 +1,6 @@
 -- The movie is read as it was written.
-use Rattle.std.proofs.Common.{◌≡◌, ℕ, ◌^◌, ◌<◌, List, [], ◌∷◌, ◌++◌, length, Option, Some, None, Ok, refl, ap, subst, ◌∙◌}
+use Rattle.std.proofs.Common.{◌≡◌, ℕ, ◌^◌, ◌<◌, List, [], ◌∷◌, ◌++◌, length, Option, Some, None, Ok, refl, ap, subst}
+use Rattle.std.proofs.Common.{◌∙◌}
 use Rattle.std.proofs.Common.{arith}
 use Rattle.std.specs.List.{AllByRecursion}
 use Rattle.std.specs.Option.{option_to_list}
@@ -72,7 +73,8 @@ parts b f =
     let behind_mvex = optional meta meta_payload b.meta ⧺ behind_meta in
     let behind_trak = optional mvex mvex_payload b.mvex ⧺ behind_mvex in
     let behind_mvhd = all_box_bytes trak trak_payload b.traks ⧺ behind_trak in
-    let mvhd_fits = both_fit (box_bytes mvhd (mvhd_payload b.mvhd)) behind_mvhd (2 ^ 32) (omega (arith, written.small)) in
+    let mvhd_fits = both_fit (box_bytes mvhd (mvhd_payload b.mvhd)) behind_mvhd (2 ^ 32)
+    (omega (arith, written.small)) in
     let trak_fits = both_fit (all_box_bytes trak trak_payload b.traks) behind_trak (2 ^ 32) mvhd_fits.1 in
     let mvex_fits = both_fit (optional mvex mvex_payload b.mvex) behind_mvex (2 ^ 32) trak_fits.1 in
     let meta_fits = both_fit (optional meta meta_payload b.meta) behind_meta (2 ^ 32) mvex_fits.1 in

@@ -1,6 +1,8 @@
 -- The tables of a track's samples, as kinds of boxes that containers hold.
 use Rattle.std.proofs.Common.{refl, lit<}
-use Rattle.mp4_codec.specs.declared.box_type.BoxType.TheVariants.{StsdBox as stsd, SttsBox as stts, CttsBox as ctts, StssBox as stss, StscBox as stsc, StszBox as stsz, StcoBox as stco, Co64Box as co64}
+use Rattle.mp4_codec.specs.declared.box_type.BoxType.TheVariants.{StsdBox as stsd, SttsBox as stts, CttsBox as ctts}
+use Rattle.mp4_codec.specs.declared.box_type.BoxType.TheVariants.{StssBox as stss, StscBox as stsc, StszBox as stsz}
+use Rattle.mp4_codec.specs.declared.box_type.BoxType.TheVariants.{StcoBox as stco, Co64Box as co64}
 use Rattle.mp4_codec.specs.BoxType.{box_type}
 use Rattle.mp4_codec.specs.Boxes.{no_refusal}
 use Rattle.mp4_codec.specs.Framing.{IsEncodable}

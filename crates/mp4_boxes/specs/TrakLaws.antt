@@ -63,7 +63,8 @@ parts b f =
     let behind_meta = box_bytes mdia (mdia_payload b.mdia) in
     let behind_edts = optional meta meta_payload b.meta ⧺ behind_meta in
     let behind_tkhd = optional edts edts_payload b.edts ⧺ behind_edts in
-    let tkhd_fits = both_fit (box_bytes tkhd (tkhd_payload b.tkhd)) behind_tkhd (2 ^ 32) (omega (arith, written.small)) in
+    let tkhd_fits = both_fit (box_bytes tkhd (tkhd_payload b.tkhd)) behind_tkhd (2 ^ 32)
+    (omega (arith, written.small)) in
     let edts_fits = both_fit (optional edts edts_payload b.edts) behind_edts (2 ^ 32) tkhd_fits.1 in
     let meta_fits = both_fit (optional meta meta_payload b.meta) behind_meta (2 ^ 32) edts_fits.1 in
     let tkhd_sound = or_parts (tkhd_refusal b.tkhd) _ written.sound in

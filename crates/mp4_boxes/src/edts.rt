@@ -6,7 +6,8 @@ ghost use Rattle.std.specs.Prelude.{◌≡◌, Ok};
 ghost use Rattle.mp4_codec.specs.declared.box_type.BoxType.TheVariants.{EdtsBox as edts};
 ghost use Rattle.mp4_codec.specs.Cause.{Gives};
 ghost use Rattle.mp4_codec.specs.Boxes.{size_around};
-ghost use Rattle.mp4_boxes.specs.Edts.{edts_payload, default_edts, edts_of, edts_early, edts_refusal, IsInRangeEdts, IsWellFormedEdts};
+ghost use Rattle.mp4_boxes.specs.Edts.{edts_payload, default_edts, edts_of, edts_early, edts_refusal, IsInRangeEdts};
+ghost use Rattle.mp4_boxes.specs.Edts.{IsWellFormedEdts};
 ghost use Rattle.mp4_boxes.specs.EdtsLaws.{edts_again};
 
 use mp4_codec::{

@@ -21,7 +21,10 @@ ghost use Rattle.mp4_boxes.specs.Moov.{moov_of};
 pub fn read_tables_have_first_samples()
     ensures stbl { (payload : List ℕ) (b : StblBox) → stbl_of payload ≡ Ok b → HasFirstSamples b.stsc.entries }
     ensures minf { (payload : List ℕ) (b : MinfBox) → minf_of payload ≡ Ok b → HasFirstSamples b.stbl.stsc.entries }
-    ensures mdia { (payload : List ℕ) (b : MdiaBox) → mdia_of payload ≡ Ok b → HasFirstSamples b.minf.stbl.stsc.entries }
-    ensures trak { (payload : List ℕ) (b : TrakBox) → trak_of payload ≡ Ok b → HasFirstSamples b.mdia.minf.stbl.stsc.entries }
-    ensures moov { (payload : List ℕ) (b : MoovBox) → moov_of payload ≡ Ok b → AllByRecursion (λ (t : TrakBox). HasFirstSamples t.mdia.minf.stbl.stsc.entries) b.traks }
+    ensures mdia { (payload : List ℕ) (b : MdiaBox) → mdia_of payload ≡ Ok b
+        → HasFirstSamples b.minf.stbl.stsc.entries }
+    ensures trak { (payload : List ℕ) (b : TrakBox) → trak_of payload ≡ Ok b
+        → HasFirstSamples b.mdia.minf.stbl.stsc.entries }
+    ensures moov { (payload : List ℕ) (b : MoovBox) → moov_of payload ≡ Ok b
+        → AllByRecursion (λ (t : TrakBox). HasFirstSamples t.mdia.minf.stbl.stsc.entries) b.traks }
 {}

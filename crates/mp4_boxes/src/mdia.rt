@@ -8,7 +8,8 @@ ghost use Rattle.std.specs.Prelude.{◌≡◌, Ok};
 ghost use Rattle.mp4_codec.specs.declared.box_type.BoxType.TheVariants.{MdiaBox as mdia};
 ghost use Rattle.mp4_codec.specs.Cause.{Answers};
 ghost use Rattle.mp4_codec.specs.Boxes.{size_around};
-ghost use Rattle.mp4_boxes.specs.Mdia.{mdia_payload, default_mdia, mdia_fault, mdia_child_early, mdia_taken, mdia_added, mdia_of, mdia_early, mdia_refusal, IsInRangeMdia, IsWellFormedMdia};
+ghost use Rattle.mp4_boxes.specs.Mdia.{mdia_payload, default_mdia, mdia_fault, mdia_child_early, mdia_taken};
+ghost use Rattle.mp4_boxes.specs.Mdia.{mdia_added, mdia_of, mdia_early, mdia_refusal, IsInRangeMdia, IsWellFormedMdia};
 ghost use Rattle.mp4_boxes.specs.MdiaLaws.{mdia_adds, mdia_again};
 
 use crate::minf::MinfBox;
@@ -36,7 +37,8 @@ pub struct MdiaBox {
 }
 
 impl ExactEq for MdiaBox {
-    ghost exact = { by_test (Prim.hlevel (field_tests, by_law mdhd_laws.exact, by_law hdlr_laws.exact, by_law minf_laws.exact)) };
+    ghost exact = { by_test (Prim.hlevel
+        (field_tests, by_law mdhd_laws.exact, by_law hdlr_laws.exact, by_law minf_laws.exact)) };
 }
 
 impl MdiaBox {

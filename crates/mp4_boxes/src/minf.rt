@@ -9,7 +9,8 @@ ghost use Rattle.std.specs.Prelude.{◌≡◌, Ok};
 ghost use Rattle.mp4_codec.specs.declared.box_type.BoxType.TheVariants.{MinfBox as minf};
 ghost use Rattle.mp4_codec.specs.Cause.{Gives};
 ghost use Rattle.mp4_codec.specs.Boxes.{size_around};
-ghost use Rattle.mp4_boxes.specs.Minf.{minf_payload, default_minf, minf_fault, minf_child_early, minf_taken, minf_added, minf_of, minf_early, minf_refusal, IsInRangeMinf, IsWellFormedMinf};
+ghost use Rattle.mp4_boxes.specs.Minf.{minf_payload, default_minf, minf_fault, minf_child_early, minf_taken};
+ghost use Rattle.mp4_boxes.specs.Minf.{minf_added, minf_of, minf_early, minf_refusal, IsInRangeMinf, IsWellFormedMinf};
 ghost use Rattle.mp4_boxes.specs.MinfLaws.{minf_adds, minf_again};
 
 use crate::parts::required_two;
@@ -39,7 +40,13 @@ pub struct MinfBox {
 }
 
 impl ExactEq for MinfBox {
-    ghost exact = { by_test (Prim.hlevel (field_tests, by_law vmhd_laws.exact, by_law smhd_laws.exact, by_law dinf_laws.exact, by_law stbl_laws.exact)) };
+    ghost exact = { by_test (Prim.hlevel (
+      field_tests,
+      by_law vmhd_laws.exact,
+      by_law smhd_laws.exact,
+      by_law dinf_laws.exact,
+      by_law stbl_laws.exact,
+    )) };
 }
 
 impl MinfBox {

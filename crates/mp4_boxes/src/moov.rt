@@ -10,7 +10,8 @@ ghost use Rattle.std.specs.Prelude.{◌≡◌, Ok};
 ghost use Rattle.mp4_codec.specs.declared.box_type.BoxType.TheVariants.{MoovBox as moov};
 ghost use Rattle.mp4_codec.specs.Cause.{Gives};
 ghost use Rattle.mp4_codec.specs.Boxes.{size_around};
-ghost use Rattle.mp4_boxes.specs.Moov.{moov_payload, default_moov, moov_fault, moov_child_early, moov_taken, moov_added, moov_of, moov_early, moov_refusal, IsInRangeMoov, IsWellFormedMoov};
+ghost use Rattle.mp4_boxes.specs.Moov.{moov_payload, default_moov, moov_fault, moov_child_early, moov_taken};
+ghost use Rattle.mp4_boxes.specs.Moov.{moov_added, moov_of, moov_early, moov_refusal, IsInRangeMoov, IsWellFormedMoov};
 ghost use Rattle.mp4_boxes.specs.MoovLaws.{moov_adds, moov_again};
 
 use crate::trak::TrakBox;
@@ -44,7 +45,14 @@ pub struct MoovBox {
 }
 
 impl ExactEq for MoovBox {
-    ghost exact = { by_test (Prim.hlevel (field_tests, by_law mvhd_laws.exact, by_law trak_laws.exact, by_law mvex_laws.exact, by_law meta_laws.exact, by_law udta_laws.exact)) };
+    ghost exact = { by_test (Prim.hlevel (
+      field_tests,
+      by_law mvhd_laws.exact,
+      by_law trak_laws.exact,
+      by_law mvex_laws.exact,
+      by_law meta_laws.exact,
+      by_law udta_laws.exact,
+    )) };
 }
 
 impl MoovBox {

@@ -13,7 +13,9 @@ ghost use Rattle.std.specs.Prelude.{◌≡◌, Ok};
 ghost use Rattle.mp4_codec.specs.declared.box_type.BoxType.TheVariants.{StblBox as stbl};
 ghost use Rattle.mp4_codec.specs.Cause.{Gives};
 ghost use Rattle.mp4_codec.specs.Boxes.{size_around};
-ghost use Rattle.mp4_boxes.specs.Stbl.{stbl_payload, default_stbl, stbl_fault, stbl_child_early, stbl_taken, stbl_added, stbl_of, stbl_early, stbl_refusal, needed_places, IsInRangeStbl, IsWellFormedStbl};
+ghost use Rattle.mp4_boxes.specs.Stbl.{stbl_payload, default_stbl, stbl_fault, stbl_child_early, stbl_taken};
+ghost use Rattle.mp4_boxes.specs.Stbl.{stbl_added, stbl_of, stbl_early, stbl_refusal, needed_places, IsInRangeStbl};
+ghost use Rattle.mp4_boxes.specs.Stbl.{IsWellFormedStbl};
 ghost use Rattle.mp4_boxes.specs.StblLaws.{stbl_adds, stbl_again};
 
 use crate::parts::required_four;
@@ -55,7 +57,17 @@ pub struct StblBox {
 }
 
 impl ExactEq for StblBox {
-    ghost exact = { by_test (Prim.hlevel (field_tests, by_law stsd_laws.exact, by_law stts_laws.exact, by_law ctts_laws.exact, by_law stss_laws.exact, by_law stsc_laws.exact, by_law stsz_laws.exact, by_law stco_laws.exact, by_law co64_laws.exact)) };
+    ghost exact = { by_test (Prim.hlevel (
+      field_tests,
+      by_law stsd_laws.exact,
+      by_law stts_laws.exact,
+      by_law ctts_laws.exact,
+      by_law stss_laws.exact,
+      by_law stsc_laws.exact,
+      by_law stsz_laws.exact,
+      by_law stco_laws.exact,
+      by_law co64_laws.exact,
+    )) };
 }
 
 /// Both tables of the places of chunks, of which one has to be there; `Box2NotFound(StcoBox, Co64Box)`

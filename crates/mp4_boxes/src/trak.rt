@@ -9,7 +9,8 @@ ghost use Rattle.std.specs.Prelude.{◌≡◌, Ok};
 ghost use Rattle.mp4_codec.specs.declared.box_type.BoxType.TheVariants.{TrakBox as trak};
 ghost use Rattle.mp4_codec.specs.Cause.{Answers};
 ghost use Rattle.mp4_codec.specs.Boxes.{size_around};
-ghost use Rattle.mp4_boxes.specs.Trak.{trak_payload, default_trak, trak_fault, trak_child_early, trak_taken, trak_added, trak_of, trak_early, trak_refusal, IsInRangeTrak, IsWellFormedTrak};
+ghost use Rattle.mp4_boxes.specs.Trak.{trak_payload, default_trak, trak_fault, trak_child_early, trak_taken};
+ghost use Rattle.mp4_boxes.specs.Trak.{trak_added, trak_of, trak_early, trak_refusal, IsInRangeTrak, IsWellFormedTrak};
 ghost use Rattle.mp4_boxes.specs.TrakLaws.{trak_adds, trak_again};
 
 use crate::edts::EdtsBox;
@@ -42,7 +43,13 @@ pub struct TrakBox {
 }
 
 impl ExactEq for TrakBox {
-    ghost exact = { by_test (Prim.hlevel (field_tests, by_law tkhd_laws.exact, by_law edts_laws.exact, by_law meta_laws.exact, by_law mdia_laws.exact)) };
+    ghost exact = { by_test (Prim.hlevel (
+      field_tests,
+      by_law tkhd_laws.exact,
+      by_law edts_laws.exact,
+      by_law meta_laws.exact,
+      by_law mdia_laws.exact,
+    )) };
 }
 
 impl DebugItem for TrakBox {}

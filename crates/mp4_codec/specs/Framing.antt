@@ -26,7 +26,8 @@ pub record IsEncodable (name : BoxType) : Type 0 where
 -- the bytes are a box of this type around this payload, with its size in one of its two encodings
 pub data IsBox (name : BoxType) (payload bytes : List ℕ) : Type 0 where
   short : IsEncodable name → 8 + length payload < 2 ^ 32 → bytes ≡ box_bytes name payload → IsBox name payload bytes
-  long : IsEncodable name → 16 + length payload < 2 ^ 64 → bytes ≡ long_box_bytes name payload → IsBox name payload bytes
+  long : IsEncodable name → 16 + length payload < 2 ^ 64 → bytes ≡ long_box_bytes name payload
+      → IsBox name payload bytes
 
 -- Read at this place, the header says the type and eight more than the payload's length, whatever the encoding;
 -- the payload stands behind the header, and the place behind the payload is behind the whole box.

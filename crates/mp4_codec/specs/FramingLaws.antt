@@ -182,7 +182,8 @@ long_head bytes before d name n b e hn hb named =
       place,
     ) refl
 
-pub length-long_box_bytes : (name : BoxType) (payload : List ℕ) → length (long_box_bytes name payload) ≡ 16 + length payload
+pub length-long_box_bytes : (name : BoxType) (payload : List ℕ)
+    → length (long_box_bytes name payload) ≡ 16 + length payload
 unfolding long_box_bytes
 length-long_box_bytes name payload = simp (length-then, length-number) (omega arith)
 
@@ -226,7 +227,8 @@ reads_short name payload before after s h =
     }
 
 reads_long : (name : BoxType) (payload before after : List ℕ) → IsEncodable name → 16 + length payload < 2 ^ 64
-    → ReadsAsBox name payload (long_box_bytes name payload) (before ++ (long_box_bytes name payload ++ after)) (length before)
+    → ReadsAsBox name payload (long_box_bytes name payload) (before ++ (long_box_bytes name payload ++ after))
+    (length before)
 reads_long name payload before after s h =
     let bytes : List ℕ = before ++ (long_box_bytes name payload ++ after) in
     let header : List ℕ = front 1 (code_of name) ++ number 8 (16 + length payload) in

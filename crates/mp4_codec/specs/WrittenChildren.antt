@@ -14,7 +14,8 @@ use Rattle.mp4_codec.specs.FieldLaws.{length-then, then_assoc, then_nothing, not
 use Rattle.mp4_codec.specs.Boxes.{box_bytes, optional, all_box_bytes}
 use Rattle.mp4_codec.specs.Framing.{IsEncodable, short}
 use Rattle.mp4_codec.specs.FramingLaws.{child_at-box, length-box_bytes}
-use Rattle.mp4_codec.specs.Children.{ChildBox, child_at, next_at, walk, children, all_of, last, fault_in, last_of, gathered}
+use Rattle.mp4_codec.specs.Children.{ChildBox, child_at, next_at, walk, children, all_of, last, fault_in, last_of}
+use Rattle.mp4_codec.specs.Children.{gathered}
 use Rattle.mp4_codec.specs.ChildrenLaws.{Begins, walk-begins, walk-ends}
 use Rattle.mp4_codec.specs.GatherLaws.{NoFault, first_fault-none}
 
@@ -66,7 +67,8 @@ HasBoxes-one t payload s small = record { before = λ rest others w. record { is
   where
     stepped : (rest : List ℕ) (others : List ChildBox) → Walks rest others → (n : ℕ)
         → length (box_bytes t payload ⧺ rest) ≤ n → walk n (box_bytes t payload ⧺ rest) ≡ ((t, payload) ∷ others, [])
-    stepped rest others w zero h = absurd (omega (arith, length-then (box_bytes t payload) rest, length-box_bytes t payload))
+    stepped rest others w zero h =
+        absurd (omega (arith, length-then (box_bytes t payload) rest, length-box_bytes t payload))
     stepped rest others w (suc n) h =
         let size : length (box_bytes t payload ⧺ rest) ≡ 8 + length payload + length rest =
         length-then (box_bytes t payload) rest ∙ ap (λ (k : ℕ). k + length rest) (length-box_bytes t payload) in
@@ -83,7 +85,8 @@ boxed t payload (b ∷ bs) = (t, payload b) ∷ boxed t payload bs
 pub HasBoxes-optional : {B : Type 0} (t : BoxType) (payload : B → List ℕ) (o : Option B) → IsEncodable t
     → length (optional t payload o) < 2 ^ 32 → HasBoxes (optional t payload o) (boxed t payload (option_to_list o))
 HasBoxes-optional t payload None s small = HasBoxes-none
-HasBoxes-optional t payload (Some b) s small = HasBoxes-one t (payload b) s (omega (arith, length-box_bytes t (payload b)))
+HasBoxes-optional t payload (Some b) s small =
+    HasBoxes-one t (payload b) s (omega (arith, length-box_bytes t (payload b)))
 
 joined : (a b : List ℕ) (cs ds : List ChildBox) → HasBoxes a cs → HasBoxes b ds → HasBoxes (a ++ b) (cs ++ ds)
 unfolding ◌⧺◌
@@ -95,7 +98,8 @@ HasBoxes-all t payload [] s small = HasBoxes-none
 HasBoxes-all t payload (b ∷ bs) s small =
     let whole : all_box_bytes t payload (b ∷ bs) ≡ box_bytes t (payload b) ++ all_box_bytes t payload bs =
     flat_map-cons (λ x. box_bytes t (payload x)) b bs in
-    let size : length (all_box_bytes t payload (b ∷ bs)) ≡ 8 + length (payload b) + length (all_box_bytes t payload bs) =
+    let size : length (all_box_bytes t payload (b ∷ bs)) ≡ 8 + length (payload b) + length (all_box_bytes t payload bs)
+    =
     ap length whole ∙ length-append (box_bytes t (payload b)) (all_box_bytes t payload bs)
     ∙ ap (λ (n : ℕ). n + length (all_box_bytes t payload bs)) (length-box_bytes t (payload b)) in
     let first = HasBoxes-one t (payload b) s (omega (arith, size, small)) in
@@ -146,7 +150,8 @@ pub last_child-again : {B : Type 0} (t : BoxType) (payload : B → List ℕ) (va
 unfolding last_of
 last_child-again t payload value o s small reads =
     rw (
-      children-boxes (optional t payload o) (boxed t payload (option_to_list o)) (HasBoxes-optional t payload o s small),
+      children-boxes (optional t payload o) (boxed t payload (option_to_list o))
+          (HasBoxes-optional t payload o s small),
       first_fault-none (fault_in t value) (boxed t payload (option_to_list o)) []
           (NoFault-boxed (fault_in t value) t payload (option_to_list o)
           (no_fault t payload value (option_to_list o) reads)),

@@ -19,7 +19,8 @@ use Rattle.mp4_codec.specs.Children.{ChildBox, children, gathered, value_of, all
 use Rattle.mp4_codec.specs.Children.{some_needed}
 use Rattle.mp4_codec.specs.GatherLaws.{all_of-append, NoFault, NoFault-append, first_fault-none}
 use Rattle.mp4_codec.specs.WriteLaws.{or_parts, write_cause-none}
-use Rattle.mp4_codec.specs.WrittenChildren.{HasBoxes, HasBoxes-one, HasBoxes-optional, HasBoxes-all, HasBoxes-then, boxed}
+use Rattle.mp4_codec.specs.WrittenChildren.{HasBoxes, HasBoxes-one, HasBoxes-optional, HasBoxes-all, HasBoxes-then}
+use Rattle.mp4_codec.specs.WrittenChildren.{boxed}
 use Rattle.mp4_codec.specs.WrittenChildren.{children-boxes, last-option}
 
 -- a kind of box: what is known of it by its contract
@@ -67,7 +68,8 @@ both_fit a b n small =
     (omega (arith, small, length-then a b), omega (arith, small, length-then a b))
 
 module _ {B : Type 0} (k : Kind B) where
-  one_again : (b : B) → k.IsInRange b → k.IsWellFormed b → k.refusal b ≡ None → length (box_bytes k.name (k.payload b)) < 2 ^ 32
+  one_again : (b : B) → k.IsInRange b → k.IsWellFormed b → k.refusal b ≡ None
+      → length (box_bytes k.name (k.payload b)) < 2 ^ 32
       → k.value (k.payload b) ≡ Ok b
   one_again b in_range well_formed sound small =
       let fits : 8 + length (k.payload b) < 2 ^ 32 = omega (arith, small, length-box_bytes k.name (k.payload b)) in
@@ -86,7 +88,8 @@ module _ {B : Type 0} (k : Kind B) where
   }
 
   -- a child that may be missing
-  pub optional_part : (o : Option B) → IfSome o k.IsInRange → IfSome o k.IsWellFormed → optional_refusal k.refusal o ≡ None
+  pub optional_part : (o : Option B) → IfSome o k.IsInRange → IfSome o k.IsWellFormed
+      → optional_refusal k.refusal o ≡ None
       → length (optional k.name k.payload o) < 2 ^ 32 → Part k (optional k.name k.payload o) (option_to_list o)
   optional_part o in_range well_formed sound small = record {
     boxes =
@@ -106,7 +109,8 @@ module _ {B : Type 0} (k : Kind B) where
       → Part k (all_box_bytes k.name k.payload bs) bs
   list_part bs in_range well_formed sound small = record {
     boxes =
-        as_members k.name k.payload (all_box_bytes k.name k.payload bs) bs (HasBoxes-all k.name k.payload bs k.encodable small);
+        as_members k.name k.payload (all_box_bytes k.name k.payload bs) bs
+        (HasBoxes-all k.name k.payload bs k.encodable small);
     reads = each bs in_range well_formed sound small;
   }
     where

@@ -117,5 +117,6 @@ pub trait WriteBox: Mp4Box + ReadBox + InRange + ExactEq {
     }
 
     /// What is canonical reads back equal.
-    ghost reads_back: { (x : Self) → IsCanonical Self.IsInRange IsWellFormed Self.payload refusal x → Self.value (Self.payload x) ≡ Ok x };
+    ghost reads_back: { (x : Self) → IsCanonical Self.IsInRange IsWellFormed Self.payload refusal x
+        → Self.value (Self.payload x) ≡ Ok x };
 }

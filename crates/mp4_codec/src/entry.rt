@@ -4,8 +4,10 @@ ghost use Rattle.std.specs.Prelude.{◌≡◌, ℕ, List, length, Result, Ok, On
 ghost use Rattle.std.specs.List.{flat_map};
 ghost use Rattle.mp4_codec.specs.Cause.{Cause, Answers, Checks, Reads};
 ghost use Rattle.mp4_codec.specs.Early.{Shows, refused_at_once};
-ghost use Rattle.mp4_codec.specs.Bytes.{Appends, ◌⧺◌, Reader, list_at, count_cause, number_at, number, four_cc_at, four_cc, IsCode, HasLength};
-ghost use Rattle.mp4_codec.specs.FieldLaws.{number_again, length-number, number-has_length, four_cc_again, length-four_cc, four_cc-has_length};
+ghost use Rattle.mp4_codec.specs.Bytes.{Appends, ◌⧺◌, Reader, list_at, count_cause, number_at, number, four_cc_at};
+ghost use Rattle.mp4_codec.specs.Bytes.{four_cc, IsCode, HasLength};
+ghost use Rattle.mp4_codec.specs.FieldLaws.{number_again, length-number, number-has_length, four_cc_again};
+ghost use Rattle.mp4_codec.specs.FieldLaws.{length-four_cc, four_cc-has_length};
 
 use crate::block::read_blocks;
 use crate::error::{Error, Field, Result};
@@ -56,7 +58,8 @@ pub trait Entry: Copy {
     fn put(self, out: &mut Vec<u8>, version: u8) -> Put
         ensures { OnOk result (Appends out.old.items out.new.items (encoded version self)) };
 
-    ghost again: { (version : ℕ) (x : Self) (rest : List ℕ) → Fits version x → at version (encoded version x ⧺ rest) ≡ Ok (x, rest) };
+    ghost again: { (version : ℕ) (x : Self) (rest : List ℕ) → Fits version x
+        → at version (encoded version x ⧺ rest) ≡ Ok (x, rest) };
 
     ghost length_encoded: { (version : ℕ) (x : Self) → length (encoded version x) ≡ bytes_each version };
 

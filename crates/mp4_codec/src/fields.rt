@@ -2,7 +2,8 @@
 
 ghost use Rattle.std.specs.Prelude.{◌≡◌, ◌==◌, ◌≤◌, length, Ok, ℕ, List};
 ghost use Rattle.mp4_codec.specs.Cause.{Answers, Reads};
-ghost use Rattle.mp4_codec.specs.Bytes.{bytes_at, number_at, int16_at, int32_at, versioned_at, sized_at, four_cc_at, until_zero, text_at};
+ghost use Rattle.mp4_codec.specs.Bytes.{bytes_at, number_at, int16_at, int32_at, versioned_at, sized_at, four_cc_at};
+ghost use Rattle.mp4_codec.specs.Bytes.{until_zero, text_at};
 
 use crate::error::{Field, Malformed, Result};
 use crate::four_cc::FourCC;

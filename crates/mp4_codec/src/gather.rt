@@ -3,7 +3,8 @@
 ghost use Rattle.std.specs.Prelude.{◌≡◌, ◌++◌, ◌∷◌, [], List, Option, Result, Ok};
 ghost use Rattle.mp4_codec.specs.BoxType.{IsNamed};
 ghost use Rattle.mp4_codec.specs.Cause.{Cause, Answers, Gives, unless, seen};
-ghost use Rattle.mp4_codec.specs.Children.{ChildBox, child_box, children, gathered, fault_in, last_of, all_of, with_last, with_next, needed, some_needed};
+ghost use Rattle.mp4_codec.specs.Children.{ChildBox, child_box, children, gathered, fault_in, last_of, all_of};
+ghost use Rattle.mp4_codec.specs.Children.{with_last, with_next, needed, some_needed};
 ghost use Rattle.mp4_codec.specs.Early.{Early, Shows, early_last, early_next, early_gathered};
 ghost use Rattle.mp4_codec.specs.GatherLaws.{last_child-adds, all_children-adds};
 
@@ -36,7 +37,8 @@ pub trait Gather: Sized + Drop {
         ensures value { Answers (λ _. self.new) result (added self.old (child_box child.now)) }
         ensures early { Shows (early (child_box child.now)) result };
 
-    ghost adds: { (done : List ChildBox) (c : ChildBox) → added (taken done) c ≡ unless (fault c) (Ok (taken (done ++ c ∷ []))) };
+    ghost adds: { (done : List ChildBox) (c : ChildBox)
+        → added (taken done) c ≡ unless (fault c) (Ok (taken (done ++ c ∷ []))) };
 }
 
 /// The parts that the children of a payload give: the first refused child in file order is the answer,
@@ -136,7 +138,8 @@ impl<B: Mp4Box + ReadBox> Gather for LastChild<B> {
 /// The last child of this type, and None where there is none. Other types are skipped; a child of the
 /// type that is refused refuses the payload, also where a later one would stand.
 pub fn last_child<B: Mp4Box + ReadBox>(alloc: Global, payload: &[u8]) -> Result<Option<B>>
-    ensures value { Answers (λ b. b) result (gathered (fault_in B.KIND B.value) (last_of B.KIND B.value) (children payload.now)) }
+    ensures value { Answers (λ b. b) result
+        (gathered (fault_in B.KIND B.value) (last_of B.KIND B.value) (children payload.now)) }
     ensures early { Shows (early_gathered (early_last B.KIND B.early) (children payload.now)) result }
 {
     let LastChild { child } = gather_children::<LastChild<B>>(alloc, payload)?;
@@ -176,7 +179,8 @@ impl<B: Mp4Box + ReadBox> Gather for AllChildren<B> {
 /// All children of this type, in order. Other types are skipped; the first that is refused refuses the
 /// payload.
 pub fn all_children<B: Mp4Box + ReadBox>(alloc: Global, payload: &[u8]) -> Result<Items<B>>
-    ensures value { Answers (λ bs. bs) result (gathered (fault_in B.KIND B.value) (all_of B.KIND B.value) (children payload.now)) }
+    ensures value { Answers (λ bs. bs) result
+        (gathered (fault_in B.KIND B.value) (all_of B.KIND B.value) (children payload.now)) }
     ensures early { Shows (early_gathered (early_next B.KIND B.early) (children payload.now)) result }
 {
     let AllChildren { children } = gather_children::<AllChildren<B>>(alloc, payload)?;

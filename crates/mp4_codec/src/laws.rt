@@ -7,7 +7,8 @@ ghost use Rattle.mp4_codec.specs.declared.box_type.BoxType.{BoxType};
 ghost use Rattle.mp4_codec.specs.Cause.{Cause};
 ghost use Rattle.mp4_codec.specs.Cursor.{Cursor, left, header_at};
 ghost use Rattle.mp4_codec.specs.Children.{ChildBox, children};
-ghost use Rattle.mp4_codec.specs.Framing.{IsEncodable, IsBox, ReadsAsBox, SaysBox, short_header, long_header, WhyNoHead, AreChildren};
+ghost use Rattle.mp4_codec.specs.Framing.{IsEncodable, IsBox, ReadsAsBox, SaysBox, short_header, long_header};
+ghost use Rattle.mp4_codec.specs.Framing.{WhyNoHead, AreChildren};
 ghost use Rattle.mp4_codec.specs.Boxes.{write_cause};
 ghost use Rattle.mp4_codec.specs.KeyedItems.{no_items, held_at, with_item};
 
@@ -18,17 +19,22 @@ use crate::keyed_items::Key;
 /// its size: its header says its type and eight more than the length of its payload, its payload
 /// stands behind its header, and the next byte is the first behind the box.
 pub fn box_has_its_header()
-    ensures { (name : BoxType) (payload before f after : List ℕ) → IsBox name payload f → ReadsAsBox name payload f (before ++ (f ++ after)) (length before) }
+    ensures { (name : BoxType) (payload before f after : List ℕ) → IsBox name payload f
+        → ReadsAsBox name payload f (before ++ (f ++ after)) (length before) }
 {}
 
 /// A header says the length of its box, whatever stands before it and behind it, also where the box passes the end of the bytes:
 /// a size of 0 leaves the end open, a size of 8 and more is the length; behind a size of 1 a 64-bit size of 0 leaves the end
 /// open, and one of 16 and more is the length.
 pub fn header_says_its_box()
-    ensures open_end { (name : BoxType) (before after : List ℕ) → IsEncodable name → SaysBox name None (short_header name 0) before after }
-    ensures sized { (name : BoxType) (before after : List ℕ) → IsEncodable name → (size : ℕ) → 8 ≤ size → size < 2 ^ 32 → SaysBox name (Some size) (short_header name size) before after }
-    ensures long_open_end { (name : BoxType) (before after : List ℕ) → IsEncodable name → SaysBox name None (long_header name 0) before after }
-    ensures long_sized { (name : BoxType) (before after : List ℕ) → IsEncodable name → (size : ℕ) → 16 ≤ size → size < 2 ^ 64 → SaysBox name (Some size) (long_header name size) before after }
+    ensures open_end { (name : BoxType) (before after : List ℕ) → IsEncodable name
+        → SaysBox name None (short_header name 0) before after }
+    ensures sized { (name : BoxType) (before after : List ℕ) → IsEncodable name → (size : ℕ) → 8 ≤ size → size < 2 ^ 32
+        → SaysBox name (Some size) (short_header name size) before after }
+    ensures long_open_end { (name : BoxType) (before after : List ℕ) → IsEncodable name
+        → SaysBox name None (long_header name 0) before after }
+    ensures long_sized { (name : BoxType) (before after : List ℕ) → IsEncodable name → (size : ℕ) → 16 ≤ size
+        → size < 2 ^ 64 → SaysBox name (Some size) (long_header name size) before after }
 {}
 
 /// A header is refused for one of four reasons and for no other: fewer than 8 bytes are left, the
@@ -44,12 +50,14 @@ pub fn refused_head_says_why()
 /// box. The list and the tail are those that a walk over the payload finds.
 pub fn payload_has_its_children(payload: &[u8])
     ensures are { AreChildren payload.now (children payload.now).0 (children payload.now).1 }
-    ensures only { (list : List ChildBox) (tail : List ℕ) → AreChildren payload.now list tail → children payload.now ≡ (list, tail) }
+    ensures only { (list : List ChildBox) (tail : List ℕ) → AreChildren payload.now list tail
+        → children payload.now ≡ (list, tail) }
 {}
 
 /// Each value of each box reads back equal, where it is written and it is well-formed.
 pub fn what_is_written_reads_back<B: WriteBox>(value: &B)
-    ensures { B.IsWellFormed value.now → write_cause (B.payload value.now) (B.refusal value.now) ≡ None → B.value (B.payload value.now) ≡ Ok value.now }
+    ensures { B.IsWellFormed value.now → write_cause (B.payload value.now) (B.refusal value.now) ≡ None
+        → B.value (B.payload value.now) ≡ Ok value.now }
 {
     value.in_range();
 }
@@ -57,6 +65,9 @@ pub fn what_is_written_reads_back<B: WriteBox>(value: &B)
 /// An empty map holds nothing at any key; after an insertion the value is held at its key, and every other key holds what it held.
 pub fn insertion_changes_one_key<K: Key, V>()
     ensures empty { (key : K) → held_at {V = V} K.eq K.all (no_items K.all) key ≡ None }
-    ensures at_its_key { (held : List (Option V)) (key : K) (value : V) → length held ≡ length K.all → held_at K.eq K.all (with_item K.eq K.all held key value) key ≡ Some value }
-    ensures at_others { (held : List (Option V)) (key other : K) (value : V) → length held ≡ length K.all → K.eq key other ≡ false → held_at K.eq K.all (with_item K.eq K.all held key value) other ≡ held_at K.eq K.all held other }
+    ensures at_its_key { (held : List (Option V)) (key : K) (value : V) → length held ≡ length K.all
+        → held_at K.eq K.all (with_item K.eq K.all held key value) key ≡ Some value }
+    ensures at_others { (held : List (Option V)) (key other : K) (value : V) → length held ≡ length K.all
+        → K.eq key other ≡ false
+        → held_at K.eq K.all (with_item K.eq K.all held key value) other ≡ held_at K.eq K.all held other }
 {}

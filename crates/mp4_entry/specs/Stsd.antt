@@ -17,7 +17,8 @@ use Rattle.mp4_entry.specs.declared.hev1.Hev1Box.{Hev1Box}
 use Rattle.mp4_entry.specs.declared.vp09.Vp09Box.{Vp09Box}
 use Rattle.mp4_entry.specs.declared.mp4a.Mp4aBox.{Mp4aBox}
 use Rattle.mp4_entry.specs.declared.tx3g.Tx3gBox.{Tx3gBox}
-use Rattle.mp4_entry.specs.Avc1.{avc1_of, avc1_early, avc1_payload, avc1_refusal, IsInRangeAvc1, IsWellFormedAvc1, avc1_of_config}
+use Rattle.mp4_entry.specs.Avc1.{avc1_of, avc1_early, avc1_payload, avc1_refusal, IsInRangeAvc1, IsWellFormedAvc1}
+use Rattle.mp4_entry.specs.Avc1.{avc1_of_config}
 use Rattle.mp4_entry.specs.Hev1.{hev1_of, hev1_early, hev1_payload, IsInRangeHev1, IsWellFormedHev1, hev1_of_config}
 use Rattle.mp4_entry.specs.Vp09.{vp09_of, vp09_early, vp09_payload, IsInRangeVp09, IsWellFormedVp09, vp09_of_config}
 use Rattle.mp4_entry.specs.Mp4a.{mp4a_of, mp4a_payload, mp4a_refusal, IsInRangeMp4a, IsWellFormedMp4a, mp4a_of_config}

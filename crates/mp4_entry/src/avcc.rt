@@ -7,7 +7,9 @@ ghost use Rattle.mp4_codec.specs.declared.box_type.BoxType.TheVariants.{AvcCBox 
 ghost use Rattle.mp4_codec.specs.Cause.{Gives, Answers, Checks, Reads};
 ghost use Rattle.mp4_codec.specs.Bytes.{Appends, number, list_at};
 ghost use Rattle.mp4_codec.specs.Boxes.{size_around, all_refusal};
-ghost use Rattle.mp4_entry.specs.Avcc.{unit_at, unit, unit_refusal, behind_units, avcc_check, avcc_of, avcc_payload, avcc_refusal, default_avcc, avcc_of_sets, IsInRangeAvcC, IsInRangeNalUnit, IsWellFormedAvcC};
+ghost use Rattle.mp4_entry.specs.Avcc.{unit_at, unit, unit_refusal, behind_units, avcc_check, avcc_of, avcc_payload};
+ghost use Rattle.mp4_entry.specs.Avcc.{avcc_refusal, default_avcc, avcc_of_sets, IsInRangeAvcC, IsInRangeNalUnit};
+ghost use Rattle.mp4_entry.specs.Avcc.{IsWellFormedAvcC};
 ghost use Rattle.mp4_entry.specs.AvccLaws.{avcc_again};
 ghost use Rattle.mp4_codec.specs.Early.{refused_at_once};
 

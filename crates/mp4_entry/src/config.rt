@@ -9,7 +9,8 @@ ghost use Rattle.mp4_entry.specs.contracts.tx3g.TtxtConfigExactEq.TheImpl.Laws.{
 ghost use Rattle.mp4_entry.specs.contracts.config.MediaConfig.{enum as media_configs};
 ghost use Rattle.std.specs.Prelude.{◌≡◌, Ok};
 ghost use Rattle.mp4_codec.specs.Cause.{Answers, Checks};
-ghost use Rattle.mp4_entry.specs.Config.{media_refusal, avc_refusal, track_type_in, media_type_in, IsInRangeMediaConfig};
+ghost use Rattle.mp4_entry.specs.Config.{media_refusal, avc_refusal, track_type_in, media_type_in};
+ghost use Rattle.mp4_entry.specs.Config.{IsInRangeMediaConfig};
 
 use crate::avc1::AvcConfig;
 use crate::hev1::HevcConfig;
@@ -34,7 +35,15 @@ pub enum MediaConfig {
 }
 
 impl ExactEq for MediaConfig {
-    ghost exact = { exact_enum media_configs (Prim.search (field_tests, by_law avc_config_laws.exact, by_law hevc_config_laws.exact, by_law vp9_config_laws.exact, by_law aac_config_laws.exact, by_law ttxt_config_laws.exact)) };
+    ghost exact = { exact_enum media_configs
+        (Prim.search (
+          field_tests,
+          by_law avc_config_laws.exact,
+          by_law hevc_config_laws.exact,
+          by_law vp9_config_laws.exact,
+          by_law aac_config_laws.exact,
+          by_law ttxt_config_laws.exact,
+        )) };
 }
 
 /// Whether the parameter sets of AVC video have an encoding.

@@ -8,8 +8,12 @@ ghost use Rattle.mp4_codec.specs.Cause.{Checks, Gives};
 ghost use Rattle.mp4_codec.specs.Bytes.{Appends, number};
 ghost use Rattle.mp4_codec.specs.Boxes.{size_around};
 ghost use Rattle.mp4_entry.specs.Descriptor.{descriptor};
-ghost use Rattle.mp4_entry.specs.Esds.{bits, profile_in, profile_end, frequency_in, frequency_end, decoder_specific_of, decoder_config_of, es_descriptor_of, is_set, behind_id, behind_url, behind_options};
-ghost use Rattle.mp4_entry.specs.Esds.{esds_of, esds_payload, esds_refusal, specific_word, stream_byte, decoder_config, es_descriptor, specific_refusal, config_refusal, IsInRangeEsds, IsWellFormedEsds, default_esds};
+ghost use Rattle.mp4_entry.specs.Esds.{bits, profile_in, profile_end, frequency_in, frequency_end, decoder_specific_of};
+ghost use Rattle.mp4_entry.specs.Esds.{decoder_config_of, es_descriptor_of, is_set, behind_id, behind_url};
+ghost use Rattle.mp4_entry.specs.Esds.{behind_options};
+ghost use Rattle.mp4_entry.specs.Esds.{esds_of, esds_payload, esds_refusal, specific_word, stream_byte, decoder_config};
+ghost use Rattle.mp4_entry.specs.Esds.{es_descriptor, specific_refusal, config_refusal, IsInRangeEsds};
+ghost use Rattle.mp4_entry.specs.Esds.{IsWellFormedEsds, default_esds};
 ghost use Rattle.mp4_entry.specs.EsdsLaws.{esds_again};
 ghost use Rattle.mp4_codec.specs.Early.{at_once};
 
@@ -78,7 +82,8 @@ pub struct ESDescriptor {
 }
 
 impl ExactEq for ESDescriptor {
-    ghost exact = { by_test (Prim.hlevel (field_tests, by_law {K = SLConfigDescriptor} {E = λ x y. true} (λ x y h. refl))) };
+    ghost exact = { by_test (Prim.hlevel
+        (field_tests, by_law {K = SLConfigDescriptor} {E = λ x y. true} (λ x y h. refl))) };
 }
 
 /// The elementary stream descriptor of a sound track, `esds` (ISO/IEC 14496-14, 5.6).
@@ -96,7 +101,8 @@ pub struct EsdsBox {
 }
 
 impl ExactEq for EsdsBox {
-    ghost exact = { by_test (Prim.hlevel (field_tests, by_law {K = SLConfigDescriptor} {E = λ x y. true} (λ x y h. refl))) };
+    ghost exact = { by_test (Prim.hlevel
+        (field_tests, by_law {K = SLConfigDescriptor} {E = λ x y. true} (λ x y h. refl))) };
 }
 
 /// Of a word of 48 bits, so many behind the first ones.

@@ -7,7 +7,8 @@ ghost use Rattle.mp4_codec.specs.declared.box_type.BoxType.TheVariants.{Hev1Box 
 ghost use Rattle.mp4_codec.specs.Cause.{Gives, Answers};
 ghost use Rattle.mp4_codec.specs.Boxes.{size_around, no_refusal};
 ghost use Rattle.mp4_entry.specs.declared.visual.Visual.{Visual};
-ghost use Rattle.mp4_entry.specs.Hev1.{hev1_of, hev1_early, hev1_payload, hev1_with, hev1_of_config, default_hev1, visual_of, IsInRangeHev1, IsWellFormedHev1, IsInRangeHevcConfig};
+ghost use Rattle.mp4_entry.specs.Hev1.{hev1_of, hev1_early, hev1_payload, hev1_with, hev1_of_config, default_hev1};
+ghost use Rattle.mp4_entry.specs.Hev1.{visual_of, IsInRangeHev1, IsWellFormedHev1, IsInRangeHevcConfig};
 ghost use Rattle.mp4_entry.specs.Hev1Laws.{hev1_again};
 
 use crate::hvcc::HvcCBox;

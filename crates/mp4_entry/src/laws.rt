@@ -37,5 +37,6 @@ pub fn numbers_have_one_value()
 /// configuration isn't refused.
 pub fn configurations_are_written()
     ensures size { (c : MediaConfig) → length (stsd_payload (stsd_of_config c)) ≡ 8 + entry_length c }
-    ensures written { (c : MediaConfig) → media_refusal c ≡ None → write_cause (stsd_payload (stsd_of_config c)) (stsd_refusal (stsd_of_config c)) ≡ None }
+    ensures written { (c : MediaConfig) → media_refusal c ≡ None
+        → write_cause (stsd_payload (stsd_of_config c)) (stsd_refusal (stsd_of_config c)) ≡ None }
 {}

@@ -11,7 +11,9 @@ ghost use Rattle.mp4_codec.specs.declared.box_type.BoxType.TheVariants.{EsdsBox 
 ghost use Rattle.mp4_codec.specs.Cause.{Gives};
 ghost use Rattle.mp4_codec.specs.Children.{child_box, with_last};
 ghost use Rattle.mp4_codec.specs.Boxes.{size_around};
-ghost use Rattle.mp4_entry.specs.Mp4a.{as_it_is, last_payload, found_esds, direct_esds, child_esds, versioned_esds, mp4a_of, mp4a_payload, mp4a_refusal, IsInRangeMp4a, IsWellFormedMp4a, default_mp4a, samplerate_of, esds_of_config, mp4a_of_config, IsInRangeAacConfig};
+ghost use Rattle.mp4_entry.specs.Mp4a.{as_it_is, last_payload, found_esds, direct_esds, child_esds, versioned_esds};
+ghost use Rattle.mp4_entry.specs.Mp4a.{mp4a_of, mp4a_payload, mp4a_refusal, IsInRangeMp4a, IsWellFormedMp4a};
+ghost use Rattle.mp4_entry.specs.Mp4a.{default_mp4a, samplerate_of, esds_of_config, mp4a_of_config, IsInRangeAacConfig};
 ghost use Rattle.mp4_entry.specs.Mp4aLaws.{mp4a_again};
 ghost use Rattle.mp4_codec.specs.Early.{at_once};
 
@@ -69,7 +71,12 @@ impl ExactEq for AudioObjectType {
 }
 
 impl ExactEq for AacConfig {
-    ghost exact = { by_test (Prim.hlevel (field_tests, by_law exact_object_type, by_law sample_freq_index_laws.exact, by_law channel_config_laws.exact)) };
+    ghost exact = { by_test (Prim.hlevel (
+      field_tests,
+      by_law exact_object_type,
+      by_law sample_freq_index_laws.exact,
+      by_law channel_config_laws.exact,
+    )) };
 }
 
 impl TryClone for AacConfig {
@@ -129,7 +136,8 @@ fn esds_of(config: &AacConfig) -> EsdsBox
 
 /// The payload of the last child of a type, with one child more.
 fn with_child<'a>(kind: BoxType, child: &Child<'a>, last: Option<&'a [u8]>) -> Option<&'a [u8]>
-    ensures { with_last kind as_it_is (child_box child.now) (option_map (λ x. x.now) last.entry) ≡ Ok (option_map (λ x. x.now) result) }
+    ensures { with_last kind as_it_is (child_box child.now) (option_map (λ x. x.now) last.entry)
+        ≡ Ok (option_map (λ x. x.now) result) }
 {
     if u32::from(child.name) == u32::from(kind) {
         return Some(child.payload);

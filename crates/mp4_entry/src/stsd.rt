@@ -12,7 +12,10 @@ ghost use Rattle.mp4_codec.specs.Boxes.{size_around};
 ghost use Rattle.mp4_codec.specs.Bytes.{Appends};
 ghost use Rattle.mp4_codec.specs.Cause.{Answers, Checks, seen};
 ghost use Rattle.mp4_codec.specs.Children.{child_box};
-ghost use Rattle.mp4_entry.specs.Stsd.{stsd_payload, default_stsd, stsd_of, stsd_early, stsd_of_config, stsd_refusal, IsInRangeStsd, IsWellFormedStsd, first_entry, with_entry, entry_of, entry_early, avc_video, hevc_video, vp9_video, aac_sound, text, entry_bytes, entry_count, no_entry};
+ghost use Rattle.mp4_entry.specs.Stsd.{stsd_payload, default_stsd, stsd_of, stsd_early, stsd_of_config, stsd_refusal};
+ghost use Rattle.mp4_entry.specs.Stsd.{IsInRangeStsd, IsWellFormedStsd, first_entry, with_entry, entry_of, entry_early};
+ghost use Rattle.mp4_entry.specs.Stsd.{avc_video, hevc_video, vp9_video, aac_sound, text, entry_bytes, entry_count};
+ghost use Rattle.mp4_entry.specs.Stsd.{no_entry};
 ghost use Rattle.mp4_entry.specs.StsdLaws.{stsd_again};
 ghost use Rattle.mp4_codec.specs.Early.{Shows};
 
@@ -53,7 +56,14 @@ pub struct StsdBox {
 }
 
 impl ExactEq for StsdBox {
-    ghost exact = { by_test (Prim.hlevel (field_tests, by_law avc1_laws.exact, by_law hev1_laws.exact, by_law vp09_laws.exact, by_law mp4a_laws.exact, by_law tx3g_laws.exact)) };
+    ghost exact = { by_test (Prim.hlevel (
+      field_tests,
+      by_law avc1_laws.exact,
+      by_law hev1_laws.exact,
+      by_law vp09_laws.exact,
+      by_law mp4a_laws.exact,
+      by_law tx3g_laws.exact,
+    )) };
 }
 
 impl StsdBox {

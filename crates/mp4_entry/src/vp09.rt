@@ -7,7 +7,8 @@ ghost use Rattle.mp4_codec.specs.declared.box_type.BoxType.TheVariants.{Vp09Box 
 ghost use Rattle.mp4_codec.specs.Cause.{Gives, Answers};
 ghost use Rattle.mp4_codec.specs.Boxes.{size_around, no_refusal};
 ghost use Rattle.mp4_entry.specs.declared.visual.Visual.{Visual};
-ghost use Rattle.mp4_entry.specs.Vp09.{vp09_of, vp09_early, vp09_payload, vp09_with, vp09_of_config, default_vp09, visual_of, IsInRangeVp09, IsWellFormedVp09, IsInRangeVp9Config};
+ghost use Rattle.mp4_entry.specs.Vp09.{vp09_of, vp09_early, vp09_payload, vp09_with, vp09_of_config, default_vp09};
+ghost use Rattle.mp4_entry.specs.Vp09.{visual_of, IsInRangeVp09, IsWellFormedVp09, IsInRangeVp9Config};
 ghost use Rattle.mp4_entry.specs.Vp09Laws.{vp09_again};
 
 use crate::visual::{VISUAL_SIZE, Visual, put_visual, read_visual};

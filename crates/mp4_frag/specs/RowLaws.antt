@@ -296,9 +296,11 @@ all_pushed P (y ∷ ys) x h p = (h.0, all_pushed P ys x h.1 p)
 row_fits : (flags count : ℕ) (c : Columns) → FitsColumns flags count c → (k : ℕ) → k < count
     → FitsRow flags (row_of c k)
 row_fits flags count c f k lt = record {
-  duration = listed_value_agrees 0x100 flags count c.durations (are_listed 0x100 flags count c.durations f.durations) k lt;
+  duration = listed_value_agrees 0x100 flags count c.durations
+      (are_listed 0x100 flags count c.durations f.durations) k lt;
   size = listed_value_agrees 0x200 flags count c.sizes (are_listed 0x200 flags count c.sizes f.sizes) k lt;
-  sample_flags = listed_value_agrees 0x400 flags count c.flags (are_listed 0x400 flags count c.flags f.sample_flags) k lt;
+  sample_flags = listed_value_agrees 0x400 flags count c.flags
+      (are_listed 0x400 flags count c.flags f.sample_flags) k lt;
   cts = listed_value_agrees 0x800 flags count c.cts (are_listed 0x800 flags count c.cts f.cts) k lt;
   duration_range = listed_value_range (λ n. n < 2 ^ 32) c.durations f.durations_range k;
   size_range = listed_value_range (λ n. n < 2 ^ 32) c.sizes f.sizes_range k;

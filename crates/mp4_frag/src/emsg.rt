@@ -6,7 +6,8 @@ ghost use Rattle.mp4_codec.specs.declared.box_type.BoxType.TheVariants.{EmsgBox 
 ghost use Rattle.mp4_codec.specs.Cause.{Answers, Checks, Gives};
 ghost use Rattle.mp4_codec.specs.Bytes.{Appends};
 ghost use Rattle.mp4_codec.specs.Boxes.{size_around};
-ghost use Rattle.mp4_frag.specs.Emsg.{emsg_payload, emsg_0_payload, emsg_1_payload, ended, only_refusal, default_emsg, emsg_of, emsg_0_of, emsg_1_of, emsg_refusal, IsInRangeEmsg, IsWellFormedEmsg};
+ghost use Rattle.mp4_frag.specs.Emsg.{emsg_payload, emsg_0_payload, emsg_1_payload, ended, only_refusal, default_emsg};
+ghost use Rattle.mp4_frag.specs.Emsg.{emsg_of, emsg_0_of, emsg_1_of, emsg_refusal, IsInRangeEmsg, IsWellFormedEmsg};
 ghost use Rattle.mp4_frag.specs.EmsgLaws.{emsg_again};
 ghost use Rattle.mp4_codec.specs.Early.{Shows, refused_at_once};
 

@@ -5,7 +5,8 @@ ghost use Rattle.std.specs.Prelude.{◌≡◌, Ok};
 ghost use Rattle.mp4_codec.specs.declared.box_type.BoxType.TheVariants.{MehdBox as mehd};
 ghost use Rattle.mp4_codec.specs.Cause.{Gives};
 ghost use Rattle.mp4_codec.specs.Boxes.{size_around};
-ghost use Rattle.mp4_frag.specs.Mehd.{mehd_payload, default_mehd, mehd_of, mehd_refusal, IsInRangeMehd, IsWellFormedMehd};
+ghost use Rattle.mp4_frag.specs.Mehd.{mehd_payload, default_mehd, mehd_of, mehd_refusal, IsInRangeMehd};
+ghost use Rattle.mp4_frag.specs.Mehd.{IsWellFormedMehd};
 ghost use Rattle.mp4_frag.specs.MehdLaws.{mehd_again};
 ghost use Rattle.mp4_codec.specs.Early.{at_once};
 

@@ -200,7 +200,8 @@ impl Columns {
     pub(crate) fn read(alloc: Global, fields: &mut Fields, flags: u32, count: u32) -> Result<Self>
         ensures value { Answers (λ x. (x, fields.new)) result (columns_at flags count fields.old) }
         ensures early { Shows (refused_at_once (columns_at flags count fields.old)) result }
-        ensures nothing { row_length flags ≡ 0 → Gives (λ x. (x, fields.new)) result (columns_at flags count fields.old) }
+        ensures nothing { row_length flags ≡ 0
+            → Gives (λ x. (x, fields.new)) result (columns_at flags count fields.old) }
     {
         let each = row_size(flags);
         if each == 0 {

@@ -5,7 +5,8 @@ ghost use Rattle.std.specs.Prelude.{◌≡◌, Ok};
 ghost use Rattle.mp4_codec.specs.declared.box_type.BoxType.TheVariants.{TfdtBox as tfdt};
 ghost use Rattle.mp4_codec.specs.Cause.{Gives};
 ghost use Rattle.mp4_codec.specs.Boxes.{size_around};
-ghost use Rattle.mp4_frag.specs.Tfdt.{tfdt_payload, default_tfdt, tfdt_of, tfdt_refusal, IsInRangeTfdt, IsWellFormedTfdt};
+ghost use Rattle.mp4_frag.specs.Tfdt.{tfdt_payload, default_tfdt, tfdt_of, tfdt_refusal, IsInRangeTfdt};
+ghost use Rattle.mp4_frag.specs.Tfdt.{IsWellFormedTfdt};
 ghost use Rattle.mp4_frag.specs.TfdtLaws.{tfdt_again};
 ghost use Rattle.mp4_codec.specs.Early.{at_once};
 

@@ -5,7 +5,8 @@ ghost use Rattle.std.specs.Prelude.{◌≡◌, Ok};
 ghost use Rattle.mp4_codec.specs.declared.box_type.BoxType.TheVariants.{TfhdBox as tfhd};
 ghost use Rattle.mp4_codec.specs.Cause.{Gives};
 ghost use Rattle.mp4_codec.specs.Boxes.{size_around};
-ghost use Rattle.mp4_frag.specs.Tfhd.{tfhd_payload, default_tfhd, tfhd_of, tfhd_refusal, IsInRangeTfhd, IsWellFormedTfhd};
+ghost use Rattle.mp4_frag.specs.Tfhd.{tfhd_payload, default_tfhd, tfhd_of, tfhd_refusal, IsInRangeTfhd};
+ghost use Rattle.mp4_frag.specs.Tfhd.{IsWellFormedTfhd};
 ghost use Rattle.mp4_frag.specs.TfhdLaws.{tfhd_again};
 ghost use Rattle.mp4_codec.specs.Early.{at_once};
 

@@ -8,7 +8,8 @@ ghost use Rattle.mp4_codec.specs.Cause.{Answers, Checks, Gives};
 ghost use Rattle.mp4_codec.specs.Bytes.{Appends};
 ghost use Rattle.mp4_codec.specs.Boxes.{size_around};
 ghost use Rattle.mp4_frag.specs.Rows.{row, rows, row_of, longest};
-ghost use Rattle.mp4_frag.specs.Trun.{trun_payload, columns_of, ListsNothing, default_trun, trun_of, trun_refusal, IsInRangeTrun, IsWellFormedTrun};
+ghost use Rattle.mp4_frag.specs.Trun.{trun_payload, columns_of, ListsNothing, default_trun, trun_of, trun_refusal};
+ghost use Rattle.mp4_frag.specs.Trun.{IsInRangeTrun, IsWellFormedTrun};
 ghost use Rattle.mp4_frag.specs.TrunLaws.{listed_values, trun_again};
 ghost use Rattle.mp4_codec.specs.Early.{Shows, refused_at_once};
 
@@ -140,7 +141,8 @@ impl TrunBox {
 
     /// Adds what the lists say, sample by sample.
     fn put_rows(&self, out: &mut Vec<u8>) -> Put
-        ensures { OnOk result (Appends out.old.items out.new.items (flat_map row (rows (columns_of self.now) (longest (columns_of self.now))))) }
+        ensures { OnOk result (Appends out.old.items out.new.items
+            (flat_map row (rows (columns_of self.now) (longest (columns_of self.now))))) }
     {
         for k in 0..self.longest() {
             self.row(k).put(out)?;

@@ -36,7 +36,8 @@ slice_get-all_run_samples runs number i before d h e reached inside =
     let run = get_or runs i d in
     let m = run_sample_of run 0 in
     let j = number - before in
-    let at : number ≡ length (all_run_samples (take i runs)) + j = omega (arith, length-all_run_samples (take i runs), e) in
+    let at : number ≡ length (all_run_samples (take i runs)) + j =
+    omega (arith, length-all_run_samples (take i runs), e) in
     let whole : number < length (all_run_samples runs) = omega (
       arith,
       length-all_run_samples runs,
@@ -93,10 +94,12 @@ pub located : (find : Find) (runs : List PlacedRun) (index : RunIndex) (key i : 
 located find [] index key i e limit s at = absurd (omega (arith, at.within, s.counts.count))
 located find (d ∷ runs) index key i e limit s at =
     let found = before_found run_count (d ∷ runs) index.counts key i s.counts limit at in
-    rw (entry_of find (d ∷ runs) index i e d s found.0) (run_sample_found (d ∷ runs) index.counts key i d limit s.counts at)
+    rw (entry_of find (d ∷ runs) index i e d s found.0)
+    (run_sample_found (d ∷ runs) index.counts key i d limit s.counts at)
 
 pub located_none : (find : Find) (runs : List PlacedRun) (index : RunIndex) (key : ℕ) → Indexes find runs index
-    → ((j : ℕ) → j < length index.counts → key < slice_index index.counts j) → slice_get (all_run_samples runs) key ≡ None
+    → ((j : ℕ) → j < length index.counts → key < slice_index index.counts j)
+    → slice_get (all_run_samples runs) key ≡ None
 located_none find runs index key s above =
     let none = none_found run_count runs index.counts key s.counts above in
     slice_get-all_run_samples_past runs key 0 (omega (arith, none)) (omega arith)

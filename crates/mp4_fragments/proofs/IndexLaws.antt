@@ -28,7 +28,8 @@ unfolding runs_of
 indexed_runs trafs track runs index s = found_of_map (placed_at (run_at trafs track)) index.entries runs s.entries
 
 -- where there is a sample there is a run
-pub run_sample_has_run : (runs : List PlacedRun) (number : ℕ) (m : RunSample) → slice_get (all_run_samples runs) number ≡ Some m
+pub run_sample_has_run : (runs : List PlacedRun) (number : ℕ) (m : RunSample)
+    → slice_get (all_run_samples runs) number ≡ Some m
     → 0 < length runs
 run_sample_has_run [] number m e = absurd cc
 run_sample_has_run (run ∷ runs) number m e = omega arith

@@ -37,7 +37,8 @@ sync_in_run runs i j d h inside =
 -- none is, past all samples
 pub no_sync_past : (runs : List PlacedRun) (n : ℕ) → sum_by run_count runs ≤ n → sync_at runs n ≡ false
 unfolding sync_at
-no_sync_past runs n past = rw (slice_get_past (all_run_samples runs) n (omega (arith, past, length-all_run_samples runs))) refl
+no_sync_past runs n past = rw
+    (slice_get_past (all_run_samples runs) n (omega (arith, past, length-all_run_samples runs))) refl
 
 -- no span is kept yet
 pub none_built : (has : ℕ → Bool) (b : SpanBuilder) → b.firsts.items ≡ [] → b.lasts.items ≡ [] → b.begun ≡ None
@@ -58,7 +59,8 @@ none_built has b firsts lasts begun count = record {
 
 -- the spans of one run more
 pub entry_built : (find : Find) (es : List RunEntry) (runs : List PlacedRun) (index : RunIndex) (end r : ℕ)
-    (entry : RunEntry) (old new : SpanBuilder) → Indexes find runs index → es ≡ index.entries → entry ≡ get_or es r entry → r < length es
+    (entry : RunEntry) (old new : SpanBuilder) → Indexes find runs index → es ≡ index.entries
+    → entry ≡ get_or es r entry → r < length es
     → old.end ≡ end → old.count ≡ min end (sum_by run_count (take r runs)) → AreBuilt (sync_at runs) old
     → ((p : PlacedRun) → placed_at find entry ≡ Some p → (has : ℕ → Bool) → AreBuilt has old
     → ((j : ℕ) → j < run_count p → old.count + j < new.count → has (old.count + j) ≡ is_sync_in p.run p.defaults j)

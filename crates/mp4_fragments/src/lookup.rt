@@ -207,7 +207,8 @@ impl RunIndex {
 
     /// How many samples there are; it stops at 2^64 - 1.
     pub fn count(&self) -> u64
-        ensures { (find : Find) (runs : List PlacedRun) → Indexes find runs self.now → result ≡ min (2 ^ 64 - 1) (length (all_run_samples runs)) }
+        ensures { (find : Find) (runs : List PlacedRun) → Indexes find runs self.now
+            → result ≡ min (2 ^ 64 - 1) (length (all_run_samples runs)) }
     {
         self.total
     }

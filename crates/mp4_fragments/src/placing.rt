@@ -54,7 +54,9 @@ fn add_run(
     defaults: SampleDefaults,
     end: RunStart,
 ) -> Result<RunStart, AllocError>
-    ensures { IfOk result (λ after. Walks (λ find. find t i ≡ Some (run.now, defaults)) (λ walk. with_run base defaults walk run.now) end after index.old index.new) }
+    ensures { IfOk result (λ after.
+        Walks (λ find. find t i ≡ Some (run.now, defaults))
+        (λ walk. with_run base defaults walk run.now) end after index.old index.new) }
 {
     let at = run_begin(base, run, end);
     let checks = checkpoints(alloc, run, defaults, at)?;
@@ -81,7 +83,9 @@ fn add_runs(
     defaults: SampleDefaults,
     first: RunStart,
 ) -> Result<RunStart, AllocError>
-    ensures { IfOk result (λ after. Walks (KnowsRuns t runs.now defaults) (λ walk. fold (with_run base defaults) walk runs.now) first after index.old index.new) }
+    ensures { IfOk result (λ after.
+        Walks (KnowsRuns t runs.now defaults)
+        (λ walk. fold (with_run base defaults) walk runs.now) first after index.old index.new) }
 {
     let mut at = first;
     for (i, run) in runs.iter().enumerate() {
@@ -101,7 +105,9 @@ fn add_traf(
     base: Option<u64>,
     at: RunStart,
 ) -> Result<RunStart, AllocError>
-    ensures { IfOk result (λ after. Walks (KnowsRuns t traf.now.truns (defaults_in traf.now track)) (λ walk. with_traf track walk (traf.now, base)) at after index.old index.new) }
+    ensures { IfOk result (λ after.
+        Walks (KnowsRuns t traf.now.truns (defaults_in traf.now track))
+        (λ walk. with_traf track walk (traf.now, base)) at after index.old index.new) }
 {
     let defaults = track.in_traf(traf);
     let first = RunStart {
@@ -130,7 +136,9 @@ fn add_trafs(
     first: RunStart,
 ) -> Result<RunStart, AllocError>
     requires { length bases.now ≡ length trafs.now }
-    ensures { IfOk result (λ after. Walks (KnowsTrafs track trafs.now) (λ walk. fold (with_traf track) walk (zip trafs.now bases.now)) first after index.old index.new) }
+    ensures { IfOk result (λ after.
+        Walks (KnowsTrafs track trafs.now)
+        (λ walk. fold (with_traf track) walk (zip trafs.now bases.now)) first after index.old index.new) }
 {
     let mut at = first;
     for (t, traf) in trafs.iter().enumerate() {
@@ -163,7 +171,8 @@ pub fn index_of(
     end: u64,
 ) -> Result<RunIndex, AllocError>
     requires { length bases.now ≡ length trafs.now }
-    ensures { IfOk result (λ index. Indexes (run_at trafs.now track) (placed_runs track end trafs.now bases.now) index) }
+    ensures { IfOk result (λ index.
+        Indexes (run_at trafs.now track) (placed_runs track end trafs.now bases.now) index) }
 {
     let mut index = RunIndex::with_capacity(alloc, count_runs(trafs))?;
     let first = RunStart {

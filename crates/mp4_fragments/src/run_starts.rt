@@ -69,7 +69,8 @@ pub(crate) fn at_later_run_sample(
     to: u32,
 ) -> RunStart
     requires { from ≤ to }
-    ensures { (first : RunStart) → at ≡ at_run_sample run.now defaults first from → result ≡ at_run_sample run.now defaults first to }
+    ensures { (first : RunStart) → at ≡ at_run_sample run.now defaults first from
+        → result ≡ at_run_sample run.now defaults first to }
 {
     let sizes = run.sample_sizes.as_slice();
     let durations = run.sample_durations.as_slice();
@@ -88,7 +89,9 @@ pub(crate) fn checkpoints(
     first: RunStart,
 ) -> Result<Items<RunStart>, AllocError>
     ensures right { IfOk result (λ checks. AreCheckpoints run.now defaults first checks) }
-    ensures every { IfOk result (λ checks. 0 < length run.now.sample_sizes + length run.now.sample_durations → length checks ≡ run.now.sample_count / 64) }
+    ensures every { IfOk result
+        (λ checks. 0 < length run.now.sample_sizes + length run.now.sample_durations
+        → length checks ≡ run.now.sample_count / 64) }
 {
     if run.sample_sizes.is_empty() && run.sample_durations.is_empty() {
         return Ok(Items::new(alloc));

@@ -1,7 +1,8 @@
 //! Which samples of a track's fragments are sync samples, kept so that the last of them before a number is found.
 
 ghost use Rattle.std.proofs.Props.{props};
-ghost use Rattle.std.specs.Prelude.{◌≡◌, ℕ, ◌+◌, ◌-◌, ◌<◌, ◌≤◌, Bool, true, false, Some, None, min, length, nat_le, slice_index};
+ghost use Rattle.std.specs.Prelude.{◌≡◌, ℕ, ◌+◌, ◌-◌, ◌<◌, ◌≤◌, Bool, true, false, Some, None, min, length, nat_le};
+ghost use Rattle.std.specs.Prelude.{slice_index};
 ghost use Rattle.std.specs.Prelude.{IfOk, IfSome, OnOk};
 ghost use Rattle.mp4_fragments.specs.Index.{Indexes, placed_at, run_at, runs_of};
 ghost use Rattle.mp4_fragments.specs.RunSamples.{PlacedRun, all_run_samples, is_sync_in, run_count};
@@ -27,7 +28,8 @@ pub struct SyncSpans {
     /// The number of the last.
     pub(crate) lasts: Vec<u32>,
     ghost count: { length lasts.items ≡ length firsts.items } by { Prim.hlevel props },
-    ghost rise: { (i j : ℕ) → i ≤ j → j < length firsts.items → slice_index firsts.items i ≤ slice_index firsts.items j } by { Prim.hlevel props },
+    ghost rise: { (i j : ℕ) → i ≤ j → j < length firsts.items
+        → slice_index firsts.items i ≤ slice_index firsts.items j } by { Prim.hlevel props },
 }
 
 /// Spans that are being made, of samples that come in their order.
@@ -168,7 +170,8 @@ impl SpanBuilder {
         requires opened { IfSome self.old.begun (λ first. first < self.old.count) }
         requires within { self.old.count ≤ self.old.end }
         ensures built { OnOk result ((p : PlacedRun) → placed_at (run_at trafs.now track) entry.now ≡ Some p
-            → (has : ℕ → Bool) → AreBuilt has self.old → ((j : ℕ) → j < run_count p → self.old.count + j < self.new.count
+            → (has : ℕ → Bool) → AreBuilt has self.old
+            → ((j : ℕ) → j < run_count p → self.old.count + j < self.new.count
             → has (self.old.count + j) ≡ is_sync_in p.run p.defaults j) → AreBuilt has self.new) }
         ensures opened { OnOk result (IfSome self.new.begun (λ first. first < self.new.count)) }
         ensures count { OnOk result ((p : PlacedRun) → placed_at (run_at trafs.now track) entry.now ≡ Some p
@@ -192,8 +195,10 @@ pub(crate) fn spans_of(
     end: u32,
 ) -> Result<SyncSpans, AllocError>
     requires { Indexes (run_at trafs.now track) (runs_of trafs.now track index.now) index.now }
-    ensures spans { IfOk result (λ spans. AreSpans (sync_at (runs_of trafs.now track index.now)) end spans.firsts.items spans.lasts.items) }
-    ensures few { IfOk result (λ spans. length spans.firsts.items ≤ length (all_run_samples (runs_of trafs.now track index.now))) }
+    ensures spans { IfOk result
+        (λ spans. AreSpans (sync_at (runs_of trafs.now track index.now)) end spans.firsts.items spans.lasts.items) }
+    ensures few { IfOk result
+        (λ spans. length spans.firsts.items ≤ length (all_run_samples (runs_of trafs.now track index.now))) }
 {
     let mut builder = SpanBuilder {
         firsts: Vec::new(alloc),

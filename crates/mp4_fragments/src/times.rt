@@ -86,7 +86,8 @@ pub(crate) fn times_of(
     end: u32,
 ) -> Result<RunTimes, AllocError>
     requires { Indexes (run_at trafs.now track) (runs_of trafs.now track index.now) index.now }
-    ensures { IfOk result (λ times. AreEarliest (begin_of (runs_of trafs.now track index.now) end) 0 times.latest_first.items) }
+    ensures { IfOk result (λ times.
+        AreEarliest (begin_of (runs_of trafs.now track index.now) end) 0 times.latest_first.items) }
 {
     let runs = runs_below(trafs, track, index, end);
     let entries = index.entries.as_slice();

@@ -4,7 +4,8 @@ ghost use Rattle.mp4_codec.specs.ExactTest.{by_law, by_test, exact_enum, field_t
 ghost use Rattle.mp4_leaf.specs.contracts.data.DataType.{enum as data_types};
 ghost use Rattle.std.specs.Prelude.{◌≡◌, Ok};
 ghost use Rattle.mp4_leaf.specs.declared.data.DataType.TheVariants.{Binary};
-ghost use Rattle.mp4_leaf.specs.Data.{data_type, data_code, data_payload, default_data, data_of, IsInRangeData, IsWellFormedData, IsInRangeDataType};
+ghost use Rattle.mp4_leaf.specs.Data.{data_type, data_code, data_payload, default_data, data_of, IsInRangeData};
+ghost use Rattle.mp4_leaf.specs.Data.{IsWellFormedData, IsInRangeDataType};
 ghost use Rattle.mp4_codec.specs.declared.box_type.BoxType.TheVariants.{DataBox as data_kind};
 ghost use Rattle.mp4_codec.specs.Boxes.{size_around, no_refusal};
 ghost use Rattle.mp4_codec.specs.Cause.{Gives};

@@ -4,10 +4,14 @@ ghost use Rattle.mp4_codec.specs.ExactTest.{by_test, field_tests};
 ghost use Rattle.std.specs.Prelude.{OnOk, ◌≡◌, Ok};
 ghost use Rattle.mp4_codec.specs.Bytes.{Appends};
 ghost use Rattle.mp4_leaf.specs.Dinf.{ended};
-ghost use Rattle.mp4_codec.specs.declared.box_type.BoxType.TheVariants.{UrlBox as url, DrefBox as dref, DinfBox as dinf};
+ghost use Rattle.mp4_codec.specs.declared.box_type.BoxType.TheVariants.{UrlBox as url, DrefBox as dref};
+ghost use Rattle.mp4_codec.specs.declared.box_type.BoxType.TheVariants.{DinfBox as dinf};
 ghost use Rattle.mp4_codec.specs.Boxes.{size_around, no_refusal};
 ghost use Rattle.mp4_codec.specs.Cause.{Gives};
-ghost use Rattle.mp4_leaf.specs.Dinf.{url_payload, default_url, url_of, url_early, dref_payload, count_of, default_dref, dref_of, dref_early, dinf_payload, default_dinf, dinf_of, dinf_early, IsInRangeUrl, IsWellFormedUrl, IsInRangeDref, IsWellFormedDref, IsInRangeDinf, IsWellFormedDinf};
+ghost use Rattle.mp4_leaf.specs.Dinf.{url_payload, default_url, url_of, url_early, dref_payload, count_of};
+ghost use Rattle.mp4_leaf.specs.Dinf.{default_dref, dref_of, dref_early, dinf_payload, default_dinf, dinf_of};
+ghost use Rattle.mp4_leaf.specs.Dinf.{dinf_early, IsInRangeUrl, IsWellFormedUrl, IsInRangeDref, IsWellFormedDref};
+ghost use Rattle.mp4_leaf.specs.Dinf.{IsInRangeDinf, IsWellFormedDinf};
 ghost use Rattle.mp4_leaf.specs.DinfLaws.{url_again, dref_again, dinf_again};
 
 use mp4_codec::{

@@ -3,7 +3,9 @@
 ghost use Rattle.mp4_codec.specs.ExactTest.{by_test, field_tests};
 ghost use Rattle.std.specs.Prelude.{◌≡◌, Ok};
 ghost use Rattle.mp4_codec.specs.Cause.{Checks, Gives};
-ghost use Rattle.mp4_leaf.specs.Elst.{elst_entry_refusal, elst_entry_at, elst_entry, FitsElstEntry, elst_entry_length, elst_payload, elst_refusal, default_elst, elst_of, IsInRangeElst, IsWellFormedElst, IsInRangeElstEntry};
+ghost use Rattle.mp4_leaf.specs.Elst.{elst_entry_refusal, elst_entry_at, elst_entry, FitsElstEntry, elst_entry_length};
+ghost use Rattle.mp4_leaf.specs.Elst.{elst_payload, elst_refusal, default_elst, elst_of, IsInRangeElst};
+ghost use Rattle.mp4_leaf.specs.Elst.{IsWellFormedElst, IsInRangeElstEntry};
 ghost use Rattle.mp4_leaf.specs.ElstLaws.{elst_entry_again, length-elst_entry, elst_entry-has_length, elst_again};
 ghost use Rattle.mp4_codec.specs.declared.box_type.BoxType.TheVariants.{ElstBox as elst};
 ghost use Rattle.mp4_codec.specs.Boxes.{size_around, all_refusal};

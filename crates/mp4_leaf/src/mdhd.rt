@@ -5,7 +5,8 @@ ghost use Rattle.std.specs.Prelude.{◌≡◌, Ok};
 ghost use Rattle.mp4_codec.specs.declared.box_type.BoxType.TheVariants.{MdhdBox as mdhd};
 ghost use Rattle.mp4_codec.specs.Boxes.{size_around};
 ghost use Rattle.mp4_codec.specs.Cause.{Answers};
-ghost use Rattle.mp4_leaf.specs.Mdhd.{mdhd_payload, default_mdhd, mdhd_of, mdhd_refusal, IsInRangeMdhd, IsWellFormedMdhd, header_times_of};
+ghost use Rattle.mp4_leaf.specs.Mdhd.{mdhd_payload, default_mdhd, mdhd_of, mdhd_refusal, IsInRangeMdhd};
+ghost use Rattle.mp4_leaf.specs.Mdhd.{IsWellFormedMdhd, header_times_of};
 ghost use Rattle.mp4_leaf.specs.MdhdLaws.{mdhd_again};
 ghost use Rattle.mp4_codec.specs.Early.{refused_at_once};
 

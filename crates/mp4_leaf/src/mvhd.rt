@@ -6,7 +6,8 @@ ghost use Rattle.std.specs.Prelude.{◌≡◌, Ok};
 ghost use Rattle.mp4_codec.specs.Cause.{Gives, Reads};
 ghost use Rattle.mp4_codec.specs.declared.box_type.BoxType.TheVariants.{MvhdBox as mvhd};
 ghost use Rattle.mp4_codec.specs.Boxes.{size_around};
-ghost use Rattle.mp4_leaf.specs.Mvhd.{playback_at, mvhd_payload, default_mvhd, mvhd_of, mvhd_refusal, IsInRangeMvhd, IsWellFormedMvhd, header_times_of};
+ghost use Rattle.mp4_leaf.specs.Mvhd.{playback_at, mvhd_payload, default_mvhd, mvhd_of, mvhd_refusal, IsInRangeMvhd};
+ghost use Rattle.mp4_leaf.specs.Mvhd.{IsWellFormedMvhd, header_times_of};
 ghost use Rattle.mp4_leaf.specs.MvhdLaws.{mvhd_again};
 ghost use Rattle.mp4_codec.specs.Early.{at_once};
 

@@ -5,7 +5,8 @@ ghost use Rattle.mp4_leaf.specs.contracts.matrix.MatrixExactEq.TheImpl.Laws.{law
 ghost use Rattle.std.specs.Prelude.{◌≡◌, ◌*◌, Ok};
 ghost use Rattle.mp4_codec.specs.declared.box_type.BoxType.TheVariants.{TkhdBox as tkhd};
 ghost use Rattle.mp4_codec.specs.Boxes.{size_around};
-ghost use Rattle.mp4_leaf.specs.Tkhd.{presentation_at, tkhd_payload, default_tkhd, tkhd_of, tkhd_refusal, IsInRangeTkhd, IsWellFormedTkhd, header_times_of};
+ghost use Rattle.mp4_leaf.specs.Tkhd.{presentation_at, tkhd_payload, default_tkhd, tkhd_of, tkhd_refusal};
+ghost use Rattle.mp4_leaf.specs.Tkhd.{IsInRangeTkhd, IsWellFormedTkhd, header_times_of};
 ghost use Rattle.mp4_leaf.specs.TkhdLaws.{tkhd_again};
 ghost use Rattle.mp4_codec.specs.Cause.{Gives, Reads};
 ghost use Rattle.mp4_codec.specs.Early.{at_once};

@@ -15,7 +15,8 @@ use Rattle.mp4_search.specs.Search.{IsCountByGuess, IsCountByHalves, IsFew, IsFe
 use Rattle.mp4_search.specs.declared.bit_set.BitSet.{BitSet}
 use Rattle.mp4_table.specs.declared.stsc.StscEntry.{StscEntry}
 use Rattle.mp4_lookup.specs.Costs.{AreCounts, AreFew, AreFewByGuess, AreFewForRunSample, AreFewForRunSampleByGuess}
-use Rattle.mp4_lookup.specs.Costs.{AreRunSampleCounts, AreTrackCounts, comparisons_at, comparisons_in_runs, comparisons_of}
+use Rattle.mp4_lookup.specs.Costs.{AreRunSampleCounts, AreTrackCounts, comparisons_at, comparisons_in_runs}
+use Rattle.mp4_lookup.specs.Costs.{comparisons_of}
 use Rattle.mp4_lookup.specs.Index.{IsIndexOf}
 use Rattle.mp4_lookup.specs.Tracks.{is_of_movie}
 use Rattle.mp4_lookup.specs.declared.index.TrackIndex.{TrackIndex}
@@ -130,7 +131,8 @@ few_for_run_sample find runs index number c is a some =
       runs = few.most;
     }
 
-pub few_for_run_sample_by_guess : (find : Find) (runs : List PlacedRun) (index : RunIndex) (number : ℕ) (c : Comparisons)
+pub few_for_run_sample_by_guess : (find : Find) (runs : List PlacedRun) (index : RunIndex) (number : ℕ)
+    (c : Comparisons)
     → Indexes find runs index → AreRunSampleCounts IsCountByGuess index number c → 0 < length runs
     → AreFewForRunSampleByGuess runs c
 few_for_run_sample_by_guess find runs index number c is a some =

@@ -106,7 +106,8 @@ plain_at_within t zero first within = absurd (omega arith)
 plain_at_within t (suc k) first within =
     ap within_file (slice_get-get_or (plain t) k (sample_place t (suc k))
     (rw (length-map-range_with_len (sample_place t) 1 t.stsz.sample_count) (omega arith))
-    ∙ ap Some (get_or-map-range_with_len (sample_place t) 1 t.stsz.sample_count k (suc k) (sample_place t (suc k)) (omega arith)
+    ∙ ap Some (get_or-map-range_with_len (sample_place t) 1 t.stsz.sample_count k (suc k) (sample_place t (suc k))
+    (omega arith)
     (omega arith)))
 
 plain_at_past : (t : StblBox) (k : ℕ) → t.stsz.sample_count < k → plain_at t k ≡ Ok None

@@ -81,7 +81,8 @@ same_place p q e = ap (place_in p) e
 placed_time : (located : Result (Option (ℕ × ℕ)) Cause) (time : Result (ℕ × ℕ) Cause) (make : ℕ × ℕ → ℕ × ℕ → Place)
     (sync : Bool) (p : Place)
     → ((f t : ℕ × ℕ) → ((make f t).duration ≡ t.0) × ((make f t).start_time ≡ t.1) × ((make f t).is_sync ≡ sync))
-    → (located >>= (λ located. if_there located (λ found. time >>= (λ time. Ok (Some (make found time)))))) ≡ Ok (Some p)
+    → (located >>= (λ located. if_there located (λ found. time >>= (λ time. Ok (Some (make found time))))))
+    ≡ Ok (Some p)
     → (time ≡ Ok (p.duration, p.start_time)) × (sync ≡ p.is_sync)
 placed_time (Err c) time make sync p made e = absurd cc
 placed_time (Ok None) time make sync p made e = absurd cc
@@ -109,7 +110,8 @@ rule_time t track (suc k) p e =
       rendering_offset = get_or (rendering_offsets (ctts_runs t.ctts)) (suc k - 1) (pos 0);
       is_sync = is_sync_at t.stss (suc k);
     } in
-    let told = placed_time (located_at t (suc k)) (time_at t.stts.entries track (suc k)) make (is_sync_at t.stss (suc k)) p
+    let told = placed_time (located_at t (suc k)) (time_at t.stts.entries track (suc k)) make
+    (is_sync_at t.stss (suc k)) p
     (λ f t. (refl, refl, refl)) e in
     (omega arith, told.0, told.1)
 

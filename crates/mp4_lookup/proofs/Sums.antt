@@ -55,7 +55,8 @@ ticks_before runs i small =
     ticks_of (take i runs) (All-take (λ (r : SttsEntry). r.sample_delta < 2 ^ 32) i runs small)
 
 -- a sample that begins in run i begins before 64 bits end
-pub start_fits : (before begin k delta : ℕ) → begin ≤ before * (2 ^ 32 - 1) → delta < 2 ^ 32 → before ≤ k - 1 → k < 2 ^ 32
+pub start_fits : (before begin k delta : ℕ) → begin ≤ before * (2 ^ 32 - 1) → delta < 2 ^ 32 → before ≤ k - 1
+    → k < 2 ^ 32
     → begin + (k - 1 - before) * delta < 2 ^ 64
 start_fits before begin k delta ticks small reached last =
     let most : (k - 1 - before) * delta ≤ (k - 1 - before) * (2 ^ 32 - 1) =

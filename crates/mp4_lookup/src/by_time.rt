@@ -66,7 +66,8 @@ impl Mp4Track {
     /// What [`sample_at`](Mp4Track::sample_at) answers, and how many times were compared: at most so many as the
     /// numbers of the runs of its fragments and of the entries of stts have binary digits, and 34 more.
     pub fn find_sample_at(&self, time: u64) -> FoundNumber
-        ensures number { AnswersLast (sample_by (tables_of self.now.trak) (track_runs self.now) time) (2 ^ 32) result.number }
+        ensures number { AnswersLast (sample_by (tables_of self.now.trak) (track_runs self.now) time)
+            (2 ^ 32) result.number }
         ensures comparisons { result.comparisons ≤ digits (length (track_runs self.now))
             + digits (length (tables_of self.now.trak).stts.entries) + 34 }
     {
@@ -90,7 +91,8 @@ impl Mp4Track {
     /// The number of the last of the samples of fragments that is decoded at or before a time.
     fn added_by_time(&self, time: u64, readings: &mut Readings) -> Option<u32>
         requires fresh { readings.old ≡ 0 }
-        ensures some { IfSome result (IsLastWith (sample_by (tables_of self.now.trak) (track_runs self.now) time) (2 ^ 32)) }
+        ensures some { IfSome result
+            (IsLastWith (sample_by (tables_of self.now.trak) (track_runs self.now) time) (2 ^ 32)) }
         ensures none { IfNone result ((n : ℕ) → n < 2 ^ 32 - 1 - (tables_of self.now.trak).stsz.sample_count
             → run_sample_by (track_runs self.now) time n ≡ false) }
         ensures few { readings.new ≤ digits (length (track_runs self.now)) + 33 }
@@ -121,7 +123,8 @@ impl Mp4Track {
     /// compared: at most so many as the numbers of the samples of its fragments and of the entries of stss have binary
     /// digits. Where the numbers of stss don't strictly rise, all of them are looked at; that isn't counted.
     pub fn find_sync_sample_at_or_before(&self, k: u32) -> FoundNumber
-        ensures number { AnswersLast (is_sync_sample (tables_of self.now.trak) (track_runs self.now)) (k + 1) result.number }
+        ensures number { AnswersLast (is_sync_sample (tables_of self.now.trak) (track_runs self.now))
+            (k + 1) result.number }
         ensures comparisons { result.comparisons ≤ digits (length (all_run_samples (track_runs self.now)))
             + digits (length (sync_numbers (tables_of self.now.trak).stss)) }
     {
@@ -145,7 +148,8 @@ impl Mp4Track {
     /// The number of the last sync sample up to sample `k` among the samples of fragments.
     fn added_sync_upto(&self, k: u32, readings: &mut Readings) -> Option<u32>
         requires fresh { readings.old ≡ 0 }
-        ensures some { IfSome result (IsLastWith (is_sync_sample (tables_of self.now.trak) (track_runs self.now)) (k + 1)) }
+        ensures some { IfSome result
+            (IsLastWith (is_sync_sample (tables_of self.now.trak) (track_runs self.now)) (k + 1)) }
         ensures none { IfNone result ((n : ℕ) → (tables_of self.now.trak).stsz.sample_count + 1 + n ≤ k
             → sync_at (track_runs self.now) n ≡ false) }
         ensures few { readings.new ≤ digits (length (all_run_samples (track_runs self.now))) }
@@ -211,7 +215,8 @@ impl Mp4Track {
     /// The same of a sample of the movie box, as stts says it.
     fn timing_in_tables(&self, k: u32) -> Option<(u64, u32)>
         ensures begin { option_map (λ x. x.0) result ≡ time_in (durations (tables_of self.now.trak).stts.entries) k }
-        ensures duration { IfSome result (λ x. x.1 ≡ get_or (durations (tables_of self.now.trak).stts.entries) (k - 1) 0) }
+        ensures duration { IfSome result
+            (λ x. x.1 ≡ get_or (durations (tables_of self.now.trak).stts.entries) (k - 1) 0) }
     {
         if k == 0 {
             return None;

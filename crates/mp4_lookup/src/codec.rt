@@ -1,7 +1,9 @@
 //! What the decoder of a track is started with (ISO/IEC 14496-12, 8.5.2).
 
 ghost use Rattle.mp4_codec.specs.Cause.{Gives};
-ghost use Rattle.mp4_lookup.specs.Codec.{sound_decoder_of, sample_freq_index_of, channels_of, audio_profile_of, video_decoder_of, video_profile_of, first_set, sequence_set_of, picture_set_of};
+ghost use Rattle.mp4_lookup.specs.Codec.{sound_decoder_of, sample_freq_index_of, channels_of, audio_profile_of};
+ghost use Rattle.mp4_lookup.specs.Codec.{video_decoder_of, video_profile_of, first_set, sequence_set_of};
+ghost use Rattle.mp4_lookup.specs.Codec.{picture_set_of};
 
 use crate::track::Mp4Track;
 use mp4_codec::{BoxType, Error, Result, SharedItems};

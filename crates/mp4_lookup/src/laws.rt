@@ -19,7 +19,8 @@ ghost use Rattle.mp4_lookup.specs.Tracks.{answer_at};
 /// every number of 32 bits: the sample of that number, none past the last, and `InvalidData` at 0 and for a
 /// place past 64 bits. The first samples of stsc are those that reading gives.
 pub fn rule_is_plain_expansion()
-    ensures { (t : StblBox) (track k : ℕ) → Consistent t → HasFirstSamples t.stsc.entries → k < 2 ^ 32 → rule t track k ≡ plain_at t k }
+    ensures { (t : StblBox) (track k : ℕ) → Consistent t → HasFirstSamples t.stsc.entries → k < 2 ^ 32
+        → rule t track k ≡ plain_at t k }
 {}
 
 /// A sample that is located is decoded at the start time of its place, lasts as long, and is a sync sample if the place

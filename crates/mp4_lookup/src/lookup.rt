@@ -55,12 +55,18 @@ impl Mp4Track {
     /// A sample that a fragment adds: `Ok(None)` past the last, and `InvalidData` where its place or its time is below
     /// 0 or passes 64 bits, or follows from one that does.
     pub fn locate(&self, k: u32) -> Result<Option<SamplePlace>>
-        ensures rule { Gives (λ p. option_map place_of p) result (answer_at self.now.trak self.now.trafs (track_runs self.now) k) }
-        ensures plain { IsTrue (is_of_movie self.now.trak self.now.trafs k) → Consistent (tables_of self.now.trak) → Gives (λ p. option_map place_of p) result (plain_at (tables_of self.now.trak) k) }
+        ensures rule { Gives (λ p. option_map place_of p) result
+            (answer_at self.now.trak self.now.trafs (track_runs self.now) k) }
+        ensures plain { IsTrue (is_of_movie self.now.trak self.now.trafs k) → Consistent (tables_of self.now.trak)
+            → Gives (λ p. option_map place_of p) result (plain_at (tables_of self.now.trak) k) }
         ensures counted { IfOk result (λ p. IfSome p (λ p. p.comparisons ≡ comparisons_of self.now k)) }
-        ensures comparisons { IsTrue (is_of_movie self.now.trak self.now.trafs k) → IfOk result (λ p. IfSome p (λ p. AreFew (tables_of self.now.trak) p.comparisons)) }
-        ensures size_reads { IsTrue (is_of_movie self.now.trak self.now.trafs k) → IfOk result (λ p. IfSome p (λ p. AreFewSizeReads (tables_of self.now.trak) p.size_reads)) }
-        ensures added { is_of_movie self.now.trak self.now.trafs k ≡ false → IfOk result (λ p. IfSome p (λ p. AreFewForRunSample (track_runs self.now) p.comparisons × (p.size_reads ≡ 0))) }
+        ensures comparisons { IsTrue (is_of_movie self.now.trak self.now.trafs k)
+            → IfOk result (λ p. IfSome p (λ p. AreFew (tables_of self.now.trak) p.comparisons)) }
+        ensures size_reads { IsTrue (is_of_movie self.now.trak self.now.trafs k)
+            → IfOk result (λ p. IfSome p (λ p. AreFewSizeReads (tables_of self.now.trak) p.size_reads)) }
+        ensures added { is_of_movie self.now.trak self.now.trafs k ≡ false
+            → IfOk result (λ p. IfSome p
+            (λ p. AreFewForRunSample (track_runs self.now) p.comparisons × (p.size_reads ≡ 0))) }
     {
         self.answer::<ByHalves>(k)
     }
@@ -76,12 +82,18 @@ impl Mp4Track {
     ///
     /// Refused as `locate`, with the same errors.
     pub fn locate_by_guess(&self, k: u32) -> Result<Option<SamplePlace>>
-        ensures rule { Gives (λ p. option_map place_of p) result (answer_at self.now.trak self.now.trafs (track_runs self.now) k) }
-        ensures plain { IsTrue (is_of_movie self.now.trak self.now.trafs k) → Consistent (tables_of self.now.trak) → Gives (λ p. option_map place_of p) result (plain_at (tables_of self.now.trak) k) }
+        ensures rule { Gives (λ p. option_map place_of p) result
+            (answer_at self.now.trak self.now.trafs (track_runs self.now) k) }
+        ensures plain { IsTrue (is_of_movie self.now.trak self.now.trafs k) → Consistent (tables_of self.now.trak)
+            → Gives (λ p. option_map place_of p) result (plain_at (tables_of self.now.trak) k) }
         ensures counted { IfOk result (λ p. IfSome p (λ p. AreTrackCountsByGuess self.now k p.comparisons)) }
-        ensures comparisons { IsTrue (is_of_movie self.now.trak self.now.trafs k) → IfOk result (λ p. IfSome p (λ p. AreFewByGuess (tables_of self.now.trak) p.comparisons)) }
-        ensures size_reads { IsTrue (is_of_movie self.now.trak self.now.trafs k) → IfOk result (λ p. IfSome p (λ p. AreFewSizeReads (tables_of self.now.trak) p.size_reads)) }
-        ensures added { is_of_movie self.now.trak self.now.trafs k ≡ false → IfOk result (λ p. IfSome p (λ p. AreFewForRunSampleByGuess (track_runs self.now) p.comparisons × (p.size_reads ≡ 0))) }
+        ensures comparisons { IsTrue (is_of_movie self.now.trak self.now.trafs k)
+            → IfOk result (λ p. IfSome p (λ p. AreFewByGuess (tables_of self.now.trak) p.comparisons)) }
+        ensures size_reads { IsTrue (is_of_movie self.now.trak self.now.trafs k)
+            → IfOk result (λ p. IfSome p (λ p. AreFewSizeReads (tables_of self.now.trak) p.size_reads)) }
+        ensures added { is_of_movie self.now.trak self.now.trafs k ≡ false
+            → IfOk result (λ p. IfSome p
+            (λ p. AreFewForRunSampleByGuess (track_runs self.now) p.comparisons × (p.size_reads ≡ 0))) }
     {
         self.answer::<ByGuess>(k)
     }
@@ -90,9 +102,11 @@ impl Mp4Track {
     #[inline(always)]
     #[tactic(auto, unfolding(crate::specs::Tracks::answer_at))]
     fn answer<S: Search>(&self, k: u32) -> Result<Option<SamplePlace>>
-        ensures rule { Gives (λ p. option_map place_of p) result (answer_at self.now.trak self.now.trafs (track_runs self.now) k) }
+        ensures rule { Gives (λ p. option_map place_of p) result
+            (answer_at self.now.trak self.now.trafs (track_runs self.now) k) }
         ensures counted { IfOk result (λ p. IfSome p (λ p. AreTrackCounts S.Counts S.looks self.now k p.comparisons)) }
-        ensures size_reads { IsTrue (is_of_movie self.now.trak self.now.trafs k) → IfOk result (λ p. IfSome p (λ p. AreFewSizeReads (tables_of self.now.trak) p.size_reads)) }
+        ensures size_reads { IsTrue (is_of_movie self.now.trak self.now.trafs k)
+            → IfOk result (λ p. IfSome p (λ p. AreFewSizeReads (tables_of self.now.trak) p.size_reads)) }
         ensures added { is_of_movie self.now.trak self.now.trafs k ≡ false
             → IfOk result (λ p. IfSome p (λ p. (0 < length (track_runs self.now)) × (p.size_reads ≡ 0))) }
     {
@@ -123,8 +137,10 @@ impl Mp4Track {
     ) -> Result<Option<SamplePlace>>
         requires number { number < 2 ^ 32 - 1 }
         requires fresh { AreFresh counters.old }
-        ensures rule { Gives (λ p. option_map place_of p) result (run_sample_place (slice_get (all_run_samples (track_runs self.now)) number)) }
-        ensures counted { IfOk result (λ p. IfSome p (λ p. AreRunSampleCounts S.Counts self.now.runs number p.comparisons)) }
+        ensures rule { Gives (λ p. option_map place_of p) result
+            (run_sample_place (slice_get (all_run_samples (track_runs self.now)) number)) }
+        ensures counted { IfOk result
+            (λ p. IfSome p (λ p. AreRunSampleCounts S.Counts self.now.runs number p.comparisons)) }
         ensures some_runs { IfOk result (λ p. IfSome p (λ p. 0 < length (track_runs self.now))) }
         ensures size_reads { IfOk result (λ p. IfSome p (λ p. p.size_reads ≡ 0)) }
     {

@@ -2,7 +2,8 @@
 
 ghost use Rattle.std.specs.Prelude.{◌≡◌, ◌<◌, ◌^◌, IfOk};
 ghost use Rattle.mp4_codec.specs.Cause.{Gives};
-ghost use Rattle.mp4_lookup.specs.Rates.{sample_count_of, frame_rate_of, total_size_of, measured_bitrate_of, declared_bitrate, bitrate_of};
+ghost use Rattle.mp4_lookup.specs.Rates.{sample_count_of, frame_rate_of, total_size_of, measured_bitrate_of};
+ghost use Rattle.mp4_lookup.specs.Rates.{declared_bitrate, bitrate_of};
 ghost use Rattle.mp4_lookup.specs.TrackRuns.{track_runs};
 
 use crate::headers::MICROSECONDS;

@@ -38,7 +38,8 @@ pub struct Mp4Track {
     ghost numbered: { HasFirstSamples trak.mdia.minf.stbl.stsc.entries } by { Prim.hlevel props },
     ghost indexed: { IsIndexOf trak.mdia.minf.stbl index } by { Prim.hlevel props },
     ghost placed: { Indexes (run_at trafs defaults) (runs_of trafs defaults runs) runs } by { Prim.hlevel props },
-    ghost sought: { IsSeekIndex (runs_of trafs defaults runs) (2 ^ 32 - 1 - trak.mdia.minf.stbl.stsz.sample_count) seek } by { Prim.hlevel props },
+    ghost sought: { IsSeekIndex (runs_of trafs defaults runs)
+        (2 ^ 32 - 1 - trak.mdia.minf.stbl.stsz.sample_count) seek } by { Prim.hlevel props },
     ghost counted: { trak.mdia.minf.stbl.stsz.sample_count < 2 ^ 32 } by { Prim.hlevel props },
 }
 
@@ -97,7 +98,9 @@ fn indexes_of(
 ) -> std::result::Result<TrackIndexes, AllocError>
     requires { length bases.now ≡ length trafs.now }
     ensures tables { IfOk result (λ x. IsIndexOf (tables_of trak.now) x.index) }
-    ensures runs { IfOk result (λ x. Indexes (run_at trafs.now defaults) (placed_runs defaults (movie_end trak.now) trafs.now bases.now) x.runs) }
+    ensures runs { IfOk result
+        (λ x. Indexes (run_at trafs.now defaults)
+        (placed_runs defaults (movie_end trak.now) trafs.now bases.now) x.runs) }
     ensures seek { IfOk result (λ x. IsSeekIndex (placed_runs defaults (movie_end trak.now) trafs.now bases.now)
         (2 ^ 32 - 1 - (tables_of trak.now).stsz.sample_count) x.seek) }
     ensures counted { OnOk result ((tables_of trak.now).stsz.sample_count < 2 ^ 32) }
@@ -137,8 +140,10 @@ impl Mp4Track {
         requires bases { length bases.now ≡ length trafs }
         ensures trak { IfOk result (λ t. t.trak ≡ trak) }
         ensures trafs { IfOk result (λ t. t.trafs ≡ trafs) }
-        ensures runs { IfOk result (λ t. runs_of t.trafs t.defaults t.runs ≡ placed_runs defaults (movie_end trak) trafs bases.now) }
-        ensures duration { IfOk result (λ t. t.default_sample_duration ≡ (if length trafs == 0 then 0 else defaults.duration)) }
+        ensures runs { IfOk result
+            (λ t. runs_of t.trafs t.defaults t.runs ≡ placed_runs defaults (movie_end trak) trafs bases.now) }
+        ensures duration { IfOk result
+            (λ t. t.default_sample_duration ≡ (if length trafs == 0 then 0 else defaults.duration)) }
     {
         match indexes_of(alloc, &trak, trafs.as_slice(), bases, defaults) {
             Ok(TrackIndexes { index, runs, seek }) => {

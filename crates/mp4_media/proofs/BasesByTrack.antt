@@ -1,5 +1,6 @@
 -- The base data offsets of each track's fragments, as they are gathered.
-use Rattle.std.proofs.Common.{◌≡◌, ℕ, ◌+◌, ◌<◌, ◌≤◌, suc, Bool, true, false, cond, eqb, List, [], ◌∷◌, ◌++◌, length, drop}
+use Rattle.std.proofs.Common.{◌≡◌, ℕ, ◌+◌, ◌<◌, ◌≤◌, suc, Bool, true, false, cond, eqb, List, [], ◌∷◌, ◌++◌, length}
+use Rattle.std.proofs.Common.{drop}
 use Rattle.std.proofs.Common.{get_or, Option, Some, refl, sym, ap, ap₂, ◌∙◌, arith, length-append, append_assoc}
 use Rattle.std.specs.Prelude.{map, zip, nat_eq}
 use Rattle.std.specs.List.{filter}
@@ -40,7 +41,8 @@ length-own_bases id (f ∷ fs) (b ∷ bs) e = by (length-own_bases id fs bs (ome
     by rest false = rest
 
 pub length-track_bases : (defaults : ℕ → SampleDefaults) (moofs : List MoofBox) (places : List ℕ) (id : ℕ)
-    → length places ≡ length moofs → length (track_bases defaults moofs places id) ≡ length (trafs_of (trafs_in moofs) id)
+    → length places ≡ length moofs
+    → length (track_bases defaults moofs places id) ≡ length (trafs_of (trafs_in moofs) id)
 unfolding track_bases
 length-track_bases defaults [] places id e = refl
 length-track_bases defaults (m ∷ ms) [] id e = absurd cc

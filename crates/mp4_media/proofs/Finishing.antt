@@ -29,7 +29,8 @@ use Rattle.mp4_mux.proofs.MdatLaws.{length-mdat_header_of}
 use Rattle.mp4_mux.specs.Chunks.{placed_from}
 use Rattle.mp4_mux.specs.TrackHeaders.{PlacedChunk}
 use Rattle.mp4_mux.specs.FinishedTrack.{trak_with, trak_for, movie_for}
-use Rattle.mp4_mux.specs.Writing.{WriterState, AcceptedTrack, accepted, file_type_of, finished_from, movie_of, movie_bytes}
+use Rattle.mp4_mux.specs.Writing.{WriterState, AcceptedTrack, accepted, file_type_of, finished_from, movie_of}
+use Rattle.mp4_mux.specs.Writing.{movie_bytes}
 use Rattle.mp4_mux.specs.Writing.{data_of, data_place, with_file_type, whole_of, start_cause}
 use Rattle.mp4_mux.proofs.StartLaws.{file_type-canonical}
 use Rattle.mp4_mux.specs.Parts.{Parts, state_of, IsWriting}

@@ -1,5 +1,6 @@
 -- Tracks, fragments and defaults as they are gathered, each at the id of its track.
-use Rattle.std.proofs.Common.{◌≡◌, ℕ, ◌+◌, ◌-◌, ◌<◌, ◌≤◌, Bool, true, false, cond, eqb, List, [], ◌∷◌, ◌++◌, length, take, drop}
+use Rattle.std.proofs.Common.{◌≡◌, ℕ, ◌+◌, ◌-◌, ◌<◌, ◌≤◌, Bool, true, false, cond, eqb, List, [], ◌∷◌, ◌++◌, length}
+use Rattle.std.proofs.Common.{take, drop}
 use Rattle.std.proofs.Common.{get_or, Option, Some, None, refl, sym, ap, ap₂, ◌∙◌, arith}
 use Rattle.std.specs.Prelude.{nat_eq, option_map, is_some}
 use Rattle.std.specs.List.{filter}
@@ -23,7 +24,8 @@ use Rattle.mp4_lookup.specs.declared.track.Mp4Track.{Mp4Track}
 use Rattle.mp4_lookup.specs.TrackRuns.{track_runs}
 use Rattle.mp4_lookup.specs.Tracks.{movie_end}
 use Rattle.mp4_media.specs.FileBoxes.{later}
-use Rattle.mp4_media.specs.MovieTracks.{trak_with_id, trafs_in, trafs_of, defaults_with_id, with_fragments, opened_track}
+use Rattle.mp4_media.specs.MovieTracks.{trak_with_id, trafs_in, trafs_of, defaults_with_id, with_fragments}
+use Rattle.mp4_media.specs.MovieTracks.{opened_track}
 use Rattle.mp4_media.specs.MovieTracks.{track_at, at_id, has_id, fragments_at, AreTracks, default_duration}
 use Rattle.mp4_media.specs.MovieTracks.{movie_defaults, track_bases}
 use Rattle.mp4_media.specs.MovieTracks.{zero_id, unknown_id, unknown_ids, id_fault}
@@ -117,10 +119,12 @@ pub with_first : (t : TrakBox) (traks : List TrakBox) (id : ℕ)
 with_first t traks id = last-first (eqb t.tkhd.track_id id) t (filter (λ (x : TrakBox). eqb x.tkhd.track_id id) traks)
 
 module _ {S T : Type 0} (moov : MoovBox) (moofs : List MoofBox) (places : List ℕ) (t : TrakBox) (traks : List TrakBox)
-    (tracks : HashMap ℕ Mp4Track S) (fragments : HashMap ℕ (List TrafBox) T) (w : Made moov moofs places traks tracks fragments)
+    (tracks : HashMap ℕ Mp4Track S) (fragments : HashMap ℕ (List TrafBox) T)
+    (w : Made moov moofs places traks tracks fragments)
   where
     -- a box whose id is that of a later box
-    pub made-passes : is_some (at_id tracks t.tkhd.track_id) ≡ true → Made moov moofs places (t ∷ traks) tracks fragments
+    pub made-passes : is_some (at_id tracks t.tkhd.track_id) ≡ true
+        → Made moov moofs places (t ∷ traks) tracks fragments
     made-passes known = record {
       made = λ id. w.made id ∙ ap (option_map (with_fragments moov moofs places)) (sym (same id));
       left = λ id none. w.left id (sym (same id) ∙ none);
@@ -200,7 +204,8 @@ module _ {S T : Type 0} (moov : MoovBox) (moofs : List MoofBox) (places : List �
           by id false this = rw (now id, with_first t traks id, this) (w.made id ∙ more (trak_with_id traks id))
             where
               more : (o : Option TrakBox)
-                  → option_map (with_fragments moov moofs places) o ≡ option_map (with_fragments moov moofs places) (later o None)
+                  → option_map (with_fragments moov moofs places) o
+                  ≡ option_map (with_fragments moov moofs places) (later o None)
               more (Some x) = refl
               more None = refl
 

@@ -380,7 +380,8 @@ module _ (size : ℕ) (start : Cursor) where
       by_kinds boxes end are closed (f ∷ fs) is_f (m ∷ ms) is_m =
           let one = some_there f fs in
           let two = some_there m ms in
-          by_ids boxes end are closed one.0 (rw is_f one.1) (λ none. let no : f ∷ fs ≡ [] = sym is_f ∙ none in absurd cc) two.0 (rw is_m two.1)
+          by_ids boxes end are closed one.0 (rw is_f one.1)
+          (λ none. let no : f ∷ fs ≡ [] = sym is_f ∙ none in absurd cc) two.0 (rw is_m two.1)
           (id_fault two.0 (moofs_in boxes)) refl
 
       by : Whole size start.bytes start.position → File

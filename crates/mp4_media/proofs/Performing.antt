@@ -8,7 +8,8 @@ use Rattle.mp4_codec.specs.Cause.{AnswersCause}
 use Rattle.mp4_mux.specs.Writing.{WriterState}
 use Rattle.mp4_mux.proofs.StateLaws.{sample_welcome, one_more}
 use Rattle.mp4_mux.proofs.EndedStates.{all-append}
-use Rattle.mp4_mux.specs.Calls.{Call, Reply, add_track, write_sample, write_end, is_end, step, call_cause, IsInRangeCall}
+use Rattle.mp4_mux.specs.Calls.{Call, Reply, add_track, write_sample, write_end, is_end, step, call_cause}
+use Rattle.mp4_mux.specs.Calls.{IsInRangeCall}
 use Rattle.mp4_mux.proofs.CallLaws.{step_goes_on, answered_ok}
 use Rattle.mp4_media.specs.declared.calls.WriterCall.{WriterCall}
 use Rattle.mp4_media.specs.Finished.{Opens}

@@ -1,6 +1,7 @@
 -- What is read of a sample: no step of a lookup wants memory, and at the movie box's numbers the tables written out
 -- lead to it.
-use Rattle.std.proofs.Common.{◌≡◌, ℕ, ◌+◌, ◌-◌, ◌/◌, ◌^◌, ◌<◌, Bool, true, false, cond, eqb, leb, ltb, List, length, sum}
+use Rattle.std.proofs.Common.{◌≡◌, ℕ, ◌+◌, ◌-◌, ◌/◌, ◌^◌, ◌<◌, Bool, true, false, cond, eqb, leb, ltb, List, length}
+use Rattle.std.proofs.Common.{sum}
 use Rattle.std.proofs.Common.{Option, Some, None, Result, Ok, Err, subst}
 use Rattle.std.specs.Prelude.{slice_get, slice_range}
 use Rattle.std.specs.HashMap.{HashMap}
@@ -157,7 +158,8 @@ module _ {S : Type 0} (file : List ℕ) (tracks : HashMap ℕ Mp4Track S) (id k 
   unfolding sample_in sample_at
   sample-none =
       next (needed_track tracks id) _ (track-none id (at_id tracks id))
-      (λ t. next (answer_at t.trak t.trafs (track_runs t) k) (read_in file) (answer-none t.trak t.trafs (track_runs t) k)
+      (λ t. next (answer_at t.trak t.trafs (track_runs t) k) (read_in file)
+      (answer-none t.trak t.trafs (track_runs t) k)
       (read-none file))
 
   -- of no sample it is said that memory ran out
@@ -166,7 +168,8 @@ module _ {S : Type 0} (file : List ℕ) (tracks : HashMap ℕ Mp4Track S) (id k 
 
   -- a number of the movie box, whose tables agree
   pub sample_in-plain : (t : Mp4Track) → at_id tracks id ≡ Some t → is_of_movie t.trak t.trafs k ≡ true
-      → Consistent (tables_of t.trak) → k < 2 ^ 32 → sample_in file tracks id k ≡ plain_sample_at file (tables_of t.trak) k
+      → Consistent (tables_of t.trak) → k < 2 ^ 32
+      → sample_in file tracks id k ≡ plain_sample_at file (tables_of t.trak) k
   unfolding sample_in
   sample_in-plain t is whole fits small =
       rw is (sample_is_plain file t.trak t.trafs (track_runs t) k whole fits t.numbered small)

@@ -59,7 +59,8 @@ default_duration trafs defaults = if length trafs == 0 then 0 else defaults.dura
 -- of the base data offsets of these track fragments, those of this track's
 unfoldable pub own_bases : ℕ → List TrafBox → List (Option ℕ) → List (Option ℕ)
 own_bases id trafs bases =
-    map (λ (x : TrafBox × Option ℕ). x.1) (filter (λ (x : TrafBox × Option ℕ). x.0.tfhd.track_id == id) (zip trafs bases))
+    map (λ (x : TrafBox × Option ℕ). x.1)
+    (filter (λ (x : TrafBox × Option ℕ). x.0.tfhd.track_id == id) (zip trafs bases))
 
 -- The base data offsets of this track's fragments; the movie fragments begin at these places, and one may depend on the
 -- data of another track's.

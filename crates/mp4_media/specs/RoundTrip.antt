@@ -1,6 +1,7 @@
 -- What the library promises above all: what is written is read back, and what is found in any file is what its tables
 -- say (ISO/IEC 14496-12, 8.3.2, 8.6 and 8.7).
-use Rattle.std.specs.Prelude.{◌≡◌, ◌⊎◌, ℕ, zero, suc, ◌<◌, ◌^◌, List, [], ◌∷◌, length, slice_get, option_map, Option, Some}
+use Rattle.std.specs.Prelude.{◌≡◌, ◌⊎◌, ℕ, zero, suc, ◌<◌, ◌^◌, List, [], ◌∷◌, length, slice_get, option_map, Option}
+use Rattle.std.specs.Prelude.{Some}
 use Rattle.std.specs.Prelude.{Result, Ok, Err, IfErr, IfOk, IfSome, IsSomeAnd, IsTrue, false}
 use Rattle.mp4_codec.specs.declared.error.Error.{Error}
 use Rattle.mp4_codec.specs.declared.error.Error.TheVariants.{OutOfMemory}
@@ -80,7 +81,8 @@ pub record HasExactly (movie : Mp4Reader) (accepted : List AcceptedTrack) : Type
 pub record IsOpeningBy {X : Type 0} (movie_in : X → Mp4Reader) (size : ℕ) (start : Cursor) (result : Result X Error)
     : Type 0 where
   pub file : IfOk result (λ x. IsFile size start (opened_file (movie_in x)))
-  pub opens : (opened : OpenedFile) → IsFile size start opened → Answers (λ x. opened_file (movie_in x)) result (Ok opened)
+  pub opens : (opened : OpenedFile) → IsFile size start opened
+      → Answers (λ x. opened_file (movie_in x)) result (Ok opened)
   pub fault : IfErr result (λ e. (e ≡ OutOfMemory) ⊎ IsFaultyFile size start (cause_of e))
   pub refused : (c : Cause) → IsFaultyFile size start c → Answers (λ x. opened_file (movie_in x)) result (Err c)
   pub bytes : IfOk result (λ x. (movie_in x).bytes.now ≡ start.bytes)

@@ -28,7 +28,8 @@ pub enum WriterCall {
 }
 
 impl ExactEq for WriterCall {
-    ghost exact = { exact_enum writer_calls (Prim.search (field_tests, by_law track_config_laws.exact, by_law mp4_sample_laws.exact)) };
+    ghost exact = { exact_enum writer_calls
+        (Prim.search (field_tests, by_law track_config_laws.exact, by_law mp4_sample_laws.exact)) };
 }
 
 impl InRange for WriterCall {

@@ -3,7 +3,8 @@
 
 ghost use Rattle.std.specs.Prelude.{◌≡◌, ℕ, [], ◌∷◌, ◌++◌, length, ◌==◌, if◌then◌else◌, IfOk, IfErr, OnOk};
 ghost use Rattle.mp4_fragments.specs.Bases.{bases_of};
-ghost use Rattle.mp4_media.specs.MovieTracks.{at_id, bases_at, defaults_at, defaults_with_id, fragments_at, own_bases, track_bases, trafs_in, trafs_of, trexs_in};
+ghost use Rattle.mp4_media.specs.MovieTracks.{at_id, bases_at, defaults_at, defaults_with_id, fragments_at, own_bases};
+ghost use Rattle.mp4_media.specs.MovieTracks.{track_bases, trafs_in, trafs_of, trexs_in};
 
 use mp4_codec::{Error, Items, Result, TryClone};
 use mp4_frag::TrexBox;
@@ -19,7 +20,8 @@ fn add_traf(
     traf: &TrafBox,
 ) -> Result<()>
     ensures memory { IfErr result (λ e. e ≡ Error.OutOfMemory) }
-    ensures added { OnOk result ((id : ℕ) → fragments_at fragments.new id ≡ fragments_at fragments.old id ++ trafs_of (traf.now ∷ []) id) }
+    ensures added { OnOk result
+        ((id : ℕ) → fragments_at fragments.new id ≡ fragments_at fragments.old id ++ trafs_of (traf.now ∷ []) id) }
 {
     let of_track = fragments
         .entry(traf.tfhd.track_id)?
@@ -36,7 +38,8 @@ fn add_trafs(
     trafs: &[TrafBox],
 ) -> Result<()>
     ensures memory { IfErr result (λ e. e ≡ Error.OutOfMemory) }
-    ensures added { OnOk result ((id : ℕ) → fragments_at fragments.new id ≡ fragments_at fragments.old id ++ trafs_of trafs.now id) }
+    ensures added { OnOk result
+        ((id : ℕ) → fragments_at fragments.new id ≡ fragments_at fragments.old id ++ trafs_of trafs.now id) }
 {
     for traf in trafs {
         add_traf(alloc, fragments, traf)?;
@@ -97,7 +100,9 @@ fn add_base(
     id: u32,
     base: Option<u64>,
 ) -> std::result::Result<(), AllocError>
-    ensures { OnOk result ((other : ℕ) → bases_at bases.new other ≡ (if id == other then bases_at bases.old id ++ base ∷ [] else bases_at bases.old other)) }
+    ensures { OnOk result ((other : ℕ)
+        → bases_at bases.new other
+        ≡ (if id == other then bases_at bases.old id ++ base ∷ [] else bases_at bases.old other)) }
 {
     bases.entry(id)?.or_insert(Items::new(alloc)).push(base)?;
     Ok(())
@@ -111,7 +116,9 @@ fn add_bases(
     moof: u64,
     trafs: &[TrafBox],
 ) -> std::result::Result<(), AllocError>
-    ensures { OnOk result ((id : ℕ) → bases_at bases.new id ≡ bases_at bases.old id ++ own_bases id trafs.now (bases_of (defaults_at defaults.now) moof trafs.now)) }
+    ensures { OnOk result ((id : ℕ)
+        → bases_at bases.new id ≡ bases_at bases.old id
+        ++ own_bases id trafs.now (bases_of (defaults_at defaults.now) moof trafs.now)) }
 {
     let mut before = Some(moof);
     for traf in trafs {
@@ -132,7 +139,8 @@ pub(crate) fn bases_by_id(
     defaults: &HashMap<u32, SampleDefaults>,
 ) -> std::result::Result<HashMap<u32, Items<Option<u64>>>, AllocError>
     requires { length places.now ≡ length moofs.now }
-    ensures { IfOk result (λ m. (id : ℕ) → bases_at m id ≡ track_bases (defaults_at defaults.now) moofs.now places.now id) }
+    ensures { IfOk result (λ m. (id : ℕ)
+        → bases_at m id ≡ track_bases (defaults_at defaults.now) moofs.now places.now id) }
 {
     let mut bases = HashMap::new(alloc);
     for (i, moof) in moofs.iter().enumerate() {

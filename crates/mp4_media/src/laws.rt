@@ -31,17 +31,23 @@ pub use mp4_table::{
 /// The bytes of a writer that was begun in an empty buffer, and whose end was Ok, open as a movie that has exactly the
 /// tracks and samples that its calls accepted, or memory runs out.
 pub fn written_movies_are_read_back()
-    ensures { (session : Session) → session.front ≡ [] → IsEnded session → Opens (writer_of session) → (file : List ℕ) → file ≡ whole_of (writer_of session) → length file < 2 ^ 64 → (result : Result Mp4Reader Error) → IsOpening file result → OpensAs (λ movie. HasExactly movie (accepted_by session)) result }
+    ensures { (session : Session) → session.front ≡ [] → IsEnded session → Opens (writer_of session) → (file : List ℕ)
+        → file ≡ whole_of (writer_of session) → length file < 2 ^ 64 → (result : Result Mp4Reader Error)
+        → IsOpening file result → OpensAs (λ movie. HasExactly movie (accepted_by session)) result }
 {}
 
 /// A sample's start and its duration are the start of the next one of its track (ISO/IEC 14496-12, 8.6.1.2).
 pub fn samples_follow_one_another()
-    ensures { (movie : Mp4Reader) (accepted : List AcceptedTrack) → HasExactly movie accepted → (id k : ℕ) → k + 1 < 2 ^ 32 → (s next : TimedSample) → sample_read movie id k ≡ Ok (Some s) → sample_read movie id (k + 1) ≡ Ok (Some next) → next.start_time ≡ s.start_time + s.sample.duration }
+    ensures { (movie : Mp4Reader) (accepted : List AcceptedTrack) → HasExactly movie accepted → (id k : ℕ)
+        → k + 1 < 2 ^ 32 → (s next : TimedSample) → sample_read movie id k ≡ Ok (Some s)
+        → sample_read movie id (k + 1) ≡ Ok (Some next) → next.start_time ≡ s.start_time + s.sample.duration }
 {}
 
 /// Two movies whose calls accepted the same tracks, with the same samples, answer the same, however the calls of
 /// different tracks were ordered.
 pub fn interleavings_are_read_alike()
-    ensures samples { (one other : Mp4Reader) (accepted : List AcceptedTrack) → HasExactly one accepted → HasExactly other accepted → (id k : ℕ) → k < 2 ^ 32 → sample_read one id k ≡ sample_read other id k }
-    ensures counts { (one other : Mp4Reader) (accepted : List AcceptedTrack) → HasExactly one accepted → HasExactly other accepted → (id : ℕ) → samples_counted one id ≡ samples_counted other id }
+    ensures samples { (one other : Mp4Reader) (accepted : List AcceptedTrack) → HasExactly one accepted
+        → HasExactly other accepted → (id k : ℕ) → k < 2 ^ 32 → sample_read one id k ≡ sample_read other id k }
+    ensures counts { (one other : Mp4Reader) (accepted : List AcceptedTrack) → HasExactly one accepted
+        → HasExactly other accepted → (id : ℕ) → samples_counted one id ≡ samples_counted other id }
 {}

@@ -123,7 +123,8 @@ impl<'a> Mp4Reader<'a> {
     /// runs are placed by one pass over all fragments, and then one over those of each track; no sample is written out.
     pub fn read_header(alloc: Global, reader: ByteCursor<'a>, size: u64) -> Result<Self>
         ensures file { IfOk result (λ r. IsFile size reader.entry (opened_file r)) }
-        ensures opens { (opened : OpenedFile) → IsFile size reader.entry opened → Answers opened_file result (Ok opened) }
+        ensures opens { (opened : OpenedFile) → IsFile size reader.entry opened
+            → Answers opened_file result (Ok opened) }
         ensures fault { IfErr result (λ e. (e ≡ Error.OutOfMemory) ⊎ IsFaultyFile size reader.entry (cause_of e)) }
         ensures refused { (c : Cause) → IsFaultyFile size reader.entry c → Answers opened_file result (Err c) }
         ensures bytes { IfOk result (λ r. r.bytes.now ≡ reader.entry.bytes) }
@@ -210,9 +211,12 @@ impl<'a> Mp4Reader<'a> {
 /// Opens the file of these bytes, from the first to the last, as [`Mp4Reader::read_header`] does.
 pub fn read_mp4(alloc: Global, bytes: &[u8]) -> Result<Mp4Reader<'_>>
     ensures file { IfOk result (λ r. IsFile (length bytes.now) (here bytes.now 0) (opened_file r)) }
-    ensures opens { (opened : OpenedFile) → IsFile (length bytes.now) (here bytes.now 0) opened → Answers opened_file result (Ok opened) }
-    ensures fault { IfErr result (λ e. (e ≡ Error.OutOfMemory) ⊎ IsFaultyFile (length bytes.now) (here bytes.now 0) (cause_of e)) }
-    ensures refused { (c : Cause) → IsFaultyFile (length bytes.now) (here bytes.now 0) c → Answers opened_file result (Err c) }
+    ensures opens { (opened : OpenedFile) → IsFile (length bytes.now) (here bytes.now 0) opened
+        → Answers opened_file result (Ok opened) }
+    ensures fault { IfErr result
+        (λ e. (e ≡ Error.OutOfMemory) ⊎ IsFaultyFile (length bytes.now) (here bytes.now 0) (cause_of e)) }
+    ensures refused { (c : Cause) → IsFaultyFile (length bytes.now) (here bytes.now 0) c
+        → Answers opened_file result (Err c) }
     ensures bytes { IfOk result (λ r. r.bytes.now ≡ bytes.now) }
     ensures tracks { IfOk result (λ r. AreTracks r.movie.moov r.movie.moofs r.movie.moof_places r.movie.tracks) }
 {

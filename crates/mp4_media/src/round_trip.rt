@@ -16,7 +16,8 @@ ghost use Rattle.mp4_mux.specs.Writing.{start_cause, started, whole_of};
 ghost use Rattle.mp4_media.specs.Finished.{Opens};
 ghost use Rattle.mp4_media.specs.MovieTracks.{at_id};
 ghost use Rattle.mp4_media.specs.Reading.{IsSample, sample_in};
-ghost use Rattle.mp4_media.specs.RoundTrip.{LooksUpInEachFile, HasExactly, IsLocated, IsOpening, IsOpeningBy, IsPlace, OpensAs};
+ghost use Rattle.mp4_media.specs.RoundTrip.{LooksUpInEachFile, HasExactly, IsLocated, IsOpening, IsOpeningBy, IsPlace};
+ghost use Rattle.mp4_media.specs.RoundTrip.{OpensAs};
 ghost use Rattle.mp4_media.specs.WriterCalls.{calls_of};
 
 use crate::calls::WriterCall;
@@ -80,8 +81,10 @@ fn place_in(movie: &Mp4Reader, track_id: u32, number: u32) -> Result<Option<Samp
 /// Opens a file and looks for a sample in it, as [`Mp4Reader::read_header`], [`mp4_lookup::Mp4Track::locate`] and
 /// [`Mp4Reader::read_sample`] do.
 pub fn find_sample<'f>(alloc: Global, query: &SampleQuery<'f>) -> Result<FoundSample<'f>>
-    ensures found { LooksUpInEachFile query.now.size (here query.now.bytes.now query.now.start) query.now.track_id query.now.number result }
-    ensures opened { IsOpeningBy (λ found. found.movie) query.now.size (here query.now.bytes.now query.now.start) result }
+    ensures found { LooksUpInEachFile query.now.size
+        (here query.now.bytes.now query.now.start) query.now.track_id query.now.number result }
+    ensures opened { IsOpeningBy (λ found. found.movie) query.now.size
+        (here query.now.bytes.now query.now.start) result }
     ensures place { IfOk result (λ found. IsLocated found.movie query.now.track_id query.now.number found.place) }
     ensures sample { IfOk result (λ found. Answers (λ s. option_map timed_sample s) found.sample
         (sample_in query.now.bytes.now found.movie.movie.tracks query.now.track_id query.now.number)) }
@@ -110,8 +113,11 @@ fn write_calls(
 ) -> Result<Vec<Result<()>>>
     ensures replies { IfOk result (λ rs. Answered (calls_of calls.now) rs.items (started [] config.now)) }
     ensures fits { IfOk result (λ rs. AllByRecursion IsInRangeCall (calls_of calls.now)) }
-    ensures bytes { IfOk result (λ rs. buffer.new.items ≡ whole_of (after (calls_of calls.now) rs.items (started [] config.now))) }
-    ensures opens { IfOk result (λ rs. has_end (calls_of calls.now) rs.items ≡ true → Opens (after (calls_of calls.now) rs.items (started [] config.now))) }
+    ensures bytes { IfOk result
+        (λ rs. buffer.new.items ≡ whole_of (after (calls_of calls.now) rs.items (started [] config.now))) }
+    ensures opens { IfOk result
+        (λ rs. has_end (calls_of calls.now) rs.items ≡ true
+        → Opens (after (calls_of calls.now) rs.items (started [] config.now))) }
     ensures cause { AnswersCause (start_cause config.now) result }
 {
     let mut writer = Mp4Writer::write_start(alloc, Vec::new(alloc), config)?;
@@ -139,10 +145,15 @@ pub fn write_and_read<'w, 'f>(
     query: &SampleQuery<'f>,
 ) -> Result<RoundTrip<'w, 'f>>
     ensures replies { IfOk result (λ r. Answered (calls_of calls.now) r.replies.items (started [] config.now)) }
-    ensures bytes { IfOk result (λ r. r.bytes.now ≡ whole_of (after (calls_of calls.now) r.replies.items (started [] config.now))) }
-    ensures read_back { IfOk result (λ r. has_end (calls_of calls.now) r.replies.items ≡ true → OpensAs (λ movie. HasExactly movie (accepted_after (calls_of calls.now) r.replies.items [])) r.movie) }
+    ensures bytes { IfOk result
+        (λ r. r.bytes.now ≡ whole_of (after (calls_of calls.now) r.replies.items (started [] config.now))) }
+    ensures read_back { IfOk result
+        (λ r. has_end (calls_of calls.now) r.replies.items ≡ true
+        → OpensAs (λ movie. HasExactly movie (accepted_after (calls_of calls.now) r.replies.items [])) r.movie) }
     ensures opened { IfOk result (λ r. IsOpening r.bytes.now r.movie) }
-    ensures found { IfOk result (λ r. LooksUpInEachFile query.now.size (here query.now.bytes.now query.now.start) query.now.track_id query.now.number r.found) }
+    ensures found { IfOk result
+        (λ r. LooksUpInEachFile query.now.size
+        (here query.now.bytes.now query.now.start) query.now.track_id query.now.number r.found) }
     ensures found_opened { IfOk result (λ r. IsOpeningBy (λ found. found.movie) query.now.size
         (here query.now.bytes.now query.now.start) r.found) }
     ensures found_place { IfOk result (λ r. IfOk r.found

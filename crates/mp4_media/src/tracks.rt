@@ -8,7 +8,9 @@ ghost use Rattle.mp4_fragments.specs.Fragments.{placed_runs};
 ghost use Rattle.mp4_lookup.specs.TrackRuns.{track_runs};
 ghost use Rattle.mp4_samples.specs.Tables.{tables_of};
 ghost use Rattle.mp4_lookup.specs.Tracks.{movie_end};
-ghost use Rattle.mp4_media.specs.MovieTracks.{AreTracks, HaveFirstSamples, RefusedBy, at_id, bases_at, default_duration, defaults_at, fragments_at, has_id, id_fault, movie_defaults, unknown_id, unknown_ids, zero_id};
+ghost use Rattle.mp4_media.specs.MovieTracks.{AreTracks, HaveFirstSamples, RefusedBy, at_id, bases_at};
+ghost use Rattle.mp4_media.specs.MovieTracks.{default_duration, defaults_at, fragments_at, has_id, id_fault};
+ghost use Rattle.mp4_media.specs.MovieTracks.{movie_defaults, unknown_id, unknown_ids, zero_id};
 
 use crate::fragments::{
     bases_by_id, bases_with_id, defaults_by_id, fragments_by_id, track_defaults, trexs_of,
@@ -92,13 +94,20 @@ fn taken_track(
     defaults: &HashMap<u32, SampleDefaults>,
 ) -> Result<Mp4Track>
     requires first_samples { HasFirstSamples (tables_of trak.now).stsc.entries }
-    requires bases { length (bases_at bases.now trak.now.tkhd.track_id) ≡ length (fragments_at fragments.old trak.now.tkhd.track_id) }
+    requires bases { length (bases_at bases.now trak.now.tkhd.track_id)
+        ≡ length (fragments_at fragments.old trak.now.tkhd.track_id) }
     ensures memory { IfErr result (λ e. e ≡ Error.OutOfMemory) }
     ensures trak { IfOk result (λ t. t.trak ≡ trak.now) }
     ensures trafs { IfOk result (λ t. t.trafs ≡ fragments_at fragments.old trak.now.tkhd.track_id) }
-    ensures runs { IfOk result (λ t. track_runs t ≡ placed_runs (defaults_at defaults.now trak.now.tkhd.track_id) (movie_end trak.now) (fragments_at fragments.old trak.now.tkhd.track_id) (bases_at bases.now trak.now.tkhd.track_id)) }
-    ensures duration { IfOk result (λ t. t.default_sample_duration ≡ default_duration (fragments_at fragments.old trak.now.tkhd.track_id) (defaults_at defaults.now trak.now.tkhd.track_id)) }
-    ensures taken { (id : ℕ) → at_id fragments.new id ≡ (if trak.now.tkhd.track_id == id then None else at_id fragments.old id) }
+    ensures runs { IfOk result
+        (λ t. track_runs t ≡ placed_runs (defaults_at defaults.now trak.now.tkhd.track_id) (movie_end trak.now)
+        (fragments_at fragments.old trak.now.tkhd.track_id) (bases_at bases.now trak.now.tkhd.track_id)) }
+    ensures duration { IfOk result
+        (λ t. t.default_sample_duration
+        ≡ default_duration (fragments_at fragments.old trak.now.tkhd.track_id)
+        (defaults_at defaults.now trak.now.tkhd.track_id)) }
+    ensures taken { (id : ℕ) → at_id fragments.new id
+        ≡ (if trak.now.tkhd.track_id == id then None else at_id fragments.old id) }
 {
     let id = trak.tkhd.track_id;
     let trafs = fragments.remove(&id).unwrap_or(Items::new(alloc));

@@ -10,7 +10,8 @@ ghost use Rattle.mp4_mux.specs.Building.{new_building};
 ghost use Rattle.mp4_mux.specs.Config.{config_cause};
 ghost use Rattle.mp4_mux.specs.FinishedTrack.{movie_for};
 ghost use Rattle.mp4_mux.specs.Parts.{bytes_at_end, finished_buildings, unwritten};
-ghost use Rattle.mp4_mux.specs.Writing.{movie_bytes, started, with_track, with_sample, with_end, start_cause, track_cause, sample_cause, end_cause, whole_of, WriterState};
+ghost use Rattle.mp4_mux.specs.Writing.{movie_bytes, started, with_track, with_sample, with_end, start_cause};
+ghost use Rattle.mp4_mux.specs.Writing.{track_cause, sample_cause, end_cause, whole_of, WriterState};
 ghost use Rattle.mp4_mux.specs.Written.{IsWrittenMovie};
 ghost use Rattle.mp4_media.specs.Finished.{Opens};
 ghost use Rattle.mp4_media.specs.WriterFields.{writer_state, IsWriter};
@@ -87,8 +88,12 @@ fn add_end(buffer: &mut Vec<u8>, mdat: usize, timescale: u32, tracks: &[TrackWri
     requires mdat { mdat + 16 ≤ length buffer.old.items }
     requires few { length tracks.now < 2 ^ 32 }
     requires clocks { All (λ b. b.movie_timescale ≡ timescale) tracks.now }
-    requires written { length buffer.old.items + length (unwritten tracks.now) < 2 ^ 64 → write_cause (moov_payload (movie_for timescale (finished_buildings 1 (length buffer.old.items) tracks.now))) (moov_refusal (movie_for timescale (finished_buildings 1 (length buffer.old.items) tracks.now))) ≡ None }
-    ensures ok { OnOk result (buffer.new.items ≡ bytes_at_end mdat (unwritten tracks.now) (movie_bytes timescale (finished_buildings 1 (length buffer.old.items) tracks.now)) buffer.old.items) }
+    requires written { length buffer.old.items + length (unwritten tracks.now) < 2 ^ 64
+        → write_cause (moov_payload (movie_for timescale (finished_buildings 1 (length buffer.old.items) tracks.now)))
+        (moov_refusal (movie_for timescale (finished_buildings 1 (length buffer.old.items) tracks.now))) ≡ None }
+    ensures ok { OnOk result (buffer.new.items
+        ≡ bytes_at_end mdat (unwritten tracks.now)
+        (movie_bytes timescale (finished_buildings 1 (length buffer.old.items) tracks.now)) buffer.old.items) }
     ensures memory { IfErr result (λ e. e ≡ Error.OutOfMemory) }
     ensures err { OnErr result (buffer.new.items ≡ buffer.old.items) }
 {

@@ -119,7 +119,8 @@ ilst_early payload = early_gathered ilst_child_early (children payload) and_then
 -- the payload that holds a list
 unfoldable pub ilst_payload : IlstBox → List ℕ
 ilst_payload b =
-    item_box_bytes Title b.items ⧺ item_box_bytes Year b.items ⧺ item_box_bytes Poster b.items ⧺ item_box_bytes Summary b.items
+    item_box_bytes Title b.items ⧺ item_box_bytes Year b.items
+    ⧺ item_box_bytes Poster b.items ⧺ item_box_bytes Summary b.items
 
 -- each number is within its type, and each of the four keys has its place
 pub record IsInRangeIlst (b : IlstBox) : Type 0 where

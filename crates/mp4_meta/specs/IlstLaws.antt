@@ -112,10 +112,14 @@ parts b f =
     let second = both_fit (item_box_bytes Year b.items) behind_year (2 ^ 32) first.1 in
     let third = both_fit (item_box_bytes Poster b.items) behind_poster (2 ^ 32) second.1 in
     record {
-      title = optional_part title_kind (item_at Title b.items) f.in_range.title f.well_formed.title (none_refuses _) first.0;
-      year = optional_part year_kind (item_at Year b.items) f.in_range.year f.well_formed.year (none_refuses _) second.0;
-      poster = optional_part poster_kind (item_at Poster b.items) f.in_range.poster f.well_formed.poster (none_refuses _) third.0;
-      summary = optional_part summary_kind (item_at Summary b.items) f.in_range.summary f.well_formed.summary (none_refuses _) third.1;
+      title = optional_part title_kind (item_at Title b.items) f.in_range.title f.well_formed.title
+          (none_refuses _) first.0;
+      year = optional_part year_kind (item_at Year b.items) f.in_range.year f.well_formed.year
+          (none_refuses _) second.0;
+      poster = optional_part poster_kind (item_at Poster b.items) f.in_range.poster f.well_formed.poster
+          (none_refuses _) third.0;
+      summary = optional_part summary_kind (item_at Summary b.items) f.in_range.summary f.well_formed.summary
+          (none_refuses _) third.1;
     }
 
 pub ilst_again : (b : IlstBox) → IsCanonicalIlst b → ilst_of (ilst_payload b) ≡ Ok b

@@ -31,7 +31,8 @@ use Rattle.mp4_meta.specs.MetadataKinds.{hdlr_kind}
 use Rattle.mp4_meta.specs.Ilst.{ilst_of, ilst_payload}
 use Rattle.mp4_meta.specs.IlstLaws.{ilst_kind}
 use Rattle.mp4_meta.specs.Meta.{meta_body, mdir, mdir_handler, others, others_added, no_fault, HasCode, IsOther}
-use Rattle.mp4_meta.specs.Meta.{meta_of, child_box_bytes, meta_payload, IsInRangeMeta, IsWellFormedMeta, IsCanonicalMeta}
+use Rattle.mp4_meta.specs.Meta.{meta_of, child_box_bytes, meta_payload, IsInRangeMeta, IsWellFormedMeta}
+use Rattle.mp4_meta.specs.Meta.{IsCanonicalMeta}
 
 -- the handler that is written for mdir has no name
 pub length-mdir_handler : length (hdlr_payload mdir_handler) ≡ 25

@@ -23,7 +23,8 @@ unfolding udta_of udta_payload
 udta_again b f =
     let written = is_written (udta_payload b) None f.written in
     let part : Part meta_kind (optional meta meta_payload b.meta) (option_to_list b.meta) =
-    optional_part meta_kind b.meta f.in_range.meta f.well_formed.meta (none_refuses b.meta) (omega (arith, written.small)) in
+    optional_part meta_kind b.meta f.in_range.meta f.well_formed.meta (none_refuses b.meta)
+    (omega (arith, written.small)) in
     let child : Written (fault_in meta meta_of) (optional meta meta_payload b.meta) (groups b) =
     last_group meta_kind part (λ x e. rw e refl) in
     rw (

@@ -11,7 +11,10 @@ ghost use Rattle.mp4_codec.specs.Bytes.{Appends};
 ghost use Rattle.mp4_codec.specs.Boxes.{box_bytes, size_around, no_refusal};
 ghost use Rattle.mp4_codec.specs.Children.{child_box, with_last};
 ghost use Rattle.mp4_codec.specs.KeyedItems.{no_items};
-ghost use Rattle.mp4_meta.specs.Ilst.{item_type, item_of, item_early, item_payload, default_item, item_at, item_box_bytes, items_with, IsInRangeItem, ilst_fault, ilst_child_early, ilst_taken, ilst_added, ilst_of, ilst_early, ilst_payload, IsInRangeIlst, IsWellFormedIlst, default_ilst};
+ghost use Rattle.mp4_meta.specs.Ilst.{item_type, item_of, item_early, item_payload, default_item, item_at};
+ghost use Rattle.mp4_meta.specs.Ilst.{item_box_bytes, items_with, IsInRangeItem, ilst_fault, ilst_child_early};
+ghost use Rattle.mp4_meta.specs.Ilst.{ilst_taken, ilst_added, ilst_of, ilst_early, ilst_payload, IsInRangeIlst};
+ghost use Rattle.mp4_meta.specs.Ilst.{IsWellFormedIlst, default_ilst};
 ghost use Rattle.mp4_meta.specs.IlstLaws.{ilst_adds, ilst_again};
 
 use crate::metadata_key::MetadataKey;

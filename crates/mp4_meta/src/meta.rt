@@ -14,7 +14,9 @@ ghost use Rattle.mp4_codec.specs.Children.{fault_in, last_of, with_last};
 ghost use Rattle.mp4_codec.specs.GatherLaws.{last_child-adds};
 ghost use Rattle.mp4_codec.specs.Bytes.{Appends};
 ghost use Rattle.mp4_codec.specs.Boxes.{box_bytes, size_around, no_refusal};
-ghost use Rattle.mp4_meta.specs.Meta.{names_hdlr, meta_body, mdir_handler, type_in, last_type, last_handler_type, others_early, meta_early, child_box_bytes, others, others_added, no_fault, HasCode, meta_of, meta_payload, IsInRangeMeta, IsWellFormedMeta, default_meta};
+ghost use Rattle.mp4_meta.specs.Meta.{names_hdlr, meta_body, mdir_handler, type_in, last_type, last_handler_type};
+ghost use Rattle.mp4_meta.specs.Meta.{others_early, meta_early, child_box_bytes, others, others_added, no_fault};
+ghost use Rattle.mp4_meta.specs.Meta.{HasCode, meta_of, meta_payload, IsInRangeMeta, IsWellFormedMeta, default_meta};
 ghost use Rattle.mp4_meta.specs.MetaLaws.{others_adds, meta_again};
 
 use crate::ilst::IlstBox;
@@ -53,7 +55,13 @@ pub enum MetaBox {
 }
 
 impl ExactEq for MetaBox {
-    ghost exact = { exact_enum meta_boxes (Prim.search (field_tests, by_law ilst_laws.exact, by_law hdlr_laws.exact, list (pair (by_law box_type_laws.exact) (list number)))) };
+    ghost exact = { exact_enum meta_boxes
+        (Prim.search (
+          field_tests,
+          by_law ilst_laws.exact,
+          by_law hdlr_laws.exact,
+          list (pair (by_law box_type_laws.exact) (list number)),
+        )) };
 }
 
 impl MetaBox {

@@ -4,7 +4,8 @@ ghost use Rattle.std.specs.Prelude.{◌≡◌, Ok, Option, List};
 ghost use Rattle.std.specs.Cow.{cow_str_bytes};
 ghost use Rattle.std.specs.Option.{option_copied, option_map};
 ghost use Rattle.mp4_codec.specs.Cause.{Answers};
-ghost use Rattle.mp4_meta.specs.Metadata.{title_of, summary_of, poster_of, year_of, text_of, number_in, year_in_text, year_in};
+ghost use Rattle.mp4_meta.specs.Metadata.{title_of, summary_of, poster_of, year_of, text_of, number_in, year_in_text};
+ghost use Rattle.mp4_meta.specs.Metadata.{year_in};
 ghost use Rattle.mp4_meta.specs.declared.ilst.IlstItemBox.{IlstItemBox};
 
 use crate::ilst::{IlstBox, IlstItemBox, item_of_key};

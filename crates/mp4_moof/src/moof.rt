@@ -7,7 +7,8 @@ ghost use Rattle.std.specs.Prelude.{◌≡◌, Ok};
 ghost use Rattle.mp4_codec.specs.declared.box_type.BoxType.TheVariants.{MoofBox as moof};
 ghost use Rattle.mp4_codec.specs.Cause.{Gives};
 ghost use Rattle.mp4_codec.specs.Boxes.{size_around};
-ghost use Rattle.mp4_moof.specs.Moof.{moof_payload, default_moof, moof_fault, moof_child_early, moof_taken, moof_added, moof_of, moof_early, moof_refusal, IsInRangeMoof, IsWellFormedMoof};
+ghost use Rattle.mp4_moof.specs.Moof.{moof_payload, default_moof, moof_fault, moof_child_early, moof_taken, moof_added};
+ghost use Rattle.mp4_moof.specs.Moof.{moof_of, moof_early, moof_refusal, IsInRangeMoof, IsWellFormedMoof};
 ghost use Rattle.mp4_moof.specs.MoofLaws.{moof_adds, moof_again};
 
 use crate::traf::TrafBox;

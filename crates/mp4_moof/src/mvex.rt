@@ -7,7 +7,8 @@ ghost use Rattle.std.specs.Prelude.{◌≡◌, Ok};
 ghost use Rattle.mp4_codec.specs.declared.box_type.BoxType.TheVariants.{MvexBox as mvex};
 ghost use Rattle.mp4_codec.specs.Cause.{Gives};
 ghost use Rattle.mp4_codec.specs.Boxes.{size_around};
-ghost use Rattle.mp4_moof.specs.Mvex.{mvex_payload, default_mvex, mvex_fault, mvex_child_early, mvex_taken, mvex_added, mvex_of, mvex_early, mvex_refusal, IsInRangeMvex, IsWellFormedMvex};
+ghost use Rattle.mp4_moof.specs.Mvex.{mvex_payload, default_mvex, mvex_fault, mvex_child_early, mvex_taken, mvex_added};
+ghost use Rattle.mp4_moof.specs.Mvex.{mvex_of, mvex_early, mvex_refusal, IsInRangeMvex, IsWellFormedMvex};
 ghost use Rattle.mp4_moof.specs.MvexLaws.{mvex_adds, mvex_again};
 
 use mp4_codec::{

@@ -8,7 +8,8 @@ ghost use Rattle.std.specs.Prelude.{◌≡◌, Ok};
 ghost use Rattle.mp4_codec.specs.declared.box_type.BoxType.TheVariants.{TrafBox as traf};
 ghost use Rattle.mp4_codec.specs.Cause.{Gives};
 ghost use Rattle.mp4_codec.specs.Boxes.{size_around};
-ghost use Rattle.mp4_moof.specs.Traf.{traf_payload, default_traf, traf_fault, traf_child_early, traf_taken, traf_added, traf_of, traf_early, traf_refusal, IsInRangeTraf, IsWellFormedTraf};
+ghost use Rattle.mp4_moof.specs.Traf.{traf_payload, default_traf, traf_fault, traf_child_early, traf_taken, traf_added};
+ghost use Rattle.mp4_moof.specs.Traf.{traf_of, traf_early, traf_refusal, IsInRangeTraf, IsWellFormedTraf};
 ghost use Rattle.mp4_moof.specs.TrafLaws.{traf_adds, traf_again};
 
 use mp4_codec::{
@@ -34,7 +35,8 @@ pub struct TrafBox {
 }
 
 impl ExactEq for TrafBox {
-    ghost exact = { by_test (Prim.hlevel (field_tests, by_law tfhd_laws.exact, by_law tfdt_laws.exact, by_law trun_laws.exact)) };
+    ghost exact = { by_test (Prim.hlevel
+        (field_tests, by_law tfhd_laws.exact, by_law tfdt_laws.exact, by_law trun_laws.exact)) };
 }
 
 impl DebugItem for TrafBox {}

@@ -3,7 +3,8 @@ use Rattle.std.proofs.Common.{◌≡◌, ◌≢◌, ℕ, zero, suc, ◌+◌, ◌
 use Rattle.std.proofs.Common.{length, get_or, take, drop, map, refl, sym, ap, ap₂, subst, ◌∙◌, append_assoc, arith}
 use Rattle.std.specs.List.{AllByRecursion, sum_by}
 use Rattle.std.proofs.lemmas.List.{append-nil, length-append, length-drop, length-map, map-append, get_or-map}
-use Rattle.std.proofs.lemmas.List.{take-append-le, drop-append-le, length-take-le, take_at as take-exactly, drop_at, drop-drop}
+use Rattle.std.proofs.lemmas.List.{take-append-le, drop-append-le, length-take-le, take_at as take-exactly, drop_at}
+use Rattle.std.proofs.lemmas.List.{drop-drop}
 use Rattle.std.proofs.lemmas.List.{take-append-drop}
 use Rattle.std.proofs.lemmas.Bool.{ne_eqb}
 use Rattle.std.proofs.Common.{◌^◌}
@@ -30,7 +31,8 @@ use Rattle.mp4_mux.specs.Building.{Building, pending_place, samples_in}
 use Rattle.mp4_mux.specs.Media.{building_at, no_building, place_in, infos_in, chunk_in, track_of}
 use Rattle.mp4_mux.proofs.MediaLaws.{samples_in-more}
 use Rattle.mp4_mux.specs.Sound.{IsSound}
-use Rattle.mp4_mux.specs.Parts.{Parts, open_state, state_of, IsChunkAt, IsWriting, unwritten, last_place, finished_buildings}
+use Rattle.mp4_mux.specs.Parts.{Parts, open_state, state_of, IsChunkAt, IsWriting, unwritten, last_place}
+use Rattle.mp4_mux.specs.Parts.{finished_buildings}
 use Rattle.mp4_mux.specs.Parts.{movie_at_end, parts_at_end}
 use Rattle.mp4_mux.proofs.PartsLaws.{whole_now, length_now}
 
@@ -148,7 +150,8 @@ module _ (p : Parts) (h : IsWriting p) (goes_on : p.ended ≡ false) where
             ∙ of_track-append (1 + u) (placed_from (p.mdat + 16) st.chunks)
             (placed_from (length buffer) (last_chunks 1 st.tracks))
             ∙ ap₂ (λ (xs ys : List PlacedChunk). xs ++ ys)
-            (subst (λ v. of_track v (placed_from (p.mdat + 16) st.chunks) ≡ map (placed_of v) b.chunks) id (h.places u l))
+            (subst (λ v. of_track v (placed_from (p.mdat + 16) st.chunks) ≡ map (placed_of v) b.chunks) id
+            (h.places u l))
             last
             ∙ sym (map-append (placed_of (1 + u)) b.chunks
             (last_place (length buffer + length (unwritten (take u tracks))) b));
@@ -278,7 +281,8 @@ module _ (p : Parts) (h : IsWriting p) (goes_on : p.ended ≡ false) where
   data-is : drop (p.mdat + 16) buffer ≡ chunk_bytes st.chunks
   data-is =
       let front = before_data st in
-      ap (drop (p.mdat + 16)) (whole_now p h goes_on ∙ sym (append_assoc front (mdat_header_of 8) (chunk_bytes st.chunks)))
+      ap (drop (p.mdat + 16))
+      (whole_now p h goes_on ∙ sym (append_assoc front (mdat_header_of 8) (chunk_bytes st.chunks)))
       ∙ drop_at (front ++ mdat_header_of 8) (chunk_bytes st.chunks) (p.mdat + 16)
       (omega (arith, length-append front (mdat_header_of 8), length-mdat_header_of 8, h.place))
 

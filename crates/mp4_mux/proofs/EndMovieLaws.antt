@@ -25,7 +25,8 @@ module _ (p : Parts) (h : IsWriting p) (goes_on : p.ended ≡ false)
   small = sym (end_cause-kept p h goes_on) ∙ fits
 
   fine_kept : All (IsFineTrack p.config.timescale) kept
-  fine_kept = subst (λ (ts : List FinishedTrack). All (IsFineTrack p.config.timescale) ts) (finished-same p h goes_on) fine
+  fine_kept = subst (λ (ts : List FinishedTrack). All (IsFineTrack p.config.timescale) ts)
+      (finished-same p h goes_on) fine
 
   -- the movie is written
   pub movie-written-kept : write_cause (moov_payload (movie_for p.config.timescale kept))
@@ -36,4 +37,5 @@ module _ (p : Parts) (h : IsWriting p) (goes_on : p.ended ≡ false)
   pub movie-canonical-kept : IsCanonicalMoov (movie_of (with_end (open_state p)))
   movie-canonical-kept =
       subst (λ (ts : List FinishedTrack). IsCanonicalMoov (movie_for p.config.timescale ts))
-      (sym (finished-same p h goes_on)) (movie_for-canonical p.config.timescale kept h.in_range.timescale fine_kept small)
+      (sym (finished-same p h goes_on))
+      (movie_for-canonical p.config.timescale kept h.in_range.timescale fine_kept small)

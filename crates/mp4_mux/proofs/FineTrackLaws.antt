@@ -16,12 +16,15 @@ use Rattle.mp4_mux.proofs.SizeTableLaws.{stsz_for-is_not_refused}
 use Rattle.mp4_mux.proofs.TableRangeLaws.{IsInRangeStts-stts_for, IsInRangeCtts-ctts_for}
 use Rattle.mp4_mux.proofs.TableRangeLaws.{IsInRangeStss-stss_for, IsInRangeStsz-stsz_for, IsInRangeStsc-stsc_for}
 use Rattle.mp4_mux.proofs.TableRangeLaws.{IsInRangeStco-stco_for, IsInRangeCo64-co64_for, IsWellFormedStts-stts_for}
-use Rattle.mp4_mux.proofs.TableRangeLaws.{IsWellFormedCtts-ctts_for, IsWellFormedStss-stss_for, IsWellFormedStsz-stsz_for}
-use Rattle.mp4_mux.proofs.TableRangeLaws.{IsWellFormedStsc-stsc_for, IsWellFormedStco-stco_for, IsWellFormedCo64-co64_for}
+use Rattle.mp4_mux.proofs.TableRangeLaws.{IsWellFormedCtts-ctts_for, IsWellFormedStss-stss_for}
+use Rattle.mp4_mux.proofs.TableRangeLaws.{IsWellFormedStsz-stsz_for}
+use Rattle.mp4_mux.proofs.TableRangeLaws.{IsWellFormedStsc-stsc_for, IsWellFormedStco-stco_for}
+use Rattle.mp4_mux.proofs.TableRangeLaws.{IsWellFormedCo64-co64_for}
 use Rattle.mp4_mux.proofs.TableRangeLaws.{HasPlaces-stco_for-co64_for}
 use Rattle.mp4_mux.specs.TrackHeaders.{FinishedTrack, PlacedChunk, media_duration}
 use Rattle.mp4_mux.proofs.TrackHeaderLaws.{tkhd_for-in_range, tkhd_for-sound, mdhd_for-in_range, mdhd_for-sound}
-use Rattle.mp4_mux.proofs.TrackHeaderLaws.{hdlr_for-in_range, hdlr_for-well_formed, vmhd_for-in_range, vmhd_for-well_formed}
+use Rattle.mp4_mux.proofs.TrackHeaderLaws.{hdlr_for-in_range, hdlr_for-well_formed, vmhd_for-in_range}
+use Rattle.mp4_mux.proofs.TrackHeaderLaws.{vmhd_for-well_formed}
 use Rattle.mp4_mux.proofs.TrackHeaderLaws.{smhd_for-in_range, smhd_for-well_formed}
 use Rattle.mp4_mux.proofs.DescriptionLaws.{stsd_for-in_range, stsd_for-well_formed, stsd_for-sound}
 use Rattle.mp4_mux.specs.FinishedTrack.{counts_of, offsets_of, stbl_for, minf_for, mdia_for, trak_with, trak_for}

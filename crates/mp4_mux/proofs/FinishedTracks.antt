@@ -88,7 +88,8 @@ module _ (id : ℕ) (b : Building) (cs : List ChunkPlace) (p q : ℕ)
   with_last offset = cs ++ pending_place b offset ∷ []
 
   counts-with : (offset : ℕ)
-      → counts_of (map (placed_of id) (with_last offset)) ≡ map (λ (c : ChunkPlace). c.count) cs ++ length b.pending ∷ []
+      → counts_of (map (placed_of id) (with_last offset)) ≡ map (λ (c : ChunkPlace). c.count) cs ++ length b.pending
+      ∷ []
   counts-with offset =
       counts_of-placed id (with_last offset)
       ∙ map-append (λ (c : ChunkPlace). c.count) cs (pending_place b offset ∷ [])

@@ -1,6 +1,7 @@
 -- What a writer keeps says what it holds: at the beginning, with one more track, and with one more sample.
 use Rattle.std.proofs.Common.{◌≡◌, ◌≢◌, ℕ, ◌+◌, ◌-◌, ◌≤◌, ◌<◌, false, cond, List, [], ◌∷◌, ◌++◌}
-use Rattle.std.proofs.Common.{length, get_or, set, take, drop, map, None, refl, sym, ap, ap₂, subst, ◌∙◌, append_assoc, arith}
+use Rattle.std.proofs.Common.{length, get_or, set, take, drop, map, None, refl, sym, ap, ap₂, subst, ◌∙◌, append_assoc}
+use Rattle.std.proofs.Common.{arith}
 use Rattle.std.proofs.Common.{get_or-set_same, ⊎_elim}
 use Rattle.std.specs.List.{AllByRecursion}
 use Rattle.std.proofs.lemmas.List.{append-nil, length-append, length_push, length-map, map-append, map-set}
@@ -42,7 +43,8 @@ use Rattle.mp4_mux.specs.Building.{room_cause}
 use Rattle.std.specs.List.{sum_by}
 use Rattle.mp4_mux.specs.TrackHeaders.{PlacedChunk, movie_duration}
 use Rattle.mp4_mux.specs.Chunks.{is_full}
-use Rattle.mp4_mux.proofs.ChunksLaws.{chunk_bytes-append, chunk_bytes-one, of_track-append, of_track-one, of_track-other}
+use Rattle.mp4_mux.proofs.ChunksLaws.{chunk_bytes-append, chunk_bytes-one, of_track-append, of_track-one}
+use Rattle.mp4_mux.proofs.ChunksLaws.{of_track-other}
 use Rattle.mp4_mux.proofs.ChunksLaws.{placed_from-append}
 use Rattle.mp4_mux.specs.Writing.{with_sample, duration_with}
 use Rattle.mp4_mux.specs.Building.{ticks}
@@ -609,7 +611,8 @@ module _ (p : Parts) (h : IsWriting p) (goes_on : p.ended ≡ false) (id : ℕ) 
 
   open-sample : open_state parts_with_sample ≡ with_sample was id s
   unfolding media_with with_sample
-  open-sample = open-chosen fullness ∙ ap (λ b. cond b (with_chunk was id more) (with_pending was id more)) same_fullness
+  open-sample = open-chosen fullness
+      ∙ ap (λ b. cond b (with_chunk was id more) (with_pending was id more)) same_fullness
 
   writing-chosen : (b : Bool) → IsSound (cond b (with_chunk was id more) (with_pending was id more))
       → IsWriting (chosen b)

@@ -1,5 +1,6 @@
 -- Samples that stand one after the other in bytes.
-use Rattle.std.proofs.Common.{◌≡◌, ℕ, zero, suc, ◌+◌, ◌*◌, ◌/◌, ◌^◌, ◌<◌, ◌≤◌, ◌-◌, List, [], ◌∷◌, ◌++◌, length, take, drop}
+use Rattle.std.proofs.Common.{◌≡◌, ℕ, zero, suc, ◌+◌, ◌*◌, ◌/◌, ◌^◌, ◌<◌, ◌≤◌, ◌-◌, List, [], ◌∷◌, ◌++◌, length, take}
+use Rattle.std.proofs.Common.{drop}
 use Rattle.std.proofs.Common.{append_assoc, map, refl, sym, ap, ap₂, ◌∙◌, arith}
 use Rattle.std.specs.List.{sum_by, AllByRecursion}
 use Rattle.std.proofs.lemmas.List.{length-append, length-drop, take-append-le, drop-append-le, nil_from_length}
@@ -86,7 +87,8 @@ pub samples_again : (ss : List Sample) (more : List ℕ) → samples_in (map inf
 unfolding samples_in
 samples_again [] more = refl
 samples_again (s ∷ ss) more =
-    let grouped : (s.bytes ++ sample_bytes ss) ++ more ≡ s.bytes ++ (sample_bytes ss ++ more) = append_assoc s.bytes (sample_bytes ss) more in
+    let grouped : (s.bytes ++ sample_bytes ss) ++ more ≡ s.bytes ++ (sample_bytes ss ++ more) =
+    append_assoc s.bytes (sample_bytes ss) more in
     ap (λ (bs : List ℕ). samples_in (map info_of (s ∷ ss)) bs) grouped
     ∙ ap₂ (λ (x y : List ℕ). record {
       bytes = x;

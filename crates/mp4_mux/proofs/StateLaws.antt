@@ -1,6 +1,7 @@
 -- What each call accepts, and what goes on to hold.
 use Rattle.std.proofs.Common.{◌≡◌, ◌≢◌, ℕ, ◌+◌, ◌-◌, ◌*◌, ◌/◌, ◌^◌, ◌<◌, ◌≤◌, Bool, true, false, cond}
-use Rattle.std.proofs.Common.{List, [], ◌∷◌, ◌++◌, length, get_or, set, map, refl, sym, ap, ap₂, subst, ◌∙◌, append_assoc, arith}
+use Rattle.std.proofs.Common.{List, [], ◌∷◌, ◌++◌, length, get_or, set, map, refl, sym, ap, ap₂, subst, ◌∙◌}
+use Rattle.std.proofs.Common.{append_assoc, arith}
 use Rattle.std.proofs.Common.{get_or-set_same, get_or-set_other, ⊎_elim, Option, Some, None}
 use Rattle.mp4_mux.specs.Writing.{end_cause}
 use Rattle.std.proofs.Common.{◌⊎◌, inl, inr, true, Some}
@@ -23,11 +24,13 @@ use Rattle.mp4_mux.specs.Config.{config_cause, IsInRangeTrackConfig}
 use Rattle.mp4_mux.specs.TrackHeaders.{movie_duration}
 use Rattle.mp4_mux.specs.Chunks.{TrackState, Chunk, is_full, samples_of}
 use Rattle.mp4_mux.proofs.ChunksLaws.{samples_of-append, samples_of-one, samples_of-other, other_id}
-use Rattle.mp4_mux.specs.Writing.{WriterState, info_of, no_track, track_at, accepted_of, with_pending, with_chunk, with_sample}
+use Rattle.mp4_mux.specs.Writing.{WriterState, info_of, no_track, track_at, accepted_of, with_pending, with_chunk}
+use Rattle.mp4_mux.specs.Writing.{with_sample}
 use Rattle.mp4_mux.specs.Writing.{with_track, started, sample_cause, track_cause, duration_with}
 use Rattle.mp4_mux.specs.Sound.{IsIdOf, IsFine, IsKnownChunk, IsSound}
 
-all-push : {X : Type 0} (P : X → Type 0) (xs : List X) (x : X) → AllByRecursion P xs → P x → AllByRecursion P (xs ++ x ∷ [])
+all-push : {X : Type 0} (P : X → Type 0) (xs : List X) (x : X) → AllByRecursion P xs → P x
+    → AllByRecursion P (xs ++ x ∷ [])
 all-push P [] x h p = (p, tt)
 all-push P (y ∷ ys) x h p = (h.0, all-push P ys x h.1 p)
 

@@ -13,7 +13,8 @@ use Rattle.mp4_mux.specs.TrackHeaders.{media_duration, movie_duration}
 use Rattle.mp4_mux.specs.Writing.{info_of}
 use Rattle.mp4_mux.specs.Building.{TrackFields, IsTrack, building_of, sample_at, samples_in, pushed, popped, closed}
 use Rattle.mp4_mux.specs.Building.{pending_place}
-use Rattle.mp4_mux.proofs.SampleLaws.{sum_by-push, media_duration-push, movie_duration-push, sum_by-drop, samples_in-push}
+use Rattle.mp4_mux.proofs.SampleLaws.{sum_by-push, media_duration-push, movie_duration-push, sum_by-drop}
+use Rattle.mp4_mux.proofs.SampleLaws.{samples_in-push}
 use Rattle.mp4_mux.proofs.SampleLaws.{length-samples_in, media_duration-small, all-push, all-init}
 
 -- the fields with one more sample, of which the tables say this and which has these bytes
@@ -225,7 +226,8 @@ module _ (f : TrackFields) (h : IsTrack f) where
     }
 
     none_left : drop (length f.samples) f.samples ≡ []
-    none_left = nil_from_length (drop (length f.samples) f.samples) (omega (arith, length-drop (length f.samples) f.samples))
+    none_left = nil_from_length (drop (length f.samples) f.samples)
+        (omega (arith, length-drop (length f.samples) f.samples))
 
     pub is_track-close : (offset : ℕ) → c ≡ pending_place (building_of f) offset → IsTrack with_close
     is_track-close offset e = record {

@@ -116,5 +116,6 @@ pub record IsWrittenMovie (st : WriterState) : Type 0 where
 -- Of each track of two finished movies the same samples are read.
 abbrev pub HaveSameSamples : WriterState → WriterState → Type 0
 HaveSameSamples st su =
-    (k : ℕ) (one two : TrakBox) → slice_get (movie_of st).traks k ≡ Some one → slice_get (movie_of su).traks k ≡ Some two
+    (k : ℕ) (one two : TrakBox) → slice_get (movie_of st).traks k ≡ Some one
+    → slice_get (movie_of su).traks k ≡ Some two
     → map (read_at (whole_of st)) (plain (tables_of one)) ≡ map (read_at (whole_of su)) (plain (tables_of two))

@@ -5,7 +5,9 @@ ghost use Rattle.mp4_entry.specs.contracts.track_type.TrackTypeExactEq.TheImpl.L
 ghost use Rattle.mp4_entry.specs.contracts.config.MediaConfigExactEq.TheImpl.Laws.{lawful as media_config_laws};
 ghost use Rattle.std.specs.Prelude.{Ok};
 ghost use Rattle.mp4_codec.specs.Cause.{Answers, Checks};
-ghost use Rattle.mp4_entry.specs.declared.config.MediaConfig.TheVariants.{AvcConfig as Avc, HevcConfig as Hevc, Vp9Config as Vp9, AacConfig as Aac, TtxtConfig as Ttxt};
+ghost use Rattle.mp4_entry.specs.declared.config.MediaConfig.TheVariants.{AvcConfig as Avc, HevcConfig as Hevc};
+ghost use Rattle.mp4_entry.specs.declared.config.MediaConfig.TheVariants.{Vp9Config as Vp9, AacConfig as Aac};
+ghost use Rattle.mp4_entry.specs.declared.config.MediaConfig.TheVariants.{TtxtConfig as Ttxt};
 ghost use Rattle.mp4_mux.specs.Config.{IsInRangeConfig, IsInRangeTrackConfig, config_cause, track_config_of};
 
 use mp4_codec::{Error, ExactEq, FourCC, InRange, Items, Result, Text, TryClone};

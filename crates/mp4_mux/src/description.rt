@@ -36,7 +36,8 @@ fn buffer_size(samples: &[SampleInfo]) -> u32
 
 /// What a decoder is started with, where its buffer has this size.
 fn with_buffer(esds: EsdsBox, size: u32) -> EsdsBox
-    ensures { result ≡ record esds { es_desc = record esds.es_desc { dec_config = record esds.es_desc.dec_config { buffer_size_db = size } } } }
+    ensures { result ≡ record esds
+        { es_desc = record esds.es_desc { dec_config = record esds.es_desc.dec_config { buffer_size_db = size } } } }
 {
     let mut started = esds;
     started.es_desc.dec_config.buffer_size_db = size;

@@ -1,7 +1,8 @@
 //! The end of a movie: what is pending of its tracks, its movie box behind the data, and the header of the data, which
 //! says how many bytes they have.
 
-ghost use Rattle.std.specs.Prelude.{◌≡◌, ◌+◌, ◌^◌, ◌<◌, ◌≤◌, ◌++◌, Ok, None, length, map, fold, max, take, drop, OnOk, OnErr, IfOk, IfErr};
+ghost use Rattle.std.specs.Prelude.{◌≡◌, ◌+◌, ◌^◌, ◌<◌, ◌≤◌, ◌++◌, Ok, None, length, map, fold, max, take, drop, OnOk};
+ghost use Rattle.std.specs.Prelude.{OnErr, IfOk, IfErr};
 ghost use Rattle.std.specs.List.{All};
 ghost use Rattle.mp4_codec.specs.Cause.{Answers, Checks};
 ghost use Rattle.mp4_codec.specs.Bytes.{Appends};
@@ -22,7 +23,8 @@ use std::alloc::{AllocError, Global};
 
 /// How long the longest of the tracks is, in ticks of the movie; 0 where there is none.
 fn longest(tracks: &[TrackWriter]) -> u64
-    ensures { result ≡ fold max 0 (map (λ b. movie_duration b.movie_timescale b.config.timescale b.samples) tracks.now) }
+    ensures { result ≡ fold max 0
+        (map (λ b. movie_duration b.movie_timescale b.config.timescale b.samples) tracks.now) }
 {
     let mut longest: u64 = 0;
     for i in 0..tracks.len() {
@@ -86,7 +88,8 @@ fn trak_boxes(
     requires few { length tracks.now < 2 ^ 32 }
     requires clocks { All (λ b. b.movie_timescale ≡ timescale) tracks.now }
     requires room { end + length (unwritten tracks.now) < 2 ^ 64 }
-    ensures { Answers (λ boxes. boxes.items) result (Ok (map (trak_for timescale) (finished_buildings 1 end tracks.now))) }
+    ensures { Answers (λ boxes. boxes.items) result
+        (Ok (map (trak_for timescale) (finished_buildings 1 end tracks.now))) }
 {
     let mut boxes = Vec::with_capacity(alloc, tracks.len())?;
     let mut place = end;
@@ -134,8 +137,10 @@ pub fn put_movie(out: &mut Vec<u8>, timescale: u32, tracks: &[TrackWriter], end:
     requires few { length tracks.now < 2 ^ 32 }
     requires clocks { All (λ b. b.movie_timescale ≡ timescale) tracks.now }
     requires room { end + length (unwritten tracks.now) < 2 ^ 64 }
-    requires written { write_cause (moov_payload (movie_for timescale (finished_buildings 1 end tracks.now))) (moov_refusal (movie_for timescale (finished_buildings 1 end tracks.now))) ≡ None }
-    ensures bytes { OnOk result (out.new.items ≡ out.old.items ++ movie_bytes timescale (finished_buildings 1 end tracks.now)) }
+    requires written { write_cause (moov_payload (movie_for timescale (finished_buildings 1 end tracks.now)))
+        (moov_refusal (movie_for timescale (finished_buildings 1 end tracks.now))) ≡ None }
+    ensures bytes { OnOk result
+        (out.new.items ≡ out.old.items ++ movie_bytes timescale (finished_buildings 1 end tracks.now)) }
     ensures memory { IfErr result (λ e. e ≡ Error.OutOfMemory) }
 {
     let movie = movie_box(*out.allocator(), timescale, tracks, end)?;
@@ -154,7 +159,8 @@ pub fn finish(
     tail: &[u8],
 ) -> std::result::Result<(), AllocError>
     requires { mdat + 16 ≤ length buffer.old.items }
-    ensures ok { OnOk result (buffer.new.items ≡ (take mdat buffer.old.items ++ (mdat_header_of size ++ drop (mdat + 16) buffer.old.items)) ++ tail.now) }
+    ensures ok { OnOk result (buffer.new.items
+        ≡ (take mdat buffer.old.items ++ (mdat_header_of size ++ drop (mdat + 16) buffer.old.items)) ++ tail.now) }
     ensures err { OnErr result (buffer.new.items ≡ buffer.old.items) }
 {
     let header = mdat_header(size);

@@ -2,7 +2,8 @@
 
 ghost use Rattle.std.specs.Prelude.{◌≡◌, Ok};
 ghost use Rattle.mp4_codec.specs.Cause.{Answers};
-ghost use Rattle.mp4_mux.specs.TrackHeaders.{version_for, header_length, picture_size, tkhd_for, mdhd_for, hdlr_for, vmhd_for, smhd_for, media_header_length, mvhd_for};
+ghost use Rattle.mp4_mux.specs.TrackHeaders.{version_for, header_length, picture_size, tkhd_for, mdhd_for, hdlr_for};
+ghost use Rattle.mp4_mux.specs.TrackHeaders.{vmhd_for, smhd_for, media_header_length, mvhd_for};
 
 use crate::config::TrackConfig;
 use mp4_codec::{FixedPointU16, FourCC, Items, Result, TryClone};

@@ -1,6 +1,7 @@
 //! A track that is being written.
 
-ghost use Rattle.std.specs.Prelude.{ℕ, min, None, Ok, IfOk, ◌≡◌, ◌++◌, [], ◌∷◌, ◌+◌, ◌-◌, ◌*◌, ◌/◌, ◌^◌, ◌<◌, ◌↔◌, length, IsTrue, OnOk, OnErr};
+ghost use Rattle.std.specs.Prelude.{ℕ, min, None, Ok, IfOk, ◌≡◌, ◌++◌, [], ◌∷◌, ◌+◌, ◌-◌, ◌*◌, ◌/◌, ◌^◌, ◌<◌, ◌↔◌};
+ghost use Rattle.std.specs.Prelude.{length, IsTrue, OnOk, OnErr};
 ghost use Rattle.std.specs.Option.{option_to_list};
 ghost use Rattle.mp4_codec.specs.Cause.{Answers, Checks};
 ghost use Rattle.mp4_boxes.specs.Trak.{trak_payload};
@@ -11,7 +12,8 @@ ghost use Rattle.mp4_mux.specs.FinishedTrack.{trak_for};
 ghost use Rattle.mp4_mux.specs.TrackParts.{finished};
 ghost use Rattle.mp4_mux.specs.Chunks.{sample_bytes, is_full};
 ghost use Rattle.mp4_mux.specs.Writing.{info_of};
-ghost use Rattle.mp4_mux.specs.Building.{Building, new_building, pushed, popped, pending_place, closed, ticks, room_cause};
+ghost use Rattle.mp4_mux.specs.Building.{Building, new_building, pushed, popped, pending_place, closed, ticks};
+ghost use Rattle.mp4_mux.specs.Building.{room_cause};
 ghost use Rattle.mp4_mux.specs.Media.{Media, building_at, media_with};
 ghost use Rattle.mp4_mux.specs.Parts.{last_place, track_with, finished_building};
 ghost use Rattle.mp4_mux.specs.TrackFields.{track_view, IsTrackWriter};
@@ -201,8 +203,10 @@ impl TrackWriter {
         requires { 0 < length self.old.pending }
         ensures track { OnOk result (self.new ≡ closed self.old (length buffer.old.items)) }
         ensures bytes { OnOk result (buffer.new.items ≡ buffer.old.items ++ sample_bytes self.old.pending) }
-        ensures chunk { OnOk result (written.new.items ≡ written.old.items ++ record { track = track; index = length self.old.chunks } ∷ []) }
-        ensures err { OnErr result ((self.new ≡ self.old) × (buffer.new.items ≡ buffer.old.items) × (written.new.items ≡ written.old.items)) }
+        ensures chunk { OnOk result
+            (written.new.items ≡ written.old.items ++ record { track = track; index = length self.old.chunks } ∷ []) }
+        ensures err { OnErr result
+            ((self.new ≡ self.old) × (buffer.new.items ≡ buffer.old.items) × (written.new.items ≡ written.old.items)) }
     {
         let place = self.pending_place(buffer.len() as u64);
         let index = self.chunks.len() as u32;
@@ -238,7 +242,8 @@ impl TrackWriter {
         ensures config { result.config.now ≡ self.now.config }
         ensures samples { result.samples.now ≡ self.now.samples }
         ensures chunks { result.chunks.now ≡ self.now.chunks }
-        ensures durations { result.durations ≡ durations_of self.now.movie_timescale (track_with id self.now self.now.chunks) }
+        ensures durations { result.durations
+            ≡ durations_of self.now.movie_timescale (track_with id self.now self.now.chunks) }
     {
         TrackParts {
             id,
@@ -277,7 +282,8 @@ impl TrackWriter {
 
     /// Its box, where what is pending stands in a chunk that begins there. Refused by `OutOfMemory` alone.
     pub fn finished_box(&self, alloc: Global, id: u32, offset: u64) -> mp4_codec::Result<TrakBox>
-        ensures { Answers (λ b. b) result (Ok (trak_for self.now.movie_timescale (finished_building id offset self.now))) }
+        ensures { Answers (λ b. b) result
+            (Ok (trak_for self.now.movie_timescale (finished_building id offset self.now))) }
     {
         let _ = &self.config;
         let chunks = self.all_chunks(alloc, offset)?;
@@ -291,7 +297,9 @@ impl TrackWriter {
     /// How many bytes that box has, its header included, where the chunk begins there as far as 64 bits go. It requests
     /// no memory.
     pub fn finished_size(&self, id: u32, offset: u64) -> u64
-        ensures value { (place : ℕ) → offset ≡ min place (2 ^ 64 - 1) → result ≡ 8 + length (trak_payload (trak_for self.now.movie_timescale (finished_building id place self.now))) }
+        ensures value { (place : ℕ) → offset ≡ min place (2 ^ 64 - 1)
+            → result ≡ 8 + length
+            (trak_payload (trak_for self.now.movie_timescale (finished_building id place self.now))) }
         ensures small { result < 2 ^ 41 }
     {
         let _ = &self.config;
@@ -333,8 +341,13 @@ pub fn add_sample(
     requires count { length (building_at tracks.old.items track).samples < 2 ^ 32 - 1 }
     requires size { length sample.now.bytes < 2 ^ 32 }
     requires room { ticks (building_at tracks.old.items track) sample.now.duration < 2 ^ 64 }
-    ensures ok { OnOk result (◌≡◌ {A = Media} (record { buffer = buffer.new.items; tracks = tracks.new.items; written = written.new.items }) (media_with (record { buffer = buffer.old.items; tracks = tracks.old.items; written = written.old.items }) track (sample_of sample.now))) }
-    ensures err { OnErr result ((buffer.new.items ≡ buffer.old.items) × (tracks.new.items ≡ tracks.old.items) × (written.new.items ≡ written.old.items)) }
+    ensures ok { OnOk result (◌≡◌ {A = Media}
+        (record { buffer = buffer.new.items; tracks = tracks.new.items; written = written.new.items })
+        (media_with (record { buffer = buffer.old.items; tracks = tracks.old.items; written = written.old.items }) track
+        (sample_of sample.now))) }
+    ensures err { OnErr result
+        ((buffer.new.items ≡ buffer.old.items) × (tracks.new.items ≡ tracks.old.items)
+        × (written.new.items ≡ written.old.items)) }
 {
     let writer = &mut tracks[track as usize];
     writer.push(sample)?;

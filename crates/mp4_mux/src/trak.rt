@@ -5,7 +5,8 @@ ghost use Rattle.mp4_codec.specs.Cause.{Answers};
 ghost use Rattle.mp4_boxes.specs.Trak.{trak_payload};
 ghost use Rattle.mp4_mux.specs.Config.{config_cause};
 ghost use Rattle.mp4_mux.specs.SampleTables.{stts_for, ctts_for, stss_for, stsz_for, stsc_for, stco_for, co64_for};
-ghost use Rattle.mp4_mux.specs.FinishedTrack.{counts_of, offsets_of, stbl_for, minf_for, mdia_for, trak_with, sample_tables_length, chunk_tables_length};
+ghost use Rattle.mp4_mux.specs.FinishedTrack.{counts_of, offsets_of, stbl_for, minf_for, mdia_for, trak_with};
+ghost use Rattle.mp4_mux.specs.FinishedTrack.{sample_tables_length, chunk_tables_length};
 ghost use Rattle.mp4_mux.specs.TrackParts.{HaveRoom, finished, finished_with};
 
 use crate::chunk_place::ChunkPlace;
@@ -71,7 +72,8 @@ fn chunk_tables(
     track: &TrackParts,
 ) -> Result<(StscBox, Option<StcoBox>, Option<Co64Box>)>
     requires { HaveRoom track.now.samples.now track.now.chunks.now }
-    ensures { let chunks = (finished track.now).chunks in Answers (λ all. all) result (Ok (stsc_for (counts_of chunks), stco_for (offsets_of chunks), co64_for (offsets_of chunks))) }
+    ensures { let chunks = (finished track.now).chunks in Answers (λ all. all) result
+        (Ok (stsc_for (counts_of chunks), stco_for (offsets_of chunks), co64_for (offsets_of chunks))) }
 {
     let stsc = stsc(alloc, track.chunks)?;
     let stco = stco(alloc, track.chunks)?;
@@ -169,7 +171,8 @@ pub fn trak_size(track: &TrackParts, last: &Option<ChunkPlace>) -> u64
     requires samples { length track.now.samples.now < 2 ^ 32 }
     requires chunks { length track.now.chunks.now < 2 ^ 32 }
     requires accepted { config_cause track.now.config.now ≡ None }
-    ensures value { result ≡ 8 + length (trak_payload (trak_with track.now.durations (finished_with track.now last.now))) }
+    ensures value { result ≡ 8
+        + length (trak_payload (trak_with track.now.durations (finished_with track.now last.now))) }
     ensures small { result < 2 ^ 41 }
 {
     let media = &track.config.media_conf;

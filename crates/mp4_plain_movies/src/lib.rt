@@ -4,6 +4,7 @@
 #![tactic(auto)]
 
 pub mod calls;
+pub mod encoded;
 pub mod equality;
 pub mod listed_calls;
 pub mod movie_bytes;
@@ -17,4 +18,3 @@ pub mod random;
 pub mod random_tables;
 pub mod sample_boxes;
 pub mod sides;
-pub mod encoded;

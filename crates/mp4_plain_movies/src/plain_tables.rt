@@ -1,12 +1,12 @@
 //! The tables of a track that a test writes down, and the boxes around them, encoded byte by byte.
 
+use crate::encoded::hex;
 use crate::movie_bytes::EMPTY_MOVIE;
 use crate::nested::{DINF, HDLR, MDHD, STSD, TKHD};
 use crate::plain_bytes::{
     begin_box, end_box, put, put_chunks, put_durations, put_near_offsets, put_offsets,
     put_rendering_offsets, put_sizes, put_sync_samples,
 };
-use crate::encoded::hex;
 use std::alloc::{AllocError, Global};
 
 /// Where each chunk begins.

@@ -19,12 +19,15 @@ never_true false never = refl
 pub first_feed : (text : List ℕ) (place : ℕ) → NoneBefore (Passes is_feed text) 0 (length text) place
     → Passes is_feed text place → place ≡ position_or_len is_feed text
 first_feed text place h feed =
-    sym (position_or_len_is is_feed text place 0 (omega (arith, h.high)) (λ k l. never_true _ (h.before k (omega arith) l)) (λ l. feed))
+    sym (position_or_len_is is_feed text place 0 (omega (arith, h.high))
+    (λ k l. never_true _ (h.before k (omega arith) l)) (λ l. feed))
 
 -- without one the text is the first line
-pub no_feed : (text : List ℕ) → Nowhere (Passes is_feed text) 0 (length text) → length text ≡ position_or_len is_feed text
+pub no_feed : (text : List ℕ) → Nowhere (Passes is_feed text) 0 (length text)
+    → length text ≡ position_or_len is_feed text
 no_feed text none =
-    sym (position_or_len_is is_feed text (length text) 0 (omega arith) (λ k l. never_true _ (none k (omega arith) l)) (λ l. absurd (omega (arith, l))))
+    sym (position_or_len_is is_feed text (length text) 0 (omega arith) (λ k l. never_true _ (none k (omega arith) l))
+    (λ l. absurd (omega (arith, l))))
 
 -- what stands before a line feed is a line, and what stands behind it are the others
 pub cut_line : (text : List ℕ) (end : ℕ) → end ≡ position_or_len is_feed text → end < length text

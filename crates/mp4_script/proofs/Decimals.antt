@@ -1,5 +1,6 @@
 -- The value of decimal digits, with one digit more.
-use Rattle.std.proofs.Common.{◌≡◌, ℕ, ◌+◌, ◌-◌, ◌*◌, ◌^◌, ◌<◌, Bool, true, false, ◌&&◌, List, [], ◌∷◌, ◌++◌, length, take, get_or, refl, ap, ◌∙◌, arith, length-append, zero, suc}
+use Rattle.std.proofs.Common.{◌≡◌, ℕ, ◌+◌, ◌-◌, ◌*◌, ◌^◌, ◌<◌, Bool, true, false, ◌&&◌, List, [], ◌∷◌, ◌++◌, length}
+use Rattle.std.proofs.Common.{take, get_or, refl, ap, ◌∙◌, arith, length-append, zero, suc}
 use Rattle.std.proofs.lemmas.List.{take_more}
 use Rattle.std.proofs.lemmas.Nat.{pow-add}
 use Rattle.std.proofs.lemmas.Str.Parse.{tells_all_ascii_digits}
@@ -10,7 +11,8 @@ use Rattle.mp4_meta.specs.Metadata.{decimal_value}
 one_digit_more : (xs : List ℕ) (c : ℕ) → decimal_value (xs ++ c ∷ []) ≡ decimal_value xs * 10 + (c - 48)
 one_digit_more [] c = omega arith
 one_digit_more (x ∷ xs) c =
-    let power : 10 ^ length (xs ++ c ∷ []) ≡ 10 ^ length xs * 10 = ap (λ n. 10 ^ n) (length-append xs (c ∷ [])) ∙ pow-add 10 (length xs) 1 in
+    let power : 10 ^ length (xs ++ c ∷ []) ≡ 10 ^ length xs * 10 = ap (λ n. 10 ^ n) (length-append xs (c ∷ []))
+    ∙ pow-add 10 (length xs) 1 in
     let product : (x - 48) * (10 ^ length xs * 10) ≡ (x - 48) * 10 ^ length xs * 10 = grind arith in
     let rest = one_digit_more xs c in
     rw (power, rest, product) (omega arith)
@@ -25,7 +27,8 @@ and_and false b c = refl
 
 digits_more : (xs : List ℕ) (c : ℕ) → all_ascii_digits (xs ++ c ∷ []) ≡ (all_ascii_digits xs && is_ascii_digit c)
 digits_more [] c = and_true (is_ascii_digit c)
-digits_more (x ∷ xs) c = ap (λ b. is_ascii_digit x && b) (digits_more xs c) ∙ and_and (is_ascii_digit x) (all_ascii_digits xs) (is_ascii_digit c)
+digits_more (x ∷ xs) c = ap (λ b. is_ascii_digit x && b) (digits_more xs c)
+    ∙ and_and (is_ascii_digit x) (all_ascii_digits xs) (is_ascii_digit c)
 
 and_false : (b : Bool) → (b && false) ≡ false
 and_false true = refl

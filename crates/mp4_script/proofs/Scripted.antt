@@ -1,5 +1,6 @@
 -- The calls that the lines of a script name, and what they accept.
-use Rattle.std.proofs.Common.{◌≡◌, ◌⊎◌, inl, inr, ℕ, ◌+◌, true, false, eqb, List, [], ◌∷◌, ◌++◌, length, map, Option, Some, None}
+use Rattle.std.proofs.Common.{◌≡◌, ◌⊎◌, inl, inr, ℕ, ◌+◌, true, false, eqb, List, [], ◌∷◌, ◌++◌, length, map, Option}
+use Rattle.std.proofs.Common.{Some, None}
 use Rattle.std.proofs.Common.{Result, Ok, Err, refl, sym, ap, subst, ◌∙◌, true≢false, arith}
 use Rattle.std.specs.Prelude.{IfOk}
 use Rattle.std.proofs.lemmas.Bool.{eqb-true}
@@ -16,7 +17,8 @@ use Rattle.mp4_mux.specs.Calls.{IsInRangeCall, Session, IsAnswered, IsEnded, wri
 use Rattle.mp4_mux.proofs.CallLaws.{after_one_more, answered_one_more}
 use Rattle.mp4_script.specs.Commands.{command_in}
 use Rattle.mp4_script.specs.Lines.{lines_of}
-use Rattle.mp4_script.specs.Script.{ScriptCause, refused, called, line_step, run_from, run_all, calls_in, accepted_by_script}
+use Rattle.mp4_script.specs.Script.{ScriptCause, refused, called, line_step, run_from, run_all, calls_in}
+use Rattle.mp4_script.specs.Script.{accepted_by_script}
 use Rattle.mp4_script.specs.Script.{standard_config, standard_writer, script_cause_of, RanOutAt, AnswersScript, ◌>>=◌}
 
 -- an empty line is no command
@@ -28,7 +30,8 @@ no_command = refl
 pub no_calls : (line : List ℕ) → true ≡ eqb (length line) 0 → AllByRecursion IsInRangeCall (calls_in (line ∷ []))
 unfolding calls_in
 no_calls [] e =
-    subst (λ (o : Option Call). AllByRecursion IsInRangeCall (elim o as (λ _. List Call) [ None ↦ [] | Some call ↦ call ∷ [] ]))
+    subst (λ (o : Option Call).
+    AllByRecursion IsInRangeCall (elim o as (λ _. List Call) [ None ↦ [] | Some call ↦ call ∷ [] ]))
     (sym no_command) tt
 no_calls (b ∷ bs) e = let none = eqb-true (length (b ∷ bs)) 0 (sym e) in absurd (omega (arith, none))
 
@@ -56,7 +59,8 @@ module _ (number : ℕ) (line : List ℕ) (call : Call) (some : false ≡ eqb (l
       → IfOk result (λ _. AllByRecursion IsInRangeCall (calls_in (line ∷ [])))
   unfolding calls_in
   its_call (Ok x) fits =
-      subst (λ (o : Option Call). AllByRecursion IsInRangeCall (elim o as (λ _. List Call) [ None ↦ [] | Some c ↦ c ∷ [] ]))
+      subst (λ (o : Option Call).
+      AllByRecursion IsInRangeCall (elim o as (λ _. List Call) [ None ↦ [] | Some c ↦ c ∷ [] ]))
       is (fits, tt)
   its_call (Err fault) fits = tt
 
@@ -95,7 +99,8 @@ calls_in-append [] others = refl
 calls_in-append (line ∷ lines) others = by (calls_in-append lines others) (command_in line)
   where
     by : calls_in (lines ++ others) ≡ calls_in lines ++ calls_in others → (o : Option Call)
-        → (elim o as (λ _. List Call) [ None ↦ calls_in (lines ++ others) | Some call ↦ call ∷ calls_in (lines ++ others) ])
+        → (elim o as (λ _. List Call)
+        [ None ↦ calls_in (lines ++ others) | Some call ↦ call ∷ calls_in (lines ++ others) ])
         ≡ (elim o as (λ _. List Call) [ None ↦ calls_in lines | Some call ↦ call ∷ calls_in lines ]) ++ calls_in others
     by rest None = rest
     by rest (Some call) = ap (λ (cs : List Call). call ∷ cs) rest
@@ -124,7 +129,8 @@ pub lines_have_called : (number : ℕ) (lines : List (List ℕ)) (writer next : 
 unfolding run_from calls_in
 lines_have_called number [] writer next e = none_made writer next cc
 lines_have_called number ([] ∷ lines) writer next e =
-    subst (λ (o : Option Call). HasMade (elim o as (λ _. List Call) [ None ↦ calls_in lines | Some call ↦ call ∷ calls_in lines ]) writer next)
+    subst (λ (o : Option Call).
+    HasMade (elim o as (λ _. List Call) [ None ↦ calls_in lines | Some call ↦ call ∷ calls_in lines ]) writer next)
     (sym no_command) (lines_have_called (number + 1) lines writer next e)
 lines_have_called number ((b ∷ bs) ∷ lines) writer next e =
     by (λ w f. lines_have_called (number + 1) lines w next f) (command_in (b ∷ bs)) e
@@ -136,7 +142,8 @@ lines_have_called number ((b ∷ bs) ∷ lines) writer next e =
     by rest (Some call) f = made (call_cause writer call) refl f
       where
         made : (c : Option Cause) → call_cause writer call ≡ c
-            → ((elim c as (λ _. Result WriterState ScriptCause) [ None ↦ Ok (step writer call) | Some why ↦ Err (refused number why) ])
+            → ((elim c as (λ _. Result WriterState ScriptCause)
+            [ None ↦ Ok (step writer call) | Some why ↦ Err (refused number why) ])
             >>= run_from (number + 1) lines) ≡ Ok next
             → HasMade (call ∷ calls_in lines) writer next
         made None is g = one_made call (calls_in lines) writer next is (rest (step writer call) g)

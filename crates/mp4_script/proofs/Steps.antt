@@ -39,7 +39,8 @@ then-nothing number (Ok w) = refl
 then-nothing number (Err c) = refl
 
 -- lines that were run, and one more
-pub run_more : (number : ℕ) (before : List (List ℕ)) (line : List ℕ) (others : List (List ℕ)) (writer next : WriterState)
+pub run_more : (number : ℕ) (before : List (List ℕ)) (line : List ℕ) (others : List (List ℕ))
+    (writer next : WriterState)
     → run_from number before writer ≡ Ok next
     → run_from number (before ++ line ∷ others) writer
     ≡ (line_step (number + length before) line next >>= run_from (number + length before + 1) others)
@@ -94,7 +95,8 @@ module _ (script : List ℕ) (n : ℕ) (others : List (List ℕ)) (line : List �
 
     -- where it is refused, so is the script
     pub line_is_refused : {X : Type 0} (fault : ScriptFault) (view : X → WriterState) (result : Result X ScriptFault)
-        → result ≡ Err fault → RanOutAt (n + 1) line fault ⊎ (line_step (n + 1) line writer ≡ Err (script_cause_of fault))
+        → result ≡ Err fault → RanOutAt (n + 1) line fault
+        ⊎ (line_step (n + 1) line writer ≡ Err (script_cause_of fault))
         → AnswersScript (RanOutIn script begun) view result (run_all script begun)
     line_is_refused fault view (Ok x) is answers = absurd cc
     line_is_refused fault view (Err e) is (inl ran_out) =

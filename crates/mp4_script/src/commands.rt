@@ -6,7 +6,8 @@ ghost use Rattle.std.specs.Str.{all_ascii_digits};
 ghost use Rattle.mp4_codec.specs.Cause.{Answers};
 ghost use Rattle.mp4_media.specs.WriterCalls.{call_of};
 ghost use Rattle.mp4_meta.specs.Metadata.{decimal_value};
-ghost use Rattle.mp4_script.specs.Commands.{command_call, command_in, cut_at_space, decimal_in, offset_in, sample_in, sample_call, sync_in, text_config};
+ghost use Rattle.mp4_script.specs.Commands.{command_call, command_in, cut_at_space, decimal_in, offset_in, sample_in};
+ghost use Rattle.mp4_script.specs.Commands.{sample_call, sync_in, text_config};
 
 use crate::lines::length_before;
 use bytes::Bytes;

@@ -56,7 +56,8 @@ impl<'a> Lines<'a> {
 
     /// The next line, without its line feed; None behind the last one.
     pub fn next_line(&mut self) -> Option<&'a [u8]>
-        ensures line { MatchOption result (lines_left self.old ≡ []) (λ line. lines_left self.old ≡ line.now ∷ lines_left self.new) }
+        ensures line { MatchOption result (lines_left self.old ≡ [])
+            (λ line. lines_left self.old ≡ line.now ∷ lines_left self.new) }
         ensures end { IfNone result (lines_left self.new ≡ []) }
     {
         let text = self.rest?;

@@ -60,7 +60,8 @@ fn put_offset(line: &mut [u8; LINE], end: usize, offset: i32) -> usize
 /// It is put together from its end, as digits are found: the same bytes as `writeln!` of the seven numbers gives, at a
 /// fraction of its instructions.
 fn write_line(line: &mut [u8; LINE], k: u32, place: Place) -> usize
-    ensures written { drop result line.new ≡ sample_line k place.offset place.size place.start_time place.duration place.rendering_offset place.is_sync }
+    ensures written { drop result line.new
+        ≡ sample_line k place.offset place.size place.start_time place.duration place.rendering_offset place.is_sync }
     ensures within { result < 148 }
 {
     let start = put_number(line, LINE, u64::from(place.is_sync), b'\n');
@@ -74,7 +75,8 @@ fn write_line(line: &mut [u8; LINE], k: u32, place: Place) -> usize
 
 /// Writes the line of a sample that lies there.
 fn put_place(text: &mut Vec<u8>, k: u32, place: Place) -> std::result::Result<(), AllocError>
-    ensures { OnOk result (text.new.items ≡ text.old.items ++ sample_line k place.offset place.size place.start_time place.duration place.rendering_offset place.is_sync) }
+    ensures { OnOk result (text.new.items ≡ text.old.items
+        ++ sample_line k place.offset place.size place.start_time place.duration place.rendering_offset place.is_sync) }
 {
     let mut line = [0u8; LINE];
     let start = write_line(&mut line, k, place);

@@ -7,7 +7,8 @@ ghost use Rattle.mp4_mux.specs.Calls.{IsInRangeCall};
 ghost use Rattle.mp4_media.specs.WriterCalls.{call_of};
 ghost use Rattle.mp4_script.specs.declared.script.ScriptFault.TheVariants.{Refused};
 ghost use Rattle.mp4_script.specs.Lines.{lines_of};
-ghost use Rattle.mp4_script.specs.Script.{called, calls_in, standard_config, standard_writer, line_step, run_all, movie_made_by, RanOutAt, RanOutIn, RanOut, AnswersScript, OpensAsScripted};
+ghost use Rattle.mp4_script.specs.Script.{called, calls_in, standard_config, standard_writer, line_step, run_all};
+ghost use Rattle.mp4_script.specs.Script.{movie_made_by, RanOutAt, RanOutIn, RanOut, AnswersScript, OpensAsScripted};
 
 use crate::commands::{call_of, command_in};
 use crate::lines::Lines;
@@ -68,7 +69,8 @@ fn begin(alloc: Global) -> mp4_media::Result<Mp4Writer>
 
 /// Makes the call of the line of this number.
 fn make_call(writer: &mut Mp4Writer, number: u64, call: &WriterCall) -> Result<(), ScriptFault>
-    ensures { AnswersScript (λ fault. fault ≡ Refused number Error.OutOfMemory) (λ _. writer.new) result (called number writer.old (Some (call_of call.now))) }
+    ensures { AnswersScript (λ fault. fault ≡ Refused number Error.OutOfMemory) (λ _. writer.new) result
+        (called number writer.old (Some (call_of call.now))) }
 {
     match writer.perform(call) {
         Ok(()) => Ok(()),
@@ -83,7 +85,8 @@ fn run_line(
     number: u64,
     line: &[u8],
 ) -> Result<(), ScriptFault>
-    ensures answer { AnswersScript (RanOutAt number line.now) (λ _. writer.new) result (line_step number line.now writer.old) }
+    ensures answer { AnswersScript (RanOutAt number line.now) (λ _. writer.new) result
+        (line_step number line.now writer.old) }
     ensures fits { IfOk result (λ _. AllByRecursion IsInRangeCall (calls_in (line.now ∷ []))) }
 {
     if line.is_empty() {
@@ -103,7 +106,8 @@ fn run_line(
 
 /// Runs the lines of a script, up to the first that is at fault.
 fn run_lines(alloc: Global, writer: &mut Mp4Writer, script: &[u8]) -> Result<(), ScriptFault>
-    ensures answer { AnswersScript (RanOutIn script.now writer.old) (λ _. writer.new) result (run_all script.now writer.old) }
+    ensures answer { AnswersScript (RanOutIn script.now writer.old) (λ _. writer.new) result
+        (run_all script.now writer.old) }
     ensures fits { IfOk result (λ _. AllByRecursion IsInRangeCall (calls_in (lines_of script.now))) }
 {
     let mut lines = Lines::new(script);

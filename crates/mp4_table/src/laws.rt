@@ -22,8 +22,10 @@ pub fn runs_are_no_fewer_than_turns()
 /// Where each of the chunks 1 to n has an entry, no table has fewer entries than the counts of samples
 /// in these chunks have turns. Each has an entry where the first entry begins with chunk 1.
 pub fn entries_are_no_fewer_than_turns()
-    ensures counts { (entries : List StscEntry) (n : ℕ) → EachHasEntry entries n → turns nat_eq (counts entries n) ≤ length entries }
-    ensures from_one { (entries : List StscEntry) (n : ℕ) → IsSomeAnd (slice_get entries 0) (λ e. e.first_chunk ≡ 1) → EachHasEntry entries n }
+    ensures counts { (entries : List StscEntry) (n : ℕ) → EachHasEntry entries n
+        → turns nat_eq (counts entries n) ≤ length entries }
+    ensures from_one { (entries : List StscEntry) (n : ℕ) → IsSomeAnd (slice_get entries 0) (λ e. e.first_chunk ≡ 1)
+        → EachHasEntry entries n }
 {}
 
 /// What is read as a sample-to-chunk table has its first samples, whatever the payload.

@@ -6,7 +6,8 @@ ghost use Rattle.std.specs.List.{list_any};
 ghost use Rattle.mp4_codec.specs.Cause.{Answers, AnswersCause, Gives};
 ghost use Rattle.mp4_codec.specs.Boxes.{size_around, no_refusal};
 ghost use Rattle.mp4_codec.specs.declared.box_type.BoxType.TheVariants.{StcoBox as stco};
-ghost use Rattle.mp4_table.specs.Stco.{stco_payload, default_stco, offsets_refusal, narrowed, narrowed_refusal, stco_of, IsInRangeStco, IsWellFormedStco};
+ghost use Rattle.mp4_table.specs.Stco.{stco_payload, default_stco, offsets_refusal, narrowed, narrowed_refusal};
+ghost use Rattle.mp4_table.specs.Stco.{stco_of, IsInRangeStco, IsWellFormedStco};
 ghost use Rattle.mp4_table.specs.StcoLaws.{stco_again};
 ghost use Rattle.mp4_codec.specs.Early.{refused_at_once};
 

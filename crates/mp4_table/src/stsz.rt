@@ -5,7 +5,8 @@ ghost use Rattle.std.specs.Prelude.{◌≡◌, Ok};
 ghost use Rattle.mp4_codec.specs.Cause.{Checks, Gives};
 ghost use Rattle.mp4_codec.specs.Boxes.{size_around};
 ghost use Rattle.mp4_codec.specs.declared.box_type.BoxType.TheVariants.{StszBox as stsz};
-ghost use Rattle.mp4_table.specs.Stsz.{stsz_payload, stsz_refusal, default_stsz, stsz_of, IsInRangeStsz, IsWellFormedStsz};
+ghost use Rattle.mp4_table.specs.Stsz.{stsz_payload, stsz_refusal, default_stsz, stsz_of, IsInRangeStsz};
+ghost use Rattle.mp4_table.specs.Stsz.{IsWellFormedStsz};
 ghost use Rattle.mp4_table.specs.StszLaws.{stsz_again};
 ghost use Rattle.mp4_codec.specs.Early.{refused_at_once};
 

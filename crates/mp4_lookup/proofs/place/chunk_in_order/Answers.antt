@@ -1,7 +1,8 @@
 use Rattle.std.proofs.Common.{◌∙◌, arith}
 use Rattle.std.proofs.lemmas.Result.{err_from_is_err_and}
 use Rattle.mp4_lookup.specs.Walk.{IsForSamples}
-use Rattle.mp4_lookup.proofs.Steps.{entry_of, of_both, of_no_chunk, of_refused, located_by_entry, located_refused, unusable}
+use Rattle.mp4_lookup.proofs.Steps.{entry_of, of_both, of_no_chunk, of_refused, located_by_entry, located_refused}
+use Rattle.mp4_lookup.proofs.Steps.{unusable}
 use Rattle.mp4_lookup.proofs.place.chunk_in_order.Goals as goal
 
 pub returns-in_err-move_to-clause-refused : goal.returns-in_err-move_to-clause-refused
@@ -32,7 +33,8 @@ returns-clause-samples c =
       first = λ _. inside.0;
       samples = λ n from to.
           let here = samples n from to in
-          located_by_entry t run.entry n (entry_of t.stsc.entries run n at here.0 here.1 c.in_ok-check_usable.ensures.some)
+          located_by_entry t run.entry n
+          (entry_of t.stsc.entries run n at here.0 here.1 c.in_ok-check_usable.ensures.some)
           ∙ here.2;
     })
 

@@ -8,12 +8,14 @@ use Rattle.mp4_media.proofs.round_trip.write_calls.Goals as goal
 
 pub returns-clause-replies : goal.returns-clause-replies
 returns-clause-replies c =
-    let start = c.in_ok-writer.ensures.ok ∙ ap (λ (front : List ℕ). started front c.args.config.now) c.new.ensures.items in
+    let start = c.in_ok-writer.ensures.ok
+    ∙ ap (λ (front : List ℕ). started front c.args.config.now) c.new.ensures.items in
     subst (Answered (calls_of c.args.calls.now) c.in_ok-replies.replies.items) start c.in_ok-replies.ensures.replies
 
 pub returns-clause-bytes : goal.returns-clause-bytes
 returns-clause-bytes c =
-    let start = c.in_ok-writer.ensures.ok ∙ ap (λ (front : List ℕ). started front c.args.config.now) c.new.ensures.items in
+    let start = c.in_ok-writer.ensures.ok
+    ∙ ap (λ (front : List ℕ). started front c.args.config.now) c.new.ensures.items in
     c.into_writer.ensures
     ∙ ap whole_of
     (c.in_ok-replies.ensures.after ∙ ap (after (calls_of c.args.calls.now) c.in_ok-replies.replies.items) start)

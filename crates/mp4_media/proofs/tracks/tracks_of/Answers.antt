@@ -11,7 +11,8 @@ returns-in_err-check_fragments-clause-fault c =
     err_from_is_err_and c.from_residual-in_err-check_fragments.result
     c.from_residual-in_err-check_fragments.ensures.1 in
     rw (p.1, p.2)
-    (inr (id_fault-is c.args.moov.now c.args.moofs.now c.args.places.now c.in_ok-tracks.tracks c.in_ok-tracks.ensures.tracks
+    (inr (id_fault-is c.args.moov.now c.args.moofs.now c.args.places.now c.in_ok-tracks.tracks
+    c.in_ok-tracks.ensures.tracks
     (ap (all_refusal zero_id) (sym c.as_slice.ensures) ∙ c.in_ok-check_track_ids.ensures)
     ∙ c.in_err-check_fragments.ensures))
 

@@ -4,4 +4,5 @@ use Rattle.mp4_mux.proofs.ending.longest.Given as goal
 
 abbrev pub invariant-loop-i : goal.invariant-loop-i
 invariant-loop-i l =
-    l.longest ≡ fold max 0 (map (λ b. movie_duration b.movie_timescale b.config.timescale b.samples) (take l.i l.tracks))
+    l.longest ≡ fold max 0 (map (λ b. movie_duration b.movie_timescale b.config.timescale b.samples)
+    (take l.i l.tracks))

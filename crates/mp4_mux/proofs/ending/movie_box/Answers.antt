@@ -16,4 +16,5 @@ returns c =
     (durations-finished c.args.timescale 1 c.args.end c.args.tracks.now c.requires.clocks) in
     let header = c.mvhd_box.ensures ∙ ap (mvhd_for c.args.timescale) duration in
     let traks = c.from.ensures ∙ sym (ok_is _ _ c.in_ok-traks.ensures) in
-    ap Ok (ap₂ (λ (h : MvhdBox) (ts : List TrakBox). record default_moov { mvhd = h; traks = ts }) (sym header) (sym traks))
+    ap Ok (ap₂ (λ (h : MvhdBox) (ts : List TrakBox). record default_moov { mvhd = h; traks = ts }) (sym header)
+    (sym traks))

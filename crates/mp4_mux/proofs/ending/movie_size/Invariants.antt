@@ -11,7 +11,8 @@ invariant-loop-i l = record {
   size : l.size
       ≡ min (8 + header_length 108
       (fold max 0 (map (λ b. movie_duration b.movie_timescale b.config.timescale b.samples) l.tracks))
-      + sum_by (λ t. 8 + length (trak_payload (trak_for l.timescale t))) (take l.i (finished_buildings 1 l.end l.tracks)))
+      + sum_by (λ t. 8 + length (trak_payload (trak_for l.timescale t)))
+      (take l.i (finished_buildings 1 l.end l.tracks)))
       (2 ^ 64 - 1);
   place : l.place ≡ min (l.end + length (unwritten (take l.i l.tracks))) (2 ^ 64 - 1);
 }

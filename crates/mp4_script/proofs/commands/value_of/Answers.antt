@@ -13,6 +13,13 @@ loop-digit-preserved c =
     let value = value_more c.args.digits.now c.loop-digit.digit-index c.loop-digit-test.true in
     record {
       value = omega (arith, value, c.loop-digit.invariant.value, c.from.ensures);
-      digits = are_digits_more c.args.digits.now c.loop-digit.digit-index c.loop-digit-test.true c.loop-digit.invariant.digits digit;
-      fits = omega (arith, ten_times c.loop-digit.digit-index, c.loop-digit.invariant.fits, digit_small (get_or c.args.digits.now c.loop-digit.digit-index 0) digit, c.from.ensures);
+      digits = are_digits_more c.args.digits.now c.loop-digit.digit-index c.loop-digit-test.true
+          c.loop-digit.invariant.digits digit;
+      fits = omega (
+        arith,
+        ten_times c.loop-digit.digit-index,
+        c.loop-digit.invariant.fits,
+        digit_small (get_or c.args.digits.now c.loop-digit.digit-index 0) digit,
+        c.from.ensures,
+      );
     }

@@ -13,7 +13,8 @@ pub returns-clause-written : goal.returns-clause-written
 unfolding sample_line
 returns-clause-written c =
     let behind : drop 148 c.args.line.now ≡ [] = drop_all 148 c.args.line.now (omega arith) in
-    let later : to_z w32 (of_z w32 c.args.place.rendering_offset) ≡ c.args.place.rendering_offset = grind (arith, to_z-of_z) in
+    let later : to_z w32 (of_z w32 c.args.place.rendering_offset) ≡ c.args.place.rendering_offset =
+    grind (arith, to_z-of_z) in
     let sync = c.put_number-start.ensures.written in
     let rendering_offset = c.put_offset-start.ensures.written in
     let duration = c.put_number-start-2.ensures.written in
@@ -21,4 +22,18 @@ returns-clause-written c =
     let size = c.put_number-start-4.ensures.written in
     let offset = c.put_number-start-5.ensures.written in
     c.put_number.ensures.written
-    ∙ rw (offset, size, start_time, duration, rendering_offset, sync, behind, c.from.ensures, c.from-2.ensures, c.from-3.ensures, c.from-4.ensures, later, one_if_true c.args.place.is_sync) refl
+    ∙ rw (
+      offset,
+      size,
+      start_time,
+      duration,
+      rendering_offset,
+      sync,
+      behind,
+      c.from.ensures,
+      c.from-2.ensures,
+      c.from-3.ensures,
+      c.from-4.ensures,
+      later,
+      one_if_true c.args.place.is_sync,
+    ) refl

@@ -13,7 +13,8 @@ returns-then-is_empty-clause-fits c = no_calls c.args.line.now c.if-is_empty.ens
 -- the call is the one of the line
 is : (c : In-Ok) → Some (call_of c.in-Ok.call) ≡ command_in c.args.line.now
 is c =
-    ap (λ (call : Call). Some call) (sym (ok_is (command_call c.in-Some.command) (call_of c.in-Ok.call) c.in-Ok.ensures))
+    ap (λ (call : Call). Some call)
+    (sym (ok_is (command_call c.in-Some.command) (call_of c.in-Ok.call) c.in-Ok.ensures))
     ∙ c.in-Some.ensures
 
 pub returns-in-Ok-clause-answer : goal.returns-in-Ok-clause-answer

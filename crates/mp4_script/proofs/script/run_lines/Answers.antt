@@ -1,4 +1,5 @@
-use Rattle.std.proofs.Common.{◌≡◌, ◌+◌, ◌<◌, ◌^◌, ◌≤◌, length, take, drop, ◌++◌, ◌∷◌, [], List, ℕ, rules, refl, sym, ap, subst, ◌∙◌, arith}
+use Rattle.std.proofs.Common.{◌≡◌, ◌+◌, ◌<◌, ◌^◌, ◌≤◌, length, take, drop, ◌++◌, ◌∷◌, [], List, ℕ, rules, refl, sym, ap}
+use Rattle.std.proofs.Common.{subst, ◌∙◌, arith}
 use Rattle.std.specs.List.{AllByRecursion}
 use Rattle.mp4_mux.specs.Calls.{IsInRangeCall}
 use Rattle.std.proofs.lemmas.List.{take_all, length-drop}
@@ -55,7 +56,11 @@ pub returns-clause-fits : goal.returns-clause-fits
 returns-clause-fits c =
     let lines = lines_of c.args.script.now in
     let past : length lines ≤ c.loop-line.number =
-    omega (arith, ap length (c.loop-line.invariant.left ∙ c.in_default.ensures.line), length-drop c.loop-line.number lines) in
+    omega (
+      arith,
+      ap length (c.loop-line.invariant.left ∙ c.in_default.ensures.line),
+      length-drop c.loop-line.number lines,
+    ) in
     subst (λ (ls : List (List ℕ)). AllByRecursion IsInRangeCall (calls_in ls)) (take_all c.loop-line.number lines past)
     c.loop-line.invariant.fits
 

@@ -22,7 +22,8 @@ returns-in-Err-clause-answer c =
     let writer = c.in_ok-writer.writer in
     let begun : writer ≡ standard_writer = search rules in
     let next = c.run_lines.new.writer in
-    end_is_refused c.args.script.now writer next c.in-Err.error begun c.in_ok-run_lines.ensures.answer c.in-Err.ensures.cause
+    end_is_refused c.args.script.now writer next c.in-Err.error begun c.in_ok-run_lines.ensures.answer
+    c.in-Err.ensures.cause
 
 pub returns-in-Ok-clause-answer : goal.returns-in-Ok-clause-answer
 returns-in-Ok-clause-answer c =

@@ -11,5 +11,6 @@ returns-clause-passed c = λ runs at.
       place = plus c.args.self.now.at.place c.run_sample-run_sample.result.size;
       time = plus c.args.self.now.at.time c.run_sample-run_sample.result.duration;
     } = rw (c.add.ensures, c.add-2.ensures, c.from.ensures, c.from-2.ensures) refl in
-    stepped runs c.args.self.now _ c.run_sample-run_sample.result at c.requires.inside (c.run_sample-run_sample.ensures runs at)
+    stepped runs c.args.self.now _ c.run_sample-run_sample.result at c.requires.inside
+    (c.run_sample-run_sample.ensures runs at)
     refl refl refl refl refl on

@@ -31,7 +31,8 @@ returns-clause-has c = λ k small at.
       ⊎_elim
           (λ (h : c.args.index + 1 < length entries).
           let many : c.args.index + 1 < length (map (λ (e : StscEntry). e.first_sample) entries) = rw length-map h in
-          rw (ends c no_entry h) (rw (← get_or-map (λ (e : StscEntry). e.first_sample) entries (c.args.index + 1) no_entry 0 h)
+          rw (ends c no_entry h) (rw
+          (← get_or-map (λ (e : StscEntry). e.first_sample) entries (c.args.index + 1) no_entry 0 h)
           (at.later (c.args.index + 1) (omega arith) many)))
           (λ past. elim c.match-get.branch [
             | in-Some w ↦ absurd (omega (arith, past, w.in-Some.ensures.lookup.3.0))

@@ -25,7 +25,8 @@ returns-then-id-eq0 c =
     (sample_cause-unknown (open_state p) c.args.id (sample_of c.args.sample.now) refl
     (elim c.then-id-eq0.branch [
       | then-id-eq0-via-then-id-eq0 w ↦ inl w.if-id-eq0.true
-      | then-id-eq0-via-else-id-eq0+then-id-len w ↦ inr (omega (arith, count, w.if-id-len.true, c.self.inside.tracks.ok.0))
+      | then-id-eq0-via-else-id-eq0+then-id-len w ↦ inr
+          (omega (arith, count, w.if-id-len.true, c.self.inside.tracks.ok.0))
     ]))
 
 pub returns : goal.returns

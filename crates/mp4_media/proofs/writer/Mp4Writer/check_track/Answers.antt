@@ -22,7 +22,8 @@ pub returns-in_err-check : goal.returns-in_err-check
 returns-in_err-check c =
     let p = parts_of c.self.inside in
     let refused : track_cause (open_state p) c.args.config.now ≡ Some (cause_of c.in_err-check.field-0.0) =
-    track_cause-config (open_state p) c.args.config.now (cause_of c.in_err-check.field-0.0) refl c.in_err-check.ensures in
+    track_cause-config (open_state p) c.args.config.now
+    (cause_of c.in_err-check.field-0.0) refl c.in_err-check.ensures in
     rw (← c.self.view_is, state-open p c.if-self.false, refused)
     (checks-same c.from_residual.result c.in_err-check.field-0.0 c.from_residual.ensures.1)
 

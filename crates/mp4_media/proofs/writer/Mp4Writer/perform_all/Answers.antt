@@ -38,7 +38,8 @@ loop-call-preserved c =
           c.perform-reply.ensures.cause));
       after = rw (more, told) (c.perform-reply.ensures.after
           ∙ ap (λ (w : WriterState). after_reply w call c.perform-reply.result) inv.after
-          ∙ sym (after_one_more before c.loop-call.replies.items c.args.self.now call c.perform-reply.result inv.replies));
+          ∙ sym (after_one_more before c.loop-call.replies.items c.args.self.now call c.perform-reply.result
+          inv.replies));
       fits = rw more (in_range-more before call inv.fits c.in_range.ensures);
       opens = λ h. c.perform-reply.ensures.opens (inv.opens h);
     }

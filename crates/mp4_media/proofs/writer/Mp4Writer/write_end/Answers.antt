@@ -1,4 +1,5 @@
-use Rattle.std.proofs.Common.{◌≡◌, ◌+◌, ◌<◌, ◌^◌, length, true, false, sym, ap, ◌∙◌, subst, arith, refl, Option, Some, None, Ok}
+use Rattle.std.proofs.Common.{◌≡◌, ◌+◌, ◌<◌, ◌^◌, length, true, false, sym, ap, ◌∙◌, subst, arith, refl, Option, Some}
+use Rattle.std.proofs.Common.{None, Ok}
 use Rattle.mp4_codec.specs.Cause.{Cause, AnswersCause}
 use Rattle.mp4_boxes.specs.Moov.{IsCanonicalMoov}
 use Rattle.mp4_mux.specs.Writing.{WriterState, end_cause, with_end, movie_of, whole_of, data_of, data_place}

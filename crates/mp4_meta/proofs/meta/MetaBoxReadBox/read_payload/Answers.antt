@@ -25,5 +25,6 @@ returns c =
     found in
     let other : is_mdir handler ≡ false = other_handler handler c.in_ok-handler_type.field-0 c.from.result typed
     c.from.ensures c.if-from-eq-MDIR.false in
-    let kept = other_children (children c.in_ok-body.body.now) c.in_ok-children.field-0 c.in_ok-children.ensures.value in
+    let kept = other_children
+    (children c.in_ok-body.body.now) c.in_ok-children.field-0 c.in_ok-children.ensures.value in
     rw (c.in_ok-body.ensures, found, other, kept) (record { value = refl; early = tt })
