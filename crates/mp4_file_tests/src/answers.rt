@@ -18,8 +18,8 @@ pub fn has_same_boxes(one: &Movie, other: &Movie) -> bool {
         && one.sample_count(1) == other.sample_count(1)
 }
 
-/// A sample that lies there, its bytes lent by the one that holds them.
-fn lent_by(sample: &Mp4Sample, offset: u64) -> SampleRef<'_> {
+/// A sample that lies there, its bytes borrowed from the one that holds them.
+fn borrowed_by(sample: &Mp4Sample, offset: u64) -> SampleRef<'_> {
     SampleRef {
         offset,
         start_time: sample.start_time,
@@ -31,7 +31,7 @@ fn lent_by(sample: &Mp4Sample, offset: u64) -> SampleRef<'_> {
 }
 
 /// A sample of this place that was read into a buffer.
-fn lent_of<'b>(place: &SamplePlace, buffer: &'b [u8]) -> SampleRef<'b> {
+fn borrowed_of<'b>(place: &SamplePlace, buffer: &'b [u8]) -> SampleRef<'b> {
     SampleRef {
         offset: place.offset,
         start_time: place.start_time,
@@ -50,7 +50,7 @@ pub fn is_read(
     match (answer, expected) {
         (Ok(None), Ok(None)) => true,
         (Ok(Some(sample)), Ok(Some(other))) => is_equal_sample(
-            &lent_by(sample, other.offset),
+            &borrowed_by(sample, other.offset),
             other,
         ),
         (Err(FileError::Mp4(one)), Err(other)) => *one == *other,
@@ -66,7 +66,7 @@ pub fn is_read_into(
 ) -> bool {
     match (answer, expected) {
         (Ok(None), Ok(None)) => true,
-        (Ok(Some(place)), Ok(Some(other))) => is_equal_sample(&lent_of(place, buffer), other),
+        (Ok(Some(place)), Ok(Some(other))) => is_equal_sample(&borrowed_of(place, buffer), other),
         (Err(FileError::Mp4(one)), Err(other)) => *one == *other,
         _ => false,
     }

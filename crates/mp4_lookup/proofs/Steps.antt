@@ -23,8 +23,8 @@ use Rattle.mp4_search.specs.Search.{IsLastAtMost}
 use Rattle.mp4_lookup.proofs.EntryLaws.{first_samples_climb, first_samples_positive}
 use Rattle.mp4_lookup.specs.Rule.{chunk_for, entry_for, first_in_chunk, located_at, located_by, located_in_chunk}
 use Rattle.mp4_lookup.specs.Walk.{IsForSamples, IsOffsetRun, IsSyncGap, IsTimeRun}
-use Rattle.mp4_lookup.specs.declared.place.Chunk.{Chunk}
-use Rattle.mp4_lookup.specs.declared.place.EntryRun.{EntryRun}
+use Rattle.mp4_lookup.specs.declared.located.Chunk.{Chunk}
+use Rattle.mp4_lookup.specs.declared.located.EntryRun.{EntryRun}
 use Rattle.mp4_lookup.specs.declared.timing.OffsetRun.{OffsetRun}
 use Rattle.mp4_lookup.specs.declared.timing.SyncGap.{SyncGap}
 use Rattle.mp4_lookup.specs.declared.timing.TimeRun.{TimeRun}

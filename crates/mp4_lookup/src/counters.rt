@@ -8,7 +8,7 @@ use mp4_samples::{Comparisons, Place, SamplePlace};
 use mp4_search::{LookedUp, Readings};
 
 /// What one look-up has read: a counter for each table that it searches, one for the runs of fragments, and one for the
-/// running sums of sizes. Each step is lent its own.
+/// running sums of sizes. Each step borrows its own.
 #[derive(Debug, Drop)]
 pub struct Counters {
     pub stsc: Readings,

@@ -11,7 +11,7 @@ ghost use Rattle.mp4_lookup.specs.TrackRuns.{track_runs};
 ghost use Rattle.mp4_lookup.specs.Walk.{AreIn};
 
 use crate::counters::Counters;
-use crate::lookup::run_sample_placed;
+use crate::locate::run_sample_placed;
 use crate::position::Position;
 use crate::samples::Samples;
 use crate::track::Mp4Track;

@@ -12,7 +12,7 @@ mod index;
 mod kind;
 mod laws;
 mod locate;
-mod lookup;
+mod located;
 mod place;
 mod position;
 mod rates;

@@ -1,65 +1,163 @@
-//! The lookup of a sample by its number, in the tables of a track.
+//! Where the samples of a track lie, by their numbers: those of the movie box first, then those that fragments add
+//! (ISO/IEC 14496-12, 8.6, 8.7 and 8.8).
 
-ghost use Rattle.std.specs.Prelude.{◌≡◌, option_map, IfOk, IfSome};
+ghost use Rattle.std.specs.Prelude.{◌≡◌, ◌-◌, ◌^◌, ◌<◌, false, Some, length, min, option_map, slice_get};
+ghost use Rattle.std.specs.Prelude.{IfOk, IfSome, IsTrue};
 ghost use Rattle.mp4_codec.specs.Cause.{Gives};
-ghost use Rattle.mp4_table.specs.Stsc.{HasFirstSamples};
+ghost use Rattle.mp4_fragments.specs.RunSamples.{all_run_samples};
 ghost use Rattle.mp4_samples.specs.Places.{place_of};
-ghost use Rattle.mp4_lookup.specs.Index.{IsIndexOf};
-ghost use Rattle.mp4_lookup.specs.Costs.{AreCounts, AreFewSizeReads, AreFresh};
-ghost use Rattle.mp4_lookup.specs.Rule.{rule};
+ghost use Rattle.mp4_samples.specs.Plain.{Consistent, plain_at};
+ghost use Rattle.mp4_lookup.specs.Costs.{AreFew, AreFewForRunSample, AreFewSizeReads, comparisons_of};
+ghost use Rattle.mp4_lookup.specs.Costs.{AreFewByGuess, AreFewForRunSampleByGuess, AreTrackCountsByGuess};
+ghost use Rattle.mp4_lookup.specs.Costs.{AreFresh, AreRunSampleCounts, AreTrackCounts, comparisons_counted};
+ghost use Rattle.mp4_samples.specs.Tables.{tables_of};
+ghost use Rattle.mp4_lookup.specs.Tracks.{is_of_movie, run_sample_place, answer_at};
+ghost use Rattle.mp4_lookup.specs.TrackRuns.{track_runs};
 
 use crate::counters::Counters;
-use crate::index::{TrackIndex, runs_of_ctts};
-use crate::place::located_at;
-use crate::timing::{is_sync, rendering_offset_at, time_at};
-use mp4_boxes::StblBox;
-use mp4_codec::Result;
+use crate::place::place_at;
+use crate::track::Mp4Track;
+use mp4_codec::{Error, Result};
+use mp4_fragments::RunSample;
 use mp4_samples::{Place, SamplePlace};
-use mp4_search::Search;
+use mp4_search::{ByGuess, ByHalves, LookedUp, Search};
 
-/// Where sample `k` of a track lies, and when it is decoded and shown, as the tables of the track say. It is inlined in
-/// its one caller for each way of searching, so that the counters needn't lie in memory.
+/// Where a sample lies that a fragment adds. A place or a time that is overflowed is refused.
 #[inline(always)]
-#[tactic(auto, unfolding(crate::specs::Rule::rule))]
-pub fn place_at<S: Search>(
-    stbl: &StblBox,
-    index: &TrackIndex,
-    track_id: u32,
-    k: u32,
-    counters: &mut Counters,
-) -> Result<Option<SamplePlace>>
-    requires firsts { HasFirstSamples stbl.now.stsc.entries }
-    requires index { IsIndexOf stbl.now index.now }
-    requires fresh { AreFresh counters.old }
-    ensures rule { Gives (λ p. option_map place_of p) result (rule stbl.now track_id k) }
-    ensures counted { IfOk result (λ p. IfSome p (λ p. AreCounts S.Counts S.looks index.now k p.comparisons)) }
-    ensures size_reads { IfOk result (λ p. IfSome p (λ p. AreFewSizeReads stbl.now p.size_reads)) }
+pub(crate) fn run_sample_placed(run_sample: &RunSample) -> Result<Place>
+    ensures { Gives (λ p. Some p) result (run_sample_place (Some run_sample.now)) }
 {
-    let Some(located) = located_at::<S>(stbl, index, k, &mut counters.stsc, &mut counters.sizes)?
-    else {
-        return Ok(None);
+    let (Some(offset), Some(start_time)) = (run_sample.at.place, run_sample.at.time) else {
+        return Err(Error::InvalidData("a sample of a fragment has no place or no time"));
     };
-    let (duration, start_time) = time_at::<S>(
-        stbl.stts.entries.as_slice(),
-        &index.stts_counts,
-        &index.stts_times,
-        track_id,
-        k,
-        &mut counters.stts,
-    )?;
-    let rendering_offset = rendering_offset_at::<S>(
-        runs_of_ctts(&stbl.ctts),
-        &index.ctts_counts,
-        k,
-        &mut counters.ctts,
-    );
-    let is_sync = is_sync::<S>(&stbl.stss, index, k, &mut counters.stss);
-    Ok(Some(counters.counted(Place {
-        offset: located.offset,
-        size: located.size,
+    Ok(Place {
+        offset,
+        size: run_sample.size,
         start_time,
-        duration,
-        rendering_offset,
-        is_sync,
-    })))
+        duration: run_sample.duration,
+        rendering_offset: run_sample.rendering_offset,
+        is_sync: run_sample.is_sync,
+    })
+}
+
+/// Only what is asked of a whole track begins with counters of its own.
+impl LookedUp for Mp4Track {}
+
+impl Mp4Track {
+    /// Where sample `k` of the track lies, and when it is decoded and shown; samples are numbered from 1: first those
+    /// of the movie box, as many as stsz says, then those that fragments add, in file order (ISO/IEC 14496-12, 8.8.8).
+    /// In a track that no fragment names, all numbers belong to the movie box.
+    ///
+    /// A sample of the movie box: `Ok(None)` where its chunk or its size isn't there, as past the last sample.
+    /// `InvalidData` for number 0, where stsc has no entry for it or one without samples, where its chunk's number is 0
+    /// or passes 32 bits, and where its place passes 64 bits; then `EntryInStblNotFound` where stts ends before it.
+    ///
+    /// A sample that a fragment adds: `Ok(None)` past the last, and `InvalidData` where its place or its time is below
+    /// 0 or passes 64 bits, or follows from one that does.
+    pub fn locate(&self, k: u32) -> Result<Option<SamplePlace>>
+        ensures rule { Gives (λ p. option_map place_of p) result
+            (answer_at self.now.trak self.now.trafs (track_runs self.now) k) }
+        ensures plain { IsTrue (is_of_movie self.now.trak self.now.trafs k) → Consistent (tables_of self.now.trak)
+            → Gives (λ p. option_map place_of p) result (plain_at (tables_of self.now.trak) k) }
+        ensures counted { IfOk result (λ p. IfSome p (λ p. p.comparisons ≡ comparisons_of self.now k)) }
+        ensures comparisons { IsTrue (is_of_movie self.now.trak self.now.trafs k)
+            → IfOk result (λ p. IfSome p (λ p. AreFew (tables_of self.now.trak) p.comparisons)) }
+        ensures size_reads { IsTrue (is_of_movie self.now.trak self.now.trafs k)
+            → IfOk result (λ p. IfSome p (λ p. AreFewSizeReads (tables_of self.now.trak) p.size_reads)) }
+        ensures added { is_of_movie self.now.trak self.now.trafs k ≡ false
+            → IfOk result (λ p. IfSome p
+            (λ p. AreFewForRunSample (track_runs self.now) p.comparisons × (p.size_reads ≡ 0))) }
+    {
+        self.answer::<ByHalves>(k)
+    }
+
+    /// What [`locate`](Mp4Track::locate) answers, mostly found faster: in a table of more than a few entries, which
+    /// stand for about as many samples each, the search begins at the entry in which the sample is expected.
+    ///
+    /// The comparisons are those of the search that was made: in each table at least one where it has an entry, and at
+    /// most four more than the number of its entries has binary digits. Where the numbers of stss don't strictly rise,
+    /// a bit says whether the sample is one of them, which counts as one comparison. Where `k` has no bit, it is above
+    /// all of them; or, where one of them lies past all bits, all are looked at, as `locate` does. Neither counts as a
+    /// comparison.
+    ///
+    /// Refused as `locate`, with the same errors.
+    pub fn locate_by_guess(&self, k: u32) -> Result<Option<SamplePlace>>
+        ensures rule { Gives (λ p. option_map place_of p) result
+            (answer_at self.now.trak self.now.trafs (track_runs self.now) k) }
+        ensures plain { IsTrue (is_of_movie self.now.trak self.now.trafs k) → Consistent (tables_of self.now.trak)
+            → Gives (λ p. option_map place_of p) result (plain_at (tables_of self.now.trak) k) }
+        ensures counted { IfOk result (λ p. IfSome p (λ p. AreTrackCountsByGuess self.now k p.comparisons)) }
+        ensures comparisons { IsTrue (is_of_movie self.now.trak self.now.trafs k)
+            → IfOk result (λ p. IfSome p (λ p. AreFewByGuess (tables_of self.now.trak) p.comparisons)) }
+        ensures size_reads { IsTrue (is_of_movie self.now.trak self.now.trafs k)
+            → IfOk result (λ p. IfSome p (λ p. AreFewSizeReads (tables_of self.now.trak) p.size_reads)) }
+        ensures added { is_of_movie self.now.trak self.now.trafs k ≡ false
+            → IfOk result (λ p. IfSome p
+            (λ p. AreFewForRunSampleByGuess (track_runs self.now) p.comparisons × (p.size_reads ≡ 0))) }
+    {
+        self.answer::<ByGuess>(k)
+    }
+
+    /// The answer at a number, by a way of searching.
+    #[inline(always)]
+    #[tactic(auto, unfolding(crate::specs::Tracks::answer_at))]
+    fn answer<S: Search>(&self, k: u32) -> Result<Option<SamplePlace>>
+        ensures rule { Gives (λ p. option_map place_of p) result
+            (answer_at self.now.trak self.now.trafs (track_runs self.now) k) }
+        ensures counted { IfOk result (λ p. IfSome p (λ p. AreTrackCounts S.Counts S.looks self.now k p.comparisons)) }
+        ensures size_reads { IsTrue (is_of_movie self.now.trak self.now.trafs k)
+            → IfOk result (λ p. IfSome p (λ p. AreFewSizeReads (tables_of self.now.trak) p.size_reads)) }
+        ensures added { is_of_movie self.now.trak self.now.trafs k ≡ false
+            → IfOk result (λ p. IfSome p (λ p. (0 < length (track_runs self.now)) × (p.size_reads ≡ 0))) }
+    {
+        let mut counters = Counters::of(self);
+        let stbl = &self.trak.mdia.minf.stbl;
+        if self.is_of_movie(k) {
+            place_at::<S>(stbl, &self.index, self.trak.tkhd.track_id, k, &mut counters)
+        } else {
+            self.added_at::<S>(k - stbl.stsz.sample_count - 1, &mut counters)
+        }
+    }
+
+    /// Whether number `k` belongs to the movie box: any does in a track that no fragment names.
+    #[inline(always)]
+    pub(crate) fn is_of_movie(&self, k: u32) -> bool
+        ensures value { result ≡ is_of_movie self.now.trak self.now.trafs k }
+        ensures past { result ≡ false → (tables_of self.now.trak).stsz.sample_count < k }
+    {
+        self.trafs.is_empty() || k <= self.trak.mdia.minf.stbl.stsz.sample_count
+    }
+
+    /// Where the sample with this number lies among those that fragments add; it counts from 0.
+    #[inline(always)]
+    fn added_at<S: Search>(
+        &self,
+        number: u32,
+        counters: &mut Counters,
+    ) -> Result<Option<SamplePlace>>
+        requires number { number < 2 ^ 32 - 1 }
+        requires fresh { AreFresh counters.old }
+        ensures rule { Gives (λ p. option_map place_of p) result
+            (run_sample_place (slice_get (all_run_samples (track_runs self.now)) number)) }
+        ensures counted { IfOk result
+            (λ p. IfSome p (λ p. AreRunSampleCounts S.Counts self.now.runs number p.comparisons)) }
+        ensures some_runs { IfOk result (λ p. IfSome p (λ p. 0 < length (track_runs self.now))) }
+        ensures size_reads { IfOk result (λ p. IfSome p (λ p. p.size_reads ≡ 0)) }
+    {
+        let trafs = self.trafs.as_slice();
+        let Some(run_sample) = self
+            .runs
+            .find::<S>(trafs, self.defaults, number, &mut counters.runs)
+        else {
+            return Ok(None);
+        };
+        Ok(Some(counters.counted(run_sample_placed(&run_sample)?)))
+    }
+
+    /// How many samples the fragments add; it stops at 2^64 - 1.
+    pub(crate) fn added_samples(&self) -> u64
+        ensures { result ≡ min (2 ^ 64 - 1) (length (all_run_samples (track_runs self.now))) }
+    {
+        self.runs.count()
+    }
 }

@@ -11,7 +11,7 @@ ghost use Rattle.mp4_lookup.specs.Walk.{AreIn};
 
 use crate::counters::Counters;
 use crate::index::{TrackIndex, runs_of_ctts};
-use crate::place::{Chunk, EntryRun, located_in_order};
+use crate::located::{Chunk, EntryRun, located_in_order};
 use crate::timing::{
     OffsetRun, SyncGap, TimeRun, is_sync_in_order, rendering_offset_in_order, time_in_order,
 };

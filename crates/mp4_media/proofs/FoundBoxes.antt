@@ -15,7 +15,7 @@ use Rattle.mp4_source.specs.Answers.{IsIo, OnMp4, RefusesRead}
 use Rattle.mp4_source.specs.declared.file_error.FileError.{FileError}
 use Rattle.mp4_source.specs.declared.file_error.FileError.TheVariants.{Mp4, Io}
 use Rattle.mp4_media.specs.FileBoxes.{BoxContent}
-use Rattle.mp4_media.specs.declared.opening.Found.{Found}
+use Rattle.mp4_media.specs.declared.opening.TopLevelBoxes.{TopLevelBoxes}
 use Rattle.mp4_media.specs.FileBoxes.{meaning_of, read_as}
 use Rattle.mp4_media.specs.Walk.{box_behind, content_at, next_box_at, with_content, with_box, and_content, and_found}
 use Rattle.mp4_media.specs.Walk.{found_at, opened_at, opened_from}
@@ -61,7 +61,7 @@ module _ {A : Type 0} (kind : A → BoxContent) (value : List ℕ → Result A C
       (λ c e. content-refused kind value name is size (here bytes old) c e) a)
 
   -- Such a box, added to what was found.
-  module _ (found : Found) (place : ℕ) where
+  module _ (found : TopLevelBoxes) (place : ℕ) where
     pub box_is_added : (x : A) → IfSome known (λ bytes. box_at value size (here bytes old) ≡ Ok (x, here bytes new))
         → IfSome known (λ bytes. (content_at (meaning_of name) size (here bytes old) >>= and_content found place)
         ≡ Ok (with_box found (record { place = place; content = kind x }), here bytes new))
@@ -115,17 +115,17 @@ module _ (size : ℕ) (place : Cursor) where
       content_next some fits = behind_head ∙ rw (some, le-ltb size h.size fits) refl
 
 -- the next box, added to what was found
-abbrev pub and_more : Found × Cursor → Result (Bool × Found × Cursor) Cause
+abbrev pub and_more : TopLevelBoxes × Cursor → Result (Bool × TopLevelBoxes × Cursor) Cause
 and_more x = Ok (true, x.0, x.1)
 
-pub next_added : (found : Found) (place : ℕ) (r : Result (BoxContent × Cursor) Cause)
+pub next_added : (found : TopLevelBoxes) (place : ℕ) (r : Result (BoxContent × Cursor) Cause)
     → ((r >>= with_content place) >>= and_found found)
     ≡ ((r >>= and_content found place) >>= and_more)
 next_added found place (Ok x) = refl
 next_added found place (Err c) = refl
 
 -- what opens is what was found
-pub opened_by : (size : ℕ) (place : Cursor) (found : Found) (end : ℕ) → found_at size place ≡ Ok (found, end)
+pub opened_by : (size : ℕ) (place : Cursor) (found : TopLevelBoxes) (end : ℕ) → found_at size place ≡ Ok (found, end)
     → opened_at size place ≡ opened_from found (end - place.position)
 unfolding opened_at
 opened_by size place found end e = rw e refl

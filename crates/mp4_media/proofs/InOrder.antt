@@ -7,7 +7,7 @@ use Rattle.mp4_codec.specs.Cause.{Cause, Gives, cause_of, end_of_data}
 use Rattle.mp4_codec.specs.declared.error.Error.{Error}
 use Rattle.mp4_samples.specs.declared.sample.Place.{Place}
 use Rattle.mp4_samples.specs.declared.sample.SampleRef.{SampleRef}
-use Rattle.mp4_samples.specs.Samples.{lent_sample, read_at, read_in}
+use Rattle.mp4_samples.specs.Samples.{borrowed_sample, read_at, read_in}
 use Rattle.mp4_media.specs.InOrder.{ReadSample, read_all, ref_answer}
 
 -- what is left behind a sample that was read, or refused
@@ -19,17 +19,17 @@ module _ (file : List ℕ) (p : Place) (answers : List (Result Place Cause)) whe
   past = nat_lt (length file) (p.offset + p.size)
 
   pub read_step : (r : Result SampleRef Error) (ended : Bool)
-      → Gives (λ s. Some (lent_sample s)) r (read_in file (Some p)) → IfOk r (λ s. s.offset ≡ p.offset)
+      → Gives (λ s. Some (borrowed_sample s)) r (read_in file (Some p)) → IfOk r (λ s. s.offset ≡ p.offset)
       → ended ≡ is_err r → read_all file (Ok p ∷ answers) ≡ ref_answer r ∷ behind ended file answers
   unfolding read_all
   read_step (Ok s) ended rule at e = rw e (by past rule)
     where
-      by : (b : Bool) → (if b then Err end_of_data else Ok (Some (read_at file p))) ≡ Ok (Some (lent_sample s))
+      by : (b : Bool) → (if b then Err end_of_data else Ok (Some (read_at file p))) ≡ Ok (Some (borrowed_sample s))
           → (if b then Err end_of_data ∷ [] else Ok (p.offset, read_at file p) ∷ read_all file answers)
-          ≡ Ok (s.offset, lent_sample s) ∷ read_all file answers
+          ≡ Ok (s.offset, borrowed_sample s) ∷ read_all file answers
       by true wrong = absurd cc
       by false same =
-          let one : read_at file p ≡ lent_sample s = cc in
+          let one : read_at file p ≡ borrowed_sample s = cc in
           rw (one, at) refl
   read_step (Err error) ended rule at e = rw e (by past rule)
     where

@@ -11,7 +11,7 @@ use Rattle.mp4_codec.specs.Children.{last}
 use Rattle.mp4_leaf.specs.declared.ftyp.FtypBox.{FtypBox}
 use Rattle.mp4_boxes.specs.declared.moov.MoovBox.{MoovBox}
 use Rattle.mp4_media.specs.FileBoxes.{FileBox}
-use Rattle.mp4_media.specs.declared.opening.Found.{Found}
+use Rattle.mp4_media.specs.declared.opening.TopLevelBoxes.{TopLevelBoxes}
 use Rattle.mp4_media.specs.FileBoxes.{ftyp_from, moov_from, moof_from, moof_place_from, emsg_from, ftyps_in, moovs_in}
 use Rattle.mp4_media.specs.FileBoxes.{moofs_in}
 use Rattle.mp4_media.specs.MovieTracks.{id_fault}
@@ -35,7 +35,7 @@ found-push boxes b =
 
 -- The boxes of a file so far, what was found in them, and the place behind them, where the walk goes on with so many
 -- steps.
-pub record Scanning (size : ℕ) (start : Cursor) (found : Found) (place : Cursor) : Type 0 where
+pub record Scanning (size : ℕ) (start : Cursor) (found : TopLevelBoxes) (place : Cursor) : Type 0 where
   pub done : List FileBox
   pub given : found ≡ found_of done
   pub steps : ℕ
@@ -46,7 +46,8 @@ pub starts_with : (r : Result (List FileBox × ℕ) Cause) → r ≡ after_boxes
 starts_with (Ok x) = refl
 starts_with (Err c) = refl
 
-pub scan-starts : (size : ℕ) (start : Cursor) (found : Found) → found ≡ found_of [] → Scanning size start found start
+pub scan-starts : (size : ℕ) (start : Cursor) (found : TopLevelBoxes) → found ≡ found_of []
+    → Scanning size start found start
 scan-starts size start found none = record {
   done = [];
   given = none;
@@ -60,8 +61,8 @@ pub regrouped : (done : List FileBox) (b : FileBox) (r : Result (List FileBox ×
 regrouped done b (Ok x) = ap (λ (bs : List FileBox). Ok (bs, x.1)) (sym (append_assoc done (b ∷ []) x.0))
 regrouped done b (Err c) = refl
 
-module _ (size : ℕ) (start place : Cursor) (found : Found) where
-  stepped : (b : FileBox) (behind : Cursor) (after : Found) → next_box_at size place ≡ Ok (Some b, behind)
+module _ (size : ℕ) (start place : Cursor) (found : TopLevelBoxes) where
+  stepped : (b : FileBox) (behind : Cursor) (after : TopLevelBoxes) → next_box_at size place ≡ Ok (Some b, behind)
       → place.position < size → place.position < behind.position
       → after ≡ with_box found b → (done : List FileBox) → found ≡ found_of done
       → (steps : ℕ) → size ≤ steps + place.position
@@ -78,7 +79,8 @@ module _ (size : ℕ) (start place : Cursor) (found : Found) where
   }
 
   -- one box more
-  pub scan-takes : (b : FileBox) (behind : Cursor) (after : Found) → next_box_at size place ≡ Ok (Some b, behind)
+  pub scan-takes : (b : FileBox) (behind : Cursor) (after : TopLevelBoxes)
+      → next_box_at size place ≡ Ok (Some b, behind)
       → place.position < size → place.position < behind.position
       → after ≡ with_box found b → Scanning size start found place → Scanning size start after behind
   scan-takes b behind after next below onward added w =
@@ -125,33 +127,33 @@ module _ (size : ℕ) (start place : Cursor) (found : Found) where
   scan-ends behind next same w = ended behind next same w.done w.steps w.is
 
 -- What the next box adds to what was found.
-module _ (found after : Found) (behind : Cursor) where
+module _ (found after : TopLevelBoxes) (behind : Cursor) where
   pub box_added : (r : Result (Option FileBox × Cursor) Cause) → (r >>= and_found found) ≡ Ok (true, after, behind)
       → (b : FileBox) × (r ≡ Ok (Some b, behind)) × (after ≡ with_box found b)
   box_added (Ok (Some b, place)) e =
       let same = ok_is (true, with_box found b, place) (true, after, behind) e in (
         b,
-        ap (λ (t : Bool × Found × Cursor). Ok (Some b, t.2)) same,
-        ap (λ (t : Bool × Found × Cursor). t.1) (sym same),
+        ap (λ (t : Bool × TopLevelBoxes × Cursor). Ok (Some b, t.2)) same,
+        ap (λ (t : Bool × TopLevelBoxes × Cursor). t.1) (sym same),
       )
   box_added (Ok (None, place)) e =
       let same = ok_is (false, found, place) (true, after, behind) e in
-      absurd (false≢true (ap (λ (t : Bool × Found × Cursor). t.0) same))
+      absurd (false≢true (ap (λ (t : Bool × TopLevelBoxes × Cursor). t.0) same))
   box_added (Err c) e = absurd cc
 
   pub none_added : (r : Result (Option FileBox × Cursor) Cause) → (r >>= and_found found) ≡ Ok (false, after, behind)
       → (r ≡ Ok (None, behind)) × (after ≡ found)
   none_added (Ok (Some b, place)) e =
       let same = ok_is (true, with_box found b, place) (false, after, behind) e in
-      absurd (false≢true (sym (ap (λ (t : Bool × Found × Cursor). t.0) same)))
+      absurd (false≢true (sym (ap (λ (t : Bool × TopLevelBoxes × Cursor). t.0) same)))
   none_added (Ok (None, place)) e =
       let same = ok_is (false, found, place) (false, after, behind) e in (
-        ap (λ (t : Bool × Found × Cursor). Ok (None, t.2)) same,
-        ap (λ (t : Bool × Found × Cursor). t.1) (sym same),
+        ap (λ (t : Bool × TopLevelBoxes × Cursor). Ok (None, t.2)) same,
+        ap (λ (t : Bool × TopLevelBoxes × Cursor). t.1) (sym same),
       )
   none_added (Err c) e = absurd cc
 
-pub refused_before : (found : Found) (c : Cause) (r : Result (Option FileBox × Cursor) Cause)
+pub refused_before : (found : TopLevelBoxes) (c : Cause) (r : Result (Option FileBox × Cursor) Cause)
     → (r >>= and_found found) ≡ Err c → r ≡ Err c
 refused_before found c (Ok (Some b, place)) e = absurd cc
 refused_before found c (Ok (None, place)) e = absurd cc

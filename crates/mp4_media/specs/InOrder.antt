@@ -8,7 +8,7 @@ use Rattle.mp4_lookup.specs.declared.track.Mp4Track.{Mp4Track}
 use Rattle.mp4_lookup.specs.InOrder.{answers_from, samples_left}
 use Rattle.mp4_samples.specs.declared.sample.Place.{Place}
 use Rattle.mp4_samples.specs.declared.sample.SampleRef.{SampleRef}
-use Rattle.mp4_samples.specs.Samples.{TimedSample, lent_sample, read_at}
+use Rattle.mp4_samples.specs.Samples.{TimedSample, borrowed_sample, read_at}
 use Rattle.mp4_media.specs.declared.sample_refs.SampleRefs.{SampleRefs}
 use Rattle.mp4_media.specs.Reading.{needed_track}
 
@@ -30,7 +30,7 @@ refs_left r = if r.has_ended then [] else read_all r.bytes.now (samples_left r.s
 
 -- a sample that was read, by its cause where it is refused
 abbrev pub ref_answer : Result SampleRef Error → Result ReadSample Cause
-ref_answer (Ok s) = Ok (s.offset, lent_sample s)
+ref_answer (Ok s) = Ok (s.offset, borrowed_sample s)
 ref_answer (Err e) = Err (cause_of e)
 
 module _ {S : Type 0} where

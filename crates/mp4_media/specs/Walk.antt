@@ -11,7 +11,7 @@ use Rattle.mp4_codec.specs.Children.{last, needed}
 use Rattle.mp4_media.specs.FileBoxes.{FileBox, BoxContent, Skipped}
 use Rattle.mp4_leaf.specs.declared.ftyp.FtypBox.{FtypBox}
 use Rattle.mp4_boxes.specs.declared.moov.MoovBox.{MoovBox}
-use Rattle.mp4_media.specs.declared.opening.Found.{Found}
+use Rattle.mp4_media.specs.declared.opening.TopLevelBoxes.{TopLevelBoxes}
 use Rattle.mp4_media.specs.FileBoxes.{meaning_of, ftyp_from, moov_from, moof_from, moof_place_from, emsg_from, ftyps_in}
 use Rattle.mp4_media.specs.FileBoxes.{moovs_in, moofs_in, moof_places_in, emsgs_in, later, and_one, OpenedFile}
 use Rattle.mp4_media.specs.MovieTracks.{id_fault}
@@ -56,7 +56,7 @@ file_boxes_at zero size place = Ok ([], place.position)
 file_boxes_at (suc n) size place = next_box_at size place >>= and_boxes (file_boxes_at n size)
 
 -- what counts of these boxes: the last file type and the last movie, all fragments and all event messages
-abbrev pub found_of : List FileBox → Found
+abbrev pub found_of : List FileBox → TopLevelBoxes
 found_of boxes = record {
   ftyp = last (ftyps_in boxes);
   moov = last (moovs_in boxes);
@@ -66,7 +66,7 @@ found_of boxes = record {
 }
 
 -- the same with one box more
-abbrev pub with_box : Found → FileBox → Found
+abbrev pub with_box : TopLevelBoxes → FileBox → TopLevelBoxes
 with_box found b = record {
   ftyp = later (ftyp_from b.content) found.ftyp;
   moov = later (moov_from b.content) found.moov;
@@ -75,28 +75,28 @@ with_box found b = record {
   emsgs = and_one found.emsgs (emsg_from b.content);
 }
 
-abbrev pub and_content : Found → ℕ → BoxContent × Cursor → Result (Found × Cursor) Cause
+abbrev pub and_content : TopLevelBoxes → ℕ → BoxContent × Cursor → Result (TopLevelBoxes × Cursor) Cause
 and_content found place x = Ok (with_box found (record { place = place; content = x.0 }), x.1)
 
 -- what was found with a box more, of this type and this size, which begins at the place and whose payload stands at the
 -- cursor; and the place behind it
-abbrev pub with_content_at : BoxType → ℕ → Found → ℕ → Cursor → Result (Found × Cursor) Cause
+abbrev pub with_content_at : BoxType → ℕ → TopLevelBoxes → ℕ → Cursor → Result (TopLevelBoxes × Cursor) Cause
 with_content_at name size found place cursor = content_at (meaning_of name) size cursor >>= and_content found place
 
-abbrev pub and_found : Found → Option FileBox × Cursor → Result (Bool × Found × Cursor) Cause
+abbrev pub and_found : TopLevelBoxes → Option FileBox × Cursor → Result (Bool × TopLevelBoxes × Cursor) Cause
 and_found found (None, place) = Ok (false, found, place)
 and_found found (Some b, behind) = Ok (true, with_box found b, behind)
 
 -- whether a box stands at a place in a file of `size` bytes, what was found with it, and the place behind it
-abbrev pub with_next_at : ℕ → Found → Cursor → Result (Bool × Found × Cursor) Cause
+abbrev pub with_next_at : ℕ → TopLevelBoxes → Cursor → Result (Bool × TopLevelBoxes × Cursor) Cause
 with_next_at size found place = next_box_at size place >>= and_found found
 
 -- what counts of the boxes of a file from a place on, and the last place
-unfoldable pub found_at : ℕ → Cursor → Result (Found × ℕ) Cause
+unfoldable pub found_at : ℕ → Cursor → Result (TopLevelBoxes × ℕ) Cause
 found_at size place = file_boxes_at size size place >>= λ boxes. Ok (found_of boxes.0, boxes.1)
 
 -- what was found, as a file with this file type and this movie, of so many bytes
-abbrev pub opened_with : Found → FtypBox → MoovBox → ℕ → OpenedFile
+abbrev pub opened_with : TopLevelBoxes → FtypBox → MoovBox → ℕ → OpenedFile
 opened_with found file_type movie size = record {
   ftyp = file_type;
   moov = movie;
@@ -107,7 +107,7 @@ opened_with found file_type movie size = record {
 }
 
 -- the file of so many bytes that is opened where this was found
-abbrev pub opened_from : Found → ℕ → Result OpenedFile Cause
+abbrev pub opened_from : TopLevelBoxes → ℕ → Result OpenedFile Cause
 opened_from found size = do
   file_type ← needed ftyp found.ftyp
   movie ← needed moov found.moov

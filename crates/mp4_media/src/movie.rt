@@ -12,7 +12,7 @@ ghost use Rattle.mp4_media.specs.MovieTracks.{AreTracks, IsNumbered};
 ghost use Rattle.mp4_media.specs.Reading.{ilst_of_movie, located_in, needed_track, sample_count_in};
 ghost use Rattle.mp4_media.specs.Walk.{opened_at, opened_from};
 
-use crate::opening::{Found, find_boxes};
+use crate::opening::{TopLevelBoxes, find_boxes};
 use crate::tracks::tracks_of;
 use mp4_boxes::{MoovBox, required_two};
 use mp4_codec::{Error, FourCC, Items, Result};
@@ -73,13 +73,13 @@ impl Drop for Movie {
 /// the stack below those of the search for boxes: together they pass a processor's first cache.
 #[inline(never)]
 #[tactic(auto, unfolding(mp4_boxes::specs::Needed::two_needed))]
-fn open_found(alloc: Global, found: Found, size: u64) -> Result<Movie>
+fn open_found(alloc: Global, found: TopLevelBoxes, size: u64) -> Result<Movie>
     requires first_samples { IsNumbered found.moov }
     requires places { length found.moof_places ≡ length found.moofs }
     ensures answer { Answers opened_movie result (opened_from found size) }
     ensures tracks { IfOk result (λ m. AreTracks m.moov m.moofs m.moof_places m.tracks) }
 {
-    let Found {
+    let TopLevelBoxes {
         ftyp,
         moov,
         moofs,

@@ -18,7 +18,7 @@ use std::alloc::Global;
 
 /// What counts of a file's boxes: the last file type and the last movie, all fragments and all event messages.
 #[derive(Drop)]
-pub(crate) struct Found {
+pub(crate) struct TopLevelBoxes {
     pub ftyp: Option<FtypBox>,
     pub moov: Option<MoovBox>,
     pub moofs: Items<MoofBox>,
@@ -27,12 +27,12 @@ pub(crate) struct Found {
     pub emsgs: Items<EmsgBox>,
 }
 
-impl Found {
+impl TopLevelBoxes {
     /// No box at all.
     pub fn none(alloc: Global) -> Self
         ensures { result ≡ found_of [] }
     {
-        Found {
+        TopLevelBoxes {
             ftyp: None,
             moov: None,
             moofs: Items::new(alloc),
@@ -58,7 +58,7 @@ fn place_behind(place: u64, n: u64) -> Result<u64>
 fn add_content<S: ByteSource + Drop>(
     alloc: Global,
     reader: &mut SourceCursor<S>,
-    found: &mut Found,
+    found: &mut TopLevelBoxes,
     place: u64,
     header: BoxHeader,
 ) -> std::result::Result<(), FileError>
@@ -115,7 +115,7 @@ fn add_content<S: ByteSource + Drop>(
 pub(crate) fn add_next<S: ByteSource + Drop>(
     alloc: Global,
     reader: &mut SourceCursor<S>,
-    found: &mut Found,
+    found: &mut TopLevelBoxes,
     size: u64,
 ) -> std::result::Result<bool, FileError>
     requires len { IsLength (S.contents reader.old.source) reader.old.len }
@@ -156,7 +156,7 @@ pub(crate) fn add_next<S: ByteSource + Drop>(
 fn add_boxes<S: ByteSource + Drop>(
     alloc: Global,
     reader: &mut SourceCursor<S>,
-    found: &mut Found,
+    found: &mut TopLevelBoxes,
     size: u64,
 ) -> std::result::Result<(), FileError>
     requires none { found.old ≡ found_of [] }
@@ -180,7 +180,7 @@ pub(crate) fn find_boxes<S: ByteSource + Drop>(
     alloc: Global,
     reader: &mut SourceCursor<S>,
     size: u64,
-) -> std::result::Result<Found, FileError>
+) -> std::result::Result<TopLevelBoxes, FileError>
     requires len { IsLength (S.contents reader.old.source) reader.old.len }
     ensures answer { IfSome (S.contents reader.old.source) (λ bytes. AnswersRead (S.can_refuse reader.old.source)
         (λ found. (found, reader.new.position)) result (found_at size (here bytes reader.old.position))) }
@@ -191,7 +191,7 @@ pub(crate) fn find_boxes<S: ByteSource + Drop>(
     ensures can_refuse { S.can_refuse reader.new.source ≡ S.can_refuse reader.old.source }
     ensures same_len { reader.new.len ≡ reader.old.len }
 {
-    let mut found = Found::none(alloc);
+    let mut found = TopLevelBoxes::none(alloc);
     match add_boxes(alloc, reader, &mut found, size) {
         Ok(()) => Ok(found),
         Err(error) => {

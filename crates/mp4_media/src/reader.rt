@@ -5,7 +5,7 @@ ghost use Rattle.mp4_codec.specs.Cause.{Cause, cause_of, Gives, Answers};
 ghost use Rattle.mp4_codec.specs.Cursor.{here};
 ghost use Rattle.mp4_lookup.specs.declared.track.Mp4Track.{Mp4Track};
 ghost use Rattle.mp4_samples.specs.Plain.{Consistent};
-ghost use Rattle.mp4_samples.specs.Samples.{lent_sample, plain_sample_at, read_in, timed_sample};
+ghost use Rattle.mp4_samples.specs.Samples.{borrowed_sample, plain_sample_at, read_in, timed_sample};
 ghost use Rattle.mp4_samples.specs.Tables.{tables_of};
 ghost use Rattle.mp4_lookup.specs.Tracks.{is_of_movie};
 ghost use Rattle.mp4_source.specs.Answers.{OnMp4};
@@ -48,8 +48,8 @@ impl<'a> Deref for Mp4Reader<'a> {
 }
 
 /// The sample that lies at a place of these bytes; `EndOfData` where it isn't whole there.
-pub(crate) fn lent_at(bytes: &[u8], place: Place) -> Result<SampleRef<'_>>
-    ensures rule { Gives (λ s. Some (lent_sample s)) result (read_in bytes.now (Some place)) }
+pub(crate) fn borrowed_at(bytes: &[u8], place: Place) -> Result<SampleRef<'_>>
+    ensures rule { Gives (λ s. Some (borrowed_sample s)) result (read_in bytes.now (Some place)) }
     ensures offset { IfOk result (λ s. s.offset ≡ place.offset) }
 {
     let mut cursor = ByteCursor::new(bytes);
@@ -162,25 +162,25 @@ impl<'a> Mp4Reader<'a> {
         }))
     }
 
-    /// Sample `k` of the track with this id, its bytes lent by those that were opened, so that it may be kept when the
+    /// Sample `k` of the track with this id, its bytes borrowed from those that were opened, so that it may be kept when the
     /// reader is gone. It takes no memory; all else is as in [`Mp4Reader::read_sample`].
     pub fn read_sample_ref(&self, track_id: u32, k: u32) -> Result<Option<SampleRef<'a>>>
-        ensures rule { Gives (λ s. option_map lent_sample s) result
+        ensures rule { Gives (λ s. option_map borrowed_sample s) result
             (sample_in self.now.bytes.now self.now.movie.tracks track_id k) }
         ensures offset { IfOk result (λ s. IfSome s (λ s.
             LiesAt (located_in self.now.movie.tracks track_id k) s.offset)) }
         ensures plain { (t : Mp4Track) → at_id self.now.movie.tracks track_id ≡ Some t
             → IsTrue (is_of_movie t.trak t.trafs k) → Consistent (tables_of t.trak)
-            → Gives (λ s. option_map lent_sample s) result
+            → Gives (λ s. option_map borrowed_sample s) result
             (plain_sample_at self.now.bytes.now (tables_of t.trak) k) }
     {
-        self.lent(track_id, k)
+        self.borrowed(track_id, k)
     }
 
     /// The answer of `read_sample_ref`.
     #[tactic(auto, unfolding(crate::specs::Reading::sample_in, crate::specs::Reading::located_in, mp4_lookup::specs::Tracks::sample_at))]
-    fn lent(&self, track_id: u32, k: u32) -> Result<Option<SampleRef<'a>>>
-        ensures rule { Gives (λ s. option_map lent_sample s) result
+    fn borrowed(&self, track_id: u32, k: u32) -> Result<Option<SampleRef<'a>>>
+        ensures rule { Gives (λ s. option_map borrowed_sample s) result
             (sample_in self.now.bytes.now self.now.movie.tracks track_id k) }
         ensures offset { IfOk result (λ s. IfSome s (λ s.
             LiesAt (located_in self.now.movie.tracks track_id k) s.offset)) }
@@ -188,7 +188,7 @@ impl<'a> Mp4Reader<'a> {
         let Some(place) = self.movie.track(track_id)?.locate_by_guess(k)? else {
             return Ok(None);
         };
-        Ok(Some(lent_at(self.bytes, place.place())?))
+        Ok(Some(borrowed_at(self.bytes, place.place())?))
     }
 
     /// The samples of the track with this id in their order, from the first on, with their bytes: each is what

@@ -3,12 +3,12 @@
 ghost use Rattle.std.specs.Iterator.{YieldsFirstBy, item_count};
 ghost use Rattle.mp4_media.specs.InOrder.{refs_left, ref_answer};
 
-use crate::reader::lent_at;
+use crate::reader::borrowed_at;
 use mp4_codec::Result;
 use mp4_lookup::Samples;
 use mp4_samples::SampleRef;
 
-/// The samples of a track in their order, their bytes lent by those that were opened.
+/// The samples of a track in their order, their bytes borrowed from those that were opened.
 #[derive(Drop)]
 pub struct SampleRefs<'a, 't> {
     pub(crate) bytes: &'a [u8],
@@ -31,7 +31,7 @@ impl<'a, 't> Iterator for SampleRefs<'a, 't> {
         match self.samples.next() {
             None => None,
             Some(Ok(place)) => {
-                let sample = lent_at(self.bytes, place);
+                let sample = borrowed_at(self.bytes, place);
                 self.has_ended = sample.is_err();
                 Some(sample)
             }

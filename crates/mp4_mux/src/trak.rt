@@ -29,7 +29,7 @@ use std::alloc::Global;
 /// the first 16 of stsd.
 const ALWAYS_THERE: u64 = 117;
 
-/// What the box of a track is made from, lent.
+/// What the box of a track is made from, borrowed.
 #[derive(Clone, Copy, Debug)]
 pub struct TrackParts<'a> {
     /// The number of the track, which counts from 1.

@@ -1,3 +1,3 @@
-pub mod LentSamples
+pub mod BorrowedSamples
 pub mod ChunkLaws
 pub mod LastLaws

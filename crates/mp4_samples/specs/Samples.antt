@@ -61,12 +61,12 @@ sample_of s =
       is_sync = s.is_sync;
     }
 
--- the same with its time, and a sample whose bytes are lent
+-- the same with its time, and a sample whose bytes are borrowed
 abbrev pub timed_sample : Mp4Sample → TimedSample
 timed_sample s = record { start_time = s.start_time; sample = sample_of s }
 
-abbrev pub lent_sample : SampleRef → TimedSample
-lent_sample s = record {
+abbrev pub borrowed_sample : SampleRef → TimedSample
+borrowed_sample s = record {
   start_time = s.start_time;
   sample = record {
     bytes = s.bytes.now;

@@ -3,7 +3,7 @@
 ghost use Rattle.mp4_codec.specs.ExactTest.{by_test, field_tests};
 ghost use Rattle.std.specs.Prelude.{◌≡◌, ◌↔◌, IsTrue};
 ghost use Rattle.mp4_samples.specs.Places.{place_of};
-ghost use Rattle.mp4_samples.specs.Samples.{lent_sample};
+ghost use Rattle.mp4_samples.specs.Samples.{borrowed_sample};
 
 use bytes::Bytes;
 use mp4_codec::ExactEq;
@@ -30,7 +30,7 @@ impl ExactEq for Mp4Sample {
     ghost exact = { by_test (Prim.hlevel field_tests) };
 }
 
-/// A sample whose bytes are lent by the file that it was found in.
+/// A sample whose bytes are borrowed from the file that it was found in.
 ///
 /// Times are in ticks of the track's timescale.
 #[derive(Debug, Clone, Copy, PartialEq, Eq)]
@@ -52,10 +52,10 @@ pub struct SampleRef<'a> {
 
 /// Whether two samples are the same in each field and hold the same bytes, as `==` answers, wherever these lie in
 /// memory.
-#[tactic(auto, using(crate::proofs::LentSamples::lent_samples_compare))]
+#[tactic(auto, using(crate::proofs::BorrowedSamples::borrowed_samples_compare))]
 pub fn is_equal_sample(first: &SampleRef, second: &SampleRef) -> bool
     ensures { IsTrue result
-        ↔ ((first.now.offset ≡ second.now.offset) × (lent_sample first.now ≡ lent_sample second.now)) }
+        ↔ ((first.now.offset ≡ second.now.offset) × (borrowed_sample first.now ≡ borrowed_sample second.now)) }
 {
     first == second
 }

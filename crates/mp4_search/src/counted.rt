@@ -8,8 +8,8 @@ use std::alloc::AllocError;
 use std::fmt;
 use std::marker::Model;
 
-/// What is looked up in as a whole. A look-up in it begins with the counters of its readings, and each of its steps is
-/// lent the one that it raises: a step can make no other, since it is lent no such whole.
+/// What is looked up in as a whole. A look-up in it begins with the counters of its readings, and each of its steps
+/// borrows the one that it raises: a step can make no other, since it borrows no such whole.
 pub trait LookedUp {}
 
 /// How many numbers one step of a look-up has read. Only the calls of this crate that read numbers raise it, by one

@@ -11,4 +11,4 @@ mod slope;
 pub use bit_set::BitSet;
 pub use counted::{CappedSums, LookedUp, Readings, RunningSizes, SearchedNumbers};
 pub use partition::{Parted, partition_point};
-pub use search::{ByGuess, ByHalves, Found, Search};
+pub use search::{ByGuess, ByHalves, Search, SearchHit};

@@ -8,7 +8,7 @@ ghost use Rattle.mp4_search.specs.Search.{all_of, after_earlier_looks, after_lat
 ghost use Rattle.mp4_search.specs.Search.{comparisons_between, comparisons_from, comparisons_in, left_of};
 
 use crate::counted::{Readings, SearchedNumbers};
-use crate::search::{Between, Found, halve, last_at_most, last_before};
+use crate::search::{Between, SearchHit, halve, last_at_most, last_before};
 use crate::slope::FEW;
 
 /// How far from the place that is expected numbers are looked at beside its neighbours, before the rest is halved.
@@ -157,7 +157,11 @@ fn looked_near(
 /// What [`last_at_most`] finds, begun at the index where it is expected.
 #[inline(never)]
 #[tactic(auto, unfolding(crate::specs::Search::comparisons_from))]
-fn last_at_most_from(numbers: &SearchedNumbers, key: u32, index: usize) -> (Option<Found>, Readings)
+fn last_at_most_from(
+    numbers: &SearchedNumbers,
+    key: u32,
+    index: usize,
+) -> (Option<SearchHit>, Readings)
     requires rises { IsNonDecreasing numbers.now }
     requires within { index < length numbers.now }
     requires small { length numbers.now < 2 ^ 63 }
@@ -176,7 +180,7 @@ fn last_at_most_from(numbers: &SearchedNumbers, key: u32, index: usize) -> (Opti
 /// [`last_at_most`] as a function of its own. Inlined in a longer one its loop is compiled to select and not to branch,
 /// which is slower where keys come in order and halves are many.
 #[inline(never)]
-fn last_at_most_apart(numbers: &SearchedNumbers, key: u32) -> (Option<Found>, Readings)
+fn last_at_most_apart(numbers: &SearchedNumbers, key: u32) -> (Option<SearchHit>, Readings)
     requires { IsNonDecreasing numbers.now }
     ensures found { IfSome result.0
         (λ f. IsLastAtMost numbers.now key f.index × (f.number ≡ slice_index numbers.now f.index)) }
@@ -197,7 +201,10 @@ fn last_at_most_apart(numbers: &SearchedNumbers, key: u32) -> (Option<Found>, Re
 ///
 /// The count is that of the search that was made: by halves, or from some index on.
 #[inline(always)]
-pub(crate) fn last_at_most_near(numbers: &SearchedNumbers, key: u32) -> (Option<Found>, Readings)
+pub(crate) fn last_at_most_near(
+    numbers: &SearchedNumbers,
+    key: u32,
+) -> (Option<SearchHit>, Readings)
     requires { IsNonDecreasing numbers.now }
     ensures found { IfSome result.0
         (λ f. IsLastAtMost numbers.now key f.index × (f.number ≡ slice_index numbers.now f.index)) }

@@ -19,12 +19,12 @@ use mp4_codec::ExactEq;
 
 /// A number and its index.
 #[derive(Clone, Copy, Debug, PartialEq, Eq)]
-pub struct Found {
+pub struct SearchHit {
     pub index: usize,
     pub number: u32,
 }
 
-impl ExactEq for Found {
+impl ExactEq for SearchHit {
     ghost exact = { by_test (Prim.hlevel field_tests) };
 }
 
@@ -40,7 +40,11 @@ pub trait Search {
     ghost nothing: { (key : ℕ) → Counts [] key 0 };
 
     /// The last of the numbers that is at most `key`. Each that is compared with it is counted.
-    fn last_at_most(numbers: &SearchedNumbers, key: u32, readings: &mut Readings) -> Option<Found>
+    fn last_at_most(
+        numbers: &SearchedNumbers,
+        key: u32,
+        readings: &mut Readings,
+    ) -> Option<SearchHit>
         requires rises { IsNonDecreasing numbers.now }
         requires fresh { readings.old ≡ 0 }
         ensures found { IfSome result
@@ -69,7 +73,11 @@ impl Search for ByHalves {
     ghost nothing = { nothing_by_halves };
 
     #[inline(always)]
-    fn last_at_most(numbers: &SearchedNumbers, key: u32, readings: &mut Readings) -> Option<Found> {
+    fn last_at_most(
+        numbers: &SearchedNumbers,
+        key: u32,
+        readings: &mut Readings,
+    ) -> Option<SearchHit> {
         let (found, made) = last_at_most(numbers, key);
         *readings = made;
         found
@@ -94,7 +102,11 @@ impl Search for ByGuess {
     ghost nothing = { nothing_by_guess };
 
     #[inline(always)]
-    fn last_at_most(numbers: &SearchedNumbers, key: u32, readings: &mut Readings) -> Option<Found> {
+    fn last_at_most(
+        numbers: &SearchedNumbers,
+        key: u32,
+        readings: &mut Readings,
+    ) -> Option<SearchHit> {
         let (found, made) = last_at_most_near(numbers, key);
         *readings = made;
         found
@@ -160,7 +172,7 @@ pub(crate) fn halve(
 
 /// The last of the numbers that is at most `key`, and how many of them were compared with it.
 #[tactic(auto, unfolding(crate::specs::Search::comparisons_in))]
-pub(crate) fn last_at_most(numbers: &SearchedNumbers, key: u32) -> (Option<Found>, Readings)
+pub(crate) fn last_at_most(numbers: &SearchedNumbers, key: u32) -> (Option<SearchHit>, Readings)
     requires { IsNonDecreasing numbers.now }
     ensures found { IfSome result.0
         (λ f. IsLastAtMost numbers.now key f.index × (f.number ≡ slice_index numbers.now f.index)) }
@@ -198,12 +210,12 @@ impl SearchedNumbers {
 
 /// What a search found that has nothing left: the number right before `low`.
 #[inline(always)]
-pub(crate) fn last_before(low: usize, last: Option<u32>) -> Option<Found>
+pub(crate) fn last_before(low: usize, last: Option<u32>) -> Option<SearchHit>
     requires { IfSome last (λ _. 1 ≤ low) }
     ensures { result ≡ option_map (λ n. record { index = low - 1; number = n }) last }
 {
     let number = last?;
-    Some(Found {
+    Some(SearchHit {
         index: low - 1,
         number,
     })

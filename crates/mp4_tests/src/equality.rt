@@ -5,7 +5,7 @@ use bytes::Bytes;
 use mp4_codec::{FourCC, Items, Result, Text};
 use mp4_entry::{MediaConfig, TrackType, TtxtConfig, Vp9Config};
 use mp4_fragments::{RunSample, RunStart, SampleDefaults};
-use mp4_media::searching::Found;
+use mp4_media::searching::SearchHit;
 use mp4_media::writing::{ChunkPlace, ChunkRef, Durations, SampleInfo};
 use mp4_media::{Mp4Config, SampleQuery, TrackConfig, WriterCall, is_equal_sample};
 use mp4_plain_movies::equality::{are_alike, are_apart, compares_each, tells_each};
@@ -273,12 +273,15 @@ fn durations_differ() -> bool {
 
 /// Whether numbers that were found are unequal where the number or its index is another.
 fn found_numbers_differ() -> bool {
-    let one = Found {
+    let one = SearchHit {
         index: 1,
         number: 2,
     };
     let alike = one;
-    let others = [Found { index: 3, ..one }, Found { number: 3, ..one }];
+    let others = [
+        SearchHit { index: 3, ..one },
+        SearchHit { number: 3, ..one },
+    ];
     tells_each(&one, &alike, &others)
 }
 
@@ -291,8 +294,8 @@ fn parts_of_writers_and_searches_that_differ_are_unequal(rt: HostRuntime) {
     holds(&rt, "found numbers", found_numbers_differ());
 }
 
-/// A sample that is lent.
-fn lent(bytes: &[u8]) -> SampleRef<'_> {
+/// A sample that is borrowed.
+fn borrowed(bytes: &[u8]) -> SampleRef<'_> {
     SampleRef {
         offset: 9,
         start_time: 1,
@@ -303,12 +306,12 @@ fn lent(bytes: &[u8]) -> SampleRef<'_> {
     }
 }
 
-/// Whether samples that are lent and differ in any one field are unequal. Where their bytes lie in memory doesn't
+/// Whether samples that are borrowed and differ in any one field are unequal. Where their bytes lie in memory doesn't
 /// count.
-fn lent_samples_differ() -> bool {
+fn borrowed_samples_differ() -> bool {
     let text = [b'a', b'b', b'a', b'b'];
-    let one = lent(&text[..2]);
-    let alike = lent(&text[2..]);
+    let one = borrowed(&text[..2]);
+    let alike = borrowed(&text[2..]);
     let others = [
         SampleRef { offset: 8, ..one },
         SampleRef {
@@ -324,8 +327,8 @@ fn lent_samples_differ() -> bool {
             is_sync: false,
             ..one
         },
-        lent(&text[1..3]),
-        lent(&text[..1]),
+        borrowed(&text[1..3]),
+        borrowed(&text[..1]),
     ];
     let mut all = compares_each(&one, &alike, &others) && is_equal_sample(&one, &alike);
     for other in others.iter() {
@@ -358,7 +361,7 @@ fn queries_differ() -> bool {
 }
 
 #[test]
-fn lent_samples_and_queries_that_differ_are_unequal(rt: HostRuntime) {
-    holds(&rt, "lent samples", lent_samples_differ());
+fn borrowed_samples_and_queries_that_differ_are_unequal(rt: HostRuntime) {
+    holds(&rt, "borrowed samples", borrowed_samples_differ());
     holds(&rt, "queries", queries_differ());
 }

@@ -8,7 +8,9 @@ ghost use Rattle.std.specs.List.Sorted.{IsNonDecreasing};
 use crate::asserts::{at_least, check};
 use crate::random_tracks::are_few;
 use mp4_codec::Result;
-use mp4_media::searching::{ByGuess, ByHalves, Found, LookedUp, Readings, Search, SearchedNumbers};
+use mp4_media::searching::{
+    ByGuess, ByHalves, LookedUp, Readings, Search, SearchHit, SearchedNumbers,
+};
 use mp4_plain_movies::random::Random;
 use std::alloc::Global;
 use std::process::Abort;
@@ -33,7 +35,7 @@ struct OneList;
 impl LookedUp for OneList {}
 
 /// What a way of searching finds, and how many numbers it compared.
-fn found<S: Search>(numbers: &SearchedNumbers, key: u32) -> (Option<Found>, u32)
+fn found<S: Search>(numbers: &SearchedNumbers, key: u32) -> (Option<SearchHit>, u32)
     requires { IsNonDecreasing numbers.now }
 {
     let mut readings = Readings::of(&OneList);

@@ -4,8 +4,6 @@
 #![tactic(auto)]
 
 #[cfg(test)]
-mod asked;
-#[cfg(test)]
 mod asserts;
 #[cfg(test)]
 mod equality;
@@ -18,7 +16,7 @@ mod listed;
 #[cfg(test)]
 mod long_lists;
 #[cfg(test)]
-mod million_members;
+mod million_run_samples;
 #[cfg(test)]
 mod million_samples;
 #[cfg(test)]
@@ -27,6 +25,8 @@ mod plain_files;
 mod plain_fragments;
 #[cfg(test)]
 mod plain_lists;
+#[cfg(test)]
+mod queries;
 #[cfg(test)]
 mod random_files;
 #[cfg(test)]

@@ -1,7 +1,7 @@
 //! The file of a track of a million samples, of which each is looked up and read.
 
-use crate::asked::reads;
 use crate::asserts::check;
+use crate::queries::reads;
 use mp4_media::{Mp4Reader, read_mp4};
 use mp4_plain_movies::movie_bytes::EMPTY_MOVIE;
 use mp4_plain_movies::plain_bytes::{begin_box, end_box};

@@ -1,8 +1,8 @@
 //! Files of random boxes in a random order, from fixed seeds, some of them cut: each is opened as a plain program says.
 
-use crate::asked::{are_same_refusal, locates, reads_there};
 use crate::asserts::check;
 use crate::plain_files::{PlainFile, put_boxes};
+use crate::queries::{are_same_refusal, locates, reads_there};
 use crate::walked_lookup::{WalkedPlace, walk};
 use mp4_codec::{BoxType, Error, Result};
 use mp4_media::{Mp4Reader, read_mp4};

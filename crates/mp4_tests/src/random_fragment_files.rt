@@ -1,9 +1,9 @@
 //! Random files of fragments, from fixed seeds: each number of each track is answered as a plain program says, which
 //! writes all samples out.
 
-use crate::asked::{locates, reads_there};
 use crate::asserts::check;
 use crate::plain_fragments::{PlainTrack, written_out};
+use crate::queries::{locates, reads_there};
 use crate::random_fragments::random_file;
 use crate::walked_lookup::WalkedPlace;
 use mp4_codec::{Error, Result};

@@ -1,8 +1,8 @@
 //! Tracks of random tables, from fixed seeds: at each number both lookups answer as a walk over the tables
 //! does, and say how many numbers they compared.
 
-use crate::asked::are_same_refusal;
 use crate::asserts::check;
+use crate::queries::are_same_refusal;
 use crate::tracks::holds_of;
 use crate::walked_lookup::{WalkedPlace, walk};
 use mp4_boxes::StblBox;

@@ -1,6 +1,6 @@
 //! Whether the movie of a file has the tracks of the plain model's, and of each the samples that were accepted.
 
-use crate::asked::{lends, offset_of, reads};
+use crate::queries::{lends, offset_of, reads};
 use mp4_codec::{Error, Result};
 use mp4_entry::MediaType;
 use mp4_lookup::Mp4Track;

@@ -2,8 +2,8 @@
 //! these tests with one request refused, each in turn. A refused call then answers `OutOfMemory`, it leaves what it
 //! must, and made again it is Ok; or it does without that memory. The next request is tried until a test makes no more.
 
-use crate::asked::{is_held, lends, offset_of};
 use crate::asserts::{check, same};
+use crate::queries::{is_held, lends, offset_of};
 use crate::reader_files::{FRAGMENTED, TextFile, file_of};
 use crate::tracks::{first_and_third_are_sync, holds_of, text_samples_are_found};
 use crate::writer_calls::{config_of, make, media_track, writer_call};
@@ -153,8 +153,8 @@ fn sync(start_time: u64, duration: u32, bytes: &[u8]) -> SampleRef<'_> {
     }
 }
 
-/// Whether these are the samples of a track, as they are lent; that takes no memory.
-fn are_lent(reader: &Mp4Reader, id: u32, samples: &[SampleRef]) -> bool {
+/// Whether these are the samples of a track, as they are borrowed; that takes no memory.
+fn are_borrowed(reader: &Mp4Reader, id: u32, samples: &[SampleRef]) -> bool {
     let mut k = 0u32;
     let mut all = reader.sample_count(id) == Ok(u32::try_from(samples.len()).unwrap_or(0));
     for sample in samples {
@@ -176,11 +176,11 @@ fn are_read_again(
     samples: &[SampleRef],
 ) -> bool {
     let mut k = 0u32;
-    let mut all = are_lent(reader, id, samples);
+    let mut all = are_borrowed(reader, id, samples);
     for sample in samples {
         k = k.wrapping_add(1);
         let answer = sample_again(rt, reader, id, k);
-        all = all && is_held(&answer, &Ok(Some(*sample))) && are_lent(reader, id, samples);
+        all = all && is_held(&answer, &Ok(Some(*sample))) && are_borrowed(reader, id, samples);
     }
     all
 }

@@ -5,7 +5,7 @@ use Rattle.std.proofs.lemmas.Result.{err_from_is_err_and}
 use Rattle.mp4_codec.specs.Cause.{Cause, ◌>>=◌}
 use Rattle.mp4_codec.specs.Cursor.{Cursor, here, header_at}
 use Rattle.mp4_codec.specs.declared.header.BoxHeader.{BoxHeader}
-use Rattle.mp4_media.specs.declared.opening.Found.{Found}
+use Rattle.mp4_media.specs.declared.opening.TopLevelBoxes.{TopLevelBoxes}
 use Rattle.mp4_media.specs.FileBoxes.{meaning_of}
 use Rattle.mp4_media.specs.Walk.{content_at, and_found, with_content_at, with_next_at}
 use Rattle.mp4_media.proofs.FoundBoxes.{all_known, of_known, of_known_by, refused_too}
@@ -61,7 +61,7 @@ returns-then-header-size-clause-answer g c =
 -- the box that is added
 module _ (size : ℕ) (place : Cursor) (below : place.position < size) (long : place.position + 8 ≤ size) (h : BoxHeader)
     (behind : Cursor) (head : header_at place ≡ Ok (h, behind)) (some : (h.size == 0) ≡ false) (fits : h.size ≤ size)
-    (found : Found) where
+    (found : TopLevelBoxes) where
   next_is_added : with_next_at size found place
       ≡ (with_content_at h.name h.size found place.position behind >>= and_more)
   next_is_added =
@@ -84,7 +84,7 @@ returns-in_err-add_content-clause-answer g c =
     (here bytes c.read_header.new.self.position) e
     (ne_eqb c.in_ok-header.header.size 0 (λ zero. omega (arith, zero))) (omega arith)
     c.args.found.now
-    ∙ ap (λ (r : Result (Found × Cursor) Cause). r >>= and_more) refused) a))
+    ∙ ap (λ (r : Result (TopLevelBoxes × Cursor) Cause). r >>= and_more) refused) a))
 
 pub returns-clause-answer : goal.returns-clause-answer
 returns-clause-answer g c =
@@ -97,4 +97,4 @@ returns-clause-answer g c =
     (here bytes c.read_header.new.self.position) e
     (ne_eqb c.in_ok-header.header.size 0 (λ zero. omega (arith, zero))) (omega arith)
     c.args.found.now
-    ∙ ap (λ (r : Result (Found × Cursor) Cause). r >>= and_more) a)
+    ∙ ap (λ (r : Result (TopLevelBoxes × Cursor) Cause). r >>= and_more) a)

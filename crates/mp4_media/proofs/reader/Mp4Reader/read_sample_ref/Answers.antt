@@ -6,4 +6,4 @@ pub returns-clause-plain : goal.returns-clause-plain
 returns-clause-plain c = λ t is whole fits.
     rw (sample_in-plain c.args.self.now.bytes.now c.args.self.now.movie.tracks c.args.track_id c.args.k t is whole fits
     (omega arith))
-    at c.lent.ensures.rule
+    at c.borrowed.ensures.rule

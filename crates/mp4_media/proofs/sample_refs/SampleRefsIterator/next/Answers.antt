@@ -17,8 +17,9 @@ returns-in-Some-Ok-clause-steps c =
     let first : samples_left s.samples ≡ Ok c.in-Some-Ok.place ∷ samples_left c.next.new.self =
     rw c.in-Some-Ok.field-0-is at c.in-Some-Ok.ensures.steps in
     rw (c.if-self.false, first)
-    (read_step s.bytes.now c.in-Some-Ok.place (samples_left c.next.new.self) c.lent_at-sample.result
-    c.is_err-self.result c.lent_at-sample.ensures.rule c.lent_at-sample.ensures.offset c.is_err-self.ensures.value)
+    (read_step s.bytes.now c.in-Some-Ok.place (samples_left c.next.new.self) c.borrowed_at-sample.result
+    c.is_err-self.result c.borrowed_at-sample.ensures.rule c.borrowed_at-sample.ensures.offset
+    c.is_err-self.ensures.value)
 
 pub returns-in-Some-Ok-clause-goes : goal.returns-in-Some-Ok-clause-goes
 returns-in-Some-Ok-clause-goes c = let shorter = ap length (returns-in-Some-Ok-clause-steps c) in search rules

@@ -4,7 +4,7 @@ use Rattle.mp4_table.specs.declared.stsc.StscEntry.{StscEntry}
 use Rattle.mp4_lookup.proofs.EntryLaws.{first_samples_positive}
 use Rattle.mp4_lookup.proofs.Searches.{first_sample_found, last_where-searched}
 use Rattle.mp4_lookup.proofs.Steps.{entry_is, unusable}
-use Rattle.mp4_lookup.proofs.place.entry_at.Goals as goal
+use Rattle.mp4_lookup.proofs.located.entry_at.Goals as goal
 
 no_entry : StscEntry
 no_entry = record { first_chunk = 0; samples_per_chunk = 0; sample_description_index = 0; first_sample = 0 }

@@ -1,7 +1,7 @@
 use Rattle.std.proofs.Common.{sym, arith}
 use Rattle.mp4_lookup.proofs.RuleLaws.{sum-sizes_one, sizes_are_listed}
 use Rattle.mp4_lookup.proofs.Searches.{sums_between}
-use Rattle.mp4_lookup.proofs.place.size_between.Goals as goal
+use Rattle.mp4_lookup.proofs.located.size_between.Goals as goal
 
 pub returns-then-stsz-gt0-clause-sum : goal.returns-then-stsz-gt0-clause-sum
 returns-then-stsz-gt0-clause-sum c =

@@ -3,7 +3,7 @@ use Rattle.std.proofs.lemmas.Bool.{ne_eqb}
 use Rattle.mp4_table.specs.declared.stsc.StscEntry.{StscEntry}
 use Rattle.mp4_lookup.specs.Rule.{entry_for}
 use Rattle.mp4_lookup.proofs.Searches.{first_samples_rise, last_where-searched_none}
-use Rattle.mp4_lookup.proofs.place.entry_index.Goals as goal
+use Rattle.mp4_lookup.proofs.located.entry_index.Goals as goal
 
 pub last_at_most-requires-clause-rises : goal.last_at_most-requires-clause-rises
 last_at_most-requires-clause-rises g c = rw c.requires.index (first_samples_rise c.args.entries.now c.requires.firsts)

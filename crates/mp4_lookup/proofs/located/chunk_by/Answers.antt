@@ -1,6 +1,6 @@
 use Rattle.std.proofs.Common.{sym, arith}
 use Rattle.mp4_lookup.proofs.Steps.{chunk_same}
-use Rattle.mp4_lookup.proofs.place.chunk_by.Goals as goal
+use Rattle.mp4_lookup.proofs.located.chunk_by.Goals as goal
 
 pub returns-clause-samples : goal.returns-clause-samples
 returns-clause-samples c = λ n from to.

@@ -1,7 +1,7 @@
 use Rattle.std.proofs.Common.{◌∙◌, arith}
 use Rattle.std.proofs.lemmas.Result.{err_from_is_err_and}
 use Rattle.mp4_lookup.proofs.Steps.{of_both, of_no_chunk, of_refused, located_by_entry, located_refused}
-use Rattle.mp4_lookup.proofs.place.chunk_at.Goals as goal
+use Rattle.mp4_lookup.proofs.located.chunk_at.Goals as goal
 
 pub returns-in_err-entry-clause-refused : goal.returns-in_err-entry-clause-refused
 returns-in_err-entry-clause-refused g c =

@@ -1,11 +1,11 @@
--- `==` of samples whose bytes are lent compares every part of them but where the bytes lie.
+-- `==` of samples whose bytes are borrowed compares every part of them but where the bytes lie.
 use Rattle.std.proofs.Common.{◌≡◌, ℕ, ℤ, List, Bool, true, false, ◌&&◌, IsTrue, ◌↔◌, nat_eq, int_eq, refl, sym, ap, ◌∙◌}
 use Rattle.std.specs.Cmp.{unsigned_Decides, signed_Decides}
 use Rattle.std.specs.Cmp.Derive.{both_true}
 use Rattle.std.specs.Cmp.Lexicographic.{pointwise, bytes_decides}
 use Rattle.mp4_codec.specs.ExactTest.{flag, list, number, pair, signed}
 use Rattle.mp4_samples.specs.declared.sample.SampleRef.{SampleRef}
-use Rattle.mp4_samples.specs.Samples.{TimedSample, lent_sample}
+use Rattle.mp4_samples.specs.Samples.{TimedSample, borrowed_sample}
 use mathlib.Core.Bool.{beq}
 
 abbrev answer : SampleRef → SampleRef → Bool
@@ -39,7 +39,7 @@ compares_parts : (x y : SampleRef) → answer x y ≡ true → compared x ≡ co
 compares_parts x y = (pair number (pair number (pair number (pair signed (pair flag (list number)))))).exact
     (compared x) (compared y)
 
-answers_same : (x y : SampleRef) → x.offset ≡ y.offset → lent_sample x ≡ lent_sample y → answer x y ≡ true
+answers_same : (x y : SampleRef) → x.offset ≡ y.offset → borrowed_sample x ≡ borrowed_sample y → answer x y ≡ true
 answers_same x y at same =
     both_true ((unsigned_Decides x.offset y.offset).1 at) (
     both_true ((unsigned_Decides x.start_time y.start_time).1 (ap (λ (s : TimedSample). s.start_time) same)) (
@@ -49,9 +49,9 @@ answers_same x y at same =
     both_true (same_flag x.is_sync y.is_sync (ap (λ (s : TimedSample). s.sample.is_sync) same))
     ((bytes_decides x.bytes.now y.bytes.now).1 (ap (λ (s : TimedSample). s.sample.bytes) same))))))
 
-pub lent_samples_compare : (x y : SampleRef) (r : Bool) → r ≡ answer x y
-    → IsTrue r ↔ ((x.offset ≡ y.offset) × (lent_sample x ≡ lent_sample y))
-lent_samples_compare x y r e = (
+pub borrowed_samples_compare : (x y : SampleRef) (r : Bool) → r ≡ answer x y
+    → IsTrue r ↔ ((x.offset ≡ y.offset) × (borrowed_sample x ≡ borrowed_sample y))
+borrowed_samples_compare x y r e = (
   λ h. (ap (λ (p : Compared). p.0) (compares_parts x y (sym e ∙ h)), ap sample_with (compares_parts x y (sym e ∙ h))),
   λ same. e ∙ answers_same x y same.0 same.1,
 )

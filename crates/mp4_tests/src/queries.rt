@@ -44,8 +44,8 @@ pub fn offset_of(reader: &Mp4Reader, id: u32, k: u32) -> u64 {
     }
 }
 
-/// A sample that lies there, its bytes lent by the one that holds them.
-fn lent_by(sample: &Mp4Sample, offset: u64) -> SampleRef<'_> {
+/// A sample that lies there, its bytes borrowed from the one that holds them.
+fn borrowed_by(sample: &Mp4Sample, offset: u64) -> SampleRef<'_> {
     SampleRef {
         offset,
         start_time: sample.start_time,
@@ -57,7 +57,7 @@ fn lent_by(sample: &Mp4Sample, offset: u64) -> SampleRef<'_> {
 }
 
 /// Whether an answer is the expected one, the texts of refusals left out.
-fn is_lent(answer: &Result<Option<SampleRef>>, expected: &Result<Option<SampleRef>>) -> bool {
+fn is_borrowed(answer: &Result<Option<SampleRef>>, expected: &Result<Option<SampleRef>>) -> bool {
     match (answer, expected) {
         (Ok(one), Ok(other)) => one == other,
         (Err(one), Err(other)) => are_same_refusal(one, other),
@@ -69,18 +69,18 @@ fn is_lent(answer: &Result<Option<SampleRef>>, expected: &Result<Option<SampleRe
 pub fn is_held(answer: &Result<Option<Mp4Sample>>, expected: &Result<Option<SampleRef>>) -> bool {
     match (answer, expected) {
         (Ok(None), Ok(None)) => true,
-        (Ok(Some(one)), Ok(Some(other))) => lent_by(one, other.offset) == *other,
+        (Ok(Some(one)), Ok(Some(other))) => borrowed_by(one, other.offset) == *other,
         (Err(one), Err(other)) => are_same_refusal(one, other),
         _ => false,
     }
 }
 
-/// Whether a sample is lent as expected.
+/// Whether a sample is borrowed as expected.
 pub fn lends(reader: &Mp4Reader, id: u32, k: u32, expected: &Result<Option<SampleRef>>) -> bool {
-    is_lent(&reader.read_sample_ref(id, k), expected)
+    is_borrowed(&reader.read_sample_ref(id, k), expected)
 }
 
-/// Whether a sample is lent and copied as expected.
+/// Whether a sample is borrowed and copied as expected.
 pub fn reads(
     reader: &mut Mp4Reader,
     id: u32,

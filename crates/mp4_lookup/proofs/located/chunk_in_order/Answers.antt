@@ -3,7 +3,7 @@ use Rattle.std.proofs.lemmas.Result.{err_from_is_err_and}
 use Rattle.mp4_lookup.specs.Walk.{IsForSamples}
 use Rattle.mp4_lookup.proofs.Steps.{entry_of, of_both, of_no_chunk, of_refused, located_by_entry, located_refused}
 use Rattle.mp4_lookup.proofs.Steps.{unusable}
-use Rattle.mp4_lookup.proofs.place.chunk_in_order.Goals as goal
+use Rattle.mp4_lookup.proofs.located.chunk_in_order.Goals as goal
 
 pub returns-in_err-move_to-clause-refused : goal.returns-in_err-move_to-clause-refused
 returns-in_err-move_to-clause-refused c =

@@ -1,7 +1,7 @@
-//! The file of a run that lists a million samples, of which each is looked up and lent.
+//! The file of a run that lists a million samples, of which each is looked up and borrowed.
 
-use crate::asked::lends;
 use crate::asserts::check;
+use crate::queries::lends;
 use crate::walked_lookup::WalkedPlace;
 use mp4_lookup::Mp4Track;
 use mp4_media::{Mp4Reader, read_mp4};
@@ -106,7 +106,7 @@ fn is_found_by_runs(place: &SamplePlace) -> bool {
 }
 
 /// Whether a number is found there, by one comparison.
-fn is_member_at(track: &Mp4Track, k: u32, place: &WalkedPlace) -> bool {
+fn is_run_sample_at(track: &Mp4Track, k: u32, place: &WalkedPlace) -> bool {
     match track.locate(k) {
         Ok(Some(found)) => place.is_same(&found) && is_found_by_runs(&found),
         _ => false,
@@ -114,15 +114,15 @@ fn is_member_at(track: &Mp4Track, k: u32, place: &WalkedPlace) -> bool {
 }
 
 /// The same of the track of id 1.
-fn is_member(reader: &Mp4Reader, k: u32, place: &WalkedPlace) -> bool {
+fn is_run_sample(reader: &Mp4Reader, k: u32, place: &WalkedPlace) -> bool {
     match reader.tracks().get(&1) {
         None => false,
-        Some(track) => is_member_at(track, k, place),
+        Some(track) => is_run_sample_at(track, k, place),
     }
 }
 
-/// Whether sample `k` is lent.
-fn is_lent(reader: &Mp4Reader, start: u64, k: u32) -> bool {
+/// Whether sample `k` is borrowed.
+fn is_borrowed(reader: &Mp4Reader, start: u64, k: u32) -> bool {
     let place = place_of(start, k);
     let byte = [byte_of(k)];
     let sample = SampleRef {
@@ -136,17 +136,17 @@ fn is_lent(reader: &Mp4Reader, start: u64, k: u32) -> bool {
     lends(reader, 1, k, &Ok(Some(sample)))
 }
 
-/// Whether each sample is lent, and none behind the last.
-fn each_is_lent(reader: &Mp4Reader, start: u64) -> bool {
+/// Whether each sample is borrowed, and none behind the last.
+fn each_is_borrowed(reader: &Mp4Reader, start: u64) -> bool {
     let mut all = reader.sample_count(1) == Ok(SAMPLES);
     for k in 1..=SAMPLES {
-        all = all && is_lent(reader, start, k);
+        all = all && is_borrowed(reader, start, k);
     }
     all && lends(reader, 1, SAMPLES + 1, &Ok(None))
 }
 
-/// Whether samples at far numbers are found by one comparison and lent, in no order.
-fn far_ones_are_lent(reader: &Mp4Reader, start: u64) -> bool {
+/// Whether samples at far numbers are found by one comparison and borrowed, in no order.
+fn far_ones_are_borrowed(reader: &Mp4Reader, start: u64) -> bool {
     let mut all = true;
     for k in [
         SAMPLES,
@@ -161,16 +161,16 @@ fn far_ones_are_lent(reader: &Mp4Reader, start: u64) -> bool {
         SAMPLES - 64,
     ] {
         let place = place_of(start, k);
-        all = all && is_member(reader, k, &place) && is_lent(reader, start, k);
+        all = all && is_run_sample(reader, k, &place) && is_borrowed(reader, start, k);
     }
     all
 }
 
-/// Whether the samples of the file are lent, at far numbers and in order.
+/// Whether the samples of the file are borrowed, at far numbers and in order.
 fn all_are_read(alloc: Global) -> mp4_codec::Result<bool> {
     let (bytes, start) = file(alloc)?;
     let reader = read_mp4(alloc, &bytes)?;
-    Ok(far_ones_are_lent(&reader, start) && each_is_lent(&reader, start))
+    Ok(far_ones_are_borrowed(&reader, start) && each_is_borrowed(&reader, start))
 }
 
 #[test]
