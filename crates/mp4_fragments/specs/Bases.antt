@@ -17,6 +17,14 @@ base_or None flags moof before = if is_set flags 0x20000 then Some moof else bef
 abbrev pub base_of : TrafBox → ℕ → Option ℕ → Option ℕ
 base_of traf moof before = base_or traf.tfhd.base_data_offset traf.tfhd.flags moof before
 
+-- whether it counts from where the data before it ended
+abbrev pub counts_from : Option ℕ → ℕ → Bool
+counts_from (Some base) flags = false
+counts_from None flags = not (is_set flags 0x20000)
+
+abbrev pub counts_from_data_before : TrafBox → Bool
+counts_from_data_before traf = counts_from traf.tfhd.base_data_offset traf.tfhd.flags
+
 -- a run's data begins so far from the base as it says, else where the run before it ended
 abbrev pub data_begins : Option ℕ → Option ℤ → Option ℕ → Option ℕ
 data_begins base None before = before

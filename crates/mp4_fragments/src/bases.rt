@@ -2,7 +2,7 @@
 
 ghost use Rattle.std.specs.Prelude.{◌≡◌, fold};
 ghost use Rattle.mp4_frag.specs.Optional.{is_set};
-ghost use Rattle.mp4_fragments.specs.Bases.{base_of, data_ends, traf_ends};
+ghost use Rattle.mp4_fragments.specs.Bases.{base_of, counts_from_data_before, data_ends, traf_ends};
 
 use crate::defaults::SampleDefaults;
 use crate::run_starts::{add, data_begin};
@@ -28,6 +28,18 @@ pub fn traf_base(traf: &TrafBox, moof: u64, before: Option<u64>) -> Option<u64>
                 before
             }
         }
+    }
+}
+
+/// Whether the places of a track fragment count from where the data before it ended: it says neither a base data offset
+/// nor that they count from the first byte of its movie fragment.
+#[tactic(auto, unfolding(mp4_frag::specs::Optional::is_set))]
+pub fn counts_from_data_before(traf: &TrafBox) -> bool
+    ensures { result ≡ counts_from_data_before traf.now }
+{
+    match traf.tfhd.base_data_offset {
+        Some(_) => false,
+        None => traf.tfhd.flags & DEFAULT_BASE_IS_MOOF == 0,
     }
 }
 

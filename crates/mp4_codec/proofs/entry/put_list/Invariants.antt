@@ -5,4 +5,4 @@ use Rattle.mp4_codec.proofs.entry.put_list.Given as goal
 
 abbrev pub invariant-loop-item : goal.invariant-loop-item
 invariant-loop-item g l =
-    Appends l.fn.out.items l.out.items (flat_map (g.T.Entry.encoded l.version) (take l.item-index l.item-items))
+    Appends l.fn.out.items l.out.items (flat_map (g.T.Entry.encoded l.version) (take l.item-index l.items))
