@@ -1,4 +1,4 @@
-use Rattle.mp4_codec.specs.PutLaws.{◌then◌, number_piece}
+use Rattle.mp4_codec.specs.PutLaws.{◌then◌}
 use Rattle.mp4_table.specs.Table.{table}
 use Rattle.mp4_table.proofs.table.put_table.Goals as goal
 
@@ -7,5 +7,5 @@ unfolding table
 returns g c =
     c.in_ok-put_u8.ensures
     then c.in_ok-put_u24.ensures
-    then number_piece 4 _ _ c.len.ensures.value c.in_ok-put_u32.ensures
+    then c.in_ok-put_u32.ensures
     then c.in_ok-put_list.ensures

@@ -7,4 +7,4 @@ unfolding ftyp_payload
 returns c =
     c.in_ok-put_four_cc.ensures
     then c.in_ok-put_u32.ensures
-    then c.in_ok-put_list.ensures
+    then (rw c.as_slice.ensures at c.in_ok-put_list.ensures)

@@ -9,4 +9,4 @@ returns c =
     then c.in_ok-put_u24.ensures
     then c.in_ok-put_u32.ensures
     then c.in_ok-put_u32-2.ensures
-    then c.in_ok-put_list.ensures
+    then (rw c.as_slice.ensures at c.in_ok-put_list.ensures)
