@@ -19,7 +19,7 @@ use std::alloc::{AllocError, Global};
 ///
 /// Counts of samples stop at 2^32 - 1, which no number of a sample passes; and so times and bytes stop at 2^64 - 1,
 /// which fewer than 2^32 durations or sizes of 32 bits don't reach.
-#[derive(Drop)]
+#[derive(Debug, Drop)]
 pub struct TrackIndex {
     /// The first sample of each entry of stsc.
     pub first_samples: SearchedNumbers,

@@ -11,7 +11,6 @@ ghost use Rattle.mp4_samples.specs.Tables.{tables_of};
 ghost use Rattle.mp4_lookup.specs.Tracks.{movie_end};
 
 use crate::index::{TrackIndex, index_of};
-use crate::shown::ShownIndex;
 use crate::timing::end_after;
 use mp4_boxes::TrakBox;
 use mp4_codec::Items;
@@ -20,9 +19,9 @@ use mp4_fragments::{
 };
 use mp4_moof::TrafBox;
 use std::alloc::{AllocError, Global};
-use std::fmt;
 
 /// A track of a movie that was opened (ISO/IEC 14496-12, 8.3.1).
+#[derive(Debug)]
 pub struct Mp4Track {
     /// What the movie box says of the track.
     pub trak: TrakBox,
@@ -41,23 +40,6 @@ pub struct Mp4Track {
     ghost sought: { IsSeekIndex (runs_of trafs defaults runs)
         (2 ^ 32 - 1 - trak.mdia.minf.stbl.stsz.sample_count) seek } by { Prim.hlevel props },
     ghost counted: { trak.mdia.minf.stbl.stsz.sample_count < 2 ^ 32 } by { Prim.hlevel props },
-}
-
-impl fmt::Debug for Mp4Track {
-    fn fmt<W: fmt::Write>(&self, f: &mut fmt::Formatter<W>) -> fmt::Result {
-        let index = ShownIndex {
-            index: &self.index,
-            runs: self.trak.mdia.minf.stbl.stts.entries.as_slice(),
-        };
-        f.debug_struct("Mp4Track")
-            .field("trak", &self.trak)
-            .field("trafs", &self.trafs)
-            .field("default_sample_duration", &self.default_sample_duration)
-            .field("index", &index)
-            .field("defaults", &self.defaults)
-            .field("runs", &self.runs)
-            .finish()
-    }
 }
 
 /// Taken apart here, and not at each end of each function that owns a track.

@@ -1,7 +1,6 @@
 //! Files of any size: opened by a few reads, and their samples read where they lie.
 
 ghost use Rattle.std.specs.Prelude.{◌≡◌, ◌↔◌, ◌+◌, ◌≤◌, Ok, Some, option_map, IfOk, IfErr, IfSome, IsTrue};
-ghost use Rattle.std.proofs.Props.{props};
 ghost use Rattle.mp4_codec.specs.Cause.{Gives};
 ghost use Rattle.mp4_codec.specs.Cursor.{here};
 ghost use Rattle.mp4_lookup.specs.declared.track.Mp4Track.{Mp4Track};
@@ -17,11 +16,12 @@ ghost use Rattle.mp4_media.specs.MovieTracks.{AreTracks, at_id};
 ghost use Rattle.mp4_media.specs.Reading.{IsPlaced, placed_in, sample_in, sample_there};
 ghost use Rattle.mp4_media.specs.Walk.{opened_at};
 
+use crate::measured_source::MeasuredSource;
 use crate::movie::{Movie, open_source};
 use bytes::Bytes;
 use mp4_codec::{Error, Result};
 use mp4_samples::{Mp4Sample, SamplePlace};
-use mp4_source::{ByteSource, FileError, SourceCursor, Window, read_into};
+use mp4_source::{ByteSource, FileError, SourceCursor, Window};
 use std::alloc::Global;
 use std::ops::Deref;
 
@@ -32,11 +32,8 @@ use std::ops::Deref;
 /// accessors.
 #[derive(Drop)]
 pub struct Mp4File<S: ByteSource> {
-    source: S,
-    /// How many bytes the source had when it was opened.
-    len: u64,
+    source: MeasuredSource<S>,
     movie: Movie,
-    ghost measured: { IsLength (S.contents source) len } by { Prim.hlevel props },
 }
 
 impl<S: ByteSource> Deref for Mp4File<S> {
@@ -49,13 +46,6 @@ impl<S: ByteSource> Deref for Mp4File<S> {
     {
         &self.movie
     }
-}
-
-/// Whether a sample lies whole within so many bytes.
-fn is_within(place: SamplePlace, len: u64) -> bool
-    ensures { IsTrue result ↔ (place.offset + place.size ≤ len) }
-{
-    place.offset <= len && u64::from(place.size) <= len - place.offset
 }
 
 impl<S: ByteSource + Drop> Mp4File<S> {
@@ -74,49 +64,45 @@ impl<S: ByteSource + Drop> Mp4File<S> {
         ensures answer { IfSome (S.contents source) (λ bytes. AnswersRead (S.can_refuse source)
             (λ f. opened_movie f.movie) result (opened_at size (here bytes start))) }
         ensures tracks { IfOk result (λ f. AreTracks f.movie.moov f.movie.moofs f.movie.moof_places f.movie.tracks) }
-        ensures contents { IfOk result (λ f. S.contents f.source ≡ S.contents source) }
-        ensures can_refuse { IfOk result (λ f. S.can_refuse f.source ≡ S.can_refuse source) }
+        ensures contents { IfOk result (λ f. S.contents f.source.inner ≡ S.contents source) }
+        ensures can_refuse { IfOk result (λ f. S.can_refuse f.source.inner ≡ S.can_refuse source) }
     {
         let window = Window::new(alloc, source)?;
         let mut reader = SourceCursor::new(alloc, window, start)?;
         let movie = open_source(alloc, &mut reader, size)?;
         let (window, len) = reader.into_parts();
-        Ok(Mp4File {
-            source: window.into_inner(),
+        let source = MeasuredSource {
+            inner: window.into_inner(),
             len,
-            movie,
-        })
+        };
+        Ok(Mp4File { source, movie })
     }
 
     /// The source; the movie is given up.
     pub fn into_inner(self) -> S
-        ensures { result ≡ self.source }
+        ensures { result ≡ self.source.inner }
     {
-        let Mp4File {
-            source,
-            len: _,
-            movie,
-        } = self;
+        let Mp4File { source, movie } = self;
         drop(movie);
-        source
+        source.into_inner()
     }
 
     /// How many bytes the source had when the file was opened.
     pub fn source_len(&self) -> u64
-        ensures { IsLength (S.contents self.now.source) result }
+        ensures { IsLength (S.contents self.now.source.inner) result }
     {
-        self.len
+        self.source.len
     }
 
     /// Where sample `k` of the track with this id lies; `EndOfData` where that isn't whole within the source.
     fn place_of_sample(&self, track_id: u32, k: u32) -> Result<Option<SamplePlace>>
         ensures { Gives (λ p. option_map place_of p) result
-            (placed_in self.now.len self.now.movie.tracks track_id k) }
+            (placed_in self.now.source.len self.now.movie.tracks track_id k) }
     {
         let Some(place) = self.movie.place(track_id, k)? else {
             return Ok(None);
         };
-        if !is_within(place, self.len) {
+        if !self.source.holds(place.offset, place.size) {
             return Err(Error::EndOfData);
         }
         Ok(Some(place))
@@ -135,25 +121,25 @@ impl<S: ByteSource + Drop> Mp4File<S> {
         k: u32,
         buffer: &mut Vec<u8>,
     ) -> std::result::Result<Option<SamplePlace>, FileError>
-        ensures place { IfOk result (λ p. placed_in self.old.len self.old.movie.tracks track_id k
+        ensures place { IfOk result (λ p. placed_in self.old.source.len self.old.movie.tracks track_id k
             ≡ Ok (option_map place_of p)) }
-        ensures answer { IfSome (S.contents self.old.source) (λ bytes. AnswersRead (S.can_refuse self.old.source)
+        ensures answer { IfSome (S.contents self.old.source.inner) (λ bytes. AnswersRead (S.can_refuse self.old.source.inner)
             (λ p. option_map (sample_there buffer.new.items) p) result
             (sample_in bytes self.old.movie.tracks track_id k)) }
         ensures plain { (t : Mp4Track) → at_id self.old.movie.tracks track_id ≡ Some t
             → IsTrue (is_of_movie t.trak t.trafs k) → Consistent (tables_of t.trak)
-            → IfSome (S.contents self.old.source) (λ bytes. AnswersRead (S.can_refuse self.old.source)
+            → IfSome (S.contents self.old.source.inner) (λ bytes. AnswersRead (S.can_refuse self.old.source.inner)
             (λ p. option_map (sample_there buffer.new.items) p) result (plain_sample_at bytes (tables_of t.trak) k)) }
         ensures memory { IfErr result (λ e. e ≡ Mp4 Error.OutOfMemory
-            → IsPlaced (placed_in self.old.len self.old.movie.tracks track_id k)) }
+            → IsPlaced (placed_in self.old.source.len self.old.movie.tracks track_id k)) }
         ensures movie { self.new.movie ≡ self.old.movie }
-        ensures contents { S.contents self.new.source ≡ S.contents self.old.source }
-        ensures can_refuse { S.can_refuse self.new.source ≡ S.can_refuse self.old.source }
+        ensures contents { S.contents self.new.source.inner ≡ S.contents self.old.source.inner }
+        ensures can_refuse { S.can_refuse self.new.source.inner ≡ S.can_refuse self.old.source.inner }
     {
         let Some(place) = self.place_of_sample(track_id, k)? else {
             return Ok(None);
         };
-        read_into(&mut self.source, place.offset, place.size as usize, buffer)?;
+        self.source.read(place.offset, place.size, buffer)?;
         Ok(Some(place))
     }
 
@@ -166,17 +152,17 @@ impl<S: ByteSource + Drop> Mp4File<S> {
         track_id: u32,
         k: u32,
     ) -> std::result::Result<Option<Mp4Sample>, FileError>
-        ensures answer { IfSome (S.contents self.old.source) (λ bytes. AnswersRead (S.can_refuse self.old.source)
+        ensures answer { IfSome (S.contents self.old.source.inner) (λ bytes. AnswersRead (S.can_refuse self.old.source.inner)
             (λ s. option_map timed_sample s) result (sample_in bytes self.old.movie.tracks track_id k)) }
         ensures plain { (t : Mp4Track) → at_id self.old.movie.tracks track_id ≡ Some t
             → IsTrue (is_of_movie t.trak t.trafs k) → Consistent (tables_of t.trak)
-            → IfSome (S.contents self.old.source) (λ bytes. AnswersRead (S.can_refuse self.old.source)
+            → IfSome (S.contents self.old.source.inner) (λ bytes. AnswersRead (S.can_refuse self.old.source.inner)
             (λ s. option_map timed_sample s) result (plain_sample_at bytes (tables_of t.trak) k)) }
         ensures memory { IfErr result (λ e. e ≡ Mp4 Error.OutOfMemory
-            → IsPlaced (placed_in self.old.len self.old.movie.tracks track_id k)) }
+            → IsPlaced (placed_in self.old.source.len self.old.movie.tracks track_id k)) }
         ensures movie { self.new.movie ≡ self.old.movie }
-        ensures contents { S.contents self.new.source ≡ S.contents self.old.source }
-        ensures can_refuse { S.can_refuse self.new.source ≡ S.can_refuse self.old.source }
+        ensures contents { S.contents self.new.source.inner ≡ S.contents self.old.source.inner }
+        ensures can_refuse { S.can_refuse self.new.source.inner ≡ S.can_refuse self.old.source.inner }
     {
         let mut bytes = Vec::new(self.movie.moofs.allocator());
         let Some(place) = self.read_sample_into(track_id, k, &mut bytes)? else {

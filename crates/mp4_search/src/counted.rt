@@ -5,7 +5,6 @@ ghost use Rattle.std.specs.Prelude.{◌≡◌, ℕ, ◌+◌, ◌-◌, ◌^◌, �
 use crate::slope::Slope;
 use mp4_codec::Items;
 use std::alloc::AllocError;
-use std::fmt;
 use std::marker::Model;
 
 /// What is looked up in as a whole. A look-up in it begins with the counters of its readings, and each of its steps
@@ -58,7 +57,7 @@ impl Readings {
 
 /// Numbers that are searched: nothing that is found rests on a number that a search didn't read, and it reads them one
 /// at a time and counts each. The line by which a place is guessed is drawn from some of them beforehand, uncounted.
-#[derive(Drop)]
+#[derive(Debug, Drop)]
 pub struct SearchedNumbers {
     numbers: Items<u32>,
     /// By which the place of a number is guessed. No contract says anything of it.
@@ -135,66 +134,9 @@ impl SearchedNumbers {
     }
 }
 
-/// Without `slope`, which depends on how the numbers came in too.
-impl fmt::Debug for SearchedNumbers {
-    fn fmt<W: fmt::Write>(&self, f: &mut fmt::Formatter<W>) -> fmt::Result {
-        f.debug_struct("SearchedNumbers")
-            .field("numbers", &self.numbers)
-            .finish()
-    }
-}
-
-/// Running sums of sizes: for each, the sum of those before it. Only a difference of two of them is answered. The
-/// library keeps [`CappedSums`], which take half the memory; this is for sums past 64 bits.
+/// Running sums of sizes: for each, the sum of those before it. Only a difference of two of them is answered. They stop at
+/// 2^64 - 1, which the sum of fewer than 2^32 sizes of 32 bits never reaches.
 #[derive(Debug, Drop)]
-pub struct RunningSizes {
-    sums: Vec<u128>,
-}
-
-impl Model for RunningSizes {
-    ghost use Rattle.std.specs.Prelude.{List, ℕ};
-
-    ghost Value = { List ℕ };
-
-    ghost view = { λ s. s.sums.items };
-}
-
-impl RunningSizes {
-    pub fn new(sums: Vec<u128>) -> Self
-        ensures { result ≡ sums.items }
-    {
-        RunningSizes { sums }
-    }
-
-    /// The sum at an index, which counts from 0. This counts as one reading.
-    fn read(&self, index: usize, readings: &mut Readings) -> u128
-        requires within { index < length self.now }
-        requires room { readings.old < 2 ^ 32 - 1 }
-        ensures number { result ≡ slice_index self.now index }
-        ensures counted { readings.new ≡ readings.old + 1 }
-    {
-        readings.count += 1;
-        self.sums[index]
-    }
-
-    /// How much the sizes from `first` up to but without `last` have together, counted from 0. Two sums are read.
-    pub fn between(&self, first: usize, last: usize, readings: &mut Readings) -> u128
-        requires first { first < length self.now }
-        requires last { last < length self.now }
-        requires order { slice_index self.now first ≤ slice_index self.now last }
-        requires room { readings.old < 2 ^ 31 }
-        ensures sum { result ≡ slice_index self.now last - slice_index self.now first }
-        ensures counted { readings.new ≡ readings.old + 2 }
-    {
-        let upto = self.read(last, readings);
-        let from = self.read(first, readings);
-        upto - from
-    }
-}
-
-/// Running sums as `RunningSizes`, in half the memory: they stop at 2^64 - 1, which the sum of fewer than 2^32 sizes of
-/// 32 bits never reaches.
-#[derive(Drop)]
 pub struct CappedSums {
     sums: Vec<u64>,
 }
@@ -237,14 +179,5 @@ impl CappedSums {
         let end = self.read(last, readings);
         let begin = self.read(first, readings);
         end - begin
-    }
-}
-
-/// As a `RunningSizes` with the same sums is written.
-impl fmt::Debug for CappedSums {
-    fn fmt<W: fmt::Write>(&self, f: &mut fmt::Formatter<W>) -> fmt::Result {
-        f.debug_struct("RunningSizes")
-            .field("sums", &self.sums)
-            .finish()
     }
 }

@@ -9,6 +9,6 @@ mod search;
 mod slope;
 
 pub use bit_set::BitSet;
-pub use counted::{CappedSums, LookedUp, Readings, RunningSizes, SearchedNumbers};
+pub use counted::{CappedSums, LookedUp, Readings, SearchedNumbers};
 pub use partition::{Parted, partition_point};
 pub use search::{ByGuess, ByHalves, Search, SearchHit};

@@ -21,56 +21,31 @@ fn place_at(len: usize, part: u32) -> usize {
 
 /// The straight line from the first to the last of some numbers, by which the place of a number among them is guessed:
 /// a guess says where a search begins, and nothing of what it finds.
-#[derive(Clone, Copy)]
-pub(crate) struct Slope {
+#[derive(Debug, Clone, Copy)]
+struct Line {
     first: u32,
     /// How many places the numbers go on for each 1 that they rise, times 2^32; it is at most 2^32 + 1.
     places: u64,
-    /// Whether the numbers lie near the line and are not few. Else a guess would only add to a search by halves.
-    is_near: bool,
-    /// The line is drawn anew once there are so many numbers.
-    next_drawing: usize,
 }
 
-impl Slope {
-    /// The line of these numbers. Some of them are read for it, which counts as no reading of a search.
-    pub fn of(numbers: &[u32]) -> Self {
-        let line = Slope::from_ends(numbers);
-        Slope {
-            first: line.first,
-            places: line.places,
-            is_near: line.is_near(numbers),
-            next_drawing: line.next_drawing,
-        }
-    }
-
+impl Line {
     /// The line through the first and the last of these numbers.
-    fn from_ends(numbers: &[u32]) -> Self {
+    fn through_ends(numbers: &[u32]) -> Self {
         let first = numbers.first().copied().unwrap_or(0);
         let last = numbers.last().copied().unwrap_or(0);
         let rise = u64::from(last.saturating_sub(first));
         // It is rounded up, so that a number of the line itself isn't placed before its own place.
-        let places = if rise == 0 || numbers.len() <= FEW {
+        let places = if rise == 0 {
             0
         } else {
-            (((numbers.len() - 1) as u64).min(rise) << 32) / rise + 1
+            ((numbers.len().saturating_sub(1) as u64).min(rise) << 32) / rise + 1
         };
-        Slope {
-            first,
-            places,
-            is_near: true,
-            next_drawing: numbers
-                .len()
-                .saturating_add((numbers.len() / 2).max(FEW) + 1),
-        }
+        Line { first, places }
     }
 
-    /// Whether the numbers are not few, and lie near the line at some places among them: about as many as the root of
-    /// how many numbers there are, spread over all.
+    /// Whether the numbers lie near the line at some places among them: about as many as the root of how many numbers
+    /// there are, spread over all.
     fn is_near(self, numbers: &[u32]) -> bool {
-        if numbers.len() <= FEW {
-            return false;
-        }
         let mut part: u32 = 0;
         for _ in 0..root_of(numbers.len()).max(FEW) {
             part = part.wrapping_add(STEP);
@@ -88,8 +63,34 @@ impl Slope {
         let Some(number) = numbers.get(index) else {
             return false;
         };
-        let distance = self.on_line(*number).abs_diff(index);
+        let distance = self.place(*number).abs_diff(index);
         distance.saturating_mul(distance).saturating_mul(25) > numbers.len().saturating_mul(9)
+    }
+
+    /// The place of a number on the line: its own where the numbers rise evenly, else any.
+    fn place(self, number: u32) -> usize {
+        let rise = u64::from(number.saturating_sub(self.first));
+        (rise.wrapping_mul(self.places) >> 32) as usize
+    }
+}
+
+/// Where a number is expected among others.
+#[derive(Debug, Clone, Copy)]
+pub(crate) struct Slope {
+    /// None where the numbers are few or don't lie near their line: then a guess would only add to a search by halves.
+    line: Option<Line>,
+    /// The line is drawn anew once there are so many numbers.
+    next_drawing: usize,
+}
+
+impl Slope {
+    /// The line of these numbers. Some of them are read for it, which counts as no reading of a search.
+    pub fn of(numbers: &[u32]) -> Self {
+        let more = (numbers.len() / 2).max(FEW) + 1;
+        Slope {
+            line: near_line(numbers),
+            next_drawing: numbers.len().saturating_add(more),
+        }
     }
 
     /// Whether the line is to be drawn anew, now that there are so many numbers: once they are half as many again as
@@ -98,19 +99,21 @@ impl Slope {
         len >= self.next_drawing
     }
 
-    /// The place of a number on the line.
-    fn on_line(self, number: u32) -> usize {
-        let rise = u64::from(number.saturating_sub(self.first));
-        (rise.wrapping_mul(self.places) >> 32) as usize
-    }
-
-    /// The place where a number is expected: its own where the numbers rise evenly, else any; None where the numbers
-    /// don't lie near their line.
+    /// The place where a number is expected; None where no guess is worth its looks.
     pub fn place(self, number: u32) -> Option<usize> {
-        if self.is_near {
-            Some(self.on_line(number))
-        } else {
-            None
-        }
+        Some(self.line?.place(number))
+    }
+}
+
+/// The line of these numbers, where they are not few and lie near it.
+fn near_line(numbers: &[u32]) -> Option<Line> {
+    if numbers.len() <= FEW {
+        return None;
+    }
+    let line = Line::through_ends(numbers);
+    if line.is_near(numbers) {
+        Some(line)
+    } else {
+        None
     }
 }

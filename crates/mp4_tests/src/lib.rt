@@ -46,10 +46,6 @@ mod refused_memory;
 #[cfg(test)]
 mod round_trip;
 #[cfg(test)]
-mod shown;
-#[cfg(test)]
-mod shown_writers;
-#[cfg(test)]
 mod taste;
 #[cfg(test)]
 mod tracks;

@@ -63,23 +63,10 @@ pub struct PlainFragment {
 }
 
 /// Where and when a sample begins.
-#[derive(Clone, Copy, Debug)]
-pub struct RunStart {
+#[derive(Clone, Copy)]
+struct RunStart {
     place: Option<u64>,
     time: Option<u64>,
-}
-
-/// What a track keeps of a run of one of its track fragments.
-#[derive(Debug, Drop)]
-pub struct RunEntry {
-    /// Where its first sample begins.
-    at: RunStart,
-    /// Where every 64th sample begins, from the 65th on, if the run lists sizes or durations.
-    pub checks: Vec<RunStart>,
-    /// The number of its track fragment among those of the track, counted from 0.
-    traf: usize,
-    /// Its number in the part, counted from 0.
-    run: usize,
 }
 
 /// A sample that a fragment adds.
@@ -117,12 +104,7 @@ pub struct PlainTrack {
     pub values: PlainValues,
     /// When its samples have lasted.
     end: Option<u64>,
-    /// How many track fragments it has.
-    parts: usize,
     samples: Vec<PlainSample>,
-    /// How many samples come before each run.
-    pub counts: Vec<u32>,
-    pub runs: Vec<RunEntry>,
 }
 
 impl PlainTrack {
@@ -180,64 +162,36 @@ fn add_sample(track: &mut PlainTrack, values: &PlainValues, at: RunStart) -> Res
 }
 
 /// Adds the samples of a run to a track, of which all have these values where they say no others. The answer is
-/// where the next one begins. Where every 64th ends is kept, if it says its size or its duration itself.
+/// where the next one begins.
 fn add_samples(
     track: &mut PlainTrack,
     run: &PlainRun,
     values: &PlainValues,
     first: RunStart,
-    checks: &mut Vec<RunStart>,
 ) -> Result<RunStart> {
     let mut at = first;
     let mut first_flags = run.first_flags;
-    let mut count = 0u32;
     for sample in run.samples.as_slice() {
         let own = sample.or(values).or(&track.values);
         let flags = first_flags.or(own.flags);
         first_flags = None;
         at = add_sample(track, &PlainValues { flags, ..own }, at)?;
-        count = count.wrapping_add(1);
-        if count % 64 == 0 && (sample.size.is_some() || sample.duration.is_some()) {
-            checks.push(at)?;
-        }
     }
     Ok(at)
 }
 
-/// Adds a run to a track, which has this number in the last of its fragments. The answer is where the next one begins.
-fn add_run(
-    track: &mut PlainTrack,
-    number: usize,
-    run: &PlainRun,
-    values: &PlainValues,
-    first: RunStart,
-) -> Result<RunStart> {
-    let mut checks = Vec::new(*track.runs.allocator());
-    let before = track.added();
-    track.counts.push(before)?;
-    let end = add_samples(track, run, values, first, &mut checks)?;
-    track.runs.push(RunEntry {
-        at: first,
-        checks,
-        traf: track.parts.wrapping_sub(1),
-        run: number,
-    })?;
-    Ok(end)
-}
-
 /// Adds the runs of a track fragment, whose places count from a base, to its track. The answer is where its data ends.
 fn add_runs(track: &mut PlainTrack, part: &PlainPart, base: Option<u64>) -> Result<Option<u64>> {
-    track.parts = track.parts.wrapping_add(1);
     let before = track.samples.len();
     let mut at = RunStart {
         place: base,
         time: part.time.or(track.end),
     };
-    for (number, run) in part.runs.as_slice().iter().enumerate() {
+    for run in part.runs.as_slice() {
         if let Some(offset) = run.data_offset {
             at.place = moved(base, offset);
         }
-        at = add_run(track, number, run, &part.values, at)?;
+        at = add_samples(track, run, &part.values, at)?;
     }
     if track.samples.len() > before {
         track.end = at.time;
@@ -312,10 +266,7 @@ fn unfragmented(
             id,
             values: values_of(defaults, id),
             end: Some(end_of(stbl.stts.entries.as_slice(), stbl.stsz.sample_count)),
-            parts: 0,
             samples: Vec::new(alloc),
-            counts: Vec::new(alloc),
-            runs: Vec::new(alloc),
         })?;
     }
     Ok(tracks)
