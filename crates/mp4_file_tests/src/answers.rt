@@ -2,8 +2,8 @@
 
 use mp4_codec::Error;
 use mp4_media::{
-    ByteSource, FileError, Movie, Mp4File, Mp4Reader, Mp4Sample, SamplePlace, SampleRef,
-    is_equal_sample,
+    ByteSource, FileError, FileSamples, Movie, Mp4File, Mp4Reader, Mp4Sample, SamplePlace,
+    SampleRef, SampleRefs, is_equal_sample,
 };
 use std::io::ErrorKind;
 
@@ -86,8 +86,38 @@ fn reads<S: ByteSource + Drop>(
     is_same && buffer.capacity() == capacity && is_read(&file.read_sample(id, k), expected)
 }
 
+/// Whether so many samples come in their order as those of a reader do.
+fn come_in_order<S: ByteSource + Drop>(
+    samples: &mut FileSamples<S>,
+    expected: &mut SampleRefs,
+    count: u32,
+) -> bool {
+    let mut all = true;
+    for _ in 0..count {
+        let sample = samples.next().transpose();
+        all = is_read(&sample, &expected.next().transpose()) && all;
+    }
+    all
+}
+
+/// Whether all samples of a track come in their order as those of a reader do, and none after them.
+fn reads_in_order<S: ByteSource + Drop>(
+    file: &mut Mp4File<S>,
+    reader: &Mp4Reader,
+    id: u32,
+    count: u32,
+) -> bool {
+    match (file.samples(id), reader.samples(id)) {
+        (Ok(mut samples), Ok(mut expected)) => {
+            come_in_order(&mut samples, &mut expected, count.saturating_add(2))
+        }
+        (Err(one), Err(other)) => one == other,
+        _ => false,
+    }
+}
+
 /// Whether all numbers of a track are read as a reader does, from 0 to the second past the last, into a buffer that has
-/// room for each.
+/// room for each, and in their order.
 pub fn reads_track<S: ByteSource + Drop>(
     file: &mut Mp4File<S>,
     reader: &Mp4Reader,
@@ -99,7 +129,7 @@ pub fn reads_track<S: ByteSource + Drop>(
     for k in 0..=count.saturating_add(2) {
         all = reads(file, id, k, buffer, &reader.read_sample_ref(id, k)) && all;
     }
-    all
+    all && reads_in_order(file, reader, id, count)
 }
 
 /// The kind of the error, if it is one of reading.

@@ -15,7 +15,7 @@ mod sync;
 mod times;
 mod values;
 
-pub use bases::{traf_base, traf_end};
+pub use bases::{counts_from_data_before, traf_base, traf_end};
 pub use cursor::RunCursor;
 pub use defaults::SampleDefaults;
 pub use index::RunIndex;

@@ -2,7 +2,7 @@
 use Rattle.std.proofs.Common.{◌≡◌, ℕ, ◌+◌, ◌<◌, ◌≤◌, suc, Bool, true, false, cond, eqb, List, [], ◌∷◌, ◌++◌, length}
 use Rattle.std.proofs.Common.{drop}
 use Rattle.std.proofs.Common.{get_or, Option, Some, refl, sym, ap, ap₂, ◌∙◌, arith, length-append, append_assoc}
-use Rattle.std.specs.Prelude.{map, zip, nat_eq}
+use Rattle.std.specs.Prelude.{None, map, not, zip, nat_eq}
 use Rattle.std.specs.List.{filter}
 use Rattle.std.specs.HashMap.{HashMap}
 use Rattle.std.proofs.lemmas.Bool.{eqb-true}
@@ -11,7 +11,9 @@ use Rattle.std.proofs.lemmas.List.Elements.{filter-append}
 use Rattle.mp4_moof.specs.declared.moof.MoofBox.{MoofBox}
 use Rattle.mp4_moof.specs.declared.traf.TrafBox.{TrafBox}
 use Rattle.mp4_fragments.specs.declared.defaults.SampleDefaults.{SampleDefaults}
-use Rattle.mp4_fragments.specs.Bases.{base_of, bases_from, bases_of, traf_ends}
+use Rattle.mp4_frag.specs.Optional.{is_set}
+use Rattle.mp4_fragments.specs.Bases.{base_of, base_or, bases_from, bases_of, counts_from, counts_from_data_before}
+use Rattle.mp4_fragments.specs.Bases.{traf_ends}
 use Rattle.mp4_media.specs.MovieTracks.{bases_at, own_bases, track_bases, trafs_in, trafs_of}
 
 -- one base for each part
@@ -54,6 +56,22 @@ length-track_bases defaults (m ∷ ms) (p ∷ ps) id e =
     ∙ ap₂ (λ (m n : ℕ). m + n) here later
     ∙ sym (length-append (trafs_of m.trafs id) (trafs_of (trafs_in ms) id))
     ∙ sym (ap length (filter-append (λ (f : TrafBox). eqb f.tfhd.track_id id) m.trafs (trafs_in ms)))
+
+-- where the first of these doesn't count from the data before it, that ends anywhere
+pub end_elsewhere : (defaults : ℕ → SampleDefaults) (moof : ℕ) (a b : Option ℕ) (f : TrafBox) (fs : List TrafBox)
+    → counts_from_data_before f ≡ false → bases_from defaults moof a (f ∷ fs) ≡ bases_from defaults moof b (f ∷ fs)
+unfolding bases_from
+end_elsewhere defaults moof a b f fs elsewhere =
+    ap (λ base. base ∷ bases_from defaults moof (traf_ends (defaults f.tfhd.track_id) base f) fs)
+    (by f.tfhd.base_data_offset f.tfhd.flags elsewhere)
+  where
+    by_flag : (set : Bool) → not set ≡ false → cond set (Some moof) a ≡ cond set (Some moof) b
+    by_flag true e = refl
+    by_flag false e = absurd cc
+
+    by : (own : Option ℕ) (flags : ℕ) → counts_from own flags ≡ false → base_or own flags moof a ≡ base_or own flags moof b
+    by (Some base) flags e = refl
+    by None flags e = by_flag (is_set flags 0x20000) e
 
 -- the bases of one fragment, and those of the fragments behind it
 pub more_bases : (defaults : ℕ → SampleDefaults) (moofs : List MoofBox) (places : List ℕ) (i : ℕ) (m : MoofBox)

@@ -12,10 +12,12 @@ ghost use Rattle.mp4_samples.specs.Tables.{tables_of};
 ghost use Rattle.mp4_source.specs.Answers.{AnswersRead, IsLength};
 ghost use Rattle.mp4_source.specs.declared.file_error.FileError.TheVariants.{Mp4};
 ghost use Rattle.mp4_media.specs.FileBoxes.{opened_movie};
+ghost use Rattle.mp4_media.specs.FileSamples.{file_samples_in, file_samples_left};
 ghost use Rattle.mp4_media.specs.MovieTracks.{AreTracks, at_id};
 ghost use Rattle.mp4_media.specs.Reading.{IsPlaced, placed_in, sample_in, sample_there};
 ghost use Rattle.mp4_media.specs.Walk.{opened_at};
 
+use crate::file_samples::FileSamples;
 use crate::measured_source::MeasuredSource;
 use crate::movie::{Movie, open_source};
 use bytes::Bytes;
@@ -141,6 +143,27 @@ impl<S: ByteSource + Drop> Mp4File<S> {
         };
         self.source.read(place.offset, place.size, buffer)?;
         Ok(Some(place))
+    }
+
+    /// The samples of the track with this id, in their order, with their bytes, each of which is read when it is asked for.
+    ///
+    /// `TrakNotFound` of an id that no track has. A sample is refused as by [`Mp4File::read_sample_into`], and none
+    /// comes after it.
+    #[tactic(auto, unfolding(crate::specs::FileSamples::file_samples_in))]
+    pub fn samples(&mut self, track_id: u32) -> Result<FileSamples<'_, S>>
+        ensures samples { Gives file_samples_left result
+            (file_samples_in self.old.source.len self.old.movie.tracks track_id) }
+        ensures contents { IfOk result (λ s. S.contents s.source.now.inner ≡ S.contents self.old.source.inner) }
+        ensures can_refuse { IfOk result (λ s. S.can_refuse s.source.now.inner ≡ S.can_refuse self.old.source.inner) }
+    {
+        let Mp4File { source, movie } = self;
+        let track = movie.track(track_id)?;
+        Ok(FileSamples {
+            source,
+            samples: track.samples(),
+            alloc: movie.moofs.allocator(),
+            has_ended: false,
+        })
     }
 
     /// Sample `k` of the track with this id, with its bytes, which alone are read; samples are numbered from 1. Times

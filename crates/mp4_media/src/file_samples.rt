@@ -5,8 +5,8 @@ ghost use Rattle.std.specs.Iterator.{item_count};
 ghost use Rattle.mp4_codec.specs.Cause.{Gives};
 ghost use Rattle.mp4_lookup.specs.InOrder.{samples_left};
 ghost use Rattle.mp4_source.specs.Answers.{AnswersRead};
-ghost use Rattle.mp4_media.specs.FileSamples.{GivesNext, after_first, file_samples_left, first_of, first_read};
-ghost use Rattle.mp4_media.specs.FileSamples.{places_within, sample_with};
+ghost use Rattle.mp4_media.specs.FileSamples.{GivesNext, IsSome, after_first, file_samples_left, first_of};
+ghost use Rattle.mp4_media.specs.FileSamples.{first_read, places_within, sample_with};
 
 use crate::measured_source::MeasuredSource;
 use bytes::Bytes;
@@ -65,6 +65,7 @@ impl<'f, S: ByteSource> FileSamples<'f, S> {
             (λ p. option_map (sample_with buffer.new.items) p) result (first_read bytes (file_samples_left self.old))) }
         ensures left { IfOk result (λ p. file_samples_left self.new ≡ after_first (file_samples_left self.old)) }
         ensures ended { OnErr result (file_samples_left self.new ≡ []) }
+        ensures some { OnErr result (IsSome (file_samples_left self.old)) }
         ensures contents { S.contents self.new.source.now.inner ≡ S.contents self.old.source.now.inner }
         ensures can_refuse { S.can_refuse self.new.source.now.inner ≡ S.can_refuse self.old.source.now.inner }
     {
@@ -78,5 +79,35 @@ impl<'f, S: ByteSource> FileSamples<'f, S> {
         self.source.read(place.offset, place.size, buffer)?;
         self.has_ended = false;
         Ok(Some(place))
+    }
+}
+
+impl<'f, S: ByteSource> Iterator for FileSamples<'f, S> {
+    type Item = std::result::Result<Mp4Sample, FileError>;
+
+    ghost next_gives = { λ s next t. GivesNext (S.contents s.source.now.inner) (S.can_refuse s.source.now.inner)
+        (file_samples_left s) next (file_samples_left t) };
+
+    ghost remaining = { item_count file_samples_left };
+
+    fn next(&mut self) -> Option<std::result::Result<Mp4Sample, FileError>> {
+        let mut bytes = Vec::new(self.alloc);
+        match self.next_into(&mut bytes) {
+            Ok(None) => None,
+            Ok(Some(place)) => match Bytes::from_vec(bytes) {
+                Ok(bytes) => Some(Ok(Mp4Sample {
+                    start_time: place.start_time,
+                    duration: place.duration,
+                    rendering_offset: place.rendering_offset,
+                    is_sync: place.is_sync,
+                    bytes,
+                })),
+                Err(_) => {
+                    self.has_ended = true;
+                    Some(Err(FileError::from(Error::OutOfMemory)))
+                }
+            },
+            Err(error) => Some(Err(error)),
+        }
     }
 }

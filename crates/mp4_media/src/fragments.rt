@@ -2,13 +2,14 @@
 //! from, and what the movie says of their samples (ISO/IEC 14496-12, 8.8).
 
 ghost use Rattle.std.specs.Prelude.{◌≡◌, ℕ, [], ◌∷◌, ◌++◌, length, ◌==◌, if◌then◌else◌, IfOk, IfErr, OnOk};
-ghost use Rattle.mp4_fragments.specs.Bases.{bases_of};
+ghost use Rattle.mp4_fragments.specs.Bases.{bases_from, bases_of, traf_ends};
+ghost use Rattle.mp4_fragments.specs.declared.defaults.SampleDefaults.{SampleDefaults};
 ghost use Rattle.mp4_media.specs.MovieTracks.{at_id, bases_at, defaults_at, defaults_with_id, fragments_at, own_bases};
 ghost use Rattle.mp4_media.specs.MovieTracks.{track_bases, trafs_in, trafs_of, trexs_in};
 
 use mp4_codec::{Error, Items, Result, TryClone};
 use mp4_frag::TrexBox;
-use mp4_fragments::{SampleDefaults, traf_base, traf_end};
+use mp4_fragments::{SampleDefaults, counts_from_data_before, traf_base, traf_end};
 use mp4_moof::{MoofBox, MvexBox, TrafBox};
 use std::alloc::{AllocError, Global};
 use std::collections::HashMap;
@@ -108,6 +109,28 @@ fn add_base(
     Ok(())
 }
 
+/// Where the data of a track fragment ends, if the next one of its movie fragment counts from there; else nothing, since
+/// the sizes of all its samples would be added up for it.
+fn end_for_next(
+    next: &[TrafBox],
+    traf: &TrafBox,
+    track: SampleDefaults,
+    base: Option<u64>,
+) -> Option<u64>
+    ensures { (defaults : ℕ → SampleDefaults) (moof : ℕ)
+        → bases_from defaults moof result next.now
+        ≡ bases_from defaults moof (traf_ends track base traf.now) next.now }
+{
+    let Some(next) = next.first() else {
+        return None;
+    };
+    if counts_from_data_before(next) {
+        traf_end(traf, track, base)
+    } else {
+        None
+    }
+}
+
 /// Adds the base of each of these track fragments, whose movie fragment begins at `moof`, to those of its track.
 fn add_bases(
     alloc: Global,
@@ -121,11 +144,11 @@ fn add_bases(
         ++ own_bases id trafs.now (bases_of (defaults_at defaults.now) moof trafs.now)) }
 {
     let mut before = Some(moof);
-    for traf in trafs {
+    for (i, traf) in trafs.iter().enumerate() {
         let id = traf.tfhd.track_id;
         let base = traf_base(traf, moof, before);
         add_base(alloc, bases, id, base)?;
-        before = traf_end(traf, track_defaults(defaults, id), base);
+        before = end_for_next(&trafs[i + 1..], traf, track_defaults(defaults, id), base);
     }
     Ok(())
 }
