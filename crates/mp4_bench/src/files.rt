@@ -12,7 +12,7 @@ use std::alloc::{AllocError, Global};
 /// Where the movie header begins in the empty movie.
 const MOVIE_HEADER: usize = 56;
 
-/// Where the data begins: behind the file type and the header of the data.
+/// Where the data begins: after the file type and the header of the data.
 pub const DATA: u64 = 40;
 
 /// How many bytes are drawn for the data; they are repeated.

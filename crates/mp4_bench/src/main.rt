@@ -1,5 +1,5 @@
-//! Whole jobs that users of the library wait for, on inputs of real shape that a seed settles. A run prints a digest of all
-//! that its job answers, and no times: docs/PERF.md says how they are measured. Or it writes a file, on which other
+//! Whole jobs that users of the library wait for, on inputs of real shape that a seed settles. A run prints a digest of
+//! all that its job answers, and no times: docs/PERF.md says how they are measured. Or it writes a file, on which other
 //! programs are measured too.
 #![tactic(auto)]
 
@@ -34,7 +34,7 @@ const FILE_USAGE: &[u8] = b"or a file: mp4_bench even | turning | fragments [SEE
 /// How large a job is where nothing is said: the whole of it.
 const WHOLE: u32 = 1000;
 
-/// The arguments behind the program's name. Where one of them isn't UTF-8 the answer is an empty list, which is no job.
+/// The arguments after the program's name. Where one of them isn't UTF-8 the answer is an empty list, which is no job.
 fn arguments(rt: &HostRuntime) -> Result<Vec<String>> {
     match env::args(rt) {
         Ok(args) => Ok(args.skip(1).collect(rt.alloc())?),

@@ -5,16 +5,16 @@ use mp4_plain_movies::nested::{DINF, HDLR, MDHD, TKHD};
 use mp4_plain_movies::plain_bytes::put_over;
 use std::alloc::{AllocError, Global};
 
-/// Where the id stands in a track header.
+/// Where the id is in a track header.
 const ID_IN_TKHD: usize = 20;
 
-/// Where the timescale stands in a media header.
+/// Where the timescale is in a media header.
 const TIMESCALE_IN_MDHD: usize = 20;
 
-/// Where the duration stands in a media header.
+/// Where the duration is in a media header.
 const DURATION_IN_MDHD: usize = 24;
 
-/// Where the handler stands in its box.
+/// Where the handler is in its box.
 const HANDLER_IN_HDLR: usize = 16;
 
 /// The boxes of a track that each file has.

@@ -1,5 +1,5 @@
-//! A scanner of libraries: many small files, each opened and described: two tracks, of which one has parameter sets, and
-//! metadata with a picture.
+//! A scanner of libraries: many small files, each opened and described: two tracks, of which one has parameter sets,
+//! and metadata with a picture.
 
 use crate::digest::Digest;
 use crate::files::{DATA, pattern, put_file_type, put_movie_header, put_track};
@@ -25,7 +25,7 @@ const MORE: u32 = 1500;
 /// How many tracks of each kind are made, of which the files are put together.
 const KINDS: u32 = 64;
 
-/// Where the duration stands in a movie header.
+/// Where the duration is in a movie header.
 const DURATION_IN_MVHD: usize = 24;
 
 /// The handler of metadata: `mdir`.
@@ -127,8 +127,8 @@ fn one_of<'a>(tracks: &'a [Vec<u8>], random: &mut Random) -> &'a [u8] {
     }
 }
 
-/// Puts a file: file type and movie box, whose data follow elsewhere. Its number is its duration, and its tracks and its
-/// picture are drawn, so that no two files are the same.
+/// Puts a file: file type and movie box, whose data follow elsewhere. Its number is its duration, and its tracks and
+/// its picture are drawn, so that no two files are the same.
 fn put_file(
     bytes: &mut Vec<u8>,
     random: &mut Random,

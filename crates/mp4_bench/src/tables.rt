@@ -61,7 +61,7 @@ impl Lists {
         }
     }
 
-    /// The tables, one behind the other.
+    /// The tables, one after the other.
     pub fn put(&self, bytes: &mut Vec<u8>) -> Result<(), AllocError> {
         put_durations(bytes, &self.durations)?;
         if !self.rendering_offsets.is_empty() {
@@ -111,8 +111,8 @@ pub fn list_sync_samples(lists: &mut Lists, count: u32, every: u32) -> Result<()
     Ok(())
 }
 
-/// Where the chunks of tracks begin that were interleaved: chunks of so many samples, from a place on, each with as many
-/// bytes behind it for the chunks of the others.
+/// Where the chunks of tracks begin that were interleaved: chunks of so many samples, from a place on, each with as
+/// many bytes after it for the chunks of the others.
 pub fn list_chunks(
     lists: &mut Lists,
     each: u32,

@@ -11,7 +11,7 @@ answer_shows {X} answer (Ok x) is = subst (λ (r : Result X Cause). Shows {X = X
 answer_shows {X} answer (Err e) is =
     subst (λ (r : Result X Cause). Shows {X = X} (at_once r) (Err e)) (sym is) refl
 
--- behind children that were read, the answer shows itself
+-- after children that were read, the answer shows itself
 pub shown_behind : {P X : Type 0} (children : Early) (parts : P) (answer : Result X Cause) (result : Result X Error)
     → Shows {X = P} children (Ok parts) → Gives (λ x. x) result answer
     → Shows (children and_then at_once answer) result

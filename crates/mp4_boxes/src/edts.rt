@@ -20,7 +20,7 @@ use std::alloc::Global;
 /// The edits of a track, `edts`: how its media lies on the movie's time (ISO/IEC 14496-12, 8.6.5).
 ///
 /// The first child alone is looked at: it is the edit list, or else there is none. A first child that
-/// doesn't end within the payload is `InvalidData`; what stands behind the first child is skipped, whatever
+/// doesn't end within the payload is `InvalidData`; what is after the first child is skipped, whatever
 /// it is.
 #[derive(Debug, PartialEq, Eq, Drop)]
 pub struct EdtsBox {

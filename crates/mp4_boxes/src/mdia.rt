@@ -24,7 +24,7 @@ use std::alloc::Global;
 /// The media of a track, `mdia` (ISO/IEC 14496-12, 8.4.1).
 ///
 /// Its children may come in any order, and types that it doesn't name are skipped. Of a type the last
-/// child stands. The first refused child in file order is the answer, then `InvalidData` for a broken
+/// child counts. The first refused child in file order is the answer, then `InvalidData` for a broken
 /// tail, then `BoxNotFound` for the first that is missing of mdhd, hdlr, minf.
 #[derive(Debug, PartialEq, Eq, Drop)]
 pub struct MdiaBox {

@@ -25,7 +25,7 @@ use std::alloc::Global;
 /// The information of a track's media, `minf` (ISO/IEC 14496-12, 8.4.4).
 ///
 /// Its children may come in any order, and types that it doesn't name are skipped. Of a type the last
-/// child stands. The first refused child in file order is the answer, then `InvalidData` for a broken
+/// child counts. The first refused child in file order is the answer, then `InvalidData` for a broken
 /// tail, then `BoxNotFound` for the first that is missing of dinf and stbl.
 #[derive(Debug, PartialEq, Eq, Drop)]
 pub struct MinfBox {

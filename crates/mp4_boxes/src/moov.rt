@@ -28,7 +28,7 @@ use std::alloc::Global;
 /// The movie, `moov`: what a file holds beside its samples (ISO/IEC 14496-12, 8.2.1).
 ///
 /// Its children may come in any order, and types that it doesn't name are skipped. Of a type the last
-/// child stands. The first refused child in file order is the answer, then `InvalidData` for a broken
+/// child counts. The first refused child in file order is the answer, then `InvalidData` for a broken
 /// tail, then `BoxNotFound(MvhdBox)`.
 #[derive(Debug, PartialEq, Eq, Drop)]
 pub struct MoovBox {
@@ -40,7 +40,7 @@ pub struct MoovBox {
     pub mvex: Option<MvexBox>,
     /// The metadata of the movie.
     pub meta: Option<MetaBox>,
-    /// The user data, where a title and the like stand.
+    /// The user data, where a title and the like are.
     pub udta: Option<UdtaBox>,
 }
 

@@ -31,7 +31,7 @@ use std::alloc::Global;
 /// (ISO/IEC 14496-12, 8.5.1).
 ///
 /// Its children may come in any order, and types that it doesn't name are skipped. Of a type the last
-/// child stands. The first refused child in file order is the answer, then `InvalidData` for a broken
+/// child counts. The first refused child in file order is the answer, then `InvalidData` for a broken
 /// tail, then `BoxNotFound` for the first that is missing of stsd, stts, stsc, stsz, then
 /// `Box2NotFound(StcoBox, Co64Box)` where neither is there.
 ///

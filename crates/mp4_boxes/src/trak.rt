@@ -28,7 +28,7 @@ use std::alloc::Global;
 /// A track, `trak` (ISO/IEC 14496-12, 8.3.1).
 ///
 /// Its children may come in any order, and types that it doesn't name are skipped. Of a type the last
-/// child stands. The first refused child in file order is the answer, then `InvalidData` for a broken
+/// child counts. The first refused child in file order is the answer, then `InvalidData` for a broken
 /// tail, then `BoxNotFound` of the first missing box, in the order `tkhd`, `mdia`.
 #[derive(Debug, PartialEq, Eq, Drop)]
 pub struct TrakBox {

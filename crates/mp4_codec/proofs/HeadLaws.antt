@@ -67,7 +67,7 @@ sized name header total head e = chosen (eqb total 0) (ltb total header) (ltb-fa
               inr (record { total = total; is = refl; large = h refl });
         })
 
--- a header that was read: its type is named as such, it has 8 bytes at least, and the place behind it is so many
+-- a header that was read: its type is named as such, it has 8 bytes at least, and the place after it is so many
 -- bytes on
 pub record HeadRead (place : Cursor) (head : Head) (behind : Cursor) : Type 0 where
   pub named : IsNamed head.name
@@ -88,7 +88,7 @@ module _ (place : Cursor) (name : BoxType) (named : IsNamed name) (head : Head) 
   of_size header long after s =
       record { named = rw s.name_is named; long = rw s.header_is long; after = rw s.header_is after; whole = s.whole }
 
-  -- the size stands in 32 bits
+  -- the size is in 32 bits
   short_read : (size : ℕ) → (head_with name 8 size >>= headed (moved 8 place)) ≡ Ok (head, behind)
       → HeadRead place head behind
   short_read size e =
@@ -98,7 +98,7 @@ module _ (place : Cursor) (name : BoxType) (named : IsNamed name) (head : Head) 
       let second : moved 8 place ≡ behind = ap (λ (x : Head × Cursor). x.1) same in
       of_size 8 (omega arith) (sym second) (subst (Sized name 8) first (sized name 8 size one.0 one.1))
 
-  -- the size stands behind the type
+  -- the size is after the type
   long_read : (take_at 8 (moved 8 place) >>= large_headed name) ≡ Ok (head, behind) → HeadRead place head behind
   long_read e =
       let one = both_steps (take_at 8 (moved 8 place)) (large_headed name) (head, behind) e in

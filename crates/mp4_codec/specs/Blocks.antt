@@ -1,4 +1,4 @@
--- Values that stand in blocks of bytes, one block for each.
+-- Values that are in blocks of bytes, one block for each.
 use Rattle.std.proofs.Common.{◌≡◌, ℕ, zero, suc, ◌*◌, ◌≤◌, List, length, take, drop, Ok, Err, refl}
 use Rattle.std.proofs.Common.{arith, suc-mul}
 use Rattle.std.specs.Prelude.{nat_lt, if◌then◌else◌}

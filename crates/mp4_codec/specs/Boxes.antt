@@ -15,15 +15,15 @@ use Rattle.mp4_codec.specs.Bytes.{number, ◌⧺◌}
 abbrev pub size_around : List ℕ → ℕ
 size_around payload = min (8 + length payload) (2 ^ 64 - 1)
 
--- a payload behind a header of 8 bytes
+-- a payload after a header of 8 bytes
 unfoldable pub box_bytes : BoxType → List ℕ → List ℕ
 box_bytes name payload = number 4 (8 + length payload) ⧺ number 4 (code_of name) ⧺ payload
 
--- the payload of a box of this size behind the place, and the place behind the box
+-- the payload of a box of this size after the place, and the place after the box
 abbrev pub payload_at : ℕ → Cursor → Result (List ℕ × Cursor) Cause
 payload_at size cursor = if nat_lt size 8 then Err invalid_data else take_at (size - 8) cursor
 
--- the box of this size behind the place, by what its payload means, and the place behind it
+-- the box of this size after the place, by what its payload means, and the place after it
 abbrev pub box_at : {A : Type 0} → (List ℕ → Result A Cause) → ℕ → Cursor → Result (A × Cursor) Cause
 box_at value size cursor = do
   part ← payload_at size cursor

@@ -1,5 +1,5 @@
 -- Fields as bytes, numbers the highest byte first (ISO/IEC 14496-12, 4.2): each is read from the front of
--- the bytes and leaves what stands behind it.
+-- the bytes and leaves what is after it.
 use Rattle.std.specs.Prelude.{◌≡◌, ℕ, zero, suc, ◌+◌, ◌<◌, ◌≤◌, ◌-◌, ◌*◌, ◌^◌, ℤ, List, [], ◌∷◌, ◌++◌, length, take}
 use Rattle.std.specs.Prelude.{drop}
 use Rattle.std.specs.Prelude.{Option}
@@ -20,7 +20,7 @@ xs ⧺ ys = xs ++ ys
 pub record Appends (old new piece : List ℕ) : Type 0 where
   pub is : new ≡ old ++ piece
 
--- a reader of one field: the field and the bytes behind it
+-- a reader of one field: the field and the bytes after it
 abbrev pub Reader : Type 0 → Type 0
 Reader A = List ℕ → Result (A × List ℕ) Cause
 
@@ -110,7 +110,7 @@ four_cc f = number 4 (from_be_bytes w32 f.value)
 unfoldable pub until_zero : List ℕ → List ℕ
 until_zero bytes = take_while (λ b. not (b == 0)) bytes
 
--- the bytes before the first zero, which has to be there, and what stands behind it
+-- the bytes before the first zero, which has to be there, and what is after it
 unfoldable pub text_at : Reader (List ℕ)
 text_at bytes = do
   text ← bytes_at (length (until_zero bytes)) bytes

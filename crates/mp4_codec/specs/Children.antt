@@ -24,7 +24,7 @@ abbrev pub begun : Result (BoxHeader × Cursor) Cause → Option (ChildBox × Li
 begun (Ok x) = if x.0.size == 0 then None else cut x.0.name (take_at (x.0.size - 8) x.1)
 begun (Err c) = None
 
--- the child that begins the bytes, and what stands behind it; an open end, or a header or a child that passes the
+-- the child that begins the bytes, and what is after it; an open end, or a header or a child that passes the
 -- end, is none
 unfoldable pub child_at : List ℕ → Option (ChildBox × List ℕ)
 child_at bytes = begun (header_at (record { bytes = bytes; position = 0 }))
@@ -41,13 +41,13 @@ abbrev pub walk_on : List ℕ → (List ℕ → List ChildBox × List ℕ) → O
 walk_on bytes others None = ([], bytes)
 walk_on bytes others (Some x) = (x.0 ∷ (others x.1).0, (others x.1).1)
 
--- the children of a payload, and the tail behind them; the steps are as many as there are bytes, which is more than
+-- the children of a payload, and the tail after them; the steps are as many as there are bytes, which is more than
 -- enough
 unfoldable pub walk : ℕ → List ℕ → List ChildBox × List ℕ
 walk zero bytes = ([], bytes)
 walk (suc n) bytes = if nat_lt (length bytes) 8 then ([], bytes) else walk_on bytes (walk n) (child_at bytes)
 
--- the children of a payload in order, and the tail behind them
+-- the children of a payload in order, and the tail after them
 unfoldable pub children : List ℕ → List ChildBox × List ℕ
 children payload = walk (length payload) payload
 

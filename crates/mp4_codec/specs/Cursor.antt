@@ -1,4 +1,4 @@
--- Bytes and a place in them, and the headers that stand there.
+-- Bytes and a place in them, and the headers that are there.
 use Rattle.std.specs.Prelude.{ℕ, ◌+◌, ◌-◌, List, length, take, drop, Option, Some, None, Result, Ok, Err, nat_lt}
 use Rattle.std.specs.Prelude.{◌==◌, if◌then◌else◌}
 use Rattle.byteorder.specs.Endian.{big_number}
@@ -22,7 +22,7 @@ left cursor = drop cursor.position cursor.bytes
 abbrev pub moved : ℕ → Cursor → Cursor
 moved n cursor = record cursor { position = cursor.position + n }
 
--- the next n bytes, and the place behind them
+-- the next n bytes, and the place after them
 abbrev pub take_at : ℕ → Cursor → Result (List ℕ × Cursor) Cause
 take_at n cursor =
     if nat_lt (length cursor.bytes) (cursor.position + n)
@@ -41,14 +41,14 @@ head_with name header total =
     if nat_lt total header then Err invalid_data else
     Ok (record { name = name; header = header; total = Some total })
 
--- the same where the place is behind the type; a size of 1 says that the size stands there, in 64 bits
+-- the same where the place is after the type; a size of 1 says that the size is there, in 64 bits
 abbrev pub head_after : BoxType → ℕ → Cursor → Result (Head × Cursor) Cause
 head_after name size cursor =
     if size == 1
     then (take_at 8 cursor >>= λ large. head_with name 16 (big_number 8 large.0) >>= λ head. Ok (head, large.1))
     else (head_with name 8 size >>= λ head. Ok (head, cursor))
 
--- the header at the place, and the place behind it
+-- the header at the place, and the place after it
 unfoldable pub head_at : Cursor → Result (Head × Cursor) Cause
 head_at cursor = do
   first ← take_at 8 cursor
@@ -66,12 +66,12 @@ reported head = record { name = head.name; size = size_with head.header head.tot
 abbrev pub header_saying : BoxType → ℕ → ℕ → Result BoxHeader Cause
 header_saying name header total = head_with name header total >>= λ head. Ok (reported head)
 
--- the header whose first 8 bytes are these, and what follows them stands at the place: as it is reported, and the place
--- behind it
+-- the header whose first 8 bytes are these, and what follows them is at the place: as it is reported, and the place
+-- after it
 abbrev pub header_behind : List ℕ → Cursor → Result (BoxHeader × Cursor) Cause
 header_behind first cursor =
     head_after (box_type (big_number 4 (drop 4 first))) (big_number 4 first) cursor >>= λ x. Ok (reported x.0, x.1)
 
--- the header at the place as it is reported, and the place behind it
+-- the header at the place as it is reported, and the place after it
 abbrev pub header_at : Cursor → Result (BoxHeader × Cursor) Cause
 header_at cursor = head_at cursor >>= λ x. Ok (reported x.0, x.1)

@@ -288,7 +288,7 @@ pub then_nothing : (xs : List ℕ) → xs ⧺ [] ≡ xs
 unfolding ◌⧺◌
 then_nothing xs = append-nil xs
 
--- the same for a number behind which nothing stands
+-- the same for a number that nothing follows
 pub number_last : (n x : ℕ) → x < 256 ^ n → number_at n (number n x) ≡ Ok (x, [])
 number_last n x h = ap (number_at n) (sym (then_nothing (number n x))) ∙ number_again n x [] h
 
@@ -323,7 +323,7 @@ length-numbers n (x ∷ xs) =
       length-numbers n xs,
     ) (omega arith)
 
--- a list behind which nothing stands
+-- a list that nothing follows
 pub list_last : {A : Type 0} (read : Reader A) (write : A → List ℕ) (Fits : A → Type 0) → ReadsBack read write Fits
     → (count : ℕ) (xs : List A) → length xs ≡ count → AllByRecursion Fits xs
     → list_at read count (flat_map write xs) ≡ Ok (xs, [])
@@ -336,7 +336,7 @@ pub numbers_last : (n count : ℕ) (xs : List ℕ) → length xs ≡ count → A
 numbers_last n count xs e fits =
     list_last (number_at n) (number n) (λ x. x < 256 ^ n) (record { again = number_again n }) count xs e fits
 
--- zeros behind which nothing stands
+-- zeros that nothing follows
 pub zeros_last : (n : ℕ) → bytes_at n (zeros n) ≡ Ok (zeros n, [])
 zeros_last n = ap (bytes_at n) (sym (then_nothing (zeros n))) ∙ zeros_again n []
 

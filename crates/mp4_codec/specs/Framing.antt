@@ -14,7 +14,7 @@ use Rattle.mp4_codec.specs.Children.{ChildBox}
 abbrev pub IsBytes : List ℕ → Type 0
 IsBytes bytes = AllByRecursion (λ b. b < 256) bytes
 
--- a payload behind a header of 16 bytes, whose size of 1 says that the size stands behind the type, in 64 bits
+-- a payload after a header of 16 bytes, whose size of 1 says that the size is after the type, in 64 bits
 unfoldable pub long_box_bytes : BoxType → List ℕ → List ℕ
 long_box_bytes name payload = number 4 1 ⧺ number 4 (code_of name) ⧺ number 8 (16 + length payload) ⧺ payload
 
@@ -30,7 +30,7 @@ pub data IsBox (name : BoxType) (payload bytes : List ℕ) : Type 0 where
       → IsBox name payload bytes
 
 -- Read at this place, the header says the type and eight more than the payload's length, whatever the encoding;
--- the payload stands behind the header, and the place behind the payload is behind the whole box.
+-- the payload is after the header, and the place after the payload is after the whole box.
 pub record ReadsAsBox (name : BoxType) (payload box : List ℕ) (bytes : List ℕ) (place : ℕ) : Type 0 where
   pub header : ℕ
   pub whole : header + length payload ≡ length box
@@ -47,9 +47,9 @@ short_header name size = number 4 size ⧺ number 4 (code_of name)
 abbrev pub long_header : BoxType → ℕ → List ℕ
 long_header name size = number 4 1 ⧺ number 4 (code_of name) ⧺ number 8 size
 
--- Where these bytes stand, whatever is before them and behind them, the header says this type and this length of the
+-- Where these bytes are, whatever is before them and after them, the header says this type and this length of the
 -- whole box, or an
--- open end; and the place behind it is that behind the bytes.
+-- open end; and the place after it is that after the bytes.
 abbrev pub SaysBox : BoxType → Option ℕ → (header before after : List ℕ) → Type 0
 SaysBox name total header before after =
     let bytes = before ++ (header ++ after) in
@@ -63,7 +63,7 @@ SaysBox name total header before after =
 abbrev pub size_in : List ℕ → ℕ
 size_in left = big_number 4 left
 
--- the 64-bit size behind the type
+-- the 64-bit size after the type
 abbrev pub large_size_in : List ℕ → ℕ
 large_size_in left = big_number 8 (drop 8 left)
 

@@ -1,4 +1,4 @@
--- A box is read off the bytes that it stands in.
+-- A box is read off the bytes that it is in.
 use Rattle.std.proofs.Common.{◌≡◌, ◌⊎◌, inl, inr, ℕ, zero, suc, ◌+◌, ◌-◌, ◌*◌, ◌/◌, ◌%◌, ◌^◌, ◌≤◌, ◌<◌, false, eqb}
 use Rattle.std.proofs.Common.{ltb, List, [], ◌∷◌, ◌++◌, length, drop, take, Some, None, Result, Ok, Err, refl, sym}
 use Rattle.std.proofs.Common.{ap, subst, ◌∙◌, append_assoc, arith}
@@ -65,7 +65,7 @@ high_byte : (n a x : ℕ) → a < 256 → x < 256 ^ n → byte_at n (a * 256 ^ n
 high_byte n a x ha hx = byte_at-pow n (a * 256 ^ n + x) ∙ ap (λ (y : ℕ). y % 256) (div-mul-add a (256 ^ n) x hx)
     ∙ mod-eq_of_lt ha
 
--- what stands above the lowest n bytes does not change them
+-- what is above the lowest n bytes does not change them
 low_bytes : (n c x : ℕ) → bytes_high_first n (c * 256 ^ n + x) ≡ bytes_high_first n x
 low_bytes zero c x = refl
 low_bytes (suc n) c x =
@@ -111,7 +111,7 @@ encoded zero bytes b h = record { value = 0; small = omega arith; rest = bytes; 
 encoded (suc n) [] b h = absurd (omega arith)
 encoded (suc n) (a ∷ bytes) b h = encoded_more n a bytes b.0 (encoded n bytes b.1 (omega arith))
 
--- n bytes are taken where they stand
+-- n bytes are taken where they are
 pub taken : (n p : ℕ) (bytes a b c : List ℕ) → bytes ≡ a ++ (b ++ c) → length a ≡ p → length b ≡ n
     → take_at n (here bytes p) ≡ Ok (b, here bytes (p + n))
 taken n p bytes a b c e ea eb =
@@ -136,7 +136,7 @@ pub head_with-total : (name : BoxType) (header total : ℕ) → 0 < header → h
     → head_with name header total ≡ Ok (record { name = name; header = header; total = Some total })
 head_with-total name header total pos h = rw (off total 0 (omega arith), le-ltb total header h) refl
 
--- the 64-bit size behind the first eight bytes
+-- the 64-bit size after the first eight bytes
 pub enlarged : (bytes before d : List ℕ) (name : BoxType) (b t : ℕ)
     → bytes ≡ before ++ (front 1 b ++ (number 8 t ++ d)) → t < 2 ^ 64
     → head_after name 1 (here bytes (length before + 8))
@@ -198,7 +198,7 @@ pub long_regrouped : (name : BoxType) (payload rest : List ℕ)
 unfolding long_box_bytes front ◌⧺◌
 long_regrouped name payload rest = simp append_assoc
 
--- the payload is taken behind a header of so many bytes
+-- the payload is taken after a header of so many bytes
 body : (bytes before header payload after : List ℕ) (n m : ℕ) → bytes ≡ before ++ (header ++ (payload ++ after))
     → length header ≡ n → n + length payload ≡ m
     → take_at (length payload) (here bytes (length before + n)) ≡ Ok (payload, here bytes (length before + m))
@@ -252,7 +252,7 @@ reads_long name payload before after s h =
           (sym (length-long_box_bytes name payload));
     }
 
--- a box is read where it stands
+-- a box is read where it is
 pub reads_as_box : (name : BoxType) (payload before f after : List ℕ) → IsBox name payload f
     → ReadsAsBox name payload f (before ++ (f ++ after)) (length before)
 reads_as_box name payload before f after (short s h e) =

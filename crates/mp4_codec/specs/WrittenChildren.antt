@@ -19,7 +19,7 @@ use Rattle.mp4_codec.specs.Children.{gathered}
 use Rattle.mp4_codec.specs.ChildrenLaws.{Begins, walk-begins, walk-ends}
 use Rattle.mp4_codec.specs.GatherLaws.{NoFault, first_fault-none}
 
--- a walk finds these children in the bytes, and nothing behind them
+-- a walk finds these children in the bytes, and nothing after them
 pub record Walks (bytes : List ℕ) (list : List ChildBox) : Type 0 where
   pub is : (n : ℕ) → length bytes ≤ n → walk n bytes ≡ (list, [])
 

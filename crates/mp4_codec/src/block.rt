@@ -1,4 +1,4 @@
-//! Values that stand in blocks of bytes, one block for each.
+//! Values that are in blocks of bytes, one block for each.
 
 ghost use Rattle.std.specs.Prelude.{◌≡◌, ◌≤◌, ◌*◌, ℕ, List, length};
 ghost use Rattle.std.specs.Int.{w32, cast_signed};
@@ -13,7 +13,7 @@ use crate::items::Items;
 use byteorder::{BigEndian, ByteOrder};
 use std::alloc::Global;
 
-/// A value that stands in a block of bytes: as many for each value, whatever they are.
+/// A value that is in a block of bytes: as many for each value, whatever they are.
 pub trait Block: Copy {
     ghost SIZE: { ℕ };
 

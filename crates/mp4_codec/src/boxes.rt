@@ -16,7 +16,7 @@ use crate::in_range::InRange;
 use crate::put::{Put, put_u32};
 use std::alloc::Global;
 
-/// A box. What it means is its payload, the bytes behind its header.
+/// A box. What it means is its payload, the bytes after its header.
 pub trait Mp4Box {
     ghost KIND: { BoxType };
 
@@ -49,10 +49,10 @@ pub trait ReadBox: Sized + Drop {
         ensures value { Answers (λ x. x) result (value payload.now) }
         ensures early { Shows (early payload.now) result };
 
-    /// The box of this size whose payload stands at the cursor; the size counts a header of 8 bytes.
+    /// The box of this size whose payload is at the cursor; the size counts a header of 8 bytes.
     ///
     /// `InvalidData` for a size below 8, `EndOfData` where fewer than `size - 8` bytes are left, both before memory is
-    /// requested; else the answer is that of those bytes alone. On Ok the cursor stands at the end of the box, after a
+    /// requested; else the answer is that of those bytes alone. On Ok the cursor is at the end of the box, after a
     /// refusal at any place.
     fn read_box(alloc: Global, reader: &mut ByteCursor, size: u64) -> Result<Self>
         ensures value { Answers (λ x. (x, reader.new)) result (box_at value size reader.old) }
@@ -80,7 +80,8 @@ pub trait WriteBox: Mp4Box + ReadBox + InRange + ExactEq {
     fn check(&self) -> Result<()>
         ensures { Checks result (refusal self.now) };
 
-    /// Adds the payload at the end of a buffer. Where a request for memory is refused, the buffer may hold a part of it.
+    /// Adds the payload at the end of a buffer. Where a request for memory is refused, the buffer may hold a part of
+    /// it.
     fn put_payload(&self, out: &mut Vec<u8>) -> Put
         requires { 8 + length (Self.payload self.now) < 2 ^ 32 }
         ensures { OnOk result (Appends out.old.items out.new.items (Self.payload self.now)) };

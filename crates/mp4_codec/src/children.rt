@@ -31,7 +31,7 @@ impl<'a> Model for Children<'a> {
     ghost view = { λ s. s.rest.now };
 }
 
-/// The child that begins the bytes, and what stands behind it.
+/// The child that begins the bytes, and what is after it.
 #[tactic(auto, unfolding(crate::specs::Children::child_at))]
 fn first_child(bytes: &[u8]) -> Result<(Child<'_>, &[u8])>
     ensures value { Gives (λ x. (option_map child_box (Some x.0), x.1.now)) result (next_of (child_at bytes.now)) }

@@ -7,7 +7,7 @@ ghost use Rattle.mp4_codec.specs.Cursor.{take_at, left, Cursor};
 use crate::error::{Error, Result};
 use std::marker::Model;
 
-/// Bytes, and a position in them, which counts bytes from 0 and may lie behind them. It stands for Rust's
+/// Bytes, and a position in them, which counts bytes from 0 and may lie after them. It stands for Rust's
 /// `Read` and `Seek`.
 #[derive(Debug, Drop)]
 pub struct ByteCursor<'a> {
@@ -29,14 +29,14 @@ impl<'a> ByteCursor<'a> {
         ByteCursor { bytes, position: 0 }
     }
 
-    /// Where the cursor stands.
+    /// Where the cursor is.
     pub fn position(&self) -> u64
         ensures { result ≡ self.now.position }
     {
         self.position
     }
 
-    /// Moves the cursor to any position, also behind the bytes.
+    /// Moves the cursor to any position, also after the bytes.
     pub fn set_position(&mut self, position: u64)
         ensures { self.new ≡ record self.old { position = position } }
     {

@@ -71,7 +71,7 @@ pub fn keep_last<B: Mp4Box + ReadBox>(
     Ok(())
 }
 
-/// Reads a child behind those of its type; a child of another type leaves them.
+/// Reads a child after those of its type; a child of another type leaves them.
 pub fn keep_each<B: Mp4Box + ReadBox>(
     alloc: Global,
     child: &Child,
@@ -136,7 +136,7 @@ impl<B: Mp4Box + ReadBox> Gather for LastChild<B> {
 }
 
 /// The last child of this type, and None where there is none. Other types are skipped; a child of the
-/// type that is refused refuses the payload, also where a later one would stand.
+/// type that is refused refuses the payload, also where a later one would be.
 pub fn last_child<B: Mp4Box + ReadBox>(alloc: Global, payload: &[u8]) -> Result<Option<B>>
     ensures value { Answers (λ b. b) result
         (gathered (fault_in B.KIND B.value) (last_of B.KIND B.value) (children payload.now)) }

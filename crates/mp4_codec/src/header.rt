@@ -92,7 +92,8 @@ impl BoxHeader {
         BoxHeader { name, size }
     }
 
-    /// What `read` answers behind the first 8 bytes of a header, which are these: a size of 1 says that a largesize follows.
+    /// What `read` answers after the first 8 bytes of a header, which are these: a size of 1 says that a largesize
+    /// follows.
     fn read_behind(first: &[u8], reader: &mut ByteCursor) -> Result<Self>
         requires { length first.now ≡ 8 }
         ensures value { Gives (λ h. (h, reader.new)) result (header_behind first.now reader.old) }
@@ -117,7 +118,7 @@ impl BoxHeader {
         Self::read_behind(first, reader)
     }
 
-    /// The header at the cursor, which then stands behind it.
+    /// The header at the cursor, which is then after it.
     ///
     /// `EndOfData` where fewer than 8 bytes are left, or fewer than 16 and the size is 1;
     /// `InvalidData` for a size of 2 to 7 or a largesize of 1 to 15. A largesize of at least 16 is
@@ -135,8 +136,8 @@ impl BoxHeader {
 
     /// Adds the 8 bytes of the header at the end of a buffer, and answers their number.
     ///
-    /// `InvalidData` for a size of 1 to 7, `TooLarge(BoxSize)` for one past 2^32 - 1, both before memory is requested. A
-    /// refused call leaves the buffer as before, also when memory ran out.
+    /// `InvalidData` for a size of 1 to 7, `TooLarge(BoxSize)` for one past 2^32 - 1, both before memory is requested.
+    /// A refused call leaves the buffer as before, also when memory ran out.
     pub fn write(&self, writer: &mut Vec<u8>) -> Result<u64>
         ensures cause { AnswersCause (header_cause self.now.size) result }
         ensures bytes { Writes writer.old.items writer.new.items result (header_encoding self.now) }

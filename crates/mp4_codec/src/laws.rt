@@ -15,17 +15,17 @@ ghost use Rattle.mp4_codec.specs.KeyedItems.{no_items, held_at, with_item};
 use crate::boxes::WriteBox;
 use crate::keyed_items::Key;
 
-/// A box is read where it stands, whatever stands before it and behind it, in either encoding of
+/// A box is read where it is, whatever is before it and after it, in either encoding of
 /// its size: its header says its type and eight more than the length of its payload, its payload
-/// stands behind its header, and the next byte is the first behind the box.
+/// is after its header, and the next byte is the first after the box.
 pub fn box_has_its_header()
     ensures { (name : BoxType) (payload before f after : List ℕ) → IsBox name payload f
         → ReadsAsBox name payload f (before ++ (f ++ after)) (length before) }
 {}
 
-/// A header says the length of its box, whatever stands before it and behind it, also where the box passes the end of the bytes:
-/// a size of 0 leaves the end open, a size of 8 and more is the length; behind a size of 1 a 64-bit size of 0 leaves the end
-/// open, and one of 16 and more is the length.
+/// A header says the length of its box, whatever is before it and after it, also where the box passes the end of the
+/// bytes: a size of 0 leaves the end open, a size of 8 and more is the length; after a size of 1 a 64-bit size of 0
+/// leaves the end open, and one of 16 and more is the length.
 pub fn header_says_its_box()
     ensures open_end { (name : BoxType) (before after : List ℕ) → IsEncodable name
         → SaysBox name None (short_header name 0) before after }
@@ -62,7 +62,8 @@ pub fn what_is_written_reads_back<B: WriteBox>(value: &B)
     value.in_range();
 }
 
-/// An empty map holds nothing at any key; after an insertion the value is held at its key, and every other key holds what it held.
+/// An empty map holds nothing at any key; after an insertion the value is held at its key, and every other key holds
+/// what it held.
 pub fn insertion_changes_one_key<K: Key, V>()
     ensures empty { (key : K) → held_at {V = V} K.eq K.all (no_items K.all) key ≡ None }
     ensures at_its_key { (held : List (Option V)) (key : K) (value : V) → length held ≡ length K.all

@@ -19,7 +19,7 @@ use std::slice::Iter;
 use std::sync::Arc;
 use std::{fmt, slice};
 
-/// A list that its copies share: a copy holds the same values and takes no memory for them. Boxes that stand in the
+/// A list that its copies share: a copy holds the same values and takes no memory for them. Boxes that are in the
 /// movie and in a track are held once so.
 #[derive(Drop)]
 pub struct SharedItems<T> {

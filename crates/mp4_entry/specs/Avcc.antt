@@ -19,7 +19,7 @@ unit_at bytes = do
 unfoldable pub unit : NalUnit → List ℕ
 unit u = number 2 (length u.bytes) ⧺ u.bytes
 
--- what is left behind so many sets
+-- what is left after so many sets
 abbrev pub behind_units : ℕ → List ℕ → Result (List ℕ) Cause
 behind_units count bytes = list_at unit_at count bytes >>= λ sets. Ok sets.1
 

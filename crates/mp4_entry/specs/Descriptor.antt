@@ -4,11 +4,11 @@ use Rattle.std.specs.Prelude.{Option, Some, None, nat_lt, ◌==◌, if◌then◌
 use Rattle.byteorder.specs.Endian.{big_number}
 use Rattle.mp4_codec.specs.Bytes.{number, ◌⧺◌}
 
--- the next number of n bytes, and what stands behind it; zeros stand for the bytes that are missing
+-- the next number of n bytes, and what is after it; zeros stand for the bytes that are missing
 unfoldable pub padded_at : ℕ → List ℕ → ℕ × List ℕ
 padded_at n bytes = (big_number n (bytes ++ replicate n 0), drop n bytes)
 
--- A length in at most n bytes, behind others that have said so much of it, and what stands behind it. A byte has
+-- A length in at most n bytes, after others that have said so much of it, and what is after it. A byte has
 -- seven bits of the length; it is the last where it is below 128.
 unfoldable pub length_at : ℕ → ℕ → List ℕ → ℕ × List ℕ
 length_at zero said bytes = (said, bytes)
@@ -17,7 +17,7 @@ length_at (suc n) said bytes =
     let more = said * 128 + byte.0 % 128 in
     if nat_lt byte.0 128 then (more, byte.1) else length_at n more byte.1
 
--- the next descriptor, its tag and its body, and what stands behind it; a body that passes the end is cut there
+-- the next descriptor, its tag and its body, and what is after it; a body that passes the end is cut there
 unfoldable pub descriptor_at : List ℕ → Option ((ℕ × List ℕ) × List ℕ)
 descriptor_at [] = None
 descriptor_at (tag ∷ bytes) =

@@ -23,7 +23,7 @@ index-padded [] k i = index-zeros k i
 index-padded (x ∷ xs) k zero = refl
 index-padded (x ∷ xs) k (suc i) = index-padded xs k i
 
--- zeros behind bytes are the zeros that stand for bytes that are missing
+-- zeros after bytes are the zeros that stand for bytes that are missing
 big_from-padded : (i n k : ℕ) (xs : List ℕ) → big_from i n (xs ++ replicate k 0) ≡ big_from i n xs
 big_from-padded i zero k xs = refl
 big_from-padded i (suc n) k xs = rw (index-padded xs k i, big_from-padded (suc i) n k xs) refl
@@ -212,7 +212,7 @@ first_of-descriptor tag body rest t h =
     first_of-next tag (descriptor tag body ⧺ rest) ((tag, body), rest) (descriptor_again tag body rest t h)
     ∙ rw same refl
 
--- the same for one behind which nothing stands
+-- the same for one that nothing follows
 pub first_of-last : (tag : ℕ) (body : List ℕ) → tag < 256 → length body < 128
     → first_of tag (descriptor tag body) ≡ body
 first_of-last tag body t h =

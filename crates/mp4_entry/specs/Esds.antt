@@ -13,7 +13,7 @@ use Rattle.mp4_entry.specs.declared.esds.ESDescriptor.{ESDescriptor}
 use Rattle.mp4_entry.specs.declared.esds.DecoderConfigDescriptor.{DecoderConfigDescriptor}
 use Rattle.mp4_entry.specs.declared.esds.DecoderSpecificDescriptor.{DecoderSpecificDescriptor}
 
--- of a word of 48 bits, so many behind the first ones
+-- of a word of 48 bits, so many after the first ones
 abbrev pub bits : ℕ → ℕ → ℕ → ℕ
 bits before count word = word / 2 ^ (48 - before - count) % 2 ^ count
 
@@ -64,15 +64,15 @@ decoder_config_of body =
 unfoldable pub is_set : ℕ → ℕ → Bool
 is_set flags flag = not (bit_and flags flag == 0)
 
--- what stands behind the id of another stream, of two bytes, where its flag is set
+-- what is after the id of another stream, of two bytes, where its flag is set
 abbrev pub behind_id : Bool → List ℕ → List ℕ
 behind_id there bytes = if there then drop 2 bytes else bytes
 
--- what stands behind a URL with its length in one byte, where its flag is set
+-- what is after a URL with its length in one byte, where its flag is set
 abbrev pub behind_url : Bool → List ℕ → List ℕ
 behind_url there bytes = if there then (let size = padded_at 1 bytes in drop size.0 size.1) else bytes
 
--- what stands behind the fields that the flags of a stream ask for: the stream that it depends on, a URL, and the
+-- what is after the fields that the flags of a stream ask for: the stream that it depends on, a URL, and the
 -- stream of its clock
 abbrev pub behind_options : ℕ → List ℕ → List ℕ
 behind_options flags bytes =

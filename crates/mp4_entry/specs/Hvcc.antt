@@ -1,4 +1,4 @@
--- What a decoder of HEVC video is started with (ISO/IEC 14496-15, 8.3.3.1), as the bytes that stand there.
+-- What a decoder of HEVC video is started with (ISO/IEC 14496-15, 8.3.3.1), as the bytes that are there.
 use Rattle.std.specs.Prelude.{ℕ, List, Result, Ok}
 use Rattle.mp4_codec.specs.Cause.{Cause}
 use Rattle.mp4_codec.specs.Bytes.{number, zeros, ◌⧺◌}

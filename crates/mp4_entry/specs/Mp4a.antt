@@ -17,7 +17,7 @@ use Rattle.mp4_entry.specs.ChannelConfig.{channel_number}
 use Rattle.mp4_entry.specs.SampleFreqIndex.{freq_number, hertz}
 use Rattle.mp4_entry.specs.Esds.{esds_of, esds_payload, esds_refusal, IsInRangeEsds, IsWellFormedEsds}
 
--- any payload, as it stands
+-- any payload, as it is
 abbrev pub as_it_is : List ℕ → Result (List ℕ) Cause
 as_it_is payload = Ok payload
 
@@ -51,7 +51,7 @@ child_esds bytes = do
   direct ← direct_esds bytes
   or_wave_esds bytes direct
 
--- the esds behind the fields: children stand there in sound version 0, and behind 16 bytes more in 1
+-- the esds after the fields: children are there in sound version 0, and after 16 bytes more in 1
 unfoldable pub versioned_esds : ℕ → List ℕ → Result (Option EsdsBox) Cause
 versioned_esds version bytes =
     if version == 0 then child_esds bytes else

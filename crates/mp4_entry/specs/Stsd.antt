@@ -61,7 +61,7 @@ with_entry version flags (aac_sound e) = record (no_entry version flags) { mp4a 
 with_entry version flags (text e) = record (no_entry version flags) { tx3g = Some e }
 with_entry version flags no_known = no_entry version flags
 
--- the description that a payload holds: its first entry, behind a count that is not looked at
+-- the description that a payload holds: its first entry, after a count that is not looked at
 unfoldable pub stsd_of : List ℕ → Result StsdBox Cause
 stsd_of payload = do
   version ← number_at 1 payload

@@ -10,7 +10,7 @@ pub length-tx3g_payload : (b : Tx3gBox) → length (tx3g_payload b) ≡ 8 + leng
 unfolding tx3g_payload
 length-tx3g_payload b = simp (length-then, length-number, length-zeros) (omega arith)
 
--- bytes behind which nothing stands
+-- bytes that nothing follows
 bytes_last : (n : ℕ) (xs : List ℕ) → length xs ≡ n → bytes_at n xs ≡ Ok (xs, [])
 bytes_last n xs e = ap (bytes_at n) (sym (then_nothing xs)) ∙ bytes_again n xs [] e
 

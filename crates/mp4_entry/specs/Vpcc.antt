@@ -1,4 +1,4 @@
--- What a decoder of VP9 video is started with (the VP codec binding to ISO media files), as the bytes that stand there.
+-- What a decoder of VP9 video is started with (the VP codec binding to ISO media files), as the bytes that are there.
 use Rattle.std.specs.Prelude.{ℕ, List, Result, Ok}
 use Rattle.mp4_codec.specs.Cause.{Cause}
 use Rattle.mp4_codec.specs.Bytes.{number, ◌⧺◌}

@@ -21,8 +21,8 @@ use std::alloc::Global;
 
 /// The sample entry of AVC video, `avc1` (ISO/IEC 14496-15, 5.4.2).
 ///
-/// Its children may come in any order. The last `avcC` stands, and other types are skipped. The first `avcC` that is
-/// refused, a child that passes the end and an entry without `avcC` are `InvalidData`. Fewer than 8 bytes behind the
+/// Its children may come in any order. The last `avcC` counts, and other types are skipped. The first `avcC` that is
+/// refused, a child that passes the end and an entry without `avcC` are `InvalidData`. Fewer than 8 bytes after the
 /// last child are skipped. Where its `avcC` isn't written the entry isn't, for the same cause.
 #[derive(Debug, PartialEq, Eq, Drop)]
 pub struct Avc1Box {
@@ -119,8 +119,8 @@ impl Avc1Box {
     }
 
     /// The entry of a configuration: that of the default, with its width and height and one parameter set of each kind.
-    /// The profile, its constraints and the level are the second, third and fourth byte of the sequence parameter set; a
-    /// byte that it hasn't counts as 0.
+    /// The profile, its constraints and the level are the second, third and fourth byte of the sequence parameter set;
+    /// a byte that it hasn't counts as 0.
     #[tactic(auto, using(crate::specs::Avc1Laws::avc1_of_config_size))]
     pub fn new(alloc: Global, config: &AvcConfig) -> Result<Self>
         ensures value { Answers (λ b. b) result (Ok (avc1_of_config config.now)) }

@@ -17,9 +17,9 @@ pub enum ChannelConfig {
     Stereo,
     /// 3: centre, left and right.
     Three,
-    /// 4: those three, and one behind.
+    /// 4: those three, and one after.
     Four,
-    /// 5: those three, and two behind.
+    /// 5: those three, and two after.
     Five,
     /// 6: those five, and one of low frequencies.
     FiveOne,

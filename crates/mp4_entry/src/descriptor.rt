@@ -9,7 +9,7 @@ ghost use Rattle.mp4_entry.specs.Descriptor.{padded_at, length_at, descriptor_at
 
 use std::marker::Model;
 
-/// Bytes behind which zeros stand, as many as are asked for.
+/// Bytes that zeros follow, as many as are asked for.
 #[derive(Drop)]
 pub(crate) struct Padded<'a> {
     rest: &'a [u8],

@@ -30,10 +30,10 @@ use std::alloc::Global;
 pub struct DecoderSpecificDescriptor {
     /// The audio object type, 0 to 95; 2 is AAC LC. It is written up to 30.
     pub profile: u8,
-    /// The place of the sampling frequency in the standard's table, 0 to 12; 15 says that the frequency itself stood
+    /// The place of the sampling frequency in the standard's table, 0 to 12; 15 says that the frequency itself was
     /// there, which isn't kept. It is written up to 14.
     pub freq_index: u8,
-    /// The number of the channels' arrangement, 1 to 7; 0 says that it stands elsewhere. It is written up to 15.
+    /// The number of the channels' arrangement, 1 to 7; 0 says that it is elsewhere. It is written up to 15.
     pub chan_conf: u8,
 }
 
@@ -88,10 +88,10 @@ impl ExactEq for ESDescriptor {
 
 /// The elementary stream descriptor of a sound track, `esds` (ISO/IEC 14496-14, 5.6).
 ///
-/// Any version is read and written. A payload of less than four bytes is `InvalidData`. Behind its version and flags
-/// stand descriptors, which are always read: of a tag the first counts, others are skipped, a body that passes the end
-/// of its parent is cut there, and what is missing reads as zeros, byte by byte. A number past what its field says isn't
-/// written, but `Unrepresentable`; such a profile or frequency index can have been read.
+/// Any version is read and written. A payload of less than four bytes is `InvalidData`. After its version and flags
+/// are descriptors, which are always read: of a tag the first counts, others are skipped, a body that passes the end
+/// of its parent is cut there, and what is missing reads as zeros, byte by byte. A number past what its field says
+/// isn't written, but `Unrepresentable`; such a profile or frequency index can have been read.
 #[derive(Clone, Copy, Debug, PartialEq, Eq)]
 pub struct EsdsBox {
     pub version: u8,
@@ -105,7 +105,7 @@ impl ExactEq for EsdsBox {
         (field_tests, by_law {K = SLConfigDescriptor} {E = λ x y. true} (λ x y h. refl))) };
 }
 
-/// Of a word of 48 bits, so many behind the first ones.
+/// Of a word of 48 bits, so many after the first ones.
 fn bits(word: u64, before: u32, count: u32) -> u8
     requires within { before + count ≤ 48 }
     requires few { count ≤ 6 }

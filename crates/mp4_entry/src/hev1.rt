@@ -21,8 +21,8 @@ use std::alloc::Global;
 
 /// The sample entry of HEVC video, `hev1` (ISO/IEC 14496-15, 8.4.1).
 ///
-/// Its children may come in any order. The last `hvcC` stands, and other types are skipped. The first `hvcC` that is
-/// refused, a child that passes the end and an entry without `hvcC` are `InvalidData`. Fewer than 8 bytes behind the
+/// Its children may come in any order. The last `hvcC` counts, and other types are skipped. The first `hvcC` that is
+/// refused, a child that passes the end and an entry without `hvcC` are `InvalidData`. Fewer than 8 bytes after the
 /// last child are skipped.
 #[derive(Debug, PartialEq, Eq, Drop)]
 pub struct Hev1Box {

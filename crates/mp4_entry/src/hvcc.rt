@@ -15,7 +15,7 @@ use mp4_codec::{
 };
 use std::alloc::Global;
 
-/// What a decoder of HEVC video is started with, `hvcC` (ISO/IEC 14496-15, 8.3.3.1): the payload as it stands.
+/// What a decoder of HEVC video is started with, `hvcC` (ISO/IEC 14496-15, 8.3.3.1): the payload as it is.
 #[derive(Debug, PartialEq, Eq, Drop)]
 pub struct HvcCBox {
     pub raw: Items<u8>,

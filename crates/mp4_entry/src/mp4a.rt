@@ -32,11 +32,11 @@ use std::alloc::Global;
 
 /// The sample entry of MPEG-4 audio, `mp4a` (ISO/IEC 14496-14, 5.6; ISO/IEC 14496-12, 12.2.3).
 ///
-/// Behind the fields of sound version 0 stand children. In version 1, QuickTime's, 16 more bytes stand before them;
+/// After the fields of sound version 0 are children. In version 1, QuickTime's, 16 more bytes are before them;
 /// less than 16 are `InvalidData`. In any other version children aren't looked at. It is written in version 0.
 ///
-/// The last `esds` among the children stands; each of them is read, and the first fault in file order, of framing too,
-/// is the answer. Where there is none, the last `esds` of the last `wave` stands, and it alone is read there; a `wave`
+/// The last `esds` among the children counts; each of them is read, and the first fault in file order, of framing too,
+/// is the answer. Where there is none, the last `esds` of the last `wave` counts, and it alone is read there; a `wave`
 /// whose children are no boxes has none. An entry isn't written where its `esds` isn't, for the same cause.
 #[derive(Clone, Copy, Debug, PartialEq, Eq)]
 pub struct Mp4aBox {
@@ -193,7 +193,7 @@ fn child_esds(alloc: Global, bytes: &[u8]) -> Result<Option<EsdsBox>>
     }
 }
 
-/// The `esds` behind the fields of an entry of this sound version.
+/// The `esds` after the fields of an entry of this sound version.
 #[tactic(auto, unfolding(crate::specs::Mp4a::versioned_esds))]
 fn versioned_esds(alloc: Global, version: u16, fields: &mut Fields) -> Result<Option<EsdsBox>>
     ensures { Gives (λ b. b) result (versioned_esds version fields.old) }
@@ -209,9 +209,9 @@ fn versioned_esds(alloc: Global, version: u16, fields: &mut Fields) -> Result<Op
 }
 
 impl Mp4aBox {
-    /// The entry of a configuration: in the first data reference, with samples of 16 bits, as many channels as the number
-    /// of `chan_conf`, and a decoder for MPEG-4 audio of that bit rate. The sampling rate is 0 where it passes 65,535.
-    /// The entry of a profile over 30 isn't written.
+    /// The entry of a configuration: in the first data reference, with samples of 16 bits, as many channels as the
+    /// number of `chan_conf`, and a decoder for MPEG-4 audio of that bit rate. The sampling rate is 0 where it passes
+    /// 65,535. The entry of a profile over 30 isn't written.
     #[tactic(auto, using(crate::specs::Mp4aLaws::mp4a_of_config_size))]
     pub fn new(config: &AacConfig) -> Self
         ensures value { result ≡ mp4a_of_config config.now }

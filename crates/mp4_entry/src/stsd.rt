@@ -36,7 +36,7 @@ use std::alloc::Global;
 /// Any version is read and written. Of what is read the first entry alone is looked at, whatever the count says. Where
 /// fewer than 8 bytes are left there is none; else a box has to begin there and to lie within the payload, or it is
 /// `InvalidData`. An entry of another type than the five is skipped, and so is what follows the first. Of what is
-/// written the first that is there stands, in the order of the fields, with a count of 1, or 0 where none is there; its
+/// written the first that is there counts, in the order of the fields, with a count of 1, or 0 where none is there; its
 /// refusal is that of the box.
 #[derive(Debug, PartialEq, Eq, Drop)]
 pub struct StsdBox {

@@ -21,8 +21,8 @@ use std::alloc::Global;
 
 /// The sample entry of VP9 video, `vp09` (the VP codec binding to ISO media files).
 ///
-/// Its children may come in any order. The last `vpcC` stands, and other types are skipped. The first `vpcC` that is
-/// refused, a child that passes the end and an entry without `vpcC` are `InvalidData`. Fewer than 8 bytes behind the
+/// Its children may come in any order. The last `vpcC` counts, and other types are skipped. The first `vpcC` that is
+/// refused, a child that passes the end and an entry without `vpcC` are `InvalidData`. Fewer than 8 bytes after the
 /// last child are skipped.
 #[derive(Debug, PartialEq, Eq, Drop)]
 pub struct Vp09Box {

@@ -15,7 +15,7 @@ use mp4_codec::{
 };
 use std::alloc::Global;
 
-/// What a decoder of VP9 video is started with, `vpcC` (the VP codec binding to ISO media files): the payload as it stands.
+/// What a decoder of VP9 video is started with, `vpcC` (the VP codec binding to ISO media files): the payload as it is.
 #[derive(Debug, PartialEq, Eq, Drop)]
 pub struct VpccBox {
     pub raw: Items<u8>,

@@ -51,7 +51,7 @@ fn a_file_is_opened_by_a_read_a_block(rt: HostRuntime) {
     let alloc = rt.alloc();
     same(&rt, calls_for_a_block(alloc), 3);
     same(&rt, calls_for_many_boxes(alloc), 7);
-    // Blocks at the file's begin, at the movie and behind it; and the movie, which is larger than a block.
+    // Blocks at the file's begin, at the movie and after it; and the movie, which is larger than a block.
     same(&rt, calls_for_large_boxes(alloc), 9);
     same(&rt, calls_for_two_terabytes(alloc), 3);
 }

@@ -52,7 +52,7 @@ fn has_bytes(answer: &Result<Option<Mp4Sample>, FileError>, bytes: &[u8]) -> boo
     matches!(answer, Ok(Some(sample)) if sample.bytes.as_slice() == bytes)
 }
 
-/// The movie, whose third sample is in a box behind it, and the length of the movie alone.
+/// The movie, whose third sample is in a box after it, and the length of the movie alone.
 fn with_last_sample_behind(alloc: Global) -> Result<(Vec<u8>, usize), FileError> {
     let movie = movie_file(alloc)?;
     let place = u32::try_from(movie.len().saturating_add(8)).unwrap_or(u32::MAX);
@@ -61,7 +61,7 @@ fn with_last_sample_behind(alloc: Global) -> Result<(Vec<u8>, usize), FileError>
     Ok((bytes, movie.len()))
 }
 
-/// Whether a sample behind the end that a file had is refused, though the file has grown by it, and is read where the
+/// Whether a sample after the end that a file had is refused, though the file has grown by it, and is read where the
 /// file is opened again.
 fn is_behind_the_end(alloc: Global) -> Result<bool, FileError> {
     let (bytes, len) = with_last_sample_behind(alloc)?;

@@ -101,7 +101,7 @@ fn cuts_of_fragments(alloc: Global) -> Result<Openings, FileError> {
     cuts_of(alloc, bytes.as_slice(), 0)
 }
 
-/// Those of the fragmented file behind seven bytes of something else.
+/// Those of the fragmented file after seven bytes of something else.
 fn cuts_behind_a_prefix(alloc: Global) -> Result<Openings, FileError> {
     let mut bytes = b"ftypmoo".to_vec(alloc)?;
     bytes.extend_from_slice(fragmented_file(alloc)?.as_slice())?;
@@ -143,7 +143,7 @@ fn every_cut_behind_a_prefix_has_its_error(rt: HostRuntime) {
 
 #[test]
 fn every_size_of_a_fragmented_file_has_its_answer(rt: HostRuntime) {
-    // Up to 911 the movie's own size is the least; from there on 1 to 7 bytes behind a box are too few, and any number
+    // Up to 911 the movie's own size is the least; from there on 1 to 7 bytes after a box are too few, and any number
     // past the end: 57 sizes end in the movie, 25 in the event message, 145 in the fragment and 3 in the free box.
     same(&rt, sizes_of_fragments(rt.alloc()), opened(230));
 }

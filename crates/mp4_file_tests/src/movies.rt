@@ -85,7 +85,7 @@ fn last_place(bytes: &[u8], name: &[u8]) -> usize {
     place
 }
 
-/// These bytes with another number in the last box of this name, so many bytes behind the name's first byte.
+/// These bytes with another number in the last box of this name, so many bytes after the name's first byte.
 pub fn with_number(
     alloc: Global,
     bytes: &[u8],
@@ -101,5 +101,5 @@ pub fn with_number(
     Ok(changed)
 }
 
-/// The place of the second chunk, behind the name of stco.
+/// The place of the second chunk, after the name of stco.
 pub const SECOND_CHUNK: usize = 16;

@@ -127,7 +127,7 @@ fn fragments_recover(alloc: Global, share: usize) -> Result<bool, FileError> {
     recovers(alloc, bytes.as_slice(), share)
 }
 
-/// The same of a file whose movie is larger than a window, behind a box that is.
+/// The same of a file whose movie is larger than a window, after a box that is.
 fn large_movie_recovers(alloc: Global) -> Result<bool, FileError> {
     let bytes = padded_file(alloc, 50_000, 40_000)?;
     recovers(alloc, bytes.as_slice(), 1)

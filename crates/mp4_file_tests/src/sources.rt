@@ -6,7 +6,7 @@ use std::io;
 use std::io::{ErrorKind, Read, Seek, SeekFrom};
 
 /// Bytes that read and seek as a file does, and count these calls. They refuse one of them: that of this number,
-/// counted from 1. Behind the bytes, up to the length, are zeros, as in a file with a hole.
+/// counted from 1. After the bytes, up to the length, are zeros, as in a file with a hole.
 #[derive(Drop)]
 pub struct Disk<'a> {
     pub bytes: &'a [u8],

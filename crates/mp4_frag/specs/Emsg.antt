@@ -7,7 +7,7 @@ use Rattle.mp4_codec.specs.Bytes.{number_at, text_at, number, zeros, ◌⧺◌, 
 use Rattle.mp4_codec.specs.Boxes.{IsCanonical}
 use Rattle.mp4_frag.specs.declared.emsg.EmsgBox.{EmsgBox}
 
--- the message behind version 0 and these flags: the texts come first, and the time counts from the segment's start
+-- the message after version 0 and these flags: the texts come first, and the time counts from the segment's start
 unfoldable pub emsg_0_of : ℕ → List ℕ → Result EmsgBox Cause
 emsg_0_of flags bytes = do
   scheme_id_uri ← text_at bytes
@@ -29,7 +29,7 @@ emsg_0_of flags bytes = do
     message_data = id.1;
   })
 
--- the message behind version 1 and these flags: the texts come last, and the time has 64 bits
+-- the message after version 1 and these flags: the texts come last, and the time has 64 bits
 unfoldable pub emsg_1_of : ℕ → List ℕ → Result EmsgBox Cause
 emsg_1_of flags bytes = do
   timescale ← number_at 4 bytes

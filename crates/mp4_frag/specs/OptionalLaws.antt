@@ -42,7 +42,7 @@ optional_again {A} read write Fits back flag flags None rest agrees fits =
 optional_again read write Fits back flag flags (Some x) rest agrees fits =
     rw (is_set-some flag flags x agrees, back.again x rest fits) refl
 
--- the same for a field behind which nothing stands
+-- the same for a field that nothing follows
 pub optional_last : {A : Type 0} (read : Reader A) (write : A → List ℕ) (Fits : A → Type 0) → ReadsBack read write Fits
     → (flag flags : ℕ) (field : Option A) → flag_refusal flag flags field ≡ None → IfSome field Fits
     → optional_at read flag flags (optional_field write field) ≡ Ok (field, [])

@@ -6,7 +6,7 @@ use Rattle.mp4_codec.specs.Boxes.{IsCanonical}
 use Rattle.mp4_frag.specs.Optional.{optional_at, optional_field, flag_refusal}
 use Rattle.mp4_frag.specs.declared.tfhd.TfhdBox.{TfhdBox}
 
--- the track fragment header that a payload holds: behind the track's id each field whose flag is set; what follows is
+-- the track fragment header that a payload holds: after the track's id each field whose flag is set; what follows is
 -- skipped
 unfoldable pub tfhd_of : List ℕ → Result TfhdBox Cause
 tfhd_of payload = do

@@ -10,7 +10,7 @@ use Rattle.mp4_frag.specs.Rows.{columns_at, row_length, row, rows, longest, colu
 use Rattle.mp4_frag.specs.declared.rows.Columns.{Columns}
 use Rattle.mp4_frag.specs.declared.trun.TrunBox.{TrunBox}
 
--- the run that a payload holds: behind the count each field whose flag is set, and then as many rows as it counts; what
+-- the run that a payload holds: after the count each field whose flag is set, and then as many rows as it counts; what
 -- follows is skipped
 unfoldable pub trun_of : List ℕ → Result TrunBox Cause
 trun_of payload = do

@@ -8,7 +8,7 @@ pub by_version : (b : Bool) → 1 + (3 + cond b 8 4) ≡ cond b 12 8
 by_version true = refl
 by_version false = refl
 
--- the number, behind which nothing stands, is read as it was written
+-- the number, that nothing follows, is read as it was written
 pub versioned_last : (version x : ℕ) → FitsVersion version x → versioned_at version (versioned version x) ≡ Ok (x, [])
 versioned_last version x h =
     ap (versioned_at version) (sym (then_nothing (versioned version x))) ∙ versioned_again version x [] h

@@ -94,7 +94,7 @@ impl EmsgBox {
         }
     }
 
-    /// The message behind its flags, in the layout of version 0. Its fields are found before memory is requested.
+    /// The message after its flags, in the layout of version 0. Its fields are found before memory is requested.
     #[tactic(auto, unfolding(crate::specs::Emsg::emsg_0_of))]
     fn read_version_0(alloc: Global, flags: u32, bytes: &[u8]) -> Result<Self>
         ensures value { Answers (λ x. x) result (emsg_0_of flags bytes.now) }
@@ -122,7 +122,7 @@ impl EmsgBox {
         })
     }
 
-    /// The message behind its flags, in the layout of version 1. Its fields are found before memory is requested.
+    /// The message after its flags, in the layout of version 1. Its fields are found before memory is requested.
     #[tactic(auto, unfolding(crate::specs::Emsg::emsg_1_of))]
     fn read_version_1(alloc: Global, flags: u32, bytes: &[u8]) -> Result<Self>
         ensures value { Answers (λ x. x) result (emsg_1_of flags bytes.now) }

@@ -55,7 +55,7 @@ pub struct TrunBox {
     /// By flag 0x400: the sample flags of each (ISO/IEC 14496-12, 8.8.3.1); bit 0x10000 is set where the sample is no
     /// sync sample.
     pub sample_flags: Items<u32>,
-    /// By flag 0x800: the composition offset of each sample, in ticks of the media's timescale, as its 32 bits stand.
+    /// By flag 0x800: the composition offset of each sample, in ticks of the media's timescale, as its 32 bits are.
     pub sample_cts: Items<u32>,
 }
 

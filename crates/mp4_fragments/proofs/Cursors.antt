@@ -55,7 +55,7 @@ run_sample_is runs c m at before is =
     ∙ ap (λ q. Some (run_sample_of q c.passed)) (same_run p c (is_in runs c at))
     ∙ ap Some (sym (is p (is_in runs c at)))
 
--- the cursor behind that sample
+-- the cursor after that sample
 pub stepped : (runs : List PlacedRun) (old new : RunCursor) (m : RunSample) → IsInRuns runs old
     → old.passed < old.run.now.sample_count → slice_get (all_run_samples runs) old.number ≡ Some m
     → new.run.now ≡ old.run.now → new.defaults ≡ old.defaults → new.entry ≡ old.entry

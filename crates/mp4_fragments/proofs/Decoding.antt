@@ -99,7 +99,7 @@ least_of : (o : Option ℕ) (t u : ℕ) → t ≤ u → IfSome o (λ x. u ≤ x)
 least_of None t u h s = tt
 least_of (Some x) t u h s = omega (arith, h, s)
 
--- a run more in front: its own time is kept, or that of the run behind it where that is earlier
+-- a run more in front: its own time is kept, or that of the run after it where that is earlier
 pub one_more : (begins : ℕ → Option ℕ) (from t : ℕ) (times : List ℕ) → AreEarliest begins (from + 1) times
     → IfSome (begins from) (λ b. t ≤ b)
     → (0 < length times → t ≤ slice_index times (length times - 1))
@@ -395,7 +395,7 @@ pub digits_32 : (n : ℕ) → n < 2 ^ 32 → digits n ≤ 32
 unfolding digits
 digits_32 n h = length-digits_of-le 2 32 n (omega arith) h
 
--- whether the earliest of run i and of those behind it begins at or before a time
+-- whether the earliest of run i and of those after it begins at or before a time
 abbrev runs_by : List ℕ → ℕ → ℕ → Bool
 runs_by times time i = nat_le (slice_index times (length times - 1 - i)) time
 

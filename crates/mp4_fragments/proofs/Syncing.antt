@@ -18,7 +18,7 @@ use Rattle.mp4_fragments.specs.declared.index.RunIndex.{RunIndex}
 use Rattle.mp4_fragments.specs.declared.sync.SpanBuilder.{SpanBuilder}
 use Rattle.mp4_fragments.proofs.Finding.{entry_of, length-all_run_samples, length-entries, slice_get-all_run_samples}
 
--- a sample behind those that list their flags has the default's
+-- a sample after those that list their flags has the default's
 pub default_sync : (run : TrunBox) (defaults : SampleDefaults) (j : ℕ) → 1 ≤ j → length run.sample_flags ≤ j
     → is_sync_in run defaults j ≡ (bit_and defaults.flags 0x10000 == 0)
 default_sync run defaults zero some past = absurd (omega (arith, some))

@@ -30,7 +30,7 @@ abbrev pub data_begins : Option ℕ → Option ℤ → Option ℕ → Option ℕ
 data_begins base None before = before
 data_begins base (Some offset) before = moved base offset
 
--- and ends behind its last sample
+-- and ends after its last sample
 abbrev pub data_ends : Option ℕ → SampleDefaults → Option ℕ → TrunBox → Option ℕ
 data_ends base defaults before run =
     plus (data_begins base run.data_offset before) (sum_of_first run.sample_count run.sample_sizes defaults.size)

@@ -15,7 +15,7 @@ unfoldable pub run_sample_time : List PlacedRun → ℕ → Option ℕ
 run_sample_time runs n = option_and_then (λ m. m.at.time) (slice_get (all_run_samples runs) n)
 
 -- Whether the sample with a number is decoded at or before a time. Times need not rise from one fragment to the next:
--- the last such sample is the one behind which nothing is decoded so early.
+-- the last such sample is the one after which nothing is decoded so early.
 abbrev pub run_sample_by : List PlacedRun → ℕ → ℕ → Bool
 run_sample_by runs time n = decoded_by time (run_sample_time runs n)
 
@@ -28,8 +28,8 @@ unfoldable pub begin_of : List PlacedRun → ℕ → ℕ → Option ℕ
 begin_of runs end i =
     if nat_lt (sum_by run_count (take i runs)) end then option_and_then first_decoded (slice_get runs i) else None
 
--- For each run from one on, when the earliest of it and of those behind it begins: the last run comes first. They rise
--- with the runs, whatever the order in which these begin. Runs behind the last that begins at a known time have none.
+-- For each run from one on, when the earliest of it and of those after it begins: the last run comes first. They rise
+-- with the runs, whatever the order in which these begin. Runs after the last that begins at a known time have none.
 pub record AreEarliest (begins : ℕ → Option ℕ) (from : ℕ) (times : List ℕ) : Type 0 where
   pub past : (r : ℕ) → from + length times ≤ r → begins r ≡ None
   pub least : (q r t : ℕ) → q < length times → from + length times - 1 - q ≤ r → begins r ≡ Some t

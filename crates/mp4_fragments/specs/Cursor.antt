@@ -10,7 +10,7 @@ pub record IsIn (p : PlacedRun) (c : RunCursor) : Type 0 where
   pub defaults : p.defaults ≡ c.defaults
   pub begins : c.at ≡ at_run_sample p.run p.defaults p.at c.passed
 
--- the cursor is in one of these runs: before the sample with that number over all of them, or behind the run's last
+-- the cursor is in one of these runs: before the sample with that number over all of them, or after the run's last
 pub record IsInRuns (runs : List PlacedRun) (c : RunCursor) : Type 0 where
   pub within : c.entry < length runs
   pub inside : c.passed ≤ c.run.now.sample_count

@@ -7,7 +7,7 @@ abbrev pub whole : ℤ → Option ℕ
 whole (pos n) = if nat_lt n (2 ^ 64) then Some n else None
 whole (negsuc n) = None
 
--- so far on; what rests on something overflowed is overflowed
+-- so far on; what depends on something overflowed is overflowed
 abbrev pub plus : Option ℕ → ℕ → Option ℕ
 plus None n = None
 plus (Some m) n = whole (pos (m + n))

@@ -15,7 +15,7 @@ unfoldable pub sync_at : List PlacedRun → ℕ → Bool
 sync_at runs n = is_sync_run_sample (slice_get (all_run_samples runs) n)
 
 -- Spans of numbers, each from its first to its last: below an end, the numbers in them have something and no other has
--- it. A span comes behind the one before it.
+-- it. A span comes after the one before it.
 pub record AreSpans (has : ℕ → Bool) (end : ℕ) (firsts lasts : List ℕ) : Type 0 where
   pub count : length lasts ≡ length firsts
   pub few : length firsts ≤ end

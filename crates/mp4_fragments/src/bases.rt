@@ -56,7 +56,7 @@ fn data_end(
     add(data_begin(base, run.data_offset, before), bytes)
 }
 
-/// Where the data of a track fragment ends: behind its last run, at its base where it has none. `track` is what
+/// Where the data of a track fragment ends: after its last run, at its base where it has none. `track` is what
 /// the movie says of the track's samples.
 #[tactic(auto, unfolding(crate::specs::Bases::traf_ends))]
 pub fn traf_end(traf: &TrafBox, track: SampleDefaults, base: Option<u64>) -> Option<u64>

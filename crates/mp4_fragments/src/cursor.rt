@@ -9,7 +9,7 @@ use crate::run_samples::{RunSample, RunStart, run_sample_run_start};
 use crate::run_starts::add;
 use mp4_frag::TrunBox;
 
-/// Where a walk over the samples of a track's runs is: in a run, before one of its samples or behind the last.
+/// Where a walk over the samples of a track's runs is: in a run, before one of its samples or after the last.
 #[derive(Clone, Copy, Debug)]
 pub struct RunCursor<'t> {
     pub(crate) run: &'t TrunBox,

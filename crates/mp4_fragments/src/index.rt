@@ -8,7 +8,7 @@ use mp4_codec::{DebugItem, Items};
 use mp4_search::SearchedNumbers;
 use std::alloc::{AllocError, Global};
 
-/// A run: where it stands, and where its samples begin.
+/// A run: where it is, and where its samples begin.
 #[derive(Debug, Drop)]
 pub(crate) struct RunEntry {
     /// Where and when its first sample begins.

@@ -100,7 +100,7 @@ impl RunIndex {
         )
     }
 
-    /// A walk before the first sample of the run behind that of a cursor, which is behind its last sample; None where
+    /// A walk before the first sample of the run after that of a cursor, which is after its last sample; None where
     /// that run has none.
     #[inline(always)]
     fn next_run<'t>(
@@ -123,8 +123,8 @@ impl RunIndex {
         cursor_in(trafs, track, entry, index, 0, cursor.number)
     }
 
-    /// A walk before the sample with this number, if there is one: where another is behind the last sample before it,
-    /// mostly in the run behind that one's, else by a search.
+    /// A walk before the sample with this number, if there is one: where another is after the last sample before it,
+    /// mostly in the run after that one's, else by a search.
     #[inline(always)]
     fn cursor_after<'t>(
         &self,

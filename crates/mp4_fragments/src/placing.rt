@@ -43,7 +43,7 @@ fn any_run_samples(traf: &TrafBox) -> bool
     traf.truns.as_slice().iter().any(|run| 0 < run.sample_count)
 }
 
-/// Places run `i` of fragment `t` behind `end`, and adds it to the index. The answer is its end.
+/// Places run `i` of fragment `t` after `end`, and adds it to the index. The answer is its end.
 fn add_run(
     alloc: Global,
     index: &mut RunIndex,
@@ -73,7 +73,7 @@ fn add_run(
     Ok(after)
 }
 
-/// Places the runs of fragment `t` one behind the other, and adds them to the index. The answer is their end.
+/// Places the runs of fragment `t` one after the other, and adds them to the index. The answer is their end.
 fn add_runs(
     alloc: Global,
     index: &mut RunIndex,

@@ -13,7 +13,7 @@ use mp4_frag::TrunBox;
 pub(crate) const IS_NO_SYNC_SAMPLE: u32 = 0x10000;
 
 /// Where a sample of a run begins: the place of its first byte in the file, and its decoding time in ticks of the
-/// track's timescale. None is a number below 0 or past 64 bits, or one that rests on such a number.
+/// track's timescale. None is a number below 0 or past 64 bits, or one that depends on such a number.
 #[derive(Clone, Copy, Debug, PartialEq, Eq)]
 pub struct RunStart {
     pub place: Option<u64>,

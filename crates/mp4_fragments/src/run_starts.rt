@@ -111,7 +111,7 @@ pub(crate) fn checkpoints(
     Ok(checks)
 }
 
-/// Where sample `j` of a run begins, from the last checkpoint that isn't behind it; the first begins at `first`. It is
+/// Where sample `j` of a run begins, from the last checkpoint that isn't after it; the first begins at `first`. It is
 /// inlined, since each look-up of a sample asks for it.
 #[inline(always)]
 pub(crate) fn at_by_checkpoints(

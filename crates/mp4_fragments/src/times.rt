@@ -12,12 +12,12 @@ use crate::lookup::run_of;
 use mp4_moof::TrafBox;
 use std::alloc::{AllocError, Global};
 
-/// For each run of a track, when the earliest of it and of those behind it begins, in ticks of the track's timescale.
+/// For each run of a track, when the earliest of it and of those after it begins, in ticks of the track's timescale.
 /// These times rise with the runs, however often a fragment begins before the one before it, so that they are searched
 /// by halves.
 #[derive(Debug, Drop)]
 pub struct RunTimes {
-    /// The last run comes first. Runs behind the last that begins at a known time have none.
+    /// The last run comes first. Runs after the last that begins at a known time have none.
     pub(crate) latest_first: Vec<u64>,
 }
 
@@ -62,7 +62,7 @@ fn keep_begin(
     Ok(earliest)
 }
 
-/// How many runs begin with a sample whose number is below `end`, or have none and stand before such a run.
+/// How many runs begin with a sample whose number is below `end`, or have none and are before such a run.
 fn runs_below(trafs: &[TrafBox], track: SampleDefaults, index: &RunIndex, end: u32) -> usize
     requires { Indexes (run_at trafs.now track) (runs_of trafs.now track index.now) index.now }
     ensures within { result ≤ length index.now.entries }

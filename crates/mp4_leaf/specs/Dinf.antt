@@ -10,7 +10,7 @@ use Rattle.mp4_leaf.specs.declared.dinf.UrlBox.{UrlBox}
 use Rattle.mp4_leaf.specs.declared.dinf.DrefBox.{DrefBox}
 use Rattle.mp4_leaf.specs.declared.dinf.DinfBox.{DinfBox}
 
--- a text with a zero byte behind it, but for the empty one
+-- a text with a zero byte after it, but for the empty one
 abbrev pub ended : List ℕ → List ℕ
 ended [] = []
 ended (b ∷ bs) = (b ∷ bs) ⧺ zeros 1
@@ -46,7 +46,7 @@ IsCanonicalUrl = IsCanonical IsInRangeUrl IsWellFormedUrl url_payload no_refusal
 abbrev pub default_url : UrlBox
 default_url = record { version = 0; flags = 1; location = [] }
 
--- the references that a payload holds: the last "url " behind a count that is not looked at
+-- the references that a payload holds: the last "url " after a count that is not looked at
 unfoldable pub dref_of : List ℕ → Result DrefBox Cause
 dref_of payload = do
   version ← number_at 1 payload

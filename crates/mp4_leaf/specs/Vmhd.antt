@@ -48,6 +48,6 @@ IsWellFormedVmhd b = b.flags < 2 ^ 24
 abbrev pub IsCanonicalVmhd : VmhdBox → Type 0
 IsCanonicalVmhd = IsCanonical IsInRangeVmhd IsWellFormedVmhd vmhd_payload no_refusal
 
--- video that covers what lies behind it
+-- video that covers what lies after it
 abbrev pub default_vmhd : VmhdBox
 default_vmhd = record { version = 0; flags = 1; graphics_mode = 0; op_color = record { red = 0; green = 0; blue = 0 } }

@@ -24,7 +24,7 @@ use std::alloc::Global;
 /// A data reference, `url `: where the media lies (ISO/IEC 14496-12, 8.7.2).
 ///
 /// Any version is read and written. The location is read up to the first zero byte, or to the end where
-/// there is none. It is written with a zero byte behind it; nothing is written of an empty one.
+/// there is none. It is written with a zero byte after it; nothing is written of an empty one.
 #[derive(Debug, PartialEq, Eq, Drop)]
 pub struct UrlBox {
     pub version: u8,

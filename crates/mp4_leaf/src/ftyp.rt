@@ -20,7 +20,7 @@ const BRAND_SIZE: usize = 4;
 
 /// The file type, `ftyp`: which specifications a file follows (ISO/IEC 14496-12, 4.3).
 ///
-/// One to three bytes behind the last brand are skipped.
+/// One to three bytes after the last brand are skipped.
 #[derive(Debug, PartialEq, Eq, Drop)]
 pub struct FtypBox {
     pub major_brand: FourCC,

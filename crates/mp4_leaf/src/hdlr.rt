@@ -18,7 +18,7 @@ use std::alloc::Global;
 /// The handler, `hdlr`: of which kind a track, or metadata, is (ISO/IEC 14496-12, 8.4.3).
 ///
 /// Any version is read and written. The name is read up to the first zero byte, or to the end where
-/// there is none, and written with a zero byte behind it.
+/// there is none, and written with a zero byte after it.
 #[derive(Debug, PartialEq, Eq, Drop)]
 pub struct HdlrBox {
     pub version: u8,

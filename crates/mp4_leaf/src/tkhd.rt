@@ -41,7 +41,7 @@ pub struct TkhdBox {
     pub layer: u16,
     /// Of the tracks that share such a number, one is played; 0 is shared with none.
     pub alternate_group: u16,
-    /// The loudness to play at; 1.0 is full, and 0 stands in tracks without sound.
+    /// The loudness to play at; 1.0 is full, and 0 is in tracks without sound.
     pub volume: FixedPointU8,
     pub matrix: Matrix,
     /// The width to show the track at, in pixels.

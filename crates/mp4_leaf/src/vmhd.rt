@@ -47,7 +47,7 @@ impl TryClone for RgbColor {
     }
 }
 
-/// The video media header, `vmhd`: how a video track is put over what lies behind it (ISO/IEC 14496-12,
+/// The video media header, `vmhd`: how a video track is put over what lies after it (ISO/IEC 14496-12,
 /// 12.1.2).
 ///
 /// Any version is read and written.
@@ -56,7 +56,7 @@ pub struct VmhdBox {
     pub version: u8,
     /// 1, as the standard wants it. The low 24 bits are written.
     pub flags: u32,
-    /// How the track is put over the pictures behind it; 0 covers them.
+    /// How the track is put over the pictures after it; 0 covers them.
     pub graphics_mode: u16,
     /// The colour that the graphics mode may use.
     pub op_color: RgbColor,

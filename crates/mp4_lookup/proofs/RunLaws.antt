@@ -1,4 +1,4 @@
--- What stands in the runs written out: how many members, which one at a place, and their sum up to there.
+-- What is in the runs written out: how many members, which one at a place, and their sum up to there.
 use Rattle.std.proofs.Common.{◌≡◌, ℕ, zero, suc, ◌+◌, ◌*◌, ◌<◌, ◌≤◌, List, [], ◌∷◌, ◌++◌, length, get_or, take}
 use Rattle.std.proofs.Common.{replicate, sum, refl, sym, ap, ◌∙◌, arith, zero-add, length-append}
 use Rattle.std.proofs.Common.{append_assoc}

@@ -19,7 +19,7 @@ use Rattle.mp4_lookup.proofs.RunLaws.{length-expand, sum-take-expand, end_of_run
 use Rattle.mp4_lookup.specs.Sums.{TimesBefore}
 use Rattle.mp4_lookup.proofs.Sums.{ticks_before}
 
--- samples of the movie box, and behind them those that are added
+-- samples of the movie box, and after them those that are added
 
 -- the last of those that are added is the last of all
 pub last_of_added : (has added : ℕ → Bool) (count end n : ℕ)
@@ -85,7 +85,7 @@ start_bound runs k small some few =
     (All-take (λ x. x ≤ 2 ^ 32 - 1) (k - 1) (durations runs) (short_durations runs small)) in
     rw (start_is (durations runs) k some) (omega (arith, most, length-take (k - 1) (durations runs), few))
 
--- So many samples, at most a count of them, are decoded at or before a time, and the one behind them isn't.
+-- So many samples, at most a count of them, are decoded at or before a time, and the one after them isn't.
 pub record AreEarly (xs : List ℕ) (count time n : ℕ) : Type 0 where
   pub within : n ≤ count
   pub there : n ≤ length xs
@@ -169,7 +169,7 @@ start_in runs i j d there inside =
     ∙ ap (λ n. sum (take n (durations runs))) at
     ∙ sum-take-expand (λ (r : SttsEntry). r.sample_count) (λ (r : SttsEntry). r.sample_delta) runs i j d there inside
 
--- where samples come behind a run, a run does
+-- where samples come after a run, a run does
 run_behind : (runs : List SttsEntry) (i : ℕ) (d : SttsEntry) → i < length runs
     → sum_by (λ r. r.sample_count) (take i runs) + (get_or runs i d).sample_count < sum_by (λ r. r.sample_count) runs
     → i + 1 < length runs
@@ -183,7 +183,7 @@ run_behind runs i d there more =
     absurd (omega (arith, more, whole, sum_by_more samples runs i d there)))
     (cases_lt (i + 1) (length runs))
 
--- the run behind the last that begins so early begins later
+-- the run after the last that begins so early begins later
 later_run : (runs : List SttsEntry) (counts times : List ℕ) (time i : ℕ) → TimesBefore runs counts times
     → ArePartedAt (λ i. nat_le (slice_index times i) time) (length times) (i + 1) → i + 1 < length runs
     → time < sum_by (λ r. r.sample_count * r.sample_delta) (take (i + 1) runs)

@@ -33,7 +33,7 @@ use Rattle.mp4_lookup.proofs.Times.{time_at_in, value_in, value_past}
 
 -- stsc
 
--- the entry with this index is for the samples from its first to before the first of the entry behind it
+-- the entry with this index is for the samples from its first to before the first of the entry after it
 pub entry_run : (entries : List StscEntry) (i : ℕ) (d : StscEntry) (r : EntryRun) → HasFirstSamples entries
     → i < length entries → r.entry ≡ get_or entries i d
     → ((e : StscEntry) → i + 1 < length entries → r.end ≡ (get_or entries (i + 1) e).first_sample)

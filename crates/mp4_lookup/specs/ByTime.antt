@@ -27,7 +27,7 @@ decode_time t runs k =
     run_sample_time runs (k - t.stsz.sample_count - 1)
 
 -- Sample k is decoded at or before a time. Times need not rise from one fragment to the next: the last such sample is
--- the one behind which none is decoded so early.
+-- the one after which none is decoded so early.
 abbrev pub sample_by : StblBox → List PlacedRun → ℕ → ℕ → Bool
 sample_by t runs time k = decoded_by time (decode_time t runs k)
 

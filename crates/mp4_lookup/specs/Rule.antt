@@ -51,7 +51,7 @@ timed track k (Some duration) start = Ok (duration, start)
 unfoldable pub time_at : List SttsEntry → ℕ → ℕ → Result (ℕ × ℕ) Cause
 time_at runs track k = timed track k (slice_get (durations runs) (k - 1)) (start_of (durations runs) k)
 
--- where sample k lies, and its size, in a chunk that begins there with this sample: behind the samples between them; a
+-- where sample k lies, and its size, in a chunk that begins there with this sample: after the samples between them; a
 -- size that isn't there is no sample
 abbrev pub located_in_chunk : StblBox → ℕ → ℕ → ℕ → Result (Option (ℕ × ℕ)) Cause
 located_in_chunk t chunk_offset first k =

@@ -28,7 +28,7 @@ pub record IsChunk (t : StblBox) (c : Chunk) : Type 0 where
   pub first : c.first < c.end → 1 ≤ c.first
   pub samples : (k : ℕ) → c.first ≤ k → k < c.end → located_at t k ≡ located_in_chunk t c.offset c.first k
 
--- The samples of a run of stts, and when they are decoded; and what comes before the run behind it. No time passes 64
+-- The samples of a run of stts, and when they are decoded; and what comes before the run after it. No time passes 64
 -- bits.
 pub record IsTimeRun (runs : List SttsEntry) (r : TimeRun) : Type 0 where
   pub samples : (track k : ℕ) → r.before < k → k ≤ r.before + r.count

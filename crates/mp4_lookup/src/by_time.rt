@@ -54,7 +54,7 @@ impl Mp4Track {
     /// are numbered from 1, first those of the movie box, then those that fragments add. `None` before the first.
     ///
     /// Where a fragment begins before the end of the one in front of it, as its tfdt may say (ISO/IEC 14496-12,
-    /// 8.8.12), several samples are decoded at a time. The last of them is the answer: all samples behind it are
+    /// 8.8.12), several samples are decoded at a time. The last of them is the answer: all samples after it are
     /// decoded later. A sample without a known time counts as decoded at none: one past the end of stts, or one of a
     /// fragment whose time passes 64 bits or follows from one that does.
     pub fn sample_at(&self, time: u64) -> Option<u32>

@@ -96,9 +96,9 @@ fn entry_at<S: Search>(
 #[derive(Clone, Copy, Debug)]
 pub struct EntryRun {
     pub entry: StscEntry,
-    /// The first sample of the entry behind it, and 2^32 for the last entry.
+    /// The first sample of the entry after it, and 2^32 for the last entry.
     pub end: u64,
-    /// The index of the entry behind it.
+    /// The index of the entry after it.
     pub next: usize,
 }
 
@@ -147,7 +147,7 @@ impl EntryRun {
         self.entry.first_sample <= k && u64::from(k) < self.end
     }
 
-    /// Becomes the entry of sample `k`: the same, or the one behind it, else one that is searched.
+    /// Becomes the entry of sample `k`: the same, or the one after it, else one that is searched.
     #[inline(always)]
     fn move_to(
         &mut self,
@@ -249,7 +249,7 @@ fn size_between(
     sums.between(first as usize - 1, k as usize - 1, readings)
 }
 
-/// A place, if it is within 64 bits: so many bytes behind the beginning of a chunk.
+/// A place, if it is within 64 bits: so many bytes after the beginning of a chunk.
 fn place_within(chunk_offset: u64, earlier: u64) -> Result<u64>
     ensures { Gives (λ place. place) result (within_64_bits (chunk_offset + earlier)) }
 {
@@ -264,7 +264,7 @@ fn place_within(chunk_offset: u64, earlier: u64) -> Result<u64>
 pub struct Chunk {
     /// Its first sample.
     pub first: u32,
-    /// The number behind its last sample, or behind the last that the entry is for.
+    /// The number after its last sample, or after the last that the entry is for.
     pub end: u64,
     /// Where it begins.
     pub offset: u64,

@@ -16,12 +16,12 @@ use mp4_fragments::RunCursor;
 ///
 /// It keeps where it is in each table and among the runs of the fragments, so that a step looks at a few numbers,
 /// however long the tables are; only where more than one entry of a table is passed over is the table searched, by a
-/// guess. It ends behind the last sample, where `locate` answers `None`; behind the first refusal, which it gives; and
-/// behind number 2^32 - 1.
+/// guess. It ends after the last sample, where `locate` answers `None`; after the first refusal, which it gives; and
+/// after number 2^32 - 1.
 #[derive(Drop)]
 pub struct Samples<'t> {
     pub(crate) track: &'t Mp4Track,
-    /// The number of the next sample; None behind the last.
+    /// The number of the next sample; None after the last.
     pub(crate) number: Option<u32>,
     /// Where the walk is in the tables.
     pub(crate) position: Position,

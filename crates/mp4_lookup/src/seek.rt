@@ -32,7 +32,7 @@ impl<'t> Parted for TimesBy<'t> {
     }
 }
 
-/// How many samples of a run are decoded at or before a time that is so many ticks behind the begin of the run.
+/// How many samples of a run are decoded at or before a time that is so many ticks after the begin of the run.
 fn samples_within(run: SttsEntry, ticks: u64) -> u32
     ensures most { result ≤ run.sample_count }
     ensures early { 0 < result → (result - 1) * run.sample_delta ≤ ticks }

@@ -47,7 +47,7 @@ pub struct TimeRun {
     pub count: u32,
     /// How many ticks each of them lasts.
     pub delta: u32,
-    /// The index of the run behind it.
+    /// The index of the run after it.
     pub next: usize,
 }
 
@@ -85,7 +85,7 @@ impl TimeRun {
         (self.delta, start)
     }
 
-    /// The run behind it, if sample `k` is the first of that one.
+    /// The run after it, if sample `k` is the first of that one.
     #[inline(always)]
     fn next_run(&self, runs: &[SttsEntry], k: u32) -> Option<TimeRun>
         requires run { IsTimeRun runs.now self.now }
@@ -108,7 +108,7 @@ impl TimeRun {
         })
     }
 
-    /// Becomes the run of sample `k`: the same, or the one behind it, else one that is searched.
+    /// Becomes the run of sample `k`: the same, or the one after it, else one that is searched.
     #[inline(always)]
     fn move_to(
         &mut self,
@@ -192,7 +192,7 @@ pub fn time_at<S: Search>(
     Ok(run.time(k))
 }
 
-/// Duration and start of sample `k`, in a walk that is in this run, or else moves to the run behind it, or to one that
+/// Duration and start of sample `k`, in a walk that is in this run, or else moves to the run after it, or to one that
 /// it searches.
 #[inline(always)]
 pub fn time_in_order(
@@ -223,7 +223,7 @@ pub struct OffsetRun {
     pub count: u32,
     /// How much later than they are decoded they are shown.
     pub offset: i32,
-    /// The index of the run behind it.
+    /// The index of the run after it.
     pub next: usize,
 }
 
@@ -264,7 +264,7 @@ impl OffsetRun {
         self.before < k && k - self.before <= self.count
     }
 
-    /// The run behind it, if sample `k` is the first of that one.
+    /// The run after it, if sample `k` is the first of that one.
     #[inline(always)]
     fn next_run(&self, runs: &[CttsEntry], k: u32) -> Option<OffsetRun>
         requires run { IsOffsetRun runs.now self.now }
@@ -333,7 +333,7 @@ pub fn rendering_offset_at<S: Search>(
     offset_run_at::<S>(runs, counts, k, readings).offset
 }
 
-/// The same in a walk that is in this run, or else moves to the run behind it, or to one that it searches.
+/// The same in a walk that is in this run, or else moves to the run after it, or to one that it searches.
 #[inline(always)]
 pub fn rendering_offset_in_order(
     runs: &[CttsEntry],
@@ -404,7 +404,7 @@ pub struct SyncGap {
     pub from: u32,
     /// The sync sample that ends them; 2^32 where none comes any more.
     pub end: u64,
-    /// The index of the number behind that one.
+    /// The index of the number after that one.
     pub next: usize,
 }
 
@@ -440,7 +440,7 @@ impl SyncGap {
         }
     }
 
-    /// The gap behind it, if it has sample `k`.
+    /// The gap after it, if it has sample `k`.
     #[inline(always)]
     fn next_gap(&self, numbers: &[u32], k: u32) -> Option<SyncGap>
         requires rises { IsNonDecreasing numbers.now }
@@ -475,7 +475,7 @@ impl SyncGap {
         }
     }
 
-    /// Whether sample `k` is one of the numbers, in a walk that is in this gap, or else moves to the gap behind it, or
+    /// Whether sample `k` is one of the numbers, in a walk that is in this gap, or else moves to the gap after it, or
     /// to one that it searches.
     #[inline(always)]
     fn is_among(

@@ -73,7 +73,7 @@ end_elsewhere defaults moof a b f fs elsewhere =
     by (Some base) flags e = refl
     by None flags e = by_flag (is_set flags 0x20000) e
 
--- the bases of one fragment, and those of the fragments behind it
+-- the bases of one fragment, and those of the fragments after it
 pub more_bases : (defaults : ℕ → SampleDefaults) (moofs : List MoofBox) (places : List ℕ) (i : ℕ) (m : MoofBox)
     (place id : ℕ) → i < length moofs → length places ≡ length moofs → m ≡ get_or moofs i m
     → track_bases defaults (drop i moofs) (drop i places) id
@@ -83,7 +83,7 @@ unfolding track_bases
 more_bases defaults moofs places i m place id lt same is =
     rw (drop_more moofs i m lt, drop_more places i place (omega arith), ← is) refl
 
--- behind the last fragment there are none
+-- after the last fragment there are none
 pub no_more_bases : (defaults : ℕ → SampleDefaults) (moofs : List MoofBox) (places : List ℕ) (i id : ℕ)
     → length moofs ≤ i → track_bases defaults (drop i moofs) places id ≡ []
 unfolding track_bases
@@ -153,7 +153,7 @@ module _ {S : Type 0} (defaults : ℕ → SampleDefaults) (moof : ℕ) where
           ∙ ap (λ n. bases_at old n ++ base ∷ rest) (eqb-true f.tfhd.track_id id is)
       by base rest false is = refl
 
-  -- behind the last part there are none
+  -- after the last part there are none
   pub none_to_come : (kept : HashMap ℕ (List (Option ℕ)) S) (before : Option ℕ) (id : ℕ)
       → and_to_come kept before [] id ≡ bases_at kept id
   unfolding own_bases

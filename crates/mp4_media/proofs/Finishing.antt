@@ -59,7 +59,7 @@ box_bytes-longer : (name : BoxType) (payload box : List ℕ) → IsBox name payl
 box_bytes-longer name payload box (short s h e) = rw (e, length-box_bytes name payload) (omega arith)
 box_bytes-longer name payload box (long s h e) = rw (e, length-long_box_bytes name payload) (omega arith)
 
--- a box that stands in the bytes of a file
+-- a box that is in the bytes of a file
 module _ (size : ℕ) (bytes : List ℕ) (name : BoxType) (payload before box after : List ℕ)
     (is : bytes ≡ before ++ (box ++ after)) (boxes : IsBox name payload box)
     (place next : ℕ) (at : place ≡ length before) (to : next ≡ place + length box) (fits : next ≤ size) where
@@ -186,7 +186,7 @@ no_fault : (m : MoovBox) → all_refusal zero_id m.traks ≡ None → id_fault m
 unfolding id_fault
 no_fault m none = rw none refl
 
--- a file type, mdat and a movie, one behind the other, are a file
+-- a file type, mdat and a movie, one after the other, are a file
 module _ (f : FtypBox) (m : MoovBox) (box : List ℕ) (canonical : IsCanonicalFtyp f) (movie : IsCanonicalMoov m)
     (media : IsMdat box) (ids : all_refusal zero_id m.traks ≡ None) where
   abbrev first : List ℕ
@@ -243,7 +243,7 @@ module _ (f : FtypBox) (m : MoovBox) (box : List ℕ) (canonical : IsCanonicalFt
         size_is = omega arith;
       }
 
--- the bytes of a writer that ended, behind nothing, are a file
+-- the bytes of a writer that ended, after nothing, are a file
 pub opens : (p : Parts) → IsWriting p → p.ended ≡ true → IsCanonicalMoov (movie_of (state_of p))
     → length p.media.buffer < 2 ^ 64 → Opens (state_of p)
 unfolding whole_of with_file_type movie_bytes

@@ -140,7 +140,7 @@ is_refused size bytes place c (nothing name from to w fits why) =
     begun-next size bytes place name from to w
     ∙ rw (le-ltb size (to - from + 8) fits, content-missing bytes name from to w.order c why) refl
 
--- what stands at a place of a file: its end, a box, or a fault
+-- what is at a place of a file: its end, a box, or a fault
 data Stands (size : ℕ) (bytes : List ℕ) (place : ℕ) : Type 0 where
   ends : EndsFile size bytes place → Stands size bytes place
   box : (b : FileBox) (next : ℕ) → IsFileBox size bytes place next b → Stands size bytes place

@@ -10,7 +10,7 @@ use Rattle.mp4_samples.specs.declared.sample.SampleRef.{SampleRef}
 use Rattle.mp4_samples.specs.Samples.{borrowed_sample, read_at, read_in}
 use Rattle.mp4_media.specs.InOrder.{ReadSample, read_all, ref_answer}
 
--- what is left behind a sample that was read, or refused
+-- what is left after a sample that was read, or refused
 abbrev pub behind : Bool → List ℕ → List (Result Place Cause) → List (Result ReadSample Cause)
 behind ended file answers = if ended then [] else read_all file answers
 

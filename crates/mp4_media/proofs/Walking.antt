@@ -33,7 +33,7 @@ found-push boxes b =
       filter_map-and_one (λ (x : FileBox). emsg_from x.content) boxes b,
     ) refl
 
--- The boxes of a file so far, what was found in them, and the place behind them, where the walk goes on with so many
+-- The boxes of a file so far, what was found in them, and the place after them, where the walk goes on with so many
 -- steps.
 pub record Scanning (size : ℕ) (start : Cursor) (found : TopLevelBoxes) (place : Cursor) : Type 0 where
   pub done : List FileBox

@@ -88,7 +88,7 @@ moof_places_in = filter_map moof_place_from
 abbrev pub emsgs_in : List FileBox → List EmsgBox
 emsgs_in = filter_map (λ (b : FileBox). emsg_from b.content)
 
--- of a kind of which the last box counts: this one, where it is of the kind, and else what stood before
+-- of a kind of which the last box counts: this one, where it is of the kind, and else what was before
 abbrev pub later : {A : Type 0} → Option A → Option A → Option A
 later (Some x) before = Some x
 later None before = before

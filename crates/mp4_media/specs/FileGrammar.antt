@@ -17,14 +17,14 @@ use Rattle.mp4_media.specs.MovieTracks.{id_fault}
 abbrev pub between : List ℕ → ℕ → ℕ → List ℕ
 between bytes from to = take (to - from) (drop from bytes)
 
--- A box begins at a place of a file of `size` bytes: 8 bytes are left before `size`, and a header stands there. It
+-- A box begins at a place of a file of `size` bytes: 8 bytes are left before `size`, and a header is there. It
 -- says this type, and a payload from one place to another, where the box ends.
 pub record Begins (size : ℕ) (bytes : List ℕ) (place : ℕ) (name : BoxType) (from to : ℕ) : Type 0 where
   pub room : place + 8 ≤ size
   pub head : header_at (here bytes place) ≡ Ok (record { name = name; size = to - from + 8 }, here bytes from)
   pub order : from ≤ to
 
--- What a box of this type holds, whose payload stands between two places: what is read is within the bytes and has a
+-- What a box of this type holds, whose payload is between two places: what is read is within the bytes and has a
 -- meaning; all else is skipped, and may end past the bytes, but not past 64 bits.
 pub data Holds (bytes : List ℕ) (name : BoxType) (from to : ℕ) (content : BoxContent) : Type 0 where
   read : (value : List ℕ → Result BoxContent Cause) → meaning_of name ≡ Some value
@@ -48,7 +48,7 @@ pub data EndsFile (size : ℕ) (bytes : List ℕ) (place : ℕ) : Type 0 where
       → header_at (here bytes place) ≡ Ok (record { name = name; size = 0 }, here bytes from)
       → EndsFile size bytes place
 
--- boxes of a file, one behind the other, from a place to another
+-- boxes of a file, one after the other, from a place to another
 unfoldable pub AreFileBoxes : ℕ → List ℕ → ℕ → List FileBox → ℕ → Type 0
 AreFileBoxes size bytes place [] next = next ≡ place
 AreFileBoxes size bytes place (b ∷ bs) next =
@@ -70,7 +70,7 @@ pub record IsFile (size : ℕ) (start : Cursor) (opened : OpenedFile) : Type 0 w
   pub ids : id_fault opened.moov opened.moofs ≡ None
   pub size_is : opened.size ≡ end - start.position
 
--- why a box of this type, whose payload stands between two places, holds nothing
+-- why a box of this type, whose payload is between two places, holds nothing
 pub data HoldsNothing (bytes : List ℕ) (name : BoxType) (from to : ℕ) (c : Cause) : Type 0 where
   past_the_bytes : (value : List ℕ → Result BoxContent Cause) → meaning_of name ≡ Some value
       → length bytes < to → c ≡ end_of_data → HoldsNothing bytes name from to c

@@ -20,7 +20,7 @@ use Rattle.mp4_media.specs.MovieTracks.{id_fault}
 abbrev pub skip_at : ℕ → Cursor → Result Cursor Cause
 skip_at n cursor = if nat_lt (2 ^ 64 - 1) (cursor.position + n) then Err invalid_data else Ok (moved n cursor)
 
--- the content of a box of this size, whose payload stands at the cursor, and the place behind it
+-- the content of a box of this size, whose payload is at the cursor, and the place after it
 abbrev pub content_at : Option (List ℕ → Result BoxContent Cause) → ℕ → Cursor → Result (BoxContent × Cursor) Cause
 content_at (Some value) size cursor = box_at value size cursor
 content_at None size cursor = skip_at (size - 8) cursor >>= λ behind. Ok (Skipped, behind)
@@ -36,7 +36,7 @@ box_behind size place h behind =
     if nat_lt size h.size then Err invalid_data else
     (content_at (meaning_of h.name) h.size behind >>= with_content place.position)
 
--- The next box of a file of `size` bytes, and the place behind it: none at a place that isn't below `size`; a rest of
+-- The next box of a file of `size` bytes, and the place after it: none at a place that isn't below `size`; a rest of
 -- less than a header is refused.
 unfoldable pub next_box_at : ℕ → Cursor → Result (Option FileBox × Cursor) Cause
 next_box_at size place =
@@ -78,8 +78,8 @@ with_box found b = record {
 abbrev pub and_content : TopLevelBoxes → ℕ → BoxContent × Cursor → Result (TopLevelBoxes × Cursor) Cause
 and_content found place x = Ok (with_box found (record { place = place; content = x.0 }), x.1)
 
--- what was found with a box more, of this type and this size, which begins at the place and whose payload stands at the
--- cursor; and the place behind it
+-- what was found with a box more, of this type and this size, which begins at the place and whose payload is at the
+-- cursor; and the place after it
 abbrev pub with_content_at : BoxType → ℕ → TopLevelBoxes → ℕ → Cursor → Result (TopLevelBoxes × Cursor) Cause
 with_content_at name size found place cursor = content_at (meaning_of name) size cursor >>= and_content found place
 
@@ -87,7 +87,7 @@ abbrev pub and_found : TopLevelBoxes → Option FileBox × Cursor → Result (Bo
 and_found found (None, place) = Ok (false, found, place)
 and_found found (Some b, behind) = Ok (true, with_box found b, behind)
 
--- whether a box stands at a place in a file of `size` bytes, what was found with it, and the place behind it
+-- whether a box is at a place in a file of `size` bytes, what was found with it, and the place after it
 abbrev pub with_next_at : ℕ → TopLevelBoxes → Cursor → Result (Bool × TopLevelBoxes × Cursor) Cause
 with_next_at size found place = next_box_at size place >>= and_found found
 

@@ -31,7 +31,7 @@ const MILLISECONDS: u32 = 1000;
 
 /// A movie that was opened: its boxes and its tracks.
 ///
-/// The accessors follow the public fields as they stand; [`Movie::size`] and the tracks are those of the opening.
+/// The accessors follow the public fields as they are; [`Movie::size`] and the tracks are those of the opening.
 #[derive(Debug)]
 pub struct Movie {
     /// The last ftyp of the file.

@@ -42,7 +42,7 @@ impl TopLevelBoxes {
     }
 }
 
-/// The place behind so many bytes from this one, also past the end of a file; `InvalidData` past 64 bits.
+/// The place after so many bytes from this one, also past the end of a file; `InvalidData` past 64 bits.
 fn place_behind(place: u64, n: u64) -> Result<u64>
     ensures value { (bytes : List ℕ) → Gives (λ behind. here bytes behind) result (skip_at n (here bytes place)) }
     ensures onward { IfOk result (λ behind. place ≤ behind) }
@@ -53,8 +53,8 @@ fn place_behind(place: u64, n: u64) -> Result<u64>
     Ok(behind)
 }
 
-/// Adds the box to what was found that begins at the place and whose payload stands at the cursor, which then stands
-/// behind it. A box of a type that isn't read is passed over.
+/// Adds the box to what was found that begins at the place and whose payload is at the cursor, which is then
+/// after it. A box of a type that isn't read is passed over.
 fn add_content<S: ByteSource + Drop>(
     alloc: Global,
     reader: &mut SourceCursor<S>,
@@ -107,7 +107,7 @@ fn add_content<S: ByteSource + Drop>(
     }
 }
 
-/// Adds the next box of a file of `size` bytes to what was found, with the cursor behind it, and answers whether there
+/// Adds the next box of a file of `size` bytes to what was found, with the cursor after it, and answers whether there
 /// is one: there is none at the file's end, and at a box whose end is open, with the cursor where it was.
 ///
 /// `EndOfData` where 1 to 7 bytes are left before `size`, then what refuses the header, then `InvalidData` for
@@ -151,7 +151,7 @@ pub(crate) fn add_next<S: ByteSource + Drop>(
     Ok(true)
 }
 
-/// Adds the boxes of a file of `size` bytes from the cursor on, which then stands at its end, to what was found, which
+/// Adds the boxes of a file of `size` bytes from the cursor on, which is then at its end, to what was found, which
 /// is no box at the start; or answers the first fault of a box.
 fn add_boxes<S: ByteSource + Drop>(
     alloc: Global,
@@ -174,7 +174,7 @@ fn add_boxes<S: ByteSource + Drop>(
     Ok(())
 }
 
-/// What counts of the boxes of a file of `size` bytes from the cursor on, which then stands at its end; or the first
+/// What counts of the boxes of a file of `size` bytes from the cursor on, which is then at its end; or the first
 /// fault of a box.
 pub(crate) fn find_boxes<S: ByteSource + Drop>(
     alloc: Global,

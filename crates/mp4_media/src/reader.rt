@@ -106,7 +106,7 @@ impl<'a> Mp4Reader<'a> {
     /// Opens the file that begins at the cursor and has `size` bytes, counted from the first byte that the cursor
     /// goes over (ISO/IEC 14496-12, 4.2 and 6.2).
     ///
-    /// While the position is below `size`, a box stands there. ftyp, moov, moof and emsg are read and have to be
+    /// While the position is below `size`, a box is there. ftyp, moov, moof and emsg are read and have to be
     /// within the bytes; all others are skipped to their end, which may lie past the bytes. A size of 0
     /// ends the file. The first fault in file order is the answer:
     ///
@@ -162,8 +162,8 @@ impl<'a> Mp4Reader<'a> {
         }))
     }
 
-    /// Sample `k` of the track with this id, its bytes borrowed from those that were opened, so that it may be kept when the
-    /// reader is gone. It takes no memory; all else is as in [`Mp4Reader::read_sample`].
+    /// Sample `k` of the track with this id, its bytes borrowed from those that were opened, so that it may be kept
+    /// when the reader is gone. It takes no memory; all else is as in [`Mp4Reader::read_sample`].
     pub fn read_sample_ref(&self, track_id: u32, k: u32) -> Result<Option<SampleRef<'a>>>
         ensures rule { Gives (λ s. option_map borrowed_sample s) result
             (sample_in self.now.bytes.now self.now.movie.tracks track_id k) }
@@ -192,7 +192,7 @@ impl<'a> Mp4Reader<'a> {
     }
 
     /// The samples of the track with this id in their order, from the first on, with their bytes: each is what
-    /// [`Mp4Reader::read_sample_ref`] answers at its number, and costs no search. It ends behind the last, and behind
+    /// [`Mp4Reader::read_sample_ref`] answers at its number, and costs no search. It ends after the last, and after
     /// the first that is refused.
     ///
     /// `TrakNotFound` where there is no such track.

@@ -13,7 +13,7 @@ use mp4_samples::SampleRef;
 pub struct SampleRefs<'a, 't> {
     pub(crate) bytes: &'a [u8],
     pub(crate) samples: Samples<'t>,
-    /// Whether a sample was refused: none is read behind it.
+    /// Whether a sample was refused: none is read after it.
     pub(crate) has_ended: bool,
 }
 

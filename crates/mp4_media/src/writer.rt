@@ -25,7 +25,7 @@ use mp4_samples::Mp4Sample;
 use std::alloc::Global;
 use std::marker::Model;
 
-/// Writes a movie at the end of a buffer: the file type, the data, and the movie box behind it.
+/// Writes a movie at the end of a buffer: the file type, the data, and the movie box after it.
 ///
 /// Where a call has a cause for its refusal, exactly that cause is the answer, checked before memory is
 /// requested; else it is Ok, or `OutOfMemory`. A refused call leaves the writer and its bytes as they were.
@@ -106,7 +106,7 @@ fn add_end(buffer: &mut Vec<u8>, mdat: usize, timescale: u32, tracks: &[TrackWri
 }
 
 impl Mp4Writer {
-    /// Begins a movie behind the bytes of a buffer: the file type, and the header of mdat (ISO/IEC 14496-12, 4.3
+    /// Begins a movie after the bytes of a buffer: the file type, and the header of mdat (ISO/IEC 14496-12, 4.3
     /// and 8.1.1).
     ///
     /// `TooLarge(BoxSize)` where the file type passes 2^32 - 1 bytes. After a refusal the buffer is gone.
@@ -188,7 +188,7 @@ impl Mp4Writer {
         self.tracks[id as usize - 1].check_sample(sample)
     }
 
-    /// Writes a sample of a track behind those that were written of it; its `start_time` isn't looked at, since it
+    /// Writes a sample of a track after those that were written of it; its `start_time` isn't looked at, since it
     /// follows from the durations (ISO/IEC 14496-12, 8.6.1.2).
     ///
     /// Samples wait until they last a second at least and have a byte; then they are added to the data as a chunk
@@ -273,7 +273,7 @@ impl Mp4Writer {
         *self.buffer.allocator()
     }
 
-    /// The bytes as they stand.
+    /// The bytes as they are.
     pub fn into_writer(self) -> Vec<u8>
         ensures { result.items ≡ whole_of self }
     {

@@ -26,7 +26,7 @@ names_hdlr bytes = named (number_at 4 bytes)
     named (Ok code) = code.0 == code_of hdlr
     named (Err c) = false
 
--- The part of a payload that holds the children: what stands behind four zero bytes, or the whole payload where its
+-- The part of a payload that holds the children: what is after four zero bytes, or the whole payload where its
 -- second four bytes are the type of a hdlr. Anything else is a version that is not known.
 unfoldable pub meta_body : List ℕ → Result (List ℕ) Cause
 meta_body payload = do
@@ -88,8 +88,8 @@ meta_with body handler =
     then (gathered (fault_in ilst ilst_of) (last_of ilst ilst_of) (children body) >>= λ list. Ok (Mdir list))
     else (gathered no_fault others (children body) >>= λ cs. Ok (Unknown handler cs))
 
--- The metadata that a payload holds: a handler has to be there. With handler mdir it is the last list of items; with any
--- other handler all children but the handler, as they are.
+-- The metadata that a payload holds: a handler has to be there. With handler mdir it is the last list of items; with
+-- any other handler all children but the handler, as they are.
 unfoldable pub meta_of : List ℕ → Result MetaBox Cause
 meta_of payload = do
   body ← meta_body payload

@@ -60,7 +60,7 @@ zero_again : (rest : List ℕ) → number_at 4 (zeros 4 ⧺ rest) ≡ Ok (0, res
 unfolding zeros number
 zero_again rest = number_again 4 0 rest (lit< tt)
 
--- the children stand behind the four zero bytes
+-- the children are after the four zero bytes
 body_again : (rest : List ℕ) → meta_body (zeros 4 ⧺ rest) ≡ Ok rest
 unfolding meta_body
 body_again rest = rw (zero_again rest) refl

@@ -48,7 +48,7 @@ numeral ds =
     if all_ascii_digits ds then (if nat_lt (decimal_value ds) (2 ^ 32) then Some (decimal_value ds) else None) else
     None
 
--- the number that a text writes, behind a plus or without one
+-- the number that a text writes, after a plus or without one
 abbrev pub year_in_text : List ℕ → Option ℕ
 year_in_text bytes = numeral (without_plus bytes)
 

@@ -20,7 +20,7 @@ use mp4_codec::{
 use mp4_frag::MfhdBox;
 use std::alloc::Global;
 
-/// A movie fragment, `moof`: samples that are added behind those of the movie (ISO/IEC 14496-12, 8.8.4).
+/// A movie fragment, `moof`: samples that are added after those of the movie (ISO/IEC 14496-12, 8.8.4).
 ///
 /// Its children may come in any order, and types that it doesn't name are skipped. The first refused
 /// child in file order is the answer, then `InvalidData` for a broken tail, then `BoxNotFound(MfhdBox)`.

@@ -26,7 +26,7 @@ first_only place n ns byte l (suc j) r e lies =
     let low = lies.0 in
     absurd (omega (arith, behind, low, l))
 
--- a byte behind it is not in the first
+-- a byte after it is not in the first
 later_only : (place n : ℕ) (ns : List ℕ) (byte : ℕ) → place + n ≤ byte
     → (one : LiesInOne byte (laid_from (place + n) ns))
     → (j : ℕ) (r : ℕ × ℕ) → slice_get (laid_from place (n ∷ ns)) j ≡ Some r → LiesIn byte r → j ≡ suc one.index
@@ -37,7 +37,7 @@ later_only place n ns byte l one zero r e lies =
     absurd (omega (arith, l, high, ap (λ (x : ℕ × ℕ). x.0) first, ap (λ (x : ℕ × ℕ). x.1) first))
 later_only place n ns byte l one (suc j) r e lies = ap suc (one.no_other j r e lies)
 
--- of ranges that lie one behind the other a byte from the first to the last lies in one
+-- of ranges that lie one after the other a byte from the first to the last lies in one
 in_one : (place : ℕ) (ns : List ℕ) (byte : ℕ) → place ≤ byte → byte < place + sum ns
     → LiesInOne byte (laid_from place ns)
 unfolding laid_from

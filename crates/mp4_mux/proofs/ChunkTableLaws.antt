@@ -48,7 +48,7 @@ none_found c n chunk sample (m ∷ ms) found h =
     (λ _. not_yet c (entry_at chunk sample m) rest found h
     ∙ none_found c m (chunk + 1) (sample + m) ms found (omega arith))
 
--- chunk j behind the first of these, where before them stands an entry of chunks with n samples
+-- chunk j after the first of these, where before them is an entry of chunks with n samples
 count_found : (n chunk sample : ℕ) (ms : List ℕ) (found : Option StscEntry) (c j : ℕ) → count_of found ≡ n
     → chunk + j ≡ c → j < length ms
     → count_of (fold (step c) found (chunk_entries_from n chunk sample ms)) ≡ get_or ms j 0
@@ -177,7 +177,7 @@ length-stsc_for (n ∷ ns) h =
     rw (← first_entry n ns (All-head (λ (n : ℕ). 1 ≤ n) n ns h))
     (omega (arith, length-chunk_entries_from n 2 (1 + n) ns))
 
--- one entry behind another
+-- one entry after another
 abbrev Follows : StscEntry → StscEntry → Type 0
 Follows a b = (a.first_chunk ≤ b.first_chunk)
     × (b.first_sample ≡ a.first_sample + (b.first_chunk - a.first_chunk) * a.samples_per_chunk)
@@ -190,7 +190,7 @@ adjacent-cons a b es h rest (suc k) d lt =
     let next : suc k + 1 ≡ suc (k + 1) = omega arith in
     rw next (rest k d (omega arith))
 
--- entries behind entry a, whose chunks have n samples: the next chunk is q chunks behind its first
+-- entries after entry a, whose chunks have n samples: the next chunk is q chunks after its first
 follow : (n chunk sample : ℕ) (ms : List ℕ) (a : StscEntry) (q : ℕ) → a.samples_per_chunk ≡ n
     → a.first_chunk + q ≡ chunk → a.first_sample + q * n ≡ sample
     → AllAdjacentBelow Follows (a ∷ chunk_entries_from n chunk sample ms)

@@ -1,4 +1,4 @@
--- Chunks that stand one behind the other: their bytes, their places, and the samples of a track.
+-- Chunks that are one after the other: their bytes, their places, and the samples of a track.
 use Rattle.std.proofs.Common.{◌≡◌, ◌≢◌, ℕ, zero, suc, ◌+◌, ◌<◌, true, false, cond, eqb, List, [], ◌∷◌, ◌++◌}
 use Rattle.std.proofs.Common.{length, get_or, take, refl, sym, ap, ap₂, ◌∙◌, append_assoc, arith, eq-eqb}
 use Rattle.std.specs.List.{flat_map}
@@ -158,7 +158,7 @@ last_chunks-samples id (suc u) (t ∷ ts) =
     ∙ ap₂ (λ (x y : List Sample). x ++ y) (chunk_of-others id (id + suc u) t.pending n)
     (ap (λ v. samples_of v (last_chunks (id + 1) ts)) further ∙ last_chunks-samples (id + 1) u ts)
 
--- and its chunk lies behind what was pending of the tracks before it
+-- and its chunk lies after what was pending of the tracks before it
 pub last_chunks-placed : (place id u : ℕ) (ts : List TrackState) → u < length ts
     → of_track (id + u) (placed_from place (last_chunks id ts))
     ≡ placed_from (place + length (pending_bytes (take u ts))) (chunk_of (id + u) (get_or ts u no_track).pending)

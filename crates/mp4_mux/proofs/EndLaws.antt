@@ -201,7 +201,7 @@ module _ (p : Parts) (h : IsWriting p) (goes_on : p.ended ≡ false) where
         length-drop (p.mdat + 16) buffer,
       )
 
-  -- behind the header of mdat the bytes are the same
+  -- after the header of mdat the bytes are the same
   drop-patched : (o : ℕ) → p.mdat + 16 ≤ o → drop o patched ≡ drop o buffer
   drop-patched o l =
       let split : (p.mdat + 16) + (o - (p.mdat + 16)) ≡ o = omega (arith, l) in

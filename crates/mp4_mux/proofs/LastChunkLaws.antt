@@ -78,7 +78,7 @@ last_chunks-once (suc u) ts =
       length-chunk_of (1 + u) (get_or ts u no_track).pending,
     ))
 
--- they stand in the order of their tracks
+-- they are in the order of their tracks
 abbrev pub IsBefore : Chunk → Chunk → Type 0
 IsBefore c d = c.track_id < d.track_id
 

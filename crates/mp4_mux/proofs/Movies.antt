@@ -17,7 +17,7 @@ unfolding finished_buildings
 length-finished id place [] = refl
 length-finished id place (b ∷ bs) = ap suc (length-finished (id + 1) (place + length (sample_bytes b.pending)) bs)
 
--- the track at an index: what is pending of it lies behind what is pending of those before it
+-- the track at an index: what is pending of it lies after what is pending of those before it
 pub get_or-finished : (id place i : ℕ) (bs : List Building) (d : FinishedTrack) (e : Building) → i < length bs
     → get_or (finished_buildings id place bs) i d
     ≡ finished_building (id + i) (place + length (unwritten (take i bs))) (get_or bs i e)

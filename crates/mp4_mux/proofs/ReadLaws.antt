@@ -14,7 +14,7 @@ use Rattle.mp4_mux.proofs.TileLaws.{ranges_of-append, ranges_of-owned, owned}
 abbrev pub bytes_at : List ℕ → ℕ × ℕ → List ℕ
 bytes_at file r = take r.1 (drop r.0 file)
 
--- samples that lie one behind the other
+-- samples that lie one after the other
 read_laid : (before : List ℕ) (ss : List Sample) (more : List ℕ)
     → map (bytes_at (before ++ (sample_bytes ss ++ more))) (laid_from (length before) (sizes_of ss))
     ≡ map (λ (s : Sample). s.bytes) ss
@@ -83,7 +83,7 @@ weaker : (n m : ℕ) → n ≤ m → (rs : List (ℕ × ℕ)) → AllByRecursion
 weaker n m l [] h = tt
 weaker n m l (r ∷ rs) h = let a = h.0 in (omega (arith, a, l), weaker n m l rs h.1)
 
--- and none of them ends behind the chunks
+-- and none of them ends after the chunks
 pub ranges-within : (id place : ℕ) (cs : List Chunk)
     → AllByRecursion (λ (r : ℕ × ℕ). r.0 + r.1 ≤ place + length (chunk_bytes cs)) (ranges_of id (ranges_from place cs))
 unfolding ranges_from

@@ -1,4 +1,4 @@
--- Samples that stand one after the other in bytes.
+-- Samples that are one after the other in bytes.
 use Rattle.std.proofs.Common.{◌≡◌, ℕ, zero, suc, ◌+◌, ◌*◌, ◌/◌, ◌^◌, ◌<◌, ◌≤◌, ◌-◌, List, [], ◌∷◌, ◌++◌, length, take}
 use Rattle.std.proofs.Common.{drop}
 use Rattle.std.proofs.Common.{append_assoc, map, refl, sym, ap, ap₂, ◌∙◌, arith}

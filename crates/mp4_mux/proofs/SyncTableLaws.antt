@@ -42,7 +42,7 @@ none_before m k ss h =
     (All-weaker (λ n. (k ≤ n) × (n < k + length ss)) (λ n. eqb n m ≡ false)
     (λ n p. ne_eqb n m (λ e. omega (arith, p.0, e))) (sync_numbers_from k ss) (within k ss))
 
--- sample j behind the first, which has number k
+-- sample j after the first, which has number k
 marked : (k j m : ℕ) (ss : List SampleInfo) (d : SampleInfo) → k + j ≡ m → j < length ss
     → list_any (λ n. n == m) (sync_numbers_from k ss) ≡ (get_or ss j d).is_sync
 unfolding sync_numbers_from

@@ -94,7 +94,7 @@ size_of_stsz_of_one ss e =
 pub size_of_stsc : (ns : List ℕ) → length (stsc_payload (stsc_for ns)) ≡ 8 + changes nat_eq 0 ns * 12
 size_of_stsc ns = omega (arith, length-stsc_payload (stsc_for ns), length-stsc_for_changes ns)
 
--- how many chunks from chunk i on, and of those behind all, have another number of samples than the one before them
+-- how many chunks from chunk i on, and of those after all, have another number of samples than the one before them
 abbrev pub changes_at : List ChunkPlace → List ChunkPlace → ℕ → ℕ → ℕ
 changes_at cs behind n i = changes nat_eq n (map (λ c. c.count) (drop i cs ++ behind))
 
@@ -113,7 +113,7 @@ module _ (cs behind : List ChunkPlace) (d : ChunkPlace) where
       → changes_at cs behind n i ≡ changes nat_eq n (map (λ c. c.count) behind)
   changes_at_end n i h = rw (drop_all i cs h) refl
 
--- how many of the chunks behind all have another number of samples than the one before them, n
+-- how many of the chunks after all have another number of samples than the one before them, n
 pub changes_none : (n : ℕ) (last : Option ChunkPlace) → last ≡ None
     → changes nat_eq n (map (λ c. c.count) (option_to_list last)) ≡ 0
 unfolding changes

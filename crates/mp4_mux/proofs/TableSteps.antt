@@ -49,7 +49,7 @@ pub no_size : (ss : List SampleInfo) → length ss ≡ 0 → 0 ≡ one_size ss
 unfolding one_size
 no_size ss h = rw (nil_from_length ss h) refl
 
--- the entries of the chunks from chunk i on, counted from 0: before it stand so many samples, and chunks of n
+-- the entries of the chunks from chunk i on, counted from 0: before it are so many samples, and chunks of n
 abbrev pub entries_at : List ChunkPlace → ℕ → ℕ → ℕ → List StscEntry
 entries_at cs n samples i = chunk_entries_from n (i + 1) (samples + 1) (map (λ c. c.count) (drop i cs))
 

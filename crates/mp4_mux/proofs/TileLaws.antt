@@ -1,4 +1,4 @@
--- The samples of chunks lie one behind the other, and those of a track where its tables lead.
+-- The samples of chunks lie one after the other, and those of a track where its tables lead.
 use Rattle.std.proofs.Common.{◌≡◌, ℕ, ◌+◌, true, false, cond, eqb, List, [], ◌∷◌, ◌++◌, length, take, drop, map, sum}
 use Rattle.std.proofs.Common.{refl, sym, ap, ap₂, ◌∙◌, arith}
 use Rattle.std.specs.List.{filter}
@@ -40,7 +40,7 @@ ranges-owned : (id : ℕ) (rs : List (ℕ × ℕ)) → map (λ (r : SampleRange)
 ranges-owned id [] = refl
 ranges-owned id (r ∷ rs) = ap (λ xs. r ∷ xs) (ranges-owned id rs)
 
--- the ranges of all samples lie one behind the other
+-- the ranges of all samples lie one after the other
 pub ranges_from-in_order : (place : ℕ) (cs : List Chunk)
     → map (λ (r : SampleRange). r.range) (ranges_from place cs) ≡ laid_from place (sizes_of (all_samples cs))
 unfolding ranges_from laid_from

@@ -33,7 +33,7 @@ pub record FillsChunks (ss : List SampleInfo) (ns os : List ℕ) : Type 0 where
   pub counted : sum ns ≡ length ss
   pub placed : length os ≡ length ns
 
--- what is known of sample k, which counts from 1: it lies behind those before it in its chunk
+-- what is known of sample k, which counts from 1: it lies after those before it in its chunk
 abbrev pub sample_at : List SampleInfo → List ℕ → List ℕ → ℕ → Place
 sample_at ss ns os k = record {
   offset = (get_or (places ns os (map (λ s. s.size) ss)) (k - 1) (0, 0)).0;

@@ -51,7 +51,7 @@ module _ (m : ℕ) (cs : List Chunk) (placed : List PlacedChunk) where
     chunks = of_track id placed;
   }
 
-  -- what holds of each track and its box holds of those that stand at the same place
+  -- what holds of each track and its box holds of those that are at the same place
   at_place : (R : ℕ → AcceptedTrack → TrakBox → Type 0) (id : ℕ) (ts : List TrackState)
       → ((u : ℕ) → u < length ts → R (id + u) (accepted_as (id + u) (get_or ts u no_track))
       (trak_for m (finished_as (id + u) (get_or ts u no_track))))

@@ -67,7 +67,7 @@ none-listed (c ∷ cs) some e =
     let one = some 0 c (omega arith) in
     absurd (omega (arith, one, e, sum_by-cons (λ (c : PlacedChunk). c.count) c cs))
 
--- A track of this id and configuration, whose samples stand in these chunks from a place of the file on.
+-- A track of this id and configuration, whose samples are in these chunks from a place of the file on.
 module _ (m : ℕ) (id : ℕ) (config : TrackConfig) (front : List ℕ) (cs : List Chunk) (more : List ℕ) where
   abbrev ss : List Sample
   ss = samples_of id cs

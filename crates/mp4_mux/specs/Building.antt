@@ -60,7 +60,7 @@ abbrev pub pending_place : Building → ℕ → ChunkPlace
 pending_place b offset =
     record { first = length b.samples - length b.pending; count = length b.pending; offset = offset }
 
--- the pending samples stand in a chunk that begins there
+-- the pending samples are in a chunk that begins there
 abbrev pub closed : Building → ℕ → Building
 closed b offset = record b { chunks = b.chunks ++ pending_place b offset ∷ []; pending = [] }
 
@@ -79,7 +79,7 @@ pub record TrackFields : Type 0 where
   pub bytes : List ℕ
   pub pending_duration : ℕ
   pub durations : Durations
-  -- how many samples stand in chunks
+  -- how many samples are in chunks
   pub closed_count : ℕ
 
 -- the track that fields say

@@ -16,7 +16,7 @@ sample_counts cs = map (λ c. c.count) cs
 abbrev pub offsets : List ChunkPlace → List ℕ
 offsets cs = map (λ c. c.offset) cs
 
--- these chunks, and the one behind them where there is one
+-- these chunks, and the one after them where there is one
 abbrev pub and_last : List ChunkPlace → Option ChunkPlace → List ChunkPlace
 and_last cs last = cs ++ option_to_list last
 

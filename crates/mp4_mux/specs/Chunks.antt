@@ -1,4 +1,4 @@
--- The tracks that are written, and the chunks in which their samples stand (ISO/IEC 14496-12, 8.7.4 and 8.7.5).
+-- The tracks that are written, and the chunks in which their samples are (ISO/IEC 14496-12, 8.7.4 and 8.7.5).
 use Rattle.std.specs.Prelude.{ℕ, ◌+◌, ◌==◌, List, [], ◌∷◌, ◌++◌, length, map, Bool, nat_le, nat_lt, ◌&&◌, if◌then◌else◌}
 use Rattle.std.specs.List.{flat_map, sum_by}
 use Rattle.mp4_samples.specs.Samples.{Sample}
@@ -41,12 +41,12 @@ last_chunks id (t ∷ ts) = chunk_of id t.pending ++ last_chunks (id + 1) ts
 abbrev pub none_pending : List TrackState → List TrackState
 none_pending ts = map (λ (t : TrackState). record t { pending = [] }) ts
 
--- the samples of a track that stand in these chunks, in order
+-- the samples of a track that are in these chunks, in order
 unfoldable pub samples_of : ℕ → List Chunk → List Sample
 samples_of id [] = []
 samples_of id (c ∷ cs) = if c.track_id == id then c.samples ++ samples_of id cs else samples_of id cs
 
--- where chunks lie that stand one behind the other, from a place on
+-- where chunks lie that are one after the other, from a place on
 unfoldable pub placed_from : ℕ → List Chunk → List PlacedChunk
 placed_from place [] = []
 placed_from place (c ∷ cs) =

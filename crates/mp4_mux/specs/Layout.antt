@@ -24,7 +24,7 @@ pub record IsLaidOut (st : WriterState) : Type 0 where
   pub full : AllByRecursion (IsJustFullChunk st) st.chunks
   pub waiting : (id : ℕ) → IsIdOf st id → IsWaiting (track_at st id)
 
--- At the end that held until then, and what was pending stands in chunks behind the others.
+-- At the end that held until then, and what was pending is in chunks after the others.
 pub record IsLaidOutAtEnd (st : WriterState) : Type 0 where
   pub before : WriterState
   pub goes_on : before.ended ≡ false

@@ -42,7 +42,7 @@ chunk_in bs buffer r =
 abbrev pub track_of : Building → TrackState
 track_of b = record { config = b.config; pending = b.pending }
 
--- the pending samples of a track, which is this one now, stand in a chunk behind the others, and nothing is pending of
+-- the pending samples of a track, which is this one now, are in a chunk after the others, and nothing is pending of
 -- it
 abbrev pub media_with_chunk : Media → ℕ → Building → Media
 media_with_chunk m t b = record {

@@ -38,11 +38,11 @@ open_state p =
       ended = false;
     }
 
--- what a writer holds, read off what it keeps: after the end, what was pending stands in chunks
+-- what a writer holds, read off what it keeps: after the end, what was pending is in chunks
 unfoldable pub state_of : Parts → WriterState
 state_of p = if p.ended then with_end (open_state p) else open_state p
 
--- a chunk is there, its samples are in the tables of its track, and their bytes in the buffer, behind the header of mdat
+-- a chunk is there, its samples are in the tables of its track, and their bytes in the buffer, after the header of mdat
 pub record IsChunkAt (mdat : ℕ) (m : Media) (r : ChunkRef) : Type 0 where
   pub track : r.track < length m.tracks
   pub index : r.index < length (building_at m.tracks r.track).chunks
@@ -106,7 +106,7 @@ finished_buildings id place [] = []
 finished_buildings id place (b ∷ bs) =
     finished_building id place b ∷ finished_buildings (id + 1) (place + length (sample_bytes b.pending)) bs
 
--- the bytes at the end: what is pending stands behind the data, the header of mdat over its first 16 bytes, and the
+-- the bytes at the end: what is pending is after the data, the header of mdat over its first 16 bytes, and the
 -- movie follows
 abbrev pub bytes_at_end : ℕ → List ℕ → List ℕ → List ℕ → List ℕ
 bytes_at_end mdat pending movie buffer =

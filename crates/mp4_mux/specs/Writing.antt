@@ -29,7 +29,7 @@ pub record WriterState : Type 0 where
   pub config : Mp4Config
   -- the tracks in the order in which they were added: the first has id 1
   pub tracks : List TrackState
-  -- the chunks in the order in which they stand in mdat
+  -- the chunks in the order in which they are in mdat
   pub chunks : List Chunk
   pub ended : Bool
 
@@ -82,7 +82,7 @@ file_type_of config =
           config.compatible_brands;
     }
 
--- the buffer handed in, and the file type behind it
+-- the buffer handed in, and the file type after it
 unfoldable pub with_file_type : List ℕ → Mp4Config → List ℕ
 with_file_type front config = front ++ box_bytes ftyp (ftyp_payload (file_type_of config))
 
@@ -90,7 +90,7 @@ with_file_type front config = front ++ box_bytes ftyp (ftyp_payload (file_type_o
 abbrev pub before_data : WriterState → List ℕ
 before_data st = with_file_type st.front st.config
 
--- the data behind the header of mdat: the chunks, one after the other
+-- the data after the header of mdat: the chunks, one after the other
 abbrev pub data_of : WriterState → List ℕ
 data_of st = chunk_bytes st.chunks
 
@@ -113,7 +113,7 @@ movie_bytes timescale ts = box_bytes moov (moov_payload (movie_for timescale ts)
 abbrev pub finished_tracks : WriterState → List FinishedTrack
 finished_tracks st = finished_from 1 (accepted st) (placed_from (data_place st) st.chunks)
 
--- the movie that stands behind the data
+-- the movie that is after the data
 abbrev pub movie_of : WriterState → MoovBox
 movie_of st = movie_for st.config.timescale (finished_tracks st)
 
@@ -126,7 +126,7 @@ whole_of st =
     ++ movie_bytes st.config.timescale (finished_tracks st)
     else before_data st ++ (mdat_header_of 8 ++ data_of st)
 
--- a writer that was begun behind these bytes
+-- a writer that was begun after these bytes
 abbrev pub started : List ℕ → Mp4Config → WriterState
 started front config = record { front = front; config = config; tracks = []; chunks = []; ended = false }
 
@@ -139,12 +139,12 @@ abbrev pub with_pending : WriterState → ℕ → List Sample → WriterState
 with_pending st id ss =
     record st { tracks = slice_set st.tracks (id - 1) (record (track_at st id) { pending = ss }) }
 
--- these samples of a track are a chunk behind the others, and nothing is pending of it
+-- these samples of a track are a chunk after the others, and nothing is pending of it
 abbrev pub with_chunk : WriterState → ℕ → List Sample → WriterState
 with_chunk st id ss =
     record (with_pending st id []) { chunks = st.chunks ++ record { track_id = id; samples = ss } ∷ [] }
 
--- a writer with one more sample of a track: it is pending behind the others, and where they are full now, they are a
+-- a writer with one more sample of a track: it is pending after the others, and where they are full now, they are a
 -- chunk
 unfoldable pub with_sample : WriterState → ℕ → Sample → WriterState
 with_sample st id s =
@@ -152,7 +152,7 @@ with_sample st id s =
     if is_full (track_at st id).config.timescale pending then with_chunk st id pending
     else with_pending st id pending
 
--- a writer whose end was written: what was pending stands in chunks behind the others
+-- a writer whose end was written: what was pending is in chunks after the others
 abbrev pub with_end : WriterState → WriterState
 with_end st = record st { tracks = none_pending st.tracks; chunks = st.chunks ++ last_chunks 1 st.tracks; ended = true }
 

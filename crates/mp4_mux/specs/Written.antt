@@ -69,7 +69,7 @@ pub record SampleRange : Type 0 where
   pub track_id : ℕ
   pub range : ℕ × ℕ
 
--- the ranges of the samples of chunks that stand one behind the other, from a place on
+-- the ranges of the samples of chunks that are one after the other, from a place on
 unfoldable pub ranges_from : ℕ → List Chunk → List SampleRange
 ranges_from place [] = []
 ranges_from place (c ∷ cs) =

@@ -1,4 +1,4 @@
-//! Where a chunk of a track lies, and which chunk stands where among those of all tracks.
+//! Where a chunk of a track lies, and which chunk is where among those of all tracks.
 
 ghost use Rattle.mp4_codec.specs.ExactTest.{by_test, field_tests};
 
@@ -7,7 +7,7 @@ use mp4_codec::ExactEq;
 /// Where a chunk of a track lies, and which samples of the track it has (ISO/IEC 14496-12, 8.7.4 and 8.7.5).
 #[derive(Clone, Copy, Debug, PartialEq, Eq)]
 pub struct ChunkPlace {
-    /// How many samples of the track stand in chunks before it.
+    /// How many samples of the track are in chunks before it.
     pub first: u32,
     /// How many samples it has.
     pub count: u32,

@@ -1,4 +1,4 @@
-//! The end of a movie: what is pending of its tracks, its movie box behind the data, and the header of the data, which
+//! The end of a movie: what is pending of its tracks, its movie box after the data, and the header of the data, which
 //! says how many bytes they have.
 
 ghost use Rattle.std.specs.Prelude.{◌≡◌, ◌+◌, ◌^◌, ◌<◌, ◌≤◌, ◌++◌, Ok, None, length, map, fold, max, take, drop, OnOk};
@@ -33,7 +33,7 @@ fn longest(tracks: &[TrackWriter]) -> u64
     longest
 }
 
-/// How many bytes the movie box has, its header included, where what is pending of the tracks stands in chunks, the
+/// How many bytes the movie box has, its header included, where what is pending of the tracks is in chunks, the
 /// first of which begins there; it stops at 2^64 - 1. The timescale is in ticks a second. It requests no memory.
 pub fn movie_size(timescale: u32, tracks: &[TrackWriter], end: u64) -> u64
     requires few { length tracks.now < 2 ^ 32 }
@@ -77,7 +77,7 @@ pub fn pending_bytes(
     Ok(bytes)
 }
 
-/// The boxes of the tracks, where what is pending of them stands in chunks, the first of which begins there. Refused by
+/// The boxes of the tracks, where what is pending of them is in chunks, the first of which begins there. Refused by
 /// `OutOfMemory` alone.
 fn trak_boxes(
     alloc: Global,
@@ -101,7 +101,7 @@ fn trak_boxes(
     Ok(boxes)
 }
 
-/// The movie box of the tracks (ISO/IEC 14496-12, 8.2.1), where what is pending of them stands in chunks, the first of
+/// The movie box of the tracks (ISO/IEC 14496-12, 8.2.1), where what is pending of them is in chunks, the first of
 /// which begins there. Refused by `OutOfMemory` alone.
 #[tactic(auto, unfolding(crate::specs::FinishedTrack::movie_for))]
 fn movie_box(alloc: Global, timescale: u32, tracks: &[TrackWriter], end: u64) -> Result<MoovBox>

@@ -27,14 +27,14 @@ pub fn calls_accept_their_samples()
 {}
 
 /// Before the end each chunk is full, and no proper beginning of it is; what is pending of a track is not full. At
-/// the end that held until then, and what was pending stands in chunks behind the others.
+/// the end that held until then, and what was pending is in chunks after the others.
 pub fn chunks_are_just_full()
     ensures before_end { (session : Session) → IsAnswered session → (writer_of session).ended ≡ false
         → IsLaidOut (writer_of session) }
     ensures at_end { (session : Session) → IsEnded session → IsLaidOutAtEnd (writer_of session) }
 {}
 
-/// An end adds chunks behind the others, in the order of the tracks: what is pending of a track is a chunk, where
+/// An end adds chunks after the others, in the order of the tracks: what is pending of a track is a chunk, where
 /// anything is, so that each track has at most one of them. It accepts nothing, and loses nothing.
 pub fn an_end_closes_one_chunk_a_track()
     ensures behind { (st : WriterState) → (with_end st).chunks ≡ st.chunks ++ last_chunks 1 st.tracks }

@@ -3,7 +3,7 @@
 ghost use Rattle.std.specs.Prelude.{◌≡◌};
 ghost use Rattle.mp4_mux.specs.Mdat.{mdat_header_of};
 
-/// The bytes of mdat's header and of the empty `wide` box behind it.
+/// The bytes of mdat's header and of the empty `wide` box after it.
 pub(crate) const MDAT_HEADER_SIZE: usize = 16;
 
 /// The 16 bytes that begin a written mdat of n bytes, these 16 included (ISO/IEC 14496-12, 8.1.1).

@@ -1,6 +1,6 @@
 //! How long the tables of a track will be, known without any memory.
 //!
-//! Where chunks are asked for, one more may stand behind them.
+//! Where chunks are asked for, one more may be after them.
 
 ghost use Rattle.std.specs.Prelude.{◌≡◌, ◌+◌, ◌^◌, ◌<◌, length, nat_eq};
 ghost use Rattle.std.specs.List.{count_by};

@@ -29,7 +29,8 @@ use mp4_samples::Mp4Sample;
 use std::alloc::{AllocError, Global};
 use std::marker::Model;
 
-/// A track that is being written: what its tables say of its samples, its chunks, and the samples that no chunk has yet.
+/// A track that is being written: what its tables say of its samples, its chunks, and the samples that no chunk has
+/// yet.
 #[derive(Debug, Drop)]
 pub struct TrackWriter {
     config: TrackConfig,
@@ -42,7 +43,7 @@ pub struct TrackWriter {
     /// How long these samples last, in ticks of the track.
     pending_duration: u64,
     durations: Durations,
-    /// How many samples stand in chunks.
+    /// How many samples are in chunks.
     closed: u32,
 }
 
@@ -95,8 +96,8 @@ fn movie_ticks(duration: u32, movie_timescale: u32, timescale: u32) -> u64
 }
 
 impl TrackWriter {
-    /// Whether it has room for a sample: `TooLarge(SampleBytes)` past 2^32 - 1 bytes, `TooLarge(SampleCount)` where it has
-    /// 2^32 - 1 samples, `TooLarge(TrackDuration)` where its duration in ticks of the movie would pass 64 bits. It
+    /// Whether it has room for a sample: `TooLarge(SampleBytes)` past 2^32 - 1 bytes, `TooLarge(SampleCount)` where it
+    /// has 2^32 - 1 samples, `TooLarge(TrackDuration)` where its duration in ticks of the movie would pass 64 bits. It
     /// requests no memory.
     #[tactic(auto, unfolding(crate::specs::Building::room_cause))]
     pub fn check_sample(&self, sample: &Mp4Sample) -> mp4_codec::Result<()>
@@ -192,7 +193,7 @@ impl TrackWriter {
         }
     }
 
-    /// Writes the pending samples as a chunk at the end of the buffer, and notes it behind the chunks of all tracks; the
+    /// Writes the pending samples as a chunk at the end of the buffer, and notes it after the chunks of all tracks; the
     /// track's index counts from 0. An `Err` changes nothing.
     fn write_chunk(
         &mut self,
@@ -280,7 +281,7 @@ impl TrackWriter {
         }
     }
 
-    /// Its box, where what is pending stands in a chunk that begins there. Refused by `OutOfMemory` alone.
+    /// Its box, where what is pending is in a chunk that begins there. Refused by `OutOfMemory` alone.
     pub fn finished_box(&self, alloc: Global, id: u32, offset: u64) -> mp4_codec::Result<TrakBox>
         ensures { Answers (λ b. b) result
             (Ok (trak_for self.now.movie_timescale (finished_building id offset self.now))) }
@@ -307,7 +308,7 @@ impl TrackWriter {
     }
 }
 
-/// Adds the bytes of a chunk at the end of the buffer, and notes it behind the chunks of all tracks. An `Err` changes
+/// Adds the bytes of a chunk at the end of the buffer, and notes it after the chunks of all tracks. An `Err` changes
 /// nothing.
 fn append_chunk(
     buffer: &mut Vec<u8>,
@@ -327,8 +328,8 @@ fn append_chunk(
     Ok(())
 }
 
-/// Adds a sample to those that are pending of a track, whose index counts from 0, and writes these as a chunk where they
-/// are full now. An `Err` changes nothing.
+/// Adds a sample to those that are pending of a track, whose index counts from 0, and writes these as a chunk where
+/// they are full now. An `Err` changes nothing.
 #[tactic(auto, unfolding(crate::specs::Media::media_with))]
 pub fn add_sample(
     buffer: &mut Vec<u8>,

@@ -25,8 +25,8 @@ use mp4_leaf::DinfBox;
 use mp4_table::{Co64Box, CttsBox, StcoBox, StscBox, StssBox, StszBox, SttsBox};
 use std::alloc::Global;
 
-/// How many bytes each track has: the headers of trak, mdia, minf and stbl, of 8 bytes each, hdlr of 33, dinf of 36, and
-/// the first 16 of stsd.
+/// How many bytes each track has: the headers of trak, mdia, minf and stbl, of 8 bytes each, hdlr of 33, dinf of 36,
+/// and the first 16 of stsd.
 const ALWAYS_THERE: u64 = 117;
 
 /// What the box of a track is made from, borrowed.
@@ -153,7 +153,7 @@ fn sample_tables_size(samples: &[SampleInfo]) -> u64
     stts_size(samples) + ctts_size(samples) + stss_size(samples) + stsz_size(samples)
 }
 
-/// How many bytes the tables have that say where samples lie, with one more chunk behind those of the track. It requests
+/// How many bytes the tables have that say where samples lie, with one more chunk after those of the track. It requests
 /// no memory.
 #[tactic(auto, using(crate::proofs::Tracks::placed), unfolding(crate::specs::FinishedTrack::chunk_tables_length))]
 fn chunk_tables_size(track: &TrackParts, last: &Option<ChunkPlace>) -> u64
@@ -164,7 +164,7 @@ fn chunk_tables_size(track: &TrackParts, last: &Option<ChunkPlace>) -> u64
     stsc_size(track.chunks, last) + places_size(track.chunks, last)
 }
 
-/// How many bytes the box of a track has, its header included, with one more chunk behind those of the track. It
+/// How many bytes the box of a track has, its header included, with one more chunk after those of the track. It
 /// requests no memory.
 #[tactic(auto, using(crate::proofs::Tracks::lengths))]
 pub fn trak_size(track: &TrackParts, last: &Option<ChunkPlace>) -> u64

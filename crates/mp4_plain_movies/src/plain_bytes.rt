@@ -52,7 +52,7 @@ pub fn end_box(bytes: &mut Vec<u8>, start: usize) {
     put_over(bytes, start, size);
 }
 
-/// What stands before the entries of a table, of so many bytes each.
+/// What is before the entries of a table, of so many bytes each.
 fn put_head(bytes: &mut Vec<u8>, kind: &[u8], count: usize, each: u32) -> Result<(), AllocError> {
     let count = u32::try_from(count).unwrap_or(0);
     put(bytes, count.wrapping_mul(each).wrapping_add(16))?;

@@ -93,7 +93,7 @@ fn put_avc(
     Ok(())
 }
 
-/// An entry of video with this configuration behind its fields.
+/// An entry of video with this configuration after its fields.
 fn put_video(
     bytes: &mut Vec<u8>,
     kind: &[u8],

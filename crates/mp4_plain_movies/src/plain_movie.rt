@@ -14,7 +14,7 @@ pub struct PlainMovie<'a> {
     timescale: u32,
     /// The place of mdat.
     mdat: usize,
-    /// The bytes as they stand.
+    /// The bytes as they are.
     pub bytes: Vec<u8>,
     pub tracks: Vec<PlainTrack<'a>>,
     pub has_ended: bool,
@@ -145,7 +145,7 @@ fn put_movie(
 }
 
 impl<'a> PlainMovie<'a> {
-    /// A movie behind the bytes of a buffer.
+    /// A movie after the bytes of a buffer.
     pub fn begin(alloc: Global, buffer: &[u8], beginning: &Beginning) -> Result<Self, AllocError> {
         let mut bytes = buffer.to_vec(alloc)?;
         put_file_type(&mut bytes, beginning)?;

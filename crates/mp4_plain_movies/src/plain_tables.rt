@@ -82,7 +82,7 @@ fn written_tables(alloc: Global, tables: &Tables) -> Result<Vec<u8>, AllocError>
     Ok(bytes)
 }
 
-/// What these texts encode, and behind it a box of this type around a payload.
+/// What these texts encode, and after it a box of this type around a payload.
 fn with_box(
     alloc: Global,
     texts: &[&str],

@@ -18,7 +18,7 @@ pub struct PlainTrack<'a> {
     pub chunks: Vec<u32>,
     /// How many samples each chunk has.
     pub counts: Vec<u32>,
-    /// How many samples stand in chunks.
+    /// How many samples are in chunks.
     pub closed: usize,
 }
 
@@ -90,7 +90,7 @@ pub fn put_movie_header(
     Ok(())
 }
 
-/// What stands in the header of a track behind its duration.
+/// What is in the header of a track after its duration.
 fn put_picture(bytes: &mut Vec<u8>, pixels: (u32, u32)) -> Result<(), AllocError> {
     put_zeros(bytes, 12)?;
     bytes.extend_from_slice(b"\x01\0\0\0")?;

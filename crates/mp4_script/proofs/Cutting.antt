@@ -29,7 +29,7 @@ no_feed text none =
     sym (position_or_len_is is_feed text (length text) 0 (omega arith) (λ k l. never_true _ (none k (omega arith) l))
     (λ l. absurd (omega (arith, l))))
 
--- what stands before a line feed is a line, and what stands behind it are the others
+-- what is before a line feed is a line, and what is after it are the others
 pub cut_line : (text : List ℕ) (end : ℕ) → end ≡ position_or_len is_feed text → end < length text
     → lines_of text ≡ take end text ∷ lines_of (take (length text - (end + 1)) (drop (end + 1) text))
 unfolding lines_of

@@ -92,7 +92,7 @@ module _ (number : ℕ) (writer : WriterState) (call : Call) where
       by None memory = inl (ap (λ (x : Error). Refused number x) memory)
       by (Some why) is = inr (ap (λ (x : Cause). Err (refused number x)) is)
 
--- the calls of lines, and of others behind them
+-- the calls of lines, and of others after them
 pub calls_in-append : (lines others : List (List ℕ)) → calls_in (lines ++ others) ≡ calls_in lines ++ calls_in others
 unfolding calls_in
 calls_in-append [] others = refl
@@ -149,7 +149,7 @@ lines_have_called number ((b ∷ bs) ∷ lines) writer next e =
         made None is g = one_made call (calls_in lines) writer next is (rest (step writer call) g)
         made (Some why) is g = absurd cc
 
--- and an end behind them accepts nothing
+-- and an end after them accepts nothing
 accepts : (calls : List Call) (tracks : List AcceptedTrack)
     → accepted_after (calls ++ write_end ∷ []) (all_ok calls ++ Ok tt ∷ []) tracks ≡ fold accept tracks calls
 unfolding accepted_after

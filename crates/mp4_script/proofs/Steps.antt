@@ -115,7 +115,7 @@ module _ (script : List ℕ) (n : ℕ) (others : List (List ℕ)) (line : List �
         let is_that : fault ≡ e = cc in
         inr (stops (script_cause_of fault) at_fault ∙ ap (λ f. Err (script_cause_of f)) is_that)
 
--- behind the last line all lines were run
+-- after the last line all lines were run
 pub all_are_run : (script : List ℕ) (n : ℕ) (begun writer : WriterState) → drop n (lines_of script) ≡ []
     → run_from 1 (take n (lines_of script)) begun ≡ Ok writer → run_all script begun ≡ Ok writer
 all_are_run script n begun writer left ran =

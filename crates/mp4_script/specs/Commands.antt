@@ -18,13 +18,13 @@ abbrev pub ◌>>?◌ : {A B : Type 0} → Option A → (A → Option B) → Opti
 None >>? f = None
 (Some x) >>? f = f x
 
--- what stands before the first space, and what behind it
+-- what is before the first space, and what after it
 abbrev pub cut_at_space : List ℕ → Option (List ℕ × List ℕ)
 cut_at_space line =
     let end = position_or_len (λ byte. byte == 32) line in
     if nat_lt end (length line) then Some (take end line, drop (end + 1) line) else None
 
--- what stands behind a beginning
+-- what is after a beginning
 abbrev pub behind : List ℕ → List ℕ → Option (List ℕ)
 behind beginning line =
     if pointwise nat_eq (take (length beginning) line) beginning then Some (drop (length beginning) line) else None
@@ -33,7 +33,7 @@ behind beginning line =
 unfoldable pub decimal_in : List ℕ → Option ℕ
 decimal_in digits = if nat_lt 10 (length digits) then None else numeral digits
 
--- the same behind a minus, or without one: from -2^31 to 2^31 - 1
+-- the same after a minus, or without one: from -2^31 to 2^31 - 1
 abbrev pub offset_in : List ℕ → Option ℤ
 offset_in field = elim (behind (codes "-") field) [
   | Some digits ↦ decimal_in digits >>? λ n. if nat_lt (2 ^ 31) n then None else Some (neg_ℤ (pos n))
@@ -50,7 +50,7 @@ sync_in (digit ∷ other ∷ rest) = None
 abbrev pub text_config : ℕ → TrackConfig
 text_config timescale = record (track_config_of (Ttxt (record {}))) { timescale = timescale }
 
--- TRACK DURATION OFFSET SYNC TEXT, each behind one space; the text is all the rest
+-- TRACK DURATION OFFSET SYNC TEXT, each after one space; the text is all the rest
 unfoldable pub sample_in : List ℕ → Option Call
 sample_in fields =
     cut_at_space fields >>? λ track. cut_at_space track.1 >>? λ duration. cut_at_space duration.1 >>? λ offset.

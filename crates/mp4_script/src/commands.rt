@@ -48,7 +48,7 @@ pub(crate) enum Command<'a> {
     Sample(SampleLine<'a>),
 }
 
-/// The bytes before the first space, and those behind it.
+/// The bytes before the first space, and those after it.
 fn cut_at_space(line: &[u8]) -> Option<(&[u8], &[u8])>
     ensures { option_map (λ cut. (cut.0.now, cut.1.now)) result ≡ cut_at_space line.now }
 {
@@ -93,7 +93,7 @@ pub fn decimal_in(digits: &[u8]) -> Option<u32>
     Some(value as u32)
 }
 
-/// The number that such digits write, behind a minus or without one, where it has 32 bits with its sign.
+/// The number that such digits write, after a minus or without one, where it has 32 bits with its sign.
 fn offset_in(field: &[u8]) -> Option<i32>
     ensures { result ≡ offset_in field.now }
 {
@@ -114,8 +114,8 @@ fn sync_in(field: &[u8]) -> Option<bool>
     }
 }
 
-/// The sample that the fields of a line say: its track, its duration, its rendering offset, whether it is a sync sample,
-/// and behind one more space its bytes.
+/// The sample that the fields of a line say: its track, its duration, its rendering offset, whether it is a sync
+/// sample, and after one more space its bytes.
 #[tactic(auto, unfolding(crate::specs::Commands::sample_in))]
 fn sample_in(fields: &[u8]) -> Option<SampleLine<'_>>
     ensures { option_map sample_call result ≡ sample_in fields.now }

@@ -21,7 +21,7 @@ fn write_duration(text: &mut String, movie: &Movie) -> std::result::Result<(), A
     }
 }
 
-/// Writes a part of a line behind a space: what a track answers, or `-` where that is refused.
+/// Writes a part of a line after a space: what a track answers, or `-` where that is refused.
 fn write_part<T: std::fmt::Display + Drop>(
     text: &mut String,
     part: Result<T>,
@@ -32,7 +32,7 @@ fn write_part<T: std::fmt::Display + Drop>(
     }
 }
 
-/// Writes a language behind a space; bytes that don't print are shown as full stops.
+/// Writes a language after a space; bytes that don't print are shown as full stops.
 fn write_language(text: &mut String, language: &str) -> std::result::Result<(), AllocError> {
     text.push_str(" ")?;
     for byte in language.bytes() {

@@ -12,18 +12,18 @@ const LINE_FEED: u8 = b'\n';
 /// The lines of a text that are still to be read. Each ends with a line feed; the last one may lack it.
 #[derive(Drop)]
 pub(crate) struct Lines<'a> {
-    /// What stands behind the lines that were read; None behind the last one.
+    /// What is after the lines that were read; None after the last one.
     rest: Option<&'a [u8]>,
 }
 
-/// How many bytes stand before the first one that is this, or how many there are.
+/// How many bytes are before the first one that is this, or how many there are.
 pub(crate) fn length_before(text: &[u8], end: u8) -> usize
     ensures { result ≡ position_or_len (λ byte. byte == end) text.now }
 {
     text.iter().take_while(|byte| **byte != end).count()
 }
 
-/// How many bytes stand before the first line feed, or how many there are: as [`length_before`] answers, but found many
+/// How many bytes are before the first line feed, or how many there are: as [`length_before`] answers, but found many
 /// bytes at a time, since lines may be long. It is a call of its own, so that a loop over lines keeps its variables in
 /// registers.
 #[inline(never)]
@@ -36,7 +36,7 @@ fn length_by_memchr(text: &[u8]) -> usize
     }
 }
 
-/// How many bytes stand before the first line feed, or how many there are. Empty lines are many in some texts, and are
+/// How many bytes are before the first line feed, or how many there are. Empty lines are many in some texts, and are
 /// found by their one byte.
 fn line_length(text: &[u8]) -> usize
     ensures { result ≡ position_or_len (λ byte. byte == 10) text.now }
@@ -54,7 +54,7 @@ impl<'a> Lines<'a> {
         Lines { rest: Some(text) }
     }
 
-    /// The next line, without its line feed; None behind the last one.
+    /// The next line, without its line feed; None after the last one.
     pub fn next_line(&mut self) -> Option<&'a [u8]>
         ensures line { MatchOption result (lines_left self.old ≡ [])
             (λ line. lines_left self.old ≡ line.now ∷ lines_left self.new) }

@@ -9,7 +9,7 @@ use itoa::write_digits;
 use mp4_media::{ByteSource, Error, FileError, Movie, Place, Result, Samples, read_mp4};
 use std::alloc::{AllocError, Global};
 
-/// Room for the longest line: seven numbers of at most 20 digits, a minus, and a byte behind each number.
+/// Room for the longest line: seven numbers of at most 20 digits, a minus, and a byte after each number.
 const LINE: usize = 148;
 
 /// Where the next sample that can be read lies: None where there is none. `EndOfData` where it doesn't lie whole in the
@@ -25,7 +25,7 @@ fn next_place(samples: &mut Samples, len: u64) -> Result<Option<Place>> {
     Ok(Some(place))
 }
 
-/// Writes a number and this byte behind it, which end at `end`, and answers where they begin.
+/// Writes a number and this byte after it, which end at `end`, and answers where they begin.
 #[tactic(auto, using(crate::proofs::Digits::digits))]
 fn put_number(line: &mut [u8; LINE], end: usize, number: u64, behind: u8) -> usize
     requires room { 21 ≤ end }
@@ -38,7 +38,7 @@ fn put_number(line: &mut [u8; LINE], end: usize, number: u64, behind: u8) -> usi
     write_digits(number, line, end - 1)
 }
 
-/// Writes a number, behind a minus where it is below 0, and a space behind it, which end at `end`, and answers where
+/// Writes a number, after a minus where it is below 0, and a space after it, which end at `end`, and answers where
 /// they begin.
 fn put_offset(line: &mut [u8; LINE], end: usize, offset: i32) -> usize
     requires room { 22 ≤ end }
@@ -115,9 +115,9 @@ pub(crate) fn write_samples(text: &mut Vec<u8>, movie: &Movie, len: u64, id: u32
     Ok(())
 }
 
-/// A line for each sample of a track: its number, its place in the file, its bytes, when it is decoded, how long it lasts,
-/// how much later it is shown, in ticks of the track, and 1 for a sync sample or 0. A number without a sample is `none`,
-/// and one that can't be read says why; either ends the lines.
+/// A line for each sample of a track: its number, its place in the file, its bytes, when it is decoded, how long it
+/// lasts, how much later it is shown, in ticks of the track, and 1 for a sync sample or 0. A number without a sample is
+/// `none`, and one that can't be read says why; either ends the lines.
 ///
 /// Refused as the movie's opening and the count of samples are, and where memory runs out.
 pub fn samples_text(alloc: Global, file: &[u8], track_id: u32) -> Result<Vec<u8>> {

@@ -26,8 +26,8 @@ fn described(alloc: Global, file: &[u8]) -> Result<Vec<u8>> {
     Ok(text)
 }
 
-/// The lines that describe the movie that a script makes, without a file, and then those of the samples of each track, by
-/// rising id, behind a line with the id. A fault of opening it again is `End`.
+/// The lines that describe the movie that a script makes, without a file, and then those of the samples of each track,
+/// by rising id, after a line with the id. A fault of opening it again is `End`.
 pub fn show_text(alloc: Global, script: &[u8]) -> std::result::Result<Vec<u8>, ScriptFault> {
     let movie = run_script(alloc, script)?;
     described(alloc, movie.as_slice()).map_err(ScriptFault::End)

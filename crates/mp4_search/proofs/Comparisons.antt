@@ -15,7 +15,7 @@ pub these_left : (numbers : List ℕ) (key low high compared : ℕ)
 these_left numbers key low high compared =
     record { steps = high - low; enough = omega arith; left = omega arith }
 
--- one comparison more: what is left stands behind the number in the middle
+-- one comparison more: what is left is after the number in the middle
 pub behind : (numbers : List ℕ) (key low high middle compared all : ℕ)
     → AreLeft numbers key low high compared all → low < high
     → middle ≡ low + (high - low) / 2 → slice_index numbers middle ≤ key
@@ -36,7 +36,7 @@ behind numbers key low high middle compared all a h half at_most = rw half (step
       left = let e = rw (lt-ltb low high h, le-leb _ key small) at left in omega (arith, e);
     }
 
--- one comparison more: what is left stands before the number in the middle
+-- one comparison more: what is left is before the number in the middle
 pub before : (numbers : List ℕ) (key low high middle compared all : ℕ)
     → AreLeft numbers key low high compared all → low < high
     → middle ≡ low + (high - low) / 2 → key < slice_index numbers middle

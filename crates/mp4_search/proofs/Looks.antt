@@ -15,14 +15,14 @@ not_later numbers key i left h =
     (λ behind. rw (le-ltb i left.low behind, le-leb left.high i h) refl)
     (cases_lt i left.low)
 
--- what is left stands after i
+-- what is left is after i
 pub stays_after : (numbers : List ℕ) (key i : ℕ) (left same : Left) → same ≡ left → i < same.low
     → same ≡ after_look numbers key i left
 stays_after numbers key i left same e h =
     let k : i < left.low = rw e at h in
     e ∙ sym (not_earlier numbers key i left k)
 
--- what is left stands before i
+-- what is left is before i
 pub stays_before : (numbers : List ℕ) (key i : ℕ) (left same : Left) → same ≡ left → same.high ≤ i
     → same ≡ after_look numbers key i left
 stays_before numbers key i left same e h =

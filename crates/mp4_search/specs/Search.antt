@@ -9,7 +9,7 @@ pub record IsLastAtMost (numbers : List ℕ) (key i : ℕ) : Type 0 where
   pub small : slice_index numbers i ≤ key
   pub later : (j : ℕ) → i < j → j < length numbers → key < slice_index numbers j
 
--- What a search has found out while it goes on: the last that is at most the key, if there is one, stands before `high`
+-- What a search has found out while it goes on: the last that is at most the key, if there is one, is before `high`
 -- and not before `low - 1`, where the number is `last`; that is None where `low` is 0.
 pub record IsBetween (numbers : List ℕ) (key low high : ℕ) (last : Option ℕ) : Type 0 where
   pub ordered : low ≤ high
@@ -24,7 +24,7 @@ pub record IsFew (comparisons n : ℕ) : Type 0 where
   pub some : 0 < n → 1 ≤ comparisons
 
 -- How many numbers a search by halves compares with the key, of those from `low` up to but without `high`: the one in
--- their middle, and then those behind it, where it is at most the key, else those before it. The steps are as many as
+-- their middle, and then those after it, where it is at most the key, else those before it. The steps are as many as
 -- there are numbers, which is more than enough.
 unfoldable pub comparisons_between : ℕ → List ℕ → ℕ → ℕ → ℕ → ℕ
 comparisons_between zero numbers key low high = 0
@@ -53,7 +53,7 @@ left_of low high compared = record { low = low; high = high; compared = compared
 abbrev pub all_of : List ℕ → Left
 all_of numbers = left_of 0 (length numbers) 0
 
--- After a look at the number at i: what is left stands after it, where it is at most the key, else before it. A number
+-- After a look at the number at i: what is left is after it, where it is at most the key, else before it. A number
 -- that isn't among those that are left is not looked at.
 unfoldable pub after_look : List ℕ → ℕ → ℕ → Left → Left
 after_look numbers key i left =

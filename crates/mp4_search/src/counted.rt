@@ -55,8 +55,9 @@ impl Readings {
     }
 }
 
-/// Numbers that are searched: nothing that is found rests on a number that a search didn't read, and it reads them one
-/// at a time and counts each. The line by which a place is guessed is drawn from some of them beforehand, uncounted.
+/// Numbers that are searched: nothing that is found depends on a number that a search didn't read, and it reads them
+/// one at a time and counts each. The line by which a place is guessed is drawn from some of them beforehand,
+/// uncounted.
 #[derive(Debug, Drop)]
 pub struct SearchedNumbers {
     numbers: Items<u32>,
@@ -90,7 +91,7 @@ impl SearchedNumbers {
         self.numbers.len()
     }
 
-    /// The place behind the last number. Two places have a sum of 64 bits.
+    /// The place after the last number. Two places have a sum of 64 bits.
     pub(crate) fn end(&self) -> usize
         ensures value { result ≡ length self.now }
         ensures small { result < 2 ^ 63 }
@@ -134,8 +135,8 @@ impl SearchedNumbers {
     }
 }
 
-/// Running sums of sizes: for each, the sum of those before it. Only a difference of two of them is answered. They stop at
-/// 2^64 - 1, which the sum of fewer than 2^32 sizes of 32 bits never reaches.
+/// Running sums of sizes: for each, the sum of those before it. Only a difference of two of them is answered. They stop
+/// at 2^64 - 1, which the sum of fewer than 2^32 sizes of 32 bits never reaches.
 #[derive(Debug, Drop)]
 pub struct CappedSums {
     sums: Vec<u64>,

@@ -27,7 +27,7 @@ module _ (bytes part : List ℕ) (place : ℕ) (room : place + 8 ≤ length byte
     long : length part ≡ min (length bytes - place) 16
     long = ap length is ∙ length-take _ (drop place bytes) ∙ rw (length-drop place bytes) (omega arith)
 
-    -- what stands behind p bytes of the part
+    -- what is after p bytes of the part
     behind : (p m : ℕ) → p + m ≤ length part → take m (drop p part) ≡ take m (drop (place + p) bytes)
     behind p m fits =
         let n = min (length bytes - place) 16 in
@@ -139,7 +139,7 @@ after_within name size c x fits e = by (size == 1) e
     by true e = large (take_at 8 c) _ taken_within e
     by false e = short (head_with name 8 size) e
 
--- a header that was read stands whole within the bytes
+-- a header that was read is whole within the bytes
 pub header_within : (place : Cursor) (h : BoxHeader) (behind : Cursor) → header_at place ≡ Ok (h, behind)
     → behind.position ≤ length place.bytes
 unfolding head_at

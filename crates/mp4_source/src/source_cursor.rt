@@ -19,7 +19,7 @@ use std::alloc::Global;
 /// The most bytes of a header.
 const MOST_HEADER: u64 = 16;
 
-/// A source, how many bytes it has, and a position in it, which counts bytes from 0 and may lie behind them. What is
+/// A source, how many bytes it has, and a position in it, which counts bytes from 0 and may lie after them. What is
 /// read is borrowed from the source, or read into `room`.
 #[derive(Drop)]
 pub struct SourceCursor<S> {
@@ -76,14 +76,14 @@ impl<S: ByteSource + Drop> SourceCursor<S> {
         (source, len)
     }
 
-    /// Where the cursor stands.
+    /// Where the cursor is.
     pub fn position(&self) -> u64
         ensures { result ≡ self.now.position }
     {
         self.position
     }
 
-    /// Moves the cursor to any position, also behind the bytes.
+    /// Moves the cursor to any position, also after the bytes.
     pub fn set_position(&mut self, position: u64)
         ensures { self.new ≡ record self.old { position = position } }
     {
@@ -97,7 +97,7 @@ impl<S: ByteSource + Drop> SourceCursor<S> {
         self.position <= self.len && n <= self.len - self.position
     }
 
-    /// The header at the cursor, which then stands behind it, as [`BoxHeader::read`] answers of these bytes.
+    /// The header at the cursor, which is then after it, as [`BoxHeader::read`] answers of these bytes.
     ///
     /// `Io` where the source refuses to read it. A refusal leaves the cursor where it was.
     pub fn read_header(&mut self) -> Result<BoxHeader, FileError>
@@ -121,7 +121,7 @@ impl<S: ByteSource + Drop> SourceCursor<S> {
         Ok(header)
     }
 
-    /// The box of this size whose payload stands at the cursor, which then stands behind it, as [`ReadBox::read_box`]
+    /// The box of this size whose payload is at the cursor, which is then after it, as [`ReadBox::read_box`]
     /// answers of these bytes. Where they pass the end it is `EndOfData`, before memory is requested for them.
     ///
     /// `Io` where the source refuses to read them. A refusal leaves the cursor where it was.

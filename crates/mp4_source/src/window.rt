@@ -20,7 +20,7 @@ pub const BLOCK_SIZE: usize = 32768;
 /// where fewer bytes follow. So a walk over small headers asks its source once for each block, and once after
 /// each skip that is longer. A read that is longer than the block goes to the source itself.
 ///
-/// The source is asked once how many bytes it has, and never for bytes behind them: those that a file grows by
+/// The source is asked once how many bytes it has, and never for bytes after them: those that a file grows by
 /// later are not seen, and where it shrinks, what is gone is an error of the file. Contracts see a window as its
 /// source.
 #[derive(Debug, Drop)]

@@ -43,7 +43,7 @@ pub struct Refusing<'a> {
     pub bytes: &'a [u8],
     pub refused: u64,
     pub calls: u64,
-    /// The last place that was asked for, behind the bytes of a call.
+    /// The last place that was asked for, after the bytes of a call.
     pub furthest: u64,
 }
 

@@ -24,7 +24,7 @@ fault_behind : (first : StscEntry) (r : Result (List StscEntry) Cause)
 fault_behind first (Ok x) = refl
 fault_behind first (Err c) = refl
 
--- a run that can be numbered leaves the fault of the runs behind it
+-- a run that can be numbered leaves the fault of the runs after it
 one_more : (before : Option StscEntry) (e : StscEntry) (first_sample : ℕ)
     → first_sample_after before e.first_chunk ≡ Ok first_sample
     → (r : Result (List StscEntry × List ℕ) Cause)

@@ -42,7 +42,7 @@ module _ {A : Type 0} (same : A → A → Bool) (reflexive : (x : A) → same x 
   changes-nothing (suc n) v = ap (λ (b : Bool). cond b 0 1 + changes same v (replicate n v)) (reflexive v)
       ∙ omega (arith, changes-nothing n v)
 
-  -- so does a run behind them
+  -- so does a run after them
   changes-run_behind : (x : A) (xs : List A) (n : ℕ) (v : A)
       → changes same x (xs ++ replicate n v) ≤ changes same x xs + 1
   unfolding changes

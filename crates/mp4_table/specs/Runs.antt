@@ -16,7 +16,7 @@ durations runs = expand (λ r. r.sample_count) (λ r. r.sample_delta) runs
 abbrev pub rendering_offsets : List CttsEntry → List ℤ
 rendering_offsets runs = expand (λ r. r.sample_count) (λ r. r.sample_offset) runs
 
--- how many members differ from the one before them; before the first stands x
+-- how many members differ from the one before them; before the first is x
 unfoldable pub changes : {A : Type 0} → (A → A → Bool) → A → List A → ℕ
 changes same x [] = 0
 changes same x (y ∷ ys) = (if same x y then 0 else 1) + changes same y ys

@@ -63,7 +63,7 @@ first_sample_after (Some before) first_chunk =
     if nat_lt first_chunk before.first_chunk then Err invalid_data else
     sample_number (before.first_sample + (first_chunk - before.first_chunk) * before.samples_per_chunk)
 
--- the entries, each with its first sample, behind the entry before them
+-- the entries, each with its first sample, after the entry before them
 unfoldable pub numbered_after : Option StscEntry → List StscEntry → Result (List StscEntry) Cause
 numbered_after before [] = Ok []
 numbered_after before (e ∷ es) = do
@@ -71,7 +71,7 @@ numbered_after before (e ∷ es) = do
   others ← numbered_after (Some (with_first_sample first_sample e)) es
   Ok (with_first_sample first_sample e ∷ others)
 
--- why so many runs are refused behind the run before them: they pass the end, or one of them can't be numbered
+-- why so many runs are refused after the run before them: they pass the end, or one of them can't be numbered
 abbrev pub runs_fault : Option StscEntry → ℕ → List ℕ → Option Cause
 runs_fault before count bytes = fault_of (list_at stsc_entry_at count bytes >>= λ runs. numbered_after before runs.0)
 

@@ -59,7 +59,7 @@ stsc_entry_again e rest f =
       number_again 4 e.sample_description_index _ f.fits.sample_description_index,
     ) (ap (λ (n : ℕ). Ok (with_first_sample n e, rest)) (sym f.no_first_sample))
 
--- one entry behind another
+-- one entry after another
 abbrev Follows : StscEntry → StscEntry → Type 0
 Follows a b = (a.first_chunk ≤ b.first_chunk)
     × (b.first_sample ≡ a.first_sample + (b.first_chunk - a.first_chunk) * a.samples_per_chunk)
@@ -88,7 +88,7 @@ follows a b n e = chosen (ltb b.first_chunk a.first_chunk) (ltb-false b.first_ch
     chosen false h k =
         (h refl, sample_number-is (a.first_sample + (b.first_chunk - a.first_chunk) * a.samples_per_chunk) n k)
 
--- the entries behind the first step of numbering
+-- the entries after the first step of numbering
 abbrev numbered_from : StscEntry → List StscEntry → ℕ → Result (List StscEntry) Cause
 numbered_from e es n =
     numbered_after (Some (with_first_sample n e)) es >>= λ others. Ok (with_first_sample n e ∷ others)

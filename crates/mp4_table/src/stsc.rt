@@ -136,7 +136,7 @@ impl Entry for StscEntry {
     }
 }
 
-/// The number of the first sample of a run that begins at this chunk, behind the run before it.
+/// The number of the first sample of a run that begins at this chunk, after the run before it.
 #[tactic(auto, unfolding(crate::specs::Stsc::first_sample_after))]
 fn first_sample_after(before: Option<StscEntry>, first_chunk: u32) -> Result<u32>
     ensures { Gives (λ n. n) result (first_sample_after before first_chunk) }

@@ -123,7 +123,7 @@ fn are_found(numbers: &SearchedNumbers, keys: &[u32], counts: &mut Counts) -> bo
 }
 
 /// Numbers that rise evenly, but for those of a stretch in the middle: these are what the numbers so many
-/// places behind them would be, or before them.
+/// places after them would be, or before them.
 #[derive(Clone, Copy)]
 struct Stray {
     count: u32,
@@ -132,7 +132,7 @@ struct Stray {
     /// So many numbers stray.
     stretch: u32,
     places: u32,
-    /// Whether they are too large, so that each is expected behind its place.
+    /// Whether they are too large, so that each is expected after its place.
     is_ahead: bool,
 }
 
@@ -143,7 +143,7 @@ impl Stray {
         (self.count / 7).wrapping_mul(3)
     }
 
-    /// The index behind the last.
+    /// The index after the last.
     fn end(&self) -> u32 {
         self.start().wrapping_add(self.stretch)
     }
@@ -176,7 +176,7 @@ impl Stray {
         Ok(numbers)
     }
 
-    /// Keys in the stretch and beside it: each number there, and those right before and behind it.
+    /// Keys in the stretch and beside it: each number there, and those right before and after it.
     fn keys_near(&self, alloc: Global) -> Result<Vec<u32>> {
         let mut keys = Vec::new(alloc);
         for index in self.start().wrapping_sub(300)..self.end().wrapping_add(300) {
@@ -265,7 +265,7 @@ fn by_chance(alloc: Global, random: &mut Random, count: u32, steps: u32) -> Resu
     Ok(numbers)
 }
 
-/// So many keys up to behind the last of some numbers.
+/// So many keys up past the last of some numbers.
 fn keys_up_to(alloc: Global, random: &mut Random, numbers: &[u32], count: u32) -> Result<Vec<u32>> {
     let behind = numbers.last().copied().unwrap_or(0).wrapping_add(3);
     let mut keys = Vec::new(alloc);

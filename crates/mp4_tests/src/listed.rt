@@ -40,7 +40,7 @@ struct Ends {
     at_end: u32,
     /// Samples without bytes that begin where the file ends: they are listed.
     empty: u32,
-    /// Samples that begin before the end of the file and end behind it: they are not.
+    /// Samples that begin before the end of the file and end after it: they aren't read.
     across: u32,
     /// Samples with bytes that begin where the file ends: neither are they.
     behind: u32,
@@ -138,7 +138,7 @@ const LENGTHS: usize = 16;
 /// How many bytes of media data a file has at most.
 const DATA: usize = 1100;
 
-/// The length of a file at which a random one of the samples ends that end behind its boxes, less half of the
+/// The length of a file at which a random one of the samples ends that end after its boxes, less half of the
 /// lengths that are listed; and no less than the length of the boxes.
 fn first_length(random: &mut Random, places: &[SamplePlace], boxes: usize) -> usize {
     let mut first = boxes;

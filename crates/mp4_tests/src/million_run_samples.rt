@@ -43,7 +43,7 @@ fn put_run(bytes: &mut Vec<u8>) -> Result<usize, AllocError> {
     Ok(data_offset)
 }
 
-/// Puts the fragment of this run, whose samples lie eight bytes behind it.
+/// Puts the fragment of this run, whose samples lie eight bytes after it.
 fn put_fragment(bytes: &mut Vec<u8>) -> Result<(), AllocError> {
     let moof = begin_box(bytes, b"moof\0\0\0\x10mfhd\0\0\0\0\0\0\0\x01")?;
     let traf = begin_box(bytes, b"traf\0\0\0\x10tfhd\0\x02\0\0\0\0\0\x01")?;
@@ -136,7 +136,7 @@ fn is_borrowed(reader: &Mp4Reader, start: u64, k: u32) -> bool {
     lends(reader, 1, k, &Ok(Some(sample)))
 }
 
-/// Whether each sample is borrowed, and none behind the last.
+/// Whether each sample is borrowed, and none after the last.
 fn each_is_borrowed(reader: &Mp4Reader, start: u64) -> bool {
     let mut all = reader.sample_count(1) == Ok(SAMPLES);
     for k in 1..=SAMPLES {

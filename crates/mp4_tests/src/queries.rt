@@ -1,4 +1,4 @@
-//! How the tests ask an opened movie for its samples. Each dear call stands in one small function here.
+//! How the tests ask an opened movie for its samples. Each call that is slow to prove is in one small function here.
 
 use crate::walked_lookup::WalkedPlace;
 use mp4_codec::{Error, Result};

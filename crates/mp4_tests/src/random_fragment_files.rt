@@ -44,7 +44,7 @@ fn is_answered(
     locates(reader, track.id, k, &expected) && reads_there(bytes, reader, track.id, k)
 }
 
-/// Whether the track at an index has as many samples as the plain program says, and each number up to behind the last
+/// Whether the track at an index has as many samples as the plain program says, and each number up past the last
 /// is answered so.
 fn track_is_answered(
     bytes: &[u8],

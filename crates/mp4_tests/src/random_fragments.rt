@@ -293,7 +293,7 @@ fn put_fragment_and_data(
     put_data(&mut file.bytes, random)
 }
 
-/// A file of one to three tracks and up to four fragments, one of which may stand before the movie.
+/// A file of one to three tracks and up to four fragments, one of which may be before the movie.
 pub fn random_file(alloc: Global, random: &mut Random) -> Result<RandomFile, AllocError> {
     let mut file = RandomFile {
         bytes: (&EMPTY_MOVIE[..32]).to_vec(alloc)?,

@@ -99,7 +99,7 @@ fn agrees_at(alloc: Global, track: &Mp4Track, k: u32) -> bool {
         && both_are_same(alloc, stbl, &track.locate_by_guess(k), &answer)
 }
 
-/// Whether both lookups and the walk answer the same at each number up to behind the last.
+/// Whether both lookups and the walk answer the same at each number up past the last.
 fn agrees(alloc: Global, track: &Mp4Track, count: u32) -> bool {
     let mut all = true;
     for k in 0..=count.wrapping_add(3) {

@@ -57,7 +57,7 @@ fn sample_at<'a>(samples: &[Sample<'a>], k: u32, offset: u64) -> Result<Option<S
     }))
 }
 
-/// Whether each number of a track of these samples is read, from 0 to the one behind the last.
+/// Whether each number of a track of these samples is read, from 0 to the one after the last.
 fn samples_are_read(reader: &mut Mp4Reader, id: u32, samples: &[Sample]) -> bool {
     let count = u32::try_from(samples.len()).unwrap_or(0);
     let mut all = true;

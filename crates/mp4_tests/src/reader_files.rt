@@ -13,9 +13,9 @@ pub struct TextFile<'a> {
     pub mdhd: &'a str,
     /// The children of its sample table.
     pub tables: &'a [&'a str],
-    /// What stands in the movie behind the track.
+    /// What is in the movie after the track.
     pub more: &'a str,
-    /// The boxes behind the movie.
+    /// The boxes after the movie.
     pub behind: &'a [&'a str],
 }
 
@@ -29,7 +29,7 @@ const MOOF: &str = "0000004c 6d6f6f66 00000010 6d666864 00000000 00000001 \
     00000034 74726166 00000010 74666864 00020000 00000001 \
     0000001c 7472756e 00000201 00000002 00000054 00000003 00000004 ";
 
-/// The file of a track without samples and a fragment of it: 634 bytes, of which the movie stands at 32, the fragment
+/// The file of a track without samples and a fragment of it: 634 bytes, of which the movie is at 32, the fragment
 /// at 543 and its bytes at 619.
 pub const FRAGMENTED: TextFile<'static> = TextFile {
     before: &[FTYP],
@@ -45,7 +45,7 @@ pub const FRAGMENTED: TextFile<'static> = TextFile {
     behind: &[MOOF, "0000000f 6d646174 61626364656667 "],
 };
 
-/// What these texts encode, one behind the other.
+/// What these texts encode, one after the other.
 fn all_encoded(alloc: Global, texts: &[&str]) -> Result<Vec<u8>, AllocError> {
     let mut bytes = Vec::new(alloc);
     for text in texts {

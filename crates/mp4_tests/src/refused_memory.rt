@@ -306,7 +306,7 @@ fn long_run_again(rt: &HostRuntime) -> Result<String> {
     }
 }
 
-/// The fragmented file with these boxes behind its movie, which is made again after a refusal.
+/// The fragmented file with these boxes after its movie, which is made again after a refusal.
 fn with_boxes_again(rt: &HostRuntime, behind: &[&str]) -> Result<Vec<u8>> {
     file_again(
         rt,
@@ -317,7 +317,7 @@ fn with_boxes_again(rt: &HostRuntime, behind: &[&str]) -> Result<Vec<u8>> {
     )
 }
 
-/// Whether the 65th sample of this run is read, which begins behind the first that is kept; each call is made again
+/// Whether the 65th sample of this run is read, which begins after the first that is kept; each call is made again
 /// after a refusal.
 fn long_run_is_read(rt: &HostRuntime) -> Result<bool> {
     let fragment = long_run_again(rt)?;
@@ -492,7 +492,7 @@ fn has_ended(rt: &HostRuntime, writer: &mut Mp4Writer) -> bool {
     all
 }
 
-/// Whether three text samples are written as they are encoded, and calls behind the end leave them.
+/// Whether three text samples are written as they are encoded, and calls after the end leave them.
 fn text_movie_is_left(rt: &HostRuntime) -> Result<bool> {
     let mut writer = called_again(rt, &text_calls())?;
     let is_refused = has_ended(rt, &mut writer);

@@ -41,7 +41,7 @@ fn header_text(alloc: Global, file: &[u8]) -> Result<String> {
     Ok(format!(in alloc; "{brand}: {size} bytes, {milliseconds} ms")?)
 }
 
-/// The bytes of all samples of a track, one behind the other.
+/// The bytes of all samples of a track, one after the other.
 fn track_bytes(alloc: Global, file: &[u8], track_id: u32) -> Result<Vec<u8>> {
     let movie = read_mp4(alloc, file)?;
     let mut bytes = Vec::new(alloc);

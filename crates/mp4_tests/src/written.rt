@@ -37,7 +37,7 @@ fn make_all(alloc: Global, writer: &mut Mp4Writer, calls: &[Call]) {
     let _ = writer.write_end();
 }
 
-/// A writer of a movie behind the bytes of a buffer.
+/// A writer of a movie after the bytes of a buffer.
 pub fn begun(alloc: Global, buffer: &[u8], beginning: &Beginning) -> Result<Mp4Writer> {
     let buffer = buffer.to_vec(alloc)?;
     let config = config_of(alloc, beginning)?;
@@ -88,7 +88,7 @@ pub fn modelled(
     Ok(movie.bytes)
 }
 
-/// The place behind bytes that are looked for from a place on.
+/// The place after bytes that are looked for from a place on.
 fn end_of(bytes: &[u8], from: usize, piece: &[u8]) -> Option<usize> {
     for start in from..bytes.len() {
         let end = start.wrapping_add(piece.len());
@@ -99,7 +99,7 @@ fn end_of(bytes: &[u8], from: usize, piece: &[u8]) -> Option<usize> {
     None
 }
 
-/// Whether bytes have all that these texts encode, one behind the other, perhaps with others between
+/// Whether bytes have all that these texts encode, one after the other, perhaps with others between
 /// them.
 pub fn have_in_order(alloc: Global, bytes: &[u8], texts: &[&str]) -> Result<bool> {
     let mut from = 0usize;

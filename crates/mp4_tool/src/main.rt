@@ -9,7 +9,7 @@ use mp4_media::{Error, Result};
 use std::process::ExitCode;
 use std::{env, io};
 
-/// The arguments behind the program's name. Where one of them isn't UTF-8 the answer is an empty list, which is no
+/// The arguments after the program's name. Where one of them isn't UTF-8 the answer is an empty list, which is no
 /// command.
 fn arguments(rt: &HostRuntime) -> Result<Vec<String>> {
     match env::args(rt) {

@@ -97,8 +97,8 @@ fn samples<'a>(
     Ok(samples_text(alloc, bytes.as_slice(), track_id)?)
 }
 
-/// Makes the movie of a script and writes it to a file, which is made anew. Where the script is at fault, or memory runs
-/// out, the file isn't touched: `out` has room for the text before the file is written.
+/// Makes the movie of a script and writes it to a file, which is made anew. Where the script is at fault, or memory
+/// runs out, the file isn't touched: `out` has room for the text before the file is written.
 fn make<'a, R: Read>(
     rt: &impl Files,
     alloc: Global,
@@ -147,7 +147,7 @@ fn report_usage(err: &mut Vec<u8>) -> mp4_media::Result<u8> {
     Ok(WRONG_ARGUMENTS)
 }
 
-/// A whole run with these arguments behind the program's name. The answer is the status: 0, 1 after a fault, or 2
+/// A whole run with these arguments after the program's name. The answer is the status: 0, 1 after a fault, or 2
 /// where the arguments are no command. What a run prints is added to `out` and to `err`.
 ///
 /// Refused by `OutOfMemory` alone, where what is to be printed has no room.

@@ -53,7 +53,7 @@ fn is_next(samples: &mut Samples, located: &Result<Option<SamplePlace>>) -> bool
     }
 }
 
-/// Whether sample `k` of a track is given in order as it was located: as the first from its number on, and behind each
+/// Whether sample `k` of a track is given in order as it was located: as the first from its number on, and after each
 /// of the three before it, if that one is there.
 fn is_in_order(movie: &Mp4Reader, id: u32, k: u32, located: &Result<Option<SamplePlace>>) -> bool {
     let Some(track) = movie.tracks().get(&id) else {

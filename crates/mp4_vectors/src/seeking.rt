@@ -4,7 +4,7 @@ use mp4_media::{Error, FoundNumber, Mp4Reader, Mp4Track, Place, Result};
 use std::alloc::Global;
 use std::fmt::Write;
 
-/// How many samples behind the one that was found are looked at, at most.
+/// How many samples after the one that was found are looked at, at most.
 const MOST_LATER: u32 = 100;
 
 /// The track of an id.
@@ -29,7 +29,7 @@ impl Sought {
     }
 }
 
-/// Whether no sample behind a number, up to another one, has what is sought, as far as they are located.
+/// Whether no sample after a number, up to another one, has what is sought, as far as they are located.
 fn is_last(track: &Mp4Track, number: Option<u32>, end: u32, sought: Sought) -> bool {
     let passed = number.unwrap_or(0);
     let Some(next) = passed.checked_add(1) else {

@@ -105,7 +105,7 @@ fn asked(
     }
 }
 
-/// What a subject answers to a question; None where that is no question. `words` is what stands after the subject's
+/// What a subject answers to a question; None where that is no question. `words` is what is after the subject's
 /// word, and `bytes` is what they encode if they encode bytes.
 pub fn answer(
     alloc: Global,

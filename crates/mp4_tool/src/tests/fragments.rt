@@ -5,7 +5,8 @@ use std::alloc::Global;
 use std::fs;
 use std::test::Fail;
 
-/// File type and movie of a text track without samples, of whose fragments' samples it says that they last for 40 ticks.
+/// File type and movie of a text track without samples, of whose fragments' samples it says that they last for 40
+/// ticks.
 const MOVIE: [u8; 543] = *b"\
     \0\0\0 ftypisom\0\0\x02\0isomiso2avc1mp41\0\0\x01\xffmoov\0\0\0lmvhd\0\0\0\0\0\0\0\0\0\0\0\0\
     \0\0\x03\xe8\0\0\x05\xdc\0\x01\0\0\x01\0\0\0\0\0\0\0\0\0\0\0\0\x01\0\0\0\0\0\0\0\0\0\0\0\0\0\
@@ -20,13 +21,13 @@ const MOVIE: [u8; 543] = *b"\
     \0\0\0\0\0\0\0\0\x14stsz\0\0\0\0\0\0\0\0\0\0\0\0\0\0\0\x10stco\0\0\0\0\0\0\0\0\0\0\0(mvex\0\
     \0\0 trex\0\0\0\0\0\0\0\x01\0\0\0\x01\0\0\0(\0\0\0\0\0\0\0\0";
 
-/// A fragment of two samples, and the media data behind it.
+/// A fragment of two samples, and the media data after it.
 const TWO_SAMPLES: &[u8] = b"\0\0\0Lmoof\0\0\0\x10mfhd\0\0\0\0\0\0\0\x01\
     \0\0\x004traf\0\0\0\x10tfhd\0\x02\0\0\0\0\0\x01\
     \0\0\0\x1ctrun\0\0\x02\x01\0\0\0\x02\0\0\0T\0\0\0\x03\0\0\0\x04\
     \0\0\0\x0fmdatabcdefg";
 
-/// The movie with these boxes behind it.
+/// The movie with these boxes after it.
 fn with_fragment(alloc: Global, fragment: &[u8]) -> Result<Vec<u8>, Fail> {
     let mut file = MOVIE.to_vec(alloc)?;
     file.extend_from_slice(fragment)?;

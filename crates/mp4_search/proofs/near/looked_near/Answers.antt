@@ -3,7 +3,7 @@ use Rattle.mp4_search.specs.Search.{after_earlier_looks, after_later_looks, afte
 use Rattle.mp4_search.proofs.Looks.{stays_after, stays_before}
 use Rattle.mp4_search.proofs.near.looked_near.Goals as goal
 
--- what is left stands after the index, so no look goes before it
+-- what is left is after the index, so no look goes before it
 pub returns-then-at-all-clause-counted : goal.returns-then-at-all-clause-counted
 unfolding after_looks_near
 returns-then-at-all-clause-counted c =
@@ -26,7 +26,7 @@ returns-then-at-all-clause-some c =
     let seen = c.look-at.ensures.seen (omega arith) (omega arith) in
     omega (arith, seen, c.look_later.ensures.some)
 
--- what is left stands before the index, so no look goes after it
+-- what is left is before the index, so no look goes after it
 pub returns-else-at-all-clause-counted : goal.returns-else-at-all-clause-counted
 unfolding after_looks_near
 returns-else-at-all-clause-counted c =

@@ -9,7 +9,7 @@ before_one : (has : ℕ → Bool) (n i j : ℕ) (answer : Bool) → IsParted has
     → answer ≡ true → has i ≡ true
 before_one has n i j answer parted h k e one = parted.earlier i j h k (sym e ∙ one)
 
--- behind an index that lacks it none has it
+-- after an index that lacks it none has it
 after_lack : (has : ℕ → Bool) (n i j : ℕ) (answer : Bool) → IsParted has n → i ≤ j → j < n → answer ≡ has i
     → answer ≡ false → has j ≡ false
 after_lack has n i j answer parted h k e lacks =

@@ -31,7 +31,7 @@ returns-in_err-check_rows c =
     passes in
     rw (p.1, p.2, short) (record { value = inr refl; early = refl; nothing = λ e. refl })
 
--- behind the check all rows are there, so that memory may be requested
+-- after the check all rows are there, so that memory may be requested
 enough : (flags count : ℕ) (bytes : List ℕ) → count_cause count (row_length flags) bytes ≡ None
     → refused_at_once (columns_at flags count bytes) ≡ takes_memory
 enough flags count bytes e = let read = columns-enough flags count bytes e in rw read.1 refl
