@@ -262,8 +262,10 @@ impl Mp4Writer {
         ensures opens { OnOk result (Opens self.new) }
         ensures written { OnOk result (IsWrittenMovie self.new) }
     {
+        // For the proof alone, which learns what holds of the whole.
         let _ = &self.ended;
         self.end()?;
+        // For the proof alone, which learns what holds of the whole.
         let _ = &self.ended;
         Ok(())
     }

@@ -119,6 +119,7 @@ impl TrackWriter {
     fn sample_count(&self) -> u32
         ensures { result ≡ length self.now.samples }
     {
+        // For the proof alone, which learns what holds of the whole.
         let _ = &self.closed;
         self.samples.len() as u32
     }
@@ -286,6 +287,7 @@ impl TrackWriter {
         ensures { Answers (λ b. b) result
             (Ok (trak_for self.now.movie_timescale (finished_building id offset self.now))) }
     {
+        // For the proof alone, which learns what holds of the whole.
         let _ = &self.config;
         let chunks = self.all_chunks(alloc, offset)?;
         let track = TrackParts {
@@ -303,6 +305,7 @@ impl TrackWriter {
             (trak_payload (trak_for self.now.movie_timescale (finished_building id place self.now))) }
         ensures small { result < 2 ^ 41 }
     {
+        // For the proof alone, which learns what holds of the whole.
         let _ = &self.config;
         trak_size(&self.parts(id), &self.last_place(offset))
     }
