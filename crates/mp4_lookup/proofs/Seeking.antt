@@ -14,6 +14,7 @@ use Rattle.mp4_table.specs.Starts.{start_of}
 use Rattle.mp4_fragments.specs.ByTime.{decoded_by}
 use Rattle.mp4_search.specs.Partition.{AnswersLast, ArePartedAt, IsLastWith, IsParted}
 use Rattle.mp4_search.proofs.SumLaws.{sums_rise}
+use Rattle.mp4_lookup.proofs.Times.{start_is}
 use Rattle.mp4_lookup.specs.ByTime.{time_in}
 use Rattle.mp4_lookup.proofs.RunLaws.{length-expand, sum-take-expand, end_of_run}
 use Rattle.mp4_lookup.specs.Sums.{TimesBefore}
@@ -54,11 +55,6 @@ last_of_movie has first added count end (Some n) before behind none last = recor
 }
 
 -- when samples begin
-
-start_is : (xs : List ℕ) (k : ℕ) → 1 ≤ k → start_of xs k ≡ sum (take (k - 1) xs)
-unfolding start_of
-start_is xs zero h = absurd (omega arith)
-start_is xs (suc k) h = let e : suc k - 1 ≡ k = omega arith in rw e refl
 
 starts_rise : (xs : List ℕ) (j k : ℕ) → 1 ≤ j → j ≤ k → start_of xs j ≤ start_of xs k
 starts_rise xs j k some h =

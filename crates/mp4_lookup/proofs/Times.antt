@@ -13,7 +13,7 @@ use Rattle.mp4_codec.specs.Cause.{entry_in_stbl_not_found}
 use Rattle.mp4_lookup.specs.Rule.{time_at}
 use Rattle.mp4_lookup.proofs.RunLaws.{length-expand, get_or-expand, sum-expand, sum-take-expand, end_of_run}
 
-start_is : (xs : List ℕ) (k : ℕ) → 1 ≤ k → start_of xs k ≡ sum (take (k - 1) xs)
+pub start_is : (xs : List ℕ) (k : ℕ) → 1 ≤ k → start_of xs k ≡ sum (take (k - 1) xs)
 unfolding start_of
 start_is xs zero h = absurd (omega arith)
 start_is xs (suc k) h = let e : suc k - 1 ≡ k = omega arith in rw e refl
