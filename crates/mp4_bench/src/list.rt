@@ -1,5 +1,5 @@
-//! An inspector: the listing of all samples of tracks, whose tables are awkward: some change at each sample, one has chunks
-//! of one sample, and one has sync samples whose numbers don't rise.
+//! An inspector: the listing of all samples of tracks, whose tables are awkward: some change at each sample, one has
+//! chunks of one sample, and one has sync samples whose numbers don't rise.
 
 use crate::digest::Digest;
 use crate::files::{DATA, pattern, put_data, put_file_type, put_movie_header, put_track};

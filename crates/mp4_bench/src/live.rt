@@ -12,8 +12,8 @@ use std::alloc::Global;
 
 const TRACKS: u32 = 2;
 
-/// Files for each thousandth of the job that is done: fragments of some seconds, of one sample a track, and few fragments
-/// of many samples.
+/// Files for each thousandth of the job that is done: fragments of some seconds, of one sample a track, and few
+/// fragments of many samples.
 fn shapes(parts: u32) -> [Shape; 3] {
     [
         Shape {

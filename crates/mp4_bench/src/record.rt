@@ -130,8 +130,8 @@ fn remuxed(alloc: Global, file: &[u8], timescale: u32) -> Result<Vec<u8>> {
     Ok(writer.into_writer())
 }
 
-/// What is recorded: many small samples, some of which turn, few large ones, and tracks that are shorter than a second until
-/// their end.
+/// What is recorded: many small samples, some of which turn, few large ones, and tracks that are shorter than a second
+/// until their end.
 fn recordings(parts: u32) -> [Recording; 4] {
     [
         Recording {

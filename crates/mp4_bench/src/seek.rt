@@ -1,4 +1,5 @@
-//! A player or an editor: files of three tracks are opened; of some all samples are read in order, of the others at random.
+//! A player or an editor: files of three tracks are opened; of some all samples are read in order, of the others at
+//! random.
 
 use crate::digest::Digest;
 use crate::files::{DATA, pattern, put_data, put_file_type, put_movie_header, put_track};

@@ -1,5 +1,5 @@
-//! A remuxer: where all samples of tracks lie, in their order: by a walk, or each by its number. Or a player that goes to
-//! random times.
+//! A remuxer: where all samples of tracks lie, in their order: by a walk, or each by its number. Or a player that goes
+//! to random times.
 
 use crate::digest::Digest;
 use crate::files::{DATA, pattern};

@@ -1,6 +1,6 @@
-//! What programs that run cases share: the language of cases (bytes, changes of bytes, expected answers), and what boxes,
-//! their fields, headers, codes and configurations answer. What files, scripts and writers answer is in `mp4_vectors`, so
-//! this is proved beside the crates that open and write files.
+//! What programs that run cases share: the language of cases (bytes, changes of bytes, expected answers), and what
+//! boxes, their fields, headers, codes and configurations answer. What files, scripts and writers answer is in
+//! `mp4_vectors`, so this is proved beside the crates that open and write files.
 #![tactic(auto)]
 
 pub mod boxes;

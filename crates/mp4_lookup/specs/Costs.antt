@@ -1,12 +1,15 @@
 -- What a lookup counts, and how few numbers it compares and reads.
 use Rattle.std.specs.Prelude.{◌≡◌, ℕ, ◌+◌, ◌-◌, ◌<◌, ◌≤◌, false, List, length, IsTrue, if◌then◌else◌}
+use Rattle.std.specs.Prelude.{IfOk, IfSome, Option, Result}
 use Rattle.std.specs.List.Sorted.{IsStrictlyIncreasing}
+use Rattle.mp4_codec.specs.declared.error.Error.{Error}
 use Rattle.mp4_boxes.specs.declared.stbl.StblBox.{StblBox}
 use Rattle.mp4_fragments.specs.declared.index.RunIndex.{RunIndex}
 use Rattle.mp4_fragments.specs.RunSamples.{PlacedRun}
 use Rattle.mp4_lookup.specs.declared.counters.Counters.{Counters}
 use Rattle.mp4_lookup.specs.declared.index.TrackIndex.{TrackIndex}
 use Rattle.mp4_samples.specs.declared.sample.Comparisons.{Comparisons}
+use Rattle.mp4_samples.specs.declared.sample.SamplePlace.{SamplePlace}
 use Rattle.mp4_lookup.specs.declared.track.Mp4Track.{Mp4Track}
 use Rattle.mp4_samples.specs.Tables.{ctts_runs, sync_numbers, tables_of}
 use Rattle.mp4_lookup.specs.Tracks.{is_of_movie}
@@ -14,6 +17,10 @@ use Rattle.mp4_search.specs.Digits.{digits}
 use Rattle.mp4_search.specs.BitSet.{looks_at_bit}
 use Rattle.mp4_search.specs.Search.{IsCountByGuess, IsFew, IsFewByGuess, comparisons_in}
 use Rattle.mp4_search.specs.declared.bit_set.BitSet.{BitSet}
+
+-- what holds of the place that was found, if one was
+abbrev pub IfPlace : Result (Option SamplePlace) Error → (SamplePlace → Type 0) → Type 0
+IfPlace result P = IfOk result (λ p. IfSome p P)
 
 -- nothing is read yet
 pub record AreFresh (c : Counters) : Type 0 where

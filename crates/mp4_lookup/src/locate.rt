@@ -2,14 +2,14 @@
 //! (ISO/IEC 14496-12, 8.6, 8.7 and 8.8).
 
 ghost use Rattle.std.specs.Prelude.{◌≡◌, ◌-◌, ◌^◌, ◌<◌, false, Some, length, min, option_map, slice_get};
-ghost use Rattle.std.specs.Prelude.{IfOk, IfSome, IsTrue};
+ghost use Rattle.std.specs.Prelude.{IsTrue};
 ghost use Rattle.mp4_codec.specs.Cause.{Gives};
 ghost use Rattle.mp4_fragments.specs.RunSamples.{all_run_samples};
 ghost use Rattle.mp4_samples.specs.Places.{place_of};
 ghost use Rattle.mp4_samples.specs.Plain.{Consistent, plain_at};
 ghost use Rattle.mp4_lookup.specs.Costs.{AreFew, AreFewForRunSample, AreFewSizeReads, comparisons_of};
 ghost use Rattle.mp4_lookup.specs.Costs.{AreFewByGuess, AreFewForRunSampleByGuess, AreTrackCountsByGuess};
-ghost use Rattle.mp4_lookup.specs.Costs.{AreFresh, AreRunSampleCounts, AreTrackCounts, comparisons_counted};
+ghost use Rattle.mp4_lookup.specs.Costs.{AreFresh, AreRunSampleCounts, AreTrackCounts, IfPlace, comparisons_counted};
 ghost use Rattle.mp4_samples.specs.Tables.{tables_of};
 ghost use Rattle.mp4_lookup.specs.Tracks.{is_of_movie, run_sample_place, answer_at};
 ghost use Rattle.mp4_lookup.specs.TrackRuns.{track_runs};
@@ -59,14 +59,13 @@ impl Mp4Track {
             (answer_at self.now.trak self.now.trafs (track_runs self.now) k) }
         ensures plain { IsTrue (is_of_movie self.now.trak self.now.trafs k) → Consistent (tables_of self.now.trak)
             → Gives (λ p. option_map place_of p) result (plain_at (tables_of self.now.trak) k) }
-        ensures counted { IfOk result (λ p. IfSome p (λ p. p.comparisons ≡ comparisons_of self.now k)) }
+        ensures counted { IfPlace result (λ p. p.comparisons ≡ comparisons_of self.now k) }
         ensures comparisons { IsTrue (is_of_movie self.now.trak self.now.trafs k)
-            → IfOk result (λ p. IfSome p (λ p. AreFew (tables_of self.now.trak) p.comparisons)) }
+            → IfPlace result (λ p. AreFew (tables_of self.now.trak) p.comparisons) }
         ensures size_reads { IsTrue (is_of_movie self.now.trak self.now.trafs k)
-            → IfOk result (λ p. IfSome p (λ p. AreFewSizeReads (tables_of self.now.trak) p.size_reads)) }
+            → IfPlace result (λ p. AreFewSizeReads (tables_of self.now.trak) p.size_reads) }
         ensures added { is_of_movie self.now.trak self.now.trafs k ≡ false
-            → IfOk result (λ p. IfSome p
-            (λ p. AreFewForRunSample (track_runs self.now) p.comparisons × (p.size_reads ≡ 0))) }
+            → IfPlace result (λ p. AreFewForRunSample (track_runs self.now) p.comparisons × (p.size_reads ≡ 0)) }
     {
         self.answer::<ByHalves>(k)
     }
@@ -86,14 +85,13 @@ impl Mp4Track {
             (answer_at self.now.trak self.now.trafs (track_runs self.now) k) }
         ensures plain { IsTrue (is_of_movie self.now.trak self.now.trafs k) → Consistent (tables_of self.now.trak)
             → Gives (λ p. option_map place_of p) result (plain_at (tables_of self.now.trak) k) }
-        ensures counted { IfOk result (λ p. IfSome p (λ p. AreTrackCountsByGuess self.now k p.comparisons)) }
+        ensures counted { IfPlace result (λ p. AreTrackCountsByGuess self.now k p.comparisons) }
         ensures comparisons { IsTrue (is_of_movie self.now.trak self.now.trafs k)
-            → IfOk result (λ p. IfSome p (λ p. AreFewByGuess (tables_of self.now.trak) p.comparisons)) }
+            → IfPlace result (λ p. AreFewByGuess (tables_of self.now.trak) p.comparisons) }
         ensures size_reads { IsTrue (is_of_movie self.now.trak self.now.trafs k)
-            → IfOk result (λ p. IfSome p (λ p. AreFewSizeReads (tables_of self.now.trak) p.size_reads)) }
+            → IfPlace result (λ p. AreFewSizeReads (tables_of self.now.trak) p.size_reads) }
         ensures added { is_of_movie self.now.trak self.now.trafs k ≡ false
-            → IfOk result (λ p. IfSome p
-            (λ p. AreFewForRunSampleByGuess (track_runs self.now) p.comparisons × (p.size_reads ≡ 0))) }
+            → IfPlace result (λ p. AreFewForRunSampleByGuess (track_runs self.now) p.comparisons × (p.size_reads ≡ 0)) }
     {
         self.answer::<ByGuess>(k)
     }
@@ -104,11 +102,11 @@ impl Mp4Track {
     fn answer<S: Search>(&self, k: u32) -> Result<Option<SamplePlace>>
         ensures rule { Gives (λ p. option_map place_of p) result
             (answer_at self.now.trak self.now.trafs (track_runs self.now) k) }
-        ensures counted { IfOk result (λ p. IfSome p (λ p. AreTrackCounts S.Counts S.looks self.now k p.comparisons)) }
+        ensures counted { IfPlace result (λ p. AreTrackCounts S.Counts S.looks self.now k p.comparisons) }
         ensures size_reads { IsTrue (is_of_movie self.now.trak self.now.trafs k)
-            → IfOk result (λ p. IfSome p (λ p. AreFewSizeReads (tables_of self.now.trak) p.size_reads)) }
+            → IfPlace result (λ p. AreFewSizeReads (tables_of self.now.trak) p.size_reads) }
         ensures added { is_of_movie self.now.trak self.now.trafs k ≡ false
-            → IfOk result (λ p. IfSome p (λ p. (0 < length (track_runs self.now)) × (p.size_reads ≡ 0))) }
+            → IfPlace result (λ p. (0 < length (track_runs self.now)) × (p.size_reads ≡ 0)) }
     {
         let mut counters = Counters::of(self);
         let stbl = &self.trak.mdia.minf.stbl;
@@ -139,10 +137,9 @@ impl Mp4Track {
         requires fresh { AreFresh counters.old }
         ensures rule { Gives (λ p. option_map place_of p) result
             (run_sample_place (slice_get (all_run_samples (track_runs self.now)) number)) }
-        ensures counted { IfOk result
-            (λ p. IfSome p (λ p. AreRunSampleCounts S.Counts self.now.runs number p.comparisons)) }
-        ensures some_runs { IfOk result (λ p. IfSome p (λ p. 0 < length (track_runs self.now))) }
-        ensures size_reads { IfOk result (λ p. IfSome p (λ p. p.size_reads ≡ 0)) }
+        ensures counted { IfPlace result (λ p. AreRunSampleCounts S.Counts self.now.runs number p.comparisons) }
+        ensures some_runs { IfPlace result (λ p. 0 < length (track_runs self.now)) }
+        ensures size_reads { IfPlace result (λ p. p.size_reads ≡ 0) }
     {
         let trafs = self.trafs.as_slice();
         let Some(run_sample) = self

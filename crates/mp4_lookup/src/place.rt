@@ -1,11 +1,11 @@
 //! The lookup of a sample by its number, in the tables of a track.
 
-ghost use Rattle.std.specs.Prelude.{◌≡◌, option_map, IfOk, IfSome};
+ghost use Rattle.std.specs.Prelude.{◌≡◌, option_map};
 ghost use Rattle.mp4_codec.specs.Cause.{Gives};
 ghost use Rattle.mp4_table.specs.Stsc.{HasFirstSamples};
 ghost use Rattle.mp4_samples.specs.Places.{place_of};
 ghost use Rattle.mp4_lookup.specs.Index.{IsIndexOf};
-ghost use Rattle.mp4_lookup.specs.Costs.{AreCounts, AreFewSizeReads, AreFresh};
+ghost use Rattle.mp4_lookup.specs.Costs.{AreCounts, AreFewSizeReads, AreFresh, IfPlace};
 ghost use Rattle.mp4_lookup.specs.Rule.{rule};
 
 use crate::counters::Counters;
@@ -32,8 +32,8 @@ pub fn place_at<S: Search>(
     requires index { IsIndexOf stbl.now index.now }
     requires fresh { AreFresh counters.old }
     ensures rule { Gives (λ p. option_map place_of p) result (rule stbl.now track_id k) }
-    ensures counted { IfOk result (λ p. IfSome p (λ p. AreCounts S.Counts S.looks index.now k p.comparisons)) }
-    ensures size_reads { IfOk result (λ p. IfSome p (λ p. AreFewSizeReads stbl.now p.size_reads)) }
+    ensures counted { IfPlace result (λ p. AreCounts S.Counts S.looks index.now k p.comparisons) }
+    ensures size_reads { IfPlace result (λ p. AreFewSizeReads stbl.now p.size_reads) }
 {
     let Some(located) = located_at::<S>(stbl, index, k, &mut counters.stsc, &mut counters.sizes)?
     else {

@@ -108,9 +108,9 @@ fn duration_in_fragments(trafs: &Items<TrafBox>, defaults: SampleDefaults) -> u3
 }
 
 impl Mp4Track {
-    /// Makes the indexes of a track, once, so that its samples are found fast: one of its tables, and one of the runs of
-    /// its fragments, whose places count from these bases, one for each. `defaults` is what the movie says of the samples
-    /// of its fragments. Every box that was read has the first samples that are asked for.
+    /// Makes the indexes of a track, once, so that its samples are found fast: one of its tables, and one of the runs
+    /// of its fragments, whose places count from these bases, one for each. `defaults` is what the movie says of the
+    /// samples of its fragments. Every box that was read has the first samples that are asked for.
     pub fn new(
         alloc: Global,
         trak: TrakBox,

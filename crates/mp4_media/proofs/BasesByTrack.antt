@@ -69,7 +69,8 @@ end_elsewhere defaults moof a b f fs elsewhere =
     by_flag true e = refl
     by_flag false e = absurd cc
 
-    by : (own : Option ℕ) (flags : ℕ) → counts_from own flags ≡ false → base_or own flags moof a ≡ base_or own flags moof b
+    by : (own : Option ℕ) (flags : ℕ) → counts_from own flags ≡ false
+        → base_or own flags moof a ≡ base_or own flags moof b
     by (Some base) flags e = refl
     by None flags e = by_flag (is_set flags 0x20000) e
 

@@ -63,9 +63,9 @@ unfoldable pub file_samples_in : {S : Type 0} → ℕ → HashMap ℕ Mp4Track S
     → Result (List (Result Place Cause)) Cause
 file_samples_in len tracks id = needed_track tracks id >>= λ t. Ok (places_within len (answers_from (2 ^ 32 - 1) t 1))
 
--- What a file gives next, of which these are the places of the samples that were left, and those that are left then. Its
--- bytes may be known. A sample that is read is that at the first place. Nothing is left after an error, which is that of
--- the first place, or memory ran out; or the source refused, which can.
+-- What a file gives next, of which these are the places of the samples that were left, and those that are left then.
+-- Its bytes may be known. A sample that is read is that at the first place. Nothing is left after an error, which is
+-- that of the first place, or memory ran out; or the source refused, which can.
 abbrev pub GivesNext : Option (List ℕ) → Bool → List (Result Place Cause) → Option (Result Mp4Sample FileError)
     → List (Result Place Cause) → Type 0
 GivesNext known can_refuse old None new = (old ≡ []) × (new ≡ [])

@@ -125,7 +125,8 @@ impl<S: ByteSource + Drop> Mp4File<S> {
     ) -> std::result::Result<Option<SamplePlace>, FileError>
         ensures place { IfOk result (λ p. placed_in self.old.source.len self.old.movie.tracks track_id k
             ≡ Ok (option_map place_of p)) }
-        ensures answer { IfSome (S.contents self.old.source.inner) (λ bytes. AnswersRead (S.can_refuse self.old.source.inner)
+        ensures answer { IfSome (S.contents self.old.source.inner)
+            (λ bytes. AnswersRead (S.can_refuse self.old.source.inner)
             (λ p. option_map (sample_there buffer.new.items) p) result
             (sample_in bytes self.old.movie.tracks track_id k)) }
         ensures plain { (t : Mp4Track) → at_id self.old.movie.tracks track_id ≡ Some t
@@ -145,7 +146,8 @@ impl<S: ByteSource + Drop> Mp4File<S> {
         Ok(Some(place))
     }
 
-    /// The samples of the track with this id, in their order, with their bytes, each of which is read when it is asked for.
+    /// The samples of the track with this id, in their order, with their bytes, each of which is read when it is asked
+    /// for.
     ///
     /// `TrakNotFound` of an id that no track has. A sample is refused as by [`Mp4File::read_sample_into`], and none
     /// comes after it.
@@ -175,7 +177,8 @@ impl<S: ByteSource + Drop> Mp4File<S> {
         track_id: u32,
         k: u32,
     ) -> std::result::Result<Option<Mp4Sample>, FileError>
-        ensures answer { IfSome (S.contents self.old.source.inner) (λ bytes. AnswersRead (S.can_refuse self.old.source.inner)
+        ensures answer { IfSome (S.contents self.old.source.inner)
+            (λ bytes. AnswersRead (S.can_refuse self.old.source.inner)
             (λ s. option_map timed_sample s) result (sample_in bytes self.old.movie.tracks track_id k)) }
         ensures plain { (t : Mp4Track) → at_id self.old.movie.tracks track_id ≡ Some t
             → IsTrue (is_of_movie t.trak t.trafs k) → Consistent (tables_of t.trak)

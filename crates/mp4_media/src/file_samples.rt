@@ -16,8 +16,8 @@ use mp4_samples::{Mp4Sample, Place};
 use mp4_source::{ByteSource, FileError};
 use std::alloc::Global;
 
-/// The samples of a track of a file, in their order: each is read where it lies when it is asked for, and no other byte.
-/// They end after the first that is refused.
+/// The samples of a track of a file, in their order: each is read where it lies when it is asked for, and no other
+/// byte. They end after the first that is refused.
 #[derive(Drop)]
 pub struct FileSamples<'f, S: ByteSource> {
     pub(crate) source: &'f mut MeasuredSource<S>,
@@ -32,7 +32,8 @@ impl<'f, S: ByteSource> FileSamples<'f, S> {
     fn next_place(&mut self) -> Result<Option<Place>>
         ensures first { Gives (λ p. p) result
             (first_of (places_within self.old.source.now.len (samples_left self.old.samples))) }
-        ensures others { IfOk result (λ p. IfSome p (λ p. places_within self.new.source.now.len (samples_left self.new.samples)
+        ensures others { IfOk result
+            (λ p. IfSome p (λ p. places_within self.new.source.now.len (samples_left self.new.samples)
             ≡ after_first (places_within self.old.source.now.len (samples_left self.old.samples)))) }
         ensures source { self.new.source ≡ self.old.source }
         ensures ended { self.new.has_ended ≡ self.old.has_ended }
@@ -50,9 +51,9 @@ impl<'f, S: ByteSource> FileSamples<'f, S> {
         }
     }
 
-    /// The next sample, its bytes read into the buffer, over what it held. The buffer grows where it has no room for them,
-    /// and holds any bytes where none is read. The answer is where the sample lies, and when it is decoded and shown, in
-    /// ticks of the track's timescale; None after the last.
+    /// The next sample, its bytes read into the buffer, over what it held. The buffer grows where it has no room for
+    /// them, and holds any bytes where none is read. The answer is where the sample lies, and when it is decoded and
+    /// shown, in ticks of the track's timescale; None after the last.
     ///
     /// Refused as [`crate::Mp4File::read_sample_into`]; after a refusal there is none.
     pub fn next_into(

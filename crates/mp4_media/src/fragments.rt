@@ -109,8 +109,8 @@ fn add_base(
     Ok(())
 }
 
-/// Where the data of a track fragment ends, if the next one of its movie fragment counts from there; else nothing, since
-/// the sizes of all its samples would be added up for it.
+/// Where the data of a track fragment ends, if the next one of its movie fragment counts from there; else nothing,
+/// since the sizes of all its samples would be added up for it.
 fn end_for_next(
     next: &[TrafBox],
     traf: &TrafBox,

@@ -121,8 +121,8 @@ impl TrackConfig {
     }
 
     /// Whether a track can be added with it: `ZeroTimescale`, then `Unrepresentable` for a language of other than three
-    /// characters of U+0060 to U+007F, and then for media of which no entry can be written, as `MediaConfig::check` says.
-    /// It requests no memory.
+    /// characters of U+0060 to U+007F, and then for media of which no entry can be written, as `MediaConfig::check`
+    /// says. It requests no memory.
     #[tactic(auto, unfolding(crate::specs::Config::config_cause))]
     pub fn check(&self) -> Result<()>
         ensures { Checks result (config_cause self.now) }

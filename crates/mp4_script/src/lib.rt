@@ -1,5 +1,5 @@
-//! Scripts, whose lines say what a movie is made of, and the texts that describe files: what the program `mp4_tool` reads and
-//! prints.
+//! Scripts, whose lines say what a movie is made of, and the texts that describe files: what the program `mp4_tool`
+//! reads and prints.
 #![tactic(auto)]
 
 mod commands;

@@ -124,9 +124,9 @@ fn run_lines(alloc: Global, writer: &mut Mp4Writer, script: &[u8]) -> Result<(),
 /// Lines end with a line feed, the last one may lack it, and empty lines are skipped; fields are parted by one space.
 /// `track text TIMESCALE` adds a track of text with so many ticks in a second, the first of id 1.
 /// `sample TRACK DURATION OFFSET SYNC TEXT` writes a sample of a track: its duration and its rendering offset in ticks,
-/// 1 for a sync sample or 0, and its bytes, which are all the rest of the line. Numbers have one to ten decimal digits and
-/// 32 bits; an offset may have a minus. The movie is of brand isom, version 512, compatible with isom, iso2, avc1 and mp41,
-/// and has 1000 ticks in a second.
+/// 1 for a sync sample or 0, and its bytes, which are all the rest of the line. Numbers have one to ten decimal digits
+/// and 32 bits; an offset may have a minus. The movie is of brand isom, version 512, compatible with isom, iso2, avc1
+/// and mp41, and has 1000 ticks in a second.
 ///
 /// The first line at fault is the answer: `NotACommand` where it is no command, `Refused` where its call is refused,
 /// also when memory ran out; `End` where the movie isn't begun or isn't ended.

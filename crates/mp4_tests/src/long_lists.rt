@@ -1,5 +1,5 @@
-//! Long lists of calls, refused ones among them, by the one call that makes them all, opens what was written and looks for
-//! a sample in another file: replies, bytes and samples are those of the plain model.
+//! Long lists of calls, refused ones among them, by the one call that makes them all, opens what was written and looks
+//! for a sample in another file: replies, bytes and samples are those of the plain model.
 
 use crate::asserts::check;
 use crate::random_movies::{Habits, random_bytes, random_call};
