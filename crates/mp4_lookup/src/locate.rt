@@ -96,7 +96,7 @@ impl Mp4Track {
         self.answer::<ByGuess>(k)
     }
 
-    /// The answer at a number, by a way of searching.
+    /// The answer at a number, by a way of searching; the two calls above are this one, each with its own bounds.
     #[inline(always)]
     #[tactic(auto, unfolding(crate::specs::Tracks::answer_at))]
     fn answer<S: Search>(&self, k: u32) -> Result<Option<SamplePlace>>

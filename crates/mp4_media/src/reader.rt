@@ -91,7 +91,8 @@ fn open_bytes(alloc: Global, bytes: &[u8], start: u64, size: u64) -> Result<Movi
     }
 }
 
-/// Opens a file: the answer is that of the walk over its boxes, and then of the ids of its tracks.
+/// Opens a file, for `read_header`: the answer is that of the walk over its boxes, and then of the ids of its tracks.
+/// What the grammar of files says of it follows there.
 fn open<'a>(alloc: Global, reader: ByteCursor<'a>, size: u64) -> Result<Mp4Reader<'a>>
     ensures answer { Answers opened_file result (opened_at size reader.entry) }
     ensures bytes { IfOk result (λ r. r.bytes.now ≡ reader.entry.bytes) }
@@ -177,7 +178,7 @@ impl<'a> Mp4Reader<'a> {
         self.borrowed(track_id, k)
     }
 
-    /// The answer of `read_sample_ref`.
+    /// The answer of `read_sample_ref`, whose clause `plain` follows from this one.
     #[tactic(auto, unfolding(crate::specs::Reading::sample_in, crate::specs::Reading::located_in, mp4_lookup::specs::Tracks::sample_at))]
     fn borrowed(&self, track_id: u32, k: u32) -> Result<Option<SampleRef<'a>>>
         ensures rule { Gives (λ s. option_map borrowed_sample s) result
