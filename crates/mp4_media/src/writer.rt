@@ -231,8 +231,8 @@ impl Mp4Writer {
         )
     }
 
-    /// Ends the movie, for `write_end`, whose other clauses follow from these: so they are proved where the function has
-    /// one end.
+    /// Ends the movie, for `write_end`, whose other clauses follow from these: so they are proved where the function
+    /// has one end.
     fn end(&mut self) -> Result<()>
         ensures cause { AnswersCause (end_cause self.old) result }
         ensures ok { OnOk result (self.new ≡ with_end self.old) }
