@@ -81,15 +81,30 @@ fn chunk_tables(
     Ok((stsc, stco, co64))
 }
 
+/// Both, or the first refusal. It is proved once, for any types: a function that owns tables at an end is slow to prove,
+/// since each of them is taken apart there.
+fn both<A: Drop, B: Drop>(first: Result<A>, second: Result<B>) -> Result<(A, B)>
+    ensures { (a : A) (b : B) → Answers (λ x. x) first (Ok a) → Answers (λ x. x) second (Ok b)
+        → Answers (λ x. x) result (Ok (a, b)) }
+{
+    let first = first?;
+    let second = second?;
+    Ok((first, second))
+}
+
 /// The table of its samples (8.5.1). Refused by `OutOfMemory` alone.
 fn stbl_box(alloc: Global, track: &TrackParts) -> Result<StblBox>
     requires { HaveRoom track.now.samples.now track.now.chunks.now }
     ensures { Answers (λ b. b) result (Ok (stbl_for (finished track.now))) }
 {
-    let (stts, ctts) = time_tables(alloc, track.samples)?;
-    let (stss, stsz) = sample_tables(alloc, track.samples)?;
-    let (stsc, stco, co64) = chunk_tables(alloc, track)?;
-    let stsd = stsd_box(alloc, &track.config.media_conf, track.samples)?;
+    let times = time_tables(alloc, track.samples);
+    let sizes = sample_tables(alloc, track.samples);
+    let chunks = chunk_tables(alloc, track);
+    let stsd = stsd_box(alloc, &track.config.media_conf, track.samples);
+    let (((stts, ctts), (stss, stsz)), ((stsc, stco, co64), stsd)) = both(
+        both(times, sizes),
+        both(chunks, stsd),
+    )?;
     Ok(StblBox {
         stsd,
         stts,
