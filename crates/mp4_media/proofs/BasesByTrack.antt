@@ -2,7 +2,7 @@
 use Rattle.std.proofs.Common.{◌≡◌, ℕ, ◌+◌, ◌<◌, ◌≤◌, suc, Bool, true, false, cond, eqb, List, [], ◌∷◌, ◌++◌, length}
 use Rattle.std.proofs.Common.{drop}
 use Rattle.std.proofs.Common.{get_or, Option, Some, refl, sym, ap, ap₂, ◌∙◌, arith, length-append, append_assoc}
-use Rattle.std.specs.Prelude.{None, map, not, zip, nat_eq}
+use Rattle.std.specs.Prelude.{None, map, not, slice_get, zip, nat_eq}
 use Rattle.std.specs.List.{filter}
 use Rattle.std.specs.HashMap.{HashMap}
 use Rattle.std.proofs.lemmas.Bool.{eqb-true}
@@ -57,13 +57,22 @@ length-track_bases defaults (m ∷ ms) (p ∷ ps) id e =
     ∙ sym (length-append (trafs_of m.trafs id) (trafs_of (trafs_in ms) id))
     ∙ sym (ap length (filter-append (λ (f : TrafBox). eqb f.tfhd.track_id id) m.trafs (trafs_in ms)))
 
--- where the first of these doesn't count from the data before it, that ends anywhere
-pub end_elsewhere : (defaults : ℕ → SampleDefaults) (moof : ℕ) (a b : Option ℕ) (f : TrafBox) (fs : List TrafBox)
-    → counts_from_data_before f ≡ false → bases_from defaults moof a (f ∷ fs) ≡ bases_from defaults moof b (f ∷ fs)
+-- where the first of these doesn't count from the data before it, or there is none, that data ends anywhere
+pub end_anywhere : (defaults : ℕ → SampleDefaults) (moof : ℕ) (a b : Option ℕ) (fs : List TrafBox)
+    → None ≡ slice_get fs 0 → bases_from defaults moof a fs ≡ bases_from defaults moof b fs
 unfolding bases_from
-end_elsewhere defaults moof a b f fs elsewhere =
-    ap (λ base. base ∷ bases_from defaults moof (traf_ends (defaults f.tfhd.track_id) base f) fs)
-    (by f.tfhd.base_data_offset f.tfhd.flags elsewhere)
+end_anywhere defaults moof a b [] none = refl
+end_anywhere defaults moof a b (f ∷ fs) none = absurd cc
+
+pub end_elsewhere : (defaults : ℕ → SampleDefaults) (moof : ℕ) (a b : Option ℕ) (fs : List TrafBox) (f : TrafBox)
+    → Some f ≡ slice_get fs 0 → counts_from_data_before f ≡ false
+    → bases_from defaults moof a fs ≡ bases_from defaults moof b fs
+unfolding bases_from
+end_elsewhere defaults moof a b [] f first elsewhere = absurd cc
+end_elsewhere defaults moof a b (g ∷ gs) f first elsewhere =
+    let same : f ≡ g = cc in
+    ap (λ base. base ∷ bases_from defaults moof (traf_ends (defaults g.tfhd.track_id) base g) gs)
+    (by g.tfhd.base_data_offset g.tfhd.flags (ap counts_from_data_before (sym same) ∙ elsewhere))
   where
     by_flag : (set : Bool) → not set ≡ false → cond set (Some moof) a ≡ cond set (Some moof) b
     by_flag true e = refl

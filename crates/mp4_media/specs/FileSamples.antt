@@ -10,6 +10,7 @@ use Rattle.mp4_samples.specs.declared.sample.Place.{Place}
 use Rattle.mp4_samples.specs.Samples.{TimedSample, read_at, timed_sample}
 use Rattle.mp4_source.specs.Answers.{RefusesRead}
 use Rattle.mp4_source.specs.declared.file_error.FileError.{FileError}
+use Rattle.mp4_source.specs.declared.source.ByteSource.{Ghosts}
 use Rattle.mp4_media.specs.declared.file_samples.FileSamples.{FileSamples}
 use Rattle.mp4_media.specs.Reading.{needed_track}
 
@@ -55,7 +56,7 @@ first_read file (Ok p ∷ answers) = Ok (Some (read_at file p))
 first_read file (Err c ∷ answers) = Err c
 
 -- where the samples lie that are still read
-abbrev pub file_samples_left : {S : Type 0} → FileSamples S → List (Result Place Cause)
+abbrev pub file_samples_left : {S : Type 0} {G : Ghosts S} → FileSamples S G → List (Result Place Cause)
 file_samples_left s = if s.has_ended then [] else places_within s.source.now.len (samples_left s.samples)
 
 -- where all samples of the track with this id lie, in order, in a file of so many bytes

@@ -5,6 +5,6 @@ pub use mp4_fragments::{
     index_of, seek_index_of, traf_base, traf_end,
 };
 pub use mp4_search::{
-    ByGuess, ByHalves, CappedSums, LookedUp, Parted, Readings, Search, SearchedNumbers,
-    TopLevelBoxes, partition_point,
+    ByGuess, ByHalves, CappedSums, LookedUp, Parted, Readings, Search, SearchHit, SearchedNumbers,
+    partition_point,
 };

@@ -1,28 +1,30 @@
-use Rattle.std.proofs.Common.{◌+◌, ◌∷◌, drop, sym, ap, ◌∙◌}
-use Rattle.std.proofs.lemmas.List.{drop_all, drop_more}
-use Rattle.mp4_media.specs.MovieTracks.{defaults_at}
+use Rattle.std.proofs.Common.{◌+◌, ◌-◌, ◌∷◌, ◌++◌, arith, drop, length, sym, ap, ◌∙◌}
+use Rattle.std.proofs.lemmas.List.{drop_all, drop_more, length-drop, take_all}
+use Rattle.mp4_media.specs.MovieTracks.{bases_at, defaults_at, own_bases}
 use Rattle.mp4_media.proofs.BasesByTrack.{and_to_come, base_kept, none_to_come}
 use Rattle.mp4_media.proofs.fragments.add_bases.Goals as goal
 
-pub loop-traf-preserved : goal.loop-traf-preserved
-loop-traf-preserved c = λ id.
+pub loop-i-preserved : goal.loop-i-preserved
+loop-i-preserved c = λ id.
     let defaults = defaults_at c.args.defaults.now in
     let moof = c.args.moof in
     let trafs = c.args.trafs.now in
-    let i = c.loop-traf.traf-index in
-    let f = c.traf-item.result in
-    rw (c.traf_end-before.ensures, c.track_defaults.ensures, c.traf_base-base.ensures)
-    (base_kept defaults moof c.loop-traf.bases c.add_base.new.bases c.loop-traf.before f (drop (i + 1) trafs)
+    let i = c.loop-i.i in
+    let f = c.index-trafs-i.result in
+    let whole = take_all (length trafs - (i + 1)) (drop (i + 1) trafs) (omega (arith, length-drop (i + 1) trafs)) in
+    let end = rw (c.track_defaults.ensures, c.traf_base-base.ensures, whole) at (c.end_for_next-before.ensures defaults moof) in
+    ap (λ bs. bases_at c.add_base.new.bases id ++ own_bases id (drop (i + 1) trafs) bs) end
+    ∙ base_kept defaults moof c.loop-i.bases c.add_base.new.bases c.loop-i.before f (drop (i + 1) trafs)
     (rw c.traf_base-base.ensures at c.in_ok-add_base.ensures) id
-    ∙ ap (λ fs. and_to_come defaults moof c.loop-traf.bases c.loop-traf.before fs id)
-    (ap (λ x. x ∷ drop (i + 1) trafs) c.traf-item.is ∙ sym (drop_more trafs i f c.loop-traf-test.true))
-    ∙ c.loop-traf.invariant id)
+    ∙ ap (λ fs. and_to_come defaults moof c.loop-i.bases c.loop-i.before fs id)
+    (ap (λ x. x ∷ drop (i + 1) trafs) c.index-trafs-i.is ∙ sym (drop_more trafs i f c.loop-i-test.true))
+    ∙ c.loop-i.invariant id
 
 pub returns : goal.returns
 returns c = λ id.
     let defaults = defaults_at c.args.defaults.now in
     let moof = c.args.moof in
-    sym (none_to_come defaults moof c.loop-traf.bases c.loop-traf.before id)
-    ∙ ap (λ fs. and_to_come defaults moof c.loop-traf.bases c.loop-traf.before fs id)
-    (sym (drop_all c.loop-traf.traf-index c.args.trafs.now c.loop-traf-test.false))
-    ∙ c.loop-traf.invariant id
+    sym (none_to_come defaults moof c.loop-i.bases c.loop-i.before id)
+    ∙ ap (λ fs. and_to_come defaults moof c.loop-i.bases c.loop-i.before fs id)
+    (sym (drop_all c.loop-i.i c.args.trafs.now c.loop-i-test.false))
+    ∙ c.loop-i.invariant id

@@ -4,7 +4,7 @@ use Rattle.mp4_media.proofs.BasesByTrack.{and_to_come}
 use Rattle.mp4_media.proofs.fragments.add_bases.Given as goal
 
 -- what is kept and what is still to come are all bases
-abbrev pub invariant-loop-traf : goal.invariant-loop-traf
-invariant-loop-traf l =
+abbrev pub invariant-loop-i : goal.invariant-loop-i
+invariant-loop-i l =
     let all = and_to_come (defaults_at l.defaults) l.moof in
-    (id : ℕ) → all l.bases l.before (drop l.traf-index l.trafs) id ≡ all l.fn.bases (Some l.moof) l.trafs id
+    (id : ℕ) → all l.bases l.before (drop l.i l.trafs) id ≡ all l.fn.bases (Some l.moof) l.trafs id
