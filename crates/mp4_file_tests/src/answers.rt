@@ -2,8 +2,8 @@
 
 use mp4_codec::Error;
 use mp4_media::{
-    ByteSource, FileError, FileSamples, Movie, Mp4File, Mp4Reader, Mp4Sample, SamplePlace,
-    SampleRef, SampleRefs, is_equal_sample,
+    ByteSource, FileError, Movie, Mp4File, Mp4Reader, Mp4Sample, Place, SamplePlace, SampleRef,
+    is_equal_sample,
 };
 use std::io::ErrorKind;
 
@@ -72,7 +72,41 @@ pub fn is_read_into(
     }
 }
 
-/// Whether a sample is read as expected, by both calls, into a buffer whose capacity stays.
+/// Whether the bytes at a place are read as expected.
+fn are_read(
+    answer: &Result<(), FileError>,
+    buffer: &[u8],
+    expected: &Result<Option<SampleRef>, Error>,
+) -> bool {
+    match (answer, expected) {
+        (Ok(()), Ok(Some(other))) => *buffer == *other.bytes,
+        (Err(FileError::Mp4(one)), Err(other)) => *one == *other,
+        _ => false,
+    }
+}
+
+/// Where a track's sample lies, if it is found.
+fn place_in<S: ByteSource>(file: &Mp4File<S>, id: u32, k: u32) -> Option<Place> {
+    let place = file.tracks().get(&id)?.locate(k).ok()??;
+    Some(place.place())
+}
+
+/// Whether a sample that is found is read at its place as expected.
+fn reads_place<S: ByteSource + Drop>(
+    file: &mut Mp4File<S>,
+    id: u32,
+    k: u32,
+    buffer: &mut Vec<u8>,
+    expected: &Result<Option<SampleRef>, Error>,
+) -> bool {
+    let Some(place) = place_in(file, id, k) else {
+        return true;
+    };
+    let answer = file.read_place_into(place, buffer);
+    are_read(&answer, buffer.as_slice(), expected)
+}
+
+/// Whether a sample is read as expected, by each call, into a buffer whose capacity stays.
 fn reads<S: ByteSource + Drop>(
     file: &mut Mp4File<S>,
     id: u32,
@@ -82,42 +116,13 @@ fn reads<S: ByteSource + Drop>(
 ) -> bool {
     let capacity = buffer.capacity();
     let answer = file.read_sample_into(id, k, buffer);
-    let is_same = is_read_into(&answer, buffer.as_slice(), expected);
+    let is_same = is_read_into(&answer, buffer.as_slice(), expected)
+        && reads_place(file, id, k, buffer, expected);
     is_same && buffer.capacity() == capacity && is_read(&file.read_sample(id, k), expected)
 }
 
-/// Whether so many samples come in their order as those of a reader do.
-fn come_in_order<S: ByteSource + Drop>(
-    samples: &mut FileSamples<S>,
-    expected: &mut SampleRefs,
-    count: u32,
-) -> bool {
-    let mut all = true;
-    for _ in 0..count {
-        let sample = samples.next().transpose();
-        all = is_read(&sample, &expected.next().transpose()) && all;
-    }
-    all
-}
-
-/// Whether all samples of a track come in their order as those of a reader do, and none after them.
-fn reads_in_order<S: ByteSource + Drop>(
-    file: &mut Mp4File<S>,
-    reader: &Mp4Reader,
-    id: u32,
-    count: u32,
-) -> bool {
-    match (file.samples(id), reader.samples(id)) {
-        (Ok(mut samples), Ok(mut expected)) => {
-            come_in_order(&mut samples, &mut expected, count.saturating_add(2))
-        }
-        (Err(one), Err(other)) => one == other,
-        _ => false,
-    }
-}
-
 /// Whether all numbers of a track are read as a reader does, from 0 to the second past the last, into a buffer that has
-/// room for each, and in their order.
+/// room for each.
 pub fn reads_track<S: ByteSource + Drop>(
     file: &mut Mp4File<S>,
     reader: &Mp4Reader,
@@ -129,7 +134,7 @@ pub fn reads_track<S: ByteSource + Drop>(
     for k in 0..=count.saturating_add(2) {
         all = reads(file, id, k, buffer, &reader.read_sample_ref(id, k)) && all;
     }
-    all && reads_in_order(file, reader, id, count)
+    all
 }
 
 /// The kind of the error, if it is one of reading.

@@ -3,7 +3,6 @@ pub mod FileGrammar
 pub mod MovieTracks
 pub mod Reading
 pub mod InOrder
-pub mod FileSamples
 pub mod Walk
 pub mod WriterFields
 pub mod Finished

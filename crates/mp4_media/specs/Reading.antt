@@ -46,7 +46,19 @@ abbrev pub within : ℕ → Option Place → Result (Option Place) Cause
 within len None = Ok None
 within len (Some p) = if nat_lt len (p.offset + p.size) then Err end_of_data else Ok (Some p)
 
--- the sample that lies at a place, where these are its bytes
+-- the sample of a place, where these are its bytes
+abbrev pub sample_with : List ℕ → Place → TimedSample
+sample_with bytes p = record {
+  start_time = p.start_time;
+  sample = record {
+    bytes = bytes;
+    duration = p.duration;
+    rendering_offset = p.rendering_offset;
+    is_sync = p.is_sync;
+  };
+}
+
+-- the same of a place that was found by a lookup
 abbrev pub sample_there : List ℕ → SamplePlace → TimedSample
 sample_there bytes p = record {
   start_time = p.start_time;

@@ -1,29 +1,27 @@
 //! Files of any size: opened by a few reads, and their samples read where they lie.
 
-ghost use Rattle.std.specs.Prelude.{◌≡◌, ◌↔◌, ◌+◌, ◌≤◌, Ok, Some, option_map, IfOk, IfErr, IfSome, IsTrue};
+ghost use Rattle.std.specs.Prelude.{◌≡◌, ◌↔◌, ◌+◌, ◌≤◌, Ok, Some, option_map, IfOk, IfErr, IfSome, IsTrue, OnOk};
+ghost use Rattle.std.proofs.Props.{props};
 ghost use Rattle.mp4_codec.specs.Cause.{Gives};
 ghost use Rattle.mp4_codec.specs.Cursor.{here};
 ghost use Rattle.mp4_lookup.specs.declared.track.Mp4Track.{Mp4Track};
 ghost use Rattle.mp4_lookup.specs.Tracks.{is_of_movie};
 ghost use Rattle.mp4_samples.specs.Places.{place_of};
 ghost use Rattle.mp4_samples.specs.Plain.{Consistent};
-ghost use Rattle.mp4_samples.specs.Samples.{plain_sample_at, timed_sample};
+ghost use Rattle.mp4_samples.specs.Samples.{plain_sample_at, read_in, timed_sample};
 ghost use Rattle.mp4_samples.specs.Tables.{tables_of};
 ghost use Rattle.mp4_source.specs.Answers.{AnswersRead, IsLength};
 ghost use Rattle.mp4_source.specs.declared.file_error.FileError.TheVariants.{Mp4};
 ghost use Rattle.mp4_media.specs.FileBoxes.{opened_movie};
-ghost use Rattle.mp4_media.specs.FileSamples.{file_samples_in, file_samples_left};
 ghost use Rattle.mp4_media.specs.MovieTracks.{AreTracks, at_id};
-ghost use Rattle.mp4_media.specs.Reading.{IsPlaced, placed_in, sample_in, sample_there};
+ghost use Rattle.mp4_media.specs.Reading.{IsPlaced, placed_in, sample_in, sample_there, sample_with};
 ghost use Rattle.mp4_media.specs.Walk.{opened_at};
 
-use crate::file_samples::FileSamples;
-use crate::measured_source::MeasuredSource;
 use crate::movie::{Movie, open_source};
 use bytes::Bytes;
 use mp4_codec::{Error, Result};
-use mp4_samples::{Mp4Sample, SamplePlace};
-use mp4_source::{ByteSource, FileError, SourceCursor, Window};
+use mp4_samples::{Mp4Sample, Place, SamplePlace};
+use mp4_source::{ByteSource, FileError, SourceCursor, Window, read_into};
 use std::alloc::Global;
 use std::ops::Deref;
 
@@ -34,8 +32,11 @@ use std::ops::Deref;
 /// accessors.
 #[derive(Drop)]
 pub struct Mp4File<S: ByteSource> {
-    source: MeasuredSource<S>,
+    source: S,
+    /// How many bytes the source had when it was opened.
+    len: u64,
     movie: Movie,
+    ghost measured: { IsLength (S.contents source) len } by { Prim.hlevel props },
 }
 
 impl<S: ByteSource> Deref for Mp4File<S> {
@@ -48,6 +49,13 @@ impl<S: ByteSource> Deref for Mp4File<S> {
     {
         &self.movie
     }
+}
+
+/// Whether a part lies whole within so many bytes.
+fn is_within(offset: u64, size: u32, len: u64) -> bool
+    ensures { IsTrue result ↔ (offset + size ≤ len) }
+{
+    offset <= len && u64::from(size) <= len - offset
 }
 
 impl<S: ByteSource + Drop> Mp4File<S> {
@@ -66,45 +74,49 @@ impl<S: ByteSource + Drop> Mp4File<S> {
         ensures answer { IfSome (S.contents source) (λ bytes. AnswersRead (S.can_refuse source)
             (λ f. opened_movie f.movie) result (opened_at size (here bytes start))) }
         ensures tracks { IfOk result (λ f. AreTracks f.movie.moov f.movie.moofs f.movie.moof_places f.movie.tracks) }
-        ensures contents { IfOk result (λ f. S.contents f.source.inner ≡ S.contents source) }
-        ensures can_refuse { IfOk result (λ f. S.can_refuse f.source.inner ≡ S.can_refuse source) }
+        ensures contents { IfOk result (λ f. S.contents f.source ≡ S.contents source) }
+        ensures can_refuse { IfOk result (λ f. S.can_refuse f.source ≡ S.can_refuse source) }
     {
         let window = Window::new(alloc, source)?;
         let mut reader = SourceCursor::new(alloc, window, start)?;
         let movie = open_source(alloc, &mut reader, size)?;
         let (window, len) = reader.into_parts();
-        let source = MeasuredSource {
-            inner: window.into_inner(),
+        Ok(Mp4File {
+            source: window.into_inner(),
             len,
-        };
-        Ok(Mp4File { source, movie })
+            movie,
+        })
     }
 
     /// The source; the movie is given up.
     pub fn into_inner(self) -> S
-        ensures { result ≡ self.source.inner }
+        ensures { result ≡ self.source }
     {
-        let Mp4File { source, movie } = self;
+        let Mp4File {
+            source,
+            len: _,
+            movie,
+        } = self;
         drop(movie);
-        source.into_inner()
+        source
     }
 
     /// How many bytes the source had when the file was opened.
     pub fn source_len(&self) -> u64
-        ensures { IsLength (S.contents self.now.source.inner) result }
+        ensures { IsLength (S.contents self.now.source) result }
     {
-        self.source.len
+        self.len
     }
 
     /// Where sample `k` of the track with this id lies; `EndOfData` where that isn't whole within the source.
     fn place_of_sample(&self, track_id: u32, k: u32) -> Result<Option<SamplePlace>>
         ensures { Gives (λ p. option_map place_of p) result
-            (placed_in self.now.source.len self.now.movie.tracks track_id k) }
+            (placed_in self.now.len self.now.movie.tracks track_id k) }
     {
         let Some(place) = self.movie.place(track_id, k)? else {
             return Ok(None);
         };
-        if !self.source.holds(place.offset, place.size) {
+        if !is_within(place.offset, place.size, self.len) {
             return Err(Error::EndOfData);
         }
         Ok(Some(place))
@@ -123,49 +135,52 @@ impl<S: ByteSource + Drop> Mp4File<S> {
         k: u32,
         buffer: &mut Vec<u8>,
     ) -> std::result::Result<Option<SamplePlace>, FileError>
-        ensures place { IfOk result (λ p. placed_in self.old.source.len self.old.movie.tracks track_id k
+        ensures place { IfOk result (λ p. placed_in self.old.len self.old.movie.tracks track_id k
             ≡ Ok (option_map place_of p)) }
-        ensures answer { IfSome (S.contents self.old.source.inner)
-            (λ bytes. AnswersRead (S.can_refuse self.old.source.inner)
+        ensures answer { IfSome (S.contents self.old.source) (λ bytes. AnswersRead (S.can_refuse self.old.source)
             (λ p. option_map (sample_there buffer.new.items) p) result
             (sample_in bytes self.old.movie.tracks track_id k)) }
         ensures plain { (t : Mp4Track) → at_id self.old.movie.tracks track_id ≡ Some t
             → IsTrue (is_of_movie t.trak t.trafs k) → Consistent (tables_of t.trak)
-            → IfSome (S.contents self.old.source.inner) (λ bytes. AnswersRead (S.can_refuse self.old.source.inner)
+            → IfSome (S.contents self.old.source) (λ bytes. AnswersRead (S.can_refuse self.old.source)
             (λ p. option_map (sample_there buffer.new.items) p) result (plain_sample_at bytes (tables_of t.trak) k)) }
         ensures memory { IfErr result (λ e. e ≡ Mp4 Error.OutOfMemory
-            → IsPlaced (placed_in self.old.source.len self.old.movie.tracks track_id k)) }
+            → IsPlaced (placed_in self.old.len self.old.movie.tracks track_id k)) }
         ensures movie { self.new.movie ≡ self.old.movie }
-        ensures contents { S.contents self.new.source.inner ≡ S.contents self.old.source.inner }
-        ensures can_refuse { S.can_refuse self.new.source.inner ≡ S.can_refuse self.old.source.inner }
+        ensures contents { S.contents self.new.source ≡ S.contents self.old.source }
+        ensures can_refuse { S.can_refuse self.new.source ≡ S.can_refuse self.old.source }
     {
         let Some(place) = self.place_of_sample(track_id, k)? else {
             return Ok(None);
         };
-        self.source.read(place.offset, place.size, buffer)?;
+        read_into(&mut self.source, place.offset, place.size as usize, buffer)?;
         Ok(Some(place))
     }
 
-    /// The samples of the track with this id, in their order, with their bytes, each of which is read when it is asked
-    /// for.
+    /// The bytes of a sample whose place is known, as those of a track's [`samples`](mp4_lookup::Mp4Track::samples) are,
+    /// read into the buffer, over what it held. The buffer grows where it has no room for them, and holds any bytes after
+    /// an error. No table is looked at.
     ///
-    /// `TrakNotFound` of an id that no track has. A sample is refused as by [`Mp4File::read_sample_into`], and none
-    /// comes after it.
-    #[tactic(auto, unfolding(crate::specs::FileSamples::file_samples_in))]
-    pub fn samples(&mut self, track_id: u32) -> Result<FileSamples<'_, S>>
-        ensures samples { Gives file_samples_left result
-            (file_samples_in self.old.source.len self.old.movie.tracks track_id) }
-        ensures contents { IfOk result (λ s. S.contents s.source.now.inner ≡ S.contents self.old.source.inner) }
-        ensures can_refuse { IfOk result (λ s. S.can_refuse s.source.now.inner ≡ S.can_refuse self.old.source.inner) }
+    /// `EndOfData` where they don't lie whole within the source, and `OutOfMemory` only where they do. `Io` where the
+    /// source refuses to read them.
+    pub fn read_place_into(
+        &mut self,
+        place: Place,
+        buffer: &mut Vec<u8>,
+    ) -> std::result::Result<(), FileError>
+        ensures within { OnOk result (place.offset + place.size ≤ self.old.len) }
+        ensures answer { IfSome (S.contents self.old.source) (λ bytes. AnswersRead (S.can_refuse self.old.source)
+            (λ _. Some (sample_with buffer.new.items place)) result (read_in bytes (Some place))) }
+        ensures memory { IfErr result (λ e. e ≡ Mp4 Error.OutOfMemory → place.offset + place.size ≤ self.old.len) }
+        ensures movie { self.new.movie ≡ self.old.movie }
+        ensures contents { S.contents self.new.source ≡ S.contents self.old.source }
+        ensures can_refuse { S.can_refuse self.new.source ≡ S.can_refuse self.old.source }
     {
-        let Mp4File { source, movie } = self;
-        let track = movie.track(track_id)?;
-        Ok(FileSamples {
-            source,
-            samples: track.samples(),
-            alloc: movie.moofs.allocator(),
-            has_ended: false,
-        })
+        if !is_within(place.offset, place.size, self.len) {
+            return Err(FileError::from(Error::EndOfData));
+        }
+        read_into(&mut self.source, place.offset, place.size as usize, buffer)?;
+        Ok(())
     }
 
     /// Sample `k` of the track with this id, with its bytes, which alone are read; samples are numbered from 1. Times
@@ -177,18 +192,17 @@ impl<S: ByteSource + Drop> Mp4File<S> {
         track_id: u32,
         k: u32,
     ) -> std::result::Result<Option<Mp4Sample>, FileError>
-        ensures answer { IfSome (S.contents self.old.source.inner)
-            (λ bytes. AnswersRead (S.can_refuse self.old.source.inner)
+        ensures answer { IfSome (S.contents self.old.source) (λ bytes. AnswersRead (S.can_refuse self.old.source)
             (λ s. option_map timed_sample s) result (sample_in bytes self.old.movie.tracks track_id k)) }
         ensures plain { (t : Mp4Track) → at_id self.old.movie.tracks track_id ≡ Some t
             → IsTrue (is_of_movie t.trak t.trafs k) → Consistent (tables_of t.trak)
-            → IfSome (S.contents self.old.source.inner) (λ bytes. AnswersRead (S.can_refuse self.old.source.inner)
+            → IfSome (S.contents self.old.source) (λ bytes. AnswersRead (S.can_refuse self.old.source)
             (λ s. option_map timed_sample s) result (plain_sample_at bytes (tables_of t.trak) k)) }
         ensures memory { IfErr result (λ e. e ≡ Mp4 Error.OutOfMemory
-            → IsPlaced (placed_in self.old.source.len self.old.movie.tracks track_id k)) }
+            → IsPlaced (placed_in self.old.len self.old.movie.tracks track_id k)) }
         ensures movie { self.new.movie ≡ self.old.movie }
-        ensures contents { S.contents self.new.source.inner ≡ S.contents self.old.source.inner }
-        ensures can_refuse { S.can_refuse self.new.source.inner ≡ S.can_refuse self.old.source.inner }
+        ensures contents { S.contents self.new.source ≡ S.contents self.old.source }
+        ensures can_refuse { S.can_refuse self.new.source ≡ S.can_refuse self.old.source }
     {
         let mut bytes = Vec::new(self.movie.moofs.allocator());
         let Some(place) = self.read_sample_into(track_id, k, &mut bytes)? else {

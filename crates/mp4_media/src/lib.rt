@@ -3,11 +3,9 @@
 
 mod calls;
 mod file;
-mod file_samples;
 mod fragments;
 pub mod framing;
 pub mod laws;
-mod measured_source;
 mod movie;
 mod opening;
 mod reader;
@@ -21,7 +19,6 @@ pub mod writing;
 // Movies.
 pub use calls::WriterCall;
 pub use file::Mp4File;
-pub use file_samples::FileSamples;
 pub use movie::Movie;
 pub use mp4_lookup::{FoundNumber, Mp4Track, Samples, TimeRange, time_of};
 pub use mp4_mux::{Mp4Config, TrackConfig, mdat_header};

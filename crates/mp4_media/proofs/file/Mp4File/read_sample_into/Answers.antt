@@ -12,7 +12,7 @@ pub returns-in_err-place-clause-answer : goal.returns-in_err-place-clause-answer
 returns-in_err-place-clause-answer g c =
     let file = c.args.self.now in
     let p = err_from_is_err_and c.from_residual.result c.from_residual.ensures.1 in
-    of_known (g.S.ByteSource.contents file.source.inner) _ _ file.source.measured
+    of_known (g.S.ByteSource.contents file.source) _ _ file.measured
     (λ bytes len_is. rw (p.1, p.2) (inr (rw (
       sample_in-located bytes file.movie.tracks c.args.track_id c.args.k,
       ← len_is,
@@ -23,14 +23,14 @@ pub returns-in_default-clause-answer : goal.returns-in_default-clause-answer
 returns-in_default-clause-answer g c =
     let file = c.args.self.now in
     let none = rw c.in_default.is at c.in_ok-place.ensures in
-    of_known (g.S.ByteSource.contents file.source.inner) _ _ file.source.measured
+    of_known (g.S.ByteSource.contents file.source) _ _ file.measured
     (λ bytes len_is. rw (sample_in-located bytes file.movie.tracks c.args.track_id c.args.k, ← len_is, none) refl)
 
 pub returns-clause-answer : goal.returns-clause-answer
 returns-clause-answer g c =
     let file = c.args.self.now in
     let placed = rw c.in-Some.is at c.in_ok-place.ensures in
-    of_known_by (g.S.ByteSource.contents file.source.inner) _ _ _ file.source.measured c.in_ok-read.ensures.value
+    of_known_by (g.S.ByteSource.contents file.source) _ _ _ file.measured c.in_ok-read_into.ensures.value
     (λ bytes len_is read. rw (
       sample_in-located bytes file.movie.tracks c.args.track_id c.args.k,
       ← len_is,
@@ -41,19 +41,19 @@ returns-clause-answer g c =
 pub returns-in_err-place-clause-plain : goal.returns-in_err-place-clause-plain
 returns-in_err-place-clause-plain g c =
     let file = c.args.self.now in
-    λ t is whole fits. of_known (g.S.ByteSource.contents file.source.inner) _ _ (returns-in_err-place-clause-answer g c)
+    λ t is whole fits. of_known (g.S.ByteSource.contents file.source) _ _ (returns-in_err-place-clause-answer g c)
     (λ bytes a. rw (← sample_in-plain bytes file.movie.tracks c.args.track_id c.args.k t is whole fits (omega arith)) a)
 
 pub returns-in_default-clause-plain : goal.returns-in_default-clause-plain
 returns-in_default-clause-plain g c =
     let file = c.args.self.now in
-    λ t is whole fits. of_known (g.S.ByteSource.contents file.source.inner) _ _ (returns-in_default-clause-answer g c)
+    λ t is whole fits. of_known (g.S.ByteSource.contents file.source) _ _ (returns-in_default-clause-answer g c)
     (λ bytes a. rw (← sample_in-plain bytes file.movie.tracks c.args.track_id c.args.k t is whole fits (omega arith)) a)
 
 pub returns-clause-plain : goal.returns-clause-plain
 returns-clause-plain g c =
     let file = c.args.self.now in
-    λ t is whole fits. of_known (g.S.ByteSource.contents file.source.inner) _ _ (returns-clause-answer g c)
+    λ t is whole fits. of_known (g.S.ByteSource.contents file.source) _ _ (returns-clause-answer g c)
     (λ bytes a. rw (← sample_in-plain bytes file.movie.tracks c.args.track_id c.args.k t is whole fits (omega arith)) a)
 
 pub returns-in_err-place-clause-memory : goal.returns-in_err-place-clause-memory
@@ -61,11 +61,11 @@ returns-in_err-place-clause-memory g c =
     let file = c.args.self.now in
     let error = c.in_err-place.field-0.0 in
     let p = err_from_is_err_and c.from_residual.result c.from_residual.ensures.1 in
-    rw (p.1, p.2) (λ memory. absurd (place_wants_none file.movie.tracks c.args.track_id c.args.k file.source.len
+    rw (p.1, p.2) (λ memory. absurd (place_wants_none file.movie.tracks c.args.track_id c.args.k file.len
     (cause_of error) c.in_err-place.ensures (ap cause_of (same_mp4 error OutOfMemory memory))))
 
-pub returns-in_err-read-clause-memory : goal.returns-in_err-read-clause-memory
-returns-in_err-read-clause-memory g c =
-    let p = err_from_is_err_and c.from_residual-in_err-read.result c.from_residual-in_err-read.ensures.1 in
+pub returns-in_err-read_into-clause-memory : goal.returns-in_err-read_into-clause-memory
+returns-in_err-read_into-clause-memory g c =
+    let p = err_from_is_err_and c.from_residual-in_err-read_into.result c.from_residual-in_err-read_into.ensures.1 in
     let placed = rw c.in-Some.is at c.in_ok-place.ensures in
     rw (p.1, p.2) (λ memory. (place_of c.in-Some.place, placed))
