@@ -104,6 +104,8 @@ pub struct PlainTrack {
     pub values: PlainValues,
     /// When its samples have lasted.
     end: Option<u64>,
+    /// Whether a fragment names it.
+    is_fragmented: bool,
     samples: Vec<PlainSample>,
 }
 
@@ -116,7 +118,7 @@ impl PlainTrack {
     /// What a number of the track is answered with, whose movie box has these tables.
     pub fn answer(&self, stbl: &StblBox, k: u32) -> Result<Option<WalkedPlace>> {
         let count = stbl.stsz.sample_count;
-        if k <= count || self.parts == 0 {
+        if k <= count || !self.is_fragmented {
             return walk(stbl, self.id, k);
         }
         match self
@@ -182,6 +184,7 @@ fn add_samples(
 
 /// Adds the runs of a track fragment, whose places count from a base, to its track. The answer is where its data ends.
 fn add_runs(track: &mut PlainTrack, part: &PlainPart, base: Option<u64>) -> Result<Option<u64>> {
+    track.is_fragmented = true;
     let before = track.samples.len();
     let mut at = RunStart {
         place: base,
@@ -266,6 +269,7 @@ fn unfragmented(
             id,
             values: values_of(defaults, id),
             end: Some(end_of(stbl.stts.entries.as_slice(), stbl.stsz.sample_count)),
+            is_fragmented: false,
             samples: Vec::new(alloc),
         })?;
     }
