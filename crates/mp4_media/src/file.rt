@@ -78,9 +78,8 @@ impl<S: ByteSource + Drop> Mp4File<S> {
         ensures can_refuse { IfOk result (λ f. S.can_refuse f.source ≡ S.can_refuse source) }
     {
         let window = Window::new(alloc, source)?;
-        let mut reader = SourceCursor::new(alloc, window, start)?;
-        let movie = open_source(alloc, &mut reader, size)?;
-        let (window, len) = reader.into_parts();
+        let reader = SourceCursor::new(alloc, window, start)?;
+        let (movie, window, len) = open_source(alloc, reader, size)?;
         Ok(Mp4File {
             source: window.into_inner(),
             len,

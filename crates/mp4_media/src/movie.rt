@@ -114,24 +114,28 @@ fn open_found(alloc: Global, found: TopLevelBoxes, size: u64) -> Result<Movie>
 }
 
 /// Opens the file of `size` bytes from the cursor on: the answer is that of the walk over its boxes, and then of the
-/// ids of its tracks.
+/// ids of its tracks; and the source, with how many bytes it has. The bytes of boxes that the cursor holds are given up
+/// before the tracks take their memory.
 pub(crate) fn open_source<S: ByteSource + Drop>(
     alloc: Global,
-    reader: &mut SourceCursor<S>,
+    reader: SourceCursor<S>,
     size: u64,
-) -> std::result::Result<Movie, FileError>
-    requires len { IsLength (S.contents reader.old.source) reader.old.len }
-    ensures answer { IfSome (S.contents reader.old.source) (λ bytes. AnswersRead (S.can_refuse reader.old.source)
-        opened_movie result (opened_at size (here bytes reader.old.position))) }
-    ensures tracks { IfOk result (λ m. AreTracks m.moov m.moofs m.moof_places m.tracks) }
-    ensures contents { S.contents reader.new.source ≡ S.contents reader.old.source }
-    ensures can_refuse { S.can_refuse reader.new.source ≡ S.can_refuse reader.old.source }
-    ensures same_len { reader.new.len ≡ reader.old.len }
+) -> std::result::Result<(Movie, S, u64), FileError>
+    requires len { IsLength (S.contents reader.source) reader.len }
+    ensures answer { IfSome (S.contents reader.source) (λ bytes. AnswersRead (S.can_refuse reader.source)
+        (λ x. opened_movie x.0) result (opened_at size (here bytes reader.position))) }
+    ensures tracks { IfOk result (λ x. AreTracks x.0.moov x.0.moofs x.0.moof_places x.0.tracks) }
+    ensures contents { IfOk result (λ x. S.contents x.1 ≡ S.contents reader.source) }
+    ensures can_refuse { IfOk result (λ x. S.can_refuse x.1 ≡ S.can_refuse reader.source) }
+    ensures len { IfOk result (λ x. x.2 ≡ reader.len) }
 {
+    let mut reader = reader;
     let start = reader.position();
-    let found = find_boxes(alloc, reader, size)?;
-    let movie = open_found(alloc, found, reader.position() - start)?;
-    Ok(movie)
+    let found = find_boxes(alloc, &mut reader, size)?;
+    let read = reader.position() - start;
+    let (source, len) = reader.into_parts();
+    let movie = open_found(alloc, found, read)?;
+    Ok((movie, source, len))
 }
 
 impl Movie {

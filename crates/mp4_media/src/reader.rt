@@ -81,12 +81,12 @@ fn open_bytes(alloc: Global, bytes: &[u8], start: u64, size: u64) -> Result<Movi
     ensures answer { Answers opened_movie result (opened_at size (here bytes.now start)) }
     ensures tracks { IfOk result (λ m. AreTracks m.moov m.moofs m.moof_places m.tracks) }
 {
-    let mut reader = match SourceCursor::new(alloc, bytes, start) {
+    let reader = match SourceCursor::new(alloc, bytes, start) {
         Ok(reader) => reader,
         Err(error) => return Err(refused_by_bytes(error)),
     };
-    match open_source(alloc, &mut reader, size) {
-        Ok(movie) => Ok(movie),
+    match open_source(alloc, reader, size) {
+        Ok((movie, _bytes, _len)) => Ok(movie),
         Err(error) => Err(refused_by_bytes(error)),
     }
 }

@@ -6,7 +6,7 @@ use Rattle.mp4_media.proofs.movie.open_source.Goals as goal
 
 pub returns-in_err-found-clause-answer : goal.returns-in_err-found-clause-answer
 returns-in_err-found-clause-answer g c =
-    let reader = c.args.reader.now in
+    let reader = c.args.reader in
     let p = err_from_is_err_and c.from_residual.result c.from_residual.ensures.1 in
     of_known (g.S.ByteSource.contents reader.source) _ _ c.in_err-found.ensures.answer
     (λ bytes a. rw (p.1, p.2) (refused_too (g.S.ByteSource.can_refuse reader.source) c.in_err-found.field-0.0 _ _
@@ -14,7 +14,7 @@ returns-in_err-found-clause-answer g c =
 
 pub returns-in_err-movie-clause-answer : goal.returns-in_err-movie-clause-answer
 returns-in_err-movie-clause-answer g c =
-    let reader = c.args.reader.now in
+    let reader = c.args.reader in
     let p = err_from_is_err_and c.from_residual-in_err-movie.result c.from_residual-in_err-movie.ensures.1 in
     let opened = rw (c.position.ensures, c.position-start.ensures) at c.in_err-movie.ensures.answer in
     of_known (g.S.ByteSource.contents reader.source) _ _ c.in_ok-found.ensures.answer
@@ -26,7 +26,7 @@ returns-in_err-movie-clause-answer g c =
 
 pub returns-clause-answer : goal.returns-clause-answer
 returns-clause-answer g c =
-    let reader = c.args.reader.now in
+    let reader = c.args.reader in
     let opened = rw (c.position.ensures, c.position-start.ensures) at c.in_ok-movie.ensures.answer in
     of_known (g.S.ByteSource.contents reader.source) _ _ c.in_ok-found.ensures.answer
     (λ bytes e. opened_by c.args.size (here bytes reader.position) c.in_ok-found.found

@@ -2,8 +2,8 @@ use Rattle.std.proofs.lemmas.Option.{same_Some}
 use Rattle.mp4_media.proofs.FoundBoxes.{refused_as_bytes}
 use Rattle.mp4_media.proofs.reader.open_bytes.Goals as goal
 
-pub returns-clause-answer : goal.returns-clause-answer
-returns-clause-answer c =
+pub returns-in-Err-open_source-clause-answer : goal.returns-in-Err-open_source-clause-answer
+returns-in-Err-open_source-clause-answer c =
     let answer = rw (c.in-Ok.ensures.position, same_Some _ _ c.in-Ok.ensures.contents)
     at c.in-Err-open_source.ensures.answer in
     refused_as_bytes c.in-Err-open_source.error c.refused_by_bytes-in-Err-open_source.result _
