@@ -6,16 +6,22 @@ use Rattle.std.specs.List.{sum_by}
 use Rattle.std.proofs.lemmas.List.Sums.{sum_by_more}
 use Rattle.std.proofs.lemmas.Option.{slice_get-get_or, same_Some}
 use Rattle.mp4_fragments.specs.Numbers.{plus}
-use Rattle.mp4_fragments.specs.RunSamples.{PlacedRun, all_run_samples, at_run_sample, run_sample_of, run_count}
-use Rattle.mp4_fragments.specs.Cursor.{IsIn, IsInRuns}
+use Rattle.mp4_frag.specs.declared.trun.TrunBox.{TrunBox}
+use Rattle.mp4_fragments.specs.RunSamples.{PlacedRun, all_run_samples, at_run_sample, run_sample_of, run_count, values_of}
+use Rattle.mp4_fragments.specs.Cursor.{IsIn, IsInRuns, IsRunEnd}
 use Rattle.mp4_fragments.specs.declared.cursor.RunCursor.{RunCursor}
+use Rattle.mp4_fragments.specs.declared.cursor.RunEnd.{RunEnd}
+use Rattle.mp4_fragments.specs.declared.defaults.SampleDefaults.{SampleDefaults}
 use Rattle.mp4_fragments.specs.declared.run_samples.RunSample.{RunSample}
+use Rattle.mp4_fragments.specs.declared.run_samples.SampleValues.{SampleValues}
 use Rattle.mp4_search.specs.Search.{IsLastAtMost}
 use Rattle.mp4_search.proofs.SumLaws.{before_found, past_found}
-use Rattle.mp4_fragments.specs.Index.{Find, Indexes, placed_at}
+use Rattle.std.specs.Option.{option_map}
+use Rattle.mp4_fragments.specs.Index.{Find, Indexes, IsOnly, placed_at}
 use Rattle.mp4_fragments.specs.declared.index.RunEntry.{RunEntry}
 use Rattle.mp4_fragments.specs.declared.index.RunIndex.{RunIndex}
-use Rattle.mp4_fragments.proofs.Finding.{entry_of, slice_get-all_run_samples, slice_get-all_run_samples_past}
+use Rattle.mp4_fragments.proofs.Finding.{entry_of, length-entries, right_by, slice_get-all_run_samples}
+use Rattle.mp4_fragments.proofs.Finding.{slice_get-all_run_samples_past}
 use Rattle.mp4_fragments.proofs.ListedValues.{sum_of_first-more}
 use Rattle.mp4_fragments.proofs.Places.{at_run_sample-on}
 
@@ -162,21 +168,109 @@ found_none find es (d ∷ runs) index key i number entry c limit s e1 is at e2 n
     (rw (← e2) (few (get_or all i d) (placed_by find es all index i entry d s e1 is found.0))) in
     slice_get-all_run_samples_past all key (i + 1) past.0 past.1)
 
+-- the end of the run that a cursor is after
+pub run_end_of : (runs : List PlacedRun) (c : RunCursor) (e : RunEnd) → IsInRuns runs c
+    → c.run.now.sample_count ≤ c.passed → e.entry ≡ c.entry → e.number ≡ c.number → IsRunEnd runs e
+run_end_of runs c e at passed entry number =
+    let here : run_count (run_in runs c) ≡ c.run.now.sample_count = ap (λ r. r.sample_count) (is_in runs c at).run in
+    record {
+      within = rw entry at.within;
+      counted = rw (entry, number) (omega (
+        arith,
+        passed,
+        at.counted,
+        at.inside,
+        here,
+        sum_by_more run_count runs c.entry (own c) at.within,
+      ));
+    }
+
+-- a sample of equal parts
+sample_is : (m : RunSample) (p : PlacedRun) (v : SampleValues) → m.at ≡ at_run_sample p.run p.defaults p.at 0
+    → v ≡ values_of p 0 → m.size ≡ v.size → m.duration ≡ v.duration → m.rendering_offset ≡ v.rendering_offset
+    → m.is_sync ≡ v.is_sync → m ≡ run_sample_of p 0
+unfolding run_sample_of values_of
+sample_is m p v at is size duration shown sync =
+    let with_values : SampleValues → RunSample = λ w. record {
+      at = at_run_sample p.run p.defaults p.at 0;
+      size = w.size;
+      duration = w.duration;
+      rendering_offset = w.rendering_offset;
+      is_sync = w.is_sync;
+    } in
+    let same : m ≡ with_values v = rw (← at, ← size, ← duration, ← shown, ← sync) refl in
+    same ∙ ap with_values is
+
 -- a cursor before the first sample of the next run
 pub next_at : (find : Find) (es : List RunEntry) (runs : List PlacedRun) (index : RunIndex) (entry : RunEntry)
-    (old : RunCursor) (c : Option RunCursor) → Indexes find runs index → IsInRuns runs old
-    → old.run.now.sample_count ≤ old.passed → es ≡ index.entries → entry ≡ get_or es (old.entry + 1) entry
-    → old.entry + 1 < length runs → IfSome c (IsBefore find entry (old.entry + 1) 0 old.number)
-    → IfSome c (λ x. IsInRuns runs x × (x.number ≡ old.number) × (x.passed < x.run.now.sample_count)
+    (e : RunEnd) (c : Option RunCursor) → Indexes find runs index → IsRunEnd runs e → es ≡ index.entries
+    → entry ≡ get_or es (e.entry + 1) entry → e.entry + 1 < length runs
+    → IfSome c (IsBefore find entry (e.entry + 1) 0 e.number)
+    → IfSome c (λ x. IsInRuns runs x × (x.number ≡ e.number) × (x.passed < x.run.now.sample_count)
     × (x.passed < 2 ^ 32 - 1))
-next_at find es runs index entry old c s at passed e1 is within before =
-    let here : run_count (run_in runs old) ≡ old.run.now.sample_count =
-    ap (λ r. r.sample_count) (is_in runs old at).run in
+next_at find es runs index entry e c s at e1 is within before =
     of_cursor c _ _ before (λ x.
-    in_runs find es runs index (old.entry + 1) 0 old.number entry x s e1 is within (omega (
-      arith,
-      at.counted,
-      at.inside,
-      here,
-      sum_by_more run_count runs old.entry (own old) at.within,
-    )))
+    in_runs find es runs index (e.entry + 1) 0 e.number entry x s e1 is within (omega (arith, at.counted)))
+
+-- where the run of an entry begins
+placed_begins : (find : Find) (e : RunEntry) (p : PlacedRun) → placed_at find e ≡ Some p → p.at ≡ e.at
+unfolding placed_at
+placed_begins find e p =
+    elim (find e.traf e.run) as
+    (λ x. option_map (λ x. record { at = e.at; run = x.0; defaults = x.1 }) x ≡ Some p → p.at ≡ e.at) [
+      | None ↦ λ none. absurd cc
+      | Some x ↦ λ there. ap (λ (q : PlacedRun). q.at) (sym (same_Some _ _ there))
+    ]
+
+-- the one sample of the run after the end of another, as its entry has it
+only_of : (find : Find) (es : List RunEntry) (runs : List PlacedRun) (index : RunIndex) (entry : RunEntry) (e : RunEnd)
+    (v : SampleValues) (d : PlacedRun) → Indexes find runs index → es ≡ index.entries
+    → entry ≡ get_or es (e.entry + 1) entry → e.entry + 1 < length runs → entry.only ≡ Some v
+    → (placed_at find entry ≡ Some (get_or runs (e.entry + 1) d)) × IsOnly (get_or runs (e.entry + 1) d) v
+only_of find es runs index entry e v d s e1 is within only =
+    let there = placed_by find es runs index (e.entry + 1) entry d s e1 is within in
+    let right = right_by find es runs index (e.entry + 1) entry s e1 is
+    (omega (arith, length-entries find runs index s, s.counts.count)) in (
+      there,
+      rw only at (right.only (get_or runs (e.entry + 1) d) there),
+    )
+
+pub only_at : (find : Find) (es : List RunEntry) (runs : List PlacedRun) (index : RunIndex) (entry : RunEntry)
+    (e : RunEnd) (v : SampleValues) (m : RunSample) → Indexes find runs index → IsRunEnd runs e → es ≡ index.entries
+    → entry ≡ get_or es (e.entry + 1) entry → e.entry + 1 < length runs → entry.only ≡ Some v
+    → ((run : TrunBox) (defaults : SampleDefaults) → m.at ≡ at_run_sample run defaults entry.at 0) → m.size ≡ v.size
+    → m.duration ≡ v.duration → m.rendering_offset ≡ v.rendering_offset → m.is_sync ≡ v.is_sync
+    → slice_get (all_run_samples runs) e.number ≡ Some m
+unfolding run_sample_of values_of
+only_at find es [] index entry e v m s at e1 is within only begins e2 e3 e4 e5 = absurd (omega (arith, within))
+only_at find es (d ∷ rest) index entry e v m s at e1 is within only begins e2 e3 e4 e5 =
+    let runs = d ∷ rest in
+    let i = e.entry + 1 in
+    let p = get_or runs i d in
+    let found = only_of find es runs index entry e v d s e1 is within only in
+    let none : e.number - sum_by run_count (take i runs) ≡ 0 = omega (arith, at.counted) in
+    let start : m.at ≡ at_run_sample p.run p.defaults p.at 0 =
+    rw (placed_begins find entry p found.0) (begins p.run p.defaults) in
+    let one : m ≡ run_sample_of p 0 = sample_is m p v start found.1.1 e2 e3 e4 e5 in
+    slice_get-all_run_samples runs e.number i (sum_by run_count (take i runs)) d within refl
+    (omega (arith, at.counted)) (rw none (omega (arith, found.1.0)))
+    ∙ ap (λ j. Some (run_sample_of p j)) none ∙ ap Some (sym one)
+
+-- the walk after it
+pub only_end : (find : Find) (es : List RunEntry) (runs : List PlacedRun) (index : RunIndex) (entry : RunEntry)
+    (e next : RunEnd) (v : SampleValues) → Indexes find runs index → IsRunEnd runs e → es ≡ index.entries
+    → entry ≡ get_or es (e.entry + 1) entry → e.entry + 1 < length runs → entry.only ≡ Some v
+    → next.entry ≡ e.entry + 1 → next.number ≡ e.number + 1 → IsRunEnd runs next
+only_end find es [] index entry e next v s at e1 is within only e2 e3 = absurd (omega (arith, within))
+only_end find es (d ∷ rest) index entry e next v s at e1 is within only e2 e3 =
+    let runs = d ∷ rest in
+    let found = only_of find es runs index entry e v d s e1 is within only in
+    record {
+      within = rw e2 within;
+      counted = rw (e2, e3) (omega (
+        arith,
+        at.counted,
+        found.1.0,
+        sum_by_more run_count runs (e.entry + 1) d within,
+      ));
+    }

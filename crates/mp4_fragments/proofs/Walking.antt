@@ -1,7 +1,7 @@
 -- The runs of a track's fragments, placed one after the other.
 use Rattle.std.proofs.Common.{◌≡◌, ℕ, ◌+◌, ◌<◌, List, length, get_or, take, fold, Option, Some, refl, sym, ap, subst}
 use Rattle.std.proofs.Common.{◌∙◌, arith}
-use Rattle.std.specs.Prelude.{zip, if◌then◌else◌}
+use Rattle.std.specs.Prelude.{zip, IfSome, if◌then◌else◌}
 use Rattle.std.proofs.lemmas.List.Sums.{fold_more}
 use Rattle.std.proofs.lemmas.List.{take_all, get_or_default}
 use Rattle.std.proofs.lemmas.Option.{slice_get-get_or}
@@ -12,11 +12,13 @@ use Rattle.mp4_fragments.specs.RunSamples.{PlacedRun, at_run_sample}
 use Rattle.mp4_fragments.specs.Defaults.{defaults_in}
 use Rattle.mp4_fragments.specs.Fragments.{Walk, begins, first_time, has_run_samples, with_run, with_traf}
 use Rattle.mp4_fragments.specs.Checkpoints.{AreCheckpoints}
-use Rattle.mp4_fragments.specs.Index.{Find, placed_at, IsRight, Indexes, Pushed, Walks, KnowsRuns, KnowsTrafs, run_at}
+use Rattle.mp4_fragments.specs.Index.{Find, placed_at, IsOnly, IsRight, Indexes, Pushed, Walks, KnowsRuns, KnowsTrafs}
+use Rattle.mp4_fragments.specs.Index.{run_at}
 use Rattle.mp4_fragments.specs.Index.{run_of_traf}
 use Rattle.mp4_fragments.specs.declared.index.RunIndex.{RunIndex}
 use Rattle.mp4_fragments.specs.declared.index.RunEntry.{RunEntry}
 use Rattle.mp4_fragments.specs.declared.run_samples.RunStart.{RunStart}
+use Rattle.mp4_fragments.specs.declared.run_samples.SampleValues.{SampleValues}
 use Rattle.mp4_fragments.specs.declared.defaults.SampleDefaults.{SampleDefaults}
 use Rattle.mp4_fragments.proofs.Indexing.{Indexes-push}
 
@@ -54,8 +56,11 @@ Walks-whole {X} knows f xs i a b j k e walks =
     subst P (take_all i xs (omega arith)) walks
 
 right_at : (find : Find) (e : RunEntry) (p : PlacedRun) → placed_at find e ≡ Some p
-    → AreCheckpoints p.run p.defaults p.at e.checks → IsRight find e
-right_at find e p there checks = record {
+    → AreCheckpoints p.run p.defaults p.at e.checks → IfSome e.only (IsOnly p) → IsRight find e
+right_at find e p there checks only = record {
+  only = λ q other.
+      let same : p ≡ q = cc (there, other) in
+      subst (λ (q : PlacedRun). IfSome e.only (IsOnly q)) same only;
   checks = λ q other.
       let same : p ≡ q = cc (there, other) in
       subst (λ (q : PlacedRun). AreCheckpoints q.run q.defaults q.at e.checks) same checks;
@@ -63,23 +68,24 @@ right_at find e p there checks = record {
 
 -- a run
 pub Walks-run : (knows : Find → Type 0) (base : Option ℕ) (defaults : SampleDefaults) (run : TrunBox)
-    (a at after : RunStart) (checks : List RunStart) (old new : RunIndex) (t i : ℕ) →
+    (a at after : RunStart) (checks : List RunStart) (only : Option SampleValues) (old new : RunIndex) (t i : ℕ) →
     ((find : Find) → knows find → find t i ≡ Some (run, defaults)) →
     at ≡ begins base run a → after ≡ at_run_sample run defaults at run.sample_count
-    → AreCheckpoints run defaults at checks →
-    Pushed old new (record { at = at; checks = checks; traf = t; run = i }) run.sample_count →
+    → AreCheckpoints run defaults at checks
+    → ((first : RunStart) → IfSome only (IsOnly (record { at = first; run = run; defaults = defaults }))) →
+    Pushed old new (record { at = at; checks = checks; only = only; traf = t; run = i }) run.sample_count →
     Walks knows (λ walk. with_run base defaults walk run) a after old new
 unfolding with_run placed_at
-Walks-run knows base defaults run a at after checks old new t i there e1 e2 right pushed =
+Walks-run knows base defaults run a at after checks only old new t i there e1 e2 right one pushed =
     let placed : RunStart → PlacedRun = λ a. record { at = a; run = run; defaults = defaults } in
     let begin : RunStart = begins base run a in
-    let entry : RunEntry = record { at = at; checks = checks; traf = t; run = i } in
+    let entry : RunEntry = record { at = at; checks = checks; only = only; traf = t; run = i } in
     record {
       at = λ runs. e2 ∙ ap (λ (a : RunStart). at_run_sample run defaults a run.sample_count) e1;
       index = λ find runs known s.
           let found : placed_at find entry ≡ Some (placed at) = rw (there find known) refl in
           Indexes-push find runs old new entry (placed begin) pushed (found ∙ ap (λ (a : RunStart). Some
-          (placed a)) e1) (right_at find entry (placed at) found right) s;
+          (placed a)) e1) (right_at find entry (placed at) found right (one at)) s;
     }
 
 -- a track fragment

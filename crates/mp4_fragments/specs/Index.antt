@@ -1,6 +1,6 @@
 -- What is kept of the runs of a track, so that its samples are found fast.
 use Rattle.std.specs.Prelude.{◌≡◌, ℕ, ◌+◌, ◌-◌, ◌^◌, ◌<◌, min, List, [], ◌∷◌, ◌++◌, length, map, slice_get, get_or}
-use Rattle.std.specs.Prelude.{Option, Some, None, nat_lt, if◌then◌else◌}
+use Rattle.std.specs.Prelude.{Option, Some, None, IfSome, nat_lt, if◌then◌else◌}
 use Rattle.std.specs.List.{sum_by, filter_map}
 use Rattle.std.specs.Option.{option_map, option_and_then}
 use Rattle.mp4_frag.specs.declared.trun.TrunBox.{TrunBox}
@@ -9,12 +9,13 @@ use Rattle.mp4_search.specs.Sums.{CountsBefore}
 use Rattle.mp4_fragments.specs.Checkpoints.{AreCheckpoints}
 use Rattle.mp4_fragments.specs.Defaults.{defaults_in}
 use Rattle.mp4_fragments.specs.Fragments.{Walk}
-use Rattle.mp4_fragments.specs.RunSamples.{PlacedRun, run_sample_of, run_count}
+use Rattle.mp4_fragments.specs.RunSamples.{PlacedRun, run_sample_of, run_count, values_of}
 use Rattle.mp4_fragments.specs.declared.defaults.SampleDefaults.{SampleDefaults}
 use Rattle.mp4_fragments.specs.declared.index.RunEntry.{RunEntry}
 use Rattle.mp4_fragments.specs.declared.index.RunIndex.{RunIndex}
 use Rattle.mp4_fragments.specs.declared.run_samples.RunStart.{RunStart}
 use Rattle.mp4_fragments.specs.declared.run_samples.RunSample.{RunSample}
+use Rattle.mp4_fragments.specs.declared.run_samples.SampleValues.{SampleValues}
 
 -- a run by the numbers of its fragment, of those of the track, and of itself, which count from 0
 abbrev pub Find : Type 0
@@ -34,8 +35,13 @@ placed_at find e = option_map (λ x. record { at = e.at; run = x.0; defaults = x
 unfoldable pub runs_of : List TrafBox → SampleDefaults → RunIndex → List PlacedRun
 runs_of trafs track index = filter_map (placed_at (run_at trafs track)) index.entries
 
--- the checkpoints of an entry are those of its run
+-- the one sample of a run
+abbrev pub IsOnly : PlacedRun → SampleValues → Type 0
+IsOnly p v = (run_count p ≡ 1) × (v ≡ values_of p 0)
+
+-- the checkpoints of an entry are those of its run, and what it has of a sample is the run's only one
 pub record IsRight (find : Find) (e : RunEntry) : Type 0 where
+  pub only : (p : PlacedRun) → placed_at find e ≡ Some p → IfSome e.only (IsOnly p)
   pub checks : (p : PlacedRun) → placed_at find e ≡ Some p → AreCheckpoints p.run p.defaults p.at e.checks
 
 -- the index of these runs

@@ -8,6 +8,7 @@ use Rattle.mp4_frag.specs.declared.trun.TrunBox.{TrunBox}
 use Rattle.mp4_fragments.specs.Numbers.{plus, sum_of_first}
 use Rattle.mp4_fragments.specs.declared.run_samples.RunStart.{RunStart}
 use Rattle.mp4_fragments.specs.declared.run_samples.RunSample.{RunSample}
+use Rattle.mp4_fragments.specs.declared.run_samples.SampleValues.{SampleValues}
 use Rattle.mp4_fragments.specs.declared.defaults.SampleDefaults.{SampleDefaults}
 
 -- a run, where and when its first sample begins, and what its samples have where it doesn't list a value
@@ -36,6 +37,15 @@ is_sync_in run defaults j = bit_and (flags_of run defaults j) 0x10000 == 0
 unfoldable pub run_sample_of : PlacedRun → ℕ → RunSample
 run_sample_of p j = record {
   at = at_run_sample p.run p.defaults p.at j;
+  size = get_or p.run.sample_sizes j p.defaults.size;
+  duration = get_or p.run.sample_durations j p.defaults.duration;
+  rendering_offset = cast_signed w32 (get_or p.run.sample_cts j 0);
+  is_sync = is_sync_in p.run p.defaults j;
+}
+
+-- what sample j of a run has beside where it begins
+unfoldable pub values_of : PlacedRun → ℕ → SampleValues
+values_of p j = record {
   size = get_or p.run.sample_sizes j p.defaults.size;
   duration = get_or p.run.sample_durations j p.defaults.duration;
   rendering_offset = cast_signed w32 (get_or p.run.sample_cts j 0);

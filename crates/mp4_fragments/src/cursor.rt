@@ -1,8 +1,8 @@
 //! A walk over the samples of a track's runs.
 
-ghost use Rattle.std.specs.Prelude.{◌≡◌, ◌-◌, ◌^◌, ◌<◌, ◌≤◌, List, Some, slice_get, IsTrue, IsFalse};
+ghost use Rattle.std.specs.Prelude.{◌≡◌, ◌-◌, ◌^◌, ◌<◌, ◌≤◌, List, Some, slice_get, IfSome, IsTrue, IsFalse};
 ghost use Rattle.mp4_fragments.specs.RunSamples.{PlacedRun, all_run_samples};
-ghost use Rattle.mp4_fragments.specs.Cursor.{IsInRuns};
+ghost use Rattle.mp4_fragments.specs.Cursor.{IsAmongRuns, IsInRuns, IsRunEnd};
 
 use crate::defaults::SampleDefaults;
 use crate::run_samples::{RunSample, RunStart, run_sample_run_start};
@@ -23,6 +23,51 @@ pub struct RunCursor<'t> {
     pub(crate) number: u32,
     /// Where the next sample begins.
     pub(crate) at: RunStart,
+}
+
+/// That a walk is after all samples of a run.
+#[derive(Clone, Copy, Debug)]
+pub struct RunEnd {
+    /// The index of the run's entry.
+    pub(crate) entry: usize,
+    /// The number of the next sample, which counts from 0 over all runs.
+    pub(crate) number: u32,
+}
+
+/// Where a walk over the samples of a track's runs is.
+#[derive(Clone, Copy, Debug)]
+pub enum RunPosition<'t> {
+    /// In a run: before one of its samples, or after the last.
+    InRun(RunCursor<'t>),
+    /// After a run of one sample, which was taken from the run's entry.
+    AfterRun(RunEnd),
+}
+
+impl<'t> RunPosition<'t> {
+    /// The end of a run, if it is there and the next sample has this number.
+    #[inline(always)]
+    pub(crate) fn end_before(&self, number: u32) -> Option<RunEnd>
+        ensures { (runs : List PlacedRun) → IsAmongRuns runs self.now
+            → IfSome result (λ e. IsRunEnd runs e × (e.number ≡ number)) }
+    {
+        match self {
+            RunPosition::InRun(cursor) => {
+                if cursor.number != number || cursor.is_before_run_sample() {
+                    return None;
+                }
+                Some(RunEnd {
+                    entry: cursor.entry,
+                    number,
+                })
+            }
+            RunPosition::AfterRun(end) => {
+                if end.number != number {
+                    return None;
+                }
+                Some(*end)
+            }
+        }
+    }
 }
 
 impl<'t> RunCursor<'t> {

@@ -3,7 +3,7 @@
 ghost use Rattle.std.specs.Prelude.{◌≡◌, ℕ, ◌+◌, ◌-◌, ◌^◌, min, [], ◌∷◌, ◌++◌, IfOk};
 ghost use Rattle.mp4_fragments.specs.Index.{Pushed};
 
-use crate::run_samples::RunStart;
+use crate::run_samples::{RunStart, SampleValues};
 use mp4_codec::{DebugItem, Items};
 use mp4_search::SearchedNumbers;
 use std::alloc::{AllocError, Global};
@@ -15,6 +15,8 @@ pub(crate) struct RunEntry {
     pub at: RunStart,
     /// Where every 64th sample begins, from the 64th on, if the run lists sizes or durations.
     pub checks: Items<RunStart>,
+    /// What its sample has, if it has one alone: a walk over such runs looks at their entries and at nothing else.
+    pub only: Option<SampleValues>,
     /// The number of its fragment among those of the track, counted from 0.
     pub traf: usize,
     /// Its number in the fragment, counted from 0.

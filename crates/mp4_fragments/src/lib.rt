@@ -16,7 +16,7 @@ mod times;
 mod values;
 
 pub use bases::{counts_from_data_before, traf_base, traf_end};
-pub use cursor::RunCursor;
+pub use cursor::{RunCursor, RunEnd, RunPosition};
 pub use defaults::SampleDefaults;
 pub use index::RunIndex;
 pub use placing::index_of;

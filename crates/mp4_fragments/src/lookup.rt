@@ -2,15 +2,15 @@
 
 ghost use Rattle.std.specs.Prelude.{◌≡◌, ◌-◌, ◌^◌, ◌<◌, ◌≤◌, List, Some, None, length, min, slice_get, IfNone, IfSome};
 ghost use Rattle.std.specs.Option.{option_map};
-ghost use Rattle.mp4_fragments.specs.Cursor.{IsIn, IsInRuns};
-ghost use Rattle.mp4_fragments.specs.RunSamples.{PlacedRun, all_run_samples};
+ghost use Rattle.mp4_fragments.specs.Cursor.{IsAmongRuns, IsIn, IsInRuns, IsRunEnd};
+ghost use Rattle.mp4_fragments.specs.RunSamples.{PlacedRun, all_run_samples, at_run_sample};
 ghost use Rattle.mp4_fragments.specs.Index.{Find, Indexes, IsRight, placed_at, run_at, runs_of};
 
-use crate::cursor::RunCursor;
+use crate::cursor::{RunCursor, RunEnd, RunPosition};
 use crate::defaults::SampleDefaults;
 use crate::index::{RunEntry, RunIndex};
-use crate::run_samples::RunSample;
-use crate::run_starts::at_by_checkpoints;
+use crate::run_samples::{RunSample, RunStart};
+use crate::run_starts::{add, at_by_checkpoints};
 use mp4_frag::TrunBox;
 use mp4_moof::TrafBox;
 use mp4_search::{ByGuess, Readings, Search};
@@ -68,6 +68,29 @@ fn cursor_in<'t>(
     })
 }
 
+/// Where the first sample of a run begins that begins there.
+#[inline(always)]
+fn first_start(at: RunStart) -> RunStart
+    ensures { (run : TrunBox) (defaults : SampleDefaults) → result ≡ at_run_sample run defaults at 0 }
+{
+    RunStart {
+        place: add(at.place, 0),
+        time: add(at.time, 0),
+    }
+}
+
+/// The end of the run where a walk is, if the next sample has this number.
+#[inline(always)]
+fn end_before(position: &Option<RunPosition>, number: u32) -> Option<RunEnd>
+    ensures { (runs : List PlacedRun) → IfSome position.now (IsAmongRuns runs)
+        → IfSome result (λ e. IsRunEnd runs e × (e.number ≡ number)) }
+{
+    match position {
+        None => None,
+        Some(position) => position.end_before(number),
+    }
+}
+
 impl RunIndex {
     /// A walk before the sample with this number, if there is one; its run is searched.
     #[inline(always)]
@@ -100,56 +123,42 @@ impl RunIndex {
         )
     }
 
-    /// A walk before the first sample of the run after that of a cursor, which is after its last sample; None where
-    /// that run has none.
+    /// The first sample of the run after that which the walk is at the end of, and the walk after it; None where that
+    /// run has no sample, and then the walk stays.
     #[inline(always)]
-    fn next_run<'t>(
+    fn next_run_sample<'t>(
         &self,
         trafs: &'t [TrafBox],
         track: SampleDefaults,
-        cursor: &RunCursor<'t>,
-    ) -> Option<RunCursor<'t>>
+        end: RunEnd,
+        position: &mut Option<RunPosition<'t>>,
+    ) -> Option<RunSample>
+        requires number { end.number < 2 ^ 32 - 1 }
         requires indexed { Indexes (run_at trafs.now track) (runs_of trafs.now track self.now) self.now }
-        requires cursor { IsInRuns (runs_of trafs.now track self.now) cursor.now }
-        requires passed { cursor.now.run.now.sample_count ≤ cursor.now.passed }
-        ensures { IfSome result (λ c. IsInRuns (runs_of trafs.now track self.now) c × (c.number ≡ cursor.now.number)
-            × (c.passed < c.run.now.sample_count) × (c.passed < 2 ^ 32 - 1)) }
+        requires end { IsRunEnd (runs_of trafs.now track self.now) end }
+        requires position { IfSome position.old (IsAmongRuns (runs_of trafs.now track self.now)) }
+        ensures run_sample { IfSome result (λ m.
+            slice_get (all_run_samples (runs_of trafs.now track self.now)) end.number ≡ Some m) }
+        ensures position { IfSome position.new (IsAmongRuns (runs_of trafs.now track self.now)) }
     {
         let entries = self.entries.as_slice();
-        let index = cursor.entry + 1;
+        let index = end.entry + 1;
         let Some(entry) = entries.get(index) else {
             return None;
         };
-        cursor_in(trafs, track, entry, index, 0, cursor.number)
-    }
-
-    /// A walk before the sample with this number, if there is one: where another is after the last sample before it,
-    /// mostly in the run after that one's, else by a search.
-    #[inline(always)]
-    fn cursor_after<'t>(
-        &self,
-        trafs: &'t [TrafBox],
-        track: SampleDefaults,
-        number: u32,
-        readings: &mut Readings,
-        cursor: Option<RunCursor<'t>>,
-    ) -> Option<RunCursor<'t>>
-        requires number { number < 2 ^ 32 - 1 }
-        requires indexed { Indexes (run_at trafs.now track) (runs_of trafs.now track self.now) self.now }
-        requires fresh { readings.old ≡ 0 }
-        requires cursor { IfSome cursor (λ c. IsInRuns (runs_of trafs.now track self.now) c) }
-        ensures some { IfSome result (λ c. IsInRuns (runs_of trafs.now track self.now) c × (c.number ≡ number)
-            × (c.passed < c.run.now.sample_count) × (c.passed < 2 ^ 32 - 1)) }
-        ensures none { IfNone result (slice_get (all_run_samples (runs_of trafs.now track self.now)) number ≡ None) }
-    {
-        if let Some(cursor) = cursor {
-            if cursor.number == number && !cursor.is_before_run_sample() {
-                if let Some(next) = self.next_run(trafs, track, &cursor) {
-                    return Some(next);
-                }
-            }
+        if let Some(values) = entry.only {
+            *position = Some(RunPosition::AfterRun(RunEnd {
+                entry: index,
+                number: end.number + 1,
+            }));
+            return Some(values.begin_at(first_start(entry.at)));
         }
-        self.cursor_at::<ByGuess>(trafs, track, number, readings)
+        let Some(mut cursor) = cursor_in(trafs, track, entry, index, 0, end.number) else {
+            return None;
+        };
+        let run_sample = cursor.step();
+        *position = Some(RunPosition::InRun(cursor));
+        Some(run_sample)
     }
 
     /// The sample with this number, which counts from 0 over all fragments of the track; its run is searched. They are
@@ -183,25 +192,30 @@ impl RunIndex {
         track: SampleDefaults,
         number: u32,
         readings: &mut Readings,
-        cursor: &mut Option<RunCursor<'t>>,
+        position: &mut Option<RunPosition<'t>>,
     ) -> Option<RunSample>
         requires number { number < 2 ^ 32 - 1 }
         requires indexed { Indexes (run_at trafs.now track) (runs_of trafs.now track self.now) self.now }
         requires fresh { readings.old ≡ 0 }
-        requires cursor { IfSome cursor.old (λ c. IsInRuns (runs_of trafs.now track self.now) c) }
+        requires position { IfSome position.old (IsAmongRuns (runs_of trafs.now track self.now)) }
         ensures run_sample { result ≡ slice_get (all_run_samples (runs_of trafs.now track self.now)) number }
-        ensures cursor { IfSome cursor.new (λ c. IsInRuns (runs_of trafs.now track self.now) c) }
+        ensures position { IfSome position.new (IsAmongRuns (runs_of trafs.now track self.now)) }
     {
-        if let Some(cursor) = cursor {
+        if let Some(RunPosition::InRun(cursor)) = position {
             if cursor.number == number && cursor.is_before_run_sample() {
                 return Some(cursor.step());
             }
         }
-        let Some(mut found) = self.cursor_after(trafs, track, number, readings, *cursor) else {
+        if let Some(end) = end_before(position, number) {
+            if let Some(run_sample) = self.next_run_sample(trafs, track, end, position) {
+                return Some(run_sample);
+            }
+        }
+        let Some(mut found) = self.cursor_at::<ByGuess>(trafs, track, number, readings) else {
             return None;
         };
         let run_sample = found.step();
-        *cursor = Some(found);
+        *position = Some(RunPosition::InRun(found));
         Some(run_sample)
     }
 

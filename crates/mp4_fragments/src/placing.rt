@@ -1,15 +1,15 @@
 //! One pass over the fragments of a track, which places its runs.
 
-ghost use Rattle.std.specs.Prelude.{◌≡◌, ℕ, ◌-◌, ◌^◌, ◌<◌, List, length, min, IfOk, Some, fold, zip};
+ghost use Rattle.std.specs.Prelude.{◌≡◌, ℕ, ◌-◌, ◌^◌, ◌<◌, List, length, min, IfOk, IfSome, Some, fold, zip};
 ghost use Rattle.std.specs.List.{sum_by};
 ghost use Rattle.mp4_fragments.specs.Bases.{data_begins};
 ghost use Rattle.mp4_fragments.specs.Defaults.{defaults_in};
 ghost use Rattle.mp4_fragments.specs.Fragments.{begins, first_time, has_run_samples, with_run, with_traf, placed_runs};
-ghost use Rattle.mp4_fragments.specs.Index.{Indexes, Walks, KnowsRuns, KnowsTrafs, run_at};
+ghost use Rattle.mp4_fragments.specs.Index.{Indexes, IsOnly, Walks, KnowsRuns, KnowsTrafs, run_at};
 
 use crate::defaults::SampleDefaults;
 use crate::index::{RunEntry, RunIndex};
-use crate::run_samples::RunStart;
+use crate::run_samples::{RunStart, SampleValues, values_of};
 use crate::run_starts::{at_by_checkpoints, checkpoints, data_begin};
 use mp4_frag::{TfdtBox, TrunBox};
 use mp4_moof::TrafBox;
@@ -43,6 +43,18 @@ fn any_run_samples(traf: &TrafBox) -> bool
     traf.truns.as_slice().iter().any(|run| 0 < run.sample_count)
 }
 
+/// What the sample of a run of one has.
+fn only_values(run: &TrunBox, defaults: SampleDefaults) -> Option<SampleValues>
+    ensures { (first : RunStart)
+        → IfSome result (IsOnly (record { at = first; run = run.now; defaults = defaults })) }
+{
+    if run.sample_count == 1 {
+        Some(values_of(run, defaults, 0))
+    } else {
+        None
+    }
+}
+
 /// Places run `i` of fragment `t` after `end`, and adds it to the index. The answer is its end.
 fn add_run(
     alloc: Global,
@@ -65,6 +77,7 @@ fn add_run(
         RunEntry {
             at,
             checks,
+            only: only_values(run, defaults),
             traf: t,
             run: i,
         },

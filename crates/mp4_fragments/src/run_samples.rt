@@ -2,7 +2,7 @@
 
 ghost use Rattle.mp4_codec.specs.ExactTest.{by_test, field_tests};
 ghost use Rattle.std.specs.Prelude.{◌≡◌};
-ghost use Rattle.mp4_fragments.specs.RunSamples.{at_run_sample, run_sample_of, flags_of, is_sync_in};
+ghost use Rattle.mp4_fragments.specs.RunSamples.{at_run_sample, run_sample_of, flags_of, is_sync_in, values_of};
 
 use crate::defaults::SampleDefaults;
 use crate::values::value_at;
@@ -45,6 +45,41 @@ impl ExactEq for RunSample {
     ghost exact = { by_test (Prim.hlevel field_tests) };
 }
 
+/// What a sample of a run has beside where it begins.
+#[derive(Clone, Copy, Debug)]
+pub(crate) struct SampleValues {
+    /// How many bytes it has.
+    pub size: u32,
+    /// How long it lasts, in ticks of the track's timescale.
+    pub duration: u32,
+    /// How much later than it is decoded it is shown, in ticks of the track's timescale.
+    pub rendering_offset: i32,
+    /// Whether it can be decoded without the samples before it.
+    pub is_sync: bool,
+}
+
+impl SampleValues {
+    /// The sample that has them and begins there.
+    #[inline(always)]
+    pub(crate) fn begin_at(self, at: RunStart) -> RunSample
+        ensures { result ≡ record {
+          at = at;
+          size = self.size;
+          duration = self.duration;
+          rendering_offset = self.rendering_offset;
+          is_sync = self.is_sync;
+        } }
+    {
+        RunSample {
+            at,
+            size: self.size,
+            duration: self.duration,
+            rendering_offset: self.rendering_offset,
+            is_sync: self.is_sync,
+        }
+    }
+}
+
 /// The sample flags of sample `j`.
 fn flags(run: &TrunBox, defaults: SampleDefaults, j: u32) -> u32
     ensures { result ≡ flags_of run.now defaults j }
@@ -65,9 +100,22 @@ pub(crate) fn is_sync(run: &TrunBox, defaults: SampleDefaults, j: u32) -> bool
     flags(run, defaults, j) & IS_NO_SYNC_SAMPLE == 0
 }
 
+/// What sample `j` of a run has beside where it begins.
+#[inline(always)]
+#[tactic(auto, unfolding(crate::specs::RunSamples::values_of))]
+pub(crate) fn values_of(run: &TrunBox, defaults: SampleDefaults, j: u32) -> SampleValues
+    ensures { (first : RunStart) → result ≡ values_of (record { at = first; run = run.now; defaults = defaults }) j }
+{
+    SampleValues {
+        size: value_at(run.sample_sizes.as_slice(), defaults.size, j),
+        duration: value_at(run.sample_durations.as_slice(), defaults.duration, j),
+        rendering_offset: value_at(run.sample_cts.as_slice(), 0, j).cast_signed(),
+        is_sync: is_sync(run, defaults, j),
+    }
+}
+
 /// Sample `j` of a run, by its index, which counts from 0, where it begins there.
 #[inline(always)]
-#[tactic(auto, unfolding(crate::specs::RunSamples::run_sample_of))]
 pub(crate) fn run_sample_run_start(
     run: &TrunBox,
     defaults: SampleDefaults,
@@ -77,11 +125,5 @@ pub(crate) fn run_sample_run_start(
     ensures { (first : RunStart) → at ≡ at_run_sample run.now defaults first j
         → result ≡ run_sample_of (record { at = first; run = run.now; defaults = defaults }) j }
 {
-    RunSample {
-        at,
-        size: value_at(run.sample_sizes.as_slice(), defaults.size, j),
-        duration: value_at(run.sample_durations.as_slice(), defaults.duration, j),
-        rendering_offset: value_at(run.sample_cts.as_slice(), 0, j).cast_signed(),
-        is_sync: is_sync(run, defaults, j),
-    }
+    values_of(run, defaults, j).begin_at(at)
 }
