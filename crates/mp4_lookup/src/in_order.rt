@@ -3,7 +3,7 @@
 ghost use Rattle.std.specs.Prelude.{◌≡◌, ◌-◌, ◌^◌, ◌<◌, IfSome};
 ghost use Rattle.std.specs.Iterator.{YieldsFirstBy, item_count};
 ghost use Rattle.mp4_codec.specs.Cause.{Gives};
-ghost use Rattle.mp4_fragments.specs.Cursor.{IsInRuns};
+ghost use Rattle.mp4_fragments.specs.Cursor.{IsAmongRuns};
 ghost use Rattle.mp4_samples.specs.Tables.{tables_of};
 ghost use Rattle.mp4_lookup.specs.InOrder.{answer_of, answers_from, samples_left};
 ghost use Rattle.mp4_lookup.specs.Tracks.{answer_at};
@@ -16,7 +16,7 @@ use crate::position::Position;
 use crate::samples::Samples;
 use crate::track::Mp4Track;
 use mp4_codec::Result;
-use mp4_fragments::RunCursor;
+use mp4_fragments::RunPosition;
 use mp4_samples::Place;
 
 impl Mp4Track {
@@ -28,7 +28,7 @@ impl Mp4Track {
             track: self,
             number: Some(k),
             position: Position::new(),
-            cursor: None,
+            run_position: None,
         }
     }
 
@@ -46,13 +46,13 @@ impl Mp4Track {
         &'t self,
         k: u32,
         position: &mut Position,
-        cursor: &mut Option<RunCursor<'t>>,
+        run_position: &mut Option<RunPosition<'t>>,
     ) -> Result<Option<Place>>
         requires here { AreIn (tables_of self.now.trak) position.old }
-        requires added { IfSome cursor.old (λ c. IsInRuns (track_runs self.now) c) }
+        requires added { IfSome run_position.old (IsAmongRuns (track_runs self.now)) }
         ensures rule { Gives (λ p. p) result (answer_at self.now.trak self.now.trafs (track_runs self.now) k) }
         ensures here { AreIn (tables_of self.now.trak) position.new }
-        ensures added { IfSome cursor.new (λ c. IsInRuns (track_runs self.now) c) }
+        ensures added { IfSome run_position.new (IsAmongRuns (track_runs self.now)) }
     {
         let mut counters = Counters::of(self);
         let stbl = &self.trak.mdia.minf.stbl;
@@ -61,9 +61,13 @@ impl Mp4Track {
         }
         let number = k - stbl.stsz.sample_count - 1;
         let trafs = self.trafs.as_slice();
-        let Some(run_sample) = self
-            .runs
-            .find_next(trafs, self.defaults, number, &mut counters.runs, cursor)
+        let Some(run_sample) = self.runs.find_next(
+            trafs,
+            self.defaults,
+            number,
+            &mut counters.runs,
+            run_position,
+        )
         else {
             return Ok(None);
         };
@@ -83,7 +87,7 @@ impl<'t> Iterator for Samples<'t> {
         self.number = None;
         match self
             .track
-            .next_place(number, &mut self.position, &mut self.cursor)
+            .next_place(number, &mut self.position, &mut self.run_position)
         {
             Ok(None) => None,
             Ok(Some(place)) => {

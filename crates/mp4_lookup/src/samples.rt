@@ -2,14 +2,14 @@
 
 ghost use Rattle.std.proofs.Props.{props};
 ghost use Rattle.std.specs.Prelude.{IfSome};
-ghost use Rattle.mp4_fragments.specs.Cursor.{IsInRuns};
+ghost use Rattle.mp4_fragments.specs.Cursor.{IsAmongRuns};
 ghost use Rattle.mp4_samples.specs.Tables.{tables_of};
 ghost use Rattle.mp4_lookup.specs.TrackRuns.{track_runs};
 ghost use Rattle.mp4_lookup.specs.Walk.{AreIn};
 
 use crate::position::Position;
 use crate::track::Mp4Track;
-use mp4_fragments::RunCursor;
+use mp4_fragments::RunPosition;
 
 /// Where the samples of a track lie and when they are decoded and shown, in their order: at each number, from one on,
 /// what [`Mp4Track::locate`] answers, but for what it cost.
@@ -26,7 +26,7 @@ pub struct Samples<'t> {
     /// Where the walk is in the tables.
     pub(crate) position: Position,
     /// Where the walk is in the runs of fragments, once it is there.
-    pub(crate) cursor: Option<RunCursor<'t>>,
+    pub(crate) run_position: Option<RunPosition<'t>>,
     ghost here: { AreIn (tables_of track.now.trak) position } by { Prim.hlevel props },
-    ghost added: { IfSome cursor (λ c. IsInRuns (track_runs track.now) c) } by { Prim.hlevel props },
+    ghost added: { IfSome run_position (IsAmongRuns (track_runs track.now)) } by { Prim.hlevel props },
 }
