@@ -7,3 +7,4 @@ pub mod Cursors
 pub mod Decoding
 pub mod Syncing
 pub mod IndexLaws
+pub mod Props

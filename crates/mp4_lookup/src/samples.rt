@@ -2,6 +2,7 @@
 
 ghost use Rattle.std.proofs.Props.{props};
 ghost use Rattle.std.specs.Prelude.{IfSome};
+ghost use Rattle.mp4_fragments.proofs.Props.{IsAmongRuns-prop};
 ghost use Rattle.mp4_fragments.specs.Cursor.{IsAmongRuns};
 ghost use Rattle.mp4_samples.specs.Tables.{tables_of};
 ghost use Rattle.mp4_lookup.specs.TrackRuns.{track_runs};
@@ -28,5 +29,8 @@ pub struct Samples<'t> {
     /// Where the walk is in the runs of fragments, once it is there.
     pub(crate) run_position: Option<RunPosition<'t>>,
     ghost here: { AreIn (tables_of track.now.trak) position } by { Prim.hlevel props },
-    ghost added: { IfSome run_position (IsAmongRuns (track_runs track.now)) } by { Prim.hlevel props },
+    ghost added: { IfSome run_position (IsAmongRuns (track_runs track.now)) } by { Prim.hlevel (
+      props,
+      IsAmongRuns-prop,
+    ) },
 }
