@@ -14,8 +14,8 @@ ghost use Rattle.mp4_codec.specs.Early.{refused_at_once};
 
 use crate::table::{put_table, read_entries, table_size};
 use mp4_codec::{
-    Block, BoxType, DebugItem, Entry, Error, ExactEq, Field, Fields, InRange, Items, Mp4Box, Put,
-    ReadBox, Result, SharedItem, SharedItems, TryClone, WriteBox, put_u32, read_blocks,
+    Block, BoxType, DebugItem, Entry, Error, ExactEq, Field, Fields, InRange, Items, Mp4Box, Plain,
+    Put, ReadBox, Result, SharedItem, SharedItems, TryClone, WriteBox, put_u32, read_blocks,
 };
 use std::alloc::Global;
 use std::slice;
@@ -41,17 +41,7 @@ impl ExactEq for StscEntry {
 
 impl DebugItem for StscEntry {}
 
-impl TryClone for StscEntry {
-    fn try_clone(&self) -> Result<Self>
-        ensures { Gives (λ x. x) result (Ok self.now) }
-    {
-        Ok(*self)
-    }
-
-    fn try_clone_all(alloc: Global, values: &[Self]) -> Result<Items<Self>> {
-        Ok(Items::from(Vec::from_slice(alloc, values)?))
-    }
-}
+impl Plain for StscEntry {}
 
 impl SharedItem for StscEntry {
     fn as_one(&self) -> &[StscEntry] {
