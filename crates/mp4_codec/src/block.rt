@@ -3,12 +3,13 @@
 ghost use Rattle.std.specs.Prelude.{◌≡◌, ◌≤◌, ◌*◌, ℕ, List, length};
 ghost use Rattle.std.specs.Int.{w32, cast_signed};
 ghost use Rattle.byteorder.specs.Endian.{big_number};
-ghost use Rattle.mp4_codec.specs.Cause.{Answers};
-ghost use Rattle.mp4_codec.specs.Bytes.{list_at};
+ghost use Rattle.mp4_codec.specs.Cause.{Answers, Reads};
+ghost use Rattle.mp4_codec.specs.Bytes.{coded, list_at};
 ghost use Rattle.mp4_codec.specs.Blocks.{block_at};
 
-use crate::error::Result;
+use crate::error::{Field, Result};
 use crate::fields::Fields;
+use crate::four_cc::FourCC;
 use crate::items::Items;
 use byteorder::{BigEndian, ByteOrder};
 use std::alloc::Global;
@@ -62,6 +63,27 @@ impl Block for u64 {
     fn from_block(block: &[u8]) -> u64 {
         BigEndian::read_u64(block)
     }
+}
+
+impl Block for FourCC {
+    ghost SIZE = { 4 };
+
+    const SIZE: usize = 4;
+
+    ghost in_block = { λ block. coded (big_number 4 block) };
+
+    fn from_block(block: &[u8]) -> FourCC {
+        FourCC::from(BigEndian::read_u32(block))
+    }
+}
+
+/// The value of the next block.
+#[tactic(auto, unfolding(crate::specs::Blocks::block_at, crate::specs::Bytes::bytes_at))]
+pub(crate) fn read_block<T: Block>(fields: &mut Fields) -> Field<T>
+    ensures { Reads (λ x. (x, fields.new)) result (block_at T.SIZE T.in_block fields.old) }
+{
+    let block = fields.bytes(T::SIZE)?;
+    Ok(T::from_block(block))
 }
 
 /// The values of the next blocks, where all of them are there: they are those that are read one after the other, but
