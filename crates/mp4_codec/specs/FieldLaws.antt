@@ -1,6 +1,6 @@
 -- A field that was written is read again, whatever follows it.
 use Rattle.std.proofs.Common.{◌≡◌, ℕ, zero, suc, ◌+◌, ◌-◌, ◌^◌, ◌<◌, Bool, true, false, cond, ltb, eqb, List, [], ◌∷◌}
-use Rattle.std.proofs.Common.{◌++◌, length, ◌*◌, suc-mul, None, Some, not, Result, Ok, Err, take, ◌≤◌, refl}
+use Rattle.std.proofs.Common.{◌++◌, length, ◌*◌, suc-mul, None, Some, not, Result, Ok, Err, take, drop, ◌≤◌, refl}
 use Rattle.std.proofs.Common.{sym, ap, subst, ◌∙◌, append_assoc, arith}
 use Rattle.std.specs.List.{flat_map, AllByRecursion}
 use Rattle.std.proofs.lemmas.Bool.{le-ltb, lt-ltb, ltb-false, ltb-true}
@@ -11,7 +11,7 @@ use Rattle.std.proofs.Math.Numerals.{one-add}
 use Rattle.byteorder.specs.Endian.{big_number, big_bytes}
 use Rattle.byteorder.specs.Numbers.{length-bytes_high_first, big_number-reads_back}
 use Rattle.std.specs.Prelude.{ℤ, FitsSigned, negsuc, pos}
-use Rattle.std.specs.Int.{w16, w32, cast_unsigned, from_be_bytes}
+use Rattle.std.specs.Int.{w16, w32, cast_signed, cast_unsigned, from_be_bytes}
 use Rattle.std.proofs.lemmas.Nat.{from_be_bytes-to_be_bytes_4}
 use Rattle.std.proofs.lemmas.Int.{to_z-of_z}
 use Rattle.mp4_codec.specs.declared.error.Limit.TheVariants.{Value}
@@ -63,6 +63,15 @@ number_again n x rest h =
       block_again n (big_number n) _ rest (length-number n x),
       number_back n x h,
     ) refl
+
+-- a number at the front of a block, and what is after it
+pub take-number : (n x : ℕ) (rest : List ℕ) → take n (number n x ⧺ rest) ≡ number n x
+unfolding ◌⧺◌
+take-number n x rest = take_at (number n x) rest n (length-number n x)
+
+pub drop-number : (n x : ℕ) (rest : List ℕ) → drop n (number n x ⧺ rest) ≡ rest
+unfolding ◌⧺◌
+drop-number n x rest = drop_at (number n x) rest n (length-number n x)
 
 pub number-has_length : (n : ℕ) → HasLength (number_at n) n
 number-has_length n = is_block-has_length (number_at n) n (big_number n) (number-is_block n)
@@ -200,6 +209,10 @@ length-int16 z = length-number 2 (cast_unsigned w16 z)
 cast_unsigned_fits_32 : (z : ℤ) → FitsSigned w32 z → cast_unsigned w32 z < 256 ^ 4
 cast_unsigned_fits_32 (pos n) h = omega (arith, h)
 cast_unsigned_fits_32 (negsuc n) h = omega (arith, h)
+
+pub int32_back : (z : ℤ) → FitsSigned w32 z → cast_signed w32 (big_number 4 (int32 z)) ≡ z
+unfolding int32
+int32_back z h = rw (number_back 4 (cast_unsigned w32 z) (cast_unsigned_fits_32 z h)) (to_z-of_z w32 z h)
 
 pub int32_again : (z : ℤ) (rest : List ℕ) → FitsSigned w32 z → int32_at (int32 z ⧺ rest) ≡ Ok (z, rest)
 unfolding int32_at int32

@@ -6,16 +6,16 @@ ghost use Rattle.mp4_codec.specs.Cause.{Checks, Gives, fault_of};
 ghost use Rattle.mp4_codec.specs.Boxes.{size_around, no_refusal};
 ghost use Rattle.mp4_codec.specs.declared.box_type.BoxType.TheVariants.{StscBox as stsc};
 ghost use Rattle.mp4_table.specs.Stsc.{stsc_payload, first_sample_after, numbered_after, runs_fault, default_stsc};
-ghost use Rattle.mp4_table.specs.Stsc.{stsc_entry_at, stsc_entry, FitsStoredEntry, stsc_of, IsInRangeStscEntry};
+ghost use Rattle.mp4_table.specs.Stsc.{stsc_entry_in, stsc_entry_at, stsc_entry, FitsStoredEntry, stsc_of, IsInRangeStscEntry};
 ghost use Rattle.mp4_table.specs.Stsc.{IsInRangeStsc, IsWellFormedStsc};
-ghost use Rattle.mp4_table.specs.StscLaws.{stsc_entry_again, length-stsc_entry, stsc_entry-has_length, stsc_again};
-ghost use Rattle.mp4_table.specs.EntryBlocks.{stsc_entry_in};
+ghost use Rattle.mp4_table.specs.StscLaws.{stsc_entry_again, length-stsc_entry, stsc_again};
+ghost use Rattle.mp4_codec.specs.Blocks.{block-is_block};
 ghost use Rattle.mp4_codec.specs.Early.{refused_at_once};
 
 use crate::table::{put_table, read_entries, table_size};
 use mp4_codec::{
-    Block, BoxType, DebugItem, Entry, Error, ExactEq, Field, Fields, InRange, Items, Mp4Box, Plain,
-    Put, ReadBox, Result, SharedItem, SharedItems, TryClone, WriteBox, put_u32, read_blocks,
+    Block, BlockEntry, BoxType, DebugItem, Entry, Error, ExactEq, Fields, InRange, Items, Mp4Box,
+    Plain, Put, ReadBox, Result, SharedItem, SharedItems, TryClone, WriteBox, put_u32,
 };
 use std::alloc::Global;
 use std::slice;
@@ -77,48 +77,20 @@ impl Block for StscEntry {
     }
 }
 
-impl Entry for StscEntry {
-    ghost at = { λ _. stsc_entry_at };
+impl BlockEntry for StscEntry {
+    ghost at = { stsc_entry_at };
 
-    ghost encoded = { λ _. stsc_entry };
+    ghost encoded = { stsc_entry };
 
-    ghost Fits = { λ _. FitsStoredEntry };
+    ghost Fits = { FitsStoredEntry };
 
-    ghost bytes_each = { λ _. 12 };
+    ghost is_block = { block-is_block 12 stsc_entry_in };
 
-    ghost again = { λ _. stsc_entry_again };
+    ghost again = { stsc_entry_again };
 
-    ghost length_encoded = { λ _. length-stsc_entry };
+    ghost length_encoded = { length-stsc_entry };
 
-    ghost has_length = { λ _. stsc_entry-has_length };
-
-    fn size(_version: u8) -> u64 {
-        12
-    }
-
-    #[tactic(auto, unfolding(crate::specs::Stsc::stsc_entry_at))]
-    fn read(fields: &mut Fields, _version: u8) -> Field<Self> {
-        let first_chunk = fields.u32()?;
-        let samples_per_chunk = fields.u32()?;
-        let sample_description_index = fields.u32()?;
-        Ok(StscEntry {
-            first_chunk,
-            samples_per_chunk,
-            sample_description_index,
-            first_sample: 0,
-        })
-    }
-
-    fn read_all(
-        alloc: Global,
-        fields: &mut Fields,
-        _version: u8,
-        count: usize,
-    ) -> Result<Items<Self>> {
-        read_blocks(alloc, fields, count)
-    }
-
-    fn put(self, out: &mut Vec<u8>, _version: u8) -> Put {
+    fn put_block(self, out: &mut Vec<u8>) -> Put {
         put_u32(out, self.first_chunk)?;
         put_u32(out, self.samples_per_chunk)?;
         put_u32(out, self.sample_description_index)?;
