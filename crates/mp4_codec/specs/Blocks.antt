@@ -54,9 +54,9 @@ four_cc-is_block = record {
 
 module _ {A : Type 0} (read : Reader A) (n : ℕ) (value : List ℕ → A) (h : IsBlock read n value) where
   -- where there are enough bytes, it is read from the first n of them
-  pub reads : (bytes : List ℕ) → n ≤ length bytes → read bytes ≡ Ok (value (take n bytes), drop n bytes)
+  pub is_block-reads : (bytes : List ℕ) → n ≤ length bytes → read bytes ≡ Ok (value (take n bytes), drop n bytes)
   unfolding block_at
-  reads bytes enough = rw (h.is bytes, le-ltb _ _ enough) refl
+  is_block-reads bytes enough = rw (h.is bytes, le-ltb _ _ enough) refl
 
   moves : (bytes : List ℕ) (x : A) (rest : List ℕ) → block_at n value bytes ≡ Ok (x, rest)
       → length bytes ≡ n + length rest
@@ -87,7 +87,7 @@ module _ {A : Type 0} (read : Reader A) (n : ℕ) (value : List ℕ → A) (h : 
   is_block-has_length = record {
     moves = λ bytes x rest e. moves bytes x rest (sym (h.is bytes) ∙ e);
     refuses = λ bytes c e. refuses bytes c (sym (h.is bytes) ∙ e);
-    enough = λ bytes whole. ((value (take n bytes), drop n bytes), reads bytes whole);
+    enough = λ bytes whole. ((value (take n bytes), drop n bytes), is_block-reads bytes whole);
   }
 
   -- where all blocks are there, the fields that are read one after the other are the values of the blocks
@@ -98,4 +98,4 @@ module _ {A : Type 0} (read : Reader A) (n : ℕ) (value : List ℕ → A) (h : 
   list_at-blocks (suc count) bytes enough =
       let here : n ≤ length bytes = omega (arith, suc-mul count n) in
       let more : count * n ≤ length (drop n bytes) = omega (arith, suc-mul count n, length-drop n bytes) in
-      rw (← h.is bytes, reads bytes here, list_at-blocks count (drop n bytes) more) refl
+      rw (← h.is bytes, is_block-reads bytes here, list_at-blocks count (drop n bytes) more) refl

@@ -6,7 +6,8 @@ use Rattle.mp4_codec.specs.FieldLaws.{length-number, length-int32, length-then}
 use Rattle.mp4_table.specs.declared.ctts.CttsEntry.{CttsEntry}
 use Rattle.mp4_table.specs.declared.ctts.CttsBox.{CttsBox}
 use Rattle.mp4_table.specs.TableLaws.{written_again, length-table_of_same}
-use Rattle.mp4_table.specs.Ctts.{ctts_entry_in, ctts_entry_at, ctts_entry, IsInRangeCttsEntry, ctts_of, ctts_payload, IsCanonicalCtts}
+use Rattle.mp4_table.specs.Ctts.{ctts_entry_in, ctts_entry_at, ctts_entry, IsInRangeCttsEntry}
+use Rattle.mp4_table.specs.Ctts.{ctts_of, ctts_payload, IsCanonicalCtts}
 
 pub length-ctts_entry : (e : CttsEntry) → length (ctts_entry e) ≡ 8
 unfolding ctts_entry

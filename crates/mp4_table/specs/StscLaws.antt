@@ -15,7 +15,8 @@ use Rattle.mp4_table.specs.declared.stsc.StscEntry.{StscEntry}
 use Rattle.mp4_table.specs.declared.stsc.StscBox.{StscBox}
 use Rattle.mp4_table.specs.Table.{table_of, table}
 use Rattle.mp4_table.specs.TableLaws.{table_again, length-table_of_same}
-use Rattle.mp4_table.specs.Stsc.{with_first_sample, stsc_entry_in, stsc_entry_at, stsc_entry, IsInRangeStscEntry, FitsStoredEntry}
+use Rattle.mp4_table.specs.Stsc.{with_first_sample, stsc_entry_in, stsc_entry_at, stsc_entry, IsInRangeStscEntry}
+use Rattle.mp4_table.specs.Stsc.{FitsStoredEntry}
 use Rattle.mp4_table.specs.Stsc.{sample_number, first_sample_after, numbered_after, stsc_of, stsc_payload}
 use Rattle.mp4_table.specs.Stsc.{HasFirstSamples, IsInRangeStsc, IsCanonicalStsc}
 use Rattle.mp4_codec.specs.WriteLaws.{is_written}

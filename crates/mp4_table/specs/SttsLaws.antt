@@ -6,7 +6,8 @@ use Rattle.mp4_codec.specs.FieldLaws.{length-number, length-then}
 use Rattle.mp4_table.specs.declared.stts.SttsEntry.{SttsEntry}
 use Rattle.mp4_table.specs.declared.stts.SttsBox.{SttsBox}
 use Rattle.mp4_table.specs.TableLaws.{written_again, length-table_of_same}
-use Rattle.mp4_table.specs.Stts.{stts_entry_in, stts_entry_at, stts_entry, IsInRangeSttsEntry, stts_of, stts_payload, IsCanonicalStts}
+use Rattle.mp4_table.specs.Stts.{stts_entry_in, stts_entry_at, stts_entry, IsInRangeSttsEntry}
+use Rattle.mp4_table.specs.Stts.{stts_of, stts_payload, IsCanonicalStts}
 
 pub length-stts_entry : (e : SttsEntry) → length (stts_entry e) ≡ 8
 unfolding stts_entry
