@@ -4,21 +4,14 @@ ghost use Rattle.std.specs.Prelude.{◌≡◌, ℕ, List, length, Result, Ok, On
 ghost use Rattle.std.specs.List.{flat_map};
 ghost use Rattle.mp4_codec.specs.Cause.{Cause, Answers, Checks, Reads};
 ghost use Rattle.mp4_codec.specs.Early.{Shows, refused_at_once};
-ghost use Rattle.std.specs.Prelude.{FitsSigned};
-ghost use Rattle.std.specs.Int.{w32};
-ghost use Rattle.mp4_codec.specs.Bytes.{Appends, ◌⧺◌, Reader, list_at, count_cause, number_at, number, int32_at, int32};
-ghost use Rattle.mp4_codec.specs.Bytes.{four_cc_at, four_cc, IsCode, HasLength};
-ghost use Rattle.mp4_codec.specs.Blocks.{IsBlock, number-is_block, int32-is_block, four_cc-is_block};
+ghost use Rattle.mp4_codec.specs.Bytes.{Appends, ◌⧺◌, Reader, list_at, count_cause, HasLength};
 ghost use Rattle.mp4_codec.specs.Blocks.{is_block-has_length};
-ghost use Rattle.mp4_codec.specs.FieldLaws.{number_again, length-number, int32_again, length-int32, four_cc_again};
-ghost use Rattle.mp4_codec.specs.FieldLaws.{length-four_cc};
 
 use crate::block::{Block, read_block, read_blocks};
 use crate::error::{Error, Field, Result};
 use crate::fields::Fields;
-use crate::four_cc::FourCC;
 use crate::items::Items;
-use crate::put::{Put, put_four_cc, put_i32, put_u32, put_u64};
+use crate::put::Put;
 use std::alloc::Global;
 
 /// An entry of a box's list. Its length in bytes depends on nothing but the version of the box.
@@ -110,28 +103,8 @@ pub fn list_size<T: Entry>(version: u8, items: &[T]) -> u64
     (items.len() as u64).saturating_mul(T::size(version))
 }
 
-/// An entry that is a block of bytes, whatever the version of the box. It says its layout once for each direction, in
-/// `from_block` and in `put_block`, and a list of it is read as a whole.
-pub trait BlockEntry: Block {
-    ghost at: { Reader Self };
-
-    ghost encoded: { Self → List ℕ };
-
-    /// The values that are encoded apart from one another.
-    ghost Fits: { Self → Type 0 };
-
-    /// Adds the block of the entry at the end of a buffer.
-    fn put_block(self, out: &mut Vec<u8>) -> Put
-        ensures { OnOk result (Appends out.old.items out.new.items (encoded self)) };
-
-    ghost is_block: { IsBlock at Self.SIZE Self.in_block };
-
-    ghost again: { (x : Self) (rest : List ℕ) → Fits x → at (encoded x ⧺ rest) ≡ Ok (x, rest) };
-
-    ghost length_encoded: { (x : Self) → length (encoded x) ≡ Self.SIZE };
-}
-
-impl<T: BlockEntry> Entry for T {
+/// An entry in a block is the same in any version of the box, and a list of such entries is read as a whole.
+impl<T: Block> Entry for T {
     ghost at = { λ _. T.at };
 
     ghost encoded = { λ _. T.encoded };
@@ -165,77 +138,5 @@ impl<T: BlockEntry> Entry for T {
 
     fn put(self, out: &mut Vec<u8>, _version: u8) -> Put {
         self.put_block(out)
-    }
-}
-
-impl BlockEntry for u32 {
-    ghost at = { number_at 4 };
-
-    ghost encoded = { number 4 };
-
-    ghost Fits = { λ n. n < 2 ^ 32 };
-
-    ghost is_block = { number-is_block 4 };
-
-    ghost again = { number_again 4 };
-
-    ghost length_encoded = { length-number 4 };
-
-    fn put_block(self, out: &mut Vec<u8>) -> Put {
-        put_u32(out, self)
-    }
-}
-
-impl BlockEntry for i32 {
-    ghost at = { int32_at };
-
-    ghost encoded = { int32 };
-
-    ghost Fits = { FitsSigned w32 };
-
-    ghost is_block = { int32-is_block };
-
-    ghost again = { int32_again };
-
-    ghost length_encoded = { length-int32 };
-
-    fn put_block(self, out: &mut Vec<u8>) -> Put {
-        put_i32(out, self)
-    }
-}
-
-impl BlockEntry for u64 {
-    ghost at = { number_at 8 };
-
-    ghost encoded = { number 8 };
-
-    ghost Fits = { λ n. n < 2 ^ 64 };
-
-    ghost is_block = { number-is_block 8 };
-
-    ghost again = { number_again 8 };
-
-    ghost length_encoded = { length-number 8 };
-
-    fn put_block(self, out: &mut Vec<u8>) -> Put {
-        put_u64(out, self)
-    }
-}
-
-impl BlockEntry for FourCC {
-    ghost at = { four_cc_at };
-
-    ghost encoded = { four_cc };
-
-    ghost Fits = { IsCode };
-
-    ghost is_block = { four_cc-is_block };
-
-    ghost again = { four_cc_again };
-
-    ghost length_encoded = { length-four_cc };
-
-    fn put_block(self, out: &mut Vec<u8>) -> Put {
-        put_four_cc(out, self)
     }
 }

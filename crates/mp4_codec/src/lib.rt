@@ -34,7 +34,7 @@ pub use check::{check_value, check_version};
 pub use child_boxes::{all_size, check_all, check_optional, optional_size, put_all, put_optional};
 pub use children::{Child, Children};
 pub use cursor::ByteCursor;
-pub use entry::{BlockEntry, Entry, list_size, put_list};
+pub use entry::{Entry, list_size, put_list};
 pub use error::{Error, Field, Limit, Malformed, Result};
 pub use exact_eq::{ExactEq, is_equal};
 pub use fields::Fields;

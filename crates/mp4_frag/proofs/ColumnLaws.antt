@@ -29,7 +29,7 @@ field_at flag flags place bytes = chosen (is_set flags flag)
     chosen true enough =
         rw (
           is_block-reads (number_at 4) 4 (big_number 4) (number-is_block 4) (drop place bytes)
-          (omega (arith, length-drop place bytes)),
+              (omega (arith, length-drop place bytes)),
           drop-drop 4 place bytes,
         ) refl
     chosen false enough = let same : place + 0 ≡ place = omega arith in rw same refl

@@ -6,7 +6,7 @@ ghost use Rattle.mp4_codec.specs.Cause.{Checks, Reads};
 ghost use Rattle.mp4_codec.specs.Bytes.{Appends};
 ghost use Rattle.mp4_frag.specs.Optional.{is_set, optional_at, optional_field, flag_refusal};
 
-use mp4_codec::{BlockEntry, Entry, Error, Field, Fields, Put, Result};
+use mp4_codec::{Block, Entry, Error, Field, Fields, Put, Result};
 
 /// Whether a flag, a number of one bit, is set.
 #[tactic(auto, unfolding(crate::specs::Optional::is_set))]
@@ -18,11 +18,7 @@ pub(crate) fn is_set(flags: u32, flag: u32) -> bool
 
 /// The next number where its flag is set, else nothing. Numbers are the same in any version.
 #[tactic(auto, unfolding(crate::specs::Optional::optional_at))]
-pub(crate) fn read_flagged<T: BlockEntry>(
-    fields: &mut Fields,
-    flag: u32,
-    flags: u32,
-) -> Field<Option<T>>
+pub(crate) fn read_flagged<T: Block>(fields: &mut Fields, flag: u32, flags: u32) -> Field<Option<T>>
     ensures { Reads (λ x. (x, fields.new)) result (optional_at T.at flag flags fields.old) }
 {
     if !is_set(flags, flag) {
@@ -34,7 +30,7 @@ pub(crate) fn read_flagged<T: BlockEntry>(
 
 /// Adds a number at the end of a buffer, where there is one.
 #[tactic(auto, unfolding(crate::specs::Optional::optional_field))]
-pub(crate) fn put_flagged<T: BlockEntry>(out: &mut Vec<u8>, field: Option<T>) -> Put
+pub(crate) fn put_flagged<T: Block>(out: &mut Vec<u8>, field: Option<T>) -> Put
     ensures { OnOk result (Appends out.old.items out.new.items (optional_field T.encoded field)) }
 {
     match field {

@@ -13,8 +13,8 @@ ghost use Rattle.mp4_codec.specs.Early.{refused_at_once};
 
 use crate::table::{put_table, read_table, table_size};
 use mp4_codec::{
-    Block, BlockEntry, BoxType, DebugItem, ExactEq, InRange, Mp4Box, Plain, Put, ReadBox, Result,
-    SharedItem, SharedItems, TryClone, WriteBox, put_i32, put_u32,
+    Block, BoxType, DebugItem, ExactEq, InRange, Mp4Box, Plain, Put, ReadBox, Result, SharedItem,
+    SharedItems, TryClone, WriteBox, put_i32, put_u32,
 };
 use std::alloc::Global;
 use std::slice;
@@ -59,15 +59,6 @@ impl Block for CttsEntry {
 
     ghost in_block = { ctts_entry_in };
 
-    fn from_block(block: &[u8]) -> Self {
-        CttsEntry {
-            sample_count: u32::from_block(&block[..4]),
-            sample_offset: i32::from_block(&block[4..]),
-        }
-    }
-}
-
-impl BlockEntry for CttsEntry {
     ghost at = { ctts_entry_at };
 
     ghost encoded = { ctts_entry };
@@ -79,6 +70,13 @@ impl BlockEntry for CttsEntry {
     ghost again = { ctts_entry_again };
 
     ghost length_encoded = { length-ctts_entry };
+
+    fn from_block(block: &[u8]) -> Self {
+        CttsEntry {
+            sample_count: u32::from_block(&block[..4]),
+            sample_offset: i32::from_block(&block[4..]),
+        }
+    }
 
     fn put_block(self, out: &mut Vec<u8>) -> Put {
         put_u32(out, self.sample_count)?;

@@ -14,8 +14,8 @@ ghost use Rattle.mp4_codec.specs.Early.{refused_at_once};
 
 use crate::table::{put_table, read_entries, table_size};
 use mp4_codec::{
-    Block, BlockEntry, BoxType, DebugItem, Entry, Error, ExactEq, Fields, InRange, Items, Mp4Box,
-    Plain, Put, ReadBox, Result, SharedItem, SharedItems, TryClone, WriteBox, put_u32,
+    Block, BoxType, DebugItem, Entry, Error, ExactEq, Fields, InRange, Items, Mp4Box, Plain, Put,
+    ReadBox, Result, SharedItem, SharedItems, TryClone, WriteBox, put_u32,
 };
 use std::alloc::Global;
 use std::slice;
@@ -67,17 +67,6 @@ impl Block for StscEntry {
 
     ghost in_block = { stsc_entry_in };
 
-    fn from_block(block: &[u8]) -> Self {
-        StscEntry {
-            first_chunk: u32::from_block(&block[..4]),
-            samples_per_chunk: u32::from_block(&block[4..8]),
-            sample_description_index: u32::from_block(&block[8..]),
-            first_sample: 0,
-        }
-    }
-}
-
-impl BlockEntry for StscEntry {
     ghost at = { stsc_entry_at };
 
     ghost encoded = { stsc_entry };
@@ -89,6 +78,15 @@ impl BlockEntry for StscEntry {
     ghost again = { stsc_entry_again };
 
     ghost length_encoded = { length-stsc_entry };
+
+    fn from_block(block: &[u8]) -> Self {
+        StscEntry {
+            first_chunk: u32::from_block(&block[..4]),
+            samples_per_chunk: u32::from_block(&block[4..8]),
+            sample_description_index: u32::from_block(&block[8..]),
+            first_sample: 0,
+        }
+    }
 
     fn put_block(self, out: &mut Vec<u8>) -> Put {
         put_u32(out, self.first_chunk)?;

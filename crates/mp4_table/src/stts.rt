@@ -13,8 +13,8 @@ ghost use Rattle.mp4_codec.specs.Early.{refused_at_once};
 
 use crate::table::{put_table, read_table, table_size};
 use mp4_codec::{
-    Block, BlockEntry, BoxType, DebugItem, ExactEq, InRange, Mp4Box, Plain, Put, ReadBox, Result,
-    SharedItem, SharedItems, TryClone, WriteBox, put_u32,
+    Block, BoxType, DebugItem, ExactEq, InRange, Mp4Box, Plain, Put, ReadBox, Result, SharedItem,
+    SharedItems, TryClone, WriteBox, put_u32,
 };
 use std::alloc::Global;
 use std::slice;
@@ -58,15 +58,6 @@ impl Block for SttsEntry {
 
     ghost in_block = { stts_entry_in };
 
-    fn from_block(block: &[u8]) -> Self {
-        SttsEntry {
-            sample_count: u32::from_block(&block[..4]),
-            sample_delta: u32::from_block(&block[4..]),
-        }
-    }
-}
-
-impl BlockEntry for SttsEntry {
     ghost at = { stts_entry_at };
 
     ghost encoded = { stts_entry };
@@ -78,6 +69,13 @@ impl BlockEntry for SttsEntry {
     ghost again = { stts_entry_again };
 
     ghost length_encoded = { length-stts_entry };
+
+    fn from_block(block: &[u8]) -> Self {
+        SttsEntry {
+            sample_count: u32::from_block(&block[..4]),
+            sample_delta: u32::from_block(&block[4..]),
+        }
+    }
 
     fn put_block(self, out: &mut Vec<u8>) -> Put {
         put_u32(out, self.sample_count)?;
