@@ -4,14 +4,14 @@ use Rattle.std.proofs.Common.{◌++◌, length, ◌*◌, suc-mul, None, Some, no
 use Rattle.std.proofs.Common.{sym, ap, subst, ◌∙◌, append_assoc, arith}
 use Rattle.std.specs.List.{flat_map, AllByRecursion}
 use Rattle.std.proofs.lemmas.Bool.{le-ltb, lt-ltb, ltb-false, ltb-true}
-use Rattle.std.proofs.lemmas.List.{append-nil, take_at, drop_at, length-append, length-replicate, length-drop}
+use Rattle.std.proofs.lemmas.List.{append-nil, take_at, drop_at, length-append, length-replicate}
 use Rattle.std.proofs.lemmas.List.Concat.{flat_map-cons}
 use Rattle.std.proofs.lemmas.List.Folds.{length-prefix_len}
 use Rattle.std.proofs.Math.Numerals.{one-add}
 use Rattle.byteorder.specs.Endian.{big_number, big_bytes}
 use Rattle.byteorder.specs.Numbers.{length-bytes_high_first, big_number-reads_back}
 use Rattle.std.specs.Prelude.{ℤ, FitsSigned, negsuc, pos}
-use Rattle.std.specs.Int.{w16, w32, cast_unsigned, from_be_bytes}
+use Rattle.std.specs.Int.{w16, w32, cast_signed, cast_unsigned, from_be_bytes}
 use Rattle.std.proofs.lemmas.Nat.{from_be_bytes-to_be_bytes_4}
 use Rattle.std.proofs.lemmas.Int.{to_z-of_z}
 use Rattle.mp4_codec.specs.declared.error.Limit.TheVariants.{Value}
@@ -22,6 +22,7 @@ use Rattle.mp4_codec.specs.Bytes.{HasLength, ReadsBack, FitsVersion, IsCode, Has
 use Rattle.mp4_codec.specs.Bytes.{coded, four_cc, four_cc_at, until_zero, Reader, ◌⧺◌, bytes_at, number_at, number}
 use Rattle.mp4_codec.specs.Bytes.{zeros, list_at, count_cause, int16_at, int16, int32_at, int32, versioned_at, sized_at}
 use Rattle.mp4_codec.specs.Bytes.{versioned, version_refusal, value_refusal}
+use Rattle.mp4_codec.specs.Blocks.{block_at, number-is_block, is_block-has_length}
 
 long_enough : (xs rest : List ℕ) (n : ℕ) → length xs ≡ n → ltb (length (xs ++ rest)) n ≡ false
 long_enough xs rest n e = le-ltb _ _ (omega (arith, length-append xs rest))
@@ -49,48 +50,31 @@ pub number_back : (n x : ℕ) → x < 256 ^ n → big_number n (number n x) ≡ 
 unfolding number
 number_back n x h = ap (big_number n) (sym (append-nil (big_bytes n x))) ∙ big_number-reads_back n x [] h
 
+pub block_again : {A : Type 0} (n : ℕ) (value : List ℕ → A) (piece rest : List ℕ) → length piece ≡ n
+    → block_at n value (piece ⧺ rest) ≡ Ok (value piece, rest)
+unfolding block_at ◌⧺◌
+block_again n value piece rest e =
+    rw (long_enough piece rest n e, take_at piece rest n e, drop_at piece rest n e) refl
+
 pub number_again : (n x : ℕ) (rest : List ℕ) → x < 256 ^ n → number_at n (number n x ⧺ rest) ≡ Ok (x, rest)
-unfolding number_at ◌⧺◌
 number_again n x rest h =
-    let e = length-number n x in
     rw (
-      long_enough (number n x) rest n e,
-      take_at (number n x) rest n e,
-      drop_at (number n x) rest n e,
+      (number-is_block n).is (number n x ⧺ rest),
+      block_again n (big_number n) _ rest (length-number n x),
       number_back n x h,
     ) refl
 
-number-moves : (n : ℕ) (bytes : List ℕ) (x : ℕ) (rest : List ℕ) → number_at n bytes ≡ Ok (x, rest)
-    → length bytes ≡ n + length rest
-unfolding number_at
-number-moves n bytes x rest e = chosen (ltb (length bytes) n) (ltb-false (length bytes) n) e
-  where
-    chosen : (b : Bool) → (b ≡ false → n ≤ length bytes)
-        → cond {A = Result (ℕ × List ℕ) Cause} b (Err invalid_data) (Ok (big_number n (take n bytes), drop n bytes))
-        ≡ Ok (x, rest) → length bytes ≡ n + length rest
-    chosen true h e = absurd cc
-    chosen false h e =
-        let enough : n ≤ length bytes = h refl in
-        let behind : drop n bytes ≡ rest =
-        ap (λ (y : ℕ × List ℕ). y.1) (ok_is (big_number n (take n bytes), drop n bytes) (x, rest) e) in
-        rw (← behind) (omega (arith, length-drop n bytes))
+-- a number at the front of a block, and what is after it
+pub take-number : (n x : ℕ) (rest : List ℕ) → take n (number n x ⧺ rest) ≡ number n x
+unfolding ◌⧺◌
+take-number n x rest = take_at (number n x) rest n (length-number n x)
 
-number-refuses : (n : ℕ) (bytes : List ℕ) (c : Cause) → number_at n bytes ≡ Err c → c ≡ invalid_data
-unfolding number_at
-number-refuses n bytes c e = chosen (ltb (length bytes) n) e
-  where
-    chosen : (b : Bool)
-        → cond {A = Result (ℕ × List ℕ) Cause} b (Err invalid_data) (Ok (big_number n (take n bytes), drop n bytes))
-        ≡ Err c → c ≡ invalid_data
-    chosen true e = cc
-    chosen false e = absurd cc
-
-number-enough : (n : ℕ) (bytes : List ℕ) → n ≤ length bytes → (x : ℕ × List ℕ) × (number_at n bytes ≡ Ok x)
-unfolding number_at
-number-enough n bytes h = ((big_number n (take n bytes), drop n bytes), rw (le-ltb _ _ h) refl)
+pub drop-number : (n x : ℕ) (rest : List ℕ) → drop n (number n x ⧺ rest) ≡ rest
+unfolding ◌⧺◌
+drop-number n x rest = drop_at (number n x) rest n (length-number n x)
 
 pub number-has_length : (n : ℕ) → HasLength (number_at n) n
-number-has_length n = record { moves = number-moves n; refuses = number-refuses n; enough = number-enough n }
+number-has_length n = is_block-has_length (number_at n) n (big_number n) (number-is_block n)
 
 abbrev seen_as : {A B : Type 0} → (A → B) → Result (A × List ℕ) Cause → Result (B × List ℕ) Cause
 seen_as {A} {B} see r = ◌>>=◌ {B = B × List ℕ} r (λ x. Ok (see x.0, x.1))
@@ -225,6 +209,10 @@ length-int16 z = length-number 2 (cast_unsigned w16 z)
 cast_unsigned_fits_32 : (z : ℤ) → FitsSigned w32 z → cast_unsigned w32 z < 256 ^ 4
 cast_unsigned_fits_32 (pos n) h = omega (arith, h)
 cast_unsigned_fits_32 (negsuc n) h = omega (arith, h)
+
+pub int32_back : (z : ℤ) → FitsSigned w32 z → cast_signed w32 (big_number 4 (int32 z)) ≡ z
+unfolding int32
+int32_back z h = rw (number_back 4 (cast_unsigned w32 z) (cast_unsigned_fits_32 z h)) (to_z-of_z w32 z h)
 
 pub int32_again : (z : ℤ) (rest : List ℕ) → FitsSigned w32 z → int32_at (int32 z ⧺ rest) ≡ Ok (z, rest)
 unfolding int32_at int32

@@ -4,17 +4,14 @@ ghost use Rattle.std.specs.Prelude.{◌≡◌, ℕ, List, length, Result, Ok, On
 ghost use Rattle.std.specs.List.{flat_map};
 ghost use Rattle.mp4_codec.specs.Cause.{Cause, Answers, Checks, Reads};
 ghost use Rattle.mp4_codec.specs.Early.{Shows, refused_at_once};
-ghost use Rattle.mp4_codec.specs.Bytes.{Appends, ◌⧺◌, Reader, list_at, count_cause, number_at, number, four_cc_at};
-ghost use Rattle.mp4_codec.specs.Bytes.{four_cc, IsCode, HasLength};
-ghost use Rattle.mp4_codec.specs.FieldLaws.{number_again, length-number, number-has_length, four_cc_again};
-ghost use Rattle.mp4_codec.specs.FieldLaws.{length-four_cc, four_cc-has_length};
+ghost use Rattle.mp4_codec.specs.Bytes.{Appends, ◌⧺◌, Reader, list_at, count_cause, HasLength};
+ghost use Rattle.mp4_codec.specs.Blocks.{is_block-has_length};
 
-use crate::block::read_blocks;
+use crate::block::{Block, read_block, read_blocks};
 use crate::error::{Error, Field, Result};
 use crate::fields::Fields;
-use crate::four_cc::FourCC;
 use crate::items::Items;
-use crate::put::{Put, put_four_cc, put_u32, put_u64};
+use crate::put::Put;
 use std::alloc::Global;
 
 /// An entry of a box's list. Its length in bytes depends on nothing but the version of the box.
@@ -106,27 +103,28 @@ pub fn list_size<T: Entry>(version: u8, items: &[T]) -> u64
     (items.len() as u64).saturating_mul(T::size(version))
 }
 
-impl Entry for u32 {
-    ghost at = { λ _. number_at 4 };
+/// An entry in a block is the same in any version of the box, and a list of such entries is read as a whole.
+impl<T: Block> Entry for T {
+    ghost at = { λ _. T.at };
 
-    ghost encoded = { λ _. number 4 };
+    ghost encoded = { λ _. T.encoded };
 
-    ghost Fits = { λ _ n. n < 2 ^ 32 };
+    ghost Fits = { λ _. T.Fits };
 
-    ghost bytes_each = { λ _. 4 };
+    ghost bytes_each = { λ _. T.SIZE };
 
-    ghost again = { λ _. number_again 4 };
+    ghost again = { λ _. T.again };
 
-    ghost length_encoded = { λ _. length-number 4 };
+    ghost length_encoded = { λ _. T.length_encoded };
 
-    ghost has_length = { λ _. number-has_length 4 };
+    ghost has_length = { λ _. is_block-has_length T.at T.SIZE T.in_block T.is_block };
 
     fn size(_version: u8) -> u64 {
-        4
+        T::SIZE as u64
     }
 
-    fn read(fields: &mut Fields, _version: u8) -> Field<u32> {
-        fields.u32()
+    fn read(fields: &mut Fields, _version: u8) -> Field<T> {
+        read_block(fields)
     }
 
     fn read_all(
@@ -134,76 +132,11 @@ impl Entry for u32 {
         fields: &mut Fields,
         _version: u8,
         count: usize,
-    ) -> Result<Items<u32>> {
+    ) -> Result<Items<T>> {
         read_blocks(alloc, fields, count)
     }
 
     fn put(self, out: &mut Vec<u8>, _version: u8) -> Put {
-        put_u32(out, self)
-    }
-}
-
-impl Entry for u64 {
-    ghost at = { λ _. number_at 8 };
-
-    ghost encoded = { λ _. number 8 };
-
-    ghost Fits = { λ _ n. n < 2 ^ 64 };
-
-    ghost bytes_each = { λ _. 8 };
-
-    ghost again = { λ _. number_again 8 };
-
-    ghost length_encoded = { λ _. length-number 8 };
-
-    ghost has_length = { λ _. number-has_length 8 };
-
-    fn size(_version: u8) -> u64 {
-        8
-    }
-
-    fn read(fields: &mut Fields, _version: u8) -> Field<u64> {
-        fields.u64()
-    }
-
-    fn read_all(
-        alloc: Global,
-        fields: &mut Fields,
-        _version: u8,
-        count: usize,
-    ) -> Result<Items<u64>> {
-        read_blocks(alloc, fields, count)
-    }
-
-    fn put(self, out: &mut Vec<u8>, _version: u8) -> Put {
-        put_u64(out, self)
-    }
-}
-
-impl Entry for FourCC {
-    ghost at = { λ _. four_cc_at };
-
-    ghost encoded = { λ _. four_cc };
-
-    ghost Fits = { λ _. IsCode };
-
-    ghost bytes_each = { λ _. 4 };
-
-    ghost again = { λ _. four_cc_again };
-
-    ghost length_encoded = { λ _. length-four_cc };
-
-    ghost has_length = { λ _. four_cc-has_length };
-
-    fn size(_version: u8) -> u64 {
-        4
-    }
-
-    fn read(fields: &mut Fields, _version: u8) -> Field<FourCC> {
-        fields.four_cc()
-    }
-
-    fn put(self, out: &mut Vec<u8>, _version: u8) -> Put {
-        put_four_cc(out, self)
+        self.put_block(out)
     }
 }

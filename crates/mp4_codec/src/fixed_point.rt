@@ -3,12 +3,10 @@
 //! The high half of the bits is the whole part, and the low half counts fractions of it.
 
 ghost use Rattle.mp4_codec.specs.ExactTest.{by_test, field_tests};
-ghost use Rattle.std.specs.Prelude.{◌≡◌, ◌*◌, ◌/◌, pos, ◌*ℤ◌, ◌+ℤ◌, ◌≤ℤ◌, ◌<ℤ◌, Ok};
-ghost use Rattle.mp4_codec.specs.Cause.{Gives};
+ghost use Rattle.std.specs.Prelude.{◌≡◌, ◌*◌, ◌/◌, pos, ◌*ℤ◌, ◌+ℤ◌, ◌≤ℤ◌, ◌<ℤ◌};
 
-use crate::error::Result;
 use crate::exact_eq::ExactEq;
-use crate::try_clone::TryClone;
+use crate::try_clone::Plain;
 use std::fmt;
 use std::fmt::Debug;
 
@@ -62,13 +60,7 @@ impl Debug for FixedPointU8 {
     }
 }
 
-impl TryClone for FixedPointU8 {
-    fn try_clone(&self) -> Result<Self>
-        ensures { Gives (λ x. x) result (Ok self.now) }
-    {
-        Ok(*self)
-    }
-}
+impl Plain for FixedPointU8 {}
 
 /// A signed number of 8.8 bits.
 #[derive(Clone, Copy, PartialEq, Eq)]
@@ -121,13 +113,7 @@ impl Debug for FixedPointI8 {
     }
 }
 
-impl TryClone for FixedPointI8 {
-    fn try_clone(&self) -> Result<Self>
-        ensures { Gives (λ x. x) result (Ok self.now) }
-    {
-        Ok(*self)
-    }
-}
+impl Plain for FixedPointI8 {}
 
 /// An unsigned number of 16.16 bits.
 #[derive(Clone, Copy, PartialEq, Eq)]
@@ -179,10 +165,4 @@ impl Debug for FixedPointU16 {
     }
 }
 
-impl TryClone for FixedPointU16 {
-    fn try_clone(&self) -> Result<Self>
-        ensures { Gives (λ x. x) result (Ok self.now) }
-    {
-        Ok(*self)
-    }
-}
+impl Plain for FixedPointU16 {}

@@ -58,4 +58,4 @@ pub use put::{
 };
 pub use shared_items::{SharedItem, SharedItems};
 pub use text::Text;
-pub use try_clone::{TryClone, four_copies};
+pub use try_clone::{Plain, TryClone, four_copies};

@@ -15,8 +15,8 @@ pub trait TryClone: Sized + Drop {
     fn try_clone(&self) -> Result<Self>
         ensures { Answers (λ x. x) result (Ok self.now) };
 
-    /// A list of equal values. It is refused by `OutOfMemory` alone. They are copied one after the other; numbers,
-    /// codes and entries of tables, which are copied by their bytes, all at once.
+    /// A list of equal values. It is refused by `OutOfMemory` alone. They are copied one after the other; those that
+    /// are `Plain`, as numbers, codes and entries of tables, all at once.
     fn try_clone_all(alloc: Global, values: &[Self]) -> Result<Items<Self>>
         ensures { Answers (λ x. x) result (Ok values.now) }
     {
@@ -28,77 +28,32 @@ pub trait TryClone: Sized + Drop {
     }
 }
 
-impl TryClone for u8 {
-    fn try_clone(&self) -> Result<u8>
+/// A value that is copied by its bytes, which takes no memory.
+pub trait Plain: Copy {}
+
+impl<T: Plain> TryClone for T {
+    fn try_clone(&self) -> Result<T>
         ensures { Gives (λ x. x) result (Ok self.now) }
     {
         Ok(*self)
     }
 
-    fn try_clone_all(alloc: Global, values: &[u8]) -> Result<Items<u8>> {
+    fn try_clone_all(alloc: Global, values: &[T]) -> Result<Items<T>> {
         Ok(Items::from(Vec::from_slice(alloc, values)?))
     }
 }
 
-impl TryClone for u16 {
-    fn try_clone(&self) -> Result<u16>
-        ensures { Gives (λ x. x) result (Ok self.now) }
-    {
-        Ok(*self)
-    }
+impl Plain for u8 {}
 
-    fn try_clone_all(alloc: Global, values: &[u16]) -> Result<Items<u16>> {
-        Ok(Items::from(Vec::from_slice(alloc, values)?))
-    }
-}
+impl Plain for u16 {}
 
-impl TryClone for u32 {
-    fn try_clone(&self) -> Result<u32>
-        ensures { Gives (λ x. x) result (Ok self.now) }
-    {
-        Ok(*self)
-    }
+impl Plain for u32 {}
 
-    fn try_clone_all(alloc: Global, values: &[u32]) -> Result<Items<u32>> {
-        Ok(Items::from(Vec::from_slice(alloc, values)?))
-    }
-}
+impl Plain for u64 {}
 
-impl TryClone for u64 {
-    fn try_clone(&self) -> Result<u64>
-        ensures { Gives (λ x. x) result (Ok self.now) }
-    {
-        Ok(*self)
-    }
+impl Plain for FourCC {}
 
-    fn try_clone_all(alloc: Global, values: &[u64]) -> Result<Items<u64>> {
-        Ok(Items::from(Vec::from_slice(alloc, values)?))
-    }
-}
-
-impl TryClone for FourCC {
-    fn try_clone(&self) -> Result<FourCC>
-        ensures { Gives (λ x. x) result (Ok self.now) }
-    {
-        Ok(*self)
-    }
-
-    fn try_clone_all(alloc: Global, values: &[FourCC]) -> Result<Items<FourCC>> {
-        Ok(Items::from(Vec::from_slice(alloc, values)?))
-    }
-}
-
-impl TryClone for BoxType {
-    fn try_clone(&self) -> Result<BoxType>
-        ensures { Gives (λ x. x) result (Ok self.now) }
-    {
-        Ok(*self)
-    }
-
-    fn try_clone_all(alloc: Global, values: &[BoxType]) -> Result<Items<BoxType>> {
-        Ok(Items::from(Vec::from_slice(alloc, values)?))
-    }
-}
+impl Plain for BoxType {}
 
 impl<A: TryClone, B: TryClone> TryClone for (A, B) {
     fn try_clone(&self) -> Result<(A, B)> {

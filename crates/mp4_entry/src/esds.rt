@@ -2,7 +2,7 @@
 
 ghost use Rattle.mp4_codec.specs.ExactTest.{by_law, by_test, field_tests};
 ghost use Rattle.mp4_entry.specs.declared.esds.SLConfigDescriptor.{SLConfigDescriptor};
-ghost use Rattle.std.specs.Prelude.{◌≡◌, ◌≤◌, ◌+◌, ◌^◌, Ok, OnOk, refl, true};
+ghost use Rattle.std.specs.Prelude.{◌≡◌, ◌≤◌, ◌+◌, ◌^◌, OnOk, refl, true};
 ghost use Rattle.mp4_codec.specs.declared.box_type.BoxType.TheVariants.{EsdsBox as esds};
 ghost use Rattle.mp4_codec.specs.Cause.{Checks, Gives};
 ghost use Rattle.mp4_codec.specs.Bytes.{Appends, number};
@@ -20,7 +20,7 @@ ghost use Rattle.mp4_codec.specs.Early.{at_once};
 use crate::descriptor::{Padded, first_body};
 use crate::narrow::{check_most, put_low_u8, put_low_u16};
 use mp4_codec::{
-    BoxType, ExactEq, Fields, InRange, Mp4Box, Put, ReadBox, Result, TryClone, WriteBox, put_u8,
+    BoxType, ExactEq, Fields, InRange, Mp4Box, Plain, Put, ReadBox, Result, WriteBox, put_u8,
     put_u16, put_u24, put_u32,
 };
 use std::alloc::Global;
@@ -352,45 +352,15 @@ impl Default for EsdsBox {
     }
 }
 
-impl TryClone for DecoderSpecificDescriptor {
-    fn try_clone(&self) -> Result<Self>
-        ensures { Gives (λ x. x) result (Ok self.now) }
-    {
-        Ok(*self)
-    }
-}
+impl Plain for DecoderSpecificDescriptor {}
 
-impl TryClone for DecoderConfigDescriptor {
-    fn try_clone(&self) -> Result<Self>
-        ensures { Gives (λ x. x) result (Ok self.now) }
-    {
-        Ok(*self)
-    }
-}
+impl Plain for DecoderConfigDescriptor {}
 
-impl TryClone for SLConfigDescriptor {
-    fn try_clone(&self) -> Result<Self>
-        ensures { Gives (λ x. x) result (Ok self.now) }
-    {
-        Ok(*self)
-    }
-}
+impl Plain for SLConfigDescriptor {}
 
-impl TryClone for ESDescriptor {
-    fn try_clone(&self) -> Result<Self>
-        ensures { Gives (λ x. x) result (Ok self.now) }
-    {
-        Ok(*self)
-    }
-}
+impl Plain for ESDescriptor {}
 
-impl TryClone for EsdsBox {
-    fn try_clone(&self) -> Result<Self>
-        ensures { Gives (λ x. x) result (Ok self.now) }
-    {
-        Ok(*self)
-    }
-}
+impl Plain for EsdsBox {}
 
 impl InRange for EsdsBox {
     ghost IsInRange = { IsInRangeEsds };

@@ -24,9 +24,9 @@ use crate::esds::{
 };
 use crate::sample_freq_index::SampleFreqIndex;
 use mp4_codec::{
-    BoxType, Child, Children, ExactEq, Fields, FixedPointU16, InRange, Mp4Box, Put, ReadBox,
-    Result, TryClone, WriteBox, check_optional, last_child, optional_size, put_optional, put_u16,
-    put_u32, put_zeros,
+    BoxType, Child, Children, ExactEq, Fields, FixedPointU16, InRange, Mp4Box, Plain, Put, ReadBox,
+    Result, WriteBox, check_optional, last_child, optional_size, put_optional, put_u16, put_u32,
+    put_zeros,
 };
 use std::alloc::Global;
 
@@ -79,13 +79,7 @@ impl ExactEq for AacConfig {
     )) };
 }
 
-impl TryClone for AacConfig {
-    fn try_clone(&self) -> Result<Self>
-        ensures { Gives (λ x. x) result (Ok self.now) }
-    {
-        Ok(*self)
-    }
-}
+impl Plain for AacConfig {}
 
 impl InRange for AacConfig {
     ghost IsInRange = { IsInRangeAacConfig };
@@ -257,13 +251,7 @@ impl Default for Mp4aBox {
     }
 }
 
-impl TryClone for Mp4aBox {
-    fn try_clone(&self) -> Result<Self>
-        ensures { Gives (λ x. x) result (Ok self.now) }
-    {
-        Ok(*self)
-    }
-}
+impl Plain for Mp4aBox {}
 
 impl InRange for Mp4aBox {
     ghost IsInRange = { IsInRangeMp4a };

@@ -1,7 +1,7 @@
 //! The sample entry of timed text.
 
 ghost use Rattle.mp4_codec.specs.ExactTest.{by_test, field_tests};
-ghost use Rattle.std.specs.Prelude.{◌≡◌, Ok, refl};
+ghost use Rattle.std.specs.Prelude.{◌≡◌, refl};
 ghost use Rattle.mp4_codec.specs.declared.box_type.BoxType.TheVariants.{Tx3gBox as tx3g};
 ghost use Rattle.mp4_codec.specs.Boxes.{size_around, no_refusal};
 ghost use Rattle.mp4_codec.specs.Cause.{Gives};
@@ -10,7 +10,7 @@ ghost use Rattle.mp4_entry.specs.Tx3gLaws.{tx3g_again};
 ghost use Rattle.mp4_codec.specs.Early.{at_once};
 
 use mp4_codec::{
-    BoxType, ExactEq, Fields, InRange, Mp4Box, Put, ReadBox, Result, TryClone, WriteBox, put_bytes,
+    BoxType, ExactEq, Fields, InRange, Mp4Box, Plain, Put, ReadBox, Result, WriteBox, put_bytes,
     put_u16, put_zeros,
 };
 use std::alloc::Global;
@@ -23,13 +23,7 @@ impl ExactEq for TtxtConfig {
     ghost exact = { λ x y h. refl };
 }
 
-impl TryClone for TtxtConfig {
-    fn try_clone(&self) -> Result<Self>
-        ensures { Gives (λ x. x) result (Ok self.now) }
-    {
-        Ok(*self)
-    }
-}
+impl Plain for TtxtConfig {}
 
 impl InRange for TtxtConfig {
     ghost IsInRange = { λ config. Unit {0} };
@@ -93,13 +87,7 @@ impl Default for Tx3gBox {
     }
 }
 
-impl TryClone for Tx3gBox {
-    fn try_clone(&self) -> Result<Self>
-        ensures { Gives (λ x. x) result (Ok self.now) }
-    {
-        Ok(*self)
-    }
-}
+impl Plain for Tx3gBox {}
 
 impl InRange for Tx3gBox {
     ghost IsInRange = { IsInRangeTx3g };

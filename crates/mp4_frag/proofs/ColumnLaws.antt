@@ -6,7 +6,7 @@ use Rattle.std.proofs.lemmas.Bool.{ltb-false}
 use Rattle.std.proofs.lemmas.List.{length-drop, drop-drop}
 use Rattle.mp4_codec.specs.Cause.{Cause, invalid_data, ◌>>=◌}
 use Rattle.mp4_codec.specs.Bytes.{number_at, list_at, count_cause}
-use Rattle.mp4_codec.specs.Blocks.{big_number, number-is_block}
+use Rattle.mp4_codec.specs.Blocks.{big_number, number-is_block, is_block-reads}
 use Rattle.mp4_frag.specs.declared.rows.Row.{Row}
 use Rattle.mp4_frag.specs.Optional.{is_set, optional_at}
 use Rattle.mp4_frag.specs.Rows.{row_at, field_length, row_length, columns_at}
@@ -28,7 +28,8 @@ field_at flag flags place bytes = chosen (is_set flags flag)
         ≡ Ok (cond b (Some (big_number 4 (take 4 (drop place bytes)))) None, drop (place + cond b 4 0) bytes)
     chosen true enough =
         rw (
-          (number-is_block 4).reads (drop place bytes) (omega (arith, length-drop place bytes)),
+          is_block-reads (number_at 4) 4 (big_number 4) (number-is_block 4) (drop place bytes)
+              (omega (arith, length-drop place bytes)),
           drop-drop 4 place bytes,
         ) refl
     chosen false enough = let same : place + 0 ≡ place = omega arith in rw same refl

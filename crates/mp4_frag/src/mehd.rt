@@ -1,7 +1,7 @@
 //! How long a movie with its fragments is.
 
 ghost use Rattle.mp4_codec.specs.ExactTest.{by_test, field_tests};
-ghost use Rattle.std.specs.Prelude.{◌≡◌, Ok};
+ghost use Rattle.std.specs.Prelude.{◌≡◌};
 ghost use Rattle.mp4_codec.specs.declared.box_type.BoxType.TheVariants.{MehdBox as mehd};
 ghost use Rattle.mp4_codec.specs.Cause.{Gives};
 ghost use Rattle.mp4_codec.specs.Boxes.{size_around};
@@ -11,8 +11,8 @@ ghost use Rattle.mp4_frag.specs.MehdLaws.{mehd_again};
 ghost use Rattle.mp4_codec.specs.Early.{at_once};
 
 use mp4_codec::{
-    BoxType, ExactEq, Fields, InRange, Mp4Box, Put, ReadBox, Result, TryClone, WriteBox,
-    check_value, check_version, put_u8, put_u24, put_versioned,
+    BoxType, ExactEq, Fields, InRange, Mp4Box, Plain, Put, ReadBox, Result, WriteBox, check_value,
+    check_version, put_u8, put_u24, put_versioned,
 };
 use std::alloc::Global;
 
@@ -62,13 +62,7 @@ impl Default for MehdBox {
     }
 }
 
-impl TryClone for MehdBox {
-    fn try_clone(&self) -> Result<Self>
-        ensures { Gives (λ x. x) result (Ok self.now) }
-    {
-        Ok(*self)
-    }
-}
+impl Plain for MehdBox {}
 
 impl InRange for MehdBox {
     ghost IsInRange = { IsInRangeMehd };

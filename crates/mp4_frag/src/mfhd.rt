@@ -1,7 +1,7 @@
 //! The movie fragment header.
 
 ghost use Rattle.mp4_codec.specs.ExactTest.{by_test, field_tests};
-ghost use Rattle.std.specs.Prelude.{◌≡◌, Ok};
+ghost use Rattle.std.specs.Prelude.{◌≡◌};
 ghost use Rattle.mp4_codec.specs.declared.box_type.BoxType.TheVariants.{MfhdBox as mfhd};
 ghost use Rattle.mp4_codec.specs.Cause.{Gives};
 ghost use Rattle.mp4_codec.specs.Boxes.{size_around, no_refusal};
@@ -10,7 +10,7 @@ ghost use Rattle.mp4_frag.specs.MfhdLaws.{mfhd_again};
 ghost use Rattle.mp4_codec.specs.Early.{at_once};
 
 use mp4_codec::{
-    BoxType, ExactEq, Fields, InRange, Mp4Box, Put, ReadBox, Result, TryClone, WriteBox, put_u8,
+    BoxType, ExactEq, Fields, InRange, Mp4Box, Plain, Put, ReadBox, Result, WriteBox, put_u8,
     put_u24, put_u32,
 };
 use std::alloc::Global;
@@ -60,13 +60,7 @@ impl Default for MfhdBox {
     }
 }
 
-impl TryClone for MfhdBox {
-    fn try_clone(&self) -> Result<Self>
-        ensures { Gives (λ x. x) result (Ok self.now) }
-    {
-        Ok(*self)
-    }
-}
+impl Plain for MfhdBox {}
 
 impl InRange for MfhdBox {
     ghost IsInRange = { IsInRangeMfhd };

@@ -1,69 +1,12 @@
 //! Fields that are there where a flag is set.
 
-ghost use Rattle.std.specs.Prelude.{◌≡◌, ◌≤◌, ℕ, List, OnOk};
+ghost use Rattle.std.specs.Prelude.{◌≡◌, ◌≤◌, OnOk};
 ghost use Rattle.std.specs.Option.{option_len};
 ghost use Rattle.mp4_codec.specs.Cause.{Checks, Reads};
-ghost use Rattle.mp4_codec.specs.Bytes.{Appends, Reader, number_at, number, int32_at, int32};
+ghost use Rattle.mp4_codec.specs.Bytes.{Appends};
 ghost use Rattle.mp4_frag.specs.Optional.{is_set, optional_at, optional_field, flag_refusal};
 
-use mp4_codec::{Error, Field, Fields, Put, Result, put_i32, put_u32, put_u64};
-
-/// A number that may be there or not.
-pub(crate) trait Number: Copy {
-    ghost at: { Reader Self };
-
-    ghost encoded: { Self → List ℕ };
-
-    /// The next number.
-    fn read(fields: &mut Fields) -> Field<Self>
-        ensures { Reads (λ x. (x, fields.new)) result (at fields.old) };
-
-    /// Adds the number at the end of a buffer.
-    fn put(self, out: &mut Vec<u8>) -> Put
-        ensures { OnOk result (Appends out.old.items out.new.items (encoded self)) };
-}
-
-impl Number for u32 {
-    ghost at = { number_at 4 };
-
-    ghost encoded = { number 4 };
-
-    fn read(fields: &mut Fields) -> Field<u32> {
-        fields.u32()
-    }
-
-    fn put(self, out: &mut Vec<u8>) -> Put {
-        put_u32(out, self)
-    }
-}
-
-impl Number for u64 {
-    ghost at = { number_at 8 };
-
-    ghost encoded = { number 8 };
-
-    fn read(fields: &mut Fields) -> Field<u64> {
-        fields.u64()
-    }
-
-    fn put(self, out: &mut Vec<u8>) -> Put {
-        put_u64(out, self)
-    }
-}
-
-impl Number for i32 {
-    ghost at = { int32_at };
-
-    ghost encoded = { int32 };
-
-    fn read(fields: &mut Fields) -> Field<i32> {
-        fields.i32()
-    }
-
-    fn put(self, out: &mut Vec<u8>) -> Put {
-        put_i32(out, self)
-    }
-}
+use mp4_codec::{Block, Entry, Error, Field, Fields, Put, Result};
 
 /// Whether a flag, a number of one bit, is set.
 #[tactic(auto, unfolding(crate::specs::Optional::is_set))]
@@ -73,29 +16,25 @@ pub(crate) fn is_set(flags: u32, flag: u32) -> bool
     flags & flag != 0
 }
 
-/// The next number where its flag is set, else nothing.
+/// The next number where its flag is set, else nothing. Numbers are the same in any version.
 #[tactic(auto, unfolding(crate::specs::Optional::optional_at))]
-pub(crate) fn read_flagged<T: Number>(
-    fields: &mut Fields,
-    flag: u32,
-    flags: u32,
-) -> Field<Option<T>>
+pub(crate) fn read_flagged<T: Block>(fields: &mut Fields, flag: u32, flags: u32) -> Field<Option<T>>
     ensures { Reads (λ x. (x, fields.new)) result (optional_at T.at flag flags fields.old) }
 {
     if !is_set(flags, flag) {
         return Ok(None);
     }
-    let number = T::read(fields)?;
+    let number = T::read(fields, 0)?;
     Ok(Some(number))
 }
 
 /// Adds a number at the end of a buffer, where there is one.
 #[tactic(auto, unfolding(crate::specs::Optional::optional_field))]
-pub(crate) fn put_flagged<T: Number>(out: &mut Vec<u8>, field: Option<T>) -> Put
+pub(crate) fn put_flagged<T: Block>(out: &mut Vec<u8>, field: Option<T>) -> Put
     ensures { OnOk result (Appends out.old.items out.new.items (optional_field T.encoded field)) }
 {
     match field {
-        Some(number) => number.put(out),
+        Some(number) => number.put_block(out),
         None => Ok(()),
     }
 }

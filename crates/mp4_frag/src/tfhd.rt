@@ -1,7 +1,7 @@
 //! The track fragment header.
 
 ghost use Rattle.mp4_codec.specs.ExactTest.{by_test, field_tests};
-ghost use Rattle.std.specs.Prelude.{◌≡◌, Ok};
+ghost use Rattle.std.specs.Prelude.{◌≡◌};
 ghost use Rattle.mp4_codec.specs.declared.box_type.BoxType.TheVariants.{TfhdBox as tfhd};
 ghost use Rattle.mp4_codec.specs.Cause.{Gives};
 ghost use Rattle.mp4_codec.specs.Boxes.{size_around};
@@ -12,7 +12,7 @@ ghost use Rattle.mp4_codec.specs.Early.{at_once};
 
 use crate::optional::{check_flagged, how_many, put_flagged, read_flagged};
 use mp4_codec::{
-    BoxType, ExactEq, Fields, InRange, Mp4Box, Put, ReadBox, Result, TryClone, WriteBox, put_u8,
+    BoxType, ExactEq, Fields, InRange, Mp4Box, Plain, Put, ReadBox, Result, WriteBox, put_u8,
     put_u24, put_u32,
 };
 use std::alloc::Global;
@@ -100,13 +100,7 @@ impl Default for TfhdBox {
     }
 }
 
-impl TryClone for TfhdBox {
-    fn try_clone(&self) -> Result<Self>
-        ensures { Gives (λ x. x) result (Ok self.now) }
-    {
-        Ok(*self)
-    }
-}
+impl Plain for TfhdBox {}
 
 impl InRange for TfhdBox {
     ghost IsInRange = { IsInRangeTfhd };

@@ -1,7 +1,7 @@
 //! The defaults of a track in movie fragments.
 
 ghost use Rattle.mp4_codec.specs.ExactTest.{by_test, field_tests};
-ghost use Rattle.std.specs.Prelude.{◌≡◌, Ok};
+ghost use Rattle.std.specs.Prelude.{◌≡◌};
 ghost use Rattle.mp4_codec.specs.declared.box_type.BoxType.TheVariants.{TrexBox as trex};
 ghost use Rattle.mp4_codec.specs.Cause.{Gives};
 ghost use Rattle.mp4_codec.specs.Boxes.{size_around, no_refusal};
@@ -10,7 +10,7 @@ ghost use Rattle.mp4_frag.specs.TrexLaws.{trex_again};
 ghost use Rattle.mp4_codec.specs.Early.{at_once};
 
 use mp4_codec::{
-    BoxType, DebugItem, ExactEq, Fields, InRange, Mp4Box, Put, ReadBox, Result, TryClone, WriteBox,
+    BoxType, DebugItem, ExactEq, Fields, InRange, Mp4Box, Plain, Put, ReadBox, Result, WriteBox,
     put_u8, put_u24, put_u32,
 };
 use std::alloc::Global;
@@ -75,13 +75,7 @@ impl Default for TrexBox {
     }
 }
 
-impl TryClone for TrexBox {
-    fn try_clone(&self) -> Result<Self>
-        ensures { Gives (λ x. x) result (Ok self.now) }
-    {
-        Ok(*self)
-    }
-}
+impl Plain for TrexBox {}
 
 impl InRange for TrexBox {
     ghost IsInRange = { IsInRangeTrex };

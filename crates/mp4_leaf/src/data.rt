@@ -13,8 +13,8 @@ ghost use Rattle.mp4_leaf.specs.DataLaws.{data_again};
 ghost use Rattle.mp4_codec.specs.Early.{refused_at_once};
 
 use mp4_codec::{
-    BoxType, ExactEq, Fields, InRange, Items, Mp4Box, Put, ReadBox, Result, TryClone, WriteBox,
-    put_bytes, put_u32, put_zeros,
+    BoxType, ExactEq, Fields, InRange, Items, Mp4Box, Plain, Put, ReadBox, Result, TryClone,
+    WriteBox, put_bytes, put_u32, put_zeros,
 };
 use std::alloc::Global;
 
@@ -45,13 +45,7 @@ impl Default for DataType {
     }
 }
 
-impl TryClone for DataType {
-    fn try_clone(&self) -> Result<Self>
-        ensures { Gives (λ x. x) result (Ok self.now) }
-    {
-        Ok(*self)
-    }
-}
+impl Plain for DataType {}
 
 impl InRange for DataType {
     ghost IsInRange = { IsInRangeDataType };

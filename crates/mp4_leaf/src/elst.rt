@@ -12,7 +12,7 @@ ghost use Rattle.mp4_codec.specs.Boxes.{size_around, all_refusal};
 ghost use Rattle.mp4_codec.specs.Early.{refused_at_once};
 
 use mp4_codec::{
-    BoxType, DebugItem, Entry, ExactEq, Field, Fields, InRange, Items, Mp4Box, Put, ReadBox,
+    BoxType, DebugItem, Entry, ExactEq, Field, Fields, InRange, Items, Mp4Box, Plain, Put, ReadBox,
     Result, TryClone, WriteBox, check_value, check_version, list_size, put_list, put_u8, put_u16,
     put_u24, put_u32, put_versioned,
 };
@@ -50,17 +50,7 @@ impl ElstEntry {
     }
 }
 
-impl TryClone for ElstEntry {
-    fn try_clone(&self) -> Result<Self>
-        ensures { Gives (λ x. x) result (Ok self.now) }
-    {
-        Ok(*self)
-    }
-
-    fn try_clone_all(alloc: Global, values: &[Self]) -> Result<Items<Self>> {
-        Ok(Items::from(Vec::from_slice(alloc, values)?))
-    }
-}
+impl Plain for ElstEntry {}
 
 impl InRange for ElstEntry {
     ghost IsInRange = { IsInRangeElstEntry };

@@ -1,12 +1,12 @@
 //! The matrix of a movie or a track.
 
 ghost use Rattle.mp4_codec.specs.ExactTest.{by_test, field_tests};
-ghost use Rattle.std.specs.Prelude.{OnOk, ◌≡◌, Ok};
+ghost use Rattle.std.specs.Prelude.{OnOk, ◌≡◌};
 ghost use Rattle.mp4_codec.specs.Bytes.{Appends};
-ghost use Rattle.mp4_codec.specs.Cause.{Gives, Reads};
+ghost use Rattle.mp4_codec.specs.Cause.{Reads};
 ghost use Rattle.mp4_leaf.specs.Matrix.{matrix_at, matrix, unity, IsInRangeMatrix};
 
-use mp4_codec::{ExactEq, Field, Fields, InRange, Put, Result, TryClone, put_i32};
+use mp4_codec::{ExactEq, Field, Fields, InRange, Plain, Put, put_i32};
 
 /// Where the picture is placed: a 3 by 3 matrix, row by row (ISO/IEC 14496-12, 6.2.2).
 ///
@@ -46,13 +46,7 @@ impl Default for Matrix {
     }
 }
 
-impl TryClone for Matrix {
-    fn try_clone(&self) -> Result<Self>
-        ensures { Gives (λ x. x) result (Ok self.now) }
-    {
-        Ok(*self)
-    }
-}
+impl Plain for Matrix {}
 
 impl InRange for Matrix {
     ghost IsInRange = { IsInRangeMatrix };

@@ -2,7 +2,7 @@
 
 ghost use Rattle.mp4_codec.specs.ExactTest.{by_law, by_test, field_tests};
 ghost use Rattle.mp4_leaf.specs.contracts.matrix.MatrixExactEq.TheImpl.Laws.{lawful as matrix_laws};
-ghost use Rattle.std.specs.Prelude.{◌≡◌, Ok};
+ghost use Rattle.std.specs.Prelude.{◌≡◌};
 ghost use Rattle.mp4_codec.specs.Cause.{Gives, Reads};
 ghost use Rattle.mp4_codec.specs.declared.box_type.BoxType.TheVariants.{MvhdBox as mvhd};
 ghost use Rattle.mp4_codec.specs.Boxes.{size_around};
@@ -14,8 +14,8 @@ ghost use Rattle.mp4_codec.specs.Early.{at_once};
 use crate::matrix::{Matrix, put_matrix, read_matrix};
 use crate::times::{HeaderTimes, check_times, put_header_times, read_header_times};
 use mp4_codec::{
-    BoxType, ExactEq, Field, Fields, FixedPointU8, FixedPointU16, InRange, Mp4Box, Put, ReadBox,
-    Result, TryClone, WriteBox, put_u16, put_u32, put_versioned, put_zeros,
+    BoxType, ExactEq, Field, Fields, FixedPointU8, FixedPointU16, InRange, Mp4Box, Plain, Put,
+    ReadBox, Result, WriteBox, put_u16, put_u32, put_versioned, put_zeros,
 };
 use std::alloc::Global;
 
@@ -121,13 +121,7 @@ impl Default for MvhdBox {
     }
 }
 
-impl TryClone for MvhdBox {
-    fn try_clone(&self) -> Result<Self>
-        ensures { Gives (λ x. x) result (Ok self.now) }
-    {
-        Ok(*self)
-    }
-}
+impl Plain for MvhdBox {}
 
 impl InRange for MvhdBox {
     ghost IsInRange = { IsInRangeMvhd };

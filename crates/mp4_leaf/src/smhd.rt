@@ -1,7 +1,7 @@
 //! The sound media header.
 
 ghost use Rattle.mp4_codec.specs.ExactTest.{by_test, field_tests};
-ghost use Rattle.std.specs.Prelude.{◌≡◌, Ok};
+ghost use Rattle.std.specs.Prelude.{◌≡◌};
 ghost use Rattle.mp4_codec.specs.declared.box_type.BoxType.TheVariants.{SmhdBox as smhd};
 ghost use Rattle.mp4_codec.specs.Boxes.{size_around, no_refusal};
 ghost use Rattle.mp4_leaf.specs.Smhd.{smhd_payload, default_smhd, smhd_of, IsInRangeSmhd, IsWellFormedSmhd};
@@ -10,8 +10,8 @@ ghost use Rattle.mp4_codec.specs.Cause.{Gives};
 ghost use Rattle.mp4_codec.specs.Early.{at_once};
 
 use mp4_codec::{
-    BoxType, ExactEq, Fields, FixedPointI8, InRange, Mp4Box, Put, ReadBox, Result, TryClone,
-    WriteBox, put_i16, put_u8, put_u24, put_zeros,
+    BoxType, ExactEq, Fields, FixedPointI8, InRange, Mp4Box, Plain, Put, ReadBox, Result, WriteBox,
+    put_i16, put_u8, put_u24, put_zeros,
 };
 use std::alloc::Global;
 
@@ -60,13 +60,7 @@ impl Default for SmhdBox {
     }
 }
 
-impl TryClone for SmhdBox {
-    fn try_clone(&self) -> Result<Self>
-        ensures { Gives (λ x. x) result (Ok self.now) }
-    {
-        Ok(*self)
-    }
-}
+impl Plain for SmhdBox {}
 
 impl InRange for SmhdBox {
     ghost IsInRange = { IsInRangeSmhd };

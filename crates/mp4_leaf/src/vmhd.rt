@@ -1,7 +1,7 @@
 //! The video media header.
 
 ghost use Rattle.mp4_codec.specs.ExactTest.{by_test, field_tests};
-ghost use Rattle.std.specs.Prelude.{◌≡◌, Ok};
+ghost use Rattle.std.specs.Prelude.{◌≡◌};
 ghost use Rattle.mp4_codec.specs.declared.box_type.BoxType.TheVariants.{VmhdBox as vmhd};
 ghost use Rattle.mp4_codec.specs.Boxes.{size_around, no_refusal};
 ghost use Rattle.mp4_leaf.specs.Vmhd.{vmhd_payload, default_vmhd, vmhd_of, IsInRangeVmhd, IsWellFormedVmhd};
@@ -10,7 +10,7 @@ ghost use Rattle.mp4_codec.specs.Cause.{Gives};
 ghost use Rattle.mp4_codec.specs.Early.{at_once};
 
 use mp4_codec::{
-    BoxType, ExactEq, Fields, InRange, Mp4Box, Put, ReadBox, Result, TryClone, WriteBox, put_u8,
+    BoxType, ExactEq, Fields, InRange, Mp4Box, Plain, Put, ReadBox, Result, WriteBox, put_u8,
     put_u16, put_u24,
 };
 use std::alloc::Global;
@@ -39,13 +39,7 @@ impl Default for RgbColor {
     }
 }
 
-impl TryClone for RgbColor {
-    fn try_clone(&self) -> Result<Self>
-        ensures { Gives (λ x. x) result (Ok self.now) }
-    {
-        Ok(*self)
-    }
-}
+impl Plain for RgbColor {}
 
 /// The video media header, `vmhd`: how a video track is put over what lies after it (ISO/IEC 14496-12,
 /// 12.1.2).
@@ -96,13 +90,7 @@ impl Default for VmhdBox {
     }
 }
 
-impl TryClone for VmhdBox {
-    fn try_clone(&self) -> Result<Self>
-        ensures { Gives (λ x. x) result (Ok self.now) }
-    {
-        Ok(*self)
-    }
-}
+impl Plain for VmhdBox {}
 
 impl InRange for VmhdBox {
     ghost IsInRange = { IsInRangeVmhd };

@@ -33,7 +33,7 @@ pub use writer::Mp4Writer;
 pub use mp4_codec::{
     BoxHeader, BoxType, ByteCursor, Child, Children, Error, ExactEq, FixedPointI8, FixedPointU8,
     FixedPointU16, FourCC, HEADER_EXT_SIZE, HEADER_SIZE, Items, KeyedItems, Limit, Mp4Box,
-    OPEN_END, ReadBox, Result, SharedItems, Text, TryClone, WriteBox, is_equal,
+    OPEN_END, Plain, ReadBox, Result, SharedItems, Text, TryClone, WriteBox, is_equal,
 };
 
 // Containers.

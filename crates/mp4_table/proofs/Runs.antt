@@ -4,12 +4,13 @@ use Rattle.std.proofs.Common.{[], ◌∷◌}
 use Rattle.std.proofs.Common.{Option, Some, None, Result, Ok, Err, refl, sym, ap, ◌∙◌, arith}
 use Rattle.mp4_codec.specs.Cause.{Cause, invalid_data, ◌>>=◌, fault_of}
 use Rattle.mp4_codec.specs.Bytes.{list_at}
+use Rattle.mp4_codec.specs.Blocks.{block-is_block, is_block-has_length}
 use Rattle.mp4_codec.specs.FieldLaws.{list-refuses}
 use Rattle.mp4_codec.specs.Early.{takes_memory, refused_at_once}
 use Rattle.mp4_codec.proofs.EarlyLaws.{fault-is, no_fault-early}
 use Rattle.mp4_table.specs.declared.stsc.StscEntry.{StscEntry}
-use Rattle.mp4_table.specs.Stsc.{with_first_sample, stsc_entry_at, first_sample_after, numbered_after, runs_fault}
-use Rattle.mp4_table.specs.StscLaws.{stsc_entry-has_length}
+use Rattle.mp4_table.specs.Stsc.{with_first_sample, stsc_entry_in, stsc_entry_at, first_sample_after}
+use Rattle.mp4_table.specs.Stsc.{numbered_after, runs_fault}
 
 pub ruleset checked = (fault-is, no_fault-early)
 
@@ -90,7 +91,9 @@ module _ (before : Option StscEntry) (count i : ℕ) (bytes : List ℕ) (total :
       let refused : first_sample_after before e.first_chunk ≡ Err invalid_data = is ∙ ap Err known in
       let one : runs_fault before (count - i) bytes ≡ Some invalid_data =
       rw (steps, read) (one_refused before e refused (list_at stsc_entry_at (count - (i + 1)) after)
-      (λ d is_err. list-refuses stsc_entry_at 12 stsc_entry-has_length (count - (i + 1)) after d is_err)) in
+      (λ d is_err. list-refuses stsc_entry_at 12
+      (is_block-has_length stsc_entry_at 12 stsc_entry_in (block-is_block 12 stsc_entry_in)) (count - (i + 1)) after d
+      is_err)) in
       sym so_far ∙ one ∙ ap Some (sym known)
 
 -- all runs were gone over

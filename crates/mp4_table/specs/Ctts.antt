@@ -1,20 +1,24 @@
 -- How long after its decode time a sample is shown: runs of samples of one offset (ISO/IEC 14496-12, 8.6.1.3). Offsets
 -- are signed, whatever the version.
-use Rattle.std.specs.Prelude.{ℕ, ◌^◌, ◌<◌, List, [], Result, Ok, FitsSigned}
-use Rattle.std.specs.Int.{w32}
+use Rattle.std.specs.Prelude.{ℕ, ◌^◌, ◌<◌, List, [], take, drop, Result, Ok, FitsSigned}
+use Rattle.std.specs.Int.{w32, cast_signed}
 use Rattle.mp4_codec.specs.Cause.{Cause, ◌>>=◌}
-use Rattle.mp4_codec.specs.Bytes.{Reader, number_at, number, int32_at, int32, ◌⧺◌}
+use Rattle.mp4_codec.specs.Bytes.{Reader, number, int32, ◌⧺◌}
+use Rattle.mp4_codec.specs.Blocks.{block_at, big_number}
 use Rattle.mp4_table.specs.declared.ctts.CttsEntry.{CttsEntry}
 use Rattle.mp4_table.specs.declared.ctts.CttsBox.{CttsBox}
 use Rattle.mp4_table.specs.Table.{table_of, table, IsInRangeTable}
 use Rattle.mp4_codec.specs.Boxes.{IsCanonical, no_refusal}
 
--- a run: how many samples there are, and the offset of each
-unfoldable pub ctts_entry_at : Reader CttsEntry
-ctts_entry_at bytes = do
-  sample_count ← number_at 4 bytes
-  sample_offset ← int32_at sample_count.1
-  Ok (record { sample_count = sample_count.0; sample_offset = sample_offset.0 }, sample_offset.1)
+-- a run, by its eight bytes: how many samples there are, and the offset of each
+abbrev pub ctts_entry_in : List ℕ → CttsEntry
+ctts_entry_in block = record {
+  sample_count = big_number 4 (take 4 block);
+  sample_offset = cast_signed w32 (big_number 4 (drop 4 block));
+}
+
+abbrev pub ctts_entry_at : Reader CttsEntry
+ctts_entry_at = block_at 8 ctts_entry_in
 
 unfoldable pub ctts_entry : CttsEntry → List ℕ
 ctts_entry e = number 4 e.sample_count ⧺ int32 e.sample_offset

@@ -8,7 +8,6 @@ pub mod Stss
 pub mod StssLaws
 pub mod Stsc
 pub mod StscLaws
-pub mod EntryBlocks
 pub mod Stco
 pub mod StcoLaws
 pub mod Co64

@@ -1,9 +1,10 @@
 -- How many samples each chunk has: runs of chunks that have equally many (ISO/IEC 14496-12, 8.7.4).
-use Rattle.std.specs.Prelude.{◌≡◌, ℕ, ◌+◌, ◌-◌, ◌*◌, ◌^◌, ◌<◌, ◌≤◌, List, [], ◌∷◌, length, slice_index_or, Option}
-use Rattle.std.specs.Prelude.{Some, None, Result, Ok, Err, nat_lt, if◌then◌else◌}
+use Rattle.std.specs.Prelude.{◌≡◌, ℕ, ◌+◌, ◌-◌, ◌*◌, ◌^◌, ◌<◌, ◌≤◌, List, [], ◌∷◌, length, take, drop, slice_index_or}
+use Rattle.std.specs.Prelude.{Option, Some, None, Result, Ok, Err, nat_lt, if◌then◌else◌}
 use Rattle.std.specs.List.{AllAdjacentBelow}
 use Rattle.mp4_codec.specs.Cause.{Cause, invalid_data, ◌>>=◌, fault_of}
-use Rattle.mp4_codec.specs.Bytes.{Reader, number_at, list_at, number, ◌⧺◌}
+use Rattle.mp4_codec.specs.Bytes.{Reader, list_at, number, ◌⧺◌}
+use Rattle.mp4_codec.specs.Blocks.{block_at, big_number}
 use Rattle.mp4_table.specs.declared.stsc.StscEntry.{StscEntry}
 use Rattle.mp4_table.specs.declared.stsc.StscBox.{StscBox}
 use Rattle.mp4_table.specs.Table.{table_of, table, IsInRangeTable}
@@ -20,22 +21,18 @@ with_first_sample n e =
       first_sample = n;
     }
 
--- a run: its first chunk, how many samples each chunk has, and their description; the first sample is not stored
-unfoldable pub stsc_entry_at : Reader StscEntry
-stsc_entry_at bytes = do
-  first_chunk ← number_at 4 bytes
-  samples_per_chunk ← number_at 4 first_chunk.1
-  sample_description_index ← number_at 4 samples_per_chunk.1
-  Ok (
-    record {
-      first_chunk = first_chunk.0;
-      samples_per_chunk = samples_per_chunk.0;
-      sample_description_index =
-          sample_description_index.0;
-      first_sample = 0;
-    },
-    sample_description_index.1,
-  )
+-- a run, by its twelve bytes: its first chunk, how many samples each chunk has, and their description; the first sample
+-- is not stored
+abbrev pub stsc_entry_in : List ℕ → StscEntry
+stsc_entry_in block = record {
+  first_chunk = big_number 4 (take 4 block);
+  samples_per_chunk = big_number 4 (take 4 (drop 4 block));
+  sample_description_index = big_number 4 (drop 8 block);
+  first_sample = 0;
+}
+
+abbrev pub stsc_entry_at : Reader StscEntry
+stsc_entry_at = block_at 12 stsc_entry_in
 
 unfoldable pub stsc_entry : StscEntry → List ℕ
 stsc_entry e = number 4 e.first_chunk ⧺ number 4 e.samples_per_chunk ⧺ number 4 e.sample_description_index

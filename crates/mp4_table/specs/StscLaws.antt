@@ -5,17 +5,18 @@ use Rattle.std.proofs.Common.{arith}
 use Rattle.std.specs.List.{flat_map, AllByRecursion}
 use Rattle.std.proofs.lemmas.Bool.{le-ltb, ltb-false}
 use Rattle.std.proofs.lemmas.List.Concat.{flat_map-cons}
-use Rattle.std.proofs.lemmas.List.{length-map}
+use Rattle.std.proofs.lemmas.List.{length-map, drop-drop}
 use Rattle.mp4_codec.specs.Cause.{Cause, invalid_data, ◌>>=◌}
-use Rattle.mp4_codec.specs.Bytes.{number_at, number, ◌⧺◌, HasLength}
-use Rattle.mp4_codec.specs.FieldLaws.{number-has_length, then-has_length, seen-has_length, number_again}
-use Rattle.mp4_codec.specs.FieldLaws.{length-number, length-then, then_assoc}
+use Rattle.mp4_codec.specs.Bytes.{number, ◌⧺◌}
+use Rattle.mp4_codec.specs.FieldLaws.{block_again, take-number, drop-number, number_back}
+use Rattle.mp4_codec.specs.FieldLaws.{length-number, length-then}
 use Rattle.mp4_codec.specs.Steps.{ok_is, both_steps}
 use Rattle.mp4_table.specs.declared.stsc.StscEntry.{StscEntry}
 use Rattle.mp4_table.specs.declared.stsc.StscBox.{StscBox}
 use Rattle.mp4_table.specs.Table.{table_of, table}
 use Rattle.mp4_table.specs.TableLaws.{table_again, length-table_of_same}
-use Rattle.mp4_table.specs.Stsc.{with_first_sample, stsc_entry_at, stsc_entry, IsInRangeStscEntry, FitsStoredEntry}
+use Rattle.mp4_table.specs.Stsc.{with_first_sample, stsc_entry_in, stsc_entry_at, stsc_entry, IsInRangeStscEntry}
+use Rattle.mp4_table.specs.Stsc.{FitsStoredEntry}
 use Rattle.mp4_table.specs.Stsc.{sample_number, first_sample_after, numbered_after, stsc_of, stsc_payload}
 use Rattle.mp4_table.specs.Stsc.{HasFirstSamples, IsInRangeStsc, IsCanonicalStsc}
 use Rattle.mp4_codec.specs.WriteLaws.{is_written}
@@ -28,35 +29,21 @@ pub length-stsc_payload : (b : StscBox) → length (stsc_payload b) ≡ 8 + leng
 unfolding stsc_payload
 length-stsc_payload b = length-table_of_same (λ _. stsc_entry) 12 b.version b.flags b.entries length-stsc_entry
 
-pub stsc_entry-has_length : HasLength stsc_entry_at 12
-unfolding stsc_entry_at
-stsc_entry-has_length =
-    then-has_length (number_at 4) (λ chunk bytes. number_at 4 bytes >>= λ samples. number_at 4 samples.1 >>= λ index.
-    Ok (stored chunk samples.0 index.0, index.1)) 4 8 (number-has_length 4)
-    (λ chunk. then-has_length (number_at 4)
-    (λ samples bytes. number_at 4 bytes >>= λ index. Ok (stored chunk samples index.0, index.1)) 4 4
-    (number-has_length 4)
-    (λ samples. seen-has_length (number_at 4) 4 (stored chunk samples) (number-has_length 4)))
-  where
-    stored : ℕ → ℕ → ℕ → StscEntry
-    stored chunk samples index = record {
-      first_chunk = chunk;
-      samples_per_chunk = samples;
-      sample_description_index = index;
-      first_sample = 0;
-    }
-
 -- an entry as it is stored is read again
 pub stsc_entry_again : (e : StscEntry) (rest : List ℕ) → FitsStoredEntry e
     → stsc_entry_at (stsc_entry e ⧺ rest) ≡ Ok (e, rest)
-unfolding stsc_entry_at stsc_entry
+unfolding stsc_entry
 stsc_entry_again e rest f =
     rw (
-      then_assoc (number 4 e.first_chunk) (number 4 e.samples_per_chunk ⧺ number 4 e.sample_description_index) rest,
-      then_assoc (number 4 e.samples_per_chunk) (number 4 e.sample_description_index) rest,
-      number_again 4 e.first_chunk _ f.fits.first_chunk,
-      number_again 4 e.samples_per_chunk _ f.fits.samples_per_chunk,
-      number_again 4 e.sample_description_index _ f.fits.sample_description_index,
+      block_again 12 stsc_entry_in (stsc_entry e) rest (length-stsc_entry e),
+      take-number 4 e.first_chunk _,
+      ← drop-drop 4 4 (stsc_entry e),
+      drop-number 4 e.first_chunk _,
+      take-number 4 e.samples_per_chunk _,
+      drop-number 4 e.samples_per_chunk _,
+      number_back 4 e.first_chunk f.fits.first_chunk,
+      number_back 4 e.samples_per_chunk f.fits.samples_per_chunk,
+      number_back 4 e.sample_description_index f.fits.sample_description_index,
     ) (ap (λ (n : ℕ). Ok (with_first_sample n e, rest)) (sym f.no_first_sample))
 
 -- one entry after another

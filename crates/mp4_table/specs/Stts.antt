@@ -1,18 +1,22 @@
 -- How long samples last: runs of samples of one duration (ISO/IEC 14496-12, 8.6.1.2).
-use Rattle.std.specs.Prelude.{ℕ, ◌^◌, ◌<◌, List, [], Result, Ok}
+use Rattle.std.specs.Prelude.{ℕ, ◌^◌, ◌<◌, List, [], take, drop, Result, Ok}
 use Rattle.mp4_codec.specs.Cause.{Cause, ◌>>=◌}
-use Rattle.mp4_codec.specs.Bytes.{Reader, number_at, number, ◌⧺◌}
+use Rattle.mp4_codec.specs.Bytes.{Reader, number, ◌⧺◌}
+use Rattle.mp4_codec.specs.Blocks.{block_at, big_number}
 use Rattle.mp4_table.specs.declared.stts.SttsEntry.{SttsEntry}
 use Rattle.mp4_table.specs.declared.stts.SttsBox.{SttsBox}
 use Rattle.mp4_table.specs.Table.{table_of, table, IsInRangeTable}
 use Rattle.mp4_codec.specs.Boxes.{IsCanonical, no_refusal}
 
--- a run: how many samples there are, and how long each lasts
-unfoldable pub stts_entry_at : Reader SttsEntry
-stts_entry_at bytes = do
-  sample_count ← number_at 4 bytes
-  sample_delta ← number_at 4 sample_count.1
-  Ok (record { sample_count = sample_count.0; sample_delta = sample_delta.0 }, sample_delta.1)
+-- a run, by its eight bytes: how many samples there are, and how long each lasts
+abbrev pub stts_entry_in : List ℕ → SttsEntry
+stts_entry_in block = record {
+  sample_count = big_number 4 (take 4 block);
+  sample_delta = big_number 4 (drop 4 block);
+}
+
+abbrev pub stts_entry_at : Reader SttsEntry
+stts_entry_at = block_at 8 stts_entry_in
 
 unfoldable pub stts_entry : SttsEntry → List ℕ
 stts_entry e = number 4 e.sample_count ⧺ number 4 e.sample_delta

@@ -5,16 +5,16 @@ ghost use Rattle.std.specs.Prelude.{◌≡◌, Ok};
 ghost use Rattle.mp4_codec.specs.Cause.{Gives};
 ghost use Rattle.mp4_codec.specs.Boxes.{size_around, no_refusal};
 ghost use Rattle.mp4_codec.specs.declared.box_type.BoxType.TheVariants.{CttsBox as ctts};
-ghost use Rattle.mp4_table.specs.Ctts.{ctts_payload, default_ctts, ctts_entry_at, ctts_entry, IsInRangeCttsEntry};
-ghost use Rattle.mp4_table.specs.Ctts.{ctts_of, IsInRangeCtts, IsWellFormedCtts};
-ghost use Rattle.mp4_table.specs.CttsLaws.{ctts_entry_again, length-ctts_entry, ctts_entry-has_length, ctts_again};
-ghost use Rattle.mp4_table.specs.EntryBlocks.{ctts_entry_in};
+ghost use Rattle.mp4_table.specs.Ctts.{ctts_payload, default_ctts, ctts_entry_in, ctts_entry_at, ctts_entry};
+ghost use Rattle.mp4_table.specs.Ctts.{ctts_of, IsInRangeCttsEntry, IsInRangeCtts, IsWellFormedCtts};
+ghost use Rattle.mp4_table.specs.CttsLaws.{ctts_entry_again, length-ctts_entry, ctts_again};
+ghost use Rattle.mp4_codec.specs.Blocks.{block-is_block};
 ghost use Rattle.mp4_codec.specs.Early.{refused_at_once};
 
 use crate::table::{put_table, read_table, table_size};
 use mp4_codec::{
-    Block, BoxType, DebugItem, Entry, ExactEq, Field, Fields, InRange, Items, Mp4Box, Put, ReadBox,
-    Result, SharedItem, SharedItems, TryClone, WriteBox, put_i32, put_u32, read_blocks,
+    Block, BoxType, DebugItem, ExactEq, InRange, Mp4Box, Plain, Put, ReadBox, Result, SharedItem,
+    SharedItems, TryClone, WriteBox, put_i32, put_u32,
 };
 use std::alloc::Global;
 use std::slice;
@@ -35,17 +35,7 @@ impl ExactEq for CttsEntry {
 
 impl DebugItem for CttsEntry {}
 
-impl TryClone for CttsEntry {
-    fn try_clone(&self) -> Result<Self>
-        ensures { Gives (λ x. x) result (Ok self.now) }
-    {
-        Ok(*self)
-    }
-
-    fn try_clone_all(alloc: Global, values: &[Self]) -> Result<Items<Self>> {
-        Ok(Items::from(Vec::from_slice(alloc, values)?))
-    }
-}
+impl Plain for CttsEntry {}
 
 impl SharedItem for CttsEntry {
     fn as_one(&self) -> &[CttsEntry] {
@@ -69,53 +59,26 @@ impl Block for CttsEntry {
 
     ghost in_block = { ctts_entry_in };
 
+    ghost at = { ctts_entry_at };
+
+    ghost encoded = { ctts_entry };
+
+    ghost Fits = { IsInRangeCttsEntry };
+
+    ghost is_block = { block-is_block 8 ctts_entry_in };
+
+    ghost again = { ctts_entry_again };
+
+    ghost length_encoded = { length-ctts_entry };
+
     fn from_block(block: &[u8]) -> Self {
         CttsEntry {
             sample_count: u32::from_block(&block[..4]),
             sample_offset: i32::from_block(&block[4..]),
         }
     }
-}
 
-impl Entry for CttsEntry {
-    ghost at = { λ _. ctts_entry_at };
-
-    ghost encoded = { λ _. ctts_entry };
-
-    ghost Fits = { λ _. IsInRangeCttsEntry };
-
-    ghost bytes_each = { λ _. 8 };
-
-    ghost again = { λ _. ctts_entry_again };
-
-    ghost length_encoded = { λ _. length-ctts_entry };
-
-    ghost has_length = { λ _. ctts_entry-has_length };
-
-    fn size(_version: u8) -> u64 {
-        8
-    }
-
-    #[tactic(auto, unfolding(crate::specs::Ctts::ctts_entry_at))]
-    fn read(fields: &mut Fields, _version: u8) -> Field<Self> {
-        let sample_count = fields.u32()?;
-        let sample_offset = fields.i32()?;
-        Ok(CttsEntry {
-            sample_count,
-            sample_offset,
-        })
-    }
-
-    fn read_all(
-        alloc: Global,
-        fields: &mut Fields,
-        _version: u8,
-        count: usize,
-    ) -> Result<Items<Self>> {
-        read_blocks(alloc, fields, count)
-    }
-
-    fn put(self, out: &mut Vec<u8>, _version: u8) -> Put {
+    fn put_block(self, out: &mut Vec<u8>) -> Put {
         put_u32(out, self.sample_count)?;
         put_i32(out, self.sample_offset)?;
         Ok(())

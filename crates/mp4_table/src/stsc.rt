@@ -6,16 +6,16 @@ ghost use Rattle.mp4_codec.specs.Cause.{Checks, Gives, fault_of};
 ghost use Rattle.mp4_codec.specs.Boxes.{size_around, no_refusal};
 ghost use Rattle.mp4_codec.specs.declared.box_type.BoxType.TheVariants.{StscBox as stsc};
 ghost use Rattle.mp4_table.specs.Stsc.{stsc_payload, first_sample_after, numbered_after, runs_fault, default_stsc};
-ghost use Rattle.mp4_table.specs.Stsc.{stsc_entry_at, stsc_entry, FitsStoredEntry, stsc_of, IsInRangeStscEntry};
-ghost use Rattle.mp4_table.specs.Stsc.{IsInRangeStsc, IsWellFormedStsc};
-ghost use Rattle.mp4_table.specs.StscLaws.{stsc_entry_again, length-stsc_entry, stsc_entry-has_length, stsc_again};
-ghost use Rattle.mp4_table.specs.EntryBlocks.{stsc_entry_in};
+ghost use Rattle.mp4_table.specs.Stsc.{stsc_entry_in, stsc_entry_at, stsc_entry, FitsStoredEntry, stsc_of};
+ghost use Rattle.mp4_table.specs.Stsc.{IsInRangeStscEntry, IsInRangeStsc, IsWellFormedStsc};
+ghost use Rattle.mp4_table.specs.StscLaws.{stsc_entry_again, length-stsc_entry, stsc_again};
+ghost use Rattle.mp4_codec.specs.Blocks.{block-is_block};
 ghost use Rattle.mp4_codec.specs.Early.{refused_at_once};
 
 use crate::table::{put_table, read_entries, table_size};
 use mp4_codec::{
-    Block, BoxType, DebugItem, Entry, Error, ExactEq, Field, Fields, InRange, Items, Mp4Box, Put,
-    ReadBox, Result, SharedItem, SharedItems, TryClone, WriteBox, put_u32, read_blocks,
+    Block, BoxType, DebugItem, Entry, Error, ExactEq, Fields, InRange, Items, Mp4Box, Plain, Put,
+    ReadBox, Result, SharedItem, SharedItems, TryClone, WriteBox, put_u32,
 };
 use std::alloc::Global;
 use std::slice;
@@ -41,17 +41,7 @@ impl ExactEq for StscEntry {
 
 impl DebugItem for StscEntry {}
 
-impl TryClone for StscEntry {
-    fn try_clone(&self) -> Result<Self>
-        ensures { Gives (λ x. x) result (Ok self.now) }
-    {
-        Ok(*self)
-    }
-
-    fn try_clone_all(alloc: Global, values: &[Self]) -> Result<Items<Self>> {
-        Ok(Items::from(Vec::from_slice(alloc, values)?))
-    }
-}
+impl Plain for StscEntry {}
 
 impl SharedItem for StscEntry {
     fn as_one(&self) -> &[StscEntry] {
@@ -77,6 +67,18 @@ impl Block for StscEntry {
 
     ghost in_block = { stsc_entry_in };
 
+    ghost at = { stsc_entry_at };
+
+    ghost encoded = { stsc_entry };
+
+    ghost Fits = { FitsStoredEntry };
+
+    ghost is_block = { block-is_block 12 stsc_entry_in };
+
+    ghost again = { stsc_entry_again };
+
+    ghost length_encoded = { length-stsc_entry };
+
     fn from_block(block: &[u8]) -> Self {
         StscEntry {
             first_chunk: u32::from_block(&block[..4]),
@@ -85,50 +87,8 @@ impl Block for StscEntry {
             first_sample: 0,
         }
     }
-}
 
-impl Entry for StscEntry {
-    ghost at = { λ _. stsc_entry_at };
-
-    ghost encoded = { λ _. stsc_entry };
-
-    ghost Fits = { λ _. FitsStoredEntry };
-
-    ghost bytes_each = { λ _. 12 };
-
-    ghost again = { λ _. stsc_entry_again };
-
-    ghost length_encoded = { λ _. length-stsc_entry };
-
-    ghost has_length = { λ _. stsc_entry-has_length };
-
-    fn size(_version: u8) -> u64 {
-        12
-    }
-
-    #[tactic(auto, unfolding(crate::specs::Stsc::stsc_entry_at))]
-    fn read(fields: &mut Fields, _version: u8) -> Field<Self> {
-        let first_chunk = fields.u32()?;
-        let samples_per_chunk = fields.u32()?;
-        let sample_description_index = fields.u32()?;
-        Ok(StscEntry {
-            first_chunk,
-            samples_per_chunk,
-            sample_description_index,
-            first_sample: 0,
-        })
-    }
-
-    fn read_all(
-        alloc: Global,
-        fields: &mut Fields,
-        _version: u8,
-        count: usize,
-    ) -> Result<Items<Self>> {
-        read_blocks(alloc, fields, count)
-    }
-
-    fn put(self, out: &mut Vec<u8>, _version: u8) -> Put {
+    fn put_block(self, out: &mut Vec<u8>) -> Put {
         put_u32(out, self.first_chunk)?;
         put_u32(out, self.samples_per_chunk)?;
         put_u32(out, self.sample_description_index)?;

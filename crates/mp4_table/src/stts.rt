@@ -5,16 +5,16 @@ ghost use Rattle.std.specs.Prelude.{◌≡◌, Ok};
 ghost use Rattle.mp4_codec.specs.Cause.{Gives};
 ghost use Rattle.mp4_codec.specs.Boxes.{size_around, no_refusal};
 ghost use Rattle.mp4_codec.specs.declared.box_type.BoxType.TheVariants.{SttsBox as stts};
-ghost use Rattle.mp4_table.specs.Stts.{stts_payload, default_stts, stts_entry_at, stts_entry, IsInRangeSttsEntry};
-ghost use Rattle.mp4_table.specs.Stts.{stts_of, IsInRangeStts, IsWellFormedStts};
-ghost use Rattle.mp4_table.specs.SttsLaws.{stts_entry_again, length-stts_entry, stts_entry-has_length, stts_again};
-ghost use Rattle.mp4_table.specs.EntryBlocks.{stts_entry_in};
+ghost use Rattle.mp4_table.specs.Stts.{stts_payload, default_stts, stts_entry_in, stts_entry_at, stts_entry};
+ghost use Rattle.mp4_table.specs.Stts.{stts_of, IsInRangeSttsEntry, IsInRangeStts, IsWellFormedStts};
+ghost use Rattle.mp4_table.specs.SttsLaws.{stts_entry_again, length-stts_entry, stts_again};
+ghost use Rattle.mp4_codec.specs.Blocks.{block-is_block};
 ghost use Rattle.mp4_codec.specs.Early.{refused_at_once};
 
 use crate::table::{put_table, read_table, table_size};
 use mp4_codec::{
-    Block, BoxType, DebugItem, Entry, ExactEq, Field, Fields, InRange, Items, Mp4Box, Put, ReadBox,
-    Result, SharedItem, SharedItems, TryClone, WriteBox, put_u32, read_blocks,
+    Block, BoxType, DebugItem, ExactEq, InRange, Mp4Box, Plain, Put, ReadBox, Result, SharedItem,
+    SharedItems, TryClone, WriteBox, put_u32,
 };
 use std::alloc::Global;
 use std::slice;
@@ -34,17 +34,7 @@ impl ExactEq for SttsEntry {
 
 impl DebugItem for SttsEntry {}
 
-impl TryClone for SttsEntry {
-    fn try_clone(&self) -> Result<Self>
-        ensures { Gives (λ x. x) result (Ok self.now) }
-    {
-        Ok(*self)
-    }
-
-    fn try_clone_all(alloc: Global, values: &[Self]) -> Result<Items<Self>> {
-        Ok(Items::from(Vec::from_slice(alloc, values)?))
-    }
-}
+impl Plain for SttsEntry {}
 
 impl SharedItem for SttsEntry {
     fn as_one(&self) -> &[SttsEntry] {
@@ -68,53 +58,26 @@ impl Block for SttsEntry {
 
     ghost in_block = { stts_entry_in };
 
+    ghost at = { stts_entry_at };
+
+    ghost encoded = { stts_entry };
+
+    ghost Fits = { IsInRangeSttsEntry };
+
+    ghost is_block = { block-is_block 8 stts_entry_in };
+
+    ghost again = { stts_entry_again };
+
+    ghost length_encoded = { length-stts_entry };
+
     fn from_block(block: &[u8]) -> Self {
         SttsEntry {
             sample_count: u32::from_block(&block[..4]),
             sample_delta: u32::from_block(&block[4..]),
         }
     }
-}
 
-impl Entry for SttsEntry {
-    ghost at = { λ _. stts_entry_at };
-
-    ghost encoded = { λ _. stts_entry };
-
-    ghost Fits = { λ _. IsInRangeSttsEntry };
-
-    ghost bytes_each = { λ _. 8 };
-
-    ghost again = { λ _. stts_entry_again };
-
-    ghost length_encoded = { λ _. length-stts_entry };
-
-    ghost has_length = { λ _. stts_entry-has_length };
-
-    fn size(_version: u8) -> u64 {
-        8
-    }
-
-    #[tactic(auto, unfolding(crate::specs::Stts::stts_entry_at))]
-    fn read(fields: &mut Fields, _version: u8) -> Field<Self> {
-        let sample_count = fields.u32()?;
-        let sample_delta = fields.u32()?;
-        Ok(SttsEntry {
-            sample_count,
-            sample_delta,
-        })
-    }
-
-    fn read_all(
-        alloc: Global,
-        fields: &mut Fields,
-        _version: u8,
-        count: usize,
-    ) -> Result<Items<Self>> {
-        read_blocks(alloc, fields, count)
-    }
-
-    fn put(self, out: &mut Vec<u8>, _version: u8) -> Put {
+    fn put_block(self, out: &mut Vec<u8>) -> Put {
         put_u32(out, self.sample_count)?;
         put_u32(out, self.sample_delta)?;
         Ok(())

@@ -1,7 +1,7 @@
 use Rattle.std.proofs.Common.{◌≡◌, ℕ, suc, ◌+◌, ◌-◌, ◌*◌, ◌≤◌, List, length, Ok, arith, rules, suc-mul}
 use Rattle.std.proofs.lemmas.List.{length-drop}
 use Rattle.mp4_codec.specs.Bytes.{list_at}
-use Rattle.mp4_codec.specs.Blocks.{block_at, block-is_block}
+use Rattle.mp4_codec.specs.Blocks.{block_at, block-is_block, is_block-reads}
 use Rattle.mp4_codec.proofs.ListLoop.{goes_on, is_done}
 use Rattle.mp4_codec.proofs.block.read_blocks.Goals as goal
 
@@ -18,7 +18,7 @@ loop-preserved g c =
     let total = list_at read c.args.count c.args.fields.now in
     let first : read rest ≡ Ok (c.from_block.result, c.split_at.result.1.now) =
     rw (c.from_block.ensures, c.split_at.ensures.front, c.split_at.ensures.back, c.SIZE.ensures)
-    ((block-is_block n value).reads rest here) in
+    (is_block-reads read n value (block-is_block n value) rest here) in
     record {
       read =
           rw c.push_reserved.ensures.items

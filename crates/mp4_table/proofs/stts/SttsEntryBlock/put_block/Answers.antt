@@ -1,6 +1,6 @@
 use Rattle.mp4_codec.specs.PutLaws.{◌then◌}
 use Rattle.mp4_table.specs.Stts.{stts_entry}
-use Rattle.mp4_table.proofs.stts.SttsEntryEntry.put.Goals as goal
+use Rattle.mp4_table.proofs.stts.SttsEntryBlock.put_block.Goals as goal
 
 pub returns : goal.returns
 unfolding stts_entry

@@ -1,7 +1,7 @@
 use Rattle.std.proofs.Common.{rules}
 use Rattle.mp4_codec.specs.PutLaws.{◌then◌, int32_piece}
 use Rattle.mp4_table.specs.Ctts.{ctts_entry}
-use Rattle.mp4_table.proofs.ctts.CttsEntryEntry.put.Goals as goal
+use Rattle.mp4_table.proofs.ctts.CttsEntryBlock.put_block.Goals as goal
 
 pub returns : goal.returns
 unfolding ctts_entry

@@ -1,6 +1,6 @@
 use Rattle.mp4_codec.specs.PutLaws.{◌then◌}
 use Rattle.mp4_table.specs.Stsc.{stsc_entry}
-use Rattle.mp4_table.proofs.stsc.StscEntryEntry.put.Goals as goal
+use Rattle.mp4_table.proofs.stsc.StscEntryBlock.put_block.Goals as goal
 
 pub returns : goal.returns
 unfolding stsc_entry
