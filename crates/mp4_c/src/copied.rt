@@ -1,0 +1,14 @@
+//! Bytes that are handed out where they fit.
+
+use crate::answer::Answer;
+
+/// Copies bytes to the front of a room, where they fit; else the room is as it was. `count` is how many there are,
+/// whatever the room.
+pub fn copied(bytes: &[u8], room: &mut [u8]) -> Answer {
+    let count = bytes.len();
+    if count > room.len() {
+        return Answer::done(count as u64, 0);
+    }
+    room[..count].copy_from_slice(bytes);
+    Answer::done(count as u64, count as u64)
+}

@@ -1,0 +1,80 @@
+//! What a file says of its movie.
+
+use crate::answer::Answer;
+use crate::configs::Brand;
+use mp4_media::{FourCC, Mp4Reader, read_mp4};
+use std::alloc::Global;
+
+/// What a file says of its movie.
+#[repr(C)]
+#[derive(Clone, Copy, Debug, PartialEq, Eq)]
+pub struct MovieInfo {
+    /// The bytes of the file up to the end of its last box.
+    pub size: u64,
+    /// In ticks of the movie: the duration of its header.
+    pub duration: u64,
+    /// How many tracks there are.
+    pub track_count: u64,
+    /// How many compatible brands there are.
+    pub brand_count: u64,
+    /// Ticks in a second, of the movie's duration.
+    pub timescale: u32,
+    /// The version of the major brand.
+    pub minor_version: u32,
+    /// The specification that the file follows first of all.
+    pub major_brand: [u8; 4],
+    /// 1 where the file has movie fragments, else 0.
+    pub is_fragmented: u8,
+    /// Zeros.
+    pub reserved: [u8; 3],
+}
+
+/// What an opened file says of its movie.
+fn movie_info(movie: &Mp4Reader) -> MovieInfo {
+    MovieInfo {
+        size: movie.size(),
+        duration: movie.moov.mvhd.duration,
+        track_count: movie.tracks().len() as u64,
+        brand_count: movie.compatible_brands().len() as u64,
+        timescale: movie.timescale(),
+        minor_version: movie.minor_version(),
+        major_brand: movie.major_brand().value,
+        is_fragmented: u8::from(movie.is_fragmented()),
+        reserved: [0; 3],
+    }
+}
+
+/// Opens a file, and fills in what it says of its movie. `count` is the number of its tracks. After a refusal nothing
+/// is filled in.
+#[unsafe(no_mangle)]
+pub extern "C" fn mp4_c_open(alloc: Global, file: &[u8], movie: &mut MovieInfo) -> Answer {
+    match read_mp4(alloc, file) {
+        Ok(opened) => {
+            *movie = movie_info(&opened);
+            Answer::done(opened.tracks().len() as u64, 1)
+        }
+        Err(error) => Answer::refused(&error),
+    }
+}
+
+/// Fills in brands in their order, as far as there is room.
+fn fill_brands(brands: &[FourCC], rows: &mut [Brand]) -> Answer {
+    for (k, row) in rows.iter_mut().enumerate() {
+        if k >= brands.len() {
+            return Answer::done(brands.len() as u64, k as u64);
+        }
+        *row = Brand {
+            code: brands[k].value,
+        };
+    }
+    Answer::done(brands.len() as u64, rows.len() as u64)
+}
+
+/// Fills in the compatible brands of a file, in their order, as far as there is room. `count` is how many there are.
+#[unsafe(no_mangle)]
+pub extern "C" fn mp4_c_brands(alloc: Global, file: &[u8], rows: &mut [Brand]) -> Answer {
+    match read_mp4(alloc, file) {
+        Ok(movie) => fill_brands(movie.compatible_brands(), rows),
+        Err(error) => Answer::refused(&error),
+    }
+}
