@@ -1,5 +1,9 @@
 //! What each call answers.
 
+ghost use Rattle.std.specs.Prelude.{◌≡◌};
+ghost use Rattle.mp4_codec.specs.Cause.{cause_of, trak_not_found};
+ghost use Rattle.mp4_c.specs.Answers.{code_bytes, done, limit_number, of_box, plain, refused};
+
 use mp4_media::{BoxType, Error, FourCC, Limit};
 
 /// The code where a file has no such metadata.
@@ -40,12 +44,16 @@ pub struct Answer {
 }
 
 /// The bytes of a type of box.
-fn code_bytes(box_type: BoxType) -> [u8; 4] {
+fn code_bytes(box_type: BoxType) -> [u8; 4]
+    ensures { result ≡ code_bytes box_type }
+{
     FourCC::from(box_type).value
 }
 
 /// The number of a limit.
-fn limit_number(limit: Limit) -> u32 {
+fn limit_number(limit: Limit) -> u32
+    ensures { result ≡ limit_number limit }
+{
     match limit {
         Limit::SampleBytes => 1,
         Limit::SampleCount => 2,
@@ -58,7 +66,9 @@ fn limit_number(limit: Limit) -> u32 {
 
 impl Answer {
     /// An answer with this code that names nothing.
-    pub fn plain(code: u32) -> Answer {
+    pub fn plain(code: u32) -> Answer
+        ensures { result ≡ plain code }
+    {
         Answer {
             count: 0,
             filled: 0,
@@ -75,7 +85,9 @@ impl Answer {
     }
 
     /// An answer that refuses nothing.
-    pub fn done(count: u64, filled: u64) -> Answer {
+    pub fn done(count: u64, filled: u64) -> Answer
+        ensures { result ≡ done count filled }
+    {
         Answer {
             count,
             filled,
@@ -84,7 +96,9 @@ impl Answer {
     }
 
     /// A refusal that names a track.
-    fn of_track(code: u32, track_id: u32) -> Answer {
+    fn of_track(code: u32, track_id: u32) -> Answer
+        ensures { result ≡ record (plain code) { track_id = track_id } }
+    {
         Answer {
             track_id,
             ..Answer::plain(code)
@@ -92,7 +106,9 @@ impl Answer {
     }
 
     /// A refusal that names a box, and a track or an entry.
-    fn of_box(code: u32, track_id: u32, box_type: BoxType, number: u32) -> Answer {
+    fn of_box(code: u32, track_id: u32, box_type: BoxType, number: u32) -> Answer
+        ensures { result ≡ of_box code track_id box_type number }
+    {
         Answer {
             track_id,
             number,
@@ -102,7 +118,10 @@ impl Answer {
     }
 
     /// A refusal that names two boxes.
-    fn of_two(code: u32, first: BoxType, second: BoxType) -> Answer {
+    fn of_two(code: u32, first: BoxType, second: BoxType) -> Answer
+        ensures { result
+            ≡ record (plain code) { box_type = code_bytes first; second_box_type = code_bytes second } }
+    {
         Answer {
             box_type: code_bytes(first),
             second_box_type: code_bytes(second),
@@ -111,7 +130,9 @@ impl Answer {
     }
 
     /// A refusal that names a limit.
-    fn of_limit(code: u32, limit: Limit) -> Answer {
+    fn of_limit(code: u32, limit: Limit) -> Answer
+        ensures { result ≡ record (plain code) { limit = limit_number limit } }
+    {
         Answer {
             limit: limit_number(limit),
             ..Answer::plain(code)
@@ -119,7 +140,9 @@ impl Answer {
     }
 
     /// A refusal: the number of an error, and what it names.
-    pub fn refused(error: &Error) -> Answer {
+    pub fn refused(error: &Error) -> Answer
+        ensures { result ≡ refused (cause_of error.now) }
+    {
         match error {
             Error::EndOfData => Answer::plain(1),
             Error::OutOfMemory => Answer::plain(2),
@@ -141,7 +164,12 @@ impl Answer {
     }
 
     /// A refusal of a track that isn't there.
-    pub fn no_track(track_id: u32) -> Answer {
+    pub fn no_track(track_id: u32) -> Answer
+        ensures { result ≡ refused (trak_not_found track_id) }
+    {
         Answer::of_track(6, track_id)
     }
 }
+
+// The layout that the header asserts too.
+const _: () = prove!(size_of::<Answer>() == 56);

@@ -10,6 +10,7 @@ mod configs;
 mod copied;
 mod metadata;
 mod movie;
+mod opened_file;
 mod samples;
 mod text;
 mod tracks;

@@ -1,15 +1,21 @@
 //! The metadata of a movie, and the parameter sets of its video.
 
+ghost use Rattle.std.specs.Prelude.{ℕ, List, Result};
+ghost use Rattle.mp4_codec.specs.Cause.{Cause, Gives};
+ghost use Rattle.mp4_c.specs.ParameterSets.{GaveSet, bytes_reply};
+ghost use Rattle.mp4_c.specs.Replies.{Gave, OnFile, OnTrack};
+
 use crate::answer::{Answer, NOT_PRESENT, UNKNOWN_CHOICE};
-use crate::copied::copied;
-use mp4_media::{IlstBox, Metadata, Mp4Reader, Mp4Track, Result, read_mp4};
+use crate::copied::copy_to_front;
+use crate::opened_file::{opened, track_of};
+use mp4_media::{Error, IlstBox, Metadata, Mp4Reader, Mp4Track, Result};
 use std::alloc::Global;
 use std::borrow::CowStr;
 
 /// Hands out a text, if there is one.
 fn text(answer: Result<Option<CowStr<'_, Global>>>, room: &mut [u8]) -> Answer {
     match answer {
-        Ok(Some(words)) => copied(words.as_bytes(), room),
+        Ok(Some(words)) => copy_to_front(words.as_bytes(), room),
         Ok(None) => Answer::plain(NOT_PRESENT),
         Err(error) => Answer::refused(&error),
     }
@@ -20,8 +26,8 @@ fn digits(alloc: Global, number: Option<u32>, room: &mut [u8]) -> Answer {
     match number {
         Some(n) => {
             match format!(in alloc; "{n}") {
-                Ok(line) => copied(line.as_bytes(), room),
-                Err(_) => Answer::refused(&mp4_media::Error::OutOfMemory),
+                Ok(line) => copy_to_front(line.as_bytes(), room),
+                Err(_) => Answer::refused(&Error::OutOfMemory),
             }
         }
         None => Answer::plain(NOT_PRESENT),
@@ -31,7 +37,7 @@ fn digits(alloc: Global, number: Option<u32>, room: &mut [u8]) -> Answer {
 /// Hands out bytes, if there are any.
 fn picture(bytes: Option<&[u8]>, room: &mut [u8]) -> Answer {
     match bytes {
-        Some(bytes) => copied(bytes, room),
+        Some(bytes) => copy_to_front(bytes, room),
         None => Answer::plain(NOT_PRESENT),
     }
 }
@@ -67,34 +73,41 @@ pub extern "C" fn mp4_c_metadata(
     key: u32,
     room: &mut [u8],
 ) -> Answer {
-    match read_mp4(alloc, file) {
+    match opened(alloc, file) {
         Ok(movie) => metadata_of(alloc, &movie, key, room),
         Err(error) => Answer::refused(&error),
     }
 }
 
-/// Hands out a parameter set.
-fn set(answer: Result<&[u8]>, room: &mut [u8]) -> Answer {
-    match answer {
-        Ok(bytes) => copied(bytes, room),
+/// Hands out the bytes of a parameter set.
+fn copy_set(set: Result<&[u8]>, room: &mut [u8]) -> Answer
+    ensures { (bytes : Result (List ℕ) Cause) → Gives (λ b. b.now) set.entry bytes
+        → Gave (bytes_reply bytes room.old) room.new result }
+{
+    match set {
+        Ok(bytes) => copy_to_front(bytes, room),
         Err(error) => Answer::refused(&error),
     }
 }
 
 /// Hands out the first parameter set of a kind of a track.
-fn parameter_set(track: &Mp4Track, kind: u32, room: &mut [u8]) -> Answer {
+fn copy_set_of(track: &Mp4Track, kind: u32, room: &mut [u8]) -> Answer
+    ensures { GaveSet kind track.now room.old room.new result }
+{
     match kind {
-        1 => set(track.sequence_parameter_set(), room),
-        2 => set(track.picture_parameter_set(), room),
+        1 => copy_set(track.sequence_parameter_set(), room),
+        2 => copy_set(track.picture_parameter_set(), room),
         _ => Answer::plain(UNKNOWN_CHOICE),
     }
 }
 
 /// Hands out the first parameter set of a kind of the track with this id.
-fn parameter_set_of(movie: &Mp4Reader, track_id: u32, kind: u32, room: &mut [u8]) -> Answer {
-    match movie.tracks().get(&track_id) {
-        Some(track) => parameter_set(track, kind, room),
-        None => Answer::no_track(track_id),
+fn copy_set_in(movie: &Mp4Reader, track_id: u32, kind: u32, room: &mut [u8]) -> Answer
+    ensures { OnTrack track_id (GaveSet kind) movie.now room.old room.new result }
+{
+    match track_of(movie, track_id) {
+        Ok(track) => copy_set_of(track, kind, room),
+        Err(error) => Answer::refused(&error),
     }
 }
 
@@ -110,9 +123,11 @@ pub extern "C" fn mp4_c_parameter_set(
     track_id: u32,
     kind: u32,
     room: &mut [u8],
-) -> Answer {
-    match read_mp4(alloc, file) {
-        Ok(movie) => parameter_set_of(&movie, track_id, kind, room),
+) -> Answer
+    ensures { OnFile file.now (OnTrack track_id (GaveSet kind)) room.old room.new result }
+{
+    match opened(alloc, file) {
+        Ok(movie) => copy_set_in(&movie, track_id, kind, room),
         Err(error) => Answer::refused(&error),
     }
 }

@@ -1,8 +1,15 @@
 //! What a file says of its movie.
 
+ghost use Rattle.std.specs.Prelude.{◌≡◌, length, map, min};
+ghost use Rattle.mp4_c.specs.Answers.{done};
+ghost use Rattle.mp4_c.specs.Movie.{GaveBrands, GaveInfo, brand_of, info_of};
+ghost use Rattle.mp4_c.specs.Replies.{OnFile};
+ghost use Rattle.mp4_c.specs.Rooms.{filled};
+
 use crate::answer::Answer;
 use crate::configs::Brand;
-use mp4_media::{FourCC, Mp4Reader, read_mp4};
+use crate::opened_file::opened;
+use mp4_media::{FourCC, Mp4Reader};
 use std::alloc::Global;
 
 /// What a file says of its movie.
@@ -30,7 +37,9 @@ pub struct MovieInfo {
 }
 
 /// What an opened file says of its movie.
-fn movie_info(movie: &Mp4Reader) -> MovieInfo {
+fn movie_info(movie: &Mp4Reader) -> MovieInfo
+    ensures { result ≡ info_of movie.now }
+{
     MovieInfo {
         size: movie.size(),
         duration: movie.moov.mvhd.duration,
@@ -44,21 +53,31 @@ fn movie_info(movie: &Mp4Reader) -> MovieInfo {
     }
 }
 
+/// Fills in what an opened file says of its movie.
+fn fill_info(movie: &Mp4Reader, info: &mut MovieInfo) -> Answer
+    ensures { GaveInfo movie.now info.old info.new result }
+{
+    *info = movie_info(movie);
+    Answer::done(movie.tracks().len() as u64, 1)
+}
+
 /// Opens a file, and fills in what it says of its movie. `count` is the number of its tracks. After a refusal nothing
 /// is filled in.
 #[unsafe(no_mangle)]
-pub extern "C" fn mp4_c_open(alloc: Global, file: &[u8], movie: &mut MovieInfo) -> Answer {
-    match read_mp4(alloc, file) {
-        Ok(opened) => {
-            *movie = movie_info(&opened);
-            Answer::done(opened.tracks().len() as u64, 1)
-        }
+pub extern "C" fn mp4_c_open(alloc: Global, file: &[u8], info: &mut MovieInfo) -> Answer
+    ensures { OnFile file.now GaveInfo info.old info.new result }
+{
+    match opened(alloc, file) {
+        Ok(movie) => fill_info(&movie, info),
         Err(error) => Answer::refused(&error),
     }
 }
 
 /// Fills in brands in their order, as far as there is room.
-fn fill_brands(brands: &[FourCC], rows: &mut [Brand]) -> Answer {
+fn fill_brands(brands: &[FourCC], rows: &mut [Brand]) -> Answer
+    ensures rows { rows.new ≡ filled (map brand_of brands.now) rows.old }
+    ensures answer { result ≡ done (length brands.now) (min (length rows.old) (length brands.now)) }
+{
     for (k, row) in rows.iter_mut().enumerate() {
         if k >= brands.len() {
             return Answer::done(brands.len() as u64, k as u64);
@@ -70,11 +89,20 @@ fn fill_brands(brands: &[FourCC], rows: &mut [Brand]) -> Answer {
     Answer::done(brands.len() as u64, rows.len() as u64)
 }
 
+/// Fills in the compatible brands of an opened file.
+fn list_brands(movie: &Mp4Reader, rows: &mut [Brand]) -> Answer
+    ensures { GaveBrands movie.now rows.old rows.new result }
+{
+    fill_brands(movie.compatible_brands(), rows)
+}
+
 /// Fills in the compatible brands of a file, in their order, as far as there is room. `count` is how many there are.
 #[unsafe(no_mangle)]
-pub extern "C" fn mp4_c_brands(alloc: Global, file: &[u8], rows: &mut [Brand]) -> Answer {
-    match read_mp4(alloc, file) {
-        Ok(movie) => fill_brands(movie.compatible_brands(), rows),
+pub extern "C" fn mp4_c_brands(alloc: Global, file: &[u8], rows: &mut [Brand]) -> Answer
+    ensures { OnFile file.now GaveBrands rows.old rows.new result }
+{
+    match opened(alloc, file) {
+        Ok(movie) => list_brands(&movie, rows),
         Err(error) => Answer::refused(&error),
     }
 }

@@ -1,7 +1,14 @@
 //! Where the samples of a track lie, and when they are decoded and shown.
 
+ghost use Rattle.std.specs.Prelude.{◌≡◌, length};
+ghost use Rattle.mp4_lookup.specs.InOrder.{samples_left};
+ghost use Rattle.mp4_c.specs.Replies.{OnFile, OnTrack};
+ghost use Rattle.mp4_c.specs.Rooms.{over};
+ghost use Rattle.mp4_c.specs.Samples.{GaveSamples, end_of, refusal_in, row_of, rows_of, walk_answer};
+
 use crate::answer::Answer;
-use mp4_media::{Error, Mp4Reader, Mp4Track, Place, Result, Samples, read_mp4};
+use crate::opened_file::{opened, track_of};
+use mp4_media::{Mp4Reader, Mp4Track, Place, Result, Samples};
 use std::alloc::Global;
 
 /// A sample: where its bytes lie, when it is decoded and shown. Times are in ticks of its track.
@@ -36,7 +43,9 @@ struct Filled {
 }
 
 /// The row of a sample that lies there.
-fn row_of(track_id: u32, place: Place) -> SampleRow {
+fn row_of(track_id: u32, place: Place) -> SampleRow
+    ensures { result ≡ row_of track_id place }
+{
     SampleRow {
         offset: place.offset,
         start_time: place.start_time,
@@ -50,7 +59,11 @@ fn row_of(track_id: u32, place: Place) -> SampleRow {
 }
 
 /// Fills in the samples of a walk, one after the other, until there is no room, no sample or one that is refused.
-fn fill_rows(track_id: u32, samples: Samples, rows: &mut [SampleRow]) -> Filled {
+fn fill_rows(track_id: u32, samples: Samples, rows: &mut [SampleRow]) -> Filled
+    ensures rows { rows.new ≡ over (rows_of track_id (length rows.old) (samples_left samples.entry)) rows.old }
+    ensures count { result.count ≡ length (rows_of track_id (length rows.old) (samples_left samples.entry)) }
+    ensures end { end_of result.end ≡ refusal_in (length rows.old) (samples_left samples.entry) }
+{
     let mut samples = samples;
     for (k, row) in rows.iter_mut().enumerate() {
         match samples.next() {
@@ -76,7 +89,9 @@ fn fill_rows(track_id: u32, samples: Samples, rows: &mut [SampleRow]) -> Filled 
 }
 
 /// The answer of a call that filled in so many of the samples of a track.
-fn answer_of(count: u32, filled: Filled) -> Answer {
+fn answer_of(count: u32, filled: Filled) -> Answer
+    ensures { result ≡ walk_answer count filled.count (end_of filled.end) }
+{
     match filled.end {
         Ok(()) => Answer::done(u64::from(count), filled.count),
         Err(error) => Answer {
@@ -88,7 +103,9 @@ fn answer_of(count: u32, filled: Filled) -> Answer {
 }
 
 /// Fills in the samples of a track from number `first` on.
-fn list_samples(track_id: u32, track: &Mp4Track, first: u32, rows: &mut [SampleRow]) -> Answer {
+fn list_samples(track_id: u32, track: &Mp4Track, first: u32, rows: &mut [SampleRow]) -> Answer
+    ensures { GaveSamples track_id first track.now rows.old rows.new result }
+{
     match track.sample_count() {
         Ok(count) => answer_of(count, fill_rows(track_id, track.samples_from(first), rows)),
         Err(error) => Answer::refused(&error),
@@ -101,10 +118,12 @@ fn list_samples_of(
     track_id: u32,
     first: u32,
     rows: &mut [SampleRow],
-) -> Answer {
-    match movie.tracks().get(&track_id) {
-        Some(track) => list_samples(track_id, track, first, rows),
-        None => Answer::no_track(track_id),
+) -> Answer
+    ensures { OnTrack track_id (GaveSamples track_id first) movie.now rows.old rows.new result }
+{
+    match track_of(movie, track_id) {
+        Ok(track) => list_samples(track_id, track, first, rows),
+        Err(error) => Answer::refused(&error),
     }
 }
 
@@ -121,8 +140,10 @@ pub extern "C" fn mp4_c_samples(
     track_id: u32,
     first: u32,
     rows: &mut [SampleRow],
-) -> Answer {
-    match read_mp4(alloc, file) {
+) -> Answer
+    ensures { OnFile file.now (OnTrack track_id (GaveSamples track_id first)) rows.old rows.new result }
+{
+    match opened(alloc, file) {
         Ok(movie) => list_samples_of(&movie, track_id, first, rows),
         Err(error) => Answer::refused(&error),
     }

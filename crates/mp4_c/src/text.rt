@@ -1,7 +1,7 @@
 //! What an answer says in words.
 
 use crate::answer::{Answer, NOT_PRESENT, NULL_POINTER, UNKNOWN_CHOICE};
-use crate::copied::copied;
+use crate::copied::copy_to_front;
 use mp4_media::{BoxType, Error, Limit};
 use std::alloc::{AllocError, Global};
 
@@ -86,9 +86,9 @@ fn words_of(alloc: Global, error: &Error) -> std::result::Result<String, AllocEr
 pub extern "C" fn mp4_c_error_text(alloc: Global, answer: &Answer, room: &mut [u8]) -> Answer {
     match error_of(answer) {
         Some(error) => match words_of(alloc, &error) {
-            Ok(words) => copied(words.as_bytes(), room),
+            Ok(words) => copy_to_front(words.as_bytes(), room),
             Err(_) => Answer::refused(&Error::OutOfMemory),
         },
-        None => copied(plain_words(answer.code).as_bytes(), room),
+        None => copy_to_front(plain_words(answer.code).as_bytes(), room),
     }
 }

@@ -1,7 +1,8 @@
 //! What a file says of its tracks.
 
 use crate::answer::Answer;
-use mp4_media::{Mp4Reader, Mp4Track, Result, read_mp4};
+use crate::opened_file::opened;
+use mp4_media::{Mp4Reader, Mp4Track, Result};
 use std::alloc::Global;
 
 /// What a file says of a track. A field with a mark `has_..` is 0 where its mark is 0.
@@ -76,7 +77,6 @@ struct Video {
     profile: u8,
     compatibility: u8,
     level: u8,
-    is_known: bool,
 }
 
 /// How many samples a track has, and how many samples and bits in a second.
@@ -137,20 +137,25 @@ fn sound_of(track: &Mp4Track) -> Sound {
 }
 
 /// What a track says of its video, where its profile is known.
-fn video_of(track: &Mp4Track) -> Video {
-    match (&track.trak.mdia.minf.stbl.stsd.avc1, track.video_profile()) {
-        (Some(entry), Ok(_)) => Video {
-            profile: entry.avcc.avc_profile_indication,
-            compatibility: entry.avcc.profile_compatibility,
-            level: entry.avcc.avc_level_indication,
-            is_known: true,
-        },
-        _ => Video {
-            profile: 0,
-            compatibility: 0,
-            level: 0,
-            is_known: false,
-        },
+fn video_of(track: &Mp4Track) -> Option<Video> {
+    let Some(entry) = &track.trak.mdia.minf.stbl.stsd.avc1 else {
+        return None;
+    };
+    if track.video_profile().is_err() {
+        return None;
+    }
+    Some(Video {
+        profile: entry.avcc.avc_profile_indication,
+        compatibility: entry.avcc.profile_compatibility,
+        level: entry.avcc.avc_level_indication,
+    })
+}
+
+/// The numbers of video; zeros where they aren't known.
+fn video_numbers(video: Option<Video>) -> (u8, u8, u8) {
+    match video {
+        Some(video) => (video.profile, video.compatibility, video.level),
+        None => (0, 0, 0),
     }
 }
 
@@ -169,6 +174,7 @@ fn track_info(id: u32, track: &Mp4Track) -> TrackInfo {
     let rates = rates_of(track);
     let sound = sound_of(track);
     let video = video_of(track);
+    let (video_profile, video_compatibility, video_level) = video_numbers(video);
     TrackInfo {
         duration: track.trak.mdia.mdhd.duration,
         frames_per_second: rates.frames.unwrap_or(0),
@@ -184,9 +190,9 @@ fn track_info(id: u32, track: &Mp4Track) -> TrackInfo {
         audio_profile: sound.profile.unwrap_or(0),
         frequency_index: sound.frequency_index.unwrap_or(0),
         channels: sound.channels.unwrap_or(0),
-        video_profile: video.profile,
-        video_compatibility: video.compatibility,
-        video_level: video.level,
+        video_profile,
+        video_compatibility,
+        video_level,
         has_frames_per_second: u8::from(rates.frames.is_some()),
         has_sample_count: u8::from(rates.sample_count.is_some()),
         has_bits_per_second: u8::from(rates.bits.is_some()),
@@ -194,7 +200,7 @@ fn track_info(id: u32, track: &Mp4Track) -> TrackInfo {
         has_audio_profile: u8::from(sound.profile.is_some()),
         has_frequency_index: u8::from(sound.frequency_index.is_some()),
         has_channels: u8::from(sound.channels.is_some()),
-        has_video_profile: u8::from(video.is_known),
+        has_video_profile: u8::from(video.is_some()),
         reserved: [0; 2],
     }
 }
@@ -235,7 +241,7 @@ fn list_tracks(alloc: Global, movie: &Mp4Reader, rows: &mut [TrackInfo]) -> Answ
 /// Fills in what a file says of its tracks, by rising ids, as far as there is room. `count` is the number of tracks.
 #[unsafe(no_mangle)]
 pub extern "C" fn mp4_c_tracks(alloc: Global, file: &[u8], rows: &mut [TrackInfo]) -> Answer {
-    match read_mp4(alloc, file) {
+    match opened(alloc, file) {
         Ok(movie) => list_tracks(alloc, &movie, rows),
         Err(error) => Answer::refused(&error),
     }

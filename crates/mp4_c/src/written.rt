@@ -2,7 +2,7 @@
 
 use crate::answer::Answer;
 use crate::configs::{Brand, NewMovie, NewTrack, movie_config, part_of, track_config};
-use crate::copied::copied;
+use crate::copied::copy_to_front;
 use crate::samples::SampleRow;
 use bytes::Bytes;
 use mp4_media::{Error, Mp4Sample, Mp4Writer, Result};
@@ -132,7 +132,7 @@ pub extern "C" fn mp4_c_write(
     room: &mut [u8],
 ) -> Answer {
     match written(alloc, movie, brands, tracks, samples, data) {
-        Ok(bytes) => copied(bytes.as_slice(), room),
+        Ok(bytes) => copy_to_front(bytes.as_slice(), room),
         Err(fault) => Answer {
             part: fault.part,
             index: fault.index,
