@@ -43,6 +43,9 @@ pub struct Answer {
     pub reserved: u32,
 }
 
+/// The size that the header says.
+const _: () = prove!(size_of::<Answer>() == 56);
+
 /// The bytes of a type of box.
 fn code_bytes(box_type: BoxType) -> [u8; 4]
     ensures { result ≡ code_bytes box_type }
@@ -170,6 +173,3 @@ impl Answer {
         Answer::of_track(6, track_id)
     }
 }
-
-// The layout that the header asserts too.
-const _: () = prove!(size_of::<Answer>() == 56);

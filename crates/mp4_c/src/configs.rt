@@ -15,6 +15,9 @@ pub struct Brand {
     pub code: [u8; 4],
 }
 
+/// The size that the header says.
+const _: () = prove!(size_of::<Brand>() == 4);
+
 /// What a movie is begun with.
 #[repr(C)]
 #[derive(Clone, Copy, Debug, PartialEq, Eq)]
@@ -26,6 +29,9 @@ pub struct NewMovie {
     /// The specification that the file follows first of all.
     pub major_brand: [u8; 4],
 }
+
+/// The size that the header says.
+const _: () = prove!(size_of::<NewMovie>() == 12);
 
 /// What a track is added with. The first has id 1, and each next one the id after the one before.
 #[repr(C)]
@@ -60,6 +66,9 @@ pub struct NewTrack {
     /// Not looked at.
     pub reserved: u8,
 }
+
+/// The size that the header says.
+const _: () = prove!(size_of::<NewTrack>() == 48);
 
 /// The bytes at a place of the data; `EndOfData` where they aren't whole there.
 pub fn part_of(data: &[u8], offset: u64, size: u32) -> Result<&[u8]> {

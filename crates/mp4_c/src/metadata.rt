@@ -67,12 +67,7 @@ fn metadata_of(alloc: Global, movie: &Mp4Reader, key: u32, room: &mut [u8]) -> A
 ///
 /// The code `NOT_PRESENT` where the file doesn't say it, and `UNKNOWN_CHOICE` for another key of metadata that is there.
 #[unsafe(no_mangle)]
-pub extern "C" fn mp4_c_metadata(
-    alloc: Global,
-    file: &[u8],
-    key: u32,
-    room: &mut [u8],
-) -> Answer {
+pub extern "C" fn mp4_c_metadata(alloc: Global, file: &[u8], key: u32, room: &mut [u8]) -> Answer {
     match opened(alloc, file) {
         Ok(movie) => metadata_of(alloc, &movie, key, room),
         Err(error) => Answer::refused(&error),

@@ -36,6 +36,9 @@ pub struct MovieInfo {
     pub reserved: [u8; 3],
 }
 
+/// The size that the header says.
+const _: () = prove!(size_of::<MovieInfo>() == 48);
+
 /// What an opened file says of its movie.
 fn movie_info(movie: &Mp4Reader) -> MovieInfo
     ensures { result ≡ info_of movie.now }

@@ -33,6 +33,9 @@ pub struct SampleRow {
     pub reserved: [u8; 7],
 }
 
+/// The size that the header says.
+const _: () = prove!(size_of::<SampleRow>() == 40);
+
 /// What was filled in of a walk over samples.
 #[derive(Drop)]
 struct Filled {
@@ -113,12 +116,7 @@ fn list_samples(track_id: u32, track: &Mp4Track, first: u32, rows: &mut [SampleR
 }
 
 /// Fills in the samples of the track with this id from number `first` on.
-fn list_samples_of(
-    movie: &Mp4Reader,
-    track_id: u32,
-    first: u32,
-    rows: &mut [SampleRow],
-) -> Answer
+fn list_samples_of(movie: &Mp4Reader, track_id: u32, first: u32, rows: &mut [SampleRow]) -> Answer
     ensures { OnTrack track_id (GaveSamples track_id first) movie.now rows.old rows.new result }
 {
     match track_of(movie, track_id) {

@@ -59,11 +59,17 @@ fn write_movie(alloc: Global, room: &mut [u8]) -> Answer {
 fn a_written_movie_is_read(rt: HostRuntime) {
     let mut room = [0u8; 2000];
     let answer = write_movie(rt.alloc(), &mut room);
-    let _ = println!(rt; "code {} count {} filled {}", answer.code, answer.count, answer.filled);
+    let _ = println!(rt;
+        "code {} count {} filled {}",
+        answer.code, answer.count, answer.filled
+    );
     let file = &room[..answer.filled as usize];
     let mut rows = [text_sample(0); 3];
     let answer = mp4_c_samples(rt.alloc(), file, 1, 1, &mut rows);
-    let _ = println!(rt; "code {} count {} filled {}", answer.code, answer.count, answer.filled);
+    let _ = println!(rt;
+        "code {} count {} filled {}",
+        answer.code, answer.count, answer.filled
+    );
     for row in &rows {
         let _ = println!(rt; "{:?}", row);
     }

@@ -63,6 +63,9 @@ pub struct TrackInfo {
     pub reserved: [u8; 2],
 }
 
+/// The size that the header says.
+const _: () = prove!(size_of::<TrackInfo>() == 64);
+
 /// What the sample entry of a track of sound says.
 #[derive(Clone, Copy)]
 struct Sound {
