@@ -101,7 +101,10 @@ fn language_bytes(text: &str) -> [u8; 4] {
 /// The type of a track's sample entry, and 1; zeros where it has none of the five.
 fn sample_entry_of(track: &Mp4Track) -> ([u8; 4], u8) {
     match track.box_type() {
-        Ok(code) => (code.value, 1),
+        Ok(code) => {
+            let bytes = code.value;
+            (bytes, 1)
+        }
         Err(_) => ([0; 4], 0),
     }
 }
@@ -178,6 +181,8 @@ fn track_info(id: u32, track: &Mp4Track) -> TrackInfo {
     let sound = sound_of(track);
     let video = video_of(track);
     let (video_profile, video_compatibility, video_level) = video_numbers(video);
+    let handler = track.trak.mdia.hdlr.handler_type.value;
+    let language = language_bytes(track.language());
     TrackInfo {
         duration: track.trak.mdia.mdhd.duration,
         frames_per_second: rates.frames.unwrap_or(0),
@@ -185,9 +190,9 @@ fn track_info(id: u32, track: &Mp4Track) -> TrackInfo {
         timescale: track.timescale(),
         sample_count: rates.sample_count.unwrap_or(0),
         bits_per_second: rates.bits.unwrap_or(0),
-        handler: track.trak.mdia.hdlr.handler_type.value,
+        handler,
         sample_entry,
-        language: language_bytes(track.language()),
+        language,
         width: track.width(),
         height: track.height(),
         audio_profile: sound.profile.unwrap_or(0),

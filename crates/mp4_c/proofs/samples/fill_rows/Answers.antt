@@ -1,12 +1,21 @@
 -- Each turn fills in one row more, and none after the last sample or the first that is refused.
-use Rattle.std.proofs.Common.{◌≡◌, ◌-◌, ◌+◌, ◌∷◌, suc, length, Ok, Err, ap, sym, ◌∙◌, arith}
+use Rattle.std.proofs.Common.{◌≡◌, ◌-◌, ◌+◌, ◌∷◌, suc, length, Ok, Err, refl, ap, sym, ◌∙◌, arith}
 use Rattle.std.proofs.lemmas.List.{set-get_or}
 use Rattle.mp4_codec.specs.Cause.{cause_of}
 use Rattle.mp4_lookup.specs.InOrder.{samples_left}
+use Rattle.mp4_c.specs.Samples.{refusal_in, rows_of}
 use Rattle.mp4_c.proofs.SampleRows.{none_left, refused_next, no_room, none_left_refusal, refused_next_refusal}
 use Rattle.mp4_c.proofs.SampleRows.{no_room_refusal, row_next, row_next_refusal, ended_rows, ended_count}
 use Rattle.mp4_c.proofs.SampleRows.{next_front, next_rest}
 use Rattle.mp4_c.proofs.samples.fill_rows.Goals as goal
+
+pub loop-k-init : goal.loop-k-init
+loop-k-init c =
+    let whole : length c.args.rows.now ≡ length c.args.rows.now - 0 = omega arith in record {
+      rows = ap (λ n. rows_of c.args.track_id n (samples_left c.args.samples)) whole;
+      rest = refl;
+      refusal = ap (λ n. refusal_in n (samples_left c.args.samples)) whole;
+    }
 
 pub returns-in-None-clause-rows : goal.returns-in-None-clause-rows
 returns-in-None-clause-rows c =
@@ -19,7 +28,7 @@ returns-in-None-clause-count c =
     ended_count c.loop-k.rows _ _ c.loop-k.k c.loop-k.invariant.rows (none_left _ _ _ c.in-None.ensures.steps.0) (omega arith)
 
 pub returns-in-None-clause-end : goal.returns-in-None-clause-end
-returns-in-None-clause-end c = c.loop-k.invariant.refusal ∙ none_left_refusal _ _ c.in-None.ensures.steps.0
+returns-in-None-clause-end c = sym (c.loop-k.invariant.refusal ∙ none_left_refusal _ _ c.in-None.ensures.steps.0)
 
 pub returns-in-Some-Err-clause-rows : goal.returns-in-Some-Err-clause-rows
 returns-in-Some-Err-clause-rows c =
@@ -38,8 +47,8 @@ pub returns-in-Some-Err-clause-end : goal.returns-in-Some-Err-clause-end
 returns-in-Some-Err-clause-end c =
     let next : samples_left c.loop-k.samples ≡ Err (cause_of c.in-Some-Err.error) ∷ samples_left c.next.new.self =
     rw c.in-Some-Err.field-0-is at c.in-Some-Err.ensures.steps in
-    c.loop-k.invariant.refusal
-    ∙ refused_next_refusal _ (length c.args.rows.now - (c.loop-k.k + 1)) _ _ _ next (omega arith)
+    sym (c.loop-k.invariant.refusal
+    ∙ refused_next_refusal _ (length c.args.rows.now - (c.loop-k.k + 1)) _ _ _ next (omega arith))
 
 pub loop-k-preserved : goal.loop-k-preserved
 loop-k-preserved c =
@@ -65,4 +74,5 @@ returns-clause-count c =
     (no_room _ (length c.args.rows.now - c.loop-k.k) _ (omega arith)) (omega arith)
 
 pub returns-clause-end : goal.returns-clause-end
-returns-clause-end c = c.loop-k.invariant.refusal ∙ no_room_refusal (length c.args.rows.now - c.loop-k.k) _ (omega arith)
+returns-clause-end c =
+    sym (c.loop-k.invariant.refusal ∙ no_room_refusal (length c.args.rows.now - c.loop-k.k) _ (omega arith))
