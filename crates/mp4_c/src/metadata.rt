@@ -55,6 +55,9 @@ fn item(alloc: Global, items: &IlstBox, key: u32, room: &mut [u8]) -> Answer {
 
 /// Hands out what a movie says at a key.
 fn metadata_of(alloc: Global, movie: &Mp4Reader, key: u32, room: &mut [u8]) -> Answer {
+    if key == 0 || key > 4 {
+        return Answer::plain(UNKNOWN_CHOICE);
+    }
     match movie.metadata() {
         Some(items) => item(alloc, items, key, room),
         None => Answer::plain(NOT_PRESENT),
@@ -65,7 +68,7 @@ fn metadata_of(alloc: Global, movie: &Mp4Reader, key: u32, room: &mut [u8]) -> A
 /// (4) in UTF-8, the year (2) as its decimal digits, and the poster (3) as the bytes of a picture. `count` is how many
 /// bytes it has, and `filled` is `count`, or 0 where they don't fit.
 ///
-/// The code `NOT_PRESENT` where the file doesn't say it, and `UNKNOWN_CHOICE` for another key of metadata that is there.
+/// The code `UNKNOWN_CHOICE` for another key, and `NOT_PRESENT` where the file doesn't say it.
 #[unsafe(no_mangle)]
 pub extern "C" fn mp4_c_metadata(alloc: Global, file: &[u8], key: u32, room: &mut [u8]) -> Answer {
     match opened(alloc, file) {
