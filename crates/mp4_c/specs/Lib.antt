@@ -6,3 +6,4 @@ pub mod Tracks
 pub mod Samples
 pub mod ByTime
 pub mod ParameterSets
+pub mod Written

@@ -1,5 +1,8 @@
 //! What a movie and its tracks are written with.
 
+ghost use Rattle.std.specs.Prelude.{◌≡◌, map, IfOk};
+ghost use Rattle.mp4_c.specs.Written.{config_of, four_cc, part_at};
+
 use mp4_media::{
     AacConfig, AudioObjectType, AvcConfig, ByteCursor, ChannelConfig, Error, FourCC, HevcConfig,
     Items, MediaConfig, Mp4Config, Result, SampleFreqIndex, Text, TrackConfig, TtxtConfig,
@@ -71,22 +74,24 @@ pub struct NewTrack {
 const _: () = prove!(size_of::<NewTrack>() == 48);
 
 /// The bytes at a place of the data; `EndOfData` where they aren't whole there.
-pub fn part_of(data: &[u8], offset: u64, size: u32) -> Result<&[u8]> {
-    let mut cursor = ByteCursor::new(data);
+pub fn part_of(source: &[u8], offset: u64, size: u32) -> Result<&[u8]>
+    ensures { IfOk result (λ part. part.now ≡ part_at source.now offset size) }
+{
+    let mut cursor = ByteCursor::new(source);
     cursor.set_position(offset);
     cursor.take(u64::from(size))
 }
 
 /// A copy of the bytes at a place of the data.
-fn copy_of(alloc: Global, data: &[u8], offset: u64, size: u32) -> Result<Items<u8>> {
-    let bytes = part_of(data, offset, size)?;
+fn copy_of(alloc: Global, source: &[u8], offset: u64, size: u32) -> Result<Items<u8>> {
+    let bytes = part_of(source, offset, size)?;
     Ok(Items::from(bytes.to_vec(alloc)?))
 }
 
 /// AVC video.
-fn avc_of(alloc: Global, track: &NewTrack, data: &[u8]) -> Result<AvcConfig> {
-    let seq_param_set = copy_of(alloc, data, track.sequence_set, track.sequence_set_size)?;
-    let pic_param_set = copy_of(alloc, data, track.picture_set, track.picture_set_size)?;
+fn avc_of(alloc: Global, track: &NewTrack, source: &[u8]) -> Result<AvcConfig> {
+    let seq_param_set = copy_of(alloc, source, track.sequence_set, track.sequence_set_size)?;
+    let pic_param_set = copy_of(alloc, source, track.picture_set, track.picture_set_size)?;
     Ok(AvcConfig {
         width: track.width,
         height: track.height,
@@ -109,12 +114,12 @@ fn aac_of(track: &NewTrack) -> Result<AacConfig> {
 }
 
 /// How the samples of a track are coded; `InvalidData` for another sample entry than the five.
-fn media_of(alloc: Global, track: &NewTrack, data: &[u8]) -> Result<MediaConfig> {
+fn media_of(alloc: Global, track: &NewTrack, source: &[u8]) -> Result<MediaConfig> {
     let width = track.width;
     let height = track.height;
     match u32::from_be_bytes(track.sample_entry) {
         0x61766331 => {
-            let config = avc_of(alloc, track, data)?;
+            let config = avc_of(alloc, track, source)?;
             Ok(MediaConfig::AvcConfig(config))
         }
         0x68657631 => Ok(MediaConfig::HevcConfig(HevcConfig { width, height })),
@@ -142,8 +147,8 @@ fn language_of(alloc: Global, language: [u8; 4]) -> Result<Text> {
 }
 
 /// What a track is added with.
-pub fn track_config(alloc: Global, track: &NewTrack, data: &[u8]) -> Result<TrackConfig> {
-    let media_conf = media_of(alloc, track, data)?;
+pub fn track_config(alloc: Global, track: &NewTrack, source: &[u8]) -> Result<TrackConfig> {
+    let media_conf = media_of(alloc, track, source)?;
     let language = language_of(alloc, track.language)?;
     Ok(TrackConfig {
         track_type: media_conf.track_type(),
@@ -154,7 +159,9 @@ pub fn track_config(alloc: Global, track: &NewTrack, data: &[u8]) -> Result<Trac
 }
 
 /// The codes of brands.
-fn brand_codes(alloc: Global, brands: &[Brand]) -> Result<Items<FourCC>> {
+fn brand_codes(alloc: Global, brands: &[Brand]) -> Result<Items<FourCC>>
+    ensures { IfOk result (λ codes. codes ≡ map four_cc brands.now) }
+{
     let mut codes = Vec::new(alloc);
     for brand in brands {
         codes.push(FourCC { value: brand.code })?;
@@ -163,7 +170,9 @@ fn brand_codes(alloc: Global, brands: &[Brand]) -> Result<Items<FourCC>> {
 }
 
 /// What a movie is begun with.
-pub fn movie_config(alloc: Global, movie: &NewMovie, brands: &[Brand]) -> Result<Mp4Config> {
+pub fn movie_config(alloc: Global, movie: &NewMovie, brands: &[Brand]) -> Result<Mp4Config>
+    ensures { IfOk result (λ config. config ≡ config_of movie.now brands.now) }
+{
     Ok(Mp4Config {
         major_brand: FourCC {
             value: movie.major_brand,

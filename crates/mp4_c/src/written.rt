@@ -1,5 +1,11 @@
 //! Movies that are written.
 
+ghost use Rattle.std.specs.Prelude.{◌≡◌, [], length, IfOk, OnOk};
+ghost use Rattle.mp4_samples.specs.Samples.{sample_of};
+ghost use Rattle.mp4_mux.specs.declared.config.TrackConfig.{TrackConfig};
+ghost use Rattle.mp4_mux.specs.Writing.{started, with_sample, with_track};
+ghost use Rattle.mp4_c.specs.Written.{HasTracks, IsEndOf, IsMovieOf, config_of, sample_in, with_rows};
+
 use crate::answer::Answer;
 use crate::configs::{Brand, NewMovie, NewTrack, movie_config, part_of, track_config};
 use crate::copied::copy_to_front;
@@ -33,23 +39,19 @@ struct Fault {
 /// An answer, or what the writing was refused at.
 type Written<T> = std::result::Result<T, Fault>;
 
-/// What a part answered, as the writing's answer.
-fn at<T>(part: u32, index: u64, answer: Result<T>) -> Written<T> {
-    match answer {
-        Ok(value) => Ok(value),
-        Err(error) => Err(Fault { part, index, error }),
-    }
-}
-
 /// A writer that has begun.
-fn begun(alloc: Global, movie: &NewMovie, brands: &[Brand]) -> Result<Mp4Writer> {
+fn begun(alloc: Global, movie: &NewMovie, brands: &[Brand]) -> Result<Mp4Writer>
+    ensures { IfOk result (λ w. w ≡ started [] (config_of movie.now brands.now)) }
+{
     let config = movie_config(alloc, movie, brands)?;
     Mp4Writer::write_start(alloc, Vec::new(alloc), &config)
 }
 
 /// Adds a track.
-fn add_track(alloc: Global, writer: &mut Mp4Writer, track: &NewTrack, data: &[u8]) -> Result<()> {
-    let config = track_config(alloc, track, data)?;
+fn add_track(alloc: Global, writer: &mut Mp4Writer, track: &NewTrack, source: &[u8]) -> Result<()>
+    ensures { OnOk result ((config : TrackConfig) × (writer.new ≡ with_track writer.old config)) }
+{
+    let config = track_config(alloc, track, source)?;
     writer.add_track(&config)
 }
 
@@ -58,18 +60,30 @@ fn add_tracks(
     alloc: Global,
     writer: &mut Mp4Writer,
     tracks: &[NewTrack],
-    data: &[u8],
-) -> Written<()> {
+    source: &[u8],
+) -> Written<()>
+    ensures { OnOk result (HasTracks (length tracks.now) writer.old writer.new) }
+{
     for (k, track) in tracks.iter().enumerate() {
-        let added = add_track(alloc, writer, track, data);
-        at(TRACK, k as u64, added)?;
+        match add_track(alloc, writer, track, source) {
+            Ok(()) => {}
+            Err(error) => {
+                return Err(Fault {
+                    part: TRACK,
+                    index: k as u64,
+                    error,
+                });
+            }
+        }
     }
     Ok(())
 }
 
 /// A sample with its bytes.
-fn sample_of(alloc: Global, row: &SampleRow, data: &[u8]) -> Result<Mp4Sample> {
-    let bytes = part_of(data, row.offset, row.size)?;
+fn sample_at(alloc: Global, row: &SampleRow, source: &[u8]) -> Result<Mp4Sample>
+    ensures { IfOk result (λ s. sample_of s ≡ sample_in source.now row.now) }
+{
+    let bytes = part_of(source, row.offset, row.size)?;
     Ok(Mp4Sample {
         start_time: 0,
         duration: row.duration,
@@ -80,8 +94,10 @@ fn sample_of(alloc: Global, row: &SampleRow, data: &[u8]) -> Result<Mp4Sample> {
 }
 
 /// Writes a sample.
-fn add_sample(alloc: Global, writer: &mut Mp4Writer, row: &SampleRow, data: &[u8]) -> Result<()> {
-    let sample = sample_of(alloc, row, data)?;
+fn add_sample(alloc: Global, writer: &mut Mp4Writer, row: &SampleRow, source: &[u8]) -> Result<()>
+    ensures { OnOk result (writer.new ≡ with_sample writer.old row.now.track_id (sample_in source.now row.now)) }
+{
+    let sample = sample_at(alloc, row, source)?;
     writer.write_sample(row.track_id, &sample)
 }
 
@@ -90,13 +106,54 @@ fn add_samples(
     alloc: Global,
     writer: &mut Mp4Writer,
     rows: &[SampleRow],
-    data: &[u8],
-) -> Written<()> {
+    source: &[u8],
+) -> Written<()>
+    ensures { OnOk result (writer.new ≡ with_rows source.now writer.old rows.now) }
+{
     for (k, row) in rows.iter().enumerate() {
-        let added = add_sample(alloc, writer, row, data);
-        at(SAMPLE, k as u64, added)?;
+        match add_sample(alloc, writer, row, source) {
+            Ok(()) => {}
+            Err(error) => {
+                return Err(Fault {
+                    part: SAMPLE,
+                    index: k as u64,
+                    error,
+                });
+            }
+        }
     }
     Ok(())
+}
+
+/// Ends a movie, and answers its bytes.
+fn ended(writer: Mp4Writer) -> Written<Vec<u8>>
+    ensures { IfOk result (λ bytes. IsEndOf writer bytes.items) }
+{
+    let mut writer = writer;
+    match writer.write_end() {
+        Ok(()) => Ok(writer.into_writer()),
+        Err(error) => Err(Fault {
+            part: END,
+            index: 0,
+            error,
+        }),
+    }
+}
+
+/// Adds tracks and samples to a writer that has begun, and ends it.
+fn filled(
+    alloc: Global,
+    writer: Mp4Writer,
+    tracks: &[NewTrack],
+    samples: &[SampleRow],
+    source: &[u8],
+) -> Written<Vec<u8>>
+    ensures { IfOk result (λ bytes. IsMovieOf writer (length tracks.now) source.now samples.now bytes.items) }
+{
+    let mut writer = writer;
+    add_tracks(alloc, &mut writer, tracks, source)?;
+    add_samples(alloc, &mut writer, samples, source)?;
+    ended(writer)
 }
 
 /// The bytes of a movie.
@@ -106,13 +163,19 @@ fn written(
     brands: &[Brand],
     tracks: &[NewTrack],
     samples: &[SampleRow],
-    data: &[u8],
-) -> Written<Vec<u8>> {
-    let mut writer = at(MOVIE, 0, begun(alloc, movie, brands))?;
-    add_tracks(alloc, &mut writer, tracks, data)?;
-    add_samples(alloc, &mut writer, samples, data)?;
-    at(END, 0, writer.write_end())?;
-    Ok(writer.into_writer())
+    source: &[u8],
+) -> Written<Vec<u8>>
+    ensures { IfOk result (λ bytes.
+        IsMovieOf (started [] (config_of movie.now brands.now)) (length tracks.now) source.now samples.now bytes.items) }
+{
+    match begun(alloc, movie, brands) {
+        Ok(writer) => filled(alloc, writer, tracks, samples, source),
+        Err(error) => Err(Fault {
+            part: MOVIE,
+            index: 0,
+            error,
+        }),
+    }
 }
 
 /// Writes a movie of these tracks and of these samples, in this order, where there is room for all of it. `count` is
@@ -128,10 +191,10 @@ pub extern "C" fn mp4_c_write(
     brands: &[Brand],
     tracks: &[NewTrack],
     samples: &[SampleRow],
-    data: &[u8],
+    source: &[u8],
     room: &mut [u8],
 ) -> Answer {
-    match written(alloc, movie, brands, tracks, samples, data) {
+    match written(alloc, movie, brands, tracks, samples, source) {
         Ok(bytes) => copy_to_front(bytes.as_slice(), room),
         Err(fault) => Answer {
             part: fault.part,
