@@ -1,0 +1,64 @@
+-- What is written of the tracks and samples that a caller gives.
+use Rattle.std.specs.Prelude.{◌≡◌, ℕ, List, [], ◌∷◌, Bool, true, false, length, map, take, drop, ◌==◌, if◌then◌else◌}
+use Rattle.mp4_codec.specs.declared.four_cc.FourCC.{FourCC}
+use Rattle.mp4_samples.specs.Samples.{Sample}
+use Rattle.mp4_mux.specs.declared.config.Mp4Config.{Mp4Config}
+use Rattle.mp4_mux.specs.declared.config.TrackConfig.{TrackConfig}
+use Rattle.mp4_media.specs.Finished.{Opens}
+use Rattle.mp4_mux.specs.Writing.{WriterState, whole_of, with_end, with_sample, with_track}
+use Rattle.mp4_mux.specs.Written.{IsWrittenMovie}
+use Rattle.mp4_c.specs.declared.configs.Brand.{Brand}
+use Rattle.mp4_c.specs.declared.configs.NewMovie.{NewMovie}
+use Rattle.mp4_c.specs.declared.samples.SampleRow.{SampleRow}
+
+-- the brand of four bytes
+abbrev pub four_cc : Brand → FourCC
+four_cc b = record { value = b.code }
+
+-- what a movie is begun with
+abbrev pub config_of : NewMovie → List Brand → Mp4Config
+config_of movie brands = record {
+  major_brand = record { value = movie.major_brand };
+  minor_version = movie.minor_version;
+  compatible_brands = map four_cc brands;
+  timescale = movie.timescale;
+}
+
+-- the bytes that a row names
+abbrev pub part_at : List ℕ → ℕ → ℕ → List ℕ
+part_at source offset size = take size (drop offset source)
+
+-- the sample of a row: its bytes lie in the source
+abbrev pub sample_in : List ℕ → SampleRow → Sample
+sample_in source row = record {
+  bytes = part_at source row.offset row.size;
+  duration = row.duration;
+  rendering_offset = row.rendering_offset;
+  is_sync = if row.is_sync == 0 then false else true;
+}
+
+-- a writer with these tracks more, in their order
+unfoldable pub with_tracks : WriterState → List TrackConfig → WriterState
+with_tracks st [] = st
+with_tracks st (c ∷ cs) = with_tracks (with_track st c) cs
+
+-- a writer with the samples of these rows more, in their order
+unfoldable pub with_rows : List ℕ → WriterState → List SampleRow → WriterState
+with_rows source st [] = st
+with_rows source st (r ∷ rs) = with_rows source (with_sample st r.track_id (sample_in source r)) rs
+
+-- a writer has so many tracks more
+abbrev pub HasTracks : ℕ → WriterState → WriterState → Type 0
+HasTracks count old new = (tracks : List TrackConfig) × (length tracks ≡ count) × (new ≡ with_tracks old tracks)
+
+-- These bytes are those of a writer after its end: a file that opens, whose tables describe the samples that were
+-- written.
+abbrev pub IsEndOf : WriterState → List ℕ → Type 0
+IsEndOf st bytes =
+    (bytes ≡ whole_of (with_end st)) × (Opens (with_end st)) × (IsWrittenMovie (with_end st))
+
+-- These bytes are those of a writer that had begun so, to which so many tracks were added, and then exactly the samples
+-- of these rows, in their order, and which was ended.
+abbrev pub IsMovieOf : WriterState → ℕ → List ℕ → List SampleRow → List ℕ → Type 0
+IsMovieOf begun count source rows bytes =
+    (ready : WriterState) × (HasTracks count begun ready) × (IsEndOf (with_rows source ready rows) bytes)

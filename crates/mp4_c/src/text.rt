@@ -1,0 +1,94 @@
+//! What an answer says in words.
+
+use crate::answer::{Answer, NOT_PRESENT, NULL_POINTER, UNKNOWN_CHOICE};
+use crate::copied::copy_to_front;
+use mp4_media::{BoxType, Error, Limit};
+use std::alloc::{AllocError, Global};
+
+/// The limit of a number.
+fn limit_of(number: u32) -> Option<Limit> {
+    match number {
+        1 => Some(Limit::SampleBytes),
+        2 => Some(Limit::SampleCount),
+        3 => Some(Limit::TrackDuration),
+        4 => Some(Limit::TrackCount),
+        5 => Some(Limit::BoxSize),
+        6 => Some(Limit::Value),
+        _ => None,
+    }
+}
+
+/// The type of box of these bytes.
+fn box_type_of(bytes: [u8; 4]) -> BoxType {
+    BoxType::from(u32::from_be_bytes(bytes))
+}
+
+/// The error that names a box of a track or of a fragment.
+fn box_error_of(answer: &Answer) -> Option<Error> {
+    let id = answer.track_id;
+    let name = box_type_of(answer.box_type);
+    match answer.code {
+        7 => Some(Error::BoxInTrakNotFound(id, name)),
+        8 => Some(Error::BoxInTrafNotFound(id, name)),
+        9 => Some(Error::BoxInStblNotFound(id, name)),
+        10 => Some(Error::EntryInStblNotFound(id, name, answer.number)),
+        11 => Some(Error::EntryInTrunNotFound(id, name, answer.number)),
+        12 => match u8::try_from(answer.number) {
+            Ok(version) => Some(Error::UnsupportedBoxVersion(name, version)),
+            Err(_) => None,
+        },
+        _ => None,
+    }
+}
+
+/// The error of an answer; None for an answer without one.
+fn error_of(answer: &Answer) -> Option<Error> {
+    match answer.code {
+        1 => Some(Error::EndOfData),
+        2 => Some(Error::OutOfMemory),
+        3 => Some(Error::InvalidData("")),
+        4 => Some(Error::BoxNotFound(box_type_of(answer.box_type))),
+        5 => Some(Error::Box2NotFound(
+            box_type_of(answer.box_type),
+            box_type_of(answer.second_box_type),
+        )),
+        6 => Some(Error::TrakNotFound(answer.track_id)),
+        13 => Some(Error::Ended),
+        14 => Some(Error::ZeroTimescale),
+        15 => match limit_of(answer.limit) {
+            Some(limit) => Some(Error::TooLarge(limit)),
+            None => None,
+        },
+        16 => Some(Error::Unrepresentable("")),
+        _ => box_error_of(answer),
+    }
+}
+
+/// The words of an answer without an error.
+fn plain_words(code: u32) -> &'static str {
+    match code {
+        0 => "no error",
+        NOT_PRESENT => "not present",
+        UNKNOWN_CHOICE => "unknown choice",
+        NULL_POINTER => "null pointer",
+        _ => "unknown error",
+    }
+}
+
+/// The words of an error.
+fn words_of(alloc: Global, error: &Error) -> std::result::Result<String, AllocError> {
+    format!(in alloc; "{error}")
+}
+
+/// Copies what an answer says in words, without a zero after it, where there is room for all of it. `count` is how many
+/// bytes it has, and `filled` is `count`, or 0 where they don't fit.
+#[unsafe(no_mangle)]
+pub extern "C" fn mp4_c_error_text(alloc: Global, answer: &Answer, room: &mut [u8]) -> Answer {
+    match error_of(answer) {
+        Some(error) => match words_of(alloc, &error) {
+            Ok(words) => copy_to_front(words.as_bytes(), room),
+            Err(_) => Answer::refused(&Error::OutOfMemory),
+        },
+        None => copy_to_front(plain_words(answer.code).as_bytes(), room),
+    }
+}

@@ -1,0 +1,205 @@
+//! Movies that are written.
+
+ghost use Rattle.std.specs.Prelude.{◌≡◌, [], length, IfOk, OnOk};
+ghost use Rattle.mp4_samples.specs.Samples.{sample_of};
+ghost use Rattle.mp4_mux.specs.declared.config.TrackConfig.{TrackConfig};
+ghost use Rattle.mp4_mux.specs.Writing.{started, with_sample, with_track};
+ghost use Rattle.mp4_c.specs.Written.{HasTracks, IsEndOf, IsMovieOf, config_of, sample_in, with_rows};
+
+use crate::answer::Answer;
+use crate::configs::{Brand, NewMovie, NewTrack, movie_config, part_of, track_config};
+use crate::copied::copy_to_front;
+use crate::samples::SampleRow;
+use bytes::Bytes;
+use mp4_media::{Error, Mp4Sample, Mp4Writer, Result};
+use std::alloc::Global;
+
+/// The number of a part in [`Answer::part`]: the movie and its brands.
+const MOVIE: u32 = 1;
+
+/// The number of a part: a track.
+const TRACK: u32 = 2;
+
+/// The number of a part: a sample.
+const SAMPLE: u32 = 3;
+
+/// The number of a part: the end.
+const END: u32 = 4;
+
+/// What a writing was refused at, and why.
+#[derive(Drop)]
+struct Fault {
+    /// The number of the part.
+    part: u32,
+    /// Which track or sample, counted from 0.
+    index: u64,
+    error: Error,
+}
+
+/// An answer, or what the writing was refused at.
+type Written<T> = std::result::Result<T, Fault>;
+
+/// A writer that has begun.
+fn begun(alloc: Global, movie: &NewMovie, brands: &[Brand]) -> Result<Mp4Writer>
+    ensures { IfOk result (λ w. w ≡ started [] (config_of movie.now brands.now)) }
+{
+    let config = movie_config(alloc, movie, brands)?;
+    Mp4Writer::write_start(alloc, Vec::new(alloc), &config)
+}
+
+/// Adds a track.
+fn add_track(alloc: Global, writer: &mut Mp4Writer, track: &NewTrack, source: &[u8]) -> Result<()>
+    ensures { OnOk result ((config : TrackConfig) × (writer.new ≡ with_track writer.old config)) }
+{
+    let config = track_config(alloc, track, source)?;
+    writer.add_track(&config)
+}
+
+/// Adds tracks, in their order.
+fn add_tracks(
+    alloc: Global,
+    writer: &mut Mp4Writer,
+    tracks: &[NewTrack],
+    source: &[u8],
+) -> Written<()>
+    ensures { OnOk result (HasTracks (length tracks.now) writer.old writer.new) }
+{
+    for (k, track) in tracks.iter().enumerate() {
+        match add_track(alloc, writer, track, source) {
+            Ok(()) => {}
+            Err(error) => {
+                return Err(Fault {
+                    part: TRACK,
+                    index: k as u64,
+                    error,
+                });
+            }
+        }
+    }
+    Ok(())
+}
+
+/// A sample with its bytes.
+fn sample_at(alloc: Global, row: &SampleRow, source: &[u8]) -> Result<Mp4Sample>
+    ensures { IfOk result (λ s. sample_of s ≡ sample_in source.now row.now) }
+{
+    let bytes = part_of(source, row.offset, row.size)?;
+    Ok(Mp4Sample {
+        start_time: 0,
+        duration: row.duration,
+        rendering_offset: row.rendering_offset,
+        is_sync: row.is_sync != 0,
+        bytes: Bytes::copy_from_slice(alloc, bytes)?,
+    })
+}
+
+/// Writes a sample.
+fn add_sample(alloc: Global, writer: &mut Mp4Writer, row: &SampleRow, source: &[u8]) -> Result<()>
+    ensures { OnOk result (writer.new ≡ with_sample writer.old row.now.track_id (sample_in source.now row.now)) }
+{
+    let sample = sample_at(alloc, row, source)?;
+    writer.write_sample(row.track_id, &sample)
+}
+
+/// Writes samples, in their order.
+fn add_samples(
+    alloc: Global,
+    writer: &mut Mp4Writer,
+    rows: &[SampleRow],
+    source: &[u8],
+) -> Written<()>
+    ensures { OnOk result (writer.new ≡ with_rows source.now writer.old rows.now) }
+{
+    for (k, row) in rows.iter().enumerate() {
+        match add_sample(alloc, writer, row, source) {
+            Ok(()) => {}
+            Err(error) => {
+                return Err(Fault {
+                    part: SAMPLE,
+                    index: k as u64,
+                    error,
+                });
+            }
+        }
+    }
+    Ok(())
+}
+
+/// Ends a movie, and answers its bytes.
+fn ended(writer: Mp4Writer) -> Written<Vec<u8>>
+    ensures { IfOk result (λ bytes. IsEndOf writer bytes.items) }
+{
+    let mut writer = writer;
+    match writer.write_end() {
+        Ok(()) => Ok(writer.into_writer()),
+        Err(error) => Err(Fault {
+            part: END,
+            index: 0,
+            error,
+        }),
+    }
+}
+
+/// Adds tracks and samples to a writer that has begun, and ends it.
+fn filled(
+    alloc: Global,
+    writer: Mp4Writer,
+    tracks: &[NewTrack],
+    samples: &[SampleRow],
+    source: &[u8],
+) -> Written<Vec<u8>>
+    ensures { IfOk result (λ bytes. IsMovieOf writer (length tracks.now) source.now samples.now bytes.items) }
+{
+    let mut writer = writer;
+    add_tracks(alloc, &mut writer, tracks, source)?;
+    add_samples(alloc, &mut writer, samples, source)?;
+    ended(writer)
+}
+
+/// The bytes of a movie.
+fn written(
+    alloc: Global,
+    movie: &NewMovie,
+    brands: &[Brand],
+    tracks: &[NewTrack],
+    samples: &[SampleRow],
+    source: &[u8],
+) -> Written<Vec<u8>>
+    ensures { IfOk result (λ bytes.
+        IsMovieOf (started [] (config_of movie.now brands.now)) (length tracks.now) source.now samples.now bytes.items) }
+{
+    match begun(alloc, movie, brands) {
+        Ok(writer) => filled(alloc, writer, tracks, samples, source),
+        Err(error) => Err(Fault {
+            part: MOVIE,
+            index: 0,
+            error,
+        }),
+    }
+}
+
+/// Writes a movie of these tracks and of these samples, in this order, where there is room for all of it. `count` is
+/// how many bytes it has, whatever the room, and `filled` is `count`, or 0 where they don't fit.
+///
+/// After a refusal `part` says what was refused, and `index` which track or sample, counted from 0: `InvalidData` for
+/// another sample entry, type of sound, frequency or channels than are known, `EndOfData` where a sample or a parameter
+/// set isn't whole in the data, and else what [`Mp4Writer`] refuses.
+#[unsafe(no_mangle)]
+pub extern "C" fn mp4_c_write(
+    alloc: Global,
+    movie: &NewMovie,
+    brands: &[Brand],
+    tracks: &[NewTrack],
+    samples: &[SampleRow],
+    source: &[u8],
+    room: &mut [u8],
+) -> Answer {
+    match written(alloc, movie, brands, tracks, samples, source) {
+        Ok(bytes) => copy_to_front(bytes.as_slice(), room),
+        Err(fault) => Answer {
+            part: fault.part,
+            index: fault.index,
+            ..Answer::refused(&fault.error)
+        },
+    }
+}
