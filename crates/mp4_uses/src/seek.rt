@@ -1,7 +1,9 @@
 //! Where to begin decoding, to show what is decoded at a time.
 
-ghost use Rattle.std.specs.Prelude.{IfSome, IsTrue};
+ghost use Rattle.std.specs.Prelude.{◌≡◌, ℕ, IfOk, IfSome, IsTrue, Ok, Some};
 ghost use Rattle.mp4_media.specs.ByTime.{is_sync_sample};
+ghost use Rattle.mp4_media.specs.Reading.{sample_in};
+ghost use Rattle.mp4_media.specs.Samples.{borrowed_sample};
 ghost use Rattle.mp4_media.specs.Tables.{tables_of};
 ghost use Rattle.mp4_media.specs.TrackRuns.{track_runs};
 
@@ -18,12 +20,15 @@ pub fn decode_from(track: &Mp4Track, time: u64) -> Option<u32>
     Some(first)
 }
 
-/// That sample.
+/// That sample: what the file holds of the track at that number.
 pub fn sync_sample_for<'a>(
     movie: &Mp4Reader<'a>,
     track_id: u32,
     time: u64,
-) -> Result<Option<SampleRef<'a>>> {
+) -> Result<Option<SampleRef<'a>>>
+    ensures { IfOk result (λ s. IfSome s (λ s.
+        (n : ℕ) × (sample_in movie.now.bytes.now movie.now.movie.tracks track_id n ≡ Ok (Some (borrowed_sample s))))) }
+{
     let Some(track) = movie.tracks().get(&track_id) else {
         return Ok(None);
     };
