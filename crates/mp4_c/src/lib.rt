@@ -25,6 +25,3 @@ pub use samples::{SampleRow, mp4_c_samples};
 pub use text::mp4_c_error_text;
 pub use tracks::{TrackInfo, mp4_c_tracks};
 pub use written::mp4_c_write;
-
-#[cfg(test)]
-mod tests;

@@ -1,5 +1,9 @@
 //! What a file says of its tracks.
 
+ghost use Rattle.std.specs.Prelude.{◌≡◌, ℕ, Result};
+ghost use Rattle.mp4_codec.specs.Cause.{Cause, Gives};
+ghost use Rattle.mp4_c.specs.Tracks.{Describes, mark_of, or_zero, rates_of};
+
 use crate::answer::Answer;
 use crate::opened_file::opened;
 use mp4_media::{Mp4Reader, Mp4Track, Result};
@@ -82,12 +86,15 @@ struct Video {
     level: u8,
 }
 
-/// How many samples a track has, and how many samples and bits in a second.
+/// How many samples a track has, and how many samples and bits in a second: each with 1, or zeros where it is refused.
 #[derive(Clone, Copy)]
 struct Rates {
-    sample_count: Option<u32>,
-    frames: Option<u64>,
-    bits: Option<u32>,
+    sample_count: u32,
+    has_sample_count: u8,
+    frames: u64,
+    has_frames: u8,
+    bits: u32,
+    has_bits: u8,
 }
 
 /// A language of three letters with a zero after it; zeros for another.
@@ -165,17 +172,47 @@ fn video_numbers(video: Option<Video>) -> (u8, u8, u8) {
     }
 }
 
+/// A number of 32 bits and 1; zeros where it is refused.
+fn marked(answer: Result<u32>) -> (u32, u8)
+    ensures { (n : Result ℕ Cause) → Gives (λ n. n) answer n → result ≡ (or_zero n, mark_of n) }
+{
+    match answer {
+        Ok(number) => (number, 1),
+        Err(_) => (0, 0),
+    }
+}
+
+/// A number of 64 bits and 1; zeros where it is refused.
+fn marked_long(answer: Result<u64>) -> (u64, u8)
+    ensures { (n : Result ℕ Cause) → Gives (λ n. n) answer n → result ≡ (or_zero n, mark_of n) }
+{
+    match answer {
+        Ok(number) => (number, 1),
+        Err(_) => (0, 0),
+    }
+}
+
 /// What a track counts and measures.
-fn rates_of(track: &Mp4Track) -> Rates {
+fn rates_of(track: &Mp4Track) -> Rates
+    ensures { result ≡ rates_of track.now }
+{
+    let (sample_count, has_sample_count) = marked(track.sample_count());
+    let (frames, has_frames) = marked_long(track.frame_rate());
+    let (bits, has_bits) = marked(track.bitrate());
     Rates {
-        sample_count: track.sample_count().ok(),
-        frames: track.frame_rate().ok(),
-        bits: track.bitrate().ok(),
+        sample_count,
+        has_sample_count,
+        frames,
+        has_frames,
+        bits,
+        has_bits,
     }
 }
 
 /// What a track says of itself.
-fn track_info(id: u32, track: &Mp4Track) -> TrackInfo {
+fn track_info(id: u32, track: &Mp4Track) -> TrackInfo
+    ensures { Describes id track.now result }
+{
     let (sample_entry, has_sample_entry) = sample_entry_of(track);
     let rates = rates_of(track);
     let sound = sound_of(track);
@@ -185,11 +222,11 @@ fn track_info(id: u32, track: &Mp4Track) -> TrackInfo {
     let language = language_bytes(track.language());
     TrackInfo {
         duration: track.trak.mdia.mdhd.duration,
-        frames_per_second: rates.frames.unwrap_or(0),
+        frames_per_second: rates.frames,
         id,
         timescale: track.timescale(),
-        sample_count: rates.sample_count.unwrap_or(0),
-        bits_per_second: rates.bits.unwrap_or(0),
+        sample_count: rates.sample_count,
+        bits_per_second: rates.bits,
         handler,
         sample_entry,
         language,
@@ -201,9 +238,9 @@ fn track_info(id: u32, track: &Mp4Track) -> TrackInfo {
         video_profile,
         video_compatibility,
         video_level,
-        has_frames_per_second: u8::from(rates.frames.is_some()),
-        has_sample_count: u8::from(rates.sample_count.is_some()),
-        has_bits_per_second: u8::from(rates.bits.is_some()),
+        has_frames_per_second: rates.has_frames,
+        has_sample_count: rates.has_sample_count,
+        has_bits_per_second: rates.has_bits,
         has_sample_entry,
         has_audio_profile: u8::from(sound.profile.is_some()),
         has_frequency_index: u8::from(sound.frequency_index.is_some()),
