@@ -3,7 +3,8 @@
 use std::path::{Path, PathBuf};
 use std::{env, process};
 
-/// Where the library is looked for: where `MAQELSUN_LIB_DIR` says, else where `./callers` leaves it.
+/// Where the library is looked for: where `MAQELSUN_LIB_DIR` says, else where `./callers` leaves
+/// it.
 fn library_folder() -> PathBuf {
     match env::var_os("MAQELSUN_LIB_DIR") {
         Some(folder) => folder.into(),

@@ -26,7 +26,8 @@ pub enum Limit {
     Value,
 }
 
-/// Why a call is refused. Its text, as [`Display`](fmt::Display) gives it, is that of the program `mp4_tool`.
+/// Why a call is refused. Its text, as [`Display`](fmt::Display) gives it, is that of the program
+/// `mp4_tool`.
 ///
 /// Numbers of samples and of entries count from 1, but for an entry of `avcC`, which counts from 0.
 #[derive(Clone, Copy, Debug, PartialEq, Eq, Hash)]
@@ -56,8 +57,8 @@ pub enum Error {
     EntryInTrunNotFound(u32, FourCC, u32),
     /// A box is of a version that is not read.
     UnsupportedBoxVersion(FourCC, u32),
-    /// The writer has written its last byte. No call of this crate answers it: [`finish`](crate::Writer::finish) takes
-    /// the writer.
+    /// The writer has written its last byte. No call of this crate answers it:
+    /// [`finish`](crate::Writer::finish) takes the writer.
     Ended,
     /// A quotient by a timescale of 0 was asked for.
     ZeroTimescale,

@@ -1,9 +1,10 @@
-//! The calls of the proved library, each behind a safe function. All unsafe code of this crate is here.
+//! The calls of the proved library, each behind a safe function; all unsafe code is here.
 //!
-//! What the library asks of its caller (`bindings/c/mp4.h`): no pointer is null, each is aligned for its type and points
-//! to as many elements as its number says, and what is filled in overlaps nothing else that the call is given. A Rust
-//! slice has all of these properties, also an empty one; a `&mut` is the only way to what it points to. The library
-//! keeps no pointer after a call, and writes only whole numbers, of which any bytes are a value.
+//! What the library asks of its caller (`bindings/c/mp4.h`): no pointer is null, each is aligned
+//! for its type and points to as many elements as its number says, and what is filled in overlaps
+//! nothing else that the call is given. Rust's references and slices are like this, also a slice
+//! without elements. The library keeps no pointer after a call, and writes only whole numbers, of
+//! which any bytes are a value.
 #![allow(unsafe_code)]
 
 use crate::layout::{

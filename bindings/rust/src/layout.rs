@@ -1,11 +1,15 @@
-//! The structs that cross to the library, as `bindings/c/mp4.h` declares them. Each has only whole numbers, so that any
-//! bytes are a value of it, and no padding.
+//! The structs that cross to the library, as `bindings/c/mp4.h` declares them. Each has only whole
+//! numbers, so that any bytes are a value of it, and no padding.
 
 use std::mem::{offset_of, size_of};
 
-/// Declares structs, each with its size and the offset of each field, which have to be those of the header.
+/// Declares structs, each with its size and the offset of each field, which have to be those of the
+/// header.
 macro_rules! layouts {
-    ($($(#[$doc:meta])* $name:ident: $size:literal { $($field:ident: $type:ty = $offset:literal,)* })*) => {$(
+    ($(
+        $(#[$doc:meta])*
+        $name:ident: $size:literal { $($field:ident: $type:ty = $offset:literal,)* }
+    )*) => {$(
         $(#[$doc])*
         #[repr(C)]
         #[derive(Clone, Copy, Debug, Default, PartialEq, Eq)]

@@ -1,9 +1,10 @@
 //! MP4 files (ISO base media files, ISO/IEC 14496-12), read and written.
 //!
-//! The work is done by the static library `libmp4_c.a`, each function of which is proved before it is compiled: what
-//! is written is read back, and no bytes of a file make it crash. This crate calls it: a [`Movie`] is opened from the
-//! bytes of a file, a [`Writer`] makes the bytes of one. What is trusted beside the proofs is in `bindings/README.md`;
-//! how to come from the crate `mp4` is in `MIGRATION.md`.
+//! The work is done by the static library `libmp4_c.a`, each function of which is proved before it
+//! is compiled: what is written is read back, and no bytes of a file make it crash. This crate
+//! calls it: a [`Movie`] is opened from the bytes of a file, a [`Writer`] makes the bytes of one.
+//! What is trusted beside the proofs is in `bindings/README.md`; how to come from the crate `mp4`
+//! is in `MIGRATION.md`.
 //!
 //! ```
 //! # fn main() -> Result<(), Box<dyn std::error::Error>> {
@@ -19,7 +20,7 @@
 //! for track in movie.tracks() {
 //!     for sample in movie.samples(track.id())? {
 //!         let sample = sample?;
-//!         println!("{} bytes at {}, from {}", sample.bytes.len(), sample.offset, sample.start_time);
+//!         println!("{} bytes at {}", sample.bytes.len(), sample.offset);
 //!     }
 //! }
 //! # Ok(())

@@ -8,10 +8,11 @@ use std::time::Duration;
 
 /// A movie that was opened, over the bytes of its file.
 ///
-/// The file is a slice: read whole, or mapped into memory, and then of a large file only what is asked for is loaded.
-/// What the file says of its movie and its tracks is read once, by [`Movie::open`]. Every other call to the library
-/// opens the file anew, in a time that grows with its boxes, but not with the bytes of its samples; so read many
-/// samples by [`Movie::samples`], and not one by one.
+/// The file is a slice: read whole, or mapped into memory, and then of a large file only what is
+/// asked for is loaded. What the file says of its movie and its tracks is read once, by
+/// [`Movie::open`]. Every other call to the library opens the file anew, in a time that grows with
+/// its boxes, but not with the bytes of its samples; so read many samples by [`Movie::samples`],
+/// and not one by one.
 ///
 /// A `Movie` can be shared by threads.
 ///
@@ -48,8 +49,8 @@ pub(crate) fn room_for<T: Clone + Default>(count: u64) -> Result<Vec<T>> {
     Ok(room)
 }
 
-/// All rows that a call of the library gives: it is asked with room for `guess` rows, and again with more where there
-/// are more.
+/// All rows that a call of the library gives: it is asked with room for `guess` rows, and again
+/// with more where there are more.
 fn all_rows<T: Clone + Default>(guess: u64, ask: impl Fn(&mut [T]) -> Answer) -> Result<Vec<T>> {
     let mut rows = room_for(guess)?;
     let mut answer = ask(&mut rows).accepted()?;
@@ -61,13 +62,15 @@ fn all_rows<T: Clone + Default>(guess: u64, ask: impl Fn(&mut [T]) -> Answer) ->
     Ok(rows)
 }
 
-/// How many bytes a text is expected to have at most: where there are more, the library is asked once more.
+/// How many bytes a text is expected to have at most: where there are more, the library is asked
+/// once more.
 const SHORT: u64 = 1024;
 
 impl<'a> Movie<'a> {
     /// Opens the file of these bytes.
     ///
-    /// Bytes that are no MP4 file are refused with the first fault that they have. No bytes make it panic.
+    /// Bytes that are no MP4 file are refused with the first fault that they have. No bytes make it
+    /// panic.
     pub fn open(file: &'a [u8]) -> Result<Self> {
         let mut facts = MovieRow::default();
         ffi::open(file, &mut facts).accepted()?;
@@ -113,8 +116,8 @@ impl<'a> Movie<'a> {
         self.facts.duration
     }
 
-    /// How long the movie lasts, as its header says, rounded down to a nanosecond. [`Error::ZeroTimescale`] where the
-    /// timescale is 0.
+    /// How long the movie lasts, as its header says, rounded down to a nanosecond.
+    /// [`Error::ZeroTimescale`] where the timescale is 0.
     pub fn duration(&self) -> Result<Duration> {
         duration_of(self.facts.duration, self.facts.timescale)
     }
@@ -135,7 +138,8 @@ impl<'a> Movie<'a> {
         found.map(|place| &self.tracks[place]).map_err(|_| Error::TrakNotFound(id))
     }
 
-    /// How many samples a track has, those of fragments too. [`Error::TooLarge`] where they are more than 2^32 - 1.
+    /// How many samples a track has, those of fragments too. [`Error::TooLarge`] where they are
+    /// more than 2^32 - 1.
     pub fn sample_count(&self, track_id: u32) -> Result<u32> {
         let count = self.track(track_id)?.sample_count();
         count.ok_or(Error::TooLarge(Limit::Value))
@@ -154,8 +158,8 @@ impl<'a> Movie<'a> {
         Ok(Samples::new(self.file, track_id, number, count))
     }
 
-    /// One sample of a track, by its number from 1 on: [`None`] past the last, and [`Error::EndOfData`] where it isn't
-    /// whole in the file.
+    /// One sample of a track, by its number from 1 on: [`None`] past the last, and
+    /// [`Error::EndOfData`] where it isn't whole in the file.
     pub fn read_sample(&self, track_id: u32, number: u32) -> Result<Option<Sample<'a>>> {
         let mut row = [SampleRow::default()];
         let answer = ffi::samples(self.file, track_id, number, &mut row).accepted()?;
@@ -172,8 +176,8 @@ impl<'a> Movie<'a> {
         Ok(Some(number).filter(|number| *number != 0))
     }
 
-    /// The number of the last sample up to this one from which decoding can begin: the sample itself, if it is a sync
-    /// sample.
+    /// The number of the last sample up to this one from which decoding can begin: the sample
+    /// itself, if it is a sync sample.
     pub fn sync_sample_at_or_before(&self, track_id: u32, number: u32) -> Result<Option<u32>> {
         let mut sync = 0;
         ffi::sync_sample(self.file, track_id, number, &mut sync).accepted()?;
@@ -182,12 +186,14 @@ impl<'a> Movie<'a> {
 
     /// The first sequence parameter set of a track of AVC video.
     ///
-    /// [`Error::BoxInStblNotFound`] where the track is no AVC video, [`Error::EntryInStblNotFound`] without such a set.
+    /// [`Error::BoxInStblNotFound`] where the track is no AVC video, [`Error::EntryInStblNotFound`]
+    /// without such a set.
     pub fn sequence_parameter_set(&self, track_id: u32) -> Result<Vec<u8>> {
         all_rows(SHORT, |bytes: &mut [u8]| ffi::parameter_set(self.file, track_id, 1, bytes))
     }
 
-    /// The first picture parameter set of a track of AVC video; refused as the sequence parameter set is.
+    /// The first picture parameter set of a track of AVC video; refused as the sequence parameter
+    /// set is.
     pub fn picture_parameter_set(&self, track_id: u32) -> Result<Vec<u8>> {
         all_rows(SHORT, |bytes: &mut [u8]| ffi::parameter_set(self.file, track_id, 2, bytes))
     }

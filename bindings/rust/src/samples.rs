@@ -7,7 +7,8 @@ use std::iter::FusedIterator;
 
 /// A sample, with its bytes, which are borrowed from the file. Times are in ticks of its track.
 ///
-/// A sample that is read can be written as it is. For a new one only what isn't usual has to be said:
+/// A sample that is read can be written as it is. For a new one only what isn't usual has to be
+/// said:
 ///
 /// ```
 /// use maqelsun::Sample;
@@ -59,19 +60,22 @@ const FIRST_ROWS: usize = 1024;
 /// How many times as many are asked for next.
 const GROWTH: usize = 16;
 
-/// The most rows that are asked for at once, but of a file that has so many bytes for each: 40 MB of them.
+/// The most rows that are asked for at once, but of a file that has so many bytes for each: 40 MB
+/// of them.
 const MOST_ROWS: usize = 1 << 20;
 
-/// How many bytes a file has for each row that is asked for at once, past [`MOST_ROWS`]: as many as a row has.
+/// How many bytes a file has for each row that is asked for at once, past [`MOST_ROWS`]: as many as
+/// a row has.
 const BYTES_A_ROW: usize = 40;
 
-/// The samples of a track in order, as [`Movie::samples`](crate::Movie::samples) gives them. It ends after the last
-/// sample, and after the first that is refused.
+/// The samples of a track in order, as [`Movie::samples`](crate::Movie::samples) gives them. It
+/// ends after the last sample, and after the first that is refused.
 ///
-/// The library is asked for their places in blocks, since each call opens the file anew: for 1,024 first, so that the
-/// first samples come soon, and then for more and more, up to a million or, of a larger file, as many as take the room
-/// of the file. So all samples together take a time that grows with their number and with the file's boxes, and the
-/// blocks take no more memory than 40 MB or the file.
+/// The library is asked for their places in blocks, since each call opens the file anew: for 1,024
+/// first, so that the first samples come soon, and then for more and more, up to a million or, of a
+/// larger file, as many as take the room of the file. So all samples together take a time that
+/// grows with their number and with the file's boxes, and the blocks take no more memory than 40 MB
+/// or the file.
 #[derive(Clone, Debug)]
 pub struct Samples<'a> {
     file: &'a [u8],
@@ -133,7 +137,8 @@ impl<'a> Samples<'a> {
         self.refusal = None;
     }
 
-    /// Fills the block with so many samples from a number on. After a refusal it has those before it.
+    /// Fills the block with so many samples from a number on. After a refusal it has those before
+    /// it.
     fn fill(&mut self, first: u32, room: u64) -> Result<()> {
         self.block = Vec::new();
         if room == 0 {

@@ -36,8 +36,8 @@ pub struct Writer {
     data: Vec<u8>,
 }
 
-/// The most bytes that a movie takes beside its brands, its tracks and its samples, and for each of these: guesses, as
-/// a movie that takes more is written a second time.
+/// The most bytes that a movie takes beside its brands, its tracks and its samples, and for each of
+/// these: guesses, as a movie that takes more is written a second time.
 const MOVIE_BYTES: u64 = 1024;
 const BRAND_BYTES: u64 = 4;
 const TRACK_BYTES: u64 = 1024;
@@ -112,10 +112,12 @@ impl Writer {
         }
     }
 
-    /// Adds a track without samples, and answers its id: the first has 1, and each next one the id after it.
+    /// Adds a track without samples, and answers its id: the first has 1, and each next one the id
+    /// after it.
     ///
-    /// [`Error::ZeroTimescale`], [`Error::Unrepresentable`] for a language or a parameter set that has no encoding, and
-    /// [`Error::InvalidData`] for numbers of AAC sound that mean nothing. After a refusal the track isn't added.
+    /// [`Error::ZeroTimescale`], [`Error::Unrepresentable`] for a language or a parameter set that
+    /// has no encoding, and [`Error::InvalidData`] for numbers of AAC sound that mean nothing.
+    /// After a refusal the track isn't added.
     pub fn add_track(&mut self, config: &TrackConfig) -> Result<u32> {
         let id = u32::try_from(self.tracks.len() + 1);
         let id = id.map_err(|_| Error::TooLarge(Limit::TrackCount))?;
@@ -140,9 +142,11 @@ impl Writer {
         ffi::write(alone, &mut []).accepted().map(|_| row)
     }
 
-    /// Writes a sample of a track after those that were written of it. Its offset and its start time aren't looked at.
+    /// Writes a sample of a track after those that were written of it. Its offset and its start
+    /// time aren't looked at.
     ///
-    /// [`Error::TrakNotFound`] for an id that no track has, and [`Error::TooLarge`] past 2^32 - 1 bytes.
+    /// [`Error::TrakNotFound`] for an id that no track has, and [`Error::TooLarge`] past 2^32 - 1
+    /// bytes.
     pub fn write_sample(&mut self, track_id: u32, sample: &Sample) -> Result<()> {
         if track_id == 0 || u64::from(track_id) > self.tracks.len() as u64 {
             return Err(Error::TrakNotFound(track_id));
@@ -164,8 +168,8 @@ impl Writer {
 
     /// The bytes of the movie.
     ///
-    /// [`Error::TooLarge`] past one of the limits [`Limit::SampleCount`], [`Limit::TrackDuration`] and
-    /// [`Limit::BoxSize`].
+    /// [`Error::TooLarge`] past one of the limits [`Limit::SampleCount`], [`Limit::TrackDuration`]
+    /// and [`Limit::BoxSize`].
     pub fn finish(self) -> Result<Vec<u8>> {
         let mut file = room_for(self.likely_size())?;
         let mut answer = self.write(&mut file)?;
