@@ -1,7 +1,8 @@
 """MP4 files (ISO base media files, ISO/IEC 14496-12), read and written.
 
-The work is done by the library ``mp4_c``, each function of which is proved before it is compiled: what is written is
-read back, and no bytes of a file make it crash. This module calls it by ctypes and needs nothing but Python 3.8.
+The work is done by the library ``mp4_c``, each function of which is proved before it is compiled:
+what is written is read back, and no bytes of a file make it crash. This module calls it by ctypes
+and needs nothing but Python 3.8.
 
     with maqelsun.Movie("film.mp4") as movie:
         for track in movie.tracks:
@@ -9,10 +10,10 @@ read back, and no bytes of a file make it crash. This module calls it by ctypes 
                 print(sample.number, sample.offset, sample.size, movie.read(sample)[:4])
 
     lines = [maqelsun.NewSample(1, b"first", 1000), maqelsun.NewSample(1, b"second", 1000)]
-    movie = maqelsun.write([maqelsun.NewTrack("tx3g")], lines)
+    file = maqelsun.write([maqelsun.NewTrack("tx3g")], lines)
 
-The shared object ``libmaqelsun.so`` is looked for where MAQELSUN_LIBRARY says, else beside this file, else where
-``./callers build`` of the repository leaves it.
+The shared object ``libmaqelsun.so`` is looked for where MAQELSUN_LIBRARY says, else beside this
+file, else where ``./callers build`` of the repository leaves it.
 """
 
 import ctypes
@@ -20,59 +21,86 @@ import mmap
 import os
 import struct
 from dataclasses import dataclass
-from typing import Callable, Dict, Iterable, Iterator, List, NamedTuple, Optional, Sequence, Tuple, Union
+from typing import (
+    Callable,
+    Dict,
+    Iterable,
+    Iterator,
+    List,
+    NamedTuple,
+    Optional,
+    Sequence,
+    Tuple,
+    Union,
+)
 
 __all__ = ["Error", "Metadata", "Movie", "NewSample", "NewTrack", "Sample", "Track", "write"]
+
+# What has bytes at one place.
+BytesLike = Union[bytes, bytearray, memoryview, mmap.mmap]
 
 # The structs that cross to the library, as bindings/c/mp4.h declares them.
 
 
 def _struct(name: str, size: int, *fields: Tuple[str, type, int]) -> type:
     """A struct of the header: its size, and of each field its type and its offset."""
-    made = type(name, (ctypes.Structure,), {"_fields_": [(field, kind) for field, kind, _ in fields]})
-    if ctypes.sizeof(made) != size or any(getattr(made, field).offset != offset for field, _, offset in fields):
+    made = type(name, (ctypes.Structure,), {"_fields_": [each[:2] for each in fields]})
+    agrees = all(getattr(made, field).offset == offset for field, _, offset in fields)
+    if ctypes.sizeof(made) != size or not agrees:
         raise ImportError(f"the layout of {name} isn't that of mp4.h on this machine")
     return made
 
 
-_u8, _u16, _u32, _u64, _i32 = ctypes.c_uint8, ctypes.c_uint16, ctypes.c_uint32, ctypes.c_uint64, ctypes.c_int32
+_u8, _u16, _u32, _u64 = ctypes.c_uint8, ctypes.c_uint16, ctypes.c_uint32, ctypes.c_uint64
+_i32 = ctypes.c_int32
 _code = _u8 * 4
 
 _Answer = _struct(
-    "mp4_answer", 56, ("count", _u64, 0), ("filled", _u64, 8), ("index", _u64, 16), ("code", _u32, 24),
-    ("part", _u32, 28), ("limit", _u32, 32), ("track_id", _u32, 36), ("number", _u32, 40), ("box_type", _code, 44),
-    ("second_box_type", _code, 48), ("reserved", _u32, 52),
+    "mp4_answer", 56,
+    ("count", _u64, 0), ("filled", _u64, 8), ("index", _u64, 16), ("code", _u32, 24),
+    ("part", _u32, 28), ("limit", _u32, 32), ("track_id", _u32, 36), ("number", _u32, 40),
+    ("box_type", _code, 44), ("second_box_type", _code, 48), ("reserved", _u32, 52),
 )
 _Movie = _struct(
-    "mp4_movie", 48, ("size", _u64, 0), ("duration", _u64, 8), ("track_count", _u64, 16), ("brand_count", _u64, 24),
-    ("timescale", _u32, 32), ("minor_version", _u32, 36), ("major_brand", _code, 40), ("is_fragmented", _u8, 44),
-    ("reserved", _u8 * 3, 45),
+    "mp4_movie", 48,
+    ("size", _u64, 0), ("duration", _u64, 8), ("track_count", _u64, 16), ("brand_count", _u64, 24),
+    ("timescale", _u32, 32), ("minor_version", _u32, 36), ("major_brand", _code, 40),
+    ("is_fragmented", _u8, 44), ("reserved", _u8 * 3, 45),
 )
 _Brand = _struct("mp4_brand", 4, ("code", _code, 0))
 _Track = _struct(
-    "mp4_track", 64, ("duration", _u64, 0), ("frames_per_second", _u64, 8), ("id", _u32, 16), ("timescale", _u32, 20),
-    ("sample_count", _u32, 24), ("bits_per_second", _u32, 28), ("handler", _code, 32), ("sample_entry", _code, 36),
-    ("language", _code, 40), ("width", _u16, 44), ("height", _u16, 46), ("audio_profile", _u8, 48),
-    ("frequency_index", _u8, 49), ("channels", _u8, 50), ("video_profile", _u8, 51), ("video_compatibility", _u8, 52),
-    ("video_level", _u8, 53), ("has_frames_per_second", _u8, 54), ("has_sample_count", _u8, 55),
-    ("has_bits_per_second", _u8, 56), ("has_sample_entry", _u8, 57), ("has_audio_profile", _u8, 58),
-    ("has_frequency_index", _u8, 59), ("has_channels", _u8, 60), ("has_video_profile", _u8, 61),
-    ("reserved", _u8 * 2, 62),
+    "mp4_track", 64,
+    ("duration", _u64, 0), ("frames_per_second", _u64, 8), ("id", _u32, 16),
+    ("timescale", _u32, 20), ("sample_count", _u32, 24), ("bits_per_second", _u32, 28),
+    ("handler", _code, 32), ("sample_entry", _code, 36), ("language", _code, 40),
+    ("width", _u16, 44), ("height", _u16, 46), ("audio_profile", _u8, 48),
+    ("frequency_index", _u8, 49), ("channels", _u8, 50), ("video_profile", _u8, 51),
+    ("video_compatibility", _u8, 52), ("video_level", _u8, 53), ("has_frames_per_second", _u8, 54),
+    ("has_sample_count", _u8, 55), ("has_bits_per_second", _u8, 56), ("has_sample_entry", _u8, 57),
+    ("has_audio_profile", _u8, 58), ("has_frequency_index", _u8, 59), ("has_channels", _u8, 60),
+    ("has_video_profile", _u8, 61), ("reserved", _u8 * 2, 62),
 )
 _Sample = _struct(
-    "mp4_sample", 40, ("offset", _u64, 0), ("start_time", _u64, 8), ("track_id", _u32, 16), ("size", _u32, 20),
-    ("duration", _u32, 24), ("rendering_offset", _i32, 28), ("is_sync", _u8, 32), ("reserved", _u8 * 7, 33),
+    "mp4_sample", 40,
+    ("offset", _u64, 0), ("start_time", _u64, 8), ("track_id", _u32, 16), ("size", _u32, 20),
+    ("duration", _u32, 24), ("rendering_offset", _i32, 28), ("is_sync", _u8, 32),
+    ("reserved", _u8 * 7, 33),
 )
-_NewMovie = _struct("mp4_new_movie", 12, ("timescale", _u32, 0), ("minor_version", _u32, 4), ("major_brand", _code, 8))
+_NewMovie = _struct(
+    "mp4_new_movie", 12,
+    ("timescale", _u32, 0), ("minor_version", _u32, 4), ("major_brand", _code, 8),
+)
 _NewTrack = _struct(
-    "mp4_new_track", 48, ("sequence_set", _u64, 0), ("picture_set", _u64, 8), ("sequence_set_size", _u32, 16),
-    ("picture_set_size", _u32, 20), ("timescale", _u32, 24), ("bits_per_second", _u32, 28), ("sample_entry", _code, 32),
-    ("language", _code, 36), ("width", _u16, 40), ("height", _u16, 42), ("audio_profile", _u8, 44),
-    ("frequency_index", _u8, 45), ("channels", _u8, 46), ("reserved", _u8, 47),
+    "mp4_new_track", 48,
+    ("sequence_set", _u64, 0), ("picture_set", _u64, 8), ("sequence_set_size", _u32, 16),
+    ("picture_set_size", _u32, 20), ("timescale", _u32, 24), ("bits_per_second", _u32, 28),
+    ("sample_entry", _code, 32), ("language", _code, 36), ("width", _u16, 40), ("height", _u16, 42),
+    ("audio_profile", _u8, 44), ("frequency_index", _u8, 45), ("channels", _u8, 46),
+    ("reserved", _u8, 47),
 )
 
-# An mp4_sample, packed and unpacked many at a time: offset, start_time, track_id, size, duration, rendering_offset and
-# is_sync.
+# An mp4_sample, packed and unpacked many at a time: offset, start_time, track_id, size, duration,
+# rendering_offset and is_sync.
 _SAMPLE_ROW = struct.Struct("=QQIIIiB7x")
 if _SAMPLE_ROW.size != ctypes.sizeof(_Sample):
     raise ImportError("the layout of mp4_sample isn't that of mp4.h on this machine")
@@ -82,12 +110,13 @@ def _library() -> ctypes.CDLL:
     """The shared object, with what its functions take and answer."""
     here = os.path.dirname(os.path.abspath(__file__))
     name = "libmaqelsun.so"
-    places = [os.path.join(here, name), os.path.join(here, "..", "..", "crates", "mp4_c", "out", name)]
+    built = os.path.join(here, "..", "..", "crates", "mp4_c", "out")
+    places = [os.path.join(folder, name) for folder in (here, built)]
     chosen = os.environ.get("MAQELSUN_LIBRARY") or next(filter(os.path.exists, places), None)
     if chosen is None:
         raise ImportError(
-            f"there is no {name} beside {os.path.basename(__file__)}: build it by ./callers build at the top of the "
-            "repository of Maqelsun, or let MAQELSUN_LIBRARY name it"
+            f"there is no {name} beside {os.path.basename(__file__)}: build it by ./callers build "
+            "at the top of the repository of Maqelsun, or let MAQELSUN_LIBRARY name it"
         )
     library = ctypes.CDLL(chosen)
     pointer, size = ctypes.c_void_p, ctypes.c_size_t
@@ -117,9 +146,10 @@ _NOT_PRESENT = 17
 class Error(Exception):
     """Why a call was refused. Its text is that of the program ``mp4_tool``.
 
-    ``code`` is one of ``enum mp4_code`` of mp4.h; ``box_type``, ``second_box_type``, ``track_id``, ``number`` and
-    ``limit`` are what the refusal names, or empty and 0. After a refused :func:`write`, ``part`` says what was refused,
-    "movie", "track", "sample" or "end", and ``index`` which one, from 0 on.
+    ``code`` is one of ``enum mp4_code`` of mp4.h; ``box_type``, ``second_box_type``, ``track_id``,
+    ``number`` and ``limit`` are what the refusal names, or empty and 0. After a refused
+    :func:`write`, ``part`` says what was refused, "movie", "track", "sample" or "end", and
+    ``index`` which one, from 0 on.
     """
 
     def __init__(self, answer: "_Answer"):
@@ -154,21 +184,24 @@ def _end_of_data() -> Error:
 
 
 class _Buffer(ctypes.Structure):
-    """Python's Py_buffer: it shows where an object's bytes lie, also where they can't be written."""
+    """Python's Py_buffer: it says where an object's bytes lie, also where they are read-only."""
 
     _fields_ = [
-        ("buf", ctypes.c_void_p), ("obj", ctypes.py_object), ("len", ctypes.c_ssize_t), ("itemsize", ctypes.c_ssize_t),
-        ("readonly", ctypes.c_int), ("ndim", ctypes.c_int), ("format", ctypes.c_char_p), ("shape", ctypes.c_void_p),
-        ("strides", ctypes.c_void_p), ("suboffsets", ctypes.c_void_p), ("internal", ctypes.c_void_p),
+        ("buf", ctypes.c_void_p), ("obj", ctypes.py_object), ("len", ctypes.c_ssize_t),
+        ("itemsize", ctypes.c_ssize_t), ("readonly", ctypes.c_int), ("ndim", ctypes.c_int),
+        ("format", ctypes.c_char_p), ("shape", ctypes.c_void_p), ("strides", ctypes.c_void_p),
+        ("suboffsets", ctypes.c_void_p), ("internal", ctypes.c_void_p),
     ]
 
 
 class _Bytes:
     """The bytes of an object that has the buffer protocol, at one place until they are released."""
 
-    def __init__(self, source: Union[bytes, bytearray, memoryview, mmap.mmap]):
+    _held = False
+
+    def __init__(self, source: BytesLike):
         self._buffer = _Buffer()
-        ctypes.pythonapi.PyObject_GetBuffer(ctypes.py_object(source), ctypes.byref(self._buffer), 0)
+        ctypes.pythonapi.PyObject_GetBuffer(source, ctypes.byref(self._buffer), 0)
         self._held = True
         self.size: int = self._buffer.len
         # A pointer to no bytes may be NULL in Python, but not for the library.
@@ -282,19 +315,38 @@ def _track_of(row: "_Track") -> Track:
     )
 
 
-def _all_rows(kind: type, guess: int, ask: Callable[..., "_Answer"]) -> "ctypes.Array":
-    """All rows that a call of the library gives: it is asked with room for ``guess`` rows, and again with more where
-    there are more."""
+def _filled(kind: type, guess: int, ask: Callable[..., "_Answer"]) -> Tuple["ctypes.Array", int]:
+    """All rows that a call of the library gives, and how many they are: it is asked with room for
+    ``guess`` rows, and again with more where there are more."""
     rows = (kind * max(guess, 1))()
     answer = _accepted(ask(rows, len(rows)))
     if answer.count > len(rows):
         rows = (kind * answer.count)()
         answer = _accepted(ask(rows, len(rows)))
-    return rows[: answer.filled]
+    return rows, answer.filled
 
 
-# How many rows of samples are asked for first, how many times as many next, and the most: 40 MB of them, or as many as
-# take the room of a larger file.
+def _all_rows(kind: type, guess: int, ask: Callable[..., "_Answer"]) -> list:
+    """All rows that a call of the library gives."""
+    rows, count = _filled(kind, guess, ask)
+    return rows[:count]
+
+
+def _all_bytes(guess: int, ask: Callable[..., "_Answer"]) -> bytes:
+    """All bytes that a call of the library gives."""
+    rows, count = _filled(_u8, guess, ask)
+    return ctypes.string_at(rows, count)
+
+
+def _in_range(name: str, value: int, bits: int) -> int:
+    """The number, if its field holds it: ctypes would cut it."""
+    if not 0 <= value < 1 << bits:
+        raise OverflowError(f"{name} is {value}, and has to be from 0 to 2**{bits} - 1")
+    return value
+
+
+# How many rows of samples are asked for first, how many times as many next, and the most: 40 MB of
+# them, or as many as take the room of a larger file.
 _FIRST_ROWS = 1024
 _GROWTH = 16
 _MOST_ROWS = 1 << 20
@@ -303,9 +355,10 @@ _MOST_ROWS = 1 << 20
 class Movie:
     """A movie that is opened: a file, which is mapped into memory, or bytes.
 
-    What the file says of its movie and its tracks is read once. Every other call to the library opens the file anew, in
-    a time that grows with its boxes, but not with the bytes of its samples; so read many samples by
-    :meth:`samples`, and not one by one. Threads may share a movie, until one closes it.
+    What the file says of its movie and its tracks is read once. Every other call to the library
+    opens the file anew, in a time that grows with its boxes, but not with the bytes of its samples;
+    so read many samples by :meth:`samples`, and not one by one. Threads may share a movie, until
+    one closes it.
 
     A mapped file must not be cut while it is open: what is read past its new end ends the process.
     """
@@ -325,8 +378,8 @@ class Movie:
     tracks: List[Track]
     """The tracks, by rising ids."""
 
-    def __init__(self, source: Union[str, "os.PathLike[str]", bytes, bytearray, memoryview, mmap.mmap]):
-        """Opens the file of this name, or these bytes. :class:`Error` where they are no MP4 file."""
+    def __init__(self, source: Union[str, "os.PathLike[str]", BytesLike]):
+        """Opens the file of this name, or these bytes; :class:`Error` if they are no MP4 file."""
         self._mapped: Optional[mmap.mmap] = None
         if isinstance(source, (str, os.PathLike)):
             source = self._map(source)
@@ -338,8 +391,8 @@ class Movie:
             self.close()
             raise
 
-    def _map(self, path: Union[str, "os.PathLike[str]"]) -> Union[bytes, mmap.mmap]:
-        """The bytes of a file, mapped into memory; no bytes where it is empty, which can't be mapped."""
+    def _map(self, path: Union[str, "os.PathLike[str]"]) -> BytesLike:
+        """The bytes of a file, mapped into memory, but of an empty one, which can't be mapped."""
         with open(path, "rb") as file:
             if os.fstat(file.fileno()).st_size == 0:
                 return file.read()
@@ -363,7 +416,8 @@ class Movie:
         """The library's answer to a question about the file."""
         if self._source is None:
             raise ValueError("the movie is closed")
-        return getattr(_mp4, "mp4_c_" + name)(self._bytes.address, self._bytes.size, *words)
+        function = getattr(_mp4, "mp4_c_" + name)
+        return function(self._bytes.address, self._bytes.size, *words)
 
     def close(self) -> None:
         """Lets the file go."""
@@ -389,18 +443,19 @@ class Movie:
         for track in self.tracks:
             if track.id == track_id:
                 return track
-        raise Error(_Answer(code=6, track_id=track_id))
+        raise Error(_Answer(code=6, track_id=_in_range("track_id", track_id, 32)))
 
     def samples(self, track_id: int, first: int = 1) -> Iterator[Sample]:
         """The samples of a track, in order, from a number on.
 
-        It ends after the last sample. The first that can't be found, or isn't whole in the file, raises
-        :class:`Error`. The library is asked for them in blocks: for 1,024 first, and then for more and more.
+        It ends after the last sample. The first that can't be found, or isn't whole in the file,
+        raises :class:`Error`. The library is asked for them in blocks: for 1,024 first, and then
+        for more and more.
         """
         count = self.track(track_id).sample_count
         if count is None:
             raise Error(_Answer(code=15, limit=6))
-        return self._blocks(track_id, first, count)
+        return self._blocks(track_id, max(first, 0), count)
 
     def _blocks(self, track_id: int, first: int, count: int) -> Iterator[Sample]:
         most = max(_MOST_ROWS, self._bytes.size // _SAMPLE_ROW.size)
@@ -427,9 +482,10 @@ class Movie:
 
     def sample(self, track_id: int, number: int) -> Optional[Sample]:
         """One sample, by its number from 1 on; None past the last."""
-        row = _Sample()
-        answer = _accepted(self._ask("samples", track_id, number, ctypes.byref(row), 1))
-        return next(self._samples_in((_Sample * 1)(row), answer.filled, number), None)
+        first = _in_range("number", number, 32)
+        rows = (_Sample * 1)()
+        answer = _accepted(self._ask("samples", self.track(track_id).id, first, rows, 1))
+        return next(self._samples_in(rows, answer.filled, number), None)
 
     def read(self, sample: Sample) -> bytes:
         """The bytes of a sample."""
@@ -440,24 +496,24 @@ class Movie:
         return ctypes.string_at(self._bytes.address + sample.offset, sample.size)
 
     def sample_at(self, track_id: int, time: int) -> Optional[int]:
-        """The number of the last sample that is decoded at or before a time in ticks of the track."""
-        number = _u32()
-        _accepted(self._ask("sample_at", track_id, time, ctypes.byref(number)))
+        """The number of the last sample that is decoded at or before a time in ticks."""
+        number, time = _u32(), _in_range("time", time, 64)
+        _accepted(self._ask("sample_at", self.track(track_id).id, time, ctypes.byref(number)))
         return number.value or None
 
     def sync_sample_at_or_before(self, track_id: int, number: int) -> Optional[int]:
         """The number of the last sample up to this one from which decoding can begin."""
-        found = _u32()
-        _accepted(self._ask("sync_sample_at_or_before", track_id, number, ctypes.byref(found)))
+        found, words = _u32(), (self.track(track_id).id, _in_range("number", number, 32))
+        _accepted(self._ask("sync_sample_at_or_before", *words, ctypes.byref(found)))
         return found.value or None
 
     def sequence_parameter_set(self, track_id: int) -> bytes:
         """The first sequence parameter set of a track of AVC video."""
-        return self._item("parameter_set", track_id, 1)
+        return self._item("parameter_set", self.track(track_id).id, 1)
 
     def picture_parameter_set(self, track_id: int) -> bytes:
         """The first picture parameter set of a track of AVC video."""
-        return self._item("parameter_set", track_id, 2)
+        return self._item("parameter_set", self.track(track_id).id, 2)
 
     @property
     def metadata(self) -> Metadata:
@@ -472,7 +528,7 @@ class Movie:
 
     def _item(self, name: str, *words: int) -> bytes:
         """Bytes that a call gives."""
-        return bytes(_all_rows(_u8, 1024, lambda *room: self._ask(name, *words, *room)))
+        return _all_bytes(1024, lambda *room: self._ask(name, *words, *room))
 
     def _metadata_at(self, key: int) -> Optional[bytes]:
         try:
@@ -485,7 +541,7 @@ class Movie:
 
 @dataclass(frozen=True)
 class NewTrack:
-    """What a track is added with; the first has id 1, and each next one the id after it."""
+    """What a track is added with. The first has id 1, and each next one the id after it."""
 
     sample_entry: str
     """How its samples are coded: avc1, hev1, vp09, mp4a or tx3g."""
@@ -544,18 +600,11 @@ def _four(text: str) -> "ctypes.Array[ctypes.c_uint8]":
     return _code(*code)
 
 
-def _in_range(name: str, value: int, least: int, most: int) -> int:
-    """The number, if its field holds it: ctypes would cut it."""
-    if not least <= value <= most:
-        raise OverflowError(f"{name} is {value}, and goes from {least} to {most}")
-    return value
-
-
-def _track_row(track: NewTrack, data: _Data) -> "_NewTrack":
+def _track_row(track: NewTrack, index: int, data: _Data) -> "_NewTrack":
     """The row of a track, whose parameter sets are added to the data."""
     language = track.language.encode("ascii", "replace")
     if len(language) != 3 or language[0] == 0:
-        raise Error(_Answer(code=16))
+        raise Error(_Answer(code=16, part=2, index=index))
     row = _NewTrack(
         sequence_set=data.add(track.sequence_set),
         picture_set=data.add(track.picture_set),
@@ -564,21 +613,24 @@ def _track_row(track: NewTrack, data: _Data) -> "_NewTrack":
         sample_entry=_four(track.sample_entry),
         language=_code(*language, 0),
     )
-    for name, bits in (
-        ("timescale", 32), ("bits_per_second", 32), ("width", 16), ("height", 16), ("audio_profile", 8),
-        ("frequency_index", 8), ("channels", 8),
-    ):
-        setattr(row, name, _in_range(name, getattr(track, name), 0, 2**bits - 1))
+    for name, kind in _NewTrack._fields_:
+        if hasattr(track, name) and kind in (_u8, _u16, _u32):
+            setattr(row, name, _in_range(name, getattr(track, name), 8 * ctypes.sizeof(kind)))
     return row
 
 
 def _sample_rows(samples: Iterable[NewSample], data: _Data) -> bytearray:
     """The rows of samples, whose bytes are added to the data."""
     rows = bytearray()
-    for track_id, part, duration, rendering_offset, is_sync in samples:
-        size = len(part)
-        rows += _SAMPLE_ROW.pack(data.add(part), 0, track_id, size, duration, rendering_offset, bool(is_sync))
+    for track_id, part, duration, later, is_sync in samples:
+        place, size = data.add(part), len(part)
+        rows += _SAMPLE_ROW.pack(place, 0, track_id, size, duration, later, bool(is_sync))
     return rows
+
+
+def _list_of(kind: type, rows: list) -> "ctypes.Array":
+    """Rows one after the other; there is at least one, so that it has a place."""
+    return (kind * max(len(rows), 1))(*rows)
 
 
 def write(
@@ -590,26 +642,26 @@ def write(
     compatible_brands: Sequence[str] = ("isom", "iso2", "avc1", "mp41"),
     timescale: int = 1000,
 ) -> bytes:
-    """The bytes of a movie of these tracks and samples, in this order. ``timescale`` is that of the movie's durations.
+    """The bytes of a movie of these tracks and samples, in this order. ``timescale`` is that of the
+    movie's durations.
 
-    :class:`Error` where a track or a sample can't be written: its ``part`` and ``index`` say which. A number that its
-    field doesn't hold is an OverflowError or a struct.error.
+    :class:`Error` where a track or a sample can't be written: its ``part`` and ``index`` say which.
+    A number that its field doesn't hold is an OverflowError or a struct.error.
     """
     data = _Data()
     movie = _NewMovie(
-        timescale=_in_range("timescale", timescale, 0, 2**32 - 1),
-        minor_version=_in_range("minor_version", minor_version, 0, 2**32 - 1),
+        timescale=_in_range("timescale", timescale, 32),
+        minor_version=_in_range("minor_version", minor_version, 32),
         major_brand=_four(major_brand),
     )
-    brands = (_Brand * max(len(compatible_brands), 1))(*(_Brand(_four(brand)) for brand in compatible_brands))
-    track_rows = (_NewTrack * max(len(tracks), 1))(*(_track_row(track, data) for track in tracks))
-    packed = _sample_rows(samples, data)
-    count = len(packed) // _SAMPLE_ROW.size
-    sample_rows = (_Sample * max(count, 1)).from_buffer(packed or bytearray(_SAMPLE_ROW.size))
+    brands = _list_of(_Brand, [_Brand(_four(brand)) for brand in compatible_brands])
+    track_rows = [_track_row(track, index, data) for index, track in enumerate(tracks)]
+    new_tracks = _list_of(_NewTrack, track_rows)
+    rows = _sample_rows(samples, data)
+    count = len(rows) // _SAMPLE_ROW.size
+    new_samples = (_Sample * max(count, 1)).from_buffer(rows or bytearray(_SAMPLE_ROW.size))
     whole = _Bytes(b"".join(data.parts))
-    parts = (
-        ctypes.byref(movie), brands, len(compatible_brands), track_rows, len(tracks), sample_rows, count,
-        whole.address, whole.size,
-    )
+    parts = (ctypes.byref(movie), brands, len(compatible_brands), new_tracks, len(tracks))
+    parts += (new_samples, count, whole.address, whole.size)
     likely = 1024 + 4 * len(compatible_brands) + 1024 * len(tracks) + 40 * count + whole.size
-    return bytes(_all_rows(_u8, likely, lambda *room: _mp4.mp4_c_write(*parts, *room)))
+    return _all_bytes(likely, lambda *room: _mp4.mp4_c_write(*parts, *room))

@@ -1,7 +1,7 @@
-"""Writes the files that the cases of crates/mp4_vectors are about: case_files.py DATA_FOLDER OUT_FOLDER.
+"""Writes the files that the cases of crates/mp4_vectors are about: case_files.py DATA OUT.
 
-docs/VECTORS.md says how bytes are written in cases. Each subject `file` becomes a file of its own, without the changes
-that questions make to it, up to a size.
+docs/VECTORS.md says how bytes are written in cases. Each subject `file` becomes a file of its own,
+without the changes that questions make to it, up to a size.
 """
 
 import itertools
@@ -14,7 +14,7 @@ MOST_BYTES = 1 << 20
 
 
 def items_of(text):
-    """The items of a file of cases, each on one line: comments are gone, and lines that begin with a space follow."""
+    """The items of a file of cases, each on one line, without comments."""
     lines = [re.sub(r"(^| )#.*", "", line) for line in text.splitlines()]
     item = ""
     for line in [*lines, ""]:

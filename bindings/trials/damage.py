@@ -1,5 +1,7 @@
-"""Writes damaged copies of small movies: damage.py COUNT SEED OUT_FOLDER FILE... Each copy is cut, or some of its bytes
-or of its numbers are others, as the seed says."""
+"""Writes damaged copies of small movies: damage.py COUNT SEED OUT FILE.., of which OUT is a folder.
+
+Each copy is cut, or some of its bytes or of its numbers are others, as the seed says.
+"""
 
 import pathlib
 import random

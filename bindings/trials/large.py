@@ -1,7 +1,7 @@
 """Writes a large file that is nearly all a hole: large.py MOVIE OUT SIZE.
 
-It is a small movie, whose last sample is moved to the end of what follows: a box of media data of SIZE bytes without a
-block on the disk.
+It is a small movie, and after it a box of media data of SIZE bytes without a block on the disk, in
+which the movie's last sample lies.
 """
 
 import sys

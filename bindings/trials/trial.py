@@ -1,6 +1,5 @@
 """What ./callers asks of the library from Python: trial.c says what each command does."""
 
-import resource  # noqa: F401  (loaded before the pages of mapped files are counted)
 import sys
 import threading
 import time
@@ -59,13 +58,14 @@ def track_of(words):
     if kind == "aac":
         bits, profile, frequency, channels = map(int, rest)
         return maqelsun.NewTrack(
-            "mp4a", int(timescale), bits_per_second=bits, audio_profile=profile, frequency_index=frequency,
-            channels=channels,
+            "mp4a", int(timescale), bits_per_second=bits, audio_profile=profile,
+            frequency_index=frequency, channels=channels,
         )
     entry = {"avc": "avc1", "hevc": "hev1", "vp9": "vp09"}[kind]
     sets = [bytes.fromhex(digits) for digits in rest[2:]] or [b"", b""]
     return maqelsun.NewTrack(
-        entry, int(timescale), width=int(rest[0]), height=int(rest[1]), sequence_set=sets[0], picture_set=sets[1]
+        entry, int(timescale), width=int(rest[0]), height=int(rest[1]),
+        sequence_set=sets[0], picture_set=sets[1],
     )
 
 
@@ -79,7 +79,8 @@ def write_movie(name):
     """Makes the movie of a script from standard input."""
     lines = sys.stdin.buffer.read().split(b"\n")[:-1]
     tracks = [track_of(line.decode().split()[1:]) for line in lines if line.startswith(b"track")]
-    movie = maqelsun.write(tracks, (sample_of(line) for line in lines if line.startswith(b"sample")))
+    samples = [sample_of(line) for line in lines if line.startswith(b"sample")]
+    movie = maqelsun.write(tracks, samples)
     with open(name, "wb") as out:
         out.write(movie)
 
@@ -91,7 +92,8 @@ def mapped_kib():
 
 
 def list_large(name):
-    """The samples of a file; on standard error the microseconds and the KiB of mapped files that it took."""
+    """The samples of a file; on standard error the microseconds and the KiB of mapped files it
+    took."""
     fault_lines(b"")  # the first call loads code, which isn't of the file
     before = mapped_kib()
     begun = time.monotonic()
@@ -103,7 +105,7 @@ def list_large(name):
 
 
 def list_by_threads(name):
-    """The samples of a file, by eight threads at once over one movie: they have to find the same."""
+    """The samples of a file, by eight threads at once over one movie: all have to find the same."""
     found = []
     with maqelsun.Movie(name) as movie:
 
