@@ -4,6 +4,7 @@ use crate::error::NOT_PRESENT;
 use crate::layout::{Answer, BrandRow, MovieRow, SampleRow, TrackRow};
 use crate::samples::{Sample, Samples};
 use crate::{ffi, Error, FourCC, Limit, Result, Track};
+use std::fmt;
 use std::time::Duration;
 
 /// A movie that was opened, over the bytes of its file.
@@ -33,11 +34,19 @@ use std::time::Duration;
 /// # Ok(())
 /// # }
 /// ```
-#[derive(Clone, Debug)]
+#[derive(Clone)]
 pub struct Movie<'a> {
     file: &'a [u8],
     facts: MovieRow,
     tracks: Vec<Track>,
+}
+
+/// What the file says, and not its bytes.
+impl fmt::Debug for Movie<'_> {
+    fn fmt(&self, f: &mut fmt::Formatter) -> fmt::Result {
+        let mut shown = f.debug_struct("Movie");
+        shown.field("facts", &self.facts).field("tracks", &self.tracks).finish_non_exhaustive()
+    }
 }
 
 /// A list of `count` empty values, to be filled in; [`Error::OutOfMemory`] where they have no room.

@@ -3,6 +3,7 @@
 use crate::layout::SampleRow;
 use crate::movie::room_for;
 use crate::{ffi, Error, Result};
+use std::fmt;
 use std::iter::FusedIterator;
 
 /// A sample, with its bytes, which are borrowed from the file. Times are in ticks of its track.
@@ -76,7 +77,7 @@ const BYTES_A_ROW: usize = 40;
 /// larger file, as many as take the room of the file. So all samples together take a time that
 /// grows with their number and with the file's boxes, and the blocks take no more memory than 40 MB
 /// or the file.
-#[derive(Clone, Debug)]
+#[derive(Clone)]
 pub struct Samples<'a> {
     file: &'a [u8],
     track_id: u32,
@@ -179,3 +180,10 @@ impl<'a> Iterator for Samples<'a> {
 }
 
 impl FusedIterator for Samples<'_> {}
+
+/// Of which track they are, and not the bytes of the file.
+impl fmt::Debug for Samples<'_> {
+    fn fmt(&self, f: &mut fmt::Formatter) -> fmt::Result {
+        f.debug_struct("Samples").field("track_id", &self.track_id).finish_non_exhaustive()
+    }
+}

@@ -6,6 +6,7 @@ use crate::layout::{Answer, BrandRow, NewMovieRow, NewTrackRow, Parts, SampleRow
 use crate::movie::room_for;
 use crate::samples::Sample;
 use crate::{Error, Limit, Result};
+use std::fmt;
 
 /// Collects the tracks and the samples of a movie, and writes it.
 ///
@@ -26,7 +27,7 @@ use crate::{Error, Limit, Result};
 /// # Ok(())
 /// # }
 /// ```
-#[derive(Clone, Debug)]
+#[derive(Clone)]
 pub struct Writer {
     movie: NewMovieRow,
     brands: Vec<BrandRow>,
@@ -34,6 +35,15 @@ pub struct Writer {
     samples: Vec<SampleRow>,
     /// The bytes of all parameter sets and samples, one after the other.
     data: Vec<u8>,
+}
+
+/// What was collected, and not the bytes of the samples.
+impl fmt::Debug for Writer {
+    fn fmt(&self, f: &mut fmt::Formatter) -> fmt::Result {
+        let mut shown = f.debug_struct("Writer");
+        shown.field("movie", &self.movie).field("tracks", &self.tracks);
+        shown.field("samples", &self.samples.len()).finish_non_exhaustive()
+    }
 }
 
 /// The most bytes that a movie takes beside its brands, its tracks and its samples, and for each of
