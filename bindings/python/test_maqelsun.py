@@ -236,7 +236,7 @@ class Writing(unittest.TestCase):
         with self.assertRaises(ValueError):
             write([NewTrack("avc")], [])
 
-    def test_a_movie_that_takes_more_than_expected_is_written(self):
+    def test_a_movie_with_a_chunk_for_each_sample_is_written(self):
         samples = [NewSample(1, b"x", 1 + k % 2, k % 2) for k in range(3000)]
         movie = Movie(write([NewTrack("tx3g", 1)], samples))
         self.assertEqual(len(list(movie.samples(1))), 3000)

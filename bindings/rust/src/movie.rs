@@ -60,7 +60,10 @@ pub(crate) fn room_for<T: Clone + Default>(count: u64) -> Result<Vec<T>> {
 
 /// All rows that a call of the library gives: it is asked with room for `guess` rows, and again
 /// with more where there are more.
-fn all_rows<T: Clone + Default>(guess: u64, ask: impl Fn(&mut [T]) -> Answer) -> Result<Vec<T>> {
+pub(crate) fn all_rows<T: Clone + Default>(
+    guess: u64,
+    ask: impl Fn(&mut [T]) -> Answer,
+) -> Result<Vec<T>> {
     let mut rows = room_for(guess)?;
     let mut answer = ask(&mut rows).accepted()?;
     if answer.count > guess {

@@ -2,8 +2,8 @@
 
 use crate::config::{MediaConfig, MovieConfig, TrackConfig};
 use crate::ffi;
-use crate::layout::{Answer, BrandRow, NewMovieRow, NewTrackRow, Parts, SampleRow};
-use crate::movie::room_for;
+use crate::layout::{BrandRow, NewMovieRow, NewTrackRow, Parts, SampleRow};
+use crate::movie::all_rows;
 use crate::samples::Sample;
 use crate::{Error, Limit, Result};
 use std::fmt;
@@ -181,18 +181,6 @@ impl Writer {
     /// [`Error::TooLarge`] past one of the limits [`Limit::SampleCount`], [`Limit::TrackDuration`]
     /// and [`Limit::BoxSize`].
     pub fn finish(self) -> Result<Vec<u8>> {
-        let mut file = room_for(self.likely_size())?;
-        let mut answer = self.write(&mut file)?;
-        if answer.filled < answer.count {
-            file = room_for(answer.count)?;
-            answer = self.write(&mut file)?;
-        }
-        file.truncate(usize::try_from(answer.filled).unwrap_or(usize::MAX));
-        Ok(file)
-    }
-
-    /// Writes the movie, if it fits.
-    fn write(&self, file: &mut [u8]) -> Result<Answer> {
         let parts = Parts {
             movie: &self.movie,
             brands: &self.brands,
@@ -200,7 +188,7 @@ impl Writer {
             samples: &self.samples,
             data: &self.data,
         };
-        ffi::write(parts, file).accepted()
+        all_rows(self.likely_size(), |file| ffi::write(parts, file))
     }
 
     /// So much room that most movies fit.

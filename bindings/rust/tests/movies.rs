@@ -250,7 +250,7 @@ fn a_sample_of_no_track_is_refused() {
 }
 
 #[test]
-fn a_movie_that_takes_more_than_expected_is_written() {
+fn a_movie_with_a_chunk_for_each_sample_is_written() {
     let mut writer = Writer::new(&MovieConfig::default());
     let id = writer.add_track(&TrackConfig { timescale: 1, ..TrackConfig::text() }).unwrap();
     for number in 0..3000u32 {
