@@ -120,7 +120,7 @@ class Reading(unittest.TestCase):
             movie.sample_at(2**32 + 1, 0)
 
     def test_a_sample_that_is_not_whole_in_the_file_ends_the_samples(self):
-        file = bytearray(numbers(3))
+        file = bytearray(numbers(12))  # whose sizes aren't all the same, so that they are listed
         file[file.rindex(b"stsz") + 20] = 0x7F  # the high byte of the size of the second sample
         movie = Movie(file)
         samples = movie.samples(1)

@@ -167,7 +167,7 @@ fn samples_are_found_by_their_times() {
 
 #[test]
 fn a_sample_that_is_not_whole_in_the_file_ends_the_samples() {
-    let mut file = numbers(3);
+    let mut file = numbers(12); // whose sizes aren't all the same, so that they are listed
     let table = file.windows(4).rposition(|kind| kind == b"stsz").unwrap();
     file[table + 20] = 0x7f; // the high byte of the size of the second sample
     let movie = Movie::open(&file).unwrap();
