@@ -1,7 +1,7 @@
 /* What ./callers asks of the library from C; trial.rs and trial.py answer the same from Rust and Python.
  *
  *   trial list             the samples of each file that a line of standard input names
- *   trial faults           why each of these files doesn't open
+ *   trial faults           why each of these files doesn't open, or an empty line
  *   trial write OUT        makes the movie of a script from standard input
  *   trial large FILE       the samples of a file; on standard error the microseconds and the KiB of the file that it took
  */
@@ -119,7 +119,9 @@ static void list_file(file from) {
 
 static void print_fault(file from) {
     mp4_movie movie;
-    print_text(mp4_open(from.bytes, from.size, &movie));
+    mp4_answer answer = mp4_open(from.bytes, from.size, &movie);
+    if (answer.code != MP4_OK) print_text(answer);
+    else printf("\n");
 }
 
 /* Does something with each file that a line of standard input names, after a line with its name. */
