@@ -44,3 +44,8 @@ pub use movie::{Metadata, Movie};
 pub use samples::{Sample, Samples};
 pub use track::{AvcProfile, MediaType, Track, TrackType};
 pub use writer::Writer;
+
+/// The program of MIGRATION.md is compiled with the other examples.
+#[cfg(doctest)]
+#[doc = include_str!("../MIGRATION.md")]
+struct Migration;
