@@ -491,7 +491,7 @@ class Movie:
         """The bytes of a sample."""
         if self._source is None:
             raise ValueError("the movie is closed")
-        if sample.offset + sample.size > self._bytes.size:
+        if sample.size < 0 or not 0 <= sample.offset <= self._bytes.size - sample.size:
             raise _end_of_data()
         return ctypes.string_at(self._bytes.address + sample.offset, sample.size)
 
@@ -584,12 +584,12 @@ class _Data:
         self.parts: List[bytes] = []
         self.size = 0
 
-    def add(self, part: bytes) -> int:
-        """Adds a part, and answers where it begins."""
-        start = self.size
+    def add(self, part: bytes) -> Tuple[int, int]:
+        """Adds a part, and answers where it begins and how many bytes it has."""
+        start, size = self.size, memoryview(part).nbytes
         self.parts.append(part)
-        self.size += len(part)
-        return start
+        self.size += size
+        return start, size
 
 
 def _four(text: str) -> "ctypes.Array[ctypes.c_uint8]":
@@ -605,14 +605,9 @@ def _track_row(track: NewTrack, index: int, data: _Data) -> "_NewTrack":
     language = track.language.encode("ascii", "replace")
     if len(language) != 3 or language[0] == 0:
         raise Error(_Answer(code=16, part=2, index=index))
-    row = _NewTrack(
-        sequence_set=data.add(track.sequence_set),
-        picture_set=data.add(track.picture_set),
-        sequence_set_size=len(track.sequence_set),
-        picture_set_size=len(track.picture_set),
-        sample_entry=_four(track.sample_entry),
-        language=_code(*language, 0),
-    )
+    row = _NewTrack(sample_entry=_four(track.sample_entry), language=_code(*language, 0))
+    row.sequence_set, row.sequence_set_size = data.add(track.sequence_set)
+    row.picture_set, row.picture_set_size = data.add(track.picture_set)
     for name, kind in _NewTrack._fields_:
         if hasattr(track, name) and kind in (_u8, _u16, _u32):
             setattr(row, name, _in_range(name, getattr(track, name), 8 * ctypes.sizeof(kind)))
@@ -623,7 +618,7 @@ def _sample_rows(samples: Iterable[NewSample], data: _Data) -> bytearray:
     """The rows of samples, whose bytes are added to the data."""
     rows = bytearray()
     for track_id, part, duration, later, is_sync in samples:
-        place, size = data.add(part), len(part)
+        place, size = data.add(part)
         rows += _SAMPLE_ROW.pack(place, 0, track_id, size, duration, later, bool(is_sync))
     return rows
 

@@ -127,7 +127,8 @@ class Reading(unittest.TestCase):
         first = next(samples)
         self.assertEqual(movie.read(first), b"1")
         self.refused("end of data", next, samples)
-        self.refused("end of data", movie.read, first._replace(offset=len(file), size=1))
+        for place in [{"offset": len(file)}, {"offset": -1}, {"size": -1}, {"size": 2**40}]:
+            self.refused("end of data", movie.read, first._replace(**place))
 
     def test_metadata_is_read(self):
         long = "long " * 1000
@@ -223,6 +224,13 @@ class Writing(unittest.TestCase):
         samples = [NewSample(1, b"", 1), NewSample(2, b"", 1)]
         refused = self.refused("trak[2] not found", write, [NewTrack("tx3g")], samples)
         self.assertEqual((refused.part, refused.index, refused.track_id), ("sample", 1, 2))
+
+    def test_each_kind_of_bytes_is_written(self):
+        parts = [b"abcd", bytearray(b"abcd"), memoryview(b"abcd").cast("I")]
+        movie = Movie(write([NewTrack("tx3g")], [NewSample(1, part, 1) for part in parts]))
+        self.assertEqual([movie.read(sample) for sample in movie.samples(1)], [b"abcd"] * 3)
+        with self.assertRaises(TypeError):
+            write([NewTrack("tx3g")], [NewSample(1, "text", 1)])
 
     def test_numbers_are_not_cut(self):
         for words in [{"timescale": 2**32}, {"timescale": -1}, {"minor_version": 2**32}]:
