@@ -606,8 +606,10 @@ def _track_row(track: NewTrack, index: int, data: _Data) -> "_NewTrack":
     if len(language) != 3 or language[0] == 0:
         raise Error(_Answer(code=16, part=2, index=index))
     row = _NewTrack(sample_entry=_four(track.sample_entry), language=_code(*language, 0))
-    row.sequence_set, row.sequence_set_size = data.add(track.sequence_set)
-    row.picture_set, row.picture_set_size = data.add(track.picture_set)
+    for name in ("sequence_set", "picture_set"):
+        place, size = data.add(getattr(track, name))
+        setattr(row, name, place)
+        setattr(row, f"{name}_size", _in_range(f"{name}_size", size, 32))
     for name, kind in _NewTrack._fields_:
         if hasattr(track, name) and kind in (_u8, _u16, _u32):
             setattr(row, name, _in_range(name, getattr(track, name), 8 * ctypes.sizeof(kind)))
