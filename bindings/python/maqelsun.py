@@ -1,0 +1,664 @@
+"""MP4 files (ISO base media files, ISO/IEC 14496-12), read and written.
+
+The work is done by the library ``mp4_c``, each function of which is proved before it is compiled:
+what is written is read back, and no bytes of a file make it crash. This module calls it by ctypes
+and needs nothing but Python 3.8.
+
+    with maqelsun.Movie("film.mp4") as movie:
+        for track in movie.tracks:
+            for sample in movie.samples(track.id):
+                print(sample.number, sample.offset, sample.size, movie.read(sample)[:4])
+
+    lines = [maqelsun.NewSample(1, b"first", 1000), maqelsun.NewSample(1, b"second", 1000)]
+    file = maqelsun.write([maqelsun.NewTrack("tx3g")], lines)
+
+The shared object ``libmaqelsun.so`` is looked for where MAQELSUN_LIBRARY says, else beside this
+file, else where ``./callers build`` of the repository leaves it.
+"""
+
+import ctypes
+import mmap
+import os
+import struct
+from dataclasses import dataclass
+from typing import (
+    Callable,
+    Dict,
+    Iterable,
+    Iterator,
+    List,
+    NamedTuple,
+    Optional,
+    Sequence,
+    Tuple,
+    Union,
+)
+
+__all__ = ["Error", "Metadata", "Movie", "NewSample", "NewTrack", "Sample", "Track", "write"]
+
+# What has bytes at one place.
+BytesLike = Union[bytes, bytearray, memoryview, mmap.mmap]
+
+# The structs that cross to the library, as bindings/c/mp4.h declares them.
+
+
+def _struct(name: str, size: int, *fields: Tuple[str, type, int]) -> type:
+    """A struct of the header: its size, and of each field its type and its offset."""
+    made = type(name, (ctypes.Structure,), {"_fields_": [each[:2] for each in fields]})
+    agrees = all(getattr(made, field).offset == offset for field, _, offset in fields)
+    if ctypes.sizeof(made) != size or not agrees:
+        raise ImportError(f"the layout of {name} isn't that of mp4.h on this machine")
+    return made
+
+
+_u8, _u16, _u32, _u64 = ctypes.c_uint8, ctypes.c_uint16, ctypes.c_uint32, ctypes.c_uint64
+_i32 = ctypes.c_int32
+_code = _u8 * 4
+
+_Answer = _struct(
+    "mp4_answer", 56,
+    ("count", _u64, 0), ("filled", _u64, 8), ("index", _u64, 16), ("code", _u32, 24),
+    ("part", _u32, 28), ("limit", _u32, 32), ("track_id", _u32, 36), ("number", _u32, 40),
+    ("box_type", _code, 44), ("second_box_type", _code, 48), ("reserved", _u32, 52),
+)
+_Movie = _struct(
+    "mp4_movie", 48,
+    ("size", _u64, 0), ("duration", _u64, 8), ("track_count", _u64, 16), ("brand_count", _u64, 24),
+    ("timescale", _u32, 32), ("minor_version", _u32, 36), ("major_brand", _code, 40),
+    ("is_fragmented", _u8, 44), ("reserved", _u8 * 3, 45),
+)
+_Brand = _struct("mp4_brand", 4, ("code", _code, 0))
+_Track = _struct(
+    "mp4_track", 64,
+    ("duration", _u64, 0), ("frames_per_second", _u64, 8), ("id", _u32, 16),
+    ("timescale", _u32, 20), ("sample_count", _u32, 24), ("bits_per_second", _u32, 28),
+    ("handler", _code, 32), ("sample_entry", _code, 36), ("language", _code, 40),
+    ("width", _u16, 44), ("height", _u16, 46), ("audio_profile", _u8, 48),
+    ("frequency_index", _u8, 49), ("channels", _u8, 50), ("video_profile", _u8, 51),
+    ("video_compatibility", _u8, 52), ("video_level", _u8, 53), ("has_frames_per_second", _u8, 54),
+    ("has_sample_count", _u8, 55), ("has_bits_per_second", _u8, 56), ("has_sample_entry", _u8, 57),
+    ("has_audio_profile", _u8, 58), ("has_frequency_index", _u8, 59), ("has_channels", _u8, 60),
+    ("has_video_profile", _u8, 61), ("reserved", _u8 * 2, 62),
+)
+_Sample = _struct(
+    "mp4_sample", 40,
+    ("offset", _u64, 0), ("start_time", _u64, 8), ("track_id", _u32, 16), ("size", _u32, 20),
+    ("duration", _u32, 24), ("rendering_offset", _i32, 28), ("is_sync", _u8, 32),
+    ("reserved", _u8 * 7, 33),
+)
+_NewMovie = _struct(
+    "mp4_new_movie", 12,
+    ("timescale", _u32, 0), ("minor_version", _u32, 4), ("major_brand", _code, 8),
+)
+_NewTrack = _struct(
+    "mp4_new_track", 48,
+    ("sequence_set", _u64, 0), ("picture_set", _u64, 8), ("sequence_set_size", _u32, 16),
+    ("picture_set_size", _u32, 20), ("timescale", _u32, 24), ("bits_per_second", _u32, 28),
+    ("sample_entry", _code, 32), ("language", _code, 36), ("width", _u16, 40), ("height", _u16, 42),
+    ("audio_profile", _u8, 44), ("frequency_index", _u8, 45), ("channels", _u8, 46),
+    ("reserved", _u8, 47),
+)
+
+# An mp4_sample, packed and unpacked many at a time: offset, start_time, track_id, size, duration,
+# rendering_offset and is_sync.
+_SAMPLE_ROW = struct.Struct("=QQIIIiB7x")
+if _SAMPLE_ROW.size != ctypes.sizeof(_Sample):
+    raise ImportError("the layout of mp4_sample isn't that of mp4.h on this machine")
+
+
+def _library() -> ctypes.CDLL:
+    """The shared object, with what its functions take and answer."""
+    here = os.path.dirname(os.path.abspath(__file__))
+    name = "libmaqelsun.so"
+    built = os.path.join(here, "..", "..", "crates", "mp4_c", "out")
+    places = [os.path.join(folder, name) for folder in (here, built)]
+    chosen = os.environ.get("MAQELSUN_LIBRARY") or next(filter(os.path.exists, places), None)
+    if chosen is None:
+        raise ImportError(
+            f"there is no {name} beside {os.path.basename(__file__)}: build it by ./callers build "
+            "at the top of the repository of Maqelsun, or let MAQELSUN_LIBRARY name it"
+        )
+    library = ctypes.CDLL(chosen)
+    pointer, size = ctypes.c_void_p, ctypes.c_size_t
+    file, room = (pointer, size), (pointer, size)
+    functions: Dict[str, Tuple[type, ...]] = {
+        "open": (*file, pointer),
+        "brands": (*file, *room),
+        "tracks": (*file, *room),
+        "samples": (*file, _u32, _u32, *room),
+        "sample_at": (*file, _u32, _u64, pointer),
+        "sync_sample_at_or_before": (*file, _u32, _u32, pointer),
+        "metadata": (*file, _u32, *room),
+        "parameter_set": (*file, _u32, _u32, *room),
+        "write": (pointer, pointer, size, pointer, size, pointer, size, *file, *room),
+        "error_text": (pointer, *room),
+    }
+    for each, arguments in functions.items():
+        function = getattr(library, "mp4_c_" + each)
+        function.argtypes, function.restype = arguments, _Answer
+    return library
+
+
+_mp4 = _library()
+_NOT_PRESENT = 17
+
+
+class Error(Exception):
+    """Why a call was refused. Its text is that of the program ``mp4_tool``.
+
+    ``code`` is one of ``enum mp4_code`` of mp4.h; ``box_type``, ``second_box_type``, ``track_id``,
+    ``number`` and ``limit`` are what the refusal names, or empty and 0. After a refused
+    :func:`write`, ``part`` says what was refused, "movie", "track", "sample" or "end", and
+    ``index`` which one, from 0 on.
+    """
+
+    def __init__(self, answer: "_Answer"):
+        super().__init__(_text_of(answer))
+        self.code: int = answer.code
+        self.box_type = bytes(answer.box_type).rstrip(b"\0")
+        self.second_box_type = bytes(answer.second_box_type).rstrip(b"\0")
+        self.track_id: int = answer.track_id
+        self.number: int = answer.number
+        self.limit: int = answer.limit
+        self.part: Optional[str] = {1: "movie", 2: "track", 3: "sample", 4: "end"}.get(answer.part)
+        self.index: int = answer.index
+
+
+def _text_of(answer: "_Answer") -> str:
+    """What an answer says in words."""
+    text = (_u8 * 80)()
+    filled = _mp4.mp4_c_error_text(ctypes.byref(answer), text, len(text)).filled
+    return bytes(text[:filled]).decode("ascii")
+
+
+def _accepted(answer: "_Answer") -> "_Answer":
+    """The answer, unless it is a refusal."""
+    if answer.code:
+        raise Error(answer)
+    return answer
+
+
+def _end_of_data() -> Error:
+    """The refusal of a sample that isn't whole in its file."""
+    return Error(_Answer(code=1))
+
+
+class _Buffer(ctypes.Structure):
+    """Python's Py_buffer: it says where an object's bytes lie, also where they are read-only."""
+
+    _fields_ = [
+        ("buf", ctypes.c_void_p), ("obj", ctypes.py_object), ("len", ctypes.c_ssize_t),
+        ("itemsize", ctypes.c_ssize_t), ("readonly", ctypes.c_int), ("ndim", ctypes.c_int),
+        ("format", ctypes.c_char_p), ("shape", ctypes.c_void_p), ("strides", ctypes.c_void_p),
+        ("suboffsets", ctypes.c_void_p), ("internal", ctypes.c_void_p),
+    ]
+
+
+class _Bytes:
+    """The bytes of an object that has the buffer protocol, at one place until they are released."""
+
+    _held = False
+
+    def __init__(self, source: BytesLike):
+        self._buffer = _Buffer()
+        ctypes.pythonapi.PyObject_GetBuffer(source, ctypes.byref(self._buffer), 0)
+        self._held = True
+        self.size: int = self._buffer.len
+        # A pointer to no bytes may be NULL in Python, but not for the library.
+        self.address: int = self._buffer.buf or ctypes.addressof(_NOTHING)
+
+    def release(self) -> None:
+        """Lets the bytes go."""
+        if self._held:
+            self._held = False
+            ctypes.pythonapi.PyBuffer_Release(ctypes.byref(self._buffer))
+
+    __del__ = release
+
+
+ctypes.pythonapi.PyObject_GetBuffer.argtypes = (ctypes.py_object, ctypes.c_void_p, ctypes.c_int)
+ctypes.pythonapi.PyBuffer_Release.argtypes = (ctypes.c_void_p,)
+ctypes.pythonapi.PyBuffer_Release.restype = None
+_NOTHING = _u64(0)
+
+
+class Sample(NamedTuple):
+    """Where a sample lies, and when it is decoded and shown, in ticks of its track."""
+
+    number: int
+    """From 1 on."""
+    offset: int
+    """The place of its first byte in the file."""
+    start_time: int
+    """When it is decoded."""
+    track_id: int
+    """The track that it is of."""
+    size: int
+    """How many bytes it has."""
+    duration: int
+    """How long it lasts."""
+    rendering_offset: int
+    """How much later it is shown than decoded."""
+    is_sync: bool
+    """Whether decoding can begin with it."""
+
+
+@dataclass(frozen=True)
+class Track:
+    """What a file says of a track. What it doesn't say is None."""
+
+    id: int
+    handler: str
+    """What the track is for: vide, soun, sbtl or another."""
+    sample_entry: Optional[str]
+    """How its samples are coded: avc1, hev1, vp09, mp4a or tx3g."""
+    timescale: int
+    """Ticks in a second, of the track's times; it may be 0."""
+    duration: int
+    """In ticks, as the media header says it: without fragments."""
+    sample_count: Optional[int]
+    """None where there are more than 2**32 - 1."""
+    language: str
+    """Three letters of ISO 639-2/T."""
+    width: int
+    height: int
+    frames_per_second: Optional[int]
+    bits_per_second: Optional[int]
+    audio_profile: Optional[int]
+    """Of AAC sound, the audio object type: 2 is AAC LC."""
+    frequency_index: Optional[int]
+    """Of AAC sound: 0 is 96000 Hz, 3 is 48000, 4 is 44100, .. 12 is 7350."""
+    channels: Optional[int]
+    """Of AAC sound: 1 is mono, 2 stereo, .. 7 is 7.1."""
+    video_profile: Optional[Tuple[int, int, int]]
+    """Of AVC video: the profile, its constraint flags, and ten times the level."""
+
+
+@dataclass(frozen=True)
+class Metadata:
+    """What a file says of the work that it holds."""
+
+    title: Optional[str] = None
+    year: Optional[int] = None
+    poster: Optional[bytes] = None
+    summary: Optional[str] = None
+
+
+def _code_text(code: "ctypes.Array[ctypes.c_uint8]") -> str:
+    """A code of four bytes as text: a full stop for each that doesn't print."""
+    return "".join(chr(byte) if 32 <= byte <= 126 else "." for byte in code)
+
+
+def _track_of(row: "_Track") -> Track:
+    """What a row of the library says."""
+
+    def marked(mark: int, value: object) -> object:
+        return value if mark else None
+
+    profile = (row.video_profile, row.video_compatibility, row.video_level)
+    return Track(
+        id=row.id,
+        handler=_code_text(row.handler),
+        sample_entry=marked(row.has_sample_entry, _code_text(row.sample_entry)),
+        timescale=row.timescale,
+        duration=row.duration,
+        sample_count=marked(row.has_sample_count, row.sample_count),
+        language=bytes(row.language[:3]).decode("utf-8", "replace"),
+        width=row.width,
+        height=row.height,
+        frames_per_second=marked(row.has_frames_per_second, row.frames_per_second),
+        bits_per_second=marked(row.has_bits_per_second, row.bits_per_second),
+        audio_profile=marked(row.has_audio_profile, row.audio_profile),
+        frequency_index=marked(row.has_frequency_index, row.frequency_index),
+        channels=marked(row.has_channels, row.channels),
+        video_profile=marked(row.has_video_profile, profile),
+    )
+
+
+def _filled(kind: type, guess: int, ask: Callable[..., "_Answer"]) -> Tuple["ctypes.Array", int]:
+    """All rows that a call of the library gives, and how many they are: it is asked with room for
+    ``guess`` rows, and again with more where there are more."""
+    rows = (kind * max(guess, 1))()
+    answer = _accepted(ask(rows, len(rows)))
+    if answer.count > len(rows):
+        rows = (kind * answer.count)()
+        answer = _accepted(ask(rows, len(rows)))
+    return rows, answer.filled
+
+
+def _all_rows(kind: type, guess: int, ask: Callable[..., "_Answer"]) -> list:
+    """All rows that a call of the library gives."""
+    rows, count = _filled(kind, guess, ask)
+    return rows[:count]
+
+
+def _all_bytes(guess: int, ask: Callable[..., "_Answer"]) -> bytes:
+    """All bytes that a call of the library gives."""
+    rows, count = _filled(_u8, guess, ask)
+    return ctypes.string_at(rows, count)
+
+
+def _in_range(name: str, value: int, bits: int) -> int:
+    """The number, if its field holds it: ctypes would cut it."""
+    if not 0 <= value < 1 << bits:
+        raise OverflowError(f"{name} is {value}, and has to be from 0 to 2**{bits} - 1")
+    return value
+
+
+# How many rows of samples are asked for first, how many times as many next, and the most: 40 MB of
+# them, or as many as take the room of a larger file.
+_FIRST_ROWS = 1024
+_GROWTH = 16
+_MOST_ROWS = 1 << 20
+
+
+class Movie:
+    """A movie that is opened: a file, which is mapped into memory, or bytes.
+
+    What the file says of its movie and its tracks is read once. Every other call to the library
+    opens the file anew, in a time that grows with its boxes, but not with the bytes of its samples;
+    so read many samples by :meth:`samples`, and not one by one. Threads may share a movie, until
+    one closes it.
+
+    A mapped file must not be cut while it is open: what is read past its new end ends the process.
+    """
+
+    size: int
+    """How many bytes the file has, up to the end of its last box."""
+    duration: int
+    """In ticks of the movie, as its header says."""
+    timescale: int
+    """Ticks in a second, of the movie's duration; it may be 0."""
+    major_brand: str
+    """The specification that the file follows first of all."""
+    minor_version: int
+    """The version of the major brand."""
+    is_fragmented: bool
+    """Whether the file has movie fragments."""
+    tracks: List[Track]
+    """The tracks, by rising ids."""
+
+    def __init__(self, source: Union[str, "os.PathLike[str]", BytesLike]):
+        """Opens the file of this name, or these bytes; :class:`Error` if they are no MP4 file."""
+        self._mapped: Optional[mmap.mmap] = None
+        if isinstance(source, (str, os.PathLike)):
+            source = self._map(source)
+        self._source = source
+        self._bytes = _Bytes(source)
+        try:
+            self._read_header()
+        except BaseException:
+            self.close()
+            raise
+
+    def _map(self, path: Union[str, "os.PathLike[str]"]) -> BytesLike:
+        """The bytes of a file, mapped into memory, but of an empty one, which can't be mapped."""
+        with open(path, "rb") as file:
+            if os.fstat(file.fileno()).st_size == 0:
+                return file.read()
+            self._mapped = mmap.mmap(file.fileno(), 0, access=mmap.ACCESS_READ)
+            return self._mapped
+
+    def _read_header(self) -> None:
+        facts = _Movie()
+        _accepted(self._ask("open", ctypes.byref(facts)))
+        self.size = facts.size
+        self.duration = facts.duration
+        self.timescale = facts.timescale
+        self.major_brand = _code_text(facts.major_brand)
+        self.minor_version = facts.minor_version
+        self.is_fragmented = facts.is_fragmented != 0
+        self._brand_count = facts.brand_count
+        rows = _all_rows(_Track, facts.track_count, lambda *room: self._ask("tracks", *room))
+        self.tracks = [_track_of(row) for row in rows]
+
+    def _ask(self, name: str, *words: object) -> "_Answer":
+        """The library's answer to a question about the file."""
+        if self._source is None:
+            raise ValueError("the movie is closed")
+        function = getattr(_mp4, "mp4_c_" + name)
+        return function(self._bytes.address, self._bytes.size, *words)
+
+    def close(self) -> None:
+        """Lets the file go."""
+        self._bytes.release()
+        self._source = None
+        if self._mapped is not None:
+            self._mapped.close()
+
+    def __enter__(self) -> "Movie":
+        return self
+
+    def __exit__(self, *_: object) -> None:
+        self.close()
+
+    @property
+    def compatible_brands(self) -> List[str]:
+        """All specifications that the file follows, in its order."""
+        rows = _all_rows(_Brand, self._brand_count, lambda *room: self._ask("brands", *room))
+        return [_code_text(row.code) for row in rows]
+
+    def track(self, track_id: int) -> Track:
+        """The track with this id; :class:`Error` without one."""
+        for track in self.tracks:
+            if track.id == track_id:
+                return track
+        raise Error(_Answer(code=6, track_id=_in_range("track_id", track_id, 32)))
+
+    def samples(self, track_id: int, first: int = 1) -> Iterator[Sample]:
+        """The samples of a track, in order, from a number on.
+
+        It ends after the last sample. The first that can't be found, or isn't whole in the file,
+        raises :class:`Error`. The library is asked for them in blocks: for 1,024 first, and then
+        for more and more.
+        """
+        count = self.track(track_id).sample_count
+        if count is None:
+            raise Error(_Answer(code=15, limit=6))
+        return self._blocks(track_id, max(first, 0), count)
+
+    def _blocks(self, track_id: int, first: int, count: int) -> Iterator[Sample]:
+        most = max(_MOST_ROWS, self._bytes.size // _SAMPLE_ROW.size)
+        room = _FIRST_ROWS
+        while first <= count:
+            room = min(room, count - first + 1)
+            rows = (_Sample * room)()
+            answer = self._ask("samples", track_id, first, rows, room)
+            yield from self._samples_in(rows, answer.filled, first)
+            _accepted(answer)
+            if answer.filled < room:
+                return
+            first += room
+            room = min(room * _GROWTH, most)
+
+    def _samples_in(self, rows: "ctypes.Array", filled: int, first: int) -> Iterator[Sample]:
+        """The first ``filled`` samples of a block that begins with number ``first``."""
+        size = self._bytes.size
+        whole = memoryview(rows).cast("B")[: filled * _SAMPLE_ROW.size]
+        for number, row in enumerate(_SAMPLE_ROW.iter_unpack(whole), first):
+            if row[0] + row[3] > size:
+                raise _end_of_data()
+            yield Sample(number, *row[:6], row[6] != 0)
+
+    def sample(self, track_id: int, number: int) -> Optional[Sample]:
+        """One sample, by its number from 1 on; None past the last."""
+        first = _in_range("number", number, 32)
+        rows = (_Sample * 1)()
+        answer = _accepted(self._ask("samples", self.track(track_id).id, first, rows, 1))
+        return next(self._samples_in(rows, answer.filled, number), None)
+
+    def read(self, sample: Sample) -> bytes:
+        """The bytes of a sample."""
+        if self._source is None:
+            raise ValueError("the movie is closed")
+        if sample.size < 0 or not 0 <= sample.offset <= self._bytes.size - sample.size:
+            raise _end_of_data()
+        return ctypes.string_at(self._bytes.address + sample.offset, sample.size)
+
+    def sample_at(self, track_id: int, time: int) -> Optional[int]:
+        """The number of the last sample that is decoded at or before a time in ticks."""
+        number, time = _u32(), _in_range("time", time, 64)
+        _accepted(self._ask("sample_at", self.track(track_id).id, time, ctypes.byref(number)))
+        return number.value or None
+
+    def sync_sample_at_or_before(self, track_id: int, number: int) -> Optional[int]:
+        """The number of the last sample up to this one from which decoding can begin."""
+        found, words = _u32(), (self.track(track_id).id, _in_range("number", number, 32))
+        _accepted(self._ask("sync_sample_at_or_before", *words, ctypes.byref(found)))
+        return found.value or None
+
+    def sequence_parameter_set(self, track_id: int) -> bytes:
+        """The first sequence parameter set of a track of AVC video."""
+        return self._item("parameter_set", self.track(track_id).id, 1)
+
+    def picture_parameter_set(self, track_id: int) -> bytes:
+        """The first picture parameter set of a track of AVC video."""
+        return self._item("parameter_set", self.track(track_id).id, 2)
+
+    @property
+    def metadata(self) -> Metadata:
+        """What the file says of the work that it holds."""
+        title, year, poster, summary = map(self._metadata_at, (1, 2, 3, 4))
+        return Metadata(
+            title=None if title is None else title.decode("utf-8", "replace"),
+            year=None if year is None else int(year),
+            poster=poster,
+            summary=None if summary is None else summary.decode("utf-8", "replace"),
+        )
+
+    def _item(self, name: str, *words: int) -> bytes:
+        """Bytes that a call gives."""
+        return _all_bytes(1024, lambda *room: self._ask(name, *words, *room))
+
+    def _metadata_at(self, key: int) -> Optional[bytes]:
+        try:
+            return self._item("metadata", key)
+        except Error as refused:
+            if refused.code != _NOT_PRESENT:
+                raise
+            return None
+
+
+@dataclass(frozen=True)
+class NewTrack:
+    """What a track is added with. The first has id 1, and each next one the id after it."""
+
+    sample_entry: str
+    """How its samples are coded: avc1, hev1, vp09, mp4a or tx3g."""
+    timescale: int = 1000
+    """Ticks in a second, of the track's times; not 0."""
+    language: str = "und"
+    """Three small letters of ISO 639-2/T."""
+    width: int = 0
+    """Of video: pixels."""
+    height: int = 0
+    """Of video: pixels."""
+    sequence_set: bytes = b""
+    """Of AVC video: 4 to 65535 bytes."""
+    picture_set: bytes = b""
+    """Of AVC video: at most 65535 bytes."""
+    bits_per_second: int = 0
+    """Of AAC sound."""
+    audio_profile: int = 2
+    """Of AAC sound, the audio object type: 2 is AAC LC."""
+    frequency_index: int = 3
+    """Of AAC sound: 0 is 96000 Hz, 3 is 48000, 4 is 44100, .. 12 is 7350."""
+    channels: int = 2
+    """Of AAC sound: 1 is mono, 2 stereo, .. 7 is 7.1."""
+
+
+class NewSample(NamedTuple):
+    """A sample that is written, in ticks of its track."""
+
+    track_id: int
+    data: bytes
+    duration: int
+    rendering_offset: int = 0
+    is_sync: bool = True
+
+
+class _Data:
+    """Bytes that are added one after the other."""
+
+    def __init__(self) -> None:
+        self.parts: List[bytes] = []
+        self.size = 0
+
+    def add(self, part: bytes) -> Tuple[int, int]:
+        """Adds a part, and answers where it begins and how many bytes it has."""
+        start, size = self.size, memoryview(part).nbytes
+        self.parts.append(part)
+        self.size += size
+        return start, size
+
+
+def _four(text: str) -> "ctypes.Array[ctypes.c_uint8]":
+    """A code of four bytes."""
+    code = text.encode("latin-1")
+    if len(code) != 4:
+        raise ValueError(f"{text!r} isn't a code of four characters")
+    return _code(*code)
+
+
+def _track_row(track: NewTrack, index: int, data: _Data) -> "_NewTrack":
+    """The row of a track, whose parameter sets are added to the data."""
+    language = track.language.encode("ascii", "replace")
+    if len(language) != 3 or language[0] == 0:
+        raise Error(_Answer(code=16, part=2, index=index))
+    row = _NewTrack(sample_entry=_four(track.sample_entry), language=_code(*language, 0))
+    for name in ("sequence_set", "picture_set"):
+        place, size = data.add(getattr(track, name))
+        setattr(row, name, place)
+        setattr(row, f"{name}_size", _in_range(f"{name}_size", size, 32))
+    for name, kind in _NewTrack._fields_:
+        if hasattr(track, name) and kind in (_u8, _u16, _u32):
+            setattr(row, name, _in_range(name, getattr(track, name), 8 * ctypes.sizeof(kind)))
+    return row
+
+
+def _sample_rows(samples: Iterable[NewSample], data: _Data) -> bytearray:
+    """The rows of samples, whose bytes are added to the data."""
+    rows = bytearray()
+    for track_id, part, duration, later, is_sync in samples:
+        place, size = data.add(part)
+        rows += _SAMPLE_ROW.pack(place, 0, track_id, size, duration, later, bool(is_sync))
+    return rows
+
+
+def _list_of(kind: type, rows: list) -> "ctypes.Array":
+    """Rows one after the other; there is at least one, so that it has a place."""
+    return (kind * max(len(rows), 1))(*rows)
+
+
+def write(
+    tracks: Sequence[NewTrack],
+    samples: Iterable[NewSample],
+    *,
+    major_brand: str = "isom",
+    minor_version: int = 512,
+    compatible_brands: Sequence[str] = ("isom", "iso2", "avc1", "mp41"),
+    timescale: int = 1000,
+) -> bytes:
+    """The bytes of a movie of these tracks and samples, in this order. ``timescale`` is that of the
+    movie's durations.
+
+    :class:`Error` where a track or a sample can't be written: its ``part`` and ``index`` say which.
+    A number that its field doesn't hold is an OverflowError or a struct.error.
+    """
+    data = _Data()
+    movie = _NewMovie(
+        timescale=_in_range("timescale", timescale, 32),
+        minor_version=_in_range("minor_version", minor_version, 32),
+        major_brand=_four(major_brand),
+    )
+    brands = _list_of(_Brand, [_Brand(_four(brand)) for brand in compatible_brands])
+    track_rows = [_track_row(track, index, data) for index, track in enumerate(tracks)]
+    new_tracks = _list_of(_NewTrack, track_rows)
+    rows = _sample_rows(samples, data)
+    count = len(rows) // _SAMPLE_ROW.size
+    new_samples = (_Sample * max(count, 1)).from_buffer(rows or bytearray(_SAMPLE_ROW.size))
+    whole = _Bytes(b"".join(data.parts))
+    parts = (ctypes.byref(movie), brands, len(compatible_brands), new_tracks, len(tracks))
+    parts += (new_samples, count, whole.address, whole.size)
+    likely = 1024 + 4 * len(compatible_brands) + 1024 * len(tracks) + 40 * count + whole.size
+    return _all_bytes(likely, lambda *room: _mp4.mp4_c_write(*parts, *room))

@@ -1,0 +1,254 @@
+"""Tests of the module: movies that are written and read."""
+
+import mmap
+import os
+import struct
+import tempfile
+import threading
+import unittest
+
+import maqelsun
+from maqelsun import Error, Movie, NewSample, NewTrack, write
+
+
+def numbers(count, **movie):
+    """A movie of one text track with this many samples; each has the digits of its number."""
+    samples = (NewSample(1, b"%d" % number, number % 3) for number in range(1, count + 1))
+    return write([NewTrack("tx3g")], samples, **movie)
+
+
+def boxed(kind, payload):
+    """A box of this type around bytes."""
+    return struct.pack(">I", len(payload) + 8) + kind + payload
+
+
+def with_metadata(*items):
+    """A movie with these items of metadata: each has a type, the type of its data, and its data."""
+    data = [
+        boxed(kind, boxed(b"data", bytes([0, 0, 0, data_type, 0, 0, 0, 0]) + value))
+        for kind, data_type, value in items
+    ]
+    handler = boxed(b"hdlr", bytes(8) + b"mdir" + bytes(13))
+    added = boxed(b"udta", boxed(b"meta", bytes(4) + handler + boxed(b"ilst", b"".join(data))))
+    file = bytearray(numbers(1) + added)
+    movie = file.index(b"moov") - 4
+    file[movie : movie + 4] = struct.pack(">I", len(file) - movie)
+    return bytes(file)
+
+
+class Reading(unittest.TestCase):
+    """Movies that are read."""
+
+    def refused(self, text, call, *words, **named):
+        """The error of a call, which has to have this text."""
+        with self.assertRaises(Error) as caught:
+            call(*words, **named)
+        self.assertEqual(str(caught.exception), text)
+        return caught.exception
+
+    def test_each_kind_of_track_is_read_as_it_was_written(self):
+        sets = {"sequence_set": b"\x67\x64\0\x1f\xac", "picture_set": b"\x68"}
+        tracks = [
+            NewTrack("avc1", width=1920, height=1080, **sets),
+            NewTrack("hev1", width=320, height=240),
+            NewTrack("vp09", width=320, height=240),
+            NewTrack("mp4a", 48000, "deu", bits_per_second=128000),
+            NewTrack("tx3g"),
+        ]
+        samples = [NewSample(4, b"sound", 48000), NewSample(5, b"text", 500, -2, False)]
+        movie = Movie(write(tracks, samples))
+        entries = [track.sample_entry for track in movie.tracks]
+        self.assertEqual(entries, [track.sample_entry for track in tracks])
+        handlers = [track.handler for track in movie.tracks]
+        self.assertEqual(handlers, ["vide", "vide", "vide", "soun", "sbtl"])
+        sound = movie.track(4)
+        self.assertEqual((sound.audio_profile, sound.frequency_index, sound.channels), (2, 3, 2))
+        self.assertEqual((sound.bits_per_second, sound.duration), (128000, 48000))
+        self.assertEqual(sound.language, "deu")
+        self.assertEqual(movie.track(1).video_profile, (0x64, 0, 0x1F))
+        self.assertEqual((movie.track(1).width, movie.track(2).height), (1920, 240))
+        self.assertEqual(movie.sequence_parameter_set(1), b"\x67\x64\0\x1f\xac")
+        self.assertEqual(movie.picture_parameter_set(1), b"\x68")
+        refused = self.refused("trak[5].stbl.avc1 not found", movie.picture_parameter_set, 5)
+        self.assertEqual((refused.code, refused.track_id, refused.box_type), (9, 5, b"avc1"))
+        (sample,) = movie.samples(5)
+        self.assertEqual(movie.read(sample), b"text")
+        self.assertEqual(sample[2:3] + sample[4:], (0, 4, 500, -2, False))
+
+    def test_a_movie_says_what_it_was_begun_with(self):
+        brands = {"major_brand": "mp42", "compatible_brands": ["mp42", "\xa9nam"]}
+        movie = Movie(write([], [], minor_version=7, timescale=9, **brands))
+        self.assertEqual((movie.major_brand, movie.minor_version), ("mp42", 7))
+        self.assertEqual(movie.compatible_brands, ["mp42", ".nam"])
+        self.assertEqual((movie.timescale, movie.duration, movie.tracks), (9, 0, []))
+        self.assertFalse(movie.is_fragmented)
+
+    def test_samples_of_several_blocks_are_read_in_order(self):
+        movie = Movie(numbers(40000))
+        start = 0
+        for number, sample in enumerate(movie.samples(1), 1):
+            self.assertEqual(movie.read(sample), b"%d" % number)
+            self.assertEqual((sample.number, sample.start_time), (number, start))
+            self.assertEqual(sample.duration, number % 3)
+            start += sample.duration
+        self.assertEqual(number, 40000)
+
+    def test_samples_begin_at_any_number(self):
+        movie = Movie(numbers(2000))
+        for first in [1, 2, 1024, 1025, 1999, 2000, 2001, 5000, 2**40]:
+            found = [sample.number for sample in movie.samples(1, first)]
+            self.assertEqual(found, list(range(first, 2001)))
+        self.refused("invalid data", list, movie.samples(1, 0))
+
+    def test_one_sample_is_read_by_its_number(self):
+        movie = Movie(numbers(3))
+        self.assertEqual(movie.read(movie.sample(1, 2)), b"2")
+        self.assertIsNone(movie.sample(1, 4))
+        self.refused("invalid data", movie.sample, 1, 0)
+        self.refused("trak[2] not found", movie.sample, 2, 1)
+        self.refused("trak[2] not found", movie.samples, 2)
+        with self.assertRaises(OverflowError):
+            movie.sample(1, 2**32 + 1)
+
+    def test_samples_are_found_by_their_times(self):
+        movie = Movie(numbers(6))  # they last 1, 2, 0, 1, 2 and 0 ticks
+        self.assertEqual([movie.sample_at(1, time) for time in range(7)], [1, 2, 2, 4, 5, 5, 6])
+        self.assertEqual(movie.sync_sample_at_or_before(1, 4), 4)
+        self.assertIsNone(movie.sync_sample_at_or_before(1, 0))
+        self.refused("trak[2] not found", movie.sample_at, 2, 0)
+        with self.assertRaises(OverflowError):
+            movie.sample_at(2**32 + 1, 0)
+
+    def test_a_sample_that_is_not_whole_in_the_file_ends_the_samples(self):
+        file = bytearray(numbers(12))  # whose sizes aren't all the same, so that they are listed
+        file[file.rindex(b"stsz") + 20] = 0x7F  # the high byte of the size of the second sample
+        movie = Movie(file)
+        samples = movie.samples(1)
+        first = next(samples)
+        self.assertEqual(movie.read(first), b"1")
+        self.refused("end of data", next, samples)
+        for place in [{"offset": len(file)}, {"offset": -1}, {"size": -1}, {"size": 2**40}]:
+            self.refused("end of data", movie.read, first._replace(**place))
+
+    def test_metadata_is_read(self):
+        long = "long " * 1000
+        movie = Movie(
+            with_metadata(
+                (b"\xa9nam", 1, b"Title \xff"), (b"\xa9day", 1, b"2019"), (b"covr", 13, b"\1\2\3"),
+                (b"desc", 1, long.encode()),
+            )
+        )
+        self.assertEqual(movie.metadata, maqelsun.Metadata("Title \ufffd", 2019, b"\1\2\3", long))
+        self.assertEqual(Movie(numbers(1)).metadata, maqelsun.Metadata())
+
+    def test_each_cut_of_a_movie_is_answered(self):
+        file = numbers(3)
+        for end in range(len(file)):
+            try:
+                self.assertLessEqual(len(list(Movie(file[:end]).samples(1))), 3)
+            except Error:
+                pass
+        self.refused("ftyp not found", Movie, b"")
+
+    def test_each_source_of_bytes_is_opened(self):
+        file = numbers(3)
+        mapped = mmap.mmap(-1, len(file))
+        mapped.write(file)
+        for source in [file, bytearray(file), memoryview(file), mapped]:
+            with Movie(source) as movie:
+                self.assertEqual(len(list(movie.samples(1))), 3)
+        mapped.close()
+        with self.assertRaises(TypeError):
+            Movie(7)
+
+    def test_a_file_is_mapped_and_closed(self):
+        with tempfile.TemporaryDirectory() as folder:
+            name = os.path.join(folder, "movie.mp4")
+            with open(name, "wb") as out:
+                out.write(numbers(3))
+            with Movie(name) as movie:
+                sample = movie.sample(1, 3)
+                self.assertEqual(movie.read(sample), b"3")
+                samples = movie.samples(1)
+            with self.assertRaises(ValueError):
+                movie.read(sample)
+            with self.assertRaises(ValueError):
+                next(samples)
+            movie.close()
+            with open(name, "wb"):
+                pass
+            self.refused("ftyp not found", Movie, name)
+            with self.assertRaises(FileNotFoundError):
+                Movie(os.path.join(folder, "none.mp4"))
+
+    def test_threads_share_a_movie(self):
+        movie = Movie(numbers(3000))
+        counts = []
+
+        def counted():
+            counts.append(len(list(movie.samples(1))))
+
+        threads = [threading.Thread(target=counted) for _ in range(8)]
+        for thread in threads:
+            thread.start()
+        for thread in threads:
+            thread.join()
+        self.assertEqual(counts, [3000] * 8)
+
+
+class Writing(unittest.TestCase):
+    """Movies that are written, and what refuses them."""
+
+    refused = Reading.refused
+
+    def test_samples_that_were_read_can_be_written(self):
+        file = numbers(2500)
+        movie = Movie(file)
+        samples = [
+            NewSample(1, movie.read(each), each.duration, each.rendering_offset, each.is_sync)
+            for each in movie.samples(1)
+        ]
+        self.assertEqual(write([NewTrack("tx3g")], samples), file)
+
+    def test_a_refused_track_is_named(self):
+        text = NewTrack("tx3g")
+        refused = self.refused("timescale is zero", write, [text, NewTrack("tx3g", 0)], [])
+        self.assertEqual((refused.part, refused.index), ("track", 1))
+        for language in ["", "en", "deut", "DEU", "\0de", "\xfcbe"]:
+            self.refused("unrepresentable", write, [NewTrack("tx3g", language=language)], [])
+        self.refused("unrepresentable", write, [NewTrack("avc1")], [])
+        self.refused("invalid data", write, [NewTrack("mp4a", frequency_index=13)], [])
+        self.refused("invalid data", write, [NewTrack("abcd")], [])
+
+    def test_a_refused_sample_is_named(self):
+        samples = [NewSample(1, b"", 1), NewSample(2, b"", 1)]
+        refused = self.refused("trak[2] not found", write, [NewTrack("tx3g")], samples)
+        self.assertEqual((refused.part, refused.index, refused.track_id), ("sample", 1, 2))
+
+    def test_each_kind_of_bytes_is_written(self):
+        parts = [b"abcd", bytearray(b"abcd"), memoryview(b"abcd").cast("I")]
+        movie = Movie(write([NewTrack("tx3g")], [NewSample(1, part, 1) for part in parts]))
+        self.assertEqual([movie.read(sample) for sample in movie.samples(1)], [b"abcd"] * 3)
+        with self.assertRaises(TypeError):
+            write([NewTrack("tx3g")], [NewSample(1, "text", 1)])
+
+    def test_numbers_are_not_cut(self):
+        for words in [{"timescale": 2**32}, {"timescale": -1}, {"minor_version": 2**32}]:
+            with self.assertRaises(OverflowError):
+                write([], [], **words)
+        for words in [{"width": 2**16}, {"timescale": 2**32}, {"channels": 256}]:
+            with self.assertRaises(OverflowError):
+                write([NewTrack("vp09", **words)], [])
+        with self.assertRaises(struct.error):
+            write([NewTrack("tx3g")], [NewSample(1, b"", 2**32)])
+        with self.assertRaises(ValueError):
+            write([NewTrack("avc")], [])
+
+    def test_a_movie_with_a_chunk_for_each_sample_is_written(self):
+        samples = [NewSample(1, b"x", 1 + k % 2, k % 2) for k in range(3000)]
+        movie = Movie(write([NewTrack("tx3g", 1)], samples))
+        self.assertEqual(len(list(movie.samples(1))), 3000)
+
+
+if __name__ == "__main__":
+    unittest.main()

@@ -1,0 +1,148 @@
+//! What movies and tracks are begun with.
+
+use crate::FourCC;
+
+/// What a movie is begun with.
+#[derive(Clone, Debug, PartialEq, Eq, Hash)]
+pub struct MovieConfig {
+    /// The specification that the file follows first of all.
+    pub major_brand: FourCC,
+    /// The version of the major brand.
+    pub minor_version: u32,
+    /// All specifications that the file follows.
+    pub compatible_brands: Vec<FourCC>,
+    /// Ticks in a second, of the movie's durations.
+    pub timescale: u32,
+}
+
+/// `isom`, version 512, compatible with `isom`, `iso2`, `avc1` and `mp41`; 1000 ticks in a second.
+impl Default for MovieConfig {
+    fn default() -> Self {
+        MovieConfig {
+            major_brand: FourCC::from(*b"isom"),
+            minor_version: 512,
+            compatible_brands: [*b"isom", *b"iso2", *b"avc1", *b"mp41"].map(FourCC::from).to_vec(),
+            timescale: 1000,
+        }
+    }
+}
+
+/// What a track is added with.
+#[derive(Clone, Debug, PartialEq, Eq, Hash)]
+pub struct TrackConfig {
+    /// Ticks in a second, of the track's times; not 0.
+    pub timescale: u32,
+    /// Three characters of U+0060 to U+007F, as the small letters of ISO 639-2/T.
+    pub language: String,
+    /// How its samples are coded.
+    pub media: MediaConfig,
+}
+
+/// How the samples of a track are coded.
+#[derive(Clone, Debug, PartialEq, Eq, Hash)]
+pub enum MediaConfig {
+    /// AVC video, `avc1`.
+    Avc(AvcConfig),
+    /// HEVC video, `hev1`.
+    Hevc(PictureSize),
+    /// VP9 video, `vp09`.
+    Vp9(PictureSize),
+    /// AAC sound, `mp4a`.
+    Aac(AacConfig),
+    /// Timed text, `tx3g`.
+    Text,
+}
+
+/// AVC video.
+#[derive(Clone, Debug, Default, PartialEq, Eq, Hash)]
+pub struct AvcConfig {
+    /// Pixels.
+    pub width: u16,
+    /// Pixels.
+    pub height: u16,
+    /// The sequence parameter set: 4 to 65,535 bytes.
+    pub seq_param_set: Vec<u8>,
+    /// The picture parameter set: at most 65,535 bytes.
+    pub pic_param_set: Vec<u8>,
+}
+
+/// The size of pictures.
+#[derive(Clone, Copy, Debug, Default, PartialEq, Eq, Hash)]
+pub struct PictureSize {
+    /// Pixels.
+    pub width: u16,
+    /// Pixels.
+    pub height: u16,
+}
+
+/// AAC sound, by the numbers of ISO/IEC 14496-3.
+#[derive(Clone, Copy, Debug, PartialEq, Eq, Hash)]
+pub struct AacConfig {
+    /// Bits in a second.
+    pub bitrate: u32,
+    /// The audio object type, 1 to 30: 2 is AAC LC.
+    pub profile: u8,
+    /// The index of the sampling frequency: 0 is 96000 Hz, 3 is 48000, 4 is 44100, .. 12 is 7350.
+    pub freq_index: u8,
+    /// The channels: 1 is mono, 2 stereo, .. 7 is 7.1.
+    pub chan_conf: u8,
+}
+
+/// AAC LC, 48000 Hz, stereo.
+impl Default for AacConfig {
+    fn default() -> Self {
+        AacConfig { bitrate: 0, profile: 2, freq_index: 3, chan_conf: 2 }
+    }
+}
+
+impl TrackConfig {
+    /// 1000 ticks in a second, and the language `und`, which is none.
+    pub fn new(media: MediaConfig) -> Self {
+        TrackConfig { timescale: 1000, language: "und".to_owned(), media }
+    }
+
+    /// A track of timed text, as [`TrackConfig::new`] makes it.
+    pub fn text() -> Self {
+        Self::new(MediaConfig::Text)
+    }
+}
+
+impl From<MediaConfig> for TrackConfig {
+    fn from(media: MediaConfig) -> Self {
+        Self::new(media)
+    }
+}
+
+impl From<AvcConfig> for TrackConfig {
+    fn from(config: AvcConfig) -> Self {
+        Self::new(MediaConfig::Avc(config))
+    }
+}
+
+impl From<AacConfig> for TrackConfig {
+    fn from(config: AacConfig) -> Self {
+        Self::new(MediaConfig::Aac(config))
+    }
+}
+
+impl MediaConfig {
+    /// The type of the sample entry.
+    pub fn sample_entry(&self) -> FourCC {
+        FourCC::from(match self {
+            MediaConfig::Avc(_) => *b"avc1",
+            MediaConfig::Hevc(_) => *b"hev1",
+            MediaConfig::Vp9(_) => *b"vp09",
+            MediaConfig::Aac(_) => *b"mp4a",
+            MediaConfig::Text => *b"tx3g",
+        })
+    }
+
+    /// The width and the height of the pictures.
+    pub(crate) fn picture_size(&self) -> (u16, u16) {
+        match self {
+            MediaConfig::Avc(avc) => (avc.width, avc.height),
+            MediaConfig::Hevc(size) | MediaConfig::Vp9(size) => (size.width, size.height),
+            MediaConfig::Aac(_) | MediaConfig::Text => (0, 0),
+        }
+    }
+}

@@ -1,0 +1,207 @@
+//! Why a call is refused.
+
+use crate::layout::Answer;
+use crate::FourCC;
+use std::collections::TryReserveError;
+use std::fmt;
+
+/// What this crate's calls answer.
+pub type Result<T> = std::result::Result<T, Error>;
+
+/// What passes its limit, in [`Error::TooLarge`].
+#[derive(Clone, Copy, Debug, PartialEq, Eq, Hash)]
+#[non_exhaustive]
+pub enum Limit {
+    /// The bytes of one sample: at most 2^32 - 1.
+    SampleBytes,
+    /// The samples of one track: at most 2^32 - 1.
+    SampleCount,
+    /// A track's duration in ticks of the movie: at most 2^64 - 1.
+    TrackDuration,
+    /// The tracks of a movie: at most 2^32 - 1.
+    TrackCount,
+    /// The bytes of a box that is written: at most 2^32 - 1.
+    BoxSize,
+    /// A number that has to fit its field or its answer.
+    Value,
+}
+
+/// Why a call is refused. Its text, as [`Display`](fmt::Display) gives it, is that of the program
+/// `mp4_tool`.
+///
+/// Numbers of samples and of entries count from 1, but for an entry of `avcC`, which counts from 0.
+#[derive(Clone, Copy, Debug, PartialEq, Eq, Hash)]
+#[non_exhaustive]
+pub enum Error {
+    /// The bytes end before what has to be read.
+    EndOfData,
+    /// A request for memory was refused.
+    OutOfMemory,
+    /// The bytes, or the numbers asked for, mean nothing.
+    InvalidData,
+    /// A required box is missing.
+    BoxNotFound(FourCC),
+    /// Neither of two boxes is there, of which one is required.
+    Box2NotFound(FourCC, FourCC),
+    /// There is no track of this id.
+    TrakNotFound(u32),
+    /// A track lacks a box.
+    BoxInTrakNotFound(u32, FourCC),
+    /// A fragment of a track lacks a box.
+    BoxInTrafNotFound(u32, FourCC),
+    /// A track's sample table lacks a box.
+    BoxInStblNotFound(u32, FourCC),
+    /// A box of a track's sample table lacks an entry.
+    EntryInStblNotFound(u32, FourCC, u32),
+    /// A run of a track's fragment lacks an entry.
+    EntryInTrunNotFound(u32, FourCC, u32),
+    /// A box is of a version that is not read.
+    UnsupportedBoxVersion(FourCC, u32),
+    /// The writer has written its last byte. No call of this crate answers it:
+    /// [`finish`](crate::Writer::finish) takes the writer.
+    Ended,
+    /// A quotient by a timescale of 0 was asked for.
+    ZeroTimescale,
+    /// Something passes its limit.
+    TooLarge(Limit),
+    /// A value has no encoding in its field.
+    Unrepresentable,
+    /// The library answered with a code that this crate doesn't know: it is newer.
+    Unknown(u32),
+}
+
+/// The code of metadata that a file doesn't have.
+pub(crate) const NOT_PRESENT: u32 = 17;
+
+impl Error {
+    /// The error of a code above 0.
+    fn of(answer: &Answer) -> Self {
+        let (track, number) = (answer.track_id, answer.number);
+        let kind = FourCC::from(answer.box_type);
+        match answer.code {
+            1 => Error::EndOfData,
+            2 => Error::OutOfMemory,
+            3 => Error::InvalidData,
+            4 => Error::BoxNotFound(kind),
+            5 => Error::Box2NotFound(kind, answer.second_box_type.into()),
+            6 => Error::TrakNotFound(track),
+            7 => Error::BoxInTrakNotFound(track, kind),
+            8 => Error::BoxInTrafNotFound(track, kind),
+            9 => Error::BoxInStblNotFound(track, kind),
+            10 => Error::EntryInStblNotFound(track, kind, number),
+            11 => Error::EntryInTrunNotFound(track, kind, number),
+            12 => Error::UnsupportedBoxVersion(kind, number),
+            13 => Error::Ended,
+            14 => Error::ZeroTimescale,
+            15 => limit_of(answer.limit).map_or(Error::Unknown(15), Error::TooLarge),
+            16 => Error::Unrepresentable,
+            code => Error::Unknown(code),
+        }
+    }
+}
+
+/// The limit of a number.
+fn limit_of(number: u32) -> Option<Limit> {
+    match number {
+        1 => Some(Limit::SampleBytes),
+        2 => Some(Limit::SampleCount),
+        3 => Some(Limit::TrackDuration),
+        4 => Some(Limit::TrackCount),
+        5 => Some(Limit::BoxSize),
+        6 => Some(Limit::Value),
+        _ => None,
+    }
+}
+
+impl Answer {
+    /// The answer, unless it is a refusal.
+    pub(crate) fn accepted(self) -> Result<Answer> {
+        match self.code {
+            0 => Ok(self),
+            _ => Err(Error::of(&self)),
+        }
+    }
+}
+
+impl From<TryReserveError> for Error {
+    fn from(_: TryReserveError) -> Self {
+        Error::OutOfMemory
+    }
+}
+
+impl fmt::Display for Limit {
+    fn fmt(&self, f: &mut fmt::Formatter) -> fmt::Result {
+        f.write_str(match self {
+            Limit::SampleBytes => "sample bytes",
+            Limit::SampleCount => "sample count",
+            Limit::TrackDuration => "track duration",
+            Limit::TrackCount => "track count",
+            Limit::BoxSize => "box size",
+            Limit::Value => "value",
+        })
+    }
+}
+
+impl fmt::Display for Error {
+    fn fmt(&self, f: &mut fmt::Formatter) -> fmt::Result {
+        match self {
+            Error::EndOfData => f.write_str("end of data"),
+            Error::OutOfMemory => f.write_str("out of memory"),
+            Error::InvalidData => f.write_str("invalid data"),
+            Error::BoxNotFound(kind) => write!(f, "{kind} not found"),
+            Error::Box2NotFound(one, other) => write!(f, "{one} and {other} not found"),
+            Error::TrakNotFound(id) => write!(f, "trak[{id}] not found"),
+            Error::BoxInTrakNotFound(id, kind) => write!(f, "trak[{id}].{kind} not found"),
+            Error::BoxInTrafNotFound(id, kind) => write!(f, "traf[{id}].{kind} not found"),
+            Error::BoxInStblNotFound(id, kind) => write!(f, "trak[{id}].stbl.{kind} not found"),
+            Error::EntryInStblNotFound(id, kind, entry) => {
+                write!(f, "trak[{id}].stbl.{kind}.entry[{entry}] not found")
+            }
+            Error::EntryInTrunNotFound(id, kind, entry) => {
+                write!(f, "traf[{id}].trun.{kind}.entry[{entry}] not found")
+            }
+            Error::UnsupportedBoxVersion(kind, version) => {
+                write!(f, "{kind} version {version} is not supported")
+            }
+            Error::Ended => f.write_str("writer ended"),
+            Error::ZeroTimescale => f.write_str("timescale is zero"),
+            Error::TooLarge(limit) => write!(f, "too large: {limit}"),
+            Error::Unrepresentable => f.write_str("unrepresentable"),
+            Error::Unknown(code) => write!(f, "an answer of another version, code {code}"),
+        }
+    }
+}
+
+impl std::error::Error for Error {}
+
+#[cfg(test)]
+mod tests {
+    use super::*;
+    use crate::ffi;
+
+    /// What the library says of an answer.
+    fn text_of(answer: &Answer) -> String {
+        let mut text = vec![0; 80];
+        let length = ffi::error_text(answer, &mut text).filled;
+        text.truncate(length as usize);
+        String::from_utf8(text).expect("it is ASCII")
+    }
+
+    #[test]
+    fn each_error_has_the_text_of_the_library() {
+        for code in 1..=16 {
+            for limit in 1..=6 {
+                let answer = Answer {
+                    code,
+                    limit,
+                    track_id: 7,
+                    number: 9,
+                    box_type: *b"stco",
+                    second_box_type: *b"\xa9nam",
+                    ..Answer::default()
+                };
+                assert_eq!(Error::of(&answer).to_string(), text_of(&answer));
+            }
+        }
+    }
+}

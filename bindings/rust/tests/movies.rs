@@ -1,0 +1,279 @@
+//! Movies that are written and read.
+
+use maqelsun::{
+    AacConfig, AvcConfig, Error, FourCC, MediaConfig, MediaType, Metadata, Movie, MovieConfig,
+    PictureSize, Sample, TrackConfig, TrackType, Writer,
+};
+use std::thread;
+use std::time::Duration;
+
+/// A movie of one text track with this many samples; each has the digits of its number.
+fn numbers(count: u32) -> Vec<u8> {
+    let mut writer = Writer::new(&MovieConfig::default());
+    let id = writer.add_track(&TrackConfig::text()).unwrap();
+    for number in 1..=count {
+        let bytes = &number.to_string().into_bytes()[..];
+        let sample = Sample { duration: number % 3, is_sync: true, bytes, ..Sample::default() };
+        writer.write_sample(id, &sample).unwrap();
+    }
+    writer.finish().unwrap()
+}
+
+/// A configuration of each kind of track.
+fn five_kinds() -> Vec<TrackConfig> {
+    let size = PictureSize { width: 320, height: 240 };
+    let avc = AvcConfig {
+        width: 1920,
+        height: 1080,
+        seq_param_set: vec![0x67, 0x64, 0, 0x1f, 0xac],
+        pic_param_set: vec![0x68, 0xce],
+    };
+    let media = [
+        MediaConfig::Avc(avc),
+        MediaConfig::Hevc(size),
+        MediaConfig::Vp9(size),
+        MediaConfig::Aac(AacConfig { bitrate: 128_000, ..AacConfig::default() }),
+        MediaConfig::Text,
+    ];
+    media.map(TrackConfig::from).to_vec()
+}
+
+/// A box of this type around bytes.
+fn boxed(kind: &[u8; 4], payload: &[u8]) -> Vec<u8> {
+    let size = u32::try_from(payload.len() + 8).unwrap();
+    [&size.to_be_bytes(), &kind[..], payload].concat()
+}
+
+/// A movie with these items of metadata: each has a type, the type of its data, and its data.
+fn with_metadata(items: &[(&[u8; 4], u8, &[u8])]) -> Vec<u8> {
+    let item = |(kind, data_type, data): &(&[u8; 4], u8, &[u8])| {
+        boxed(kind, &boxed(b"data", &[&[0, 0, 0, *data_type, 0, 0, 0, 0], *data].concat()))
+    };
+    let list = boxed(b"ilst", &items.iter().flat_map(item).collect::<Vec<u8>>());
+    let handler = boxed(b"hdlr", &[&[0; 8], &b"mdir"[..], &[0; 13]].concat());
+    let meta = boxed(b"meta", &[&[0; 4], &handler[..], &list].concat());
+    let added = boxed(b"udta", &meta);
+    let mut file = numbers(1);
+    let movie = file.windows(4).position(|kind| kind == b"moov").unwrap() - 4;
+    let size = u32::try_from(file.len() - movie + added.len()).unwrap();
+    file[movie..movie + 4].copy_from_slice(&size.to_be_bytes());
+    file.extend(added);
+    file
+}
+
+#[test]
+fn each_kind_of_track_is_read_as_it_was_written() {
+    let mut writer = Writer::new(&MovieConfig::default());
+    let ids: Vec<u32> =
+        five_kinds().iter().map(|config| writer.add_track(config).unwrap()).collect();
+    assert_eq!(ids, [1, 2, 3, 4, 5]);
+    for id in ids {
+        let sample = Sample { duration: 1000, is_sync: true, bytes: &[7; 9], ..Sample::default() };
+        writer.write_sample(id, &sample).unwrap();
+    }
+    let file = writer.finish().unwrap();
+    let movie = Movie::open(&file).unwrap();
+    let kinds: Vec<_> = movie.tracks().iter().map(|track| track.media_type().unwrap()).collect();
+    use MediaType::{AAC, H264, H265, TTXT, VP9};
+    assert_eq!(kinds, [H264, H265, VP9, AAC, TTXT]);
+    assert_eq!(movie.track(4).unwrap().track_type(), Some(TrackType::Audio));
+    assert_eq!(movie.track(4).unwrap().sampling_frequency(), Some(48000));
+    assert_eq!(movie.track(4).unwrap().channel_config(), Some(2));
+    assert_eq!(movie.track(4).unwrap().bitrate(), Some(128_000));
+    assert_eq!(movie.track(1).unwrap().width(), 1920);
+    assert_eq!(movie.track(1).unwrap().video_profile().unwrap().profile, 0x64);
+    assert_eq!(movie.track(2).unwrap().height(), 240);
+    assert_eq!(movie.track(5).unwrap().duration(), Ok(Duration::from_secs(1)));
+    assert_eq!(movie.sequence_parameter_set(1).unwrap(), [0x67, 0x64, 0, 0x1f, 0xac]);
+    assert_eq!(movie.picture_parameter_set(1).unwrap(), [0x68, 0xce]);
+    let avc1 = FourCC::from(*b"avc1");
+    assert_eq!(movie.picture_parameter_set(5), Err(Error::BoxInStblNotFound(5, avc1)));
+}
+
+#[test]
+fn a_movie_says_what_it_was_begun_with() {
+    let config = MovieConfig {
+        major_brand: FourCC::from(*b"mp42"),
+        minor_version: 7,
+        compatible_brands: vec![FourCC::from(*b"mp42"), FourCC::from(*b"\xa9nam")],
+        timescale: 90000,
+    };
+    let file = Writer::new(&config).finish().unwrap();
+    let movie = Movie::open(&file).unwrap();
+    assert_eq!(movie.major_brand(), config.major_brand);
+    assert_eq!(movie.minor_version(), 7);
+    assert_eq!(movie.compatible_brands().unwrap(), config.compatible_brands);
+    assert_eq!(movie.timescale(), 90000);
+    assert_eq!(movie.duration(), Ok(Duration::ZERO));
+    assert_eq!(movie.size(), file.len() as u64);
+    assert!(!movie.is_fragmented() && movie.tracks().is_empty());
+}
+
+#[test]
+fn a_timescale_of_zero_has_no_duration() {
+    let config = MovieConfig { timescale: 0, ..MovieConfig::default() };
+    let file = Writer::new(&config).finish().unwrap();
+    assert_eq!(Movie::open(&file).unwrap().duration(), Err(Error::ZeroTimescale));
+}
+
+#[test]
+fn samples_of_several_blocks_are_read_in_order() {
+    let file = numbers(40_000);
+    let movie = Movie::open(&file).unwrap();
+    let mut start = 0;
+    let mut samples = movie.samples(1).unwrap();
+    for number in 1..=40_000u32 {
+        let sample = samples.next().unwrap().unwrap();
+        assert_eq!(sample.bytes, number.to_string().as_bytes());
+        assert_eq!((sample.start_time, sample.duration), (start, number % 3));
+        start += u64::from(sample.duration);
+    }
+    assert_eq!(samples.next(), None);
+    assert_eq!(samples.next(), None);
+}
+
+#[test]
+fn samples_begin_at_any_number() {
+    let file = numbers(2000);
+    let movie = Movie::open(&file).unwrap();
+    for first in [1, 2, 1024, 1025, 1999, 2000, 2001, 5000, u32::MAX] {
+        let expected = 2001usize.saturating_sub(first as usize);
+        assert_eq!(movie.samples_from(1, first).unwrap().count(), expected, "from {first}");
+    }
+    assert_eq!(movie.samples_from(1, 0).unwrap().next(), Some(Err(Error::InvalidData)));
+}
+
+#[test]
+fn one_sample_is_read_by_its_number() {
+    let file = numbers(3);
+    let movie = Movie::open(&file).unwrap();
+    assert_eq!(movie.read_sample(1, 2).unwrap().unwrap().bytes, b"2");
+    assert_eq!(movie.read_sample(1, 4), Ok(None));
+    assert_eq!(movie.read_sample(1, 0), Err(Error::InvalidData));
+    assert_eq!(movie.read_sample(2, 1), Err(Error::TrakNotFound(2)));
+    assert_eq!(movie.samples(2).err(), Some(Error::TrakNotFound(2)));
+}
+
+#[test]
+fn samples_are_found_by_their_times() {
+    let file = numbers(6); // they last 1, 2, 0, 1, 2 and 0 ticks
+    let movie = Movie::open(&file).unwrap();
+    let found: Vec<_> = (0..7).map(|time| movie.sample_at(1, time).unwrap()).collect();
+    assert_eq!(found, [1, 2, 2, 4, 5, 5, 6].map(Some));
+    assert_eq!(movie.sync_sample_at_or_before(1, 4), Ok(Some(4)));
+    assert_eq!(movie.sync_sample_at_or_before(1, 0), Ok(None));
+    assert_eq!(movie.sample_at(9, 0), Err(Error::TrakNotFound(9)));
+}
+
+#[test]
+fn a_sample_that_is_not_whole_in_the_file_ends_the_samples() {
+    let mut file = numbers(12); // whose sizes aren't all the same, so that they are listed
+    let table = file.windows(4).rposition(|kind| kind == b"stsz").unwrap();
+    file[table + 20] = 0x7f; // the high byte of the size of the second sample
+    let movie = Movie::open(&file).unwrap();
+    let mut samples = movie.samples(1).unwrap();
+    assert_eq!(samples.next().unwrap().unwrap().bytes, b"1");
+    assert_eq!(samples.next(), Some(Err(Error::EndOfData)));
+    assert_eq!(samples.next(), None);
+    assert_eq!(movie.read_sample(1, 2), Err(Error::EndOfData));
+}
+
+#[test]
+fn samples_that_were_read_can_be_written() {
+    let file = numbers(2500);
+    let movie = Movie::open(&file).unwrap();
+    let mut writer = Writer::new(&MovieConfig::default());
+    let id = writer.add_track(&TrackConfig::text()).unwrap();
+    for sample in movie.samples(1).unwrap() {
+        writer.write_sample(id, &sample.unwrap()).unwrap();
+    }
+    assert_eq!(writer.finish().unwrap(), file);
+}
+
+#[test]
+fn metadata_is_read() {
+    let long = "long ".repeat(1000);
+    let file = with_metadata(&[
+        (b"\xa9nam", 1, b"Title \xff"),
+        (b"\xa9day", 1, b"2019"),
+        (b"covr", 13, &[1, 2, 3]),
+        (b"desc", 1, long.as_bytes()),
+    ]);
+    let found = Movie::open(&file).unwrap().metadata().unwrap();
+    assert_eq!(found.title.as_deref(), Some("Title \u{fffd}"));
+    assert_eq!(found.year, Some(2019));
+    assert_eq!(found.poster.as_deref(), Some(&[1, 2, 3][..]));
+    assert_eq!(found.summary.as_deref(), Some(&long[..]));
+    let none = numbers(1);
+    assert_eq!(Movie::open(&none).unwrap().metadata().unwrap(), Metadata::default());
+}
+
+#[test]
+fn each_cut_of_a_movie_is_answered() {
+    let file = numbers(3);
+    for end in 0..file.len() {
+        if let Ok(movie) = Movie::open(&file[..end]) {
+            assert!(movie.samples(1).unwrap().count() <= 4);
+        }
+    }
+    assert_eq!(Movie::open(&[]).err(), Some(Error::BoxNotFound(FourCC::from(*b"ftyp"))));
+}
+
+#[test]
+fn a_refused_track_is_not_added() {
+    let mut writer = Writer::new(&MovieConfig::default());
+    let zero = TrackConfig { timescale: 0, ..TrackConfig::text() };
+    assert_eq!(writer.add_track(&zero), Err(Error::ZeroTimescale));
+    for language in ["", "en", "deut", "DEU", "\0de", "\u{fc}b"] {
+        let config = TrackConfig { language: language.to_owned(), ..TrackConfig::text() };
+        assert_eq!(writer.add_track(&config), Err(Error::Unrepresentable), "{language}");
+    }
+    let silent = TrackConfig::from(AacConfig { freq_index: 13, ..AacConfig::default() });
+    assert_eq!(writer.add_track(&silent), Err(Error::InvalidData));
+    let short = TrackConfig::from(AvcConfig::default());
+    assert_eq!(writer.add_track(&short), Err(Error::Unrepresentable));
+    let german = TrackConfig { language: "deu".to_owned(), ..TrackConfig::text() };
+    assert_eq!(writer.add_track(&german), Ok(1));
+    let file = writer.finish().unwrap();
+    assert_eq!(Movie::open(&file).unwrap().track(1).unwrap().language(), "deu");
+}
+
+#[test]
+fn a_sample_of_no_track_is_refused() {
+    let mut writer = Writer::new(&MovieConfig::default());
+    assert_eq!(writer.write_sample(1, &Sample::default()), Err(Error::TrakNotFound(1)));
+    writer.add_track(&TrackConfig::text()).unwrap();
+    assert_eq!(writer.write_sample(0, &Sample::default()), Err(Error::TrakNotFound(0)));
+    assert_eq!(writer.write_sample(2, &Sample::default()), Err(Error::TrakNotFound(2)));
+    let file = writer.finish().unwrap();
+    assert_eq!(Movie::open(&file).unwrap().sample_count(1), Ok(0));
+}
+
+#[test]
+fn a_movie_with_a_chunk_for_each_sample_is_written() {
+    let mut writer = Writer::new(&MovieConfig::default());
+    let id = writer.add_track(&TrackConfig { timescale: 1, ..TrackConfig::text() }).unwrap();
+    for number in 0..3000u32 {
+        let sample = Sample {
+            duration: 1 + number % 2, // a chunk, and an entry of each table, for each sample
+            rendering_offset: (number % 2) as i32,
+            is_sync: true,
+            bytes: &[1],
+            ..Sample::default()
+        };
+        writer.write_sample(id, &sample).unwrap();
+    }
+    let file = writer.finish().unwrap();
+    assert_eq!(Movie::open(&file).unwrap().samples(id).unwrap().count(), 3000);
+}
+
+#[test]
+fn threads_share_a_movie() {
+    let file = numbers(3000);
+    let movie = Movie::open(&file).unwrap();
+    thread::scope(|scope| {
+        for _ in 0..8 {
+            scope.spawn(|| assert_eq!(movie.samples(1).unwrap().flatten().count(), 3000));
+        }
+    });
+}

@@ -1,0 +1,279 @@
+/* What ./callers asks of the library from C; trial.rs and trial.py answer the same from Rust and Python.
+ *
+ *   trial list             the samples of each file that a line of standard input names
+ *   trial faults           why each of these files doesn't open, or an empty line
+ *   trial write OUT        makes the movie of a script from standard input
+ *   trial large FILE       the samples of a file; on standard error the microseconds and the KiB of the file that it took
+ */
+#define _GNU_SOURCE
+#include "mp4.h"
+
+#include <fcntl.h>
+#include <stdio.h>
+#include <stdlib.h>
+#include <string.h>
+#include <sys/mman.h>
+#include <sys/stat.h>
+#include <time.h>
+#include <unistd.h>
+
+typedef struct file {
+    void *bytes;
+    size_t size;
+} file;
+
+/* A list that grows: of rows of one size. */
+typedef struct list {
+    void *rows;
+    size_t count;
+} list;
+
+static void give_up(const char *why) {
+    fprintf(stderr, "trial: %s\n", why);
+    exit(2);
+}
+
+/* Room for so many rows; a row more, so that it is never NULL. */
+static void *room_for(uint64_t count, size_t size) {
+    void *room = calloc((size_t)count + 1, size);
+    if (!room) give_up("out of memory");
+    return room;
+}
+
+static void *added(list *rows, size_t size, size_t more) {
+    rows->rows = realloc(rows->rows, (rows->count + more + 1) * size);
+    if (!rows->rows) give_up("out of memory");
+    rows->count += more;
+    return (char *)rows->rows + (rows->count - more) * size;
+}
+
+/* The bytes of a file, mapped into memory. */
+static file map_file(const char *name) {
+    struct stat facts;
+    file mapped = {NULL, 0};
+    int handle = open(name, O_RDONLY);
+    if (handle < 0 || fstat(handle, &facts) != 0) give_up("a file can't be read");
+    if (facts.st_size > 0) {
+        mapped.size = (size_t)facts.st_size;
+        mapped.bytes = mmap(NULL, mapped.size, PROT_READ, MAP_PRIVATE, handle, 0);
+        if (mapped.bytes == MAP_FAILED) give_up("a file can't be mapped");
+    }
+    close(handle);
+    return mapped;
+}
+
+static void unmap(file mapped) {
+    if (mapped.bytes) munmap(mapped.bytes, mapped.size);
+}
+
+static void print_text(mp4_answer answer) {
+    char text[80];
+    mp4_answer said = mp4_error_text(&answer, (uint8_t *)text, sizeof text);
+    printf("%.*s\n", (int)said.filled, text);
+}
+
+/* The samples of a track, a line each, as `mp4_tool samples` prints them. */
+static void list_track(file from, const mp4_track *track) {
+    static const mp4_answer end_of_data = {.code = MP4_END_OF_DATA};
+    static const mp4_answer too_large = {.code = MP4_TOO_LARGE, .limit = MP4_LIMIT_VALUE};
+    printf("track %u\n", track->id);
+    if (!track->has_sample_count) {
+        print_text(too_large);
+        return;
+    }
+    mp4_sample *samples = room_for(track->sample_count, sizeof *samples);
+    mp4_answer answer = mp4_samples(from.bytes, from.size, track->id, 1, samples, track->sample_count);
+    uint64_t number = 0;
+    while (number < answer.filled) {
+        const mp4_sample *sample = &samples[number++];
+        printf("%llu ", (unsigned long long)number);
+        if (!mp4_sample_bytes(from.bytes, from.size, sample)) {
+            print_text(end_of_data);
+            free(samples);
+            return;
+        }
+        printf("%llu %u %llu %u %d %d\n", (unsigned long long)sample->offset, sample->size,
+               (unsigned long long)sample->start_time, sample->duration, sample->rendering_offset, sample->is_sync);
+    }
+    if (answer.code != MP4_OK) {
+        printf("%llu ", (unsigned long long)number + 1);
+        print_text(answer);
+    } else if (number < track->sample_count) {
+        printf("%llu none\n", (unsigned long long)number + 1);
+    }
+    free(samples);
+}
+
+static void list_file(file from) {
+    mp4_movie movie;
+    mp4_answer answer = mp4_open(from.bytes, from.size, &movie);
+    if (answer.code != MP4_OK) {
+        print_text(answer);
+        return;
+    }
+    mp4_track *tracks = room_for(movie.track_count, sizeof *tracks);
+    answer = mp4_tracks(from.bytes, from.size, tracks, movie.track_count);
+    for (uint64_t k = 0; k < answer.filled; k++) list_track(from, &tracks[k]);
+    free(tracks);
+}
+
+static void print_fault(file from) {
+    mp4_movie movie;
+    mp4_answer answer = mp4_open(from.bytes, from.size, &movie);
+    if (answer.code != MP4_OK) print_text(answer);
+    else printf("\n");
+}
+
+/* Does something with each file that a line of standard input names, after a line with its name. */
+static void each_file(void (*act)(file)) {
+    char *name = NULL;
+    size_t room = 0;
+    ssize_t length;
+    while ((length = getline(&name, &room, stdin)) > 0) {
+        name[length - 1] = 0;
+        printf("%s\n", name);
+        file from = map_file(name);
+        act(from);
+        unmap(from);
+    }
+    free(name);
+}
+
+static uint64_t add_bytes(list *data, const void *bytes, size_t size) {
+    uint64_t start = data->count;
+    memcpy(added(data, 1, size), bytes, size);
+    return start;
+}
+
+/* Adds the bytes that hexadecimal digits write, and answers where they begin. */
+static uint64_t add_digits(list *data, const char *digits, uint32_t *size) {
+    uint64_t start = data->count;
+    for (*size = 0; digits[0] && digits[1]; digits += 2, ++*size) {
+        unsigned byte;
+        if (sscanf(digits, "%2x", &byte) != 1) give_up("a parameter set isn't digits");
+        *(uint8_t *)added(data, 1, 1) = (uint8_t)byte;
+    }
+    return start;
+}
+
+static mp4_new_track track_of(const char *line, list *data) {
+    char kind[8], sequence[600] = "", picture[600] = "";
+    unsigned numbers[5] = {0};
+    mp4_new_track track;
+    memset(&track, 0, sizeof track);
+    if (sscanf(line, "track %7s %u %u %u", kind, &track.timescale, &numbers[0], &numbers[1]) < 2) {
+        give_up("a track isn't one");
+    }
+    if (strcmp(kind, "text") == 0) {
+        memcpy(track.sample_entry, "tx3g", 4);
+        return track;
+    }
+    if (strcmp(kind, "aac") == 0) {
+        memcpy(track.sample_entry, "mp4a", 4);
+        sscanf(line, "track aac %*u %u %u %u %u", &numbers[0], &numbers[1], &numbers[2], &numbers[3]);
+        track.bits_per_second = numbers[0];
+        track.audio_profile = (uint8_t)numbers[1];
+        track.frequency_index = (uint8_t)numbers[2];
+        track.channels = (uint8_t)numbers[3];
+        return track;
+    }
+    memcpy(track.sample_entry, strcmp(kind, "avc") == 0 ? "avc1" : strcmp(kind, "hevc") == 0 ? "hev1" : "vp09", 4);
+    track.width = (uint16_t)numbers[0];
+    track.height = (uint16_t)numbers[1];
+    sscanf(line, "track avc %*u %*u %*u %599s %599s", sequence, picture);
+    track.sequence_set = add_digits(data, sequence, &track.sequence_set_size);
+    track.picture_set = add_digits(data, picture, &track.picture_set_size);
+    return track;
+}
+
+static mp4_sample sample_of(const char *line, size_t length, list *data) {
+    mp4_sample sample;
+    unsigned is_sync;
+    int end;
+    memset(&sample, 0, sizeof sample);
+    if (sscanf(line, "sample %u %u %d %u%n", &sample.track_id, &sample.duration, &sample.rendering_offset, &is_sync,
+               &end) != 4) {
+        give_up("a line is neither a track nor a sample");
+    }
+    sample.is_sync = (uint8_t)is_sync;
+    sample.size = (uint32_t)(length - (size_t)end - 1);
+    sample.offset = add_bytes(data, line + end + 1, sample.size);
+    return sample;
+}
+
+static void write_movie(const char *name) {
+    static const mp4_brand brands[4] = {{"isom"}, {"iso2"}, {"avc1"}, {"mp41"}};
+    static const mp4_new_movie movie = {1000, 512, {'i', 's', 'o', 'm'}};
+    list tracks = {NULL, 0}, samples = {NULL, 0}, data = {NULL, 0};
+    char *line = NULL;
+    size_t room = 0;
+    ssize_t length;
+    while ((length = getline(&line, &room, stdin)) > 0) {
+        line[--length] = 0;
+        if (strncmp(line, "track", 5) == 0) {
+            mp4_new_track track = track_of(line, &data);
+            *(mp4_new_track *)added(&tracks, sizeof track, 1) = track;
+        } else {
+            mp4_sample sample = sample_of(line, (size_t)length, &data);
+            *(mp4_sample *)added(&samples, sizeof sample, 1) = sample;
+        }
+    }
+    free(line);
+    mp4_answer answer = mp4_write(&movie, brands, 4, tracks.rows, tracks.count, samples.rows, samples.count, data.rows,
+                                  data.count, NULL, 0);
+    uint8_t *bytes = room_for(answer.count, 1);
+    answer = mp4_write(&movie, brands, 4, tracks.rows, tracks.count, samples.rows, samples.count, data.rows, data.count,
+                       bytes, answer.count);
+    if (answer.code != MP4_OK) {
+        print_text(answer);
+        exit(1);
+    }
+    FILE *out = fopen(name, "wb");
+    if (!out || fwrite(bytes, 1, answer.filled, out) != answer.filled || fclose(out) != 0) give_up("a file isn't written");
+    free(bytes);
+    free(tracks.rows);
+    free(samples.rows);
+    free(data.rows);
+}
+
+static uint64_t microseconds(void) {
+    struct timespec now;
+    clock_gettime(CLOCK_MONOTONIC, &now);
+    return (uint64_t)now.tv_sec * 1000000 + (uint64_t)now.tv_nsec / 1000;
+}
+
+/* How many KiB of mapped files this process holds in memory. */
+static long mapped_kib(void) {
+    char line[256];
+    long kib = -1;
+    FILE *status = fopen("/proc/self/status", "r");
+    while (status && fgets(line, sizeof line, status)) sscanf(line, "RssFile: %ld", &kib);
+    if (status) fclose(status);
+    return kib;
+}
+
+static void list_large(const char *name) {
+    long before = mapped_kib();
+    uint64_t begun = microseconds();
+    file from = map_file(name);
+    list_file(from);
+    uint64_t taken = microseconds() - begun;
+    fprintf(stderr, "%llu %ld\n", (unsigned long long)taken, mapped_kib() - before);
+    unmap(from);
+}
+
+int main(int count, char **words) {
+    const char *command = count > 1 ? words[1] : "";
+    if (count == 2 && strcmp(command, "list") == 0) {
+        each_file(list_file);
+    } else if (count == 2 && strcmp(command, "faults") == 0) {
+        each_file(print_fault);
+    } else if (count == 3 && strcmp(command, "write") == 0) {
+        write_movie(words[2]);
+    } else if (count == 3 && strcmp(command, "large") == 0) {
+        list_large(words[2]);
+    } else {
+        give_up("list | faults | write OUT | large FILE");
+    }
+    return 0;
+}

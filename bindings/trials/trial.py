@@ -1,0 +1,138 @@
+"""What ./callers asks of the library from Python: trial.c says what each command does."""
+
+import sys
+import threading
+import time
+
+import maqelsun
+
+
+def sample_lines(movie, track):
+    """The samples of a track, a line each, as `mp4_tool samples` prints them."""
+    yield f"track {track.id}"
+    number = 0
+    try:
+        for sample in movie.samples(track.id):
+            number = sample.number
+            yield (
+                f"{number} {sample.offset} {sample.size} {sample.start_time} {sample.duration} "
+                f"{sample.rendering_offset} {int(sample.is_sync)}"
+            )
+    except maqelsun.Error as refused:
+        yield str(refused) if track.sample_count is None else f"{number + 1} {refused}"
+        return
+    if number < track.sample_count:
+        yield f"{number + 1} none"
+
+
+def file_lines(source):
+    """The lines of all tracks of a file, or why it doesn't open."""
+    try:
+        movie = maqelsun.Movie(source)
+    except maqelsun.Error as refused:
+        return [str(refused)]
+    with movie:
+        return [line for track in movie.tracks for line in sample_lines(movie, track)]
+
+
+def fault_lines(source):
+    """Why a file doesn't open, or an empty line."""
+    try:
+        maqelsun.Movie(source).close()
+    except maqelsun.Error as refused:
+        return [str(refused)]
+    return [""]
+
+
+def each_file(lines_of):
+    """Prints the lines of each file that a line of standard input names, after its name."""
+    for name in sys.stdin.read().splitlines():
+        print("\n".join([name, *lines_of(name)]))
+
+
+def track_of(words):
+    """The track of a line of a script."""
+    kind, timescale, *rest = words
+    if kind == "text":
+        return maqelsun.NewTrack("tx3g", int(timescale))
+    if kind == "aac":
+        bits, profile, frequency, channels = map(int, rest)
+        return maqelsun.NewTrack(
+            "mp4a", int(timescale), bits_per_second=bits, audio_profile=profile,
+            frequency_index=frequency, channels=channels,
+        )
+    entry = {"avc": "avc1", "hevc": "hev1", "vp9": "vp09"}[kind]
+    sets = [bytes.fromhex(digits) for digits in rest[2:]] or [b"", b""]
+    return maqelsun.NewTrack(
+        entry, int(timescale), width=int(rest[0]), height=int(rest[1]),
+        sequence_set=sets[0], picture_set=sets[1],
+    )
+
+
+def sample_of(line):
+    """The sample of a line of a script."""
+    _, track, duration, offset, is_sync, text = line.split(b" ", 5)
+    return maqelsun.NewSample(int(track), text, int(duration), int(offset), is_sync == b"1")
+
+
+def write_movie(name):
+    """Makes the movie of a script from standard input."""
+    lines = sys.stdin.buffer.read().split(b"\n")[:-1]
+    tracks = [track_of(line.decode().split()[1:]) for line in lines if line.startswith(b"track")]
+    samples = [sample_of(line) for line in lines if line.startswith(b"sample")]
+    movie = maqelsun.write(tracks, samples)
+    with open(name, "wb") as out:
+        out.write(movie)
+
+
+def mapped_kib():
+    """How many KiB of mapped files this process holds in memory."""
+    with open("/proc/self/status", encoding="ascii") as status:
+        return next(int(line.split()[1]) for line in status if line.startswith("RssFile:"))
+
+
+def list_large(name):
+    """The samples of a file; on standard error the microseconds and the KiB of mapped files it
+    took."""
+    fault_lines(b"")  # the first call loads code, which isn't of the file
+    before = mapped_kib()
+    begun = time.monotonic()
+    with maqelsun.Movie(name) as movie:
+        lines = [line for track in movie.tracks for line in sample_lines(movie, track)]
+        taken = int((time.monotonic() - begun) * 1000000)
+        print(taken, mapped_kib() - before, file=sys.stderr)
+    print("\n".join(lines))
+
+
+def list_by_threads(name):
+    """The samples of a file, by eight threads at once over one movie: all have to find the same."""
+    found = []
+    with maqelsun.Movie(name) as movie:
+
+        def listed():
+            found.append([line for track in movie.tracks for line in sample_lines(movie, track)])
+
+        threads = [threading.Thread(target=listed) for _ in range(8)]
+        for thread in threads:
+            thread.start()
+        for thread in threads:
+            thread.join()
+    if len(found) != 8 or any(lines != found[0] for lines in found):
+        sys.exit("trial: the threads differ")
+    print("\n".join(found[0]))
+
+
+def main():
+    """Runs the command that the arguments name."""
+    commands = {
+        "list": lambda: each_file(file_lines),
+        "faults": lambda: each_file(fault_lines),
+        "write": write_movie,
+        "large": list_large,
+        "threads": list_by_threads,
+    }
+    _, command, *words = sys.argv
+    commands[command](*words)
+
+
+main()

@@ -1,0 +1,235 @@
+//! What ./callers asks of the library from Rust: trial.c says what each command does.
+
+use maqelsun::{
+    AacConfig, AvcConfig, MediaConfig, Movie, MovieConfig, PictureSize, Sample, Track, TrackConfig,
+    Writer,
+};
+use std::error::Error;
+use std::fmt::Write as _;
+use std::io::Read;
+use std::time::Instant;
+use std::{env, fs, io, process, thread};
+
+type Outcome<T> = Result<T, Box<dyn Error>>;
+
+/// The samples of a track, a line each, as `mp4_tool samples` prints them.
+fn track_lines(movie: &Movie, track: &Track) -> String {
+    let mut lines = format!("track {}\n", track.id());
+    let samples = match movie.samples(track.id()) {
+        Ok(samples) => samples,
+        Err(refused) => return lines + &refused.to_string() + "\n",
+    };
+    let mut number = 0;
+    for sample in samples {
+        number += 1;
+        match sample {
+            Ok(sample) => writeln!(
+                lines,
+                "{number} {} {} {} {} {} {}",
+                sample.offset,
+                sample.bytes.len(),
+                sample.start_time,
+                sample.duration,
+                sample.rendering_offset,
+                u8::from(sample.is_sync)
+            ),
+            Err(refused) => return lines + &format!("{number} {refused}\n"),
+        }
+        .expect("a text takes a line");
+    }
+    if Some(number) < track.sample_count() {
+        lines += &format!("{} none\n", number + 1);
+    }
+    lines
+}
+
+/// The lines of all tracks of a file, or why it doesn't open.
+fn file_lines(file: &[u8]) -> String {
+    match Movie::open(file) {
+        Ok(movie) => movie.tracks().iter().map(|track| track_lines(&movie, track)).collect(),
+        Err(refused) => format!("{refused}\n"),
+    }
+}
+
+/// Why a file doesn't open, or an empty line.
+fn fault_line(file: &[u8]) -> String {
+    Movie::open(file).err().map_or("\n".to_owned(), |refused| format!("{refused}\n"))
+}
+
+/// Prints the lines of each file that a line of standard input names, after its name.
+fn each_file(lines_of: fn(&[u8]) -> String) -> Outcome<()> {
+    for name in io::stdin().lines() {
+        let name = name?;
+        print!("{name}\n{}", lines_of(&fs::read(&name)?));
+    }
+    Ok(())
+}
+
+/// The bytes that hexadecimal digits write.
+fn bytes_of(digits: &str) -> Outcome<Vec<u8>> {
+    let pairs = digits.as_bytes().chunks(2);
+    pairs.map(|pair| Ok(u8::from_str_radix(std::str::from_utf8(pair)?, 16)?)).collect()
+}
+
+/// The track of a line of a script.
+fn track_of(line: &str) -> Outcome<TrackConfig> {
+    let words: Vec<&str> = line.split(' ').collect();
+    let size = || -> Outcome<PictureSize> {
+        Ok(PictureSize { width: words[3].parse()?, height: words[4].parse()? })
+    };
+    let media = match words[1] {
+        "avc" => MediaConfig::Avc(AvcConfig {
+            width: size()?.width,
+            height: size()?.height,
+            seq_param_set: bytes_of(words[5])?,
+            pic_param_set: bytes_of(words[6])?,
+        }),
+        "hevc" => MediaConfig::Hevc(size()?),
+        "vp9" => MediaConfig::Vp9(size()?),
+        "aac" => MediaConfig::Aac(AacConfig {
+            bitrate: words[3].parse()?,
+            profile: words[4].parse()?,
+            freq_index: words[5].parse()?,
+            chan_conf: words[6].parse()?,
+        }),
+        _ => MediaConfig::Text,
+    };
+    Ok(TrackConfig { timescale: words[2].parse()?, ..TrackConfig::new(media) })
+}
+
+/// Writes the sample of a line of a script: five words, and then its bytes.
+fn write_sample(writer: &mut Writer, line: &[u8]) -> Outcome<()> {
+    let parts: Vec<&[u8]> = line.splitn(6, |byte| *byte == b' ').collect();
+    let text = |place: usize| std::str::from_utf8(parts[place]);
+    let sample = Sample {
+        duration: text(2)?.parse()?,
+        rendering_offset: text(3)?.parse()?,
+        is_sync: parts[4] == b"1",
+        bytes: parts[5],
+        ..Sample::default()
+    };
+    Ok(writer.write_sample(text(1)?.parse()?, &sample)?)
+}
+
+/// Makes the movie of a script from standard input.
+fn write_movie(name: &str) -> Outcome<()> {
+    let mut script = Vec::new();
+    io::stdin().read_to_end(&mut script)?;
+    let mut writer = Writer::new(&MovieConfig::default());
+    for line in script.split(|byte| *byte == b'\n') {
+        if line.starts_with(b"track") {
+            writer.add_track(&track_of(std::str::from_utf8(line)?)?)?;
+        } else if !line.is_empty() {
+            write_sample(&mut writer, line)?;
+        }
+    }
+    Ok(fs::write(name, writer.finish()?)?)
+}
+
+/// How many KiB of mapped files this process holds in memory.
+fn mapped_kib() -> Outcome<i64> {
+    let status = fs::read_to_string("/proc/self/status")?;
+    let line = status.lines().find_map(|line| line.strip_prefix("RssFile:"));
+    let words = line.ok_or("there is no RssFile")?.split_whitespace().next();
+    Ok(words.ok_or("there is no RssFile")?.parse()?)
+}
+
+/// The samples of a file; on standard error the microseconds and the KiB of mapped files it took.
+fn list_large(name: &str) -> Outcome<()> {
+    fault_line(b""); // the first call loads code, which isn't of the file
+    let before = mapped_kib()?;
+    let begun = Instant::now();
+    let mapped = mapping::Mapping::of(&fs::File::open(name)?)?;
+    let lines = file_lines(mapped.bytes());
+    let taken = begun.elapsed();
+    eprintln!("{} {}", taken.as_micros(), mapped_kib()? - before);
+    print!("{lines}");
+    Ok(())
+}
+
+/// The samples of a file, by eight threads at once over one movie: they have to find the same.
+fn list_by_threads(name: &str) -> Outcome<()> {
+    let file = fs::read(name)?;
+    let movie = Movie::open(&file)?;
+    let lines =
+        || -> String { movie.tracks().iter().map(|track| track_lines(&movie, track)).collect() };
+    let found: Vec<String> = thread::scope(|scope| {
+        let threads: Vec<_> = (0..8).map(|_| scope.spawn(lines)).collect();
+        threads.into_iter().map(|thread| thread.join().expect("a thread ends")).collect()
+    });
+    if found.iter().any(|lines| *lines != found[0]) {
+        return Err("the threads differ".into());
+    }
+    print!("{}", found[0]);
+    Ok(())
+}
+
+/// A file that is mapped into memory, which the standard library doesn't offer.
+mod mapping {
+    use std::ffi::c_void;
+    use std::fs::File;
+    use std::os::fd::AsRawFd;
+    use std::{io, ptr, slice};
+
+    extern "C" {
+        fn mmap(
+            at: *mut c_void,
+            size: usize,
+            may: i32,
+            kind: i32,
+            file: i32,
+            from: i64,
+        ) -> *mut c_void;
+        fn munmap(at: *mut c_void, size: usize) -> i32;
+    }
+
+    pub struct Mapping {
+        start: *mut c_void,
+        size: usize,
+    }
+
+    impl Mapping {
+        pub fn of(file: &File) -> io::Result<Self> {
+            let size = file.metadata()?.len() as usize;
+            // SAFETY: a new mapping, to be read (1) and private (2), touches no memory that is
+            // there.
+            let start = unsafe { mmap(ptr::null_mut(), size, 1, 2, file.as_raw_fd(), 0) };
+            if start as isize == -1 {
+                return Err(io::Error::last_os_error());
+            }
+            Ok(Mapping { start, size })
+        }
+
+        pub fn bytes(&self) -> &[u8] {
+            // SAFETY: the mapping has so many bytes until it is dropped, and nobody cuts the file.
+            unsafe { slice::from_raw_parts(self.start.cast(), self.size) }
+        }
+    }
+
+    impl Drop for Mapping {
+        fn drop(&mut self) {
+            // SAFETY: the mapping is there, and no borrow of its bytes is left.
+            unsafe { munmap(self.start, self.size) };
+        }
+    }
+}
+
+fn run() -> Outcome<()> {
+    let words: Vec<String> = env::args().skip(1).collect();
+    let words: Vec<&str> = words.iter().map(String::as_str).collect();
+    match words[..] {
+        ["list"] => each_file(file_lines),
+        ["faults"] => each_file(fault_line),
+        ["write", out] => write_movie(out),
+        ["large", file] => list_large(file),
+        ["threads", file] => list_by_threads(file),
+        _ => Err("list | faults | write OUT | large FILE | threads FILE".into()),
+    }
+}
+
+fn main() {
+    if let Err(error) = run() {
+        eprintln!("trial: {error}");
+        process::exit(1);
+    }
+}
