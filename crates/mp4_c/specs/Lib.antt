@@ -7,3 +7,4 @@ pub mod Samples
 pub mod ByTime
 pub mod ParameterSets
 pub mod Written
+pub mod WrittenReply
