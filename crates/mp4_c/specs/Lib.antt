@@ -8,3 +8,4 @@ pub mod ByTime
 pub mod ParameterSets
 pub mod Written
 pub mod WrittenReply
+pub mod ErrorText
