@@ -6,6 +6,8 @@ pub mod Tracks
 pub mod Samples
 pub mod ByTime
 pub mod ParameterSets
+pub mod Parts
+pub mod TrackConfigs
 pub mod Written
 pub mod WrittenReply
 pub mod ErrorText

@@ -1,11 +1,10 @@
 //! Movies that are written.
 
-ghost use Rattle.std.specs.Prelude.{◌≡◌, [], length, IfOk, OnOk};
+ghost use Rattle.std.specs.Prelude.{◌≡◌, [], IfOk, OnOk};
 ghost use Rattle.mp4_codec.specs.Cause.{cause_of};
 ghost use Rattle.mp4_samples.specs.Samples.{sample_of};
-ghost use Rattle.mp4_mux.specs.declared.config.TrackConfig.{TrackConfig};
-ghost use Rattle.mp4_mux.specs.Writing.{started, with_sample, with_track};
-ghost use Rattle.mp4_c.specs.Written.{HasTracks, IsEndOf, IsMovieOf, config_of, sample_in, with_rows};
+ghost use Rattle.mp4_mux.specs.Writing.{started, with_sample};
+ghost use Rattle.mp4_c.specs.Written.{HasTrack, HasTracks, IsEndOf, IsMovieOf, config_of, sample_in, with_rows};
 ghost use Rattle.mp4_c.specs.WrittenReply.{GaveMovie, part_number, refused_at};
 
 use crate::answer::Answer;
@@ -60,7 +59,7 @@ fn begun(alloc: Global, movie: &NewMovie, brands: &[Brand]) -> Result<Mp4Writer>
 
 /// Adds a track.
 fn add_track(alloc: Global, writer: &mut Mp4Writer, track: &NewTrack, source: &[u8]) -> Result<()>
-    ensures { OnOk result ((config : TrackConfig) × (writer.new ≡ with_track writer.old config)) }
+    ensures { OnOk result (HasTrack source.now track.now writer.old writer.new) }
 {
     let config = track_config(alloc, track, source)?;
     writer.add_track(&config)
@@ -73,7 +72,7 @@ fn add_tracks(
     tracks: &[NewTrack],
     source: &[u8],
 ) -> Written<()>
-    ensures { OnOk result (HasTracks (length tracks.now) writer.old writer.new) }
+    ensures { OnOk result (HasTracks source.now tracks.now writer.old writer.new) }
 {
     for (k, track) in tracks.iter().enumerate() {
         match add_track(alloc, writer, track, source) {
@@ -159,7 +158,7 @@ fn filled(
     samples: &[SampleRow],
     source: &[u8],
 ) -> Written<Vec<u8>>
-    ensures { IfOk result (λ bytes. IsMovieOf writer (length tracks.now) source.now samples.now bytes.items) }
+    ensures { IfOk result (λ bytes. IsMovieOf writer tracks.now source.now samples.now bytes.items) }
 {
     let mut writer = writer;
     add_tracks(alloc, &mut writer, tracks, source)?;
@@ -177,7 +176,7 @@ fn written(
     source: &[u8],
 ) -> Written<Vec<u8>>
     ensures { IfOk result (λ bytes.
-        IsMovieOf (started [] (config_of movie.now brands.now)) (length tracks.now) source.now samples.now bytes.items) }
+        IsMovieOf (started [] (config_of movie.now brands.now)) tracks.now source.now samples.now bytes.items) }
 {
     match begun(alloc, movie, brands) {
         Ok(writer) => filled(alloc, writer, tracks, samples, source),
@@ -217,7 +216,7 @@ pub extern "C" fn mp4_c_write(
     room: &mut [u8],
 ) -> Answer
     ensures { GaveMovie
-        (IsMovieOf (started [] (config_of movie.now brands.now)) (length tracks.now) source.now samples.now)
+        (IsMovieOf (started [] (config_of movie.now brands.now)) tracks.now source.now samples.now)
         room.old room.new result }
 {
     match written(alloc, movie, brands, tracks, samples, source) {
