@@ -6,6 +6,7 @@ pub mod Tracks
 pub mod Samples
 pub mod ByTime
 pub mod ParameterSets
+pub mod Metadata
 pub mod Parts
 pub mod TrackConfigs
 pub mod Written
