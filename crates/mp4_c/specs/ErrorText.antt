@@ -7,4 +7,5 @@ use Rattle.mp4_c.specs.WrittenReply.{GaveBytes}
 
 -- a call has copied some words to the front of the room, where they fit, or it was out of memory
 abbrev pub GaveWords : List ℕ → List ℕ → Answer → Type 0
-GaveWords old new answer = (GaveBytes (λ words. Unit {0}) old new answer) ⊎ (Gave (refusal out_of_memory old) new answer)
+GaveWords old new answer =
+    (GaveBytes (λ words. Unit {0}) old new answer) ⊎ (Gave (refusal out_of_memory old) new answer)
