@@ -1,12 +1,11 @@
 -- The rows of a walk, one after the other.
-use Rattle.std.proofs.Common.{◌≡◌, ℕ, zero, suc, ◌+◌, ◌-◌, ◌<◌, ◌≤◌, List, [], ◌∷◌, ◌++◌, length, take, drop, get_or}
-use Rattle.std.proofs.Common.{Option, Some, None, Result, Ok, Err, refl, ap, sym, ◌∙◌, append_assoc, arith}
+use Rattle.std.proofs.Common.{◌≡◌, ℕ, zero, suc, ◌+◌, ◌<◌, ◌≤◌, List, [], ◌∷◌, ◌++◌, length, take, drop}
+use Rattle.std.proofs.Common.{Some, None, Result, Ok, Err, refl, ap, sym, ◌∙◌, append_assoc, arith}
 use Rattle.std.proofs.Math.ListN.{set}
 use Rattle.std.proofs.lemmas.Grind.{common_steps}
 use Rattle.std.proofs.lemmas.List.{take_more_set, drop-drop, drop-set-lt}
 use Rattle.mp4_codec.specs.Cause.{Cause}
 use Rattle.mp4_samples.specs.declared.sample.Place.{Place}
-use Rattle.mp4_c.specs.declared.samples.SampleRow.{SampleRow}
 use Rattle.mp4_c.specs.Rooms.{over}
 use Rattle.mp4_c.specs.Samples.{refusal_in, row_of, rows_of}
 

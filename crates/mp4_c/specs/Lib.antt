@@ -3,6 +3,7 @@ pub mod Rooms
 pub mod Replies
 pub mod Movie
 pub mod Tracks
+pub mod TrackRows
 pub mod Samples
 pub mod ByTime
 pub mod ParameterSets

@@ -7,7 +7,6 @@ use Rattle.mp4_codec.specs.declared.error.Error.TheVariants.{OutOfMemory}
 use Rattle.mp4_codec.specs.Cause.{Cause, cause_of}
 use Rattle.mp4_c.specs.Answers.{refused}
 use Rattle.mp4_c.specs.Metadata.{found_reply}
-use Rattle.mp4_c.specs.Replies.{Gave}
 use Rattle.mp4_c.proofs.metadata.text.Goals as goal
 
 abbrev found_in : Result (Option (List ℕ)) Cause → Option (List ℕ)
