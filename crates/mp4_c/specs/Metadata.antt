@@ -38,9 +38,9 @@ metadata_reply key items room =
     found_reply (metadata_bytes key items) room
 
 -- a call has replied this, or it was out of memory and has left the room as it was
-abbrev pub GaveUnlessFull : Reply (List ℕ) → List ℕ → List ℕ → Answer → Type 0
-GaveUnlessFull reply old new answer = (Gave reply new answer) ⊎ (Gave (refusal out_of_memory old) new answer)
+abbrev pub GaveOrOutOfMemory : Reply (List ℕ) → List ℕ → List ℕ → Answer → Type 0
+GaveOrOutOfMemory reply old new answer = (Gave reply new answer) ⊎ (Gave (refusal out_of_memory old) new answer)
 
 -- a call has given what an opened file says of its movie at a key
 abbrev pub GaveMetadata : ℕ → Mp4Reader → List ℕ → List ℕ → Answer → Type 0
-GaveMetadata key m old new answer = GaveUnlessFull (metadata_reply key (ilst_of_movie m.movie.moov) old) old new answer
+GaveMetadata key m old new answer = GaveOrOutOfMemory (metadata_reply key (ilst_of_movie m.movie.moov) old) old new answer

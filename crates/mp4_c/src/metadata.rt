@@ -5,7 +5,7 @@ ghost use Rattle.std.specs.Cow.{cow_str_bytes};
 ghost use Rattle.std.specs.Fmt.{decimal};
 ghost use Rattle.std.specs.Option.{option_map};
 ghost use Rattle.mp4_codec.specs.Cause.{Answers, Cause, Gives};
-ghost use Rattle.mp4_c.specs.Metadata.{GaveMetadata, GaveUnlessFull, found_reply, item_bytes};
+ghost use Rattle.mp4_c.specs.Metadata.{GaveMetadata, GaveOrOutOfMemory, found_reply, item_bytes};
 ghost use Rattle.mp4_c.specs.ParameterSets.{GaveSet, bytes_reply};
 ghost use Rattle.mp4_c.specs.Replies.{Gave, OnFile, OnTrack};
 
@@ -29,7 +29,7 @@ fn text_found(words: Option<CowStr<'_, Global>>, room: &mut [u8]) -> Answer
 /// Hands out a text, if there is one.
 fn text(answer: Result<Option<CowStr<'_, Global>>>, room: &mut [u8]) -> Answer
     ensures { (found : Option (List ℕ)) → Answers (option_map cow_str_bytes) answer.entry (Ok found)
-        → GaveUnlessFull (found_reply found room.old) room.old room.new result }
+        → GaveOrOutOfMemory (found_reply found room.old) room.old room.new result }
 {
     match answer {
         Ok(words) => text_found(words, room),
@@ -39,7 +39,7 @@ fn text(answer: Result<Option<CowStr<'_, Global>>>, room: &mut [u8]) -> Answer
 
 /// Hands out the decimal digits of a number.
 fn digits_of(alloc: Global, n: u32, room: &mut [u8]) -> Answer
-    ensures { GaveUnlessFull (found_reply (Some (decimal n)) room.old) room.old room.new result }
+    ensures { GaveOrOutOfMemory (found_reply (Some (decimal n)) room.old) room.old room.new result }
 {
     match format!(in alloc; "{n}") {
         Ok(line) => copy_to_front(line.as_bytes(), room),
@@ -49,7 +49,7 @@ fn digits_of(alloc: Global, n: u32, room: &mut [u8]) -> Answer
 
 /// Hands out the decimal digits of a number, if there is one.
 fn digits(alloc: Global, number: Option<u32>, room: &mut [u8]) -> Answer
-    ensures { GaveUnlessFull (found_reply (option_map decimal number) room.old) room.old room.new result }
+    ensures { GaveOrOutOfMemory (found_reply (option_map decimal number) room.old) room.old room.new result }
 {
     match number {
         Some(n) => digits_of(alloc, n, room),
@@ -69,7 +69,7 @@ fn picture(bytes: Option<&[u8]>, room: &mut [u8]) -> Answer
 
 /// Hands out what a list of items says at a key of 1 to 4.
 fn item(alloc: Global, items: &IlstBox, key: u32, room: &mut [u8]) -> Answer
-    ensures { GaveUnlessFull (found_reply (item_bytes key items.now) room.old) room.old room.new result }
+    ensures { GaveOrOutOfMemory (found_reply (item_bytes key items.now) room.old) room.old room.new result }
 {
     match key {
         1 => text(items.title(), room),
