@@ -48,7 +48,8 @@ none_left_refusal room left e = ap (refusal_in room) e ∙ none room
 pub refused_next_refusal : (room more : ℕ) (left rest : Walk) (c : Cause) → left ≡ Err c ∷ rest → room ≡ suc more
     → refusal_in room left ≡ Some c
 unfolding refusal_in
-refused_next_refusal room more left rest c e some = ap (λ n. refusal_in n left) some ∙ ap (refusal_in (suc more)) e ∙ one
+refused_next_refusal room more left rest c e some =
+    ap (λ n. refusal_in n left) some ∙ ap (refusal_in (suc more)) e ∙ one
   where
     one : refusal_in (suc more) (Err c ∷ rest) ≡ Some c
     one = refl

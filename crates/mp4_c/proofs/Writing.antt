@@ -16,7 +16,8 @@ unfolding with_rows
 no_rows_left source st rows k end = ap (with_rows source st) (drop_of_length-le rows end)
 
 -- a row more
-pub rows_next : (source : List ℕ) (st new : WriterState) (rows : List SampleRow) (k : ℕ) (d : SampleRow) → k < length rows
+pub rows_next : (source : List ℕ) (st new : WriterState) (rows : List SampleRow) (k : ℕ) (d : SampleRow)
+    → k < length rows
     → new ≡ with_sample st (get_or rows k d).track_id (sample_in source (get_or rows k d))
     → with_rows source st (drop k rows) ≡ with_rows source new (drop (k + 1) rows)
 unfolding with_rows

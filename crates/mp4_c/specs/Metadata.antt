@@ -43,4 +43,5 @@ GaveOrOutOfMemory reply old new answer = (Gave reply new answer) ⊎ (Gave (refu
 
 -- a call has given what an opened file says of its movie at a key
 abbrev pub GaveMetadata : ℕ → Mp4Reader → List ℕ → List ℕ → Answer → Type 0
-GaveMetadata key m old new answer = GaveOrOutOfMemory (metadata_reply key (ilst_of_movie m.movie.moov) old) old new answer
+GaveMetadata key m old new answer =
+    GaveOrOutOfMemory (metadata_reply key (ilst_of_movie m.movie.moov) old) old new answer

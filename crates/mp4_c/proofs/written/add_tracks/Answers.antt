@@ -7,7 +7,8 @@ loop-k-init c = no_tracks c.args.source.now c.args.tracks.now c.args.writer.now
 
 pub loop-k-preserved : goal.loop-k-preserved
 loop-k-preserved c =
-    tracks_next c.args.source.now c.args.tracks.now c.args.writer.now c.loop-k.writer c.add_track.new.writer c.loop-k.k _
+    tracks_next c.args.source.now c.args.tracks.now c.args.writer.now c.loop-k.writer c.add_track.new.writer
+    c.loop-k.k _
     c.loop-k-test.true c.loop-k.invariant (c.in-Ok.ensures {u = tt})
 
 pub returns : goal.returns
