@@ -1,10 +1,11 @@
 -- Lists whose front is filled in, one element after the other.
-use Rattle.std.proofs.Common.{◌≡◌, ℕ, ◌+◌, ◌<◌, ◌≤◌, List, [], ◌∷◌, ◌++◌, length, take, drop, map, get_or, suc, refl, ap, sym, ◌∙◌, append_assoc, add-one, arith}
+use Rattle.std.proofs.Common.{◌≡◌, ℕ, ◌+◌, ◌<◌, ◌≤◌, List, [], ◌∷◌, ◌++◌, length, take, drop, map, get_or, suc}
+use Rattle.std.proofs.Common.{ap, sym, ◌∙◌, append_assoc, add-one, arith}
 use Rattle.std.proofs.Math.ListN.{set}
-use Rattle.std.proofs.Math.Seq.{set-append_seam, drop-cons, take-suc}
+use Rattle.std.proofs.Math.Seq.{set-append_seam, drop-cons}
 use Rattle.std.proofs.lemmas.Grind.{common_steps}
 use Rattle.std.proofs.lemmas.List.{take-map}
-use Rattle.mp4_c.specs.Rooms.{filled, over}
+use Rattle.mp4_c.specs.Rooms.{filled}
 
 -- the next element of a room, whose front is filled in
 pub fill_next : {T : Type 0} (done room : List T) (i : ℕ) (x : T) → length done ≡ i → i < length room
@@ -17,7 +18,8 @@ fill_next done room i x at here =
     ∙ sym (append_assoc done (x ∷ []) (drop (i + 1) room))
 
 -- a room that is full
-pub fills_all : {T U : Type 0} (f : T → U) (items : List T) (room : List U) (i : ℕ) → length room ≤ i → i ≤ length room → i ≤ length items
+pub fills_all : {T U : Type 0} (f : T → U) (items : List T) (room : List U) (i : ℕ) → length room ≤ i
+    → i ≤ length room → i ≤ length items
     → map f (take i items) ++ drop i room ≡ filled (map f items) room
 fills_all f items room i low high within = grind (arith, common_steps, take-map)
 

@@ -1,3 +1,4 @@
 pub mod Fills
 pub mod SampleRows
+pub mod TrackRows
 pub mod Writing

@@ -1,12 +1,11 @@
 -- The rows of a walk, one after the other.
-use Rattle.std.proofs.Common.{◌≡◌, ℕ, zero, suc, ◌+◌, ◌-◌, ◌<◌, ◌≤◌, List, [], ◌∷◌, ◌++◌, length, take, drop, get_or}
-use Rattle.std.proofs.Common.{Option, Some, None, Result, Ok, Err, refl, ap, sym, ◌∙◌, append_assoc, arith}
+use Rattle.std.proofs.Common.{◌≡◌, ℕ, zero, suc, ◌+◌, ◌<◌, ◌≤◌, List, [], ◌∷◌, ◌++◌, length, take, drop}
+use Rattle.std.proofs.Common.{Some, None, Result, Ok, Err, refl, ap, sym, ◌∙◌, append_assoc, arith}
 use Rattle.std.proofs.Math.ListN.{set}
 use Rattle.std.proofs.lemmas.Grind.{common_steps}
 use Rattle.std.proofs.lemmas.List.{take_more_set, drop-drop, drop-set-lt}
 use Rattle.mp4_codec.specs.Cause.{Cause}
 use Rattle.mp4_samples.specs.declared.sample.Place.{Place}
-use Rattle.mp4_c.specs.declared.samples.SampleRow.{SampleRow}
 use Rattle.mp4_c.specs.Rooms.{over}
 use Rattle.mp4_c.specs.Samples.{refusal_in, row_of, rows_of}
 
@@ -49,7 +48,8 @@ none_left_refusal room left e = ap (refusal_in room) e ∙ none room
 pub refused_next_refusal : (room more : ℕ) (left rest : Walk) (c : Cause) → left ≡ Err c ∷ rest → room ≡ suc more
     → refusal_in room left ≡ Some c
 unfolding refusal_in
-refused_next_refusal room more left rest c e some = ap (λ n. refusal_in n left) some ∙ ap (refusal_in (suc more)) e ∙ one
+refused_next_refusal room more left rest c e some =
+    ap (λ n. refusal_in n left) some ∙ ap (refusal_in (suc more)) e ∙ one
   where
     one : refusal_in (suc more) (Err c ∷ rest) ≡ Some c
     one = refl

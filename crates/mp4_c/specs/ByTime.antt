@@ -1,5 +1,5 @@
 -- The samples of a track by the time at which they are decoded.
-use Rattle.std.specs.Prelude.{◌≡◌, ℕ, ◌+◌, ◌^◌, Bool, Option, Some, None}
+use Rattle.std.specs.Prelude.{ℕ, ◌+◌, ◌^◌, Bool, Option, Some, None}
 use Rattle.mp4_lookup.specs.ByTime.{is_sync_sample, sample_by}
 use Rattle.mp4_lookup.specs.TrackRuns.{track_runs}
 use Rattle.mp4_lookup.specs.declared.track.Mp4Track.{Mp4Track}

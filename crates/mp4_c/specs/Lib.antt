@@ -3,7 +3,13 @@ pub mod Rooms
 pub mod Replies
 pub mod Movie
 pub mod Tracks
+pub mod TrackRows
 pub mod Samples
 pub mod ByTime
 pub mod ParameterSets
+pub mod Metadata
+pub mod Parts
+pub mod TrackConfigs
 pub mod Written
+pub mod WrittenReply
+pub mod ErrorText

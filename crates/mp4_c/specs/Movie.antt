@@ -1,5 +1,5 @@
 -- What an opened file says of its movie (ISO/IEC 14496-12, 4.3, 8.2.2 and 8.8.4).
-use Rattle.std.specs.Prelude.{ℕ, List, length, map, min, replicate, nat_lt, if◌then◌else◌}
+use Rattle.std.specs.Prelude.{List, length, map, min, replicate, nat_lt, if◌then◌else◌}
 use Rattle.std.specs.HashMap.{hash_map_len}
 use Rattle.mp4_codec.specs.declared.four_cc.FourCC.{FourCC}
 use Rattle.mp4_media.specs.declared.reader.Mp4Reader.{Mp4Reader}

@@ -1,5 +1,5 @@
 -- What is written of the tracks and samples that a caller gives.
-use Rattle.std.specs.Prelude.{◌≡◌, ℕ, List, [], ◌∷◌, Bool, true, false, length, map, take, drop, ◌==◌, if◌then◌else◌}
+use Rattle.std.specs.Prelude.{◌≡◌, ℕ, List, [], ◌∷◌, true, false, map, ◌==◌, if◌then◌else◌}
 use Rattle.mp4_codec.specs.declared.four_cc.FourCC.{FourCC}
 use Rattle.mp4_samples.specs.Samples.{Sample}
 use Rattle.mp4_mux.specs.declared.config.Mp4Config.{Mp4Config}
@@ -9,7 +9,10 @@ use Rattle.mp4_mux.specs.Writing.{WriterState, whole_of, with_end, with_sample, 
 use Rattle.mp4_mux.specs.Written.{IsWrittenMovie}
 use Rattle.mp4_c.specs.declared.configs.Brand.{Brand}
 use Rattle.mp4_c.specs.declared.configs.NewMovie.{NewMovie}
+use Rattle.mp4_c.specs.declared.configs.NewTrack.{NewTrack}
 use Rattle.mp4_c.specs.declared.samples.SampleRow.{SampleRow}
+use Rattle.mp4_c.specs.Parts.{part_at}
+use Rattle.mp4_c.specs.TrackConfigs.{IsConfigOf}
 
 -- the brand of four bytes
 abbrev pub four_cc : Brand → FourCC
@@ -24,10 +27,6 @@ config_of movie brands = record {
   timescale = movie.timescale;
 }
 
--- the bytes that a row names
-abbrev pub part_at : List ℕ → ℕ → ℕ → List ℕ
-part_at source offset size = take size (drop offset source)
-
 -- the sample of a row: its bytes lie in the source
 abbrev pub sample_in : List ℕ → SampleRow → Sample
 sample_in source row = record {
@@ -37,19 +36,20 @@ sample_in source row = record {
   is_sync = if row.is_sync == 0 then false else true;
 }
 
--- a writer with these tracks more, in their order
-unfoldable pub with_tracks : WriterState → List TrackConfig → WriterState
-with_tracks st [] = st
-with_tracks st (c ∷ cs) = with_tracks (with_track st c) cs
-
 -- a writer with the samples of these rows more, in their order
 unfoldable pub with_rows : List ℕ → WriterState → List SampleRow → WriterState
 with_rows source st [] = st
 with_rows source st (r ∷ rs) = with_rows source (with_sample st r.track_id (sample_in source r)) rs
 
--- a writer has so many tracks more
-abbrev pub HasTracks : ℕ → WriterState → WriterState → Type 0
-HasTracks count old new = (tracks : List TrackConfig) × (length tracks ≡ count) × (new ≡ with_tracks old tracks)
+-- a writer has one track more, whose configuration is that of a row
+abbrev pub HasTrack : List ℕ → NewTrack → WriterState → WriterState → Type 0
+HasTrack source row old new = (config : TrackConfig) × (IsConfigOf source row config) × (new ≡ with_track old config)
+
+-- a writer has exactly the tracks of these rows more, in their order
+unfoldable pub HasTracks : List ℕ → List NewTrack → WriterState → WriterState → Type 0
+HasTracks source [] old new = new ≡ old
+HasTracks source (r ∷ rs) old new =
+    (next : WriterState) × (HasTrack source r old next) × (HasTracks source rs next new)
 
 -- These bytes are those of a writer after its end: a file that opens, whose tables describe the samples that were
 -- written.
@@ -57,8 +57,8 @@ abbrev pub IsEndOf : WriterState → List ℕ → Type 0
 IsEndOf st bytes =
     (bytes ≡ whole_of (with_end st)) × (Opens (with_end st)) × (IsWrittenMovie (with_end st))
 
--- These bytes are those of a writer that had begun so, to which so many tracks were added, and then exactly the samples
--- of these rows, in their order, and which was ended.
-abbrev pub IsMovieOf : WriterState → ℕ → List ℕ → List SampleRow → List ℕ → Type 0
-IsMovieOf begun count source rows bytes =
-    (ready : WriterState) × (HasTracks count begun ready) × (IsEndOf (with_rows source ready rows) bytes)
+-- These bytes are those of a writer that had begun so, to which exactly these tracks were added, and then exactly the
+-- samples of these rows, in their order, and which was ended.
+abbrev pub IsMovieOf : WriterState → List NewTrack → List ℕ → List SampleRow → List ℕ → Type 0
+IsMovieOf begun tracks source rows bytes =
+    (ready : WriterState) × (HasTracks source tracks begun ready) × (IsEndOf (with_rows source ready rows) bytes)

@@ -1,7 +1,9 @@
 //! What a movie and its tracks are written with.
 
 ghost use Rattle.std.specs.Prelude.{◌≡◌, map, IfOk};
-ghost use Rattle.mp4_c.specs.Written.{config_of, four_cc, part_at};
+ghost use Rattle.mp4_c.specs.Parts.{part_at};
+ghost use Rattle.mp4_c.specs.TrackConfigs.{IsConfigOf, IsMediaOf, IsSoundOf, avc_in, language_in};
+ghost use Rattle.mp4_c.specs.Written.{config_of, four_cc};
 
 use mp4_media::{
     AacConfig, AudioObjectType, AvcConfig, ByteCursor, ChannelConfig, Error, FourCC, HevcConfig,
@@ -83,13 +85,17 @@ pub fn part_of(source: &[u8], offset: u64, size: u32) -> Result<&[u8]>
 }
 
 /// A copy of the bytes at a place of the data.
-fn copy_of(alloc: Global, source: &[u8], offset: u64, size: u32) -> Result<Items<u8>> {
+fn copy_of(alloc: Global, source: &[u8], offset: u64, size: u32) -> Result<Items<u8>>
+    ensures { IfOk result (λ part. part ≡ part_at source.now offset size) }
+{
     let bytes = part_of(source, offset, size)?;
     Ok(Items::from(bytes.to_vec(alloc)?))
 }
 
 /// AVC video.
-fn avc_of(alloc: Global, track: &NewTrack, source: &[u8]) -> Result<AvcConfig> {
+fn avc_of(alloc: Global, track: &NewTrack, source: &[u8]) -> Result<AvcConfig>
+    ensures { IfOk result (λ config. config ≡ avc_in source.now track.now) }
+{
     let seq_param_set = copy_of(alloc, source, track.sequence_set, track.sequence_set_size)?;
     let pic_param_set = copy_of(alloc, source, track.picture_set, track.picture_set_size)?;
     Ok(AvcConfig {
@@ -101,7 +107,9 @@ fn avc_of(alloc: Global, track: &NewTrack, source: &[u8]) -> Result<AvcConfig> {
 }
 
 /// AAC sound.
-fn aac_of(track: &NewTrack) -> Result<AacConfig> {
+fn aac_of(track: &NewTrack) -> Result<AacConfig>
+    ensures { IfOk result (IsSoundOf track.now) }
+{
     let profile = AudioObjectType::try_from(track.audio_profile)?;
     let freq_index = SampleFreqIndex::try_from(track.frequency_index)?;
     let chan_conf = ChannelConfig::try_from(track.channels)?;
@@ -114,7 +122,10 @@ fn aac_of(track: &NewTrack) -> Result<AacConfig> {
 }
 
 /// How the samples of a track are coded; `InvalidData` for another sample entry than the five.
-fn media_of(alloc: Global, track: &NewTrack, source: &[u8]) -> Result<MediaConfig> {
+#[tactic(auto, unfolding(crate::specs::TrackConfigs::IsMediaOf))]
+fn media_of(alloc: Global, track: &NewTrack, source: &[u8]) -> Result<MediaConfig>
+    ensures { IfOk result (IsMediaOf source.now track.now) }
+{
     let width = track.width;
     let height = track.height;
     match u32::from_be_bytes(track.sample_entry) {
@@ -134,7 +145,10 @@ fn media_of(alloc: Global, track: &NewTrack, source: &[u8]) -> Result<MediaConfi
 }
 
 /// A language of three characters; `und` where the first is zero.
-fn language_of(alloc: Global, language: [u8; 4]) -> Result<Text> {
+#[tactic(auto, unfolding(crate::specs::TrackConfigs::language_in))]
+fn language_of(alloc: Global, language: [u8; 4]) -> Result<Text>
+    ensures { IfOk result (λ text. text ≡ language_in language) }
+{
     let [a, b, c, _] = language;
     if a == 0 {
         return Ok(Text::from_str(alloc, "und")?);
@@ -147,7 +161,9 @@ fn language_of(alloc: Global, language: [u8; 4]) -> Result<Text> {
 }
 
 /// What a track is added with.
-pub fn track_config(alloc: Global, track: &NewTrack, source: &[u8]) -> Result<TrackConfig> {
+pub fn track_config(alloc: Global, track: &NewTrack, source: &[u8]) -> Result<TrackConfig>
+    ensures { IfOk result (IsConfigOf source.now track.now) }
+{
     let media_conf = media_of(alloc, track, source)?;
     let language = language_of(alloc, track.language)?;
     Ok(TrackConfig {

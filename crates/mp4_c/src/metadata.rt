@@ -1,7 +1,11 @@
 //! The metadata of a movie, and the parameter sets of its video.
 
-ghost use Rattle.std.specs.Prelude.{ℕ, List, Result};
-ghost use Rattle.mp4_codec.specs.Cause.{Cause, Gives};
+ghost use Rattle.std.specs.Prelude.{ℕ, List, Ok, Option, Result, Some};
+ghost use Rattle.std.specs.Cow.{cow_str_bytes};
+ghost use Rattle.std.specs.Fmt.{decimal};
+ghost use Rattle.std.specs.Option.{option_map};
+ghost use Rattle.mp4_codec.specs.Cause.{Answers, Cause, Gives};
+ghost use Rattle.mp4_c.specs.Metadata.{GaveMetadata, GaveOrOutOfMemory, found_reply, item_bytes};
 ghost use Rattle.mp4_c.specs.ParameterSets.{GaveSet, bytes_reply};
 ghost use Rattle.mp4_c.specs.Replies.{Gave, OnFile, OnTrack};
 
@@ -12,49 +16,73 @@ use mp4_media::{Error, IlstBox, Metadata, Mp4Reader, Mp4Track, Result};
 use std::alloc::Global;
 use std::borrow::CowStr;
 
+/// Hands out a text that was found, if one was.
+fn text_found(words: Option<CowStr<'_, Global>>, room: &mut [u8]) -> Answer
+    ensures { Gave (found_reply (option_map cow_str_bytes words.entry) room.old) room.new result }
+{
+    match words {
+        Some(words) => copy_to_front(words.as_bytes(), room),
+        None => Answer::plain(NOT_PRESENT),
+    }
+}
+
 /// Hands out a text, if there is one.
-fn text(answer: Result<Option<CowStr<'_, Global>>>, room: &mut [u8]) -> Answer {
+fn text(answer: Result<Option<CowStr<'_, Global>>>, room: &mut [u8]) -> Answer
+    ensures { (found : Option (List ℕ)) → Answers (option_map cow_str_bytes) answer.entry (Ok found)
+        → GaveOrOutOfMemory (found_reply found room.old) room.old room.new result }
+{
     match answer {
-        Ok(Some(words)) => copy_to_front(words.as_bytes(), room),
-        Ok(None) => Answer::plain(NOT_PRESENT),
+        Ok(words) => text_found(words, room),
         Err(error) => Answer::refused(&error),
     }
 }
 
+/// Hands out the decimal digits of a number.
+fn digits_of(alloc: Global, n: u32, room: &mut [u8]) -> Answer
+    ensures { GaveOrOutOfMemory (found_reply (Some (decimal n)) room.old) room.old room.new result }
+{
+    match format!(in alloc; "{n}") {
+        Ok(line) => copy_to_front(line.as_bytes(), room),
+        Err(_) => Answer::refused(&Error::OutOfMemory),
+    }
+}
+
 /// Hands out the decimal digits of a number, if there is one.
-fn digits(alloc: Global, number: Option<u32>, room: &mut [u8]) -> Answer {
+fn digits(alloc: Global, number: Option<u32>, room: &mut [u8]) -> Answer
+    ensures { GaveOrOutOfMemory (found_reply (option_map decimal number) room.old) room.old room.new result }
+{
     match number {
-        Some(n) => {
-            match format!(in alloc; "{n}") {
-                Ok(line) => copy_to_front(line.as_bytes(), room),
-                Err(_) => Answer::refused(&Error::OutOfMemory),
-            }
-        }
+        Some(n) => digits_of(alloc, n, room),
         None => Answer::plain(NOT_PRESENT),
     }
 }
 
 /// Hands out bytes, if there are any.
-fn picture(bytes: Option<&[u8]>, room: &mut [u8]) -> Answer {
+fn picture(bytes: Option<&[u8]>, room: &mut [u8]) -> Answer
+    ensures { Gave (found_reply (option_map (λ b. b.now) bytes.entry) room.old) room.new result }
+{
     match bytes {
         Some(bytes) => copy_to_front(bytes, room),
         None => Answer::plain(NOT_PRESENT),
     }
 }
 
-/// Hands out what a list of items says at a key.
-fn item(alloc: Global, items: &IlstBox, key: u32, room: &mut [u8]) -> Answer {
+/// Hands out what a list of items says at a key of 1 to 4.
+fn item(alloc: Global, items: &IlstBox, key: u32, room: &mut [u8]) -> Answer
+    ensures { GaveOrOutOfMemory (found_reply (item_bytes key items.now) room.old) room.old room.new result }
+{
     match key {
         1 => text(items.title(), room),
         2 => digits(alloc, items.year(), room),
         3 => picture(items.poster(), room),
-        4 => text(items.summary(), room),
-        _ => Answer::plain(UNKNOWN_CHOICE),
+        _ => text(items.summary(), room),
     }
 }
 
 /// Hands out what a movie says at a key.
-fn metadata_of(alloc: Global, movie: &Mp4Reader, key: u32, room: &mut [u8]) -> Answer {
+fn metadata_of(alloc: Global, movie: &Mp4Reader, key: u32, room: &mut [u8]) -> Answer
+    ensures { GaveMetadata key movie.now room.old room.new result }
+{
     if key == 0 || key > 4 {
         return Answer::plain(UNKNOWN_CHOICE);
     }
@@ -70,7 +98,9 @@ fn metadata_of(alloc: Global, movie: &Mp4Reader, key: u32, room: &mut [u8]) -> A
 ///
 /// The code `UNKNOWN_CHOICE` for another key, and `NOT_PRESENT` where the file doesn't say it.
 #[unsafe(no_mangle)]
-pub extern "C" fn mp4_c_metadata(alloc: Global, file: &[u8], key: u32, room: &mut [u8]) -> Answer {
+pub extern "C" fn mp4_c_metadata(alloc: Global, file: &[u8], key: u32, room: &mut [u8]) -> Answer
+    ensures { OnFile file.now (GaveMetadata key) room.old room.new result }
+{
     match opened(alloc, file) {
         Ok(movie) => metadata_of(alloc, &movie, key, room),
         Err(error) => Answer::refused(&error),

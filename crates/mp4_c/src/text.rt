@@ -1,5 +1,7 @@
 //! What an answer says in words.
 
+ghost use Rattle.mp4_c.specs.ErrorText.{GaveWords};
+
 use crate::answer::{Answer, NOT_PRESENT, NULL_POINTER, UNKNOWN_CHOICE};
 use crate::copied::copy_to_front;
 use mp4_media::{BoxType, Error, Limit};
@@ -80,15 +82,24 @@ fn words_of(alloc: Global, error: &Error) -> std::result::Result<String, AllocEr
     format!(in alloc; "{error}")
 }
 
+/// Hands out the words of an error.
+fn copy_words(words: std::result::Result<String, AllocError>, room: &mut [u8]) -> Answer
+    ensures { GaveWords room.old room.new result }
+{
+    match words {
+        Ok(words) => copy_to_front(words.as_bytes(), room),
+        Err(_) => Answer::refused(&Error::OutOfMemory),
+    }
+}
+
 /// Copies what an answer says in words, without a zero after it, where there is room for all of it. `count` is how many
 /// bytes it has, and `filled` is `count`, or 0 where they don't fit.
 #[unsafe(no_mangle)]
-pub extern "C" fn mp4_c_error_text(alloc: Global, answer: &Answer, room: &mut [u8]) -> Answer {
+pub extern "C" fn mp4_c_error_text(alloc: Global, answer: &Answer, room: &mut [u8]) -> Answer
+    ensures { GaveWords room.old room.new result }
+{
     match error_of(answer) {
-        Some(error) => match words_of(alloc, &error) {
-            Ok(words) => copy_to_front(words.as_bytes(), room),
-            Err(_) => Answer::refused(&Error::OutOfMemory),
-        },
+        Some(error) => copy_words(words_of(alloc, &error), room),
         None => copy_to_front(plain_words(answer.code).as_bytes(), room),
     }
 }

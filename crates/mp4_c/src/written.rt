@@ -1,10 +1,11 @@
 //! Movies that are written.
 
-ghost use Rattle.std.specs.Prelude.{◌≡◌, [], length, IfOk, OnOk};
+ghost use Rattle.std.specs.Prelude.{◌≡◌, [], IfOk, OnOk};
+ghost use Rattle.mp4_codec.specs.Cause.{cause_of};
 ghost use Rattle.mp4_samples.specs.Samples.{sample_of};
-ghost use Rattle.mp4_mux.specs.declared.config.TrackConfig.{TrackConfig};
-ghost use Rattle.mp4_mux.specs.Writing.{started, with_sample, with_track};
-ghost use Rattle.mp4_c.specs.Written.{HasTracks, IsEndOf, IsMovieOf, config_of, sample_in, with_rows};
+ghost use Rattle.mp4_mux.specs.Writing.{started, with_sample};
+ghost use Rattle.mp4_c.specs.Written.{HasTrack, HasTracks, IsEndOf, IsMovieOf, config_of, sample_in, with_rows};
+ghost use Rattle.mp4_c.specs.WrittenReply.{GaveMovie, part_number, refused_at};
 
 use crate::answer::Answer;
 use crate::configs::{Brand, NewMovie, NewTrack, movie_config, part_of, track_config};
@@ -14,23 +15,32 @@ use bytes::Bytes;
 use mp4_media::{Error, Mp4Sample, Mp4Writer, Result};
 use std::alloc::Global;
 
-/// The number of a part in [`Answer::part`]: the movie and its brands.
-const MOVIE: u32 = 1;
+/// A part of a writing.
+#[derive(Clone, Copy)]
+enum Part {
+    /// The movie and its brands.
+    Movie,
+    Track,
+    Sample,
+    End,
+}
 
-/// The number of a part: a track.
-const TRACK: u32 = 2;
-
-/// The number of a part: a sample.
-const SAMPLE: u32 = 3;
-
-/// The number of a part: the end.
-const END: u32 = 4;
+/// The number of a part in [`Answer::part`].
+fn part_number(part: Part) -> u32
+    ensures { result ≡ part_number part }
+{
+    match part {
+        Part::Movie => 1,
+        Part::Track => 2,
+        Part::Sample => 3,
+        Part::End => 4,
+    }
+}
 
 /// What a writing was refused at, and why.
 #[derive(Drop)]
 struct Fault {
-    /// The number of the part.
-    part: u32,
+    part: Part,
     /// Which track or sample, counted from 0.
     index: u64,
     error: Error,
@@ -49,7 +59,7 @@ fn begun(alloc: Global, movie: &NewMovie, brands: &[Brand]) -> Result<Mp4Writer>
 
 /// Adds a track.
 fn add_track(alloc: Global, writer: &mut Mp4Writer, track: &NewTrack, source: &[u8]) -> Result<()>
-    ensures { OnOk result ((config : TrackConfig) × (writer.new ≡ with_track writer.old config)) }
+    ensures { OnOk result (HasTrack source.now track.now writer.old writer.new) }
 {
     let config = track_config(alloc, track, source)?;
     writer.add_track(&config)
@@ -62,14 +72,14 @@ fn add_tracks(
     tracks: &[NewTrack],
     source: &[u8],
 ) -> Written<()>
-    ensures { OnOk result (HasTracks (length tracks.now) writer.old writer.new) }
+    ensures { OnOk result (HasTracks source.now tracks.now writer.old writer.new) }
 {
     for (k, track) in tracks.iter().enumerate() {
         match add_track(alloc, writer, track, source) {
             Ok(()) => {}
             Err(error) => {
                 return Err(Fault {
-                    part: TRACK,
+                    part: Part::Track,
                     index: k as u64,
                     error,
                 });
@@ -115,7 +125,7 @@ fn add_samples(
             Ok(()) => {}
             Err(error) => {
                 return Err(Fault {
-                    part: SAMPLE,
+                    part: Part::Sample,
                     index: k as u64,
                     error,
                 });
@@ -133,7 +143,7 @@ fn ended(writer: Mp4Writer) -> Written<Vec<u8>>
     match writer.write_end() {
         Ok(()) => Ok(writer.into_writer()),
         Err(error) => Err(Fault {
-            part: END,
+            part: Part::End,
             index: 0,
             error,
         }),
@@ -148,7 +158,7 @@ fn filled(
     samples: &[SampleRow],
     source: &[u8],
 ) -> Written<Vec<u8>>
-    ensures { IfOk result (λ bytes. IsMovieOf writer (length tracks.now) source.now samples.now bytes.items) }
+    ensures { IfOk result (λ bytes. IsMovieOf writer tracks.now source.now samples.now bytes.items) }
 {
     let mut writer = writer;
     add_tracks(alloc, &mut writer, tracks, source)?;
@@ -166,15 +176,26 @@ fn written(
     source: &[u8],
 ) -> Written<Vec<u8>>
     ensures { IfOk result (λ bytes.
-        IsMovieOf (started [] (config_of movie.now brands.now)) (length tracks.now) source.now samples.now bytes.items) }
+        IsMovieOf (started [] (config_of movie.now brands.now)) tracks.now source.now samples.now bytes.items) }
 {
     match begun(alloc, movie, brands) {
         Ok(writer) => filled(alloc, writer, tracks, samples, source),
         Err(error) => Err(Fault {
-            part: MOVIE,
+            part: Part::Movie,
             index: 0,
             error,
         }),
+    }
+}
+
+/// The answer of a writing that was refused.
+fn refused_at(fault: &Fault) -> Answer
+    ensures { result ≡ refused_at (cause_of fault.now.error) fault.now.part fault.now.index }
+{
+    Answer {
+        part: part_number(fault.part),
+        index: fault.index,
+        ..Answer::refused(&fault.error)
     }
 }
 
@@ -193,13 +214,13 @@ pub extern "C" fn mp4_c_write(
     samples: &[SampleRow],
     source: &[u8],
     room: &mut [u8],
-) -> Answer {
+) -> Answer
+    ensures { GaveMovie
+        (IsMovieOf (started [] (config_of movie.now brands.now)) tracks.now source.now samples.now)
+        room.old room.new result }
+{
     match written(alloc, movie, brands, tracks, samples, source) {
         Ok(bytes) => copy_to_front(bytes.as_slice(), room),
-        Err(fault) => Answer {
-            part: fault.part,
-            index: fault.index,
-            ..Answer::refused(&fault.error)
-        },
+        Err(fault) => refused_at(&fault),
     }
 }

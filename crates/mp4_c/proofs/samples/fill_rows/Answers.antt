@@ -25,7 +25,8 @@ returns-in-None-clause-rows c =
 
 pub returns-in-None-clause-count : goal.returns-in-None-clause-count
 returns-in-None-clause-count c =
-    ended_count c.loop-k.rows _ _ c.loop-k.k c.loop-k.invariant.rows (none_left _ _ _ c.in-None.ensures.steps.0) (omega arith)
+    ended_count c.loop-k.rows _ _ c.loop-k.k c.loop-k.invariant.rows (none_left _ _ _ c.in-None.ensures.steps.0)
+    (omega arith)
 
 pub returns-in-None-clause-end : goal.returns-in-None-clause-end
 returns-in-None-clause-end c = sym (c.loop-k.invariant.refusal ∙ none_left_refusal _ _ c.in-None.ensures.steps.0)
@@ -35,7 +36,8 @@ returns-in-Some-Err-clause-rows c =
     let next : samples_left c.loop-k.samples ≡ Err (cause_of c.in-Some-Err.error) ∷ samples_left c.next.new.self =
     rw c.in-Some-Err.field-0-is at c.in-Some-Err.ensures.steps in
     set-get_or _ _ _
-    ∙ ended_rows c.loop-k.rows _ _ _ c.loop-k.k c.loop-k.invariant.rows (refused_next _ _ _ _ _ next) c.loop-k.invariant.rest (omega arith)
+    ∙ ended_rows c.loop-k.rows _ _ _ c.loop-k.k c.loop-k.invariant.rows (refused_next _ _ _ _ _ next)
+    c.loop-k.invariant.rest (omega arith)
 
 pub returns-in-Some-Err-clause-count : goal.returns-in-Some-Err-clause-count
 returns-in-Some-Err-clause-count c =
@@ -64,7 +66,8 @@ loop-k-preserved c =
 
 pub returns-clause-rows : goal.returns-clause-rows
 returns-clause-rows c =
-    ended_rows c.loop-k.rows _ _ _ c.loop-k.k c.loop-k.invariant.rows (no_room _ (length c.args.rows.now - c.loop-k.k) _ (omega arith)) c.loop-k.invariant.rest (omega arith)
+    ended_rows c.loop-k.rows _ _ _ c.loop-k.k c.loop-k.invariant.rows
+    (no_room _ (length c.args.rows.now - c.loop-k.k) _ (omega arith)) c.loop-k.invariant.rest (omega arith)
 
 pub returns-clause-count : goal.returns-clause-count
 returns-clause-count c =

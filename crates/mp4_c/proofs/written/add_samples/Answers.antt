@@ -11,4 +11,6 @@ loop-k-preserved c =
 
 pub returns : goal.returns
 returns c =
-    sym (c.loop-k.invariant ∙ no_rows_left c.args.source.now c.loop-k.writer c.args.rows.now c.loop-k.k c.loop-k-test.false)
+    sym
+    (c.loop-k.invariant
+    ∙ no_rows_left c.args.source.now c.loop-k.writer c.args.rows.now c.loop-k.k c.loop-k-test.false)

@@ -1,0 +1,36 @@
+-- What is replied of a movie that is written.
+use Rattle.std.specs.Prelude.{◌⊎◌, ℕ, List}
+use Rattle.mp4_codec.specs.Cause.{Cause}
+use Rattle.mp4_c.specs.declared.answer.Answer.{Answer}
+use Rattle.mp4_c.specs.declared.written.Part.{Part}
+use Rattle.mp4_c.specs.declared.written.Part.TheVariants.{Movie, Track, Sample, End}
+use Rattle.mp4_c.specs.Answers.{refused}
+use Rattle.mp4_c.specs.Replies.{Gave}
+use Rattle.mp4_c.specs.Rooms.{copied, with_front}
+
+-- the number of a part of a writing
+abbrev pub part_number : Part → ℕ
+part_number Movie = 1
+part_number Track = 2
+part_number Sample = 3
+part_number End = 4
+
+-- the answer of a writing that was refused at a part, and at which track or sample
+abbrev pub refused_at : Cause → Part → ℕ → Answer
+refused_at c part index = record (refused c) { part = part_number part; index = index }
+
+-- a call has copied such bytes to the front of the room, where they fit
+abbrev pub GaveBytes : (List ℕ → Type 0) → List ℕ → List ℕ → Answer → Type 0
+GaveBytes Fits old new answer =
+    (bytes : List ℕ) × (Fits bytes)
+    × (Gave (record { answer = copied bytes old; room = with_front bytes old }) new answer)
+
+-- a call was refused at a part of a writing, and has left the room as it was
+abbrev pub IsRefusedAt : List ℕ → List ℕ → Answer → Type 0
+IsRefusedAt old new answer =
+    (c : Cause) × (part : Part) × (index : ℕ)
+    × (Gave (record { answer = refused_at c part index; room = old }) new answer)
+
+-- a call has written such a movie, or it was refused
+abbrev pub GaveMovie : (List ℕ → Type 0) → List ℕ → List ℕ → Answer → Type 0
+GaveMovie IsMovie old new answer = (GaveBytes IsMovie old new answer) ⊎ (IsRefusedAt old new answer)
