@@ -213,7 +213,7 @@ fn chunk_offset_at(stbl: &StblBox, chunk: u32) -> Option<u64>
 
 /// The size of sample `k`.
 #[tactic(auto, unfolding(mp4_samples::specs::Tables::sizes))]
-pub fn size_at(stsz: &StszBox, k: u32) -> Option<u32>
+fn size_at(stsz: &StszBox, k: u32) -> Option<u32>
     requires { 1 ≤ k }
     ensures { result ≡ slice_get (sizes stsz.now k) (k - 1) }
 {
@@ -251,8 +251,7 @@ fn size_between(
 
 /// A place, if it is within 64 bits: so many bytes after the beginning of a chunk.
 fn place_within(chunk_offset: u64, earlier: u64) -> Result<u64>
-    ensures within { Gives (λ place. place) result (within_64_bits (chunk_offset + earlier)) }
-    ensures place { IfOk result (λ place. place ≡ chunk_offset + earlier) }
+    ensures { Gives (λ place. place) result (within_64_bits (chunk_offset + earlier)) }
 {
     match chunk_offset.checked_add(earlier) {
         Some(place) => Ok(place),
@@ -323,8 +322,6 @@ impl Chunk {
         requires fresh { readings.old ≡ 0 }
         ensures located { Gives (λ s. option_map (λ s. (s.offset, s.size)) s) result
             (located_in_chunk stbl.now self.now.offset self.now.first k) }
-        ensures place { IfOk result (λ s. IfSome s (λ s. s.offset ≡ self.now.offset
-            + sum (slice_range (sizes stbl.now.stsz k) (self.now.first - 1) (k - 1)))) }
         ensures size_reads { IfOk result (λ s. IfSome s (λ s. AreFewSizeReads stbl.now readings.new)) }
     {
         let Some(size) = size_at(&stbl.stsz, k) else {
@@ -428,25 +425,22 @@ pub fn located_in_order(
     run: &mut EntryRun,
     chunk: &mut Chunk,
     searched: &mut Readings,
-    summed: &mut Readings,
+    sizes: &mut Readings,
 ) -> Result<Option<LocatedBytes>>
     requires firsts { HasFirstSamples stbl.now.stsc.entries }
     requires index { IsIndexOf stbl.now index.now }
     requires fresh_entries { searched.old ≡ 0 }
-    requires fresh_sizes { summed.old ≡ 0 }
+    requires fresh_sizes { sizes.old ≡ 0 }
     requires entries { IsForSamples stbl.now.stsc.entries run.old }
     requires chunk { IsChunk stbl.now chunk.old }
     ensures entries { IsForSamples stbl.now.stsc.entries run.new }
     ensures chunk { IsChunk stbl.now chunk.new }
     ensures located { Gives (λ s. option_map (λ s. (s.offset, s.size)) s) result (located_at stbl.now k) }
-    ensures place { IfOk result (λ s. IfSome s (λ s. s.offset ≡ chunk.new.offset
-        + sum (slice_range (sizes stbl.now.stsz k) (chunk.new.first - 1) (k - 1)))) }
-    ensures inside { IfOk result (λ s. IfSome s (λ s. (chunk.new.first ≤ k) × (k < chunk.new.end))) }
     ensures counts { OnOk result (1 ≤ k) }
 {
     let Some(found) = chunk_in_order(stbl, index, k, run, *chunk, searched)? else {
         return Ok(None);
     };
     *chunk = found;
-    found.located(stbl, &index.size_sums, k, summed)
+    found.located(stbl, &index.size_sums, k, sizes)
 }

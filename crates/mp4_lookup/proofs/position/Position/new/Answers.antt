@@ -8,5 +8,4 @@ returns c = λ t. record {
   times = c.none-3.ensures t.stts.entries;
   offsets = c.none-4.ensures (ctts_runs t.ctts);
   sync = c.none-5.ensures (sync_numbers t.stss);
-  stretch = c.none-6.ensures t;
 }
