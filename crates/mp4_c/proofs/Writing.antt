@@ -1,30 +1,60 @@
 -- Tracks and samples that are written one after the other.
-use Rattle.std.proofs.Common.{◌≡◌, ℕ, suc, ◌+◌, ◌<◌, ◌≤◌, List, [], ◌∷◌, ◌++◌, length, take, drop, get_or, refl, ap}
+use Rattle.std.proofs.Common.{◌≡◌, ℕ, ◌+◌, ◌<◌, ◌≤◌, List, [], ◌∷◌, ◌++◌, length, take, get_or, None, refl, ap}
 use Rattle.std.proofs.Common.{◌∙◌, sym, add-one, arith}
-use Rattle.std.proofs.Math.Seq.{drop-cons}
-use Rattle.std.proofs.Math.ListN.{drop_of_length-le}
+use Rattle.std.proofs.Math.Seq.{take-suc}
 use Rattle.std.proofs.lemmas.Grind.{common_steps}
+use Rattle.mp4_mux.proofs.SampleLaws.{all-push}
 use Rattle.mp4_mux.specs.Writing.{WriterState, with_sample, with_track}
 use Rattle.mp4_c.specs.declared.configs.NewTrack.{NewTrack}
 use Rattle.mp4_c.specs.declared.samples.SampleRow.{SampleRow}
-use Rattle.mp4_c.specs.Written.{HasTrack, HasTracks, sample_in, with_rows}
-
--- no row is left
-pub no_rows_left : (source : List ℕ) (st : WriterState) (rows : List SampleRow) (k : ℕ) → length rows ≤ k
-    → with_rows source st (drop k rows) ≡ st
-unfolding with_rows
-no_rows_left source st rows k end = ap (with_rows source st) (drop_of_length-le rows end)
+use Rattle.mp4_c.specs.Parts.{part_fault}
+use Rattle.mp4_c.specs.Written.{AreWhole, HasTrack, HasTracks, sample_in, with_rows}
 
 -- a row more
-pub rows_next : (source : List ℕ) (st new : WriterState) (rows : List SampleRow) (k : ℕ) (d : SampleRow)
-    → k < length rows
-    → new ≡ with_sample st (get_or rows k d).track_id (sample_in source (get_or rows k d))
-    → with_rows source st (drop k rows) ≡ with_rows source new (drop (k + 1) rows)
+rows_last : (source : List ℕ) (st : WriterState) (rows : List SampleRow) (row : SampleRow)
+    → with_rows source st (rows ++ row ∷ [])
+    ≡ with_sample (with_rows source st rows) row.track_id (sample_in source row)
 unfolding with_rows
-rows_next source st new rows k d here next =
-    ap (with_rows source st) (drop-cons rows k d here)
-    ∙ ap (λ w. with_rows source w (drop (suc k) rows)) (sym next)
-    ∙ ap (λ n. with_rows source new (drop n rows)) (sym (add-one k))
+rows_last source st [] row = refl
+rows_last source st (r ∷ rs) row = rows_last source (with_sample st r.track_id (sample_in source r)) rs row
+
+pub no_rows : (source : List ℕ) (st : WriterState) (rows : List SampleRow) → st ≡ with_rows source st (take 0 rows)
+unfolding with_rows
+no_rows source st rows = refl
+
+pub rows_next : (source : List ℕ) (begun st new : WriterState) (rows : List SampleRow) (k : ℕ) (d : SampleRow)
+    → k < length rows → st ≡ with_rows source begun (take k rows)
+    → new ≡ with_sample st (get_or rows k d).track_id (sample_in source (get_or rows k d))
+    → new ≡ with_rows source begun (take (k + 1) rows)
+rows_next source begun st new rows k d here so_far next =
+    let row = get_or rows k d in
+    let one : take (k + 1) rows ≡ take k rows ++ row ∷ [] = ap (λ n. take n rows) (add-one k) ∙ take-suc rows k d here in
+    next
+    ∙ ap (λ w. with_sample w row.track_id (sample_in source row)) so_far
+    ∙ sym (rows_last source begun (take k rows) row)
+    ∙ ap (with_rows source begun) (sym one)
+
+pub all_rows : (source : List ℕ) (begun st : WriterState) (rows : List SampleRow) (k : ℕ) → length rows ≤ k
+    → st ≡ with_rows source begun (take k rows) → st ≡ with_rows source begun rows
+all_rows source begun st rows k end so_far =
+    let all : take k rows ≡ rows = grind (arith, common_steps) in
+    so_far ∙ ap (with_rows source begun) all
+
+-- the bytes of one row more are whole
+pub whole_next : (source : List ℕ) (rows : List SampleRow) (k : ℕ) (d : SampleRow) → k < length rows
+    → AreWhole source (take k rows)
+    → part_fault source (get_or rows k d).offset (get_or rows k d).size ≡ None
+    → AreWhole source (take (k + 1) rows)
+whole_next source rows k d here so_far whole =
+    let row = get_or rows k d in
+    let one : take (k + 1) rows ≡ take k rows ++ row ∷ [] = ap (λ n. take n rows) (add-one k) ∙ take-suc rows k d here in
+    rw one (all-push _ (take k rows) row so_far whole)
+
+pub all_whole : (source : List ℕ) (rows : List SampleRow) (k : ℕ) → length rows ≤ k
+    → AreWhole source (take k rows) → AreWhole source rows
+all_whole source rows k end so_far =
+    let all : take k rows ≡ rows = grind (arith, common_steps) in
+    rw all at so_far
 
 -- a track more
 track_last : (source : List ℕ) (rows : List NewTrack) (row : NewTrack) (begun st new : WriterState)

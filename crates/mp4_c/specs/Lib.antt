@@ -11,5 +11,6 @@ pub mod Metadata
 pub mod Parts
 pub mod TrackConfigs
 pub mod Written
+pub mod Refusals
 pub mod WrittenReply
 pub mod ErrorText

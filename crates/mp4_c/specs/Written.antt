@@ -1,5 +1,6 @@
 -- What is written of the tracks and samples that a caller gives.
-use Rattle.std.specs.Prelude.{◌≡◌, ℕ, List, [], ◌∷◌, true, false, map, ◌==◌, if◌then◌else◌}
+use Rattle.std.specs.Prelude.{◌≡◌, ℕ, List, [], ◌∷◌, None, true, false, map, ◌==◌, if◌then◌else◌}
+use Rattle.std.specs.List.{AllByRecursion}
 use Rattle.mp4_codec.specs.declared.four_cc.FourCC.{FourCC}
 use Rattle.mp4_samples.specs.Samples.{Sample}
 use Rattle.mp4_mux.specs.declared.config.Mp4Config.{Mp4Config}
@@ -11,7 +12,7 @@ use Rattle.mp4_c.specs.declared.configs.Brand.{Brand}
 use Rattle.mp4_c.specs.declared.configs.NewMovie.{NewMovie}
 use Rattle.mp4_c.specs.declared.configs.NewTrack.{NewTrack}
 use Rattle.mp4_c.specs.declared.samples.SampleRow.{SampleRow}
-use Rattle.mp4_c.specs.Parts.{part_at}
+use Rattle.mp4_c.specs.Parts.{part_at, part_fault}
 use Rattle.mp4_c.specs.TrackConfigs.{IsConfigOf}
 
 -- the brand of four bytes
@@ -36,6 +37,10 @@ sample_in source row = record {
   is_sync = if row.is_sync == 0 then false else true;
 }
 
+-- the bytes of these rows lie whole in the source
+abbrev pub AreWhole : List ℕ → List SampleRow → Type 0
+AreWhole source = AllByRecursion (λ (r : SampleRow). part_fault source r.offset r.size ≡ None)
+
 -- a writer with the samples of these rows more, in their order
 unfoldable pub with_rows : List ℕ → WriterState → List SampleRow → WriterState
 with_rows source st [] = st
@@ -58,7 +63,8 @@ IsEndOf st bytes =
     (bytes ≡ whole_of (with_end st)) × (Opens (with_end st)) × (IsWrittenMovie (with_end st))
 
 -- These bytes are those of a writer that had begun so, to which exactly these tracks were added, and then exactly the
--- samples of these rows, in their order, and which was ended.
+-- samples of these rows, in their order, whose bytes lie whole in the source, and which was ended.
 abbrev pub IsMovieOf : WriterState → List NewTrack → List ℕ → List SampleRow → List ℕ → Type 0
 IsMovieOf begun tracks source rows bytes =
-    (ready : WriterState) × (HasTracks source tracks begun ready) × (IsEndOf (with_rows source ready rows) bytes)
+    (ready : WriterState) × (HasTracks source tracks begun ready) × (AreWhole source rows)
+    × (IsEndOf (with_rows source ready rows) bytes)

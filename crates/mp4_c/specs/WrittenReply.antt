@@ -5,6 +5,7 @@ use Rattle.mp4_c.specs.declared.answer.Answer.{Answer}
 use Rattle.mp4_c.specs.declared.written.Part.{Part}
 use Rattle.mp4_c.specs.declared.written.Part.TheVariants.{Movie, Track, Sample, End}
 use Rattle.mp4_c.specs.Answers.{refused}
+use Rattle.mp4_c.specs.Refusals.{OrNoMemory}
 use Rattle.mp4_c.specs.Replies.{Gave}
 use Rattle.mp4_c.specs.Rooms.{copied, with_front}
 
@@ -25,12 +26,14 @@ GaveBytes Fits old new answer =
     (bytes : List ℕ) × (Fits bytes)
     × (Gave (record { answer = copied bytes old; room = with_front bytes old }) new answer)
 
--- a call was refused at a part of a writing, and has left the room as it was
-abbrev pub IsRefusedAt : List ℕ → List ℕ → Answer → Type 0
-IsRefusedAt old new answer =
-    (c : Cause) × (part : Part) × (index : ℕ)
+-- A call was refused at a part of a writing, and has left the room as it was. The cause is out of memory, or one for
+-- which this holds of the part, the index and the cause.
+abbrev pub IsRefusedAt : (Part → ℕ → Cause → Type 0) → List ℕ → List ℕ → Answer → Type 0
+IsRefusedAt IsRefused old new answer =
+    (c : Cause) × (part : Part) × (index : ℕ) × (OrNoMemory (IsRefused part index) c)
     × (Gave (record { answer = refused_at c part index; room = old }) new answer)
 
--- a call has written such a movie, or it was refused
-abbrev pub GaveMovie : (List ℕ → Type 0) → List ℕ → List ℕ → Answer → Type 0
-GaveMovie IsMovie old new answer = (GaveBytes IsMovie old new answer) ⊎ (IsRefusedAt old new answer)
+-- a call has written such a movie, or it was refused so
+abbrev pub GaveMovie : (List ℕ → Type 0) → (Part → ℕ → Cause → Type 0) → List ℕ → List ℕ → Answer → Type 0
+GaveMovie IsMovie IsRefused old new answer =
+    (GaveBytes IsMovie old new answer) ⊎ (IsRefusedAt IsRefused old new answer)

@@ -1,8 +1,10 @@
 //! What a movie and its tracks are written with.
 
-ghost use Rattle.std.specs.Prelude.{◌≡◌, map, IfOk};
-ghost use Rattle.mp4_c.specs.Parts.{part_at};
-ghost use Rattle.mp4_c.specs.TrackConfigs.{IsConfigOf, IsMediaOf, IsSoundOf, avc_in, language_in};
+ghost use Rattle.std.specs.Prelude.{◌≡◌, map, IfErr, IfOk};
+ghost use Rattle.mp4_codec.specs.Cause.{AnswersCause, Checks};
+ghost use Rattle.mp4_c.specs.Parts.{part_at, part_fault};
+ghost use Rattle.mp4_c.specs.TrackConfigs.{IsConfigOf, IsMediaOf, IsSoundOf, avc_in, language_in, row_fault};
+ghost use Rattle.mp4_c.specs.TrackConfigs.{sets_fault, sound_fault};
 ghost use Rattle.mp4_c.specs.Written.{config_of, four_cc};
 
 use mp4_media::{
@@ -77,38 +79,51 @@ const _: () = prove!(size_of::<NewTrack>() == 48);
 
 /// The bytes at a place of the data; `EndOfData` where they aren't whole there.
 pub fn part_of(source: &[u8], offset: u64, size: u32) -> Result<&[u8]>
-    ensures { IfOk result (λ part. part.now ≡ part_at source.now offset size) }
+    ensures part { IfOk result (λ part. part.now ≡ part_at source.now offset size) }
+    ensures fault { Checks result (part_fault source.now offset size) }
 {
     let mut cursor = ByteCursor::new(source);
     cursor.set_position(offset);
     cursor.take(u64::from(size))
 }
 
-/// A copy of the bytes at a place of the data.
-fn copy_of(alloc: Global, source: &[u8], offset: u64, size: u32) -> Result<Items<u8>>
-    ensures { IfOk result (λ part. part ≡ part_at source.now offset size) }
+/// AVC video with copies of these parameter sets; memory may run out.
+fn avc_with(
+    alloc: Global,
+    track: &NewTrack,
+    sequence_set: &[u8],
+    picture_set: &[u8],
+) -> Result<AvcConfig>
+    ensures config { IfOk result (λ config. config ≡ record {
+        width = track.now.width;
+        height = track.now.height;
+        seq_param_set = sequence_set.now;
+        pic_param_set = picture_set.now;
+    }) }
+    ensures memory { IfErr result (λ e. e ≡ Error.OutOfMemory) }
 {
-    let bytes = part_of(source, offset, size)?;
-    Ok(Items::from(bytes.to_vec(alloc)?))
-}
-
-/// AVC video.
-fn avc_of(alloc: Global, track: &NewTrack, source: &[u8]) -> Result<AvcConfig>
-    ensures { IfOk result (λ config. config ≡ avc_in source.now track.now) }
-{
-    let seq_param_set = copy_of(alloc, source, track.sequence_set, track.sequence_set_size)?;
-    let pic_param_set = copy_of(alloc, source, track.picture_set, track.picture_set_size)?;
     Ok(AvcConfig {
         width: track.width,
         height: track.height,
-        seq_param_set,
-        pic_param_set,
+        seq_param_set: Items::from(sequence_set.to_vec(alloc)?),
+        pic_param_set: Items::from(picture_set.to_vec(alloc)?),
     })
 }
 
-/// AAC sound.
+/// AVC video; `EndOfData` where a parameter set isn't whole in the data.
+fn avc_of(alloc: Global, track: &NewTrack, source: &[u8]) -> Result<AvcConfig>
+    ensures config { IfOk result (λ config. config ≡ avc_in source.now track.now) }
+    ensures cause { AnswersCause (sets_fault source.now track.now) result }
+{
+    let sequence_set = part_of(source, track.sequence_set, track.sequence_set_size)?;
+    let picture_set = part_of(source, track.picture_set, track.picture_set_size)?;
+    avc_with(alloc, track, sequence_set, picture_set)
+}
+
+/// AAC sound; `InvalidData` for another type of sound, frequency or channels than are known.
 fn aac_of(track: &NewTrack) -> Result<AacConfig>
-    ensures { IfOk result (IsSoundOf track.now) }
+    ensures config { IfOk result (IsSoundOf track.now) }
+    ensures fault { Checks result (sound_fault track.now) }
 {
     let profile = AudioObjectType::try_from(track.audio_profile)?;
     let freq_index = SampleFreqIndex::try_from(track.frequency_index)?;
@@ -122,9 +137,10 @@ fn aac_of(track: &NewTrack) -> Result<AacConfig>
 }
 
 /// How the samples of a track are coded; `InvalidData` for another sample entry than the five.
-#[tactic(auto, unfolding(crate::specs::TrackConfigs::IsMediaOf))]
+#[tactic(auto, unfolding(crate::specs::TrackConfigs::IsMediaOf, crate::specs::TrackConfigs::row_fault))]
 fn media_of(alloc: Global, track: &NewTrack, source: &[u8]) -> Result<MediaConfig>
-    ensures { IfOk result (IsMediaOf source.now track.now) }
+    ensures media { IfOk result (IsMediaOf source.now track.now) }
+    ensures cause { AnswersCause (row_fault source.now track.now) result }
 {
     let width = track.width;
     let height = track.height;
@@ -147,7 +163,8 @@ fn media_of(alloc: Global, track: &NewTrack, source: &[u8]) -> Result<MediaConfi
 /// A language of three characters; `und` where the first is zero.
 #[tactic(auto, unfolding(crate::specs::TrackConfigs::language_in))]
 fn language_of(alloc: Global, language: [u8; 4]) -> Result<Text>
-    ensures { IfOk result (λ text. text ≡ language_in language) }
+    ensures text { IfOk result (λ text. text ≡ language_in language) }
+    ensures memory { IfErr result (λ e. e ≡ Error.OutOfMemory) }
 {
     let [a, b, c, _] = language;
     if a == 0 {
@@ -162,7 +179,8 @@ fn language_of(alloc: Global, language: [u8; 4]) -> Result<Text>
 
 /// What a track is added with.
 pub fn track_config(alloc: Global, track: &NewTrack, source: &[u8]) -> Result<TrackConfig>
-    ensures { IfOk result (IsConfigOf source.now track.now) }
+    ensures config { IfOk result (IsConfigOf source.now track.now) }
+    ensures cause { AnswersCause (row_fault source.now track.now) result }
 {
     let media_conf = media_of(alloc, track, source)?;
     let language = language_of(alloc, track.language)?;
@@ -176,7 +194,8 @@ pub fn track_config(alloc: Global, track: &NewTrack, source: &[u8]) -> Result<Tr
 
 /// The codes of brands.
 fn brand_codes(alloc: Global, brands: &[Brand]) -> Result<Items<FourCC>>
-    ensures { IfOk result (λ codes. codes ≡ map four_cc brands.now) }
+    ensures codes { IfOk result (λ codes. codes ≡ map four_cc brands.now) }
+    ensures memory { IfErr result (λ e. e ≡ Error.OutOfMemory) }
 {
     let mut codes = Vec::new(alloc);
     for brand in brands {
@@ -187,7 +206,8 @@ fn brand_codes(alloc: Global, brands: &[Brand]) -> Result<Items<FourCC>>
 
 /// What a movie is begun with.
 pub fn movie_config(alloc: Global, movie: &NewMovie, brands: &[Brand]) -> Result<Mp4Config>
-    ensures { IfOk result (λ config. config ≡ config_of movie.now brands.now) }
+    ensures config { IfOk result (λ config. config ≡ config_of movie.now brands.now) }
+    ensures memory { IfErr result (λ e. e ≡ Error.OutOfMemory) }
 {
     Ok(Mp4Config {
         major_brand: FourCC {

@@ -1,10 +1,16 @@
 //! Movies that are written.
 
-ghost use Rattle.std.specs.Prelude.{◌≡◌, [], IfOk, OnOk};
-ghost use Rattle.mp4_codec.specs.Cause.{cause_of};
+ghost use Rattle.std.specs.Prelude.{◌≡◌, [], Some, IfErr, IfOk, OnOk};
+ghost use Rattle.mp4_codec.specs.Cause.{AnswersCause, cause_of};
 ghost use Rattle.mp4_samples.specs.Samples.{sample_of};
-ghost use Rattle.mp4_mux.specs.Writing.{started, with_sample};
-ghost use Rattle.mp4_c.specs.Written.{HasTrack, HasTracks, IsEndOf, IsMovieOf, config_of, sample_in, with_rows};
+ghost use Rattle.mp4_mux.specs.Writing.{end_cause, start_cause, started, with_sample};
+ghost use Rattle.mp4_media.specs.MovieTracks.{RefusedBy};
+ghost use Rattle.mp4_c.specs.declared.written.Part.TheVariants.{Track, Sample, End};
+ghost use Rattle.mp4_c.specs.Parts.{part_fault};
+ghost use Rattle.mp4_c.specs.Refusals.{IsRefusal, IsRefusedPart, IsRefusedSample, IsRefusedTrack, IsTrackFault};
+ghost use Rattle.mp4_c.specs.Refusals.{OrNoMemory, sample_fault};
+ghost use Rattle.mp4_c.specs.Written.{AreWhole, HasTrack, HasTracks, IsEndOf, IsMovieOf, config_of, sample_in};
+ghost use Rattle.mp4_c.specs.Written.{with_rows};
 ghost use Rattle.mp4_c.specs.WrittenReply.{GaveMovie, part_number, refused_at};
 
 use crate::answer::Answer;
@@ -51,7 +57,8 @@ type Written<T> = std::result::Result<T, Fault>;
 
 /// A writer that has begun.
 fn begun(alloc: Global, movie: &NewMovie, brands: &[Brand]) -> Result<Mp4Writer>
-    ensures { IfOk result (λ w. w ≡ started [] (config_of movie.now brands.now)) }
+    ensures begun { IfOk result (λ w. w ≡ started [] (config_of movie.now brands.now)) }
+    ensures cause { RefusedBy (start_cause (config_of movie.now brands.now)) result }
 {
     let config = movie_config(alloc, movie, brands)?;
     Mp4Writer::write_start(alloc, Vec::new(alloc), &config)
@@ -59,7 +66,8 @@ fn begun(alloc: Global, movie: &NewMovie, brands: &[Brand]) -> Result<Mp4Writer>
 
 /// Adds a track.
 fn add_track(alloc: Global, writer: &mut Mp4Writer, track: &NewTrack, source: &[u8]) -> Result<()>
-    ensures { OnOk result (HasTrack source.now track.now writer.old writer.new) }
+    ensures added { OnOk result (HasTrack source.now track.now writer.old writer.new) }
+    ensures refused { IfErr result (λ e. OrNoMemory (IsTrackFault source.now writer.old track.now) (cause_of e)) }
 {
     let config = track_config(alloc, track, source)?;
     writer.add_track(&config)
@@ -72,7 +80,10 @@ fn add_tracks(
     tracks: &[NewTrack],
     source: &[u8],
 ) -> Written<()>
-    ensures { OnOk result (HasTracks source.now tracks.now writer.old writer.new) }
+    ensures added { OnOk result (HasTracks source.now tracks.now writer.old writer.new) }
+    ensures part { IfErr result (λ f. f.part ≡ Track) }
+    ensures refused { IfErr result (λ f.
+        OrNoMemory (IsRefusedTrack source.now tracks.now writer.old f.index) (cause_of f.error)) }
 {
     for (k, track) in tracks.iter().enumerate() {
         match add_track(alloc, writer, track, source) {
@@ -89,9 +100,10 @@ fn add_tracks(
     Ok(())
 }
 
-/// A sample with its bytes.
+/// A sample with its bytes; `EndOfData` where they aren't whole in the data.
 fn sample_at(alloc: Global, row: &SampleRow, source: &[u8]) -> Result<Mp4Sample>
-    ensures { IfOk result (λ s. sample_of s ≡ sample_in source.now row.now) }
+    ensures sample { IfOk result (λ s. sample_of s ≡ sample_in source.now row.now) }
+    ensures cause { AnswersCause (part_fault source.now row.now.offset row.now.size) result }
 {
     let bytes = part_of(source, row.offset, row.size)?;
     Ok(Mp4Sample {
@@ -105,7 +117,9 @@ fn sample_at(alloc: Global, row: &SampleRow, source: &[u8]) -> Result<Mp4Sample>
 
 /// Writes a sample.
 fn add_sample(alloc: Global, writer: &mut Mp4Writer, row: &SampleRow, source: &[u8]) -> Result<()>
-    ensures { OnOk result (writer.new ≡ with_sample writer.old row.now.track_id (sample_in source.now row.now)) }
+    ensures added { OnOk result
+        (writer.new ≡ with_sample writer.old row.now.track_id (sample_in source.now row.now)) }
+    ensures cause { RefusedBy (sample_fault source.now writer.old row.now) result }
 {
     let sample = sample_at(alloc, row, source)?;
     writer.write_sample(row.track_id, &sample)
@@ -118,7 +132,11 @@ fn add_samples(
     rows: &[SampleRow],
     source: &[u8],
 ) -> Written<()>
-    ensures { OnOk result (writer.new ≡ with_rows source.now writer.old rows.now) }
+    ensures added { OnOk result (writer.new ≡ with_rows source.now writer.old rows.now) }
+    ensures whole { OnOk result (AreWhole source.now rows.now) }
+    ensures part { IfErr result (λ f. f.part ≡ Sample) }
+    ensures refused { IfErr result (λ f.
+        OrNoMemory (IsRefusedSample source.now rows.now writer.old f.index) (cause_of f.error)) }
 {
     for (k, row) in rows.iter().enumerate() {
         match add_sample(alloc, writer, row, source) {
@@ -137,7 +155,10 @@ fn add_samples(
 
 /// Ends a movie, and answers its bytes.
 fn ended(writer: Mp4Writer) -> Written<Vec<u8>>
-    ensures { IfOk result (λ bytes. IsEndOf writer bytes.items) }
+    ensures movie { IfOk result (λ bytes. IsEndOf writer bytes.items) }
+    ensures part { IfErr result (λ f. f.part ≡ End) }
+    ensures index { IfErr result (λ f. f.index ≡ 0) }
+    ensures refused { IfErr result (λ f. OrNoMemory (λ c. end_cause writer ≡ Some c) (cause_of f.error)) }
 {
     let mut writer = writer;
     match writer.write_end() {
@@ -158,7 +179,9 @@ fn filled(
     samples: &[SampleRow],
     source: &[u8],
 ) -> Written<Vec<u8>>
-    ensures { IfOk result (λ bytes. IsMovieOf writer tracks.now source.now samples.now bytes.items) }
+    ensures movie { IfOk result (λ bytes. IsMovieOf writer tracks.now source.now samples.now bytes.items) }
+    ensures refused { IfErr result (λ f.
+        OrNoMemory (IsRefusedPart writer tracks.now source.now samples.now f.part f.index) (cause_of f.error)) }
 {
     let mut writer = writer;
     add_tracks(alloc, &mut writer, tracks, source)?;
@@ -175,8 +198,11 @@ fn written(
     samples: &[SampleRow],
     source: &[u8],
 ) -> Written<Vec<u8>>
-    ensures { IfOk result (λ bytes.
+    ensures movie { IfOk result (λ bytes.
         IsMovieOf (started [] (config_of movie.now brands.now)) tracks.now source.now samples.now bytes.items) }
+    ensures refused { IfErr result (λ f.
+        OrNoMemory (IsRefusal movie.now brands.now tracks.now source.now samples.now f.part f.index)
+        (cause_of f.error)) }
 {
     match begun(alloc, movie, brands) {
         Ok(writer) => filled(alloc, writer, tracks, samples, source),
@@ -217,6 +243,7 @@ pub extern "C" fn mp4_c_write(
 ) -> Answer
     ensures { GaveMovie
         (IsMovieOf (started [] (config_of movie.now brands.now)) tracks.now source.now samples.now)
+        (IsRefusal movie.now brands.now tracks.now source.now samples.now)
         room.old room.new result }
 {
     match written(alloc, movie, brands, tracks, samples, source) {
