@@ -2,3 +2,4 @@ pub mod Fills
 pub mod SampleRows
 pub mod TrackRows
 pub mod Writing
+pub mod Refusals

@@ -1,5 +1,5 @@
 -- Why a movie isn't written: the first part of it that is refused, and why.
-use Rattle.std.specs.Prelude.{◌≡◌, ◌⊎◌, ℕ, List, [], Option, Some, None, take, slice_get}
+use Rattle.std.specs.Prelude.{◌≡◌, ◌⊎◌, ℕ, List, [], Option, Some, take, slice_get}
 use Rattle.mp4_codec.specs.Cause.{Cause, out_of_memory, ◌or◌}
 use Rattle.mp4_mux.specs.declared.config.TrackConfig.{TrackConfig}
 use Rattle.mp4_mux.specs.Writing.{WriterState, end_cause, sample_cause, start_cause, started, track_cause}

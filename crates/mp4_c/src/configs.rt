@@ -95,10 +95,10 @@ fn avc_with(
     picture_set: &[u8],
 ) -> Result<AvcConfig>
     ensures config { IfOk result (λ config. config ≡ record {
-        width = track.now.width;
-        height = track.now.height;
-        seq_param_set = sequence_set.now;
-        pic_param_set = picture_set.now;
+      width = track.now.width;
+      height = track.now.height;
+      seq_param_set = sequence_set.now;
+      pic_param_set = picture_set.now;
     }) }
     ensures memory { IfErr result (λ e. e ≡ Error.OutOfMemory) }
 {

@@ -1,5 +1,5 @@
 -- The writer has the samples of the rows that were passed over, whose bytes are whole.
-use Rattle.std.proofs.Common.{◌≡◌, ◌×◌, take}
+use Rattle.std.proofs.Common.{◌≡◌, take}
 use Rattle.mp4_c.specs.Written.{AreWhole, with_rows}
 use Rattle.mp4_c.proofs.written.add_samples.Given as goal
 

@@ -18,7 +18,7 @@ pub returns-in-Ok : goal.returns-in-Ok
 returns-in-Ok c =
     inl (
       c.in-Ok.bytes.items,
-      c.in-Ok.ensures,
+      c.in-Ok.ensures.movie,
       given _ _ _ _ _ c.as_slice.ensures.value c.copy_to_front.ensures.answer c.copy_to_front.ensures.room,
     )
 
@@ -28,5 +28,6 @@ returns-in-Err c =
       cause_of c.in-Err.fault.error,
       c.in-Err.fault.part,
       c.in-Err.fault.index,
+      c.in-Err.ensures.refused,
       λ i. record { answer = sym c.refused_at.ensures i; room = c.args.room.now },
     )
