@@ -49,9 +49,8 @@ impl AnnexB {
         length_size_minus_one: u8,
         parameter_sets: Items<NalUnit>,
     ) -> Self
-        ensures coding { result.coding ≡ coding }
-        ensures length_size { result.length_size_minus_one ≡ length_size_minus_one }
-        ensures sets { result.parameter_sets ≡ parameter_sets }
+        ensures { result ≡ record {
+            coding = coding; length_size_minus_one = length_size_minus_one; parameter_sets = parameter_sets } }
     {
         AnnexB {
             coding,
