@@ -25,8 +25,7 @@ ok_is x y e = cc
 read_first : (front now : List NalUnit) (after : List ℕ) (r : Answer) → after_units front r ≡ Ok (now, after)
     → (first : List NalUnit) × (r ≡ Ok (first, after)) × (front ++ first ≡ now)
 read_first front now after (Ok x) e =
-    let same : (front ++ x.0, x.1) ≡ (now, after) = ok_is (front ++ x.0, x.1) (now, after) e in
-    (
+    let same : (front ++ x.0, x.1) ≡ (now, after) = ok_is (front ++ x.0, x.1) (now, after) e in (
       x.0,
       ap (λ (z : List NalUnit × List ℕ). let r : Answer = Ok (x.0, z.1) in r) same,
       ap (λ (z : List NalUnit × List ℕ). z.0) same,

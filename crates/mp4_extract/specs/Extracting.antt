@@ -1,8 +1,8 @@
 -- The samples of a track, one after the other.
-use Rattle.std.specs.Prelude.{◌≡◌, ◌⊎◌, ⊤, ℕ, zero, suc, ◌+◌, ◌^◌, ◌≤◌, Bool, true, false, IsTrue, IfOk, IfErr, IfSome}
+use Rattle.std.specs.Prelude.{◌≡◌, ◌⊎◌, ⊤, ℕ, zero, suc, ◌+◌, ◌^◌, ◌≤◌, Bool, true, false, IsTrue}
 use Rattle.std.specs.Prelude.{List, [], ◌++◌, Option, Some, None, Result, Ok, Err}
 use Rattle.std.specs.HashMap.{HashMap}
-use Rattle.std.specs.Io.KnownBytes.{Appends, Keeps}
+use Rattle.std.specs.Io.KnownBytes.{Appends}
 use Rattle.mp4_codec.specs.Cause.{Cause, cause_of}
 use Rattle.mp4_codec.specs.declared.error.Error.{Error}
 use Rattle.mp4_lookup.specs.declared.track.Mp4Track.{Mp4Track}

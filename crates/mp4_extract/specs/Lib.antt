@@ -4,4 +4,6 @@ pub mod ParameterSets
 pub mod Adts
 pub mod Forms
 pub mod Errors
+pub mod Texts
 pub mod Extracting
+pub mod Subtitles

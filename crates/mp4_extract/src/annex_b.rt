@@ -50,7 +50,10 @@ impl AnnexB {
         parameter_sets: Items<NalUnit>,
     ) -> Self
         ensures { result ≡ record {
-            coding = coding; length_size_minus_one = length_size_minus_one; parameter_sets = parameter_sets } }
+          coding = coding;
+          length_size_minus_one = length_size_minus_one;
+          parameter_sets = parameter_sets;
+        } }
     {
         AnnexB {
             coding,

@@ -32,10 +32,7 @@ pub(crate) fn annex_b_of_avcc(alloc: Global, avcc: &AvcCBox) -> Result<AnnexB>
     ensures { Answers (λ s. s) result (Ok (avc_stream avcc.now)) }
 {
     let mut parameter_sets = Items::new(alloc);
-    add_units(
-        avcc.sequence_parameter_sets.as_slice(),
-        &mut parameter_sets,
-    )?;
+    add_units(avcc.sequence_parameter_sets.as_slice(), &mut parameter_sets)?;
     add_units(avcc.picture_parameter_sets.as_slice(), &mut parameter_sets)?;
     Ok(AnnexB::new(
         VideoCoding::H264,
@@ -108,9 +105,5 @@ pub(crate) fn annex_b_of_hvcc(alloc: Global, hvcc: &HvcCBox) -> Result<AnnexB>
     let length_size_minus_one = fields.u8()?;
     let count = fields.u8()?;
     read_arrays(alloc, &mut fields, count, &mut parameter_sets)?;
-    Ok(AnnexB::new(
-        VideoCoding::H265,
-        length_size_minus_one,
-        parameter_sets,
-    ))
+    Ok(AnnexB::new(VideoCoding::H265, length_size_minus_one, parameter_sets))
 }

@@ -16,7 +16,7 @@ use std::alloc::Global;
 use std::io::Write;
 
 /// What the samples of a track are written by: its memory is that of the largest sample, whatever their number is.
-#[derive(Debug, Drop)]
+#[derive(Debug)]
 pub struct SampleWriter {
     track_id: u32,
     form: SampleForm,
@@ -24,6 +24,21 @@ pub struct SampleWriter {
     stored: Vec<u8>,
     /// The sample as it is written, where that is another.
     turned: Vec<u8>,
+}
+
+/// Taken apart here, and not at each end of each function that owns one.
+impl Drop for SampleWriter {
+    fn drop(self) {
+        let SampleWriter {
+            track_id: _,
+            form,
+            stored,
+            turned,
+        } = self;
+        drop(form);
+        drop(stored);
+        drop(turned);
+    }
 }
 
 impl SampleWriter {
@@ -129,7 +144,8 @@ impl SampleWriter {
             let Some(k) = from.checked_add(written) else {
                 return Ok(written);
             };
-            if !self.write_sample(file, k, out)? {
+            let found = self.write_sample(file, k, out)?;
+            if !found {
                 return Ok(written);
             }
         }
@@ -161,5 +177,6 @@ pub fn extract<S: ByteSource + Drop, W: Write>(
     ensures can_refuse { S.can_refuse file.new.source ≡ S.can_refuse file.old.source }
 {
     let mut writer = SampleWriter::new(alloc, file, track_id, format)?;
-    writer.write_samples(file, from, count, out)
+    let written = writer.write_samples(file, from, count, out)?;
+    Ok(written)
 }
