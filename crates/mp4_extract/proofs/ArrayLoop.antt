@@ -48,7 +48,8 @@ goes_on_with front count i bytes first after total lt h so_far =
     rw (k, h) (regroup front first (arrays_at (count - (i + 1)) after)) in
     sym one ∙ so_far
 
-pub goes_on : (front : List NalUnit) (count i : ℕ) (bytes : List ℕ) (now : List NalUnit) (after : List ℕ) (total : Answer)
+pub goes_on : (front : List NalUnit) (count i : ℕ) (bytes : List ℕ) (now : List NalUnit) (after : List ℕ)
+    (total : Answer)
     → i < count → after_units front (array_at bytes) ≡ Ok (now, after)
     → after_units front (arrays_at (count - i) bytes) ≡ total
     → after_units now (arrays_at (count - (i + 1)) after) ≡ total

@@ -56,7 +56,8 @@ abbrev pub is_sayable : DecoderSpecificDescriptor → Bool
 is_sayable d =
     nat_le 1 d.profile && nat_le d.profile 4 && nat_le d.freq_index 12 && nat_le 1 d.chan_conf && nat_le d.chan_conf 7
 
--- the numbers that all headers of a track say, where they can: the object type, the place of the frequency, the channels
+-- the numbers that all headers of a track say, where they can: the object type, the place of the frequency, the
+-- channels
 abbrev pub AdtsNumbers : Type 0
 AdtsNumbers = ℕ × ℕ × ℕ
 

@@ -10,7 +10,8 @@ use Rattle.mp4_samples.specs.Samples.{TimedSample}
 use Rattle.mp4_media.specs.MovieTracks.{at_id}
 use Rattle.mp4_media.specs.Reading.{sample_in}
 use Rattle.mp4_extract.specs.declared.error.ExtractError.{ExtractError}
-use Rattle.mp4_extract.specs.declared.error.ExtractError.TheVariants.{OutOfMemory, Track, WrongFormat, Sample, Read, Write}
+use Rattle.mp4_extract.specs.declared.error.ExtractError.TheVariants.{OutOfMemory, Track, WrongFormat, Sample}
+use Rattle.mp4_extract.specs.declared.error.ExtractError.TheVariants.{Read, Write}
 use Rattle.mp4_extract.specs.declared.form.SampleForm.{SampleForm}
 use Rattle.mp4_extract.specs.declared.format.SampleFormat.{SampleFormat}
 use Rattle.mp4_extract.specs.Forms.{IsFormOf, IsInForm, RefusesSample}

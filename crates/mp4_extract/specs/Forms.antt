@@ -11,11 +11,13 @@ use Rattle.mp4_samples.specs.Tables.{tables_of}
 use Rattle.mp4_extract.specs.declared.adts.AdtsConfig.{AdtsConfig}
 use Rattle.mp4_extract.specs.declared.annex_b.AnnexB.{AnnexB}
 use Rattle.mp4_extract.specs.declared.error.ExtractError.{ExtractError}
-use Rattle.mp4_extract.specs.declared.error.ExtractError.TheVariants.{OutOfMemory, Track, WrongFormat, Sample, Read, Write}
+use Rattle.mp4_extract.specs.declared.error.ExtractError.TheVariants.{OutOfMemory, Track, WrongFormat, Sample}
+use Rattle.mp4_extract.specs.declared.error.ExtractError.TheVariants.{Read, Write}
 use Rattle.mp4_extract.specs.declared.form.SampleForm.{SampleForm}
 use Rattle.mp4_extract.specs.declared.form.SampleForm.TheVariants.{AsStored, AnnexB as StreamForm, Adts as FrameForm}
 use Rattle.mp4_extract.specs.declared.format.SampleFormat.{SampleFormat}
-use Rattle.mp4_extract.specs.declared.format.SampleFormat.TheVariants.{AsStored as Stored, AnnexB as Stream, Adts as Frames}
+use Rattle.mp4_extract.specs.declared.format.SampleFormat.TheVariants.{AsStored as Stored, AnnexB as Stream}
+use Rattle.mp4_extract.specs.declared.format.SampleFormat.TheVariants.{Adts as Frames}
 use Rattle.mp4_extract.specs.Adts.{AdtsNumbers, adts_of, frame_of, numbers_of}
 use Rattle.mp4_extract.specs.ByteStream.{IsCut, IsStreamOf, length_size}
 use Rattle.mp4_extract.specs.ParameterSets.{avc_stream, hevc_stream}

@@ -9,8 +9,8 @@ use Rattle.mp4_extract.specs.declared.text_track.Subtitle.{Subtitle}
 use Rattle.mp4_extract.specs.Extracting.{Answer, IsPastEnd}
 use Rattle.mp4_extract.specs.Texts.{IsTextOf, milliseconds_of}
 
--- The subtitle of the sample with this number: its text, from the start of the sample on, for as long as the sample lasts.
--- Times stop at 64 bits.
+-- The subtitle of the sample with this number: its text, from the start of the sample on, for as long as the sample
+-- lasts. Times stop at 64 bits.
 pub record IsSubtitleOf (timescale number : ℕ) (s : TimedSample) (t : Subtitle) : Type 0 where
   pub lasts : ℕ
   pub number_is : t.number ≡ number

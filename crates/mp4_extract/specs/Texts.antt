@@ -1,13 +1,13 @@
 -- Texts of samples, and when they are shown (3GPP TS 26.245, 5.2 and 5.17; ISO/IEC 14496-12, 8.4.2).
-use Rattle.std.specs.Prelude.{◌≡◌, ℕ, ◌+◌, ◌-◌, ◌*◌, ◌/◌, ◌^◌, nat_lt, nat_le, ◌==◌, ◌&&◌, if◌then◌else◌, Bool, true, false}
-use Rattle.std.specs.Prelude.{List, [], length, drop, slice_index, Result, Ok, Err}
+use Rattle.std.specs.Prelude.{◌≡◌, ℕ, ◌+◌, ◌-◌, ◌*◌, ◌/◌, ◌^◌, nat_lt, nat_le, ◌==◌, ◌&&◌, Bool, true, false}
+use Rattle.std.specs.Prelude.{if◌then◌else◌, List, [], length, drop, slice_index, Result, Ok, Err}
 use Rattle.std.specs.String.{IsUtf16Of}
 use Rattle.mp4_codec.specs.Bytes.{number_at, bytes_at, list_at}
 use Rattle.mp4_codec.specs.Cause.{Cause, zero_timescale, too_large, ◌>>=◌}
 use Rattle.mp4_codec.specs.declared.error.Limit.TheVariants.{Value}
 
--- so many ticks, of which a second has `timescale`, in milliseconds: rounded to the nearest, and halves up. No time is known
--- without ticks in a second, nor where it passes 64 bits.
+-- so many ticks, of which a second has `timescale`, in milliseconds: rounded to the nearest, and halves up. No time is
+-- known without ticks in a second, nor where it passes 64 bits.
 unfoldable pub milliseconds_of : ℕ → ℕ → Result ℕ Cause
 milliseconds_of ticks timescale =
     if timescale == 0 then Err zero_timescale else

@@ -1,5 +1,5 @@
-//! The samples of a track out of a file: their bytes as they are stored, or as players of video and sound take them, and
-//! the texts of subtitles.
+//! The samples of a track out of a file: their bytes as they are stored, or as players of video and sound take them,
+//! and the texts of subtitles.
 #![tactic(auto)]
 
 mod adts;

@@ -94,7 +94,9 @@ fn read_arrays(
     Ok(())
 }
 
-/// The units of all arrays of `hvcC` in their order (ISO/IEC 14496-15, 8.3.3.1). `InvalidData` where one passes its end.
+/// The units of all arrays of `hvcC` in their order (ISO/IEC 14496-15, 8.3.3.1).
+///
+/// `InvalidData` where one passes its end.
 #[tactic(auto, unfolding(crate::specs::ParameterSets::hevc_stream))]
 pub(crate) fn annex_b_of_hvcc(alloc: Global, hvcc: &HvcCBox) -> Result<AnnexB>
     ensures { Answers (λ s. s) result (hevc_stream hvcc.now) }

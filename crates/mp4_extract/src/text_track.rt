@@ -144,8 +144,8 @@ fn read_subtitles<S: ByteSource + Drop>(
 /// rounded to the nearest.
 ///
 /// `Track` of `TrakNotFound` where there is no such track, and of `BoxInStblNotFound` where it isn't coded as `tx3g`.
-/// `Sample` where the file's tables refuse a sample, where it doesn't lie whole in the file, where a text passes its end
-/// or isn't encoded as it should be; `Read` where the source refuses.
+/// `Sample` where the file's tables refuse a sample, where it doesn't lie whole in the file, where a text passes its
+/// end or isn't encoded as it should be; `Read` where the source refuses.
 pub fn subtitles<S: ByteSource + Drop>(
     alloc: Global,
     file: &mut Mp4File<S>,

@@ -23,8 +23,8 @@ pub loop-preserved : goal.loop-preserved
 loop-preserved c =
     let total = after_units c.args.list.now (list_at unit_at c.args.count c.args.fields.now) in
     rw c.in_ok-push.ensures.ok
-    (goes_on unit_at c.loop.list c.args.count c.loop.counter c.loop.fields c.in_ok-unit.unit c.read_unit.new.fields total
-    c.loop-test.true c.in_ok-unit.ensures c.loop.invariant)
+    (goes_on unit_at c.loop.list c.args.count c.loop.counter c.loop.fields c.in_ok-unit.unit c.read_unit.new.fields
+    total c.loop-test.true c.in_ok-unit.ensures c.loop.invariant)
 
 pub returns : goal.returns
 returns c =

@@ -22,4 +22,5 @@ loop-preserved c =
 pub returns : goal.returns
 returns c =
     let total = list_at (number_at 2) c.args.count c.args.fields.now in
-    is_done (number_at 2) c.loop.units c.args.count c.loop.counter c.loop.fields total c.loop-test.false c.loop.invariant
+    is_done (number_at 2) c.loop.units c.args.count c.loop.counter c.loop.fields total c.loop-test.false
+    c.loop.invariant

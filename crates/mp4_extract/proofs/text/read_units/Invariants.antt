@@ -5,4 +5,5 @@ use Rattle.mp4_extract.proofs.text.read_units.Given as goal
 
 abbrev pub invariant-loop : goal.invariant-loop
 invariant-loop l =
-    with_front l.units (list_at (number_at 2) (l.count - l.counter) l.fields) ≡ list_at (number_at 2) l.count l.fn.fields
+    with_front l.units (list_at (number_at 2) (l.count - l.counter) l.fields)
+    ≡ list_at (number_at 2) l.count l.fn.fields
