@@ -5,6 +5,7 @@ use Rattle.std.specs.HashMap.{HashMap}
 use Rattle.std.specs.Io.KnownBytes.{Appends}
 use Rattle.mp4_codec.specs.Cause.{Cause, cause_of}
 use Rattle.mp4_codec.specs.declared.error.Error.{Error}
+use Rattle.mp4_codec.specs.declared.error.Error.TheVariants.{TrakNotFound}
 use Rattle.mp4_lookup.specs.declared.track.Mp4Track.{Mp4Track}
 use Rattle.mp4_samples.specs.Samples.{TimedSample}
 use Rattle.mp4_media.specs.MovieTracks.{at_id}
@@ -14,7 +15,7 @@ use Rattle.mp4_extract.specs.declared.error.ExtractError.TheVariants.{OutOfMemor
 use Rattle.mp4_extract.specs.declared.error.ExtractError.TheVariants.{Read, Write}
 use Rattle.mp4_extract.specs.declared.form.SampleForm.{SampleForm}
 use Rattle.mp4_extract.specs.declared.format.SampleFormat.{SampleFormat}
-use Rattle.mp4_extract.specs.Forms.{IsFormOf, IsInForm, RefusesSample}
+use Rattle.mp4_extract.specs.Forms.{IsFormOf, IsInForm, RefusesSample, RefusesTrack}
 
 -- the answer of a lookup of a sample
 abbrev pub Answer : Type 0
@@ -73,6 +74,11 @@ RefusesNumber form answer k can_refuse (Write number e) = number ≡ k
 RefusesNumber form answer k can_refuse (Track e) = ⊥
 RefusesNumber form answer k can_refuse (WrongFormat id format) = ⊥
 
+-- for this error is one of the samples from a number on refused
+abbrev pub RefusesOneFrom : SampleForm → (ℕ → Answer) → ℕ → Bool → ExtractError → Type 0
+RefusesOneFrom form samples from can_refuse e =
+    (k : ℕ) × (from ≤ k) × (RefusesNumber form (samples k) k can_refuse e)
+
 module _ {S : Type 0} where
   -- this is the form of the samples of the track with this id in a format
   abbrev pub IsFormIn : HashMap ℕ Mp4Track S → ℕ → SampleFormat → SampleForm → Type 0
@@ -85,3 +91,16 @@ module _ {S : Type 0} where
   AreExtracted format source tracks id k old new n =
       (form : SampleForm) × (IsFormIn tracks id format form)
       × (AreWritten form (sample_in source tracks id) k old new n)
+
+  -- for this error is the track with this id refused: there is none, or it has no form in the format
+  abbrev pub RefusesTrackIn : HashMap ℕ Mp4Track S → ℕ → SampleFormat → ExtractError → Type 0
+  RefusesTrackIn tracks id format e =
+      ((e ≡ Track (TrakNotFound id)) × (at_id tracks id ≡ None))
+      ⊎ ((t : Mp4Track) × (at_id tracks id ≡ Some t) × (RefusesTrack t.trak format e))
+
+  -- for this error is the track refused, or one of its samples from a number on
+  abbrev pub RefusesExtraction : SampleFormat → List ℕ → HashMap ℕ Mp4Track S → ℕ → ℕ → Bool → ExtractError → Type 0
+  RefusesExtraction format source tracks id from can_refuse e =
+      (RefusesTrackIn tracks id format e)
+      ⊎ ((form : SampleForm) × (IsFormIn tracks id format form)
+      × (RefusesOneFrom form (sample_in source tracks id) from can_refuse e))

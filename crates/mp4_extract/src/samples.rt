@@ -1,11 +1,11 @@
 //! Samples of a track, written one after the other.
 
-ghost use Rattle.std.specs.Prelude.{◌≡◌, ◌<◌, ◌+◌, ◌≤◌, IfErr, IfOk, IfSome, OnOk};
-ghost use Rattle.mp4_media.specs.Reading.{sample_in};
-ghost use Rattle.std.specs.Prelude.{ℕ, List};
+ghost use Rattle.std.specs.Prelude.{◌≡◌, ◌<◌, ◌+◌, ◌≤◌, ℕ, List, IfErr, IfOk, IfSome, OnOk};
 ghost use Rattle.std.specs.Io.KnownBytes.{Appends};
-ghost use Rattle.mp4_extract.specs.Extracting.{AreExtracted, AreWritten, IsFormIn, IsPastEnd, IsWritten, RefusesNumber};
-ghost use Rattle.mp4_extract.specs.Extracting.{RefusesStored};
+ghost use Rattle.mp4_media.specs.Reading.{sample_in};
+ghost use Rattle.mp4_extract.specs.Extracting.{AreExtracted, AreWritten, IsFormIn, IsPastEnd, IsWritten};
+ghost use Rattle.mp4_extract.specs.Extracting.{RefusesExtraction, RefusesNumber, RefusesOneFrom, RefusesStored};
+ghost use Rattle.mp4_extract.specs.Extracting.{RefusesTrackIn};
 ghost use Rattle.mp4_extract.specs.Forms.{IsInForm};
 
 use crate::error::ExtractError;
@@ -54,6 +54,7 @@ impl SampleWriter {
     ) -> Result<Self, ExtractError>
         ensures track_id { IfOk result (λ w. w.track_id ≡ track_id) }
         ensures form { IfOk result (λ w. IsFormIn file.now.movie.tracks track_id format w.form) }
+        ensures refused { IfErr result (λ e. RefusesTrackIn file.now.movie.tracks track_id format e) }
     {
         let Some(track) = file.tracks().get(&track_id) else {
             return Err(ExtractError::Track(Error::TrakNotFound(track_id)));
@@ -134,6 +135,9 @@ impl SampleWriter {
             (W.contents out.old) (W.contents out.new) n)) }
         ensures end { IfOk result (λ n. n < count → IfSome (S.contents file.old.source) (λ source.
             IsPastEnd (sample_in source file.old.movie.tracks self.old.track_id) (from + n))) }
+        ensures refused { IfErr result (λ e. IfSome (S.contents file.old.source) (λ source.
+            RefusesOneFrom self.old.form (sample_in source file.old.movie.tracks self.old.track_id) from
+            (S.can_refuse file.old.source) e)) }
         ensures track_id { self.new.track_id ≡ self.old.track_id }
         ensures form { self.new.form ≡ self.old.form }
         ensures movie { file.new.movie ≡ file.old.movie }
@@ -172,6 +176,8 @@ pub fn extract<S: ByteSource + Drop, W: Write>(
         AreExtracted format source file.old.movie.tracks track_id from (W.contents out.old) (W.contents out.new) n)) }
     ensures end { IfOk result (λ n. n < count → IfSome (S.contents file.old.source) (λ source.
         IsPastEnd (sample_in source file.old.movie.tracks track_id) (from + n))) }
+    ensures refused { IfErr result (λ e. IfSome (S.contents file.old.source) (λ source.
+        RefusesExtraction format source file.old.movie.tracks track_id from (S.can_refuse file.old.source) e)) }
     ensures movie { file.new.movie ≡ file.old.movie }
     ensures contents { S.contents file.new.source ≡ S.contents file.old.source }
     ensures can_refuse { S.can_refuse file.new.source ≡ S.can_refuse file.old.source }
