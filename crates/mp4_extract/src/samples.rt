@@ -71,8 +71,8 @@ impl SampleWriter {
     /// Writes sample `k` of the track; samples are numbered from 1. It answers whether there is such a sample: where
     /// there isn't, nothing is written.
     ///
-    /// `Sample` where the file's tables refuse the sample, as they do number 0 and each number of a track without samples
-    /// (`InvalidData`), where it doesn't lie whole in the file, and where it has no such form; `Read` where the source
+    /// `Sample` where the file's tables refuse the sample, as they do number 0 and each number of a track without
+    /// samples (`InvalidData`), where it doesn't lie whole in the file, and where it has no such form; `Read` where the source
     /// refuses; then nothing is written. `Write` where the sink refuses, which may then hold a part of the sample.
     pub fn write_sample<S: ByteSource + Drop, W: Write>(
         &mut self,

@@ -7,8 +7,8 @@ use mp4_entry::{
 use mp4_media::{FourCC, Items, Mp4Config, Mp4Sample, Mp4Writer, Result, TrackConfig};
 use std::alloc::Global;
 
-/// The id of the track of AVC video: an IDR picture after a supplemental unit, another picture, and a sample whose second
-/// length passes its end.
+/// The id of the track of AVC video: an IDR picture after a supplemental unit, another picture, and a sample whose
+/// second length passes its end.
 pub const VIDEO: u32 = 1;
 
 /// The id of the track of AAC sound: a sample of three bytes.
