@@ -4,7 +4,8 @@ use Rattle.std.specs.Prelude.{◌≡◌, ℕ, ◌<◌, ◌==◌, Bool, true, fal
 use Rattle.std.specs.Prelude.{◌+◌, ◌%◌, ◌||◌, length, map, Ok, Err}
 use Rattle.std.specs.List.{filter}
 use Rattle.mp4_codec.specs.Bytes.{Reader, number_at, bytes_at}
-use Rattle.mp4_codec.specs.Cause.{invalid_data, ◌>>=◌}
+use Rattle.mp4_codec.specs.declared.error.Error.{Error}
+use Rattle.mp4_codec.specs.Cause.{invalid_data, cause_of, ◌>>=◌}
 use Rattle.mp4_entry.specs.declared.avcc.NalUnit.{NalUnit}
 use Rattle.mp4_extract.specs.declared.coding.VideoCoding.{VideoCoding}
 use Rattle.mp4_extract.specs.declared.annex_b.AnnexB.{AnnexB}
@@ -26,6 +27,10 @@ abbrev pub IsCut : ℕ → List ℕ → Type 0
 IsCut n sample =
     (units : List (List ℕ)) × (rest : List ℕ) × (HoldUnits n units sample rest) × (0 < length rest)
     × (unit_at n rest ≡ Err invalid_data)
+
+-- for this error has a sample no byte stream: it is cut
+abbrev pub RefusesStream : ℕ → List ℕ → Error → Type 0
+RefusesStream n sample e = (cause_of e ≡ invalid_data) × (IsCut n sample)
 
 -- the start code of a unit
 abbrev pub start_code : Bool → List ℕ

@@ -19,7 +19,7 @@ use Rattle.mp4_extract.specs.declared.format.SampleFormat.{SampleFormat}
 use Rattle.mp4_extract.specs.declared.format.SampleFormat.TheVariants.{AsStored as Stored, AnnexB as Stream}
 use Rattle.mp4_extract.specs.declared.format.SampleFormat.TheVariants.{Adts as Frames}
 use Rattle.mp4_extract.specs.Adts.{AdtsNumbers, adts_of, frame_of, numbers_of}
-use Rattle.mp4_extract.specs.ByteStream.{IsCut, IsStreamOf, length_size}
+use Rattle.mp4_extract.specs.ByteStream.{IsStreamOf, RefusesStream, length_size}
 use Rattle.mp4_extract.specs.ParameterSets.{avc_stream, hevc_stream}
 
 -- the byte stream of a track with these sample entries, if it is one of video
@@ -74,5 +74,5 @@ IsInForm (FrameForm config) sample bytes = frame_of config sample ≡ Ok bytes
 -- for this cause has a sample no such form
 abbrev pub RefusesSample : SampleForm → List ℕ → Error → Type 0
 RefusesSample AsStored sample e = ⊥
-RefusesSample (StreamForm stream) sample e = IsCut (length_size stream) sample
+RefusesSample (StreamForm stream) sample e = RefusesStream (length_size stream) sample e
 RefusesSample (FrameForm config) sample e = frame_of config sample ≡ Err (cause_of e)

@@ -4,8 +4,8 @@ ghost use Rattle.std.specs.Prelude.{◌≡◌, ◌⊎◌, ◌==◌, ◌&&◌, []
 ghost use Rattle.mp4_codec.specs.Bytes.{Appends, number_at};
 ghost use Rattle.mp4_codec.specs.Cause.{Reads};
 ghost use Rattle.mp4_codec.specs.declared.error.Error.TheVariants.{OutOfMemory};
-ghost use Rattle.mp4_extract.specs.ByteStream.{IsCut, IsStreamOf, byte_stream, coded_unit, length_size, next_units};
-ghost use Rattle.mp4_extract.specs.ByteStream.{sets_of, start_code, unit_at, wants_sets_after};
+ghost use Rattle.mp4_extract.specs.ByteStream.{IsStreamOf, RefusesStream, byte_stream, coded_unit, length_size};
+ghost use Rattle.mp4_extract.specs.ByteStream.{next_units, sets_of, start_code, unit_at, wants_sets_after};
 ghost use Rattle.mp4_extract.specs.NalUnits.{is_random_access};
 
 use crate::coding::VideoCoding;
@@ -167,7 +167,7 @@ impl AnnexB {
     pub(crate) fn put_sample(&self, sample: &[u8], out: &mut Vec<u8>) -> Result<()>
         ensures stream { OnOk result ((bytes : List ℕ) × (IsStreamOf self.now sample.now bytes)
             × (out.new.items ≡ out.old.items ++ bytes)) }
-        ensures cut { IfErr result (λ e. (e ≡ OutOfMemory) ⊎ (IsCut (length_size self.now) sample.now)) }
+        ensures cut { IfErr result (λ e. (e ≡ OutOfMemory) ⊎ (RefusesStream (length_size self.now) sample.now e)) }
     {
         let mut fields = Fields::new(sample);
         let mut progress = Progress {
