@@ -39,15 +39,42 @@ def difference(track, stream):
     return None
 
 
+def reason(track, stream, said):
+    """Why ffprobe is known to say something else of a stream, if it is."""
+    if stream.get("codec_tag_string") in ("mp4a",) and stream.get("codec_name") != "aac" and said.startswith("sound"):
+        return "sound of mp4a that isn't AAC, which ffprobe takes of the sound itself"
+    if track["codec"] in ("encv", "enca"):
+        return "encrypted samples, whose code ffprobe replaces by that of what was encrypted"
+    if stream.get("codec_name") == "h263" and said.startswith("pictures"):
+        return "the size of H.263, which ffprobe takes of the pictures"
+    if not said.startswith("duration"):
+        return None
+    if track["fragments"]:
+        return "the duration of a track with fragments: the media header's, and ffprobe's of all samples"
+    if stream["codec_type"] in ("subtitle", "data"):
+        return "the duration of texts and data, which ffprobe says is the movie's"
+    return None
+
+
+def line(track, stream):
+    """What is said of a track and a stream."""
+    said = difference(track, stream)
+    if not said:
+        return f"agrees {track['id']}"
+    known = reason(track, stream, said)
+    return f"excused {track['id']} {known}" if known else f"differs {track['id']} {said}"
+
+
 def main():
     tracks = {track["id"]: track for track in json.load(open(sys.argv[1]))["tracks"]}
     for stream in json.load(open(sys.argv[2]))["streams"]:
         track_id = int(stream.get("id", "0"), 16)
-        if track_id not in tracks:
+        if stream.get("disposition", {}).get("attached_pic"):
+            print(f"excused {track_id} a cover, which ffprobe says is a stream")
+        elif track_id not in tracks:
             print(f"differs {track_id} no such track")
-            continue
-        said = difference(tracks[track_id], stream)
-        print(f"differs {track_id} {said}" if said else f"agrees {track_id}")
+        else:
+            print(line(tracks[track_id], stream))
 
 
 main()

@@ -1,5 +1,5 @@
 -- What becomes of the samples of a track in a format.
-use Rattle.std.specs.Prelude.{◌≡◌, ⊤, ℕ, List, Option, Some, None, Result, Ok, Err}
+use Rattle.std.specs.Prelude.{◌==◌, if◌then◌else◌, ◌≡◌, ⊤, ℕ, List, Option, Some, None, Result, Ok, Err}
 use Rattle.mp4_codec.specs.declared.error.Error.{Error}
 use Rattle.mp4_codec.specs.Cause.{Cause, cause_of, seen}
 use Rattle.mp4_entry.specs.declared.avc1.Avc1Box.{Avc1Box}
@@ -31,9 +31,11 @@ entry_stream None None = Ok None
 unfoldable pub track_stream : TrakBox → Result (Option AnnexB) Cause
 track_stream trak = entry_stream (tables_of trak).stsd.avc1 (tables_of trak).stsd.hev1
 
+-- what the headers of a stream say, where it is of MPEG-4 audio, 0x40 (ISO/IEC 14496-1, 7.2.6.6), and they can
 abbrev pub esds_adts : Option EsdsBox → Option AdtsNumbers
 esds_adts None = None
-esds_adts (Some e) = adts_of e.es_desc.dec_config.dec_specific
+esds_adts (Some e) =
+    if e.es_desc.dec_config.object_type_indication == 0x40 then adts_of e.es_desc.dec_config.dec_specific else None
 
 abbrev pub entry_adts : Option Mp4aBox → Option AdtsNumbers
 entry_adts None = None

@@ -15,6 +15,9 @@ use mp4_codec::Result;
 use mp4_lookup::Mp4Track;
 use std::alloc::Global;
 
+/// The object type indication of MPEG-4 audio (ISO/IEC 14496-1, 7.2.6.6).
+const MPEG4_AUDIO: u8 = 0x40;
+
 /// A format, with what it takes of a track.
 #[derive(Debug, Drop)]
 pub enum SampleForm {
@@ -54,7 +57,11 @@ fn adts_of(track: &Mp4Track) -> Option<AdtsConfig>
     let Some(stream) = &entry.esds else {
         return None;
     };
-    AdtsConfig::of(stream.es_desc.dec_config.dec_specific)
+    let decoder = &stream.es_desc.dec_config;
+    if decoder.object_type_indication != MPEG4_AUDIO {
+        return None;
+    }
+    AdtsConfig::of(decoder.dec_specific)
 }
 
 impl SampleForm {
