@@ -1,1 +1,5 @@
 pub mod Payload
+pub mod Refusal
+pub mod Containers
+pub mod Inner
+pub mod Innermost
