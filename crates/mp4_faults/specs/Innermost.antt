@@ -5,7 +5,8 @@ use Rattle.std.specs.Prelude.{if◌then◌else◌, map}
 use Rattle.std.specs.List.{AllByRecursion}
 use Rattle.mp4_codec.specs.declared.box_type.BoxType.{BoxType}
 use Rattle.mp4_codec.specs.declared.error.Error.{Error}
-use Rattle.mp4_codec.specs.declared.error.Error.TheVariants.{OutOfMemory}
+use Rattle.mp4_codec.specs.declared.error.Error.TheVariants.{OutOfMemory, BoxInTrakNotFound, BoxInTrafNotFound}
+use Rattle.mp4_codec.specs.declared.error.Error.TheVariants.{BoxInStblNotFound, EntryInStblNotFound, EntryInTrunNotFound}
 use Rattle.mp4_codec.specs.BoxType.{code_of}
 use Rattle.mp4_codec.specs.Cause.{Cause, cause_of}
 use Rattle.mp4_faults.specs.declared.fault_place.PathStep.{PathStep}
@@ -14,6 +15,15 @@ use Rattle.mp4_faults.specs.declared.child.PlacedBox.{PlacedBox}
 use Rattle.mp4_faults.specs.Containers.{reads, first_alone, before_children}
 use Rattle.mp4_faults.specs.Inner.{InnerBox, inner, outward, box_within, AreWithin}
 use Rattle.mp4_faults.specs.Refusal.{payload_fault}
+
+-- an error of a track or a fragment that lacks a box or an entry
+abbrev pub IsLack : Error → Type 0
+IsLack (BoxInTrakNotFound id t) = Unit {0}
+IsLack (BoxInTrafNotFound id t) = Unit {0}
+IsLack (BoxInStblNotFound id t) = Unit {0}
+IsLack (EntryInStblNotFound id t k) = Unit {0}
+IsLack (EntryInTrunNotFound id t k) = Unit {0}
+IsLack other = ⊥
 
 -- how many types of a list are this one
 abbrev pub count_of : BoxType → List BoxType → ℕ

@@ -30,7 +30,7 @@ impl<'a> PlacedBox<'a> {
     pub fn outward(&self, child: PlacedBox<'a>) -> PlacedBox<'a>
         requires place { self.now.from + child.place < 2 ^ 64 }
         requires from { self.now.from + child.from < 2 ^ 64 }
-        ensures { inner result ≡ outward (inner self.now) (inner child) }
+        ensures { inner result ≡ outward (inner self.now) (inner child.entry) }
     {
         PlacedBox {
             place: self.from + child.place,

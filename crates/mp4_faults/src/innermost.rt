@@ -4,14 +4,14 @@ ghost use Rattle.std.specs.Prelude.{◌≡◌, ◌↔◌, ◌++◌, ◌+◌, ◌
 ghost use Rattle.mp4_codec.specs.Cause.{cause_of};
 ghost use Rattle.mp4_faults.specs.declared.fault_place.PathStep.{PathStep};
 ghost use Rattle.mp4_faults.specs.Inner.{inner, end_of};
-ghost use Rattle.mp4_faults.specs.Innermost.{step_after, child_fault, FindsRefused, FindsFaulty, FindsInnermost};
+ghost use Rattle.mp4_faults.specs.Innermost.{step_after, child_fault, FindsRefused, FindsFaulty, FindsInnermost, IsLack};
 ghost use Rattle.mp4_faults.specs.Refusal.{TellsFault};
 
 use crate::child::{PlacedBox, child_at};
 use crate::containers::{bytes_before_children, looks_at_first_alone, reads_child};
 use crate::fault_place::PathStep;
 use crate::refusal::refusal_of;
-use mp4_codec::{BoxType, Error, Items, Result};
+use mp4_codec::{BoxType, Error, Items, Result, is_equal};
 use std::alloc::Global;
 
 /// The step to a box of this type, before which there are boxes of these types.
@@ -28,14 +28,72 @@ pub(crate) fn step_to(name: BoxType, before: &[BoxType]) -> PathStep
     }
 }
 
+/// The same of errors of a track or a fragment that lacks a box or an entry; any other error is none of these.
+fn is_same_lack(first: &Error, second: &Error) -> bool
+    requires { IsLack first.now }
+    ensures { IsTrue result ↔ (cause_of first.now ≡ cause_of second.now) }
+{
+    match first {
+        Error::BoxInTrakNotFound(a, b) => match second {
+            Error::BoxInTrakNotFound(x, y) => is_equal(a, x) && is_equal(b, y),
+            _ => false,
+        },
+        Error::BoxInTrafNotFound(a, b) => match second {
+            Error::BoxInTrafNotFound(x, y) => is_equal(a, x) && is_equal(b, y),
+            _ => false,
+        },
+        Error::BoxInStblNotFound(a, b) => match second {
+            Error::BoxInStblNotFound(x, y) => is_equal(a, x) && is_equal(b, y),
+            _ => false,
+        },
+        Error::EntryInStblNotFound(a, b, c) => match second {
+            Error::EntryInStblNotFound(x, y, z) => is_equal(a, x)
+                && is_equal(b, y)
+                && is_equal(c, z),
+            _ => false,
+        },
+        Error::EntryInTrunNotFound(a, b, c) => match second {
+            Error::EntryInTrunNotFound(x, y, z) => is_equal(a, x)
+                && is_equal(b, y)
+                && is_equal(c, z),
+            _ => false,
+        },
+        _ => false,
+    }
+}
+
 /// Whether two errors are the same but for their text.
 fn is_same_cause(first: &Error, second: &Error) -> bool
     ensures { IsTrue result ↔ (cause_of first.now ≡ cause_of second.now) }
 {
-    match (first, second) {
-        (Error::InvalidData(_), Error::InvalidData(_)) => true,
-        (Error::Unrepresentable(_), Error::Unrepresentable(_)) => true,
-        _ => first == second,
+    match first {
+        Error::EndOfData => matches!(second, Error::EndOfData),
+        Error::OutOfMemory => matches!(second, Error::OutOfMemory),
+        Error::InvalidData(_) => matches!(second, Error::InvalidData(_)),
+        Error::BoxNotFound(a) => match second {
+            Error::BoxNotFound(x) => is_equal(a, x),
+            _ => false,
+        },
+        Error::Box2NotFound(a, b) => match second {
+            Error::Box2NotFound(x, y) => is_equal(a, x) && is_equal(b, y),
+            _ => false,
+        },
+        Error::TrakNotFound(a) => match second {
+            Error::TrakNotFound(x) => is_equal(a, x),
+            _ => false,
+        },
+        Error::UnsupportedBoxVersion(a, b) => match second {
+            Error::UnsupportedBoxVersion(x, y) => is_equal(a, x) && is_equal(b, y),
+            _ => false,
+        },
+        Error::Ended => matches!(second, Error::Ended),
+        Error::ZeroTimescale => matches!(second, Error::ZeroTimescale),
+        Error::TooLarge(a) => match second {
+            Error::TooLarge(x) => is_equal(a, x),
+            _ => false,
+        },
+        Error::Unrepresentable(_) => matches!(second, Error::Unrepresentable(_)),
+        _ => is_same_lack(first, second),
     }
 }
 
@@ -114,8 +172,8 @@ pub(crate) fn innermost_fault<'a>(
     path: &mut Items<PathStep>,
 ) -> Result<PlacedBox<'a>>
     requires { end_of (inner outermost) < 2 ^ 64 }
-    ensures answer { FindsInnermost (cause_of error.now) (inner outermost) path.old path.new result }
-    ensures within { IfOk result (λ b. end_of (inner b) ≤ end_of (inner outermost)) }
+    ensures answer { FindsInnermost (cause_of error.now) (inner outermost.entry) path.old path.new result }
+    ensures within { IfOk result (λ b. end_of (inner b) ≤ end_of (inner outermost.entry)) }
 {
     let mut at = outermost;
     while let Some((step, child)) = faulty_child(alloc, &at, error)? {
