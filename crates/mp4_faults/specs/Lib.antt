@@ -3,3 +3,4 @@ pub mod Refusal
 pub mod Containers
 pub mod Inner
 pub mod Innermost
+pub mod TopLevel

@@ -1,5 +1,15 @@
 //! The boxes of a file, one after the other, up to the first fault.
 
+ghost use Rattle.std.specs.Prelude.{◌≡◌, ◌≤◌, ◌<◌, ◌+◌, ◌^◌, ℕ, List, [], ◌∷◌, IfSome, IfOk, IsTrue, IsFalse};
+ghost use Rattle.std.specs.Prelude.{None as none};
+ghost use Rattle.mp4_codec.specs.BoxType.{IsNamed};
+ghost use Rattle.mp4_codec.specs.Cause.{cause_of};
+ghost use Rattle.mp4_source.specs.Answers.{IsLength};
+ghost use Rattle.mp4_media.specs.FileBoxes.{meaning_of};
+ghost use Rattle.mp4_faults.specs.Inner.{inner, end_of};
+ghost use Rattle.mp4_faults.specs.Innermost.{step_after};
+ghost use Rattle.mp4_faults.specs.TopLevel.{GivesNext, ReadsNext, TellsNext, IsRead, IsTopBox, IsBegun, TellsContent};
+ghost use Rattle.mp4_faults.specs.TopLevel.{TellsValue, TellsInside, IsSeen};
 ghost use Rattle.mp4_codec.specs.Early.{takes_memory};
 ghost use Rattle.mp4_faults.specs.Payload.{whole_payload};
 
@@ -51,7 +61,9 @@ pub(crate) struct SeenBoxes {
 
 impl SeenBoxes {
     /// No box at all.
-    pub fn none(alloc: Global) -> Self {
+    pub fn none(alloc: Global) -> Self
+        ensures { IsSeen result [] }
+    {
         SeenBoxes {
             names: Items::new(alloc),
             ftyp: None,
@@ -74,7 +86,9 @@ pub(crate) enum NextBox {
 }
 
 /// A fault of a file outside any box.
-fn fault_of_file(alloc: Global, place: u64, error: Error) -> NextBox {
+fn fault_of_file(alloc: Global, place: u64, error: Error) -> NextBox
+    ensures { result ≡ NextBox.Faulty (record { path = []; place = place; error = error }) }
+{
     NextBox::Faulty(FaultPlace {
         path: Items::new(alloc),
         place,
@@ -89,7 +103,10 @@ fn fault_of_box(
     name: BoxType,
     place: u64,
     error: Error,
-) -> Result<NextBox> {
+) -> Result<NextBox>
+    ensures { GivesNext result (NextBox.Faulty
+        (record { path = step_after name seen.now.names ∷ []; place = place; error = error })) }
+{
     let mut path = Items::new(alloc);
     path.push(step_to(name, seen.names.as_slice()))?;
     Ok(NextBox::Faulty(FaultPlace { path, place, error }))
@@ -101,7 +118,10 @@ fn fault_within(
     seen: &SeenBoxes,
     outermost: PlacedBox,
     error: Error,
-) -> Result<NextBox> {
+) -> Result<NextBox>
+    requires { end_of (inner outermost) < 2 ^ 64 }
+    ensures { TellsInside seen.now.names (inner outermost.entry) (cause_of error) result }
+{
     let mut path = Items::new(alloc);
     path.push(step_to(outermost.name, seen.names.as_slice()))?;
     let innermost = innermost_fault(alloc, outermost, &error, &mut path)?;
@@ -116,7 +136,9 @@ fn fault_within(
 fn value_or_error<B: ReadBox>(
     alloc: Global,
     payload: &[u8],
-) -> Result<std::result::Result<B, Error>> {
+) -> Result<std::result::Result<B, Error>>
+    ensures { TellsValue result (B.value payload.now) }
+{
     match B::read_payload(alloc, payload) {
         Ok(value) => Ok(Ok(value)),
         Err(Error::OutOfMemory) => Err(Error::OutOfMemory),
@@ -125,7 +147,11 @@ fn value_or_error<B: ReadBox>(
 }
 
 /// Adds to what was seen a box that is read, or answers its error; the types of the boxes stay as they are.
-fn add_content(alloc: Global, seen: &mut SeenBoxes, top: &PlacedBox) -> Result<Option<Error>> {
+#[tactic(auto, unfolding(crate::specs::Refusal::payload_fault, crate::specs::Refusal::table_fault, crate::specs::Refusal::other_fault))]
+fn add_content(alloc: Global, seen: &mut SeenBoxes, top: &PlacedBox) -> Result<Option<Error>>
+    requires { IsRead top.now.name }
+    ensures { TellsContent seen.old seen.new (inner top.now) result }
+{
     match top.name {
         BoxType::FtypBox => match value_or_error::<FtypBox>(alloc, top.payload)? {
             Ok(ftyp) => {
@@ -162,7 +188,10 @@ fn add_content(alloc: Global, seen: &mut SeenBoxes, top: &PlacedBox) -> Result<O
 }
 
 /// Whether boxes of this type are read; all others are skipped.
-fn is_read(name: BoxType) -> bool {
+fn is_read(name: BoxType) -> bool
+    ensures yes { IsTrue result → IsRead name }
+    ensures not { IsFalse result → IsNamed name → meaning_of name ≡ none }
+{
     matches!(
         name,
         BoxType::FtypBox | BoxType::MoovBox | BoxType::MoofBox | BoxType::EmsgBox
@@ -176,7 +205,18 @@ fn skip_box<S: ByteSource + Drop>(
     seen: &mut SeenBoxes,
     place: u64,
     header: BoxHeader,
-) -> Result<NextBox> {
+) -> Result<NextBox>
+    requires len { IsLength (S.contents reader.old.source) reader.old.len }
+    requires skipped { meaning_of header.name ≡ none }
+    requires size { 8 ≤ header.size }
+    ensures answer { (size : ℕ) → IfSome (S.contents reader.old.source) (λ bytes.
+        IsBegun size bytes place header reader.old.position
+        → TellsNext size bytes place seen.old seen.new reader.new.position result) }
+    ensures onward { reader.old.position ≤ reader.new.position }
+    ensures contents { S.contents reader.new.source ≡ S.contents reader.old.source }
+    ensures can_refuse { S.can_refuse reader.new.source ≡ S.can_refuse reader.old.source }
+    ensures same_len { reader.new.len ≡ reader.old.len }
+{
     let Some(behind) = reader.position().checked_add(header.size - HEADER_SIZE) else {
         let error = Error::InvalidData("a box ends past 64 bits");
         return fault_of_box(alloc, seen, header.name, place, error);
@@ -187,7 +227,11 @@ fn skip_box<S: ByteSource + Drop>(
 }
 
 /// Adds to what was seen a box that is read and whose payload is at hand, or answers its fault.
-fn add_box(alloc: Global, seen: &mut SeenBoxes, top: PlacedBox) -> Result<NextBox> {
+fn add_box(alloc: Global, seen: &mut SeenBoxes, top: PlacedBox) -> Result<NextBox>
+    requires { IsRead top.name }
+    ensures { (size : ℕ) (bytes : List ℕ) → IsTopBox size bytes (inner top.entry)
+        → TellsNext size bytes top.place seen.old seen.new (end_of (inner top.entry)) result }
+{
     if top.from.checked_add(top.payload.len() as u64).is_none() {
         return fault_of_box(alloc, seen, top.name, top.place, Error::EndOfData);
     }
@@ -205,7 +249,18 @@ fn read_box<S: ByteSource + Drop>(
     seen: &mut SeenBoxes,
     place: u64,
     header: BoxHeader,
-) -> std::result::Result<NextBox, FileError> {
+) -> std::result::Result<NextBox, FileError>
+    requires len { IsLength (S.contents reader.old.source) reader.old.len }
+    requires is_read { IsRead header.name }
+    requires size { 8 ≤ header.size }
+    ensures answer { (size : ℕ) → IfSome (S.contents reader.old.source) (λ bytes.
+        IsBegun size bytes place header reader.old.position → ReadsNext size bytes
+        (S.can_refuse reader.old.source) place seen.old seen.new reader.new.position result) }
+    ensures onward { IfOk result (λ _. reader.old.position ≤ reader.new.position) }
+    ensures contents { S.contents reader.new.source ≡ S.contents reader.old.source }
+    ensures can_refuse { S.can_refuse reader.new.source ≡ S.can_refuse reader.old.source }
+    ensures same_len { reader.new.len ≡ reader.old.len }
+{
     let from = reader.position();
     match reader.read_box::<Payload>(alloc, header.size) {
         Ok(payload) => {
@@ -230,7 +285,16 @@ pub(crate) fn next_box<S: ByteSource + Drop>(
     reader: &mut SourceCursor<S>,
     seen: &mut SeenBoxes,
     size: u64,
-) -> std::result::Result<NextBox, FileError> {
+) -> std::result::Result<NextBox, FileError>
+    requires len { IsLength (S.contents reader.old.source) reader.old.len }
+    ensures answer { IfSome (S.contents reader.old.source) (λ bytes. ReadsNext size bytes
+        (S.can_refuse reader.old.source) reader.old.position seen.old seen.new reader.new.position result) }
+    ensures below { IfOk result (λ next. next ≡ NextBox.Faultless → reader.old.position < size) }
+    ensures onward { IfOk result (λ next. next ≡ NextBox.Faultless → reader.old.position < reader.new.position) }
+    ensures contents { S.contents reader.new.source ≡ S.contents reader.old.source }
+    ensures can_refuse { S.can_refuse reader.new.source ≡ S.can_refuse reader.old.source }
+    ensures same_len { reader.new.len ≡ reader.old.len }
+{
     let place = reader.position();
     if place >= size {
         return Ok(NextBox::End);
