@@ -19,7 +19,10 @@ use Rattle.mp4_faults.specs.Payload.{whole_payload}
 use Rattle.mp4_faults.specs.Inner.{InnerBox, end_of}
 use Rattle.mp4_faults.specs.Innermost.{IsInnermost, step_after}
 use Rattle.mp4_faults.specs.TopLevel.{IsTopBox, IsNamedBox, IsFaultAt, IsInside, RefusesContent, Means, IsRead, IsBegun}
-use Rattle.mp4_faults.specs.TopLevel.{outermost, refused, no_room}
+use Rattle.mp4_faults.specs.TopLevel.{outermost, refused, no_room, GivesNext, TellsNext, SaysNext, TellsInside}
+use Rattle.mp4_codec.specs.declared.error.Error.{Error}
+use Rattle.mp4_faults.specs.declared.top_level.NextBox.{NextBox}
+use Rattle.mp4_faults.specs.declared.top_level.NextBox.TheVariants.{Faulty}
 
 -- A box that is read, whose payload is at hand.
 module _ (size : ℕ) (bytes : List ℕ) (b : InnerBox) (t : IsTopBox size bytes b) where
@@ -136,18 +139,16 @@ module _ (size from : ℕ) (bytes : List ℕ) (large : 8 ≤ size) where
     pub end : behind ≡ from + (size - 8)
     pub within : from + (size - 8) ≤ length bytes
 
-  taken : Bool → Result (Payload × Cursor) Cause
+  abbrev taken : Bool → Result (Payload × Cursor) Cause
   taken past = cond past (Err end_of_data)
       (Ok (record { bytes = take (size - 8) (drop from bytes) }, here bytes (from + (size - 8))))
 
   taken-is : box_at whole_payload size (here bytes from) ≡ taken (ltb (length bytes) (from + (size - 8)))
-  unfolding taken
   taken-is = rw enough (by (ltb (length bytes) (from + (size - 8))))
     where
       by : (past : Bool)
           → (cond past (Err end_of_data) (Ok (take (size - 8) (drop from bytes), here bytes (from + (size - 8))))
           >>= λ part. Ok (record { bytes = part.0 }, part.1)) ≡ taken past
-      unfolding taken
       by true = refl
       by false = refl
 
@@ -157,7 +158,6 @@ module _ (size from : ℕ) (bytes : List ℕ) (large : 8 ≤ size) where
     where
       by : (past : Bool) → ltb (length bytes) (from + (size - 8)) ≡ past → taken past ≡ Ok (p, here bytes behind)
           → IsWhole p behind
-      unfolding taken
       by true t e = absurd cc
       by false t e =
           let same =
@@ -178,6 +178,19 @@ module _ (size from : ℕ) (bytes : List ℕ) (large : 8 ≤ size) where
     where
       by : (past : Bool) → ltb (length bytes) (from + (size - 8)) ≡ past → taken past ≡ Err c
           → (c ≡ end_of_data) × (length bytes < from + (size - 8))
-      unfolding taken
       by true t e = (cc, grind arith)
       by false t e = absurd cc
+
+-- What a call gives that is the answer of another.
+module _ (size : ℕ) (bytes : List ℕ) (place behind : ℕ) (old new : SeenBoxes) where
+  pub gives-fault : (r : Result NextBox Error) (f : FaultPlace) → GivesNext r (Faulty f)
+      → IsFaultAt size bytes place old.names f → TellsNext size bytes place old new behind r
+  gives-fault (Ok next) f g h = subst (λ (n : NextBox). SaysNext size bytes place old new behind n) (sym g) h
+  gives-fault (Err e) f g h = g
+
+  pub tells-inside : (r : Result NextBox Error) (names : List BoxType) (a : InnerBox) (c : Cause)
+      → TellsInside names a c r → ((f : FaultPlace) → IsInside names a c f → IsFaultAt size bytes place old.names f)
+      → TellsNext size bytes place old new behind r
+  tells-inside (Ok next) names a c t h =
+      subst (λ (n : NextBox). SaysNext size bytes place old new behind n) (sym t.1) (h t.0 t.2)
+  tells-inside (Err e) names a c t h = t

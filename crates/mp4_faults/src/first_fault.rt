@@ -1,5 +1,10 @@
 //! The first fault of a file.
 
+ghost use Rattle.std.specs.Prelude.{◌≡◌, IfSome};
+ghost use Rattle.mp4_codec.specs.Cursor.{here};
+ghost use Rattle.mp4_source.specs.Answers.{IsLength};
+ghost use Rattle.mp4_faults.specs.FirstFault.{RereadsOnly, GivesError, SaysEnd, SaysFirst};
+
 use crate::child::{PlacedBox, child_at};
 use crate::fault_place::{FaultPlace, PathStep};
 use crate::ids::{IdFault, id_fault};
@@ -11,11 +16,11 @@ use std::alloc::Global;
 /// The child of a payload that is the one with this number of its type, from 1.
 fn nth_child(payload: &[u8], name: BoxType, number: u64) -> Option<PlacedBox<'_>> {
     let mut place = 0;
-    let mut count = 0;
+    let mut count = 0u64;
     while let Some(child) = child_at(payload, place) {
         place = child.end();
         if u32::from(child.name) == u32::from(name) {
-            count += 1;
+            count = count.saturating_add(1);
             if count == number {
                 return Some(child);
             }
@@ -27,13 +32,13 @@ fn nth_child(payload: &[u8], name: BoxType, number: u64) -> Option<PlacedBox<'_>
 /// The last child of a payload that is of this type, and how many are before it.
 fn last_child(payload: &[u8], name: BoxType) -> Option<(PlacedBox<'_>, u64)> {
     let mut place = 0;
-    let mut count = 0;
+    let mut count = 0u64;
     let mut last = None;
     while let Some(child) = child_at(payload, place) {
         place = child.end();
         if u32::from(child.name) == u32::from(name) {
             last = Some((child, count));
-            count += 1;
+            count = count.saturating_add(1);
         }
     }
     last
@@ -63,7 +68,7 @@ fn track_place(seen: &SeenBoxes, index: usize) -> IdPlace {
         place: seen.moov_place,
         middle: PathStep {
             name: BoxType::TrakBox,
-            number: index as u64 + 1,
+            number: (index as u64).saturating_add(1),
         },
         header: BoxType::TkhdBox,
     }
@@ -74,12 +79,12 @@ fn fragment_place(seen: &SeenBoxes, moof: usize, traf: usize) -> IdPlace {
     IdPlace {
         top: PathStep {
             name: BoxType::MoofBox,
-            number: moof as u64 + 1,
+            number: (moof as u64).saturating_add(1),
         },
         place: seen.moof_places.get(moof).copied().unwrap_or(0),
         middle: PathStep {
             name: BoxType::TrafBox,
-            number: traf as u64 + 1,
+            number: (traf as u64).saturating_add(1),
         },
         header: BoxType::TfhdBox,
     }
@@ -98,7 +103,10 @@ fn header_of_id<S: ByteSource + Drop>(
     alloc: Global,
     reader: &mut SourceCursor<S>,
     id: IdPlace,
-) -> Result<Option<(u64, u64)>, FileError> {
+) -> Result<Option<(u64, u64)>, FileError>
+    requires len { IsLength (S.contents reader.old.source) reader.old.len }
+    ensures { IfSome (S.contents reader.old.source) (λ bytes. RereadsOnly (S.can_refuse reader.old.source) result) }
+{
     reader.set_position(id.place);
     let header = reader.read_header()?;
     if header.size < HEADER_SIZE {
@@ -118,7 +126,10 @@ fn wrong_id<S: ByteSource + Drop>(
     reader: &mut SourceCursor<S>,
     id: IdPlace,
     error: Error,
-) -> Result<FaultPlace, FileError> {
+) -> Result<FaultPlace, FileError>
+    requires len { IsLength (S.contents reader.old.source) reader.old.len }
+    ensures { IfSome (S.contents reader.old.source) (λ bytes. GivesError (S.can_refuse reader.old.source) error result) }
+{
     let mut path = Items::new(alloc);
     path.push(id.top)?;
     path.push(id.middle)?;
@@ -126,7 +137,7 @@ fn wrong_id<S: ByteSource + Drop>(
         Ok(Some((place, before))) => {
             path.push(PathStep {
                 name: id.header,
-                number: before + 1,
+                number: before.saturating_add(1),
             })?;
             Ok(FaultPlace { path, place, error })
         }
@@ -154,7 +165,11 @@ fn fault_at_end<S: ByteSource + Drop>(
     alloc: Global,
     reader: &mut SourceCursor<S>,
     seen: &SeenBoxes,
-) -> Result<Option<FaultPlace>, FileError> {
+) -> Result<Option<FaultPlace>, FileError>
+    requires len { IsLength (S.contents reader.old.source) reader.old.len }
+    ensures { IfSome (S.contents reader.old.source) (λ bytes. SaysEnd (S.can_refuse reader.old.source) seen.now
+        reader.old.position result) }
+{
     if seen.ftyp.is_none() {
         return Ok(Some(missing(alloc, reader.position(), BoxType::FtypBox)));
     }
@@ -182,7 +197,9 @@ pub fn first_fault_of<S: ByteSource + Drop>(
     source: S,
     start: u64,
     size: u64,
-) -> Result<Option<FaultPlace>, FileError> {
+) -> Result<Option<FaultPlace>, FileError>
+    ensures { IfSome (S.contents source) (λ bytes. SaysFirst size (here bytes start) (S.can_refuse source) result) }
+{
     let window = Window::new(alloc, source)?;
     let mut reader = SourceCursor::new(alloc, window, start)?;
     let mut seen = SeenBoxes::none(alloc);

@@ -230,7 +230,7 @@ fn skip_box<S: ByteSource + Drop>(
 fn add_box(alloc: Global, seen: &mut SeenBoxes, top: PlacedBox) -> Result<NextBox>
     requires { IsRead top.name }
     ensures { (size : ℕ) (bytes : List ℕ) → IsTopBox size bytes (inner top.entry)
-        → TellsNext size bytes top.place seen.old seen.new (end_of (inner top.entry)) result }
+        → TellsNext size bytes top.entry.place seen.old seen.new (end_of (inner top.entry)) result }
 {
     if top.from.checked_add(top.payload.len() as u64).is_none() {
         return fault_of_box(alloc, seen, top.name, top.place, Error::EndOfData);
