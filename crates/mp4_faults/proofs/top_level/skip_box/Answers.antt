@@ -1,5 +1,6 @@
 use Rattle.std.proofs.Common.{◌≡◌, ◌≤◌, ◌<◌, ◌+◌, ◌-◌, ◌^◌, refl, arith, ℕ}
 use Rattle.mp4_media.proofs.FoundBoxes.{all_known}
+use Rattle.mp4_media.specs.FileBoxes.{Skipped}
 use Rattle.mp4_faults.proofs.Stepping.{gives-fault, too-wide, skipped-box}
 use Rattle.mp4_faults.proofs.top_level.skip_box.Goals as goal
 
@@ -21,7 +22,7 @@ returns-clause-answer g c =
     let small : from + (h.size - 8) < 2 ^ 64 = grind (arith, behind, c.in-Some.ensures) in
     λ size. all_known (g.S.ByteSource.contents c.args.reader.now.source) _
     (λ bytes t. (
-      _,
-      rw behind (skipped-box size bytes c.args.place from h c.requires.size t c.requires.skipped small),
+      (h.name, record { place = c.args.place; content = Skipped }),
+      rw (c.set_position.ensures, behind) (skipped-box size bytes c.args.place from h c.requires.size t c.requires.skipped small),
       record { names = c.in_ok-push.ensures.ok; ftyp = refl; moov = refl; moofs = refl },
     ))
