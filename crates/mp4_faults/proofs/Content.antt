@@ -1,5 +1,5 @@
 -- What the payload of a box of a file means.
-use Rattle.std.proofs.Common.{◌≡◌, ℕ, List, Option, Some, None, Result, Ok, Err, refl}
+use Rattle.std.proofs.Common.{◌≡◌, ℕ, List, Some, Result, Ok, Err, refl}
 use Rattle.mp4_codec.specs.declared.box_type.BoxType.{BoxType}
 use Rattle.mp4_codec.specs.Cause.{Cause}
 use Rattle.mp4_media.specs.FileBoxes.{BoxContent, meaning_of, read_as}

@@ -1,13 +1,13 @@
 -- Looking for the first child of a container that is refused: each step, and the ends.
-use Rattle.std.proofs.Common.{◌≡◌, ◌++◌, ◌∷◌, [], ℕ, List, Option, Some, None, true, false, Bool, refl, sym, ap, ◌∙◌}
-use Rattle.std.proofs.Common.{subst, cond}
+use Rattle.std.proofs.Common.{◌≡◌, ◌++◌, ◌∷◌, [], ℕ, List, Some, None, true, false, refl, sym, ap, ◌∙◌}
+use Rattle.std.proofs.Common.{subst}
 use Rattle.std.specs.List.{AllByRecursion}
 use Rattle.mp4_codec.specs.declared.box_type.BoxType.{BoxType}
 use Rattle.mp4_codec.specs.Cause.{Cause}
 use Rattle.mp4_faults.specs.declared.fault_place.PathStep.{PathStep}
 use Rattle.mp4_faults.specs.Containers.{before_children, first_alone}
 use Rattle.mp4_faults.specs.Inner.{InnerBox, end_of, box_within, AreWithin, outward}
-use Rattle.mp4_faults.specs.Innermost.{Passes, IsFirstRefused, NoneRefused, sole, all, childless, child_fault, names_of}
+use Rattle.mp4_faults.specs.Innermost.{Passes, IsFirstRefused, NoneRefused, sole, all, child_fault, names_of}
 use Rattle.mp4_faults.specs.Innermost.{step_after, Leads}
 
 -- one box more

@@ -1,6 +1,6 @@
 -- The next box of a file: what is known of it, and of its fault.
-use Rattle.std.proofs.Common.{◌≡◌, ◌⊎◌, inl, inr, ◌<◌, ◌≤◌, ℕ, ◌+◌, ◌-◌, ◌^◌, Bool, true, false, ltb, cond, List, [], ◌∷◌, ◌++◌}
-use Rattle.std.proofs.Common.{length, take, drop, Option, Some, None, Result, Ok, Err, refl, sym, ap, subst, ◌∙◌, arith}
+use Rattle.std.proofs.Common.{◌≡◌, inl, inr, ◌<◌, ◌≤◌, ℕ, ◌+◌, ◌-◌, ◌^◌, Bool, true, false, ltb, cond, List, [], ◌∷◌}
+use Rattle.std.proofs.Common.{length, take, drop, Some, None, Result, Ok, Err, refl, sym, ap, subst, ◌∙◌, arith}
 use Rattle.std.proofs.lemmas.Bool.{le-ltb}
 use Rattle.mp4_codec.specs.declared.box_type.BoxType.{BoxType}
 use Rattle.mp4_codec.specs.declared.box_type.BoxType.TheVariants.{FtypBox, MoovBox, MoofBox, EmsgBox}
@@ -9,7 +9,7 @@ use Rattle.mp4_codec.specs.Cause.{Cause, cause_of, end_of_data, invalid_data, �
 use Rattle.mp4_codec.specs.Cursor.{Cursor, here, header_at}
 use Rattle.mp4_codec.specs.Boxes.{box_at}
 use Rattle.mp4_codec.specs.Steps.{ok_is}
-use Rattle.mp4_media.specs.FileBoxes.{FileBox, BoxContent, Skipped, meaning_of}
+use Rattle.mp4_media.specs.FileBoxes.{BoxContent, Skipped, meaning_of}
 use Rattle.mp4_media.specs.FileGrammar.{between, Begins, read, skipped, past_the_bytes, meaningless, past_64_bits, nothing}
 use Rattle.mp4_media.specs.FileGrammar.{larger, IsFault}
 use Rattle.mp4_faults.specs.declared.fault_place.FaultPlace.{FaultPlace}

@@ -4,3 +4,4 @@ pub mod Containers
 pub mod Inner
 pub mod Innermost
 pub mod TopLevel
+pub mod BoxFault

@@ -1,5 +1,5 @@
 -- Why a payload is refused as that of a box (ISO/IEC 14496-12, 4.2): each box says so itself.
-use Rattle.std.specs.Prelude.{◌≡◌, ℕ, List, Option, Some, None, option_map, Result, Ok, Err}
+use Rattle.std.specs.Prelude.{◌≡◌, ℕ, List, Option, None, option_map, Result, Ok, Err}
 use Rattle.mp4_codec.specs.declared.box_type.BoxType.{BoxType}
 use Rattle.mp4_codec.specs.declared.box_type.BoxType.TheVariants.{FtypBox, MoovBox, MvhdBox, TrakBox, TkhdBox}
 use Rattle.mp4_codec.specs.declared.box_type.BoxType.TheVariants.{EdtsBox, ElstBox, MdiaBox, MdhdBox, HdlrBox}

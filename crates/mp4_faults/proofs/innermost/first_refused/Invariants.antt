@@ -1,4 +1,4 @@
-use Rattle.std.proofs.Common.{◌≤◌, ◌-◌, length}
+use Rattle.std.proofs.Common.{◌-◌, length}
 use Rattle.mp4_faults.proofs.Looking.{Looking}
 use Rattle.mp4_faults.proofs.innermost.first_refused.Given as goal
 

@@ -1,4 +1,4 @@
-use Rattle.std.proofs.Common.{◌≡◌, ◌++◌, ◌∷◌, [], sym, ◌∙◌, ap, refl, subst, arith, append_assoc, List}
+use Rattle.std.proofs.Common.{◌++◌, ◌∷◌, [], sym, ◌∙◌, ap, refl, subst, arith, append_assoc, List}
 use Rattle.std.proofs.lemmas.List.{append-nil}
 use Rattle.mp4_codec.specs.Cause.{cause_of}
 use Rattle.mp4_faults.specs.declared.fault_place.PathStep.{PathStep}

@@ -1,4 +1,4 @@
-use Rattle.std.proofs.Common.{◌≡◌, refl, sym, ap, ◌∙◌, arith}
+use Rattle.std.proofs.Common.{refl, ◌∙◌}
 use Rattle.mp4_codec.specs.Cause.{cause_of}
 use Rattle.mp4_faults.specs.Inner.{inner, end_of}
 use Rattle.mp4_faults.proofs.Stepping.{tells-inside, top-fault, top-box}

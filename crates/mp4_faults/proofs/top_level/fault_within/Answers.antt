@@ -1,5 +1,4 @@
-use Rattle.std.proofs.Common.{◌≡◌, ◌++◌, ◌∷◌, [], refl, ap, ◌∙◌, List}
-use Rattle.mp4_faults.specs.declared.fault_place.PathStep.{PathStep}
+use Rattle.std.proofs.Common.{refl, ◌∙◌}
 use Rattle.mp4_faults.specs.Inner.{inner}
 use Rattle.mp4_faults.proofs.top_level.fault_within.Goals as goal
 

@@ -1,4 +1,3 @@
-use Rattle.std.proofs.Common.{refl}
 use Rattle.mp4_media.proofs.Contents.{meaning-none}
 use Rattle.mp4_faults.proofs.top_level.is_read.Goals as goal
 

@@ -1,4 +1,4 @@
-use Rattle.std.proofs.Common.{◌≡◌, ◌≤◌, ◌<◌, ◌+◌, ◌-◌, ◌^◌, refl, arith, ℕ}
+use Rattle.std.proofs.Common.{◌≡◌, ◌≤◌, ◌<◌, ◌+◌, ◌-◌, ◌^◌, refl, arith}
 use Rattle.mp4_media.proofs.FoundBoxes.{all_known}
 use Rattle.mp4_media.specs.FileBoxes.{Skipped}
 use Rattle.mp4_faults.proofs.Stepping.{gives-fault, too-wide, skipped-box}
