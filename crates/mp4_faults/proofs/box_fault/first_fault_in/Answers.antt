@@ -12,7 +12,7 @@ returns c =
     let same : answer.0 ≡ c.innermost_fault.new.path =
     sym (answer.2 ∙ ap (λ (p : List PathStep). p ++ answer.0) c.new-path.ensures) in
     record {
-      refused = sym (rw c.in-Some.is at c.in_ok-refusal_of.ensures);
+      refused = sym (rw c.in-Some.is at c.in_ok-error.ensures);
       innermost = inner c.in_ok-innermost.innermost;
       leads = subst (λ (p : List PathStep). IsInnermost (cause_of c.in-Some.error)
           (alone c.args.name c.args.payload.now) p (inner c.in_ok-innermost.innermost)) same answer.1;
