@@ -1,5 +1,0 @@
-//! Where broken files are broken.
-#![tactic(auto)]
-
-#[cfg(test)]
-mod broken;
