@@ -10,8 +10,8 @@ use Rattle.mp4_codec.specs.Cursor.{Cursor, here, header_at}
 use Rattle.mp4_codec.specs.Boxes.{box_at}
 use Rattle.mp4_codec.specs.Steps.{ok_is}
 use Rattle.mp4_media.specs.FileBoxes.{BoxContent, Skipped, meaning_of}
-use Rattle.mp4_media.specs.FileGrammar.{between, Begins, read, skipped, past_the_bytes, meaningless, past_64_bits, nothing}
-use Rattle.mp4_media.specs.FileGrammar.{larger, IsFault}
+use Rattle.mp4_media.specs.FileGrammar.{between, Begins, read, skipped, past_the_bytes, meaningless, past_64_bits}
+use Rattle.mp4_media.specs.FileGrammar.{nothing, larger, IsFault}
 use Rattle.mp4_faults.specs.declared.fault_place.FaultPlace.{FaultPlace}
 use Rattle.mp4_faults.specs.declared.top_level.Payload.{Payload}
 use Rattle.mp4_faults.specs.declared.top_level.SeenBoxes.{SeenBoxes}
@@ -49,9 +49,11 @@ module _ (size : ℕ) (bytes : List ℕ) (b : InnerBox) (t : IsTopBox size bytes
   pub top-fault : (old new : SeenBoxes) (c : Cause) (f : FaultPlace) → RefusesContent old new b c
       → IsInside new.names b c f → IsFaultAt size bytes b.place old.names f
   top-fault old new c f r i = record {
-    fault = subst (λ (x : Cause). IsFault size bytes b.place x) (sym i.cause) (nothing b.name b.from (end_of b) t.begins t.fits
+    fault = subst (λ (x : Cause). IsFault size bytes b.place x) (sym i.cause)
+        (nothing b.name b.from (end_of b) t.begins t.fits
         (meaningless r.means.0 r.means.1 t.within (ap r.means.0 (sym t.payload) ∙ r.means.2)));
-    is_in = subst (λ (x : Cause). IsIn size bytes b.place old.names x f.path f.place) (sym i.cause) (refused b.name b.from (end_of b) t.begins
+    is_in = subst (λ (x : Cause). IsIn size bytes b.place old.names x f.path f.place) (sym i.cause)
+        (refused b.name b.from (end_of b) t.begins
         (ap (λ (p : List ℕ). payload_fault b.name p) (sym t.payload) ∙ r.fault) i.inward i.b
         (subst (λ (a : InnerBox). IsInnermost c a i.inward i.b) same-box i.innermost)
         (i.path ∙ ap (λ names. step_after b.name names ∷ i.inward) r.names) i.place);

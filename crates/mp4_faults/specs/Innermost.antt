@@ -1,12 +1,14 @@
 -- The innermost box that is at fault where a box is refused: from each box on to the first of its children that is
 -- refused for the same cause.
-use Rattle.std.specs.Prelude.{◌≡◌, ℕ, ◌+◌, List, [], ◌∷◌, ◌++◌, Option, Some, None, Result, Ok, Err, true, ◌==◌, count_by}
+use Rattle.std.specs.Prelude.{◌≡◌, ℕ, ◌+◌, List, [], ◌∷◌, ◌++◌, Option, Some, None, Result, Ok, Err, true, ◌==◌}
+use Rattle.std.specs.Prelude.{count_by}
 use Rattle.std.specs.Prelude.{if◌then◌else◌, map}
 use Rattle.std.specs.List.{AllByRecursion}
 use Rattle.mp4_codec.specs.declared.box_type.BoxType.{BoxType}
 use Rattle.mp4_codec.specs.declared.error.Error.{Error}
 use Rattle.mp4_codec.specs.declared.error.Error.TheVariants.{OutOfMemory, BoxInTrakNotFound, BoxInTrafNotFound}
-use Rattle.mp4_codec.specs.declared.error.Error.TheVariants.{BoxInStblNotFound, EntryInStblNotFound, EntryInTrunNotFound}
+use Rattle.mp4_codec.specs.declared.error.Error.TheVariants.{BoxInStblNotFound, EntryInStblNotFound}
+use Rattle.mp4_codec.specs.declared.error.Error.TheVariants.{EntryInTrunNotFound}
 use Rattle.mp4_codec.specs.BoxType.{code_of}
 use Rattle.mp4_codec.specs.Cause.{Cause, cause_of}
 use Rattle.mp4_faults.specs.declared.fault_place.PathStep.{PathStep}

@@ -5,3 +5,4 @@ pub mod Inner
 pub mod Innermost
 pub mod TopLevel
 pub mod BoxFault
+pub mod FirstFault

@@ -1,5 +1,5 @@
 -- The boxes of a file up to its first fault, with their types, and where that fault is (ISO/IEC 14496-12, 4.2).
-use Rattle.std.specs.Prelude.{◌≡◌, ◌⊎◌, ◌<◌, ◌≤◌, ℕ, ◌+◌, ◌-◌, ◌^◌, Bool, IsTrue, List, [], ◌∷◌, ◌++◌, length, map}
+use Rattle.std.specs.Prelude.{◌≡◌, ◌⊎◌, ◌<◌, ◌≤◌, ℕ, ◌+◌, ◌-◌, ◌^◌, List, [], ◌∷◌, ◌++◌, length, map}
 use Rattle.std.specs.Prelude.{Option, Some, None, Result, Ok, Err}
 use Rattle.mp4_codec.specs.declared.box_type.BoxType.{BoxType}
 use Rattle.mp4_codec.specs.declared.box_type.BoxType.TheVariants.{FtypBox, MoovBox, MoofBox, EmsgBox}
@@ -9,8 +9,6 @@ use Rattle.mp4_codec.specs.declared.error.Error.TheVariants.{OutOfMemory}
 use Rattle.mp4_codec.specs.Cause.{Cause, cause_of}
 use Rattle.mp4_codec.specs.Children.{last}
 use Rattle.mp4_codec.specs.Cursor.{header_at, here}
-use Rattle.mp4_source.specs.declared.file_error.FileError.{FileError}
-use Rattle.mp4_source.specs.declared.file_error.FileError.TheVariants.{Mp4, Io}
 use Rattle.mp4_media.specs.FileBoxes.{FileBox, ftyp_from, moov_from, moof_from, ftyps_in, moovs_in, moofs_in, later}
 use Rattle.mp4_media.specs.FileBoxes.{and_one, BoxContent, meaning_of}
 use Rattle.mp4_media.specs.FileGrammar.{between, Begins, IsFileBox, IsFault, EndsFile}
@@ -98,11 +96,6 @@ pub record Sees (old new : SeenBoxes) (b : NamedBox) : Type 0 where
   pub moov : new.moov ≡ later (moov_from b.1.content) old.moov
   pub moofs : new.moofs ≡ and_one old.moofs (moof_from b.1.content)
 
--- nothing can be said: memory ran out, or the source refused, which can
-abbrev pub IsUnread : Bool → FileError → Type 0
-IsUnread can_refuse (Mp4 e) = e ≡ OutOfMemory
-IsUnread can_refuse (Io e) = IsTrue can_refuse
-
 -- What a call says of a place of a file, with what was seen before it and after it, and the place after it.
 abbrev pub SaysNext : ℕ → List ℕ → ℕ → SeenBoxes → SeenBoxes → ℕ → NextBox → Type 0
 SaysNext size bytes place old new behind Faultless =
@@ -114,11 +107,6 @@ SaysNext size bytes place old new behind (Faulty f) = IsFaultAt size bytes place
 abbrev pub GivesNext : Result NextBox Error → NextBox → Type 0
 GivesNext (Ok next) expected = next ≡ expected
 GivesNext (Err e) expected = e ≡ OutOfMemory
-
--- the same of a source, where nothing can be said if it isn't read
-abbrev pub ReadsNext : ℕ → List ℕ → Bool → ℕ → SeenBoxes → SeenBoxes → ℕ → Result NextBox FileError → Type 0
-ReadsNext size bytes can_refuse place old new behind (Ok next) = SaysNext size bytes place old new behind next
-ReadsNext size bytes can_refuse place old new behind (Err e) = IsUnread can_refuse e
 
 -- the same of a box that is at hand
 abbrev pub TellsNext : ℕ → List ℕ → ℕ → SeenBoxes → SeenBoxes → ℕ → Result NextBox Error → Type 0

@@ -1,14 +1,18 @@
 //! The first fault of a file.
 
-ghost use Rattle.std.specs.Prelude.{◌≤◌, IfSome, length};
+ghost use Rattle.std.specs.Prelude.{◌≡◌, ◌≤◌, IfErr, IfOk, IfSome, length};
+ghost use Rattle.mp4_codec.specs.Cursor.{here};
+ghost use Rattle.mp4_media.specs.Walk.{opened_at};
 ghost use Rattle.mp4_source.specs.Answers.{IsLength};
 ghost use Rattle.mp4_faults.specs.Inner.{inner, end_of};
+ghost use Rattle.mp4_faults.specs.FirstFault.{IsUnread, SaysFirst, SaysOpening};
 
 use crate::child::{PlacedBox, child_at};
 use crate::fault_place::{FaultPlace, PathStep};
 use crate::ids::{IdFault, id_fault};
 use crate::top_level::{NextBox, Payload, SeenBoxes, next_box};
 use mp4_codec::{BoxType, Error, HEADER_SIZE, Items};
+use mp4_media::Mp4File;
 use mp4_source::{ByteSource, FileError, SourceCursor, Window};
 use std::alloc::Global;
 
@@ -207,10 +211,56 @@ fn fault_from<S: ByteSource + Drop>(
     }
 }
 
-/// Where a file is broken that begins at the place `start` of a source and ends at its place `size`, both counted from
-/// the source's first byte: the place of its first fault; `None` for a file that opens. What opens, and by which error
-/// it is refused else, is as [`mp4_media::Mp4File::open`] answers with the same arguments.
-pub fn first_fault_of<S: ByteSource + Drop>(
+/// The error by which a file is refused, as [`Mp4File::open`] answers with the same arguments; `None` where it opens.
+fn opening_error<S: ByteSource + Drop>(
+    alloc: Global,
+    source: &mut S,
+    start: u64,
+    size: u64,
+) -> Result<Option<Error>, FileError>
+    ensures { IfSome (S.contents source.old) (λ bytes. SaysOpening (opened_at size (here bytes start)) result) }
+{
+    match Mp4File::open(alloc, source, start, size) {
+        Ok(file) => {
+            drop(file);
+            Ok(None)
+        }
+        Err(FileError::Mp4(Error::OutOfMemory)) => Err(FileError::Mp4(Error::OutOfMemory)),
+        Err(FileError::Mp4(error)) => Ok(Some(error)),
+        Err(error) => Err(error),
+    }
+}
+
+/// Where the file is broken that is refused by this error. Where the source isn't any more as it was when it was
+/// opened, and has no fault now, the place is where the file begins.
+fn place_of_error<S: ByteSource + Drop>(
+    alloc: Global,
+    source: S,
+    start: u64,
+    size: u64,
+    error: Error,
+) -> Result<FaultPlace, FileError>
+    ensures error { IfOk result (λ f. f.error ≡ error) }
+    ensures unread { IfErr result IsUnread }
+{
+    match found_place(alloc, source, start, size) {
+        Ok(Some(found)) => Ok(FaultPlace {
+            path: found.path,
+            place: found.place,
+            error,
+        }),
+        Err(FileError::Mp4(Error::OutOfMemory)) => Err(FileError::Mp4(Error::OutOfMemory)),
+        Err(FileError::Io(refused)) => Err(FileError::Io(refused)),
+        _ => Ok(FaultPlace {
+            path: Items::new(alloc),
+            place: start,
+            error,
+        }),
+    }
+}
+
+/// The first fault that a walk over the boxes of a file finds.
+fn found_place<S: ByteSource + Drop>(
     alloc: Global,
     source: S,
     start: u64,
@@ -219,4 +269,29 @@ pub fn first_fault_of<S: ByteSource + Drop>(
     let window = Window::new(alloc, source)?;
     let mut reader = SourceCursor::new(alloc, window, start)?;
     fault_from(alloc, &mut reader, size)
+}
+
+/// Where a file is broken that begins at the place `start` of a source and ends at its place `size`, both counted from
+/// the source's first byte: the place of its first fault; `None` for a file that opens. What opens, and by which error
+/// it is refused else, is as [`Mp4File::open`] answers with the same arguments: it is opened first, and where it is
+/// refused its boxes are gone over again.
+///
+/// Refused by `OutOfMemory`, or by `Io` where the source refuses a read.
+pub fn first_fault_of<S: ByteSource + Drop>(
+    alloc: Global,
+    source: S,
+    start: u64,
+    size: u64,
+) -> Result<Option<FaultPlace>, FileError>
+    ensures { IfSome (S.contents source) (λ bytes. SaysFirst (opened_at size (here bytes start)) result) }
+{
+    let mut source = source;
+    match opening_error(alloc, &mut source, start, size) {
+        Ok(None) => Ok(None),
+        Ok(Some(error)) => match place_of_error(alloc, source, start, size, error) {
+            Ok(fault) => Ok(Some(fault)),
+            Err(unread) => Err(unread),
+        },
+        Err(unread) => Err(unread),
+    }
 }

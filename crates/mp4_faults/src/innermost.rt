@@ -4,7 +4,8 @@ ghost use Rattle.std.specs.Prelude.{◌≡◌, ◌↔◌, ◌++◌, ◌+◌, ◌
 ghost use Rattle.mp4_codec.specs.Cause.{cause_of};
 ghost use Rattle.mp4_faults.specs.declared.fault_place.PathStep.{PathStep};
 ghost use Rattle.mp4_faults.specs.Inner.{inner, end_of};
-ghost use Rattle.mp4_faults.specs.Innermost.{step_after, child_fault, FindsRefused, FindsFaulty, FindsInnermost, IsLack};
+ghost use Rattle.mp4_faults.specs.Innermost.{step_after, child_fault, FindsRefused, FindsFaulty, FindsInnermost};
+ghost use Rattle.mp4_faults.specs.Innermost.{IsLack};
 ghost use Rattle.mp4_faults.specs.Refusal.{TellsFault};
 
 use crate::child::{PlacedBox, child_at};

@@ -23,6 +23,7 @@ returns-clause-answer g c =
     λ size. all_known (g.S.ByteSource.contents c.args.reader.now.source) _
     (λ bytes t. (
       (h.name, record { place = c.args.place; content = Skipped }),
-      rw (c.set_position.ensures, behind) (skipped-box size bytes c.args.place from h c.requires.size t c.requires.skipped small),
+      rw (c.set_position.ensures, behind)
+          (skipped-box size bytes c.args.place from h c.requires.size t c.requires.skipped small),
       record { names = c.in_ok-push.ensures.ok; ftyp = refl; moov = refl; moofs = refl },
     ))
