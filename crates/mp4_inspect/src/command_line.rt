@@ -1,0 +1,196 @@
+//! The command line.
+
+use clap::{Arg, ArgAction, ArgMatches, Command, Error};
+use std::alloc::{AllocError, Global};
+
+/// A command and its arguments.
+#[derive(Clone, Copy, Debug)]
+pub enum Request<'a> {
+    /// The boxes of a file, down to a depth.
+    Boxes {
+        file: &'a str,
+        depth: Option<u32>,
+        all: bool,
+        json: bool,
+    },
+    /// The tracks of a file.
+    Tracks {
+        file: &'a str,
+        json: bool,
+    },
+    /// The samples of a track: as many as are asked for, from a number or a time on.
+    Samples {
+        file: &'a str,
+        track: u32,
+        from: Option<u32>,
+        count: Option<u32>,
+        at: Option<&'a str>,
+        json: bool,
+    },
+    /// The metadata of a file; its picture is written to a file of this name.
+    Metadata {
+        file: &'a str,
+        cover: Option<&'a str>,
+        json: bool,
+    },
+}
+
+impl<'a> Request<'a> {
+    /// The name of the file that is looked at.
+    pub fn file(&self) -> &'a str {
+        match *self {
+            Request::Boxes { file, .. } => file,
+            Request::Tracks { file, .. } => file,
+            Request::Samples { file, .. } => file,
+            Request::Metadata { file, .. } => file,
+        }
+    }
+}
+
+fn file_argument<'a>(alloc: Global) -> Arg<'a> {
+    Arg::new(alloc, "file")
+        .value_name("FILE")
+        .required(true)
+        .action(ArgAction::Set)
+        .help("The MP4 file")
+}
+
+fn json_flag<'a>(alloc: Global) -> Arg<'a> {
+    Arg::new(alloc, "json")
+        .long("json")
+        .action(ArgAction::SetTrue)
+        .help("Print one JSON document")
+}
+
+/// An option with a number.
+fn number_option<'a>(alloc: Global, name: &'a str, help: &'a str) -> Arg<'a> {
+    Arg::new(alloc, name)
+        .long(name)
+        .value_name("N")
+        .action(ArgAction::Set)
+        .value_parser(clap::value_parser!(u32))
+        .help(help)
+}
+
+fn boxes_command<'a>(alloc: Global) -> Result<Command<'a>, AllocError> {
+    let all = Arg::new(alloc, "all")
+        .long("all")
+        .action(ArgAction::SetTrue)
+        .help("Print lists whole");
+    Command::new(alloc, "boxes")
+        .about(
+            "Lists each box with its place, its size and its fields, also in files that don't open",
+        )
+        .after_help("Example: mp4_inspect boxes film.mp4 --depth 2")
+        .arg(file_argument(alloc))?
+        .arg(number_option(
+            alloc,
+            "depth",
+            "List boxes to this depth; 1 is the file's own",
+        ))?
+        .arg(all)?
+        .arg(json_flag(alloc))
+}
+
+fn tracks_command<'a>(alloc: Global) -> Result<Command<'a>, AllocError> {
+    Command::new(alloc, "tracks")
+        .about("Says what each track is: its codec, pictures or sound, duration and samples")
+        .after_help("Example: mp4_inspect tracks film.mp4 --json")
+        .arg(file_argument(alloc))?
+        .arg(json_flag(alloc))
+}
+
+fn samples_command<'a>(alloc: Global) -> Result<Command<'a>, AllocError> {
+    let track = Arg::new(alloc, "track")
+        .value_name("TRACK")
+        .required(true)
+        .action(ArgAction::Set)
+        .value_parser(clap::value_parser!(u32))
+        .help("The track's id, as `tracks` shows it");
+    let at = Arg::new(alloc, "at")
+        .long("at")
+        .value_name("SECONDS")
+        .action(ArgAction::Set)
+        .conflicts_with("from")?
+        .help("Begin with the sample that is decoded at this time, as 12.5");
+    Command::new(alloc, "samples")
+        .about("Lists the samples of a track: where they lie, and when they are decoded and shown")
+        .after_help("Example: mp4_inspect samples film.mp4 1 --at 12.5 --count 10")
+        .arg(file_argument(alloc))?
+        .arg(track)?
+        .arg(number_option(
+            alloc,
+            "from",
+            "Begin with the sample of this number, from 1",
+        ))?
+        .arg(number_option(alloc, "count", "List at most so many"))?
+        .arg(at)?
+        .arg(json_flag(alloc))
+}
+
+fn metadata_command<'a>(alloc: Global) -> Result<Command<'a>, AllocError> {
+    let cover = Arg::new(alloc, "cover")
+        .long("cover")
+        .value_name("OUT")
+        .action(ArgAction::Set)
+        .help("Write the picture to this file");
+    Command::new(alloc, "metadata")
+        .about("Says the title, the year, the summary and the picture of the work")
+        .after_help("Example: mp4_inspect metadata film.mp4 --cover cover.jpg")
+        .arg(file_argument(alloc))?
+        .arg(cover)?
+        .arg(json_flag(alloc))
+}
+
+/// The whole command line.
+fn command<'a>(alloc: Global) -> Result<Command<'a>, AllocError> {
+    Command::new(alloc, "mp4_inspect")
+        .about("Inspects MP4 files: their boxes, tracks, samples and metadata")
+        .after_help("Each command has an example: mp4_inspect COMMAND --help")
+        .subcommand_required(true)
+        .subcommand(boxes_command(alloc)?)?
+        .subcommand(tracks_command(alloc)?)?
+        .subcommand(samples_command(alloc)?)?
+        .subcommand(metadata_command(alloc)?)
+}
+
+/// The request of a subcommand's name and arguments. Each argument that is required was given.
+fn request_of<'a>(name: &'a str, arguments: &ArgMatches<'a>) -> Request<'a> {
+    let file = arguments.get_str("file").unwrap_or("");
+    let json = arguments.get_flag("json");
+    match name {
+        "boxes" => Request::Boxes {
+            file,
+            depth: arguments.get_one::<u32>("depth"),
+            all: arguments.get_flag("all"),
+            json,
+        },
+        "samples" => Request::Samples {
+            file,
+            track: arguments.get_one::<u32>("track").unwrap_or(0),
+            from: arguments.get_one::<u32>("from"),
+            count: arguments.get_one::<u32>("count"),
+            at: arguments.get_str("at"),
+            json,
+        },
+        "metadata" => Request::Metadata {
+            file,
+            cover: arguments.get_str("cover"),
+            json,
+        },
+        _ => Request::Tracks { file, json },
+    }
+}
+
+/// The request of these words, of which the first is the program's name; or clap's message, which is that of
+/// `--help` too.
+pub fn request_in<'a>(alloc: Global, words: &'a [String]) -> Result<Request<'a>, Error> {
+    let matches = command(alloc)?.try_get_matches_from(words)?;
+    match matches.subcommand() {
+        Some((name, arguments)) => Ok(request_of(name, arguments)),
+        None => Ok(Request::Tracks {
+            file: "",
+            json: false,
+        }),
+    }
+}

@@ -1,0 +1,25 @@
+//! Why a command gives no report.
+
+use mp4_media::Error;
+use std::io;
+use thiserror::Error as ThisError;
+
+/// Why a command gives no report.
+#[derive(Debug, Drop, ThisError)]
+pub enum Fault {
+    /// The file can't be opened, or isn't read to its end.
+    #[error("cannot read it: {0}")]
+    CannotRead(io::Error),
+    /// A file that the command makes can't be written whole.
+    #[error("cannot write the picture: {0}")]
+    CannotWrite(io::Error),
+    /// The file is no MP4 file that the library opens, or memory ran out.
+    #[error("{0}")]
+    Movie(#[from] Error),
+    /// The report has no JSON, where memory ran out.
+    #[error("{0}")]
+    Json(#[from] serde_json::Error),
+    /// The file has no picture.
+    #[error("no picture to write")]
+    NoCover,
+}
