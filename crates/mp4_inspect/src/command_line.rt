@@ -1,7 +1,9 @@
 //! The command line.
 
 use clap::{Arg, ArgAction, ArgMatches, Command, Error};
+use mp4_report::{First, SamplesRequest, milliseconds_in};
 use std::alloc::{AllocError, Global};
+use std::str::FromStr;
 
 /// A command and its arguments.
 #[derive(Clone, Copy, Debug)]
@@ -21,10 +23,7 @@ pub enum Request<'a> {
     /// The samples of a track: as many as are asked for, from a number or a time on.
     Samples {
         file: &'a str,
-        track: u32,
-        from: Option<u32>,
-        count: Option<u32>,
-        at: Option<&'a str>,
+        samples: SamplesRequest,
         json: bool,
     },
     /// The metadata of a file; its picture is written to a file of this name.
@@ -154,6 +153,36 @@ fn command<'a>(alloc: Global) -> Result<Command<'a>, AllocError> {
         .subcommand(metadata_command(alloc)?)
 }
 
+/// A number of seconds, in thousandths of one.
+#[derive(Clone, Copy, Debug)]
+struct Seconds {
+    milliseconds: u64,
+}
+
+impl FromStr for Seconds {
+    type Err = &'static str;
+
+    fn from_str(text: &str) -> Result<Self, &'static str> {
+        match milliseconds_in(text) {
+            Some(milliseconds) => Ok(Seconds { milliseconds }),
+            None => Err("seconds are a number, as 12.5"),
+        }
+    }
+}
+
+/// The samples that are asked for.
+fn samples_in(arguments: &ArgMatches<'_>) -> SamplesRequest {
+    let first = match arguments.get_one::<Seconds>("at") {
+        Some(Seconds { milliseconds }) => First::Milliseconds(milliseconds),
+        None => First::Number(arguments.get_one::<u32>("from").unwrap_or(1)),
+    };
+    SamplesRequest {
+        track_id: arguments.get_one::<u32>("track").unwrap_or(0),
+        first,
+        count: arguments.get_one::<u32>("count").unwrap_or(u32::MAX),
+    }
+}
+
 /// The request of a subcommand's name and arguments. Each argument that is required was given.
 fn request_of<'a>(name: &'a str, arguments: &ArgMatches<'a>) -> Request<'a> {
     let file = arguments.get_str("file").unwrap_or("");
@@ -167,10 +196,7 @@ fn request_of<'a>(name: &'a str, arguments: &ArgMatches<'a>) -> Request<'a> {
         },
         "samples" => Request::Samples {
             file,
-            track: arguments.get_one::<u32>("track").unwrap_or(0),
-            from: arguments.get_one::<u32>("from"),
-            count: arguments.get_one::<u32>("count"),
-            at: arguments.get_str("at"),
+            samples: samples_in(arguments),
             json,
         },
         "metadata" => Request::Metadata {

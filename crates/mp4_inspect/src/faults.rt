@@ -1,6 +1,7 @@
 //! Why a command gives no report.
 
-use mp4_media::Error;
+use mp4_media::{Error, FileError};
+use mp4_report::Reason;
 use std::io;
 use thiserror::Error as ThisError;
 
@@ -14,7 +15,7 @@ pub enum Fault {
     #[error("cannot write the picture: {0}")]
     CannotWrite(io::Error),
     /// The file is no MP4 file that the library opens, or memory ran out.
-    #[error("{0}")]
+    #[error("{}", Reason(.0))]
     Movie(#[from] Error),
     /// The report has no JSON, where memory ran out.
     #[error("{0}")]
@@ -22,4 +23,13 @@ pub enum Fault {
     /// The file has no picture.
     #[error("no picture to write")]
     NoCover,
+}
+
+impl From<FileError> for Fault {
+    fn from(error: FileError) -> Fault {
+        match error {
+            FileError::Mp4(error) => Fault::Movie(error),
+            FileError::Io(error) => Fault::CannotRead(error),
+        }
+    }
 }

@@ -3,8 +3,11 @@
 use crate::command_line::{Request, request_in};
 use crate::faults::Fault;
 use crate::files::{is_regular, open, read_all};
-use mp4_media::{ByteSource, Error, FileError, Mp4File, SeekSource};
-use mp4_report::{cover_of, json_text, metadata_of};
+use mp4_media::{ByteSource, Error, Mp4File, SeekSource};
+use mp4_report::{
+    BoxesRequest, SamplesRequest, boxes_of, cover_of, entry_codes_of, json_text, metadata_of,
+    samples_of, tracks_of,
+};
 use serde::Serialize;
 use std::alloc::{AllocError, Global};
 use std::fmt::Display;
@@ -34,11 +37,7 @@ fn printed<T: Display + Serialize>(
 fn open_movie<S: ByteSource + Drop>(alloc: Global, source: S) -> Result<Mp4File<S>, Fault> {
     let mut source = source;
     let size = source.len().map_err(Fault::CannotRead)?;
-    match Mp4File::open(alloc, source, 0, size) {
-        Ok(file) => Ok(file),
-        Err(FileError::Mp4(error)) => Err(Fault::Movie(error)),
-        Err(FileError::Io(error)) => Err(Fault::CannotRead(error)),
-    }
+    Ok(Mp4File::open(alloc, source, 0, size)?)
 }
 
 /// The metadata of a file, whose picture is written to a file of this name, if there is one.
@@ -58,6 +57,36 @@ fn metadata<S: ByteSource + Drop>(
     Ok(text)
 }
 
+/// The boxes of a file.
+fn boxes<S: ByteSource + Drop>(
+    alloc: Global,
+    source: S,
+    request: BoxesRequest,
+    json: bool,
+) -> Result<Vec<u8>, Fault> {
+    printed(alloc, &boxes_of(alloc, source, request)?, json)
+}
+
+/// The tracks of a file.
+fn tracks<S: ByteSource + Drop>(alloc: Global, source: S, json: bool) -> Result<Vec<u8>, Fault> {
+    let mut source = source;
+    let codes = entry_codes_of(alloc, &mut source)?;
+    let movie = open_movie(alloc, source)?;
+    let report = tracks_of(alloc, &*movie, codes.as_slice()).map_err(Error::from)?;
+    printed(alloc, &report, json)
+}
+
+/// The samples of a track of a file.
+fn samples<S: ByteSource + Drop>(
+    alloc: Global,
+    source: S,
+    request: SamplesRequest,
+    json: bool,
+) -> Result<Vec<u8>, Fault> {
+    let movie = open_movie(alloc, source)?;
+    printed(alloc, &samples_of(alloc, &*movie, request)?, json)
+}
+
 /// What a request asks of a source.
 fn answer<S: ByteSource + Drop>(
     rt: &impl Files,
@@ -67,7 +96,18 @@ fn answer<S: ByteSource + Drop>(
 ) -> Result<Vec<u8>, Fault> {
     match *request {
         Request::Metadata { cover, json, .. } => metadata(rt, alloc, source, cover, json),
-        _ => Err(Fault::NoCover),
+        Request::Boxes {
+            depth,
+            all,
+            json,
+            ..
+        } => boxes(alloc, source, BoxesRequest { depth, all }, json),
+        Request::Tracks { json, .. } => tracks(alloc, source, json),
+        Request::Samples {
+            samples: asked,
+            json,
+            ..
+        } => samples(alloc, source, asked, json),
     }
 }
 

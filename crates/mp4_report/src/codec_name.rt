@@ -1,6 +1,8 @@
 //! The names of codecs for a MIME type's `codecs` (RFC 6381).
 
+use crate::human::Code;
 use mp4_media::{Avc1Box, FourCC, Hev1Box, Mp4aBox, StsdBox, Vp09Box};
+use serde::{Described, Serialize, Serializer};
 use std::fmt;
 use std::fmt::Write;
 
@@ -152,7 +154,15 @@ impl fmt::Display for CodecName {
             CodecName::Vp09([profile, level, depth]) => {
                 write!(f, "vp09.{profile:02}.{level:02}.{depth:02}")
             }
-            CodecName::Entry(code) => write!(f, "{code}"),
+            CodecName::Entry(code) => f.write(Code(*code)),
         }
+    }
+}
+
+impl Described for CodecName {}
+
+impl Serialize for CodecName {
+    fn serialize<S: Serializer>(&self, out: &mut S) -> Result<(), S::Error> {
+        out.collect_str(self)
     }
 }

@@ -2,12 +2,30 @@
 //! JSON for programs (`Serialize`).
 #![tactic(auto)]
 
+mod boxes;
 mod codec_name;
+mod containers;
+mod entry_codes;
+mod fields;
 mod human;
 mod json;
 mod metadata;
+mod reason;
+mod samples;
+mod sound;
+mod summary;
+mod tracks;
+mod walk;
 
+pub use boxes::{BoxReport, BoxesReport, BoxesRequest, FieldList, boxes_of};
 pub use codec_name::{CodecName, HevcName};
-pub use human::{Clock, Code, Grouped, Thousandths};
+pub use entry_codes::entry_codes_of;
+pub use human::{Clock, Code, Date, Grouped, Thousandths, Visible};
 pub use json::json_text;
-pub use metadata::{MetadataReport, cover_of, metadata_of};
+pub use metadata::{CoverReport, MetadataReport, cover_of, metadata_of};
+pub use reason::Reason;
+pub use samples::{
+    First, SampleReport, SamplesReport, SamplesRequest, milliseconds_in, samples_of,
+};
+pub use sound::Sound;
+pub use tracks::{EntryCode, PictureSize, TrackKind, TrackReport, TracksReport, tracks_of};

@@ -1,6 +1,6 @@
 //! What a file says of the work that it holds: title, year, summary and picture.
 
-use crate::human::Grouped;
+use crate::human::{Grouped, Visible};
 use mp4_media::{IlstBox, Metadata, Movie, Result};
 use serde::Serialize;
 use std::alloc::Global;
@@ -84,7 +84,10 @@ fn write_text<W: fmt::Write>(
     text: &Option<String>,
 ) -> fmt::Result {
     match text {
-        Some(text) => writeln!(f, "{name:<8} {text}"),
+        Some(text) => {
+            let text = Visible(text.as_str());
+            writeln!(f, "{name:<8} {text}")
+        }
         None => Ok(()),
     }
 }
