@@ -1,0 +1,5 @@
+//! Where broken files are broken.
+#![tactic(auto)]
+
+#[cfg(test)]
+mod broken;

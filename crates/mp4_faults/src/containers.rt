@@ -1,0 +1,166 @@
+//! The boxes that the library looks for in another.
+
+use mp4_codec::BoxType;
+
+/// The bytes of the fields of a picture's sample entry, which come before its children (ISO/IEC 14496-12, 12.1.3).
+const VISUAL_FIELDS: u64 = 78;
+
+/// The bytes of the fields of a sound's sample entry, which come before its children (ISO/IEC 14496-12, 12.2.3).
+const SOUND_FIELDS: u64 = 28;
+
+/// The same in version 1 of the QuickTime file format.
+const LONG_SOUND_FIELDS: u64 = 44;
+
+/// The bytes of version and flags, and of those and a count of entries.
+const FULL_BOX_FIELDS: u64 = 4;
+
+const COUNTED_FIELDS: u64 = 8;
+
+/// Whether a type is one of these, by their codes.
+fn is_one_of(name: BoxType, types: &[BoxType]) -> bool {
+    types.iter().any(|t| u32::from(*t) == u32::from(name))
+}
+
+/// Whether the reading of a box of type `parent` looks at its children of type `child`; all others are skipped.
+pub fn reads_child(parent: BoxType, child: BoxType) -> bool {
+    match parent {
+        BoxType::MoovBox => is_one_of(
+            child,
+            &[
+                BoxType::MvhdBox,
+                BoxType::TrakBox,
+                BoxType::MvexBox,
+                BoxType::MetaBox,
+                BoxType::UdtaBox,
+            ],
+        ),
+        BoxType::TrakBox => is_one_of(
+            child,
+            &[
+                BoxType::TkhdBox,
+                BoxType::EdtsBox,
+                BoxType::MetaBox,
+                BoxType::MdiaBox,
+            ],
+        ),
+        BoxType::EdtsBox => is_one_of(child, &[BoxType::ElstBox]),
+        BoxType::MdiaBox => is_one_of(
+            child,
+            &[BoxType::MdhdBox, BoxType::HdlrBox, BoxType::MinfBox],
+        ),
+        BoxType::MinfBox => is_one_of(
+            child,
+            &[
+                BoxType::VmhdBox,
+                BoxType::SmhdBox,
+                BoxType::DinfBox,
+                BoxType::StblBox,
+            ],
+        ),
+        BoxType::DinfBox => is_one_of(child, &[BoxType::DrefBox]),
+        BoxType::DrefBox => is_one_of(child, &[BoxType::UrlBox]),
+        _ => table_reads_child(parent, child),
+    }
+}
+
+/// The same for the boxes of a sample table.
+fn table_reads_child(parent: BoxType, child: BoxType) -> bool {
+    match parent {
+        BoxType::StblBox => is_one_of(
+            child,
+            &[
+                BoxType::StsdBox,
+                BoxType::SttsBox,
+                BoxType::CttsBox,
+                BoxType::StssBox,
+                BoxType::StscBox,
+                BoxType::StszBox,
+                BoxType::StcoBox,
+                BoxType::Co64Box,
+            ],
+        ),
+        BoxType::StsdBox => is_one_of(
+            child,
+            &[
+                BoxType::Avc1Box,
+                BoxType::Hev1Box,
+                BoxType::Vp09Box,
+                BoxType::Mp4aBox,
+                BoxType::Tx3gBox,
+            ],
+        ),
+        BoxType::Avc1Box => is_one_of(child, &[BoxType::AvcCBox]),
+        BoxType::Hev1Box => is_one_of(child, &[BoxType::HvcCBox]),
+        BoxType::Vp09Box => is_one_of(child, &[BoxType::VpccBox]),
+        BoxType::Mp4aBox => is_one_of(child, &[BoxType::EsdsBox]),
+        _ => other_reads_child(parent, child),
+    }
+}
+
+/// The same for the boxes of fragments and of metadata.
+fn other_reads_child(parent: BoxType, child: BoxType) -> bool {
+    match parent {
+        BoxType::MvexBox => is_one_of(child, &[BoxType::MehdBox, BoxType::TrexBox]),
+        BoxType::MoofBox => is_one_of(child, &[BoxType::MfhdBox, BoxType::TrafBox]),
+        BoxType::TrafBox => is_one_of(
+            child,
+            &[BoxType::TfhdBox, BoxType::TfdtBox, BoxType::TrunBox],
+        ),
+        BoxType::UdtaBox => is_one_of(child, &[BoxType::MetaBox]),
+        BoxType::MetaBox => is_one_of(child, &[BoxType::HdlrBox, BoxType::IlstBox]),
+        BoxType::IlstBox => is_one_of(
+            child,
+            &[
+                BoxType::NameBox,
+                BoxType::DayBox,
+                BoxType::CovrBox,
+                BoxType::DescBox,
+            ],
+        ),
+        BoxType::NameBox => is_one_of(child, &[BoxType::DataBox]),
+        BoxType::DayBox => is_one_of(child, &[BoxType::DataBox]),
+        BoxType::CovrBox => is_one_of(child, &[BoxType::DataBox]),
+        BoxType::DescBox => is_one_of(child, &[BoxType::DataBox]),
+        _ => false,
+    }
+}
+
+/// Whether the reading of a box of this type looks at its first child alone: of a sample description that is its
+/// first entry (ISO/IEC 14496-12, 8.5.2), and of edits it is the edit list (8.6.5).
+pub fn looks_at_first_alone(name: BoxType) -> bool {
+    is_one_of(name, &[BoxType::StsdBox, BoxType::EdtsBox])
+}
+
+/// Where the children begin in metadata: after version and flags; QuickTime's has none, and begins with its handler.
+fn bytes_before_metadata(payload: &[u8]) -> Option<u64> {
+    match payload {
+        [0, 0, 0, 0, ..] => Some(FULL_BOX_FIELDS),
+        [_, _, _, _, b'h', b'd', b'l', b'r', ..] => Some(0),
+        _ => None,
+    }
+}
+
+/// Where the children begin in a sound's sample entry: version 0 is MP4's, version 1 is QuickTime's; no other is read.
+fn bytes_before_sound(payload: &[u8]) -> Option<u64> {
+    match payload {
+        [_, _, _, _, _, _, _, _, 0, 0, ..] => Some(SOUND_FIELDS),
+        [_, _, _, _, _, _, _, _, 0, 1, ..] => Some(LONG_SOUND_FIELDS),
+        _ => None,
+    }
+}
+
+/// Where the children begin in the payload of a box of this type, counted from its first byte; `None` where the library
+/// looks at no children of it.
+pub fn bytes_before_children(name: BoxType, payload: &[u8]) -> Option<u64> {
+    match name {
+        BoxType::MetaBox => bytes_before_metadata(payload),
+        BoxType::Mp4aBox => bytes_before_sound(payload),
+        BoxType::StsdBox | BoxType::DrefBox => Some(COUNTED_FIELDS),
+        BoxType::Avc1Box | BoxType::Hev1Box | BoxType::Vp09Box => Some(VISUAL_FIELDS),
+        BoxType::MoovBox | BoxType::TrakBox | BoxType::EdtsBox | BoxType::MdiaBox => Some(0),
+        BoxType::MinfBox | BoxType::DinfBox | BoxType::StblBox | BoxType::MvexBox => Some(0),
+        BoxType::MoofBox | BoxType::TrafBox | BoxType::UdtaBox | BoxType::IlstBox => Some(0),
+        BoxType::NameBox | BoxType::DayBox | BoxType::CovrBox | BoxType::DescBox => Some(0),
+        _ => None,
+    }
+}

@@ -1,0 +1,85 @@
+//! The place of a fault.
+
+use mp4_codec::{BoxType, DebugItem, Error, Items};
+use std::fmt;
+use std::fmt::Write;
+
+/// A step from a container, or from the file, to one of its boxes.
+#[derive(Clone, Copy, Debug, PartialEq, Eq)]
+pub struct PathStep {
+    /// The type of the box.
+    pub name: BoxType,
+    /// Which of the boxes of this type it is in what contains it, from 1.
+    pub number: u64,
+}
+
+impl DebugItem for PathStep {}
+
+impl PathStep {
+    /// Whether the number is written: it is for types of which a container usually holds several, and for
+    /// another type where the box isn't the first.
+    fn is_numbered(&self) -> bool {
+        match self.name {
+            BoxType::TrakBox | BoxType::TrexBox => true,
+            BoxType::MoofBox | BoxType::TrafBox | BoxType::TrunBox | BoxType::EmsgBox => true,
+            _ => self.number > 1,
+        }
+    }
+}
+
+impl fmt::Display for PathStep {
+    fn fmt<W: fmt::Write>(&self, f: &mut fmt::Formatter<W>) -> fmt::Result {
+        if self.is_numbered() {
+            return write!(f, "{}[{}]", self.name, self.number);
+        }
+        write!(f, "{}", self.name)
+    }
+}
+
+/// The boxes that a fault is in, from the file's own down to the innermost, as text: `moov/trak[2]/mdia`.
+///
+/// The number in brackets says which of the boxes of this type in its container it is, from 1. It is written for trak,
+/// trex, moof, traf, trun and emsg, and for another type where the box isn't the first. The text of no boxes is empty.
+#[derive(Clone, Copy)]
+pub struct BoxPath<'a> {
+    steps: &'a [PathStep],
+}
+
+impl<'a> BoxPath<'a> {
+    /// The path of these steps.
+    pub fn new(steps: &'a [PathStep]) -> Self {
+        BoxPath { steps }
+    }
+}
+
+impl fmt::Display for BoxPath<'_> {
+    fn fmt<W: fmt::Write>(&self, f: &mut fmt::Formatter<W>) -> fmt::Result {
+        for (index, step) in self.steps.iter().enumerate() {
+            if index > 0 {
+                f.write_str("/")?;
+            }
+            write!(f, "{step}")?;
+        }
+        Ok(())
+    }
+}
+
+/// The first fault of a file that doesn't open.
+#[derive(Debug, Drop)]
+pub struct FaultPlace {
+    /// The boxes that the fault is in, from the file's own down to the innermost. There is none where the fault is of
+    /// the file itself: a box that has to be there is missing, or no header of a box is at the place.
+    pub path: Items<PathStep>,
+    /// The place of the first byte of the innermost box, or where no header of a box is, or where the file ends that
+    /// lacks a box. It counts from the first byte of the source.
+    pub place: u64,
+    /// The error by which the file is refused.
+    pub error: Error,
+}
+
+impl FaultPlace {
+    /// The path as text.
+    pub fn shown_path(&self) -> BoxPath<'_> {
+        BoxPath::new(self.path.as_slice())
+    }
+}
