@@ -3,7 +3,8 @@
 use clap::{Arg, ArgAction, ArgMatches, Command, Error};
 use mp4_report::{First, SamplesRequest, milliseconds_in};
 use std::alloc::{AllocError, Global};
-use std::str::FromStr;
+use std::fmt;
+use std::fmt::Write;
 
 /// A command and its arguments.
 #[derive(Clone, Copy, Debug)]
@@ -14,6 +15,10 @@ pub enum Request<'a> {
         depth: Option<u32>,
         all: bool,
         json: bool,
+    },
+    /// Why a file doesn't open.
+    Why {
+        file: &'a str,
     },
     /// The tracks of a file.
     Tracks {
@@ -39,6 +44,7 @@ impl<'a> Request<'a> {
     pub fn file(&self) -> &'a str {
         match *self {
             Request::Boxes { file, .. } => file,
+            Request::Why { file } => file,
             Request::Tracks { file, .. } => file,
             Request::Samples { file, .. } => file,
             Request::Metadata { file, .. } => file,
@@ -89,6 +95,13 @@ fn boxes_command<'a>(alloc: Global) -> Result<Command<'a>, AllocError> {
         ))?
         .arg(all)?
         .arg(json_flag(alloc))
+}
+
+fn why_command<'a>(alloc: Global) -> Result<Command<'a>, AllocError> {
+    Command::new(alloc, "why")
+        .about("Says where a file that doesn't open is broken, and what the rule is")
+        .after_help("Example: mp4_inspect why broken.mp4")
+        .arg(file_argument(alloc))
 }
 
 fn tracks_command<'a>(alloc: Global) -> Result<Command<'a>, AllocError> {
@@ -149,74 +162,104 @@ fn command<'a>(alloc: Global) -> Result<Command<'a>, AllocError> {
         .subcommand_required(true)
         .subcommand(boxes_command(alloc)?)?
         .subcommand(tracks_command(alloc)?)?
+        .subcommand(why_command(alloc)?)?
         .subcommand(samples_command(alloc)?)?
         .subcommand(metadata_command(alloc)?)
 }
 
-/// A number of seconds, in thousandths of one.
-#[derive(Clone, Copy, Debug)]
-struct Seconds {
-    milliseconds: u64,
+/// Why words are no request.
+#[derive(Debug, Drop)]
+pub enum Unclear {
+    /// clap's message, which is that of `--help` too.
+    Message(Error),
+    /// `--at` has no number of seconds.
+    Seconds,
 }
 
-impl FromStr for Seconds {
-    type Err = &'static str;
+impl From<AllocError> for Unclear {
+    fn from(error: AllocError) -> Unclear {
+        Unclear::Message(Error::from(error))
+    }
+}
 
-    fn from_str(text: &str) -> Result<Self, &'static str> {
-        match milliseconds_in(text) {
-            Some(milliseconds) => Ok(Seconds { milliseconds }),
-            None => Err("seconds are a number, as 12.5"),
+impl From<Error> for Unclear {
+    fn from(error: Error) -> Unclear {
+        Unclear::Message(error)
+    }
+}
+
+impl fmt::Display for Unclear {
+    fn fmt<W: fmt::Write>(&self, f: &mut fmt::Formatter<W>) -> fmt::Result {
+        match self {
+            Unclear::Message(error) => write!(f, "{error}"),
+            Unclear::Seconds => f.write_str("error: --at takes a number of seconds, as 12.5\n"),
         }
     }
 }
 
-/// The samples that are asked for.
-fn samples_in(arguments: &ArgMatches<'_>) -> SamplesRequest {
-    let first = match arguments.get_one::<Seconds>("at") {
-        Some(Seconds { milliseconds }) => First::Milliseconds(milliseconds),
-        None => First::Number(arguments.get_one::<u32>("from").unwrap_or(1)),
-    };
-    SamplesRequest {
-        track_id: arguments.get_one::<u32>("track").unwrap_or(0),
-        first,
-        count: arguments.get_one::<u32>("count").unwrap_or(u32::MAX),
+impl Unclear {
+    /// Whether it is a mistake; it is none where help was asked for.
+    pub fn is_mistake(&self) -> bool {
+        match self {
+            Unclear::Message(error) => error.use_stderr(),
+            Unclear::Seconds => true,
+        }
     }
 }
 
+/// Where the samples that are asked for begin.
+fn first_in(arguments: &ArgMatches<'_>) -> Result<First, Unclear> {
+    match arguments.get_str("at") {
+        Some(seconds) => match milliseconds_in(seconds) {
+            Some(milliseconds) => Ok(First::Milliseconds(milliseconds)),
+            None => Err(Unclear::Seconds),
+        },
+        None => Ok(First::Number(arguments.get_one::<u32>("from").unwrap_or(1))),
+    }
+}
+
+/// The samples that are asked for.
+fn samples_in(arguments: &ArgMatches<'_>) -> Result<SamplesRequest, Unclear> {
+    Ok(SamplesRequest {
+        track_id: arguments.get_one::<u32>("track").unwrap_or(0),
+        first: first_in(arguments)?,
+        count: arguments.get_one::<u32>("count").unwrap_or(u32::MAX),
+    })
+}
+
 /// The request of a subcommand's name and arguments. Each argument that is required was given.
-fn request_of<'a>(name: &'a str, arguments: &ArgMatches<'a>) -> Request<'a> {
+fn request_of<'a>(name: &'a str, arguments: &ArgMatches<'a>) -> Result<Request<'a>, Unclear> {
     let file = arguments.get_str("file").unwrap_or("");
     let json = arguments.get_flag("json");
     match name {
-        "boxes" => Request::Boxes {
+        "boxes" => Ok(Request::Boxes {
             file,
             depth: arguments.get_one::<u32>("depth"),
             all: arguments.get_flag("all"),
             json,
-        },
-        "samples" => Request::Samples {
+        }),
+        "samples" => Ok(Request::Samples {
             file,
-            samples: samples_in(arguments),
+            samples: samples_in(arguments)?,
             json,
-        },
-        "metadata" => Request::Metadata {
+        }),
+        "metadata" => Ok(Request::Metadata {
             file,
             cover: arguments.get_str("cover"),
             json,
-        },
-        _ => Request::Tracks { file, json },
+        }),
+        "why" => Ok(Request::Why { file }),
+        _ => Ok(Request::Tracks { file, json }),
     }
 }
 
 /// The request of these words, of which the first is the program's name; or clap's message, which is that of
 /// `--help` too.
-pub fn request_in<'a>(alloc: Global, words: &'a [String]) -> Result<Request<'a>, Error> {
+pub fn request_in<'a>(alloc: Global, words: &'a [String]) -> Result<Request<'a>, Unclear> {
     let matches = command(alloc)?.try_get_matches_from(words)?;
     match matches.subcommand() {
-        Some((name, arguments)) => Ok(request_of(name, arguments)),
-        None => Ok(Request::Tracks {
-            file: "",
-            json: false,
-        }),
+        Some((name, arguments)) => request_of(name, arguments),
+        // It never comes: a subcommand is required.
+        None => Err(Unclear::Message(Error::from(AllocError))),
     }
 }

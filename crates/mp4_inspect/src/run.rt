@@ -1,12 +1,12 @@
 //! A run of the program.
 
-use crate::command_line::{Request, request_in};
+use crate::command_line::{Request, Unclear, request_in};
 use crate::faults::Fault;
 use crate::files::{is_regular, open, read_all};
 use mp4_media::{ByteSource, Error, Mp4File, SeekSource};
 use mp4_report::{
     BoxesRequest, SamplesRequest, boxes_of, cover_of, entry_codes_of, json_text, metadata_of,
-    samples_of, tracks_of,
+    samples_of, tracks_of, why_of,
 };
 use serde::Serialize;
 use std::alloc::{AllocError, Global};
@@ -87,38 +87,109 @@ fn samples<S: ByteSource + Drop>(
     printed(alloc, &samples_of(alloc, &*movie, request)?, json)
 }
 
+/// Why a file doesn't open, or that it does.
+fn why<S: ByteSource + Drop>(alloc: Global, source: S) -> Result<Answer, Fault> {
+    match why_of(alloc, source)? {
+        None => Ok(Answer {
+            text: b"opens\n".to_vec(alloc).map_err(Error::from)?,
+            status: SUCCESS,
+        }),
+        Some(report) => Ok(Answer {
+            text: format!(in alloc; "{report}\n")
+                .map_err(Error::from)?
+                .into_bytes(),
+            status: FAULT,
+        }),
+    }
+}
+
+/// What a run prints, and its status.
+#[derive(Drop)]
+struct Answer {
+    text: Vec<u8>,
+    status: u8,
+}
+
+/// The answer of a request that succeeded.
+fn success(text: Vec<u8>) -> Answer {
+    Answer {
+        text,
+        status: SUCCESS,
+    }
+}
+
 /// What a request asks of a source.
 fn answer<S: ByteSource + Drop>(
     rt: &impl Files,
     alloc: Global,
     source: S,
     request: &Request,
-) -> Result<Vec<u8>, Fault> {
+) -> Result<Answer, Fault> {
     match *request {
-        Request::Metadata { cover, json, .. } => metadata(rt, alloc, source, cover, json),
+        Request::Why { .. } => why(alloc, source),
+        Request::Metadata { cover, json, .. } => {
+            metadata(rt, alloc, source, cover, json).map(success)
+        }
         Request::Boxes {
             depth,
             all,
             json,
             ..
-        } => boxes(alloc, source, BoxesRequest { depth, all }, json),
-        Request::Tracks { json, .. } => tracks(alloc, source, json),
+        } => boxes(alloc, source, BoxesRequest { depth, all }, json).map(success),
+        Request::Tracks { json, .. } => tracks(alloc, source, json).map(success),
         Request::Samples {
             samples: asked,
             json,
             ..
-        } => samples(alloc, source, asked, json),
+        } => samples(alloc, source, asked, json).map(success),
     }
 }
 
 /// What a request asks of its file. What isn't a regular file is read whole, as a pipe.
-fn answer_of_file(rt: &impl Files, alloc: Global, request: &Request) -> Result<Vec<u8>, Fault> {
+fn answer_of_file(rt: &impl Files, alloc: Global, request: &Request) -> Result<Answer, Fault> {
     let mut file = open(rt, request.file())?;
     if is_regular(&file) {
         return answer(rt, alloc, SeekSource::new(file), request);
     }
     let bytes = read_all(alloc, &mut file)?;
     answer(rt, alloc, bytes.as_slice(), request)
+}
+
+/// Prints what a request asks for, or why that isn't had, and answers the status.
+fn print_answer(
+    alloc: Global,
+    file: &str,
+    answer: Result<Answer, Fault>,
+    out: &mut Vec<u8>,
+    err: &mut Vec<u8>,
+) -> Result<u8, AllocError> {
+    match answer {
+        Ok(Answer { text, status }) => {
+            out.extend_from_slice(text.as_slice())?;
+            Ok(status)
+        }
+        Err(fault) => {
+            let line = format!(in alloc; "mp4_inspect: {file}: {fault}\n")?;
+            err.extend_from_slice(line.as_bytes())?;
+            Ok(FAULT)
+        }
+    }
+}
+
+/// Prints why words are no request, or the help that they ask for, and answers the status.
+fn print_unclear(
+    alloc: Global,
+    unclear: &Unclear,
+    out: &mut Vec<u8>,
+    err: &mut Vec<u8>,
+) -> Result<u8, AllocError> {
+    let text = format!(in alloc; "{unclear}")?;
+    if unclear.is_mistake() {
+        err.extend_from_slice(text.as_bytes())?;
+        return Ok(WRONG_ARGUMENTS);
+    }
+    out.extend_from_slice(text.as_bytes())?;
+    Ok(SUCCESS)
 }
 
 /// A whole run with these words, of which the first is the program's name. The answer is the status: 0, 1 after a
@@ -134,27 +205,9 @@ pub fn run_words(
 ) -> Result<u8, AllocError> {
     match request_in(alloc, words) {
         Ok(request) => {
-            match answer_of_file(rt, alloc, &request) {
-                Ok(text) => {
-                    out.extend_from_slice(text.as_slice())?;
-                    Ok(SUCCESS)
-                }
-                Err(fault) => {
-                    let file = request.file();
-                    let line = format!(in alloc; "mp4_inspect: {file}: {fault}\n")?;
-                    err.extend_from_slice(line.as_bytes())?;
-                    Ok(FAULT)
-                }
-            }
+            let answer = answer_of_file(rt, alloc, &request);
+            print_answer(alloc, request.file(), answer, out, err)
         }
-        Err(message) => {
-            let text = format!(in alloc; "{message}")?;
-            if message.use_stderr() {
-                err.extend_from_slice(text.as_bytes())?;
-                return Ok(WRONG_ARGUMENTS);
-            }
-            out.extend_from_slice(text.as_bytes())?;
-            Ok(SUCCESS)
-        }
+        Err(unclear) => print_unclear(alloc, &unclear, out, err),
     }
 }

@@ -1,11 +1,14 @@
 //! The boxes of a file, with their places, their sizes and their fields.
 
 use crate::fields::leaf::{fields_of, has_fields};
-use crate::fields::value::{Field, Listing};
+use crate::fields::list::Listing;
+use crate::fields::value::Field;
 use crate::human::{Code, Grouped, grouped_length};
 use crate::reason::reason_text;
 use crate::walk::{BrokenPlace, FoundBox, Step, Walk};
-use mp4_media::{ByteSource, Error, FileError, FourCC};
+use mp4_codec::{BoxType, Error, FourCC};
+use mp4_faults::{reads_child, refusal_of};
+use mp4_source::{ByteSource, FileError};
 use serde::{Described, Serialize, Serializer};
 use std::alloc::{AllocError, Global};
 use std::fmt;
@@ -16,7 +19,7 @@ const FIRST_VALUES: usize = 8;
 
 /// The fields of a box, by their names.
 #[derive(Debug, PartialEq, Drop)]
-pub struct FieldList(pub Vec<Field>);
+pub struct BoxFields(pub Vec<Field>);
 
 /// A box of a file.
 #[derive(Debug, PartialEq, Drop, Serialize)]
@@ -33,7 +36,7 @@ pub struct BoxReport {
     /// The bytes of its header.
     pub header_size: u64,
     /// Its fields, where they are known.
-    pub fields: Option<FieldList>,
+    pub fields: Option<BoxFields>,
     /// Why it is refused.
     pub refused: Option<String>,
 }
@@ -56,20 +59,66 @@ pub struct BoxesRequest {
     pub all: bool,
 }
 
-/// What the fields of a box are, or why it is refused. `OutOfMemory` is the call's own error.
-fn payload_fields<S: ByteSource + Drop>(
+/// What is known of the payload of a box.
+#[derive(Debug, Drop)]
+struct Looked {
+    fields: Option<Vec<Field>>,
+    refusal: Option<Error>,
+}
+
+/// Whether a box of this type is refused by this error because of itself, and not of a box in it: it lacks a box, or
+/// is of a version that isn't read.
+fn is_own_refusal(name: BoxType, error: &Error) -> bool {
+    match error {
+        Error::BoxNotFound(child) => reads_child(name, *child),
+        Error::Box2NotFound(child, _) => reads_child(name, *child),
+        Error::UnsupportedBoxVersion(refused, _) => *refused == name,
+        _ => false,
+    }
+}
+
+/// What is known of the payload of a box of boxes. Refused by `OutOfMemory` alone.
+fn container_looked_at(alloc: Global, name: BoxType, payload: &[u8]) -> mp4_codec::Result<Looked> {
+    let refusal = refusal_of(alloc, name, payload)?;
+    Ok(Looked {
+        fields: None,
+        refusal: refusal.filter(|error| is_own_refusal(name, error)),
+    })
+}
+
+/// What is known of the payload of a box whose fields are listed. Refused by `OutOfMemory` alone.
+fn leaf_looked_at(listing: Listing, name: BoxType, payload: &[u8]) -> mp4_codec::Result<Looked> {
+    match fields_of(listing, name, payload) {
+        Ok(fields) => Ok(Looked {
+            fields,
+            refusal: None,
+        }),
+        Err(Error::OutOfMemory) => Err(Error::OutOfMemory),
+        Err(error) => Ok(Looked {
+            fields: None,
+            refusal: Some(error),
+        }),
+    }
+}
+
+/// What is known of the payload of a box that was found. Only payloads of which something may be known are read.
+fn looked_at<S: ByteSource + Drop>(
     walk: &mut Walk<S>,
     listing: Listing,
     found: &FoundBox,
-) -> Result<Result<Option<Vec<Field>>, Error>, FileError> {
-    if !has_fields(found.name) {
-        return Ok(Ok(None));
+) -> Result<Looked, FileError> {
+    if has_fields(found.name) {
+        let payload = walk.payload_of(found)?;
+        return Ok(leaf_looked_at(listing, found.name, payload)?);
     }
-    let payload = walk.payload_of(found)?;
-    match fields_of(listing, found.name, payload) {
-        Err(Error::OutOfMemory) => Err(FileError::from(Error::OutOfMemory)),
-        answer => Ok(answer),
+    if found.is_opened || found.name == BoxType::MetaBox {
+        let payload = walk.payload_of(found)?;
+        return Ok(container_looked_at(listing.alloc, found.name, payload)?);
     }
+    Ok(Looked {
+        fields: None,
+        refusal: None,
+    })
 }
 
 /// What is said of a box.
@@ -78,10 +127,7 @@ fn report_of_box<S: ByteSource + Drop>(
     listing: Listing,
     found: FoundBox,
 ) -> Result<BoxReport, FileError> {
-    let (fields, refusal) = match payload_fields(walk, listing, &found)? {
-        Ok(fields) => (fields, None),
-        Err(error) => (None, Some(error)),
-    };
+    let Looked { fields, refusal } = looked_at(walk, listing, &found)?;
     let alloc = listing.alloc;
     let refused = match found.fault.as_ref().or(refusal.as_ref()) {
         Some(error) => Some(reason_text(alloc, error)?),
@@ -94,7 +140,7 @@ fn report_of_box<S: ByteSource + Drop>(
         place: found.place,
         size: found.size,
         header_size: found.header_size,
-        fields: fields.map(FieldList),
+        fields: fields.map(BoxFields),
         refused,
     })
 }
@@ -144,9 +190,9 @@ pub fn boxes_of<S: ByteSource + Drop>(
     Ok(BoxesReport { file_size, boxes })
 }
 
-impl Described for FieldList {}
+impl Described for BoxFields {}
 
-impl Serialize for FieldList {
+impl Serialize for BoxFields {
     fn serialize<S: Serializer>(&self, out: &mut S) -> Result<(), S::Error> {
         out.begin_map(None)?;
         for field in self.0.iter() {
@@ -157,7 +203,7 @@ impl Serialize for FieldList {
     }
 }
 
-impl fmt::Display for FieldList {
+impl fmt::Display for BoxFields {
     /// Writes a line for each field, indented.
     fn fmt<W: fmt::Write>(&self, f: &mut fmt::Formatter<W>) -> fmt::Result {
         for field in self.0.iter() {

@@ -1,7 +1,8 @@
 //! The names of codecs for a MIME type's `codecs` (RFC 6381).
 
 use crate::human::Code;
-use mp4_media::{Avc1Box, FourCC, Hev1Box, Mp4aBox, StsdBox, Vp09Box};
+use mp4_codec::FourCC;
+use mp4_entry::{Avc1Box, Hev1Box, Mp4aBox, StsdBox, Vp09Box};
 use serde::{Described, Serialize, Serializer};
 use std::fmt;
 use std::fmt::Write;

@@ -2,7 +2,9 @@
 
 use crate::tracks::EntryCode;
 use crate::walk::{FoundBox, Step, Walk};
-use mp4_media::{BoxType, ByteSource, Error, FileError, FourCC, ReadBox, TkhdBox};
+use mp4_codec::{BoxType, Error, FourCC, ReadBox};
+use mp4_leaf::TkhdBox;
+use mp4_source::{ByteSource, FileError};
 use std::alloc::Global;
 
 /// The depth of a track's first sample entry: moov/trak/mdia/minf/stbl/stsd.

@@ -3,6 +3,7 @@
 pub mod fragment;
 pub mod header;
 pub mod leaf;
+pub mod list;
 pub mod media;
 pub mod table;
 pub mod value;

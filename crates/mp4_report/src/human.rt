@@ -1,6 +1,6 @@
 //! Numbers, times and codes as people read them.
 
-use mp4_media::FourCC;
+use mp4_codec::FourCC;
 use serde::{Described, Serialize, Serializer};
 use std::fmt;
 use std::fmt::Write;

@@ -4,7 +4,6 @@
 
 mod boxes;
 mod codec_name;
-mod containers;
 mod entry_codes;
 mod fields;
 mod human;
@@ -16,8 +15,9 @@ mod sound;
 mod summary;
 mod tracks;
 mod walk;
+mod why;
 
-pub use boxes::{BoxReport, BoxesReport, BoxesRequest, FieldList, boxes_of};
+pub use boxes::{BoxFields, BoxReport, BoxesReport, BoxesRequest, boxes_of};
 pub use codec_name::{CodecName, HevcName};
 pub use entry_codes::entry_codes_of;
 pub use human::{Clock, Code, Date, Grouped, Thousandths, Visible};
@@ -29,3 +29,4 @@ pub use samples::{
 };
 pub use sound::Sound;
 pub use tracks::{EntryCode, PictureSize, TrackKind, TrackReport, TracksReport, tracks_of};
+pub use why::{WhyReport, why_of};

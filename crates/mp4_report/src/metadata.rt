@@ -1,7 +1,9 @@
 //! What a file says of the work that it holds: title, year, summary and picture.
 
 use crate::human::{Grouped, Visible};
-use mp4_media::{IlstBox, Metadata, Movie, Result};
+use mp4_codec::Result;
+use mp4_media::Movie;
+use mp4_meta::{IlstBox, Metadata};
 use serde::Serialize;
 use std::alloc::Global;
 use std::borrow::CowStr;

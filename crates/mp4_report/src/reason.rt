@@ -1,6 +1,6 @@
 //! Why something is refused, in words.
 
-use mp4_media::Error;
+use mp4_codec::Error;
 use std::alloc::{AllocError, Global};
 use std::fmt;
 use std::fmt::Write;

@@ -2,7 +2,10 @@
 
 use crate::human::{Clock, Grouped, Thousandths, grouped_length, milliseconds_of};
 use crate::reason::reason_text;
-use mp4_media::{Error, Movie, Mp4Track, Place, Result};
+use mp4_codec::{Error, Result};
+use mp4_lookup::Mp4Track;
+use mp4_media::Movie;
+use mp4_samples::Place;
 use serde::Serialize;
 use std::alloc::{AllocError, Global};
 use std::fmt;

@@ -1,7 +1,7 @@
 //! What a sample entry says of sound.
 
 use crate::human::Grouped;
-use mp4_media::{ChannelConfig, Mp4aBox, SampleFreqIndex};
+use mp4_entry::{ChannelConfig, Mp4aBox, SampleFreqIndex};
 use serde::Serialize;
 use std::fmt;
 use std::fmt::Write;

@@ -1,6 +1,7 @@
 //! What the samples of a track are together, by one walk over them.
 
-use mp4_media::{Mp4Track, Place};
+use mp4_lookup::Mp4Track;
+use mp4_samples::Place;
 
 /// What the samples of a track are together: those up to the first that is refused.
 #[derive(Clone, Copy, Debug, Default, PartialEq, Eq)]

@@ -1,17 +1,17 @@
 //! A walk over the boxes of a source in file order, those within containers too, which goes on after a fault.
 
-use crate::containers::{HEAD, bytes_before_children, is_container};
 use crate::human::Code;
-use mp4_media::{
-    BoxHeader, BoxType, ByteCursor, ByteSource, Error, FileError, FourCC, HEADER_SIZE, OPEN_END,
-    Window,
-};
-use mp4_source::read_into;
+use mp4_codec::{BoxHeader, BoxType, ByteCursor, Error, FourCC, HEADER_SIZE, OPEN_END};
+use mp4_faults::bytes_before_children;
+use mp4_source::{ByteSource, FileError, Window, read_into};
 use std::alloc::{AllocError, Global};
 use std::collections::HashMap;
 
 /// The longest header of a box.
 const MOST_HEADER: u64 = 16;
+
+/// The bytes of a payload that say where the children of its box begin.
+const HEAD: u64 = 10;
 
 /// A box of a source, and how it is framed.
 #[derive(Debug, Drop)]
@@ -27,6 +27,8 @@ pub struct FoundBox {
     pub size: u64,
     /// The bytes of its header: 8 or 16.
     pub header_size: u64,
+    /// Whether boxes in it come next.
+    pub is_opened: bool,
     /// Why it can't be framed as it is.
     pub fault: Option<Error>,
 }
@@ -116,6 +118,11 @@ impl Level {
     }
 }
 
+/// Whether the boxes in a container are items of metadata.
+fn is_list_of_items(level: &Level) -> bool {
+    level.name == Some(BoxType::IlstBox)
+}
+
 /// How a box is framed that has so many bytes left in what it is in.
 #[derive(Debug, Drop)]
 struct Frame {
@@ -128,7 +135,7 @@ struct Frame {
 
 /// How the box is framed whose header begins these bytes, of which so many are left in the source or, if it is a
 /// child, in the box that it is in.
-fn framed(head: &[u8], left: u64, is_child: bool) -> mp4_media::Result<Frame> {
+fn framed(head: &[u8], left: u64, is_child: bool) -> mp4_codec::Result<Frame> {
     let mut cursor = ByteCursor::new(head);
     let header = BoxHeader::read(&mut cursor)?;
     let header_size = cursor.position();
@@ -254,18 +261,14 @@ impl<S: ByteSource + Drop> Walk<S> {
         if depth >= u64::from(self.most_depth) {
             return Ok(None);
         }
-        if self
-            .levels
-            .last()
-            .is_some_and(|level| level.name == Some(BoxType::IlstBox))
-        {
-            return Ok(Some(0));
-        }
-        if !is_container(name) {
-            return Ok(None);
-        }
+        let is_item = self.levels.last().is_some_and(is_list_of_items);
         let head = self.bytes_at(payload, size.min(HEAD) as usize)?;
-        Ok(bytes_before_children(name, head).filter(|fields| *fields <= size))
+        let fields = match bytes_before_children(name, head) {
+            // An item of metadata that the library doesn't read has its value in the same form.
+            None if is_item => Some(0),
+            fields => fields,
+        };
+        Ok(fields.filter(|fields| *fields <= size))
     }
 
     /// The box of this frame; the walk is then at its first child, or after it.
@@ -280,7 +283,9 @@ impl<S: ByteSource + Drop> Walk<S> {
         let payload = place.saturating_add(header_size);
         let depth = self.levels.len() as u64;
         let path = self.path_of_next(name)?;
-        match self.children_of(name, payload, size.saturating_sub(header_size))? {
+        let fields = self.children_of(name, payload, size.saturating_sub(header_size))?;
+        let is_opened = fields.is_some();
+        match fields {
             Some(fields) => {
                 let end = place.saturating_add(size);
                 let level = Level::new(self.alloc, Some(name), path.clone()?, end);
@@ -296,6 +301,7 @@ impl<S: ByteSource + Drop> Walk<S> {
             place,
             size,
             header_size,
+            is_opened,
             fault,
         })
     }

@@ -1,15 +1,12 @@
 //! The fields of headers: ftyp, mvhd, tkhd, mdhd, hdlr, vmhd, smhd and elst.
 
 use crate::fields::leaf::LeafFields;
-use crate::fields::value::{
-    Field, Listing, Made, TableRow, all_fixed, code, codes, fixed, flags, listed, number, rows,
-    text, time,
+use crate::fields::list::FieldList;
+use crate::fields::value::TableRow;
+use mp4_codec::FixedPointU16;
+use mp4_leaf::{
+    ElstBox, ElstEntry, FtypBox, HdlrBox, Matrix, MdhdBox, MvhdBox, SmhdBox, TkhdBox, VmhdBox,
 };
-use mp4_media::{
-    ElstBox, ElstEntry, FixedPointU16, FtypBox, HdlrBox, Matrix, MdhdBox, MvhdBox, SmhdBox,
-    TkhdBox, VmhdBox,
-};
-use std::alloc::AllocError;
 
 /// A number of 16.16 bits.
 fn fixed_16(value: FixedPointU16) -> f64 {
@@ -27,8 +24,8 @@ fn signed_2(raw: i32) -> f64 {
 }
 
 /// The nine numbers of a matrix in file order (ISO/IEC 14496-12, 8.2.2): a b u, c d v, x y w.
-fn matrix(listing: Listing, matrix: Matrix) -> Made {
-    let numbers = [
+fn numbers_of(matrix: Matrix) -> [f64; 9] {
+    [
         signed_16(matrix.a),
         signed_16(matrix.b),
         signed_2(matrix.u),
@@ -38,126 +35,93 @@ fn matrix(listing: Listing, matrix: Matrix) -> Made {
         signed_16(matrix.x),
         signed_16(matrix.y),
         signed_2(matrix.w),
-    ];
-    all_fixed(listing, "matrix", &numbers)
+    ]
 }
 
 impl LeafFields for FtypBox {
-    fn fields(&self, listing: Listing) -> Result<Vec<Field>, AllocError> {
-        listed(
-            listing,
-            [
-                code("major_brand", self.major_brand),
-                number("minor_version", u64::from(self.minor_version)),
-                codes(
-                    listing,
-                    "compatible_brands",
-                    self.compatible_brands.as_slice(),
-                ),
-            ],
-        )
+    fn fields(&self, fields: FieldList) -> FieldList {
+        fields
+            .code("major_brand", self.major_brand)
+            .number("minor_version", u64::from(self.minor_version))
+            .codes("compatible_brands", self.compatible_brands.as_slice())
     }
 }
 
 impl LeafFields for MvhdBox {
-    fn fields(&self, listing: Listing) -> Result<Vec<Field>, AllocError> {
-        listed(
-            listing,
-            [
-                number("version", u64::from(self.version)),
-                flags("flags", self.flags),
-                time("creation_time", self.creation_time),
-                time("modification_time", self.modification_time),
-                number("timescale", u64::from(self.timescale)),
-                number("duration", self.duration),
-                fixed("rate", fixed_16(self.rate)),
-                fixed("volume", f64::from(self.volume.raw_value()) / 256.0),
-                matrix(listing, self.matrix),
-                number("next_track_id", u64::from(self.next_track_id)),
-            ],
-        )
+    fn fields(&self, fields: FieldList) -> FieldList {
+        fields
+            .number("version", u64::from(self.version))
+            .flags("flags", self.flags)
+            .time("creation_time", self.creation_time)
+            .time("modification_time", self.modification_time)
+            .number("timescale", u64::from(self.timescale))
+            .number("duration", self.duration)
+            .fixed("rate", fixed_16(self.rate))
+            .fixed("volume", f64::from(self.volume.raw_value()) / 256.0)
+            .all_fixed("matrix", &numbers_of(self.matrix))
+            .number("next_track_id", u64::from(self.next_track_id))
     }
 }
 
 impl LeafFields for TkhdBox {
-    fn fields(&self, listing: Listing) -> Result<Vec<Field>, AllocError> {
-        listed(
-            listing,
-            [
-                number("version", u64::from(self.version)),
-                flags("flags", self.flags),
-                time("creation_time", self.creation_time),
-                time("modification_time", self.modification_time),
-                number("track_id", u64::from(self.track_id)),
-                number("duration", self.duration),
-                number("layer", u64::from(self.layer)),
-                number("alternate_group", u64::from(self.alternate_group)),
-                fixed("volume", f64::from(self.volume.raw_value()) / 256.0),
-                matrix(listing, self.matrix),
-                fixed("width", fixed_16(self.width)),
-                fixed("height", fixed_16(self.height)),
-            ],
-        )
+    fn fields(&self, fields: FieldList) -> FieldList {
+        fields
+            .number("version", u64::from(self.version))
+            .flags("flags", self.flags)
+            .time("creation_time", self.creation_time)
+            .time("modification_time", self.modification_time)
+            .number("track_id", u64::from(self.track_id))
+            .number("duration", self.duration)
+            .number("layer", u64::from(self.layer))
+            .number("alternate_group", u64::from(self.alternate_group))
+            .fixed("volume", f64::from(self.volume.raw_value()) / 256.0)
+            .all_fixed("matrix", &numbers_of(self.matrix))
+            .fixed("width", fixed_16(self.width))
+            .fixed("height", fixed_16(self.height))
     }
 }
 
 impl LeafFields for MdhdBox {
-    fn fields(&self, listing: Listing) -> Result<Vec<Field>, AllocError> {
-        listed(
-            listing,
-            [
-                number("version", u64::from(self.version)),
-                flags("flags", self.flags),
-                time("creation_time", self.creation_time),
-                time("modification_time", self.modification_time),
-                number("timescale", u64::from(self.timescale)),
-                number("duration", self.duration),
-                text(listing, "language", self.language.as_str().as_bytes()),
-            ],
-        )
+    fn fields(&self, fields: FieldList) -> FieldList {
+        fields
+            .number("version", u64::from(self.version))
+            .flags("flags", self.flags)
+            .time("creation_time", self.creation_time)
+            .time("modification_time", self.modification_time)
+            .number("timescale", u64::from(self.timescale))
+            .number("duration", self.duration)
+            .text("language", self.language.as_str().as_bytes())
     }
 }
 
 impl LeafFields for HdlrBox {
-    fn fields(&self, listing: Listing) -> Result<Vec<Field>, AllocError> {
-        listed(
-            listing,
-            [
-                number("version", u64::from(self.version)),
-                flags("flags", self.flags),
-                code("handler_type", self.handler_type),
-                text(listing, "name", self.name.as_slice()),
-            ],
-        )
+    fn fields(&self, fields: FieldList) -> FieldList {
+        fields
+            .number("version", u64::from(self.version))
+            .flags("flags", self.flags)
+            .code("handler_type", self.handler_type)
+            .text("name", self.name.as_slice())
     }
 }
 
 impl LeafFields for VmhdBox {
-    fn fields(&self, listing: Listing) -> Result<Vec<Field>, AllocError> {
-        listed(
-            listing,
-            [
-                number("version", u64::from(self.version)),
-                flags("flags", self.flags),
-                number("graphics_mode", u64::from(self.graphics_mode)),
-                number("red", u64::from(self.op_color.red)),
-                number("green", u64::from(self.op_color.green)),
-                number("blue", u64::from(self.op_color.blue)),
-            ],
-        )
+    fn fields(&self, fields: FieldList) -> FieldList {
+        fields
+            .number("version", u64::from(self.version))
+            .flags("flags", self.flags)
+            .number("graphics_mode", u64::from(self.graphics_mode))
+            .number("red", u64::from(self.op_color.red))
+            .number("green", u64::from(self.op_color.green))
+            .number("blue", u64::from(self.op_color.blue))
     }
 }
 
 impl LeafFields for SmhdBox {
-    fn fields(&self, listing: Listing) -> Result<Vec<Field>, AllocError> {
-        listed(
-            listing,
-            [
-                number("version", u64::from(self.version)),
-                flags("flags", self.flags),
-                fixed("balance", f64::from(self.balance.raw_value()) / 256.0),
-            ],
-        )
+    fn fields(&self, fields: FieldList) -> FieldList {
+        fields
+            .number("version", u64::from(self.version))
+            .flags("flags", self.flags)
+            .fixed("balance", f64::from(self.balance.raw_value()) / 256.0)
     }
 }
 
@@ -174,14 +138,10 @@ impl TableRow for ElstEntry {
 }
 
 impl LeafFields for ElstBox {
-    fn fields(&self, listing: Listing) -> Result<Vec<Field>, AllocError> {
-        listed(
-            listing,
-            [
-                number("version", u64::from(self.version)),
-                flags("flags", self.flags),
-                rows(listing, "entries", self.entries.as_slice()),
-            ],
-        )
+    fn fields(&self, fields: FieldList) -> FieldList {
+        fields
+            .number("version", u64::from(self.version))
+            .flags("flags", self.flags)
+            .rows("entries", self.entries.as_slice())
     }
 }

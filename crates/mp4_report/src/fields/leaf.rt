@@ -1,18 +1,19 @@
 //! The fields of a box, by its type and its payload.
 
-use crate::fields::value::{Field, Listing};
-use mp4_media::{
-    Avc1Box, AvcCBox, BoxType, Co64Box, CttsBox, DataBox, ElstBox, EmsgBox, EsdsBox, FtypBox,
-    HdlrBox, Hev1Box, HvcCBox, MdhdBox, MehdBox, MfhdBox, Mp4aBox, MvhdBox, ReadBox, Result,
-    SmhdBox, StcoBox, StscBox, StssBox, StszBox, SttsBox, TfdtBox, TfhdBox, TkhdBox, TrexBox,
-    TrunBox, Tx3gBox, UrlBox, VmhdBox, Vp09Box, VpccBox,
+use crate::fields::list::{FieldList, Listing};
+use crate::fields::value::Field;
+use mp4_codec::{BoxType, ReadBox, Result};
+use mp4_entry::{Avc1Box, AvcCBox, EsdsBox, Hev1Box, HvcCBox, Mp4aBox, Tx3gBox, Vp09Box, VpccBox};
+use mp4_frag::{EmsgBox, MehdBox, MfhdBox, TfdtBox, TfhdBox, TrexBox, TrunBox};
+use mp4_leaf::{
+    DataBox, ElstBox, FtypBox, HdlrBox, MdhdBox, MvhdBox, SmhdBox, TkhdBox, UrlBox, VmhdBox,
 };
-use std::alloc::AllocError;
+use mp4_table::{Co64Box, CttsBox, StcoBox, StscBox, StssBox, StszBox, SttsBox};
 
 /// A box whose fields are listed.
 pub trait LeafFields {
-    /// Its fields, by their names.
-    fn fields(&self, listing: Listing) -> std::result::Result<Vec<Field>, AllocError>;
+    /// These fields, and then its own, by their names.
+    fn fields(&self, fields: FieldList) -> FieldList;
 }
 
 /// The fields of a payload that is read as such a box.
@@ -21,7 +22,7 @@ fn read_fields<B: ReadBox + LeafFields>(
     payload: &[u8],
 ) -> Result<Option<Vec<Field>>> {
     let leaf = B::read_payload(listing.alloc, payload)?;
-    Ok(Some(leaf.fields(listing)?))
+    Ok(Some(leaf.fields(FieldList::new(listing)).finish()?))
 }
 
 /// The fields of headers.

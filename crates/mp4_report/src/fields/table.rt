@@ -1,11 +1,11 @@
 //! The fields of sample tables (ISO/IEC 14496-12, 8.6 and 8.7).
 
 use crate::fields::leaf::LeafFields;
-use crate::fields::value::{Field, Listing, TableRow, flags, listed, number, numbers, rows};
-use mp4_media::{
+use crate::fields::list::FieldList;
+use crate::fields::value::TableRow;
+use mp4_table::{
     Co64Box, CttsBox, CttsEntry, StcoBox, StscBox, StscEntry, StssBox, StszBox, SttsBox, SttsEntry,
 };
-use std::alloc::AllocError;
 
 impl TableRow for SttsEntry {
     const NAMES: &'static [&'static str] = &["sample_count", "sample_delta"];
@@ -48,94 +48,66 @@ impl TableRow for StscEntry {
 }
 
 impl LeafFields for SttsBox {
-    fn fields(&self, listing: Listing) -> Result<Vec<Field>, AllocError> {
-        listed(
-            listing,
-            [
-                number("version", u64::from(self.version)),
-                flags("flags", self.flags),
-                rows(listing, "entries", self.entries.as_slice()),
-            ],
-        )
+    fn fields(&self, fields: FieldList) -> FieldList {
+        fields
+            .number("version", u64::from(self.version))
+            .flags("flags", self.flags)
+            .rows("entries", self.entries.as_slice())
     }
 }
 
 impl LeafFields for CttsBox {
-    fn fields(&self, listing: Listing) -> Result<Vec<Field>, AllocError> {
-        listed(
-            listing,
-            [
-                number("version", u64::from(self.version)),
-                flags("flags", self.flags),
-                rows(listing, "entries", self.entries.as_slice()),
-            ],
-        )
+    fn fields(&self, fields: FieldList) -> FieldList {
+        fields
+            .number("version", u64::from(self.version))
+            .flags("flags", self.flags)
+            .rows("entries", self.entries.as_slice())
     }
 }
 
 impl LeafFields for StscBox {
-    fn fields(&self, listing: Listing) -> Result<Vec<Field>, AllocError> {
-        listed(
-            listing,
-            [
-                number("version", u64::from(self.version)),
-                flags("flags", self.flags),
-                rows(listing, "entries", self.entries.as_slice()),
-            ],
-        )
+    fn fields(&self, fields: FieldList) -> FieldList {
+        fields
+            .number("version", u64::from(self.version))
+            .flags("flags", self.flags)
+            .rows("entries", self.entries.as_slice())
     }
 }
 
 impl LeafFields for StcoBox {
-    fn fields(&self, listing: Listing) -> Result<Vec<Field>, AllocError> {
-        listed(
-            listing,
-            [
-                number("version", u64::from(self.version)),
-                flags("flags", self.flags),
-                numbers(listing, "entries", self.entries.as_slice()),
-            ],
-        )
+    fn fields(&self, fields: FieldList) -> FieldList {
+        fields
+            .number("version", u64::from(self.version))
+            .flags("flags", self.flags)
+            .numbers("entries", self.entries.as_slice())
     }
 }
 
 impl LeafFields for Co64Box {
-    fn fields(&self, listing: Listing) -> Result<Vec<Field>, AllocError> {
-        listed(
-            listing,
-            [
-                number("version", u64::from(self.version)),
-                flags("flags", self.flags),
-                numbers(listing, "entries", self.entries.as_slice()),
-            ],
-        )
+    fn fields(&self, fields: FieldList) -> FieldList {
+        fields
+            .number("version", u64::from(self.version))
+            .flags("flags", self.flags)
+            .numbers("entries", self.entries.as_slice())
     }
 }
 
 impl LeafFields for StssBox {
-    fn fields(&self, listing: Listing) -> Result<Vec<Field>, AllocError> {
-        listed(
-            listing,
-            [
-                number("version", u64::from(self.version)),
-                flags("flags", self.flags),
-                numbers(listing, "entries", self.entries.as_slice()),
-            ],
-        )
+    fn fields(&self, fields: FieldList) -> FieldList {
+        fields
+            .number("version", u64::from(self.version))
+            .flags("flags", self.flags)
+            .numbers("entries", self.entries.as_slice())
     }
 }
 
 impl LeafFields for StszBox {
-    fn fields(&self, listing: Listing) -> Result<Vec<Field>, AllocError> {
-        listed(
-            listing,
-            [
-                number("version", u64::from(self.version)),
-                flags("flags", self.flags),
-                number("sample_size", u64::from(self.sample_size)),
-                number("sample_count", u64::from(self.sample_count)),
-                numbers(listing, "sample_sizes", self.sample_sizes.as_slice()),
-            ],
-        )
+    fn fields(&self, fields: FieldList) -> FieldList {
+        fields
+            .number("version", u64::from(self.version))
+            .flags("flags", self.flags)
+            .number("sample_size", u64::from(self.sample_size))
+            .number("sample_count", u64::from(self.sample_count))
+            .numbers("sample_sizes", self.sample_sizes.as_slice())
     }
 }

@@ -1,7 +1,7 @@
 //! What a field of a box holds, and how it is printed.
 
 use crate::human::{Code, Date, Grouped};
-use mp4_media::FourCC;
+use mp4_codec::FourCC;
 use serde::{Described, Serialize, Serializer};
 use std::alloc::{AllocError, Global};
 use std::fmt;
@@ -50,17 +50,6 @@ pub struct Field {
     pub value: Value,
 }
 
-/// How much is kept of lists.
-#[derive(Clone, Copy, Debug)]
-pub struct Listing {
-    pub alloc: Global,
-    /// How many values of a list are kept at most.
-    pub most: usize,
-}
-
-/// A field, or that memory ran out.
-pub type Made = Result<Field, AllocError>;
-
 /// A row of a table of a box.
 pub trait TableRow {
     /// The names of its columns, up to three.
@@ -68,156 +57,6 @@ pub trait TableRow {
 
     /// Its values, in that order.
     fn cells(&self) -> [i128; 3];
-}
-
-pub fn number(name: &'static str, value: u64) -> Made {
-    Ok(Field {
-        name,
-        value: Value::Number(value),
-    })
-}
-
-pub fn optional_signed(name: &'static str, value: Option<i32>) -> Made {
-    let value = match value {
-        Some(value) => Value::Signed(i64::from(value)),
-        None => Value::Missing,
-    };
-    Ok(Field { name, value })
-}
-
-pub fn fixed(name: &'static str, value: f64) -> Made {
-    Ok(Field {
-        name,
-        value: Value::Fixed(value),
-    })
-}
-
-pub fn flags(name: &'static str, value: u32) -> Made {
-    Ok(Field {
-        name,
-        value: Value::Flags(value),
-    })
-}
-
-pub fn time(name: &'static str, value: u64) -> Made {
-    Ok(Field {
-        name,
-        value: Value::Time(value),
-    })
-}
-
-pub fn code(name: &'static str, value: FourCC) -> Made {
-    Ok(Field {
-        name,
-        value: Value::Code(value),
-    })
-}
-
-/// A number that may be missing.
-pub fn optional<N: Into<u64> + Drop>(name: &'static str, value: Option<N>) -> Made {
-    let value = match value {
-        Some(value) => Value::Number(value.into()),
-        None => Value::Missing,
-    };
-    Ok(Field { name, value })
-}
-
-/// Flags that may be missing.
-pub fn optional_flags(name: &'static str, value: Option<u32>) -> Made {
-    let value = match value {
-        Some(value) => Value::Flags(value),
-        None => Value::Missing,
-    };
-    Ok(Field { name, value })
-}
-
-/// A text of any bytes.
-pub fn text(listing: Listing, name: &'static str, value: &[u8]) -> Made {
-    let text = String::from_utf8_lossy(listing.alloc, value)?;
-    Ok(Field {
-        name,
-        value: Value::Text(text),
-    })
-}
-
-/// The first values of a list.
-fn first_of<T: Copy + Drop>(listing: Listing, values: &[T]) -> Result<List<T>, AllocError> {
-    let most = values.len().min(listing.most);
-    Ok(List {
-        count: values.len() as u64,
-        first: values[..most].to_vec(listing.alloc)?,
-    })
-}
-
-pub fn bytes(listing: Listing, name: &'static str, values: &[u8]) -> Made {
-    let list = first_of(listing, values)?;
-    Ok(Field {
-        name,
-        value: Value::Bytes(list),
-    })
-}
-
-pub fn codes(listing: Listing, name: &'static str, values: &[FourCC]) -> Made {
-    let list = first_of(listing, values)?;
-    Ok(Field {
-        name,
-        value: Value::Codes(list),
-    })
-}
-
-pub fn numbers<N: Copy + Into<u64> + Drop>(
-    listing: Listing,
-    name: &'static str,
-    values: &[N],
-) -> Made {
-    let mut first = Vec::new(listing.alloc);
-    for value in values.iter().take(listing.most) {
-        first.push((*value).into())?;
-    }
-    Ok(Field {
-        name,
-        value: Value::Numbers(List {
-            count: values.len() as u64,
-            first,
-        }),
-    })
-}
-
-/// All of these fixed-point numbers.
-pub fn all_fixed(listing: Listing, name: &'static str, values: &[f64]) -> Made {
-    Ok(Field {
-        name,
-        value: Value::AllFixed(values.to_vec(listing.alloc)?),
-    })
-}
-
-pub fn rows<R: TableRow>(listing: Listing, name: &'static str, values: &[R]) -> Made {
-    let mut first = Vec::new(listing.alloc);
-    for value in values.iter().take(listing.most) {
-        first.push(value.cells())?;
-    }
-    Ok(Field {
-        name,
-        value: Value::Table(Table {
-            names: R::NAMES,
-            rows: List {
-                count: values.len() as u64,
-                first,
-            },
-        }),
-    })
-}
-
-/// Fields in a list, or that memory ran out.
-pub fn listed<const N: usize>(
-    listing: Listing,
-    fields: [Made; N],
-) -> Result<Vec<Field>, AllocError> {
-    let mut list = Vec::with_capacity(listing.alloc, N)?;
-    for field in Vec::from_array(listing.alloc, fields)? {
-        list.push(field?)?;
-    }
-    Ok(list)
 }
 
 /// What follows the first values of a list where there are more.
