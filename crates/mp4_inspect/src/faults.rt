@@ -1,7 +1,7 @@
 //! Why a command gives no report.
 
 use mp4_media::{Error, FileError};
-use mp4_report::Reason;
+use mp4_report::{Reason, WhyReport};
 use std::io;
 use thiserror::Error as ThisError;
 
@@ -14,9 +14,12 @@ pub enum Fault {
     /// A file that the command makes can't be written whole.
     #[error("cannot write the picture: {0}")]
     CannotWrite(io::Error),
-    /// The file is no MP4 file that the library opens, or memory ran out.
+    /// A track that is asked for isn't there, or memory ran out.
     #[error("{}", Reason(.0))]
     Movie(#[from] Error),
+    /// The file doesn't open.
+    #[error("{0}")]
+    Broken(WhyReport),
     /// The report has no JSON, where memory ran out.
     #[error("{0}")]
     Json(#[from] serde_json::Error),

@@ -145,14 +145,33 @@ fn answer<S: ByteSource + Drop>(
     }
 }
 
+/// An answer, or where the file of a source is broken that doesn't open.
+fn with_place<S: ByteSource + Drop>(
+    alloc: Global,
+    answer: Result<Answer, Fault>,
+    source: S,
+) -> Result<Answer, Fault> {
+    match answer {
+        Err(Fault::Movie(Error::OutOfMemory)) => Err(Fault::Movie(Error::OutOfMemory)),
+        Err(Fault::Movie(error)) => match why_of(alloc, source)? {
+            Some(report) => Err(Fault::Broken(report)),
+            None => Err(Fault::Movie(error)),
+        },
+        answer => answer,
+    }
+}
+
 /// What a request asks of its file. What isn't a regular file is read whole, as a pipe.
 fn answer_of_file(rt: &impl Files, alloc: Global, request: &Request) -> Result<Answer, Fault> {
     let mut file = open(rt, request.file())?;
     if is_regular(&file) {
-        return answer(rt, alloc, SeekSource::new(file), request);
+        let mut source = SeekSource::new(file);
+        let answer = answer(rt, alloc, &mut source, request);
+        return with_place(alloc, answer, source);
     }
     let bytes = read_all(alloc, &mut file)?;
-    answer(rt, alloc, bytes.as_slice(), request)
+    let answer = answer(rt, alloc, bytes.as_slice(), request);
+    with_place(alloc, answer, bytes.as_slice())
 }
 
 /// Prints what a request asks for, or why that isn't had, and answers the status.
