@@ -1,10 +1,32 @@
 //! The command line.
 
 use clap::{Arg, ArgAction, ArgMatches, Command, Error};
+use mp4_extract::SampleFormat;
 use mp4_report::{First, SamplesRequest, milliseconds_in};
 use std::alloc::{AllocError, Global};
 use std::fmt;
 use std::fmt::Write;
+
+/// Where extracted samples are written.
+#[derive(Clone, Copy, Debug, PartialEq, Eq)]
+pub enum Target<'a> {
+    /// One after the other, to a file of this name.
+    File(&'a str),
+    /// One file each, in a folder of this name.
+    Folder(&'a str),
+}
+
+/// The samples that are written, and how.
+#[derive(Clone, Copy, Debug)]
+pub struct ExtractRequest<'a> {
+    pub track_id: u32,
+    pub target: Target<'a>,
+    /// The number of the first, from 1.
+    pub from: u32,
+    /// How many are written at most.
+    pub count: u32,
+    pub format: SampleFormat,
+}
 
 /// A command and its arguments.
 #[derive(Clone, Copy, Debug)]
@@ -31,6 +53,17 @@ pub enum Request<'a> {
         samples: SamplesRequest,
         json: bool,
     },
+    /// Samples of a track are written to a file, or to one file each.
+    Extract {
+        file: &'a str,
+        extract: ExtractRequest<'a>,
+    },
+    /// The texts of a track with their times.
+    Subtitles {
+        file: &'a str,
+        track: u32,
+        srt: bool,
+    },
     /// The metadata of a file; its picture is written to a file of this name.
     Metadata {
         file: &'a str,
@@ -47,6 +80,8 @@ impl<'a> Request<'a> {
             Request::Why { file } => file,
             Request::Tracks { file, .. } => file,
             Request::Samples { file, .. } => file,
+            Request::Extract { file, .. } => file,
+            Request::Subtitles { file, .. } => file,
             Request::Metadata { file, .. } => file,
         }
     }
@@ -61,10 +96,7 @@ fn file_argument<'a>(alloc: Global) -> Arg<'a> {
 }
 
 fn json_flag<'a>(alloc: Global) -> Arg<'a> {
-    Arg::new(alloc, "json")
-        .long("json")
-        .action(ArgAction::SetTrue)
-        .help("Print one JSON document")
+    flag(alloc, "json", "Print one JSON document")
 }
 
 /// An option with a number.
@@ -78,10 +110,6 @@ fn number_option<'a>(alloc: Global, name: &'a str, help: &'a str) -> Arg<'a> {
 }
 
 fn boxes_command<'a>(alloc: Global) -> Result<Command<'a>, AllocError> {
-    let all = Arg::new(alloc, "all")
-        .long("all")
-        .action(ArgAction::SetTrue)
-        .help("Print lists whole");
     Command::new(alloc, "boxes")
         .about(
             "Lists each box with its place, its size and its fields, also in files that don't open",
@@ -93,7 +121,7 @@ fn boxes_command<'a>(alloc: Global) -> Result<Command<'a>, AllocError> {
             "depth",
             "List boxes to this depth; 1 is the file's own",
         ))?
-        .arg(all)?
+        .arg(flag(alloc, "all", "Print lists whole"))?
         .arg(json_flag(alloc))
 }
 
@@ -112,13 +140,59 @@ fn tracks_command<'a>(alloc: Global) -> Result<Command<'a>, AllocError> {
         .arg(json_flag(alloc))
 }
 
-fn samples_command<'a>(alloc: Global) -> Result<Command<'a>, AllocError> {
-    let track = Arg::new(alloc, "track")
+fn track_argument<'a>(alloc: Global) -> Arg<'a> {
+    Arg::new(alloc, "track")
         .value_name("TRACK")
         .required(true)
         .action(ArgAction::Set)
         .value_parser(clap::value_parser!(u32))
-        .help("The track's id, as `tracks` shows it");
+        .help("The track's id, as `tracks` shows it")
+}
+
+/// An option without a value.
+fn flag<'a>(alloc: Global, name: &'a str, help: &'a str) -> Arg<'a> {
+    Arg::new(alloc, name)
+        .long(name)
+        .action(ArgAction::SetTrue)
+        .help(help)
+}
+
+fn extract_command<'a>(alloc: Global) -> Result<Command<'a>, AllocError> {
+    let out = Arg::new(alloc, "out")
+        .value_name("OUT")
+        .action(ArgAction::Set)
+        .required_unless_present("each")?
+        .help("The file that the samples are written to, one after the other");
+    let each = Arg::new(alloc, "each")
+        .long("each")
+        .value_name("FOLDER")
+        .action(ArgAction::Set)
+        .conflicts_with("out")?
+        .help("Write each sample to a file of its own in this folder");
+    let adts = flag(alloc, "adts", "Write AAC with ADTS headers").conflicts_with("annexb")?;
+    Command::new(alloc, "extract")
+        .about("Writes the bytes of the samples of a track to a file")
+        .after_help("Example: mp4_inspect extract film.mp4 1 film.h264 --annexb")
+        .arg(file_argument(alloc))?
+        .arg(track_argument(alloc))?
+        .arg(out)?
+        .arg(number_option(alloc, "from", "Begin with the sample of this number, from 1"))?
+        .arg(number_option(alloc, "count", "Write at most so many"))?
+        .arg(each)?
+        .arg(flag(alloc, "annexb", "Write H.264 and H.265 with start codes and parameter sets"))?
+        .arg(adts)
+}
+
+fn subtitles_command<'a>(alloc: Global) -> Result<Command<'a>, AllocError> {
+    Command::new(alloc, "subtitles")
+        .about("Prints the texts of a track with their times")
+        .after_help("Example: mp4_inspect subtitles film.mp4 3 --srt")
+        .arg(file_argument(alloc))?
+        .arg(track_argument(alloc))?
+        .arg(flag(alloc, "srt", "Print SubRip text"))
+}
+
+fn samples_command<'a>(alloc: Global) -> Result<Command<'a>, AllocError> {
     let at = Arg::new(alloc, "at")
         .long("at")
         .value_name("SECONDS")
@@ -129,7 +203,7 @@ fn samples_command<'a>(alloc: Global) -> Result<Command<'a>, AllocError> {
         .about("Lists the samples of a track: where they lie, and when they are decoded and shown")
         .after_help("Example: mp4_inspect samples film.mp4 1 --at 12.5 --count 10")
         .arg(file_argument(alloc))?
-        .arg(track)?
+        .arg(track_argument(alloc))?
         .arg(number_option(
             alloc,
             "from",
@@ -164,6 +238,8 @@ fn command<'a>(alloc: Global) -> Result<Command<'a>, AllocError> {
         .subcommand(tracks_command(alloc)?)?
         .subcommand(why_command(alloc)?)?
         .subcommand(samples_command(alloc)?)?
+        .subcommand(extract_command(alloc)?)?
+        .subcommand(subtitles_command(alloc)?)?
         .subcommand(metadata_command(alloc)?)
 }
 
@@ -227,6 +303,32 @@ fn samples_in(arguments: &ArgMatches<'_>) -> Result<SamplesRequest, Unclear> {
     })
 }
 
+/// The format that samples are written in.
+fn format_in(arguments: &ArgMatches<'_>) -> SampleFormat {
+    if arguments.get_flag("annexb") {
+        return SampleFormat::AnnexB;
+    }
+    if arguments.get_flag("adts") {
+        return SampleFormat::Adts;
+    }
+    SampleFormat::AsStored
+}
+
+/// The samples that are written. Where there is no folder, a file was given.
+fn extract_in<'a>(arguments: &ArgMatches<'a>) -> ExtractRequest<'a> {
+    let target = match arguments.get_str("each") {
+        Some(folder) => Target::Folder(folder),
+        None => Target::File(arguments.get_str("out").unwrap_or("")),
+    };
+    ExtractRequest {
+        track_id: arguments.get_one::<u32>("track").unwrap_or(0),
+        target,
+        from: arguments.get_one::<u32>("from").unwrap_or(1),
+        count: arguments.get_one::<u32>("count").unwrap_or(u32::MAX),
+        format: format_in(arguments),
+    }
+}
+
 /// The request of a subcommand's name and arguments. Each argument that is required was given.
 fn request_of<'a>(name: &'a str, arguments: &ArgMatches<'a>) -> Result<Request<'a>, Unclear> {
     let file = arguments.get_str("file").unwrap_or("");
@@ -247,6 +349,15 @@ fn request_of<'a>(name: &'a str, arguments: &ArgMatches<'a>) -> Result<Request<'
             file,
             cover: arguments.get_str("cover"),
             json,
+        }),
+        "extract" => Ok(Request::Extract {
+            file,
+            extract: extract_in(arguments),
+        }),
+        "subtitles" => Ok(Request::Subtitles {
+            file,
+            track: arguments.get_one::<u32>("track").unwrap_or(0),
+            srt: arguments.get_flag("srt"),
         }),
         "why" => Ok(Request::Why { file }),
         _ => Ok(Request::Tracks { file, json }),

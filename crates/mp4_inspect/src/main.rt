@@ -2,14 +2,16 @@
 #![tactic(auto)]
 
 mod command_line;
+mod extract;
 mod faults;
 mod files;
+mod progress;
 mod run;
 
 use crate::run::run_words;
 use std::alloc::AllocError;
 use std::env;
-use std::io::ErrorKind;
+use std::io::{ErrorKind, IsTerminal};
 use std::process::ExitCode;
 
 /// The words of the command line, the program's name first. Where one of them isn't UTF-8 the answer is an empty list,
@@ -25,7 +27,8 @@ fn words(rt: &HostRuntime) -> Result<Vec<String>, AllocError> {
 /// A run with the words of the command line.
 fn run_process(rt: &HostRuntime, out: &mut Vec<u8>, err: &mut Vec<u8>) -> Result<u8, AllocError> {
     let words = words(rt)?;
-    run_words(rt, rt.alloc(), words.as_slice(), out, err)
+    let is_terminal = rt.stderr().is_terminal();
+    run_words(rt, rt.alloc(), is_terminal, words.as_slice(), out, err)
 }
 
 /// Prints what a run wrote, first the errors. A closed pipe is no error.

@@ -1,8 +1,10 @@
 //! A run of the program.
 
-use crate::command_line::{Request, Unclear, request_in};
+use crate::command_line::{ExtractRequest, Request, Unclear, request_in};
+use crate::extract::{subtitle_text, write_samples};
 use crate::faults::Fault;
 use crate::files::{is_regular, open, read_all};
+use crate::progress::Progress;
 use mp4_media::{ByteSource, Error, Mp4File, SeekSource};
 use mp4_report::{
     BoxesRequest, SamplesRequest, boxes_of, cover_of, entry_codes_of, json_text, metadata_of,
@@ -12,7 +14,7 @@ use serde::Serialize;
 use std::alloc::{AllocError, Global};
 use std::fmt::Display;
 use std::fs;
-use std::rt::Files;
+use std::rt::{Clock, Files};
 
 const SUCCESS: u8 = 0;
 
@@ -41,8 +43,8 @@ fn open_movie<S: ByteSource + Drop>(alloc: Global, source: S) -> Result<Mp4File<
 }
 
 /// The metadata of a file, whose picture is written to a file of this name, if there is one.
-fn metadata<S: ByteSource + Drop>(
-    rt: &impl Files,
+fn metadata<R: Files, S: ByteSource + Drop>(
+    rt: &R,
     alloc: Global,
     source: S,
     cover: Option<&str>,
@@ -87,6 +89,30 @@ fn samples<S: ByteSource + Drop>(
     printed(alloc, &samples_of(alloc, &*movie, request)?, json)
 }
 
+/// Writes samples of a file; nothing is printed.
+fn extracted<R: Files + Clock + Eprint, S: ByteSource + Drop>(
+    rt: &R,
+    alloc: Global,
+    progress: &mut Progress<R>,
+    source: S,
+    request: ExtractRequest,
+) -> Result<Vec<u8>, Fault> {
+    let mut movie = open_movie(alloc, source)?;
+    write_samples(rt, alloc, progress, &mut movie, request)?;
+    Ok(Vec::new(alloc))
+}
+
+/// The texts of a track of a file.
+fn subtitle_lines<S: ByteSource + Drop>(
+    alloc: Global,
+    source: S,
+    track_id: u32,
+    srt: bool,
+) -> Result<Vec<u8>, Fault> {
+    let mut movie = open_movie(alloc, source)?;
+    subtitle_text(alloc, &mut movie, track_id, srt)
+}
+
 /// Why a file doesn't open, or that it does.
 fn why<S: ByteSource + Drop>(alloc: Global, source: S) -> Result<Answer, Fault> {
     match why_of(alloc, source)? {
@@ -119,10 +145,11 @@ fn success(text: Vec<u8>) -> Answer {
 }
 
 /// What a request asks of a source.
-fn answer<S: ByteSource + Drop>(
-    rt: &impl Files,
+fn answer<R: Files + Clock + Eprint, S: ByteSource + Drop>(
+    rt: &R,
     alloc: Global,
     source: S,
+    is_terminal: bool,
     request: &Request,
 ) -> Result<Answer, Fault> {
     match *request {
@@ -162,15 +189,20 @@ fn with_place<S: ByteSource + Drop>(
 }
 
 /// What a request asks of its file. What isn't a regular file is read whole, as a pipe.
-fn answer_of_file(rt: &impl Files, alloc: Global, request: &Request) -> Result<Answer, Fault> {
+fn answer_of_file<R: Files + Clock + Eprint>(
+    rt: &R,
+    alloc: Global,
+    is_terminal: bool,
+    request: &Request,
+) -> Result<Answer, Fault> {
     let mut file = open(rt, request.file())?;
     if is_regular(&file) {
         let mut source = SeekSource::new(file);
-        let answer = answer(rt, alloc, &mut source, request);
+        let answer = answer(rt, alloc, &mut source, is_terminal, request);
         return with_place(alloc, answer, source);
     }
     let bytes = read_all(alloc, &mut file)?;
-    let answer = answer(rt, alloc, bytes.as_slice(), request);
+    let answer = answer(rt, alloc, bytes.as_slice(), is_terminal, request);
     with_place(alloc, answer, bytes.as_slice())
 }
 
@@ -187,6 +219,7 @@ fn print_answer(
             out.extend_from_slice(text.as_slice())?;
             Ok(status)
         }
+        Err(fault) if fault.is_closed_pipe() => Ok(SUCCESS),
         Err(fault) => {
             let line = format!(in alloc; "mp4_inspect: {file}: {fault}\n")?;
             err.extend_from_slice(line.as_bytes())?;
@@ -215,16 +248,17 @@ fn print_unclear(
 /// fault, or 2 where the arguments are wrong. What a run prints is added to `out` and to `err`.
 ///
 /// Refused by `AllocError` alone, where what is to be printed has no room.
-pub fn run_words(
-    rt: &impl Files,
+pub fn run_words<R: Files + Clock + Eprint>(
+    rt: &R,
     alloc: Global,
+    is_terminal: bool,
     words: &[String],
     out: &mut Vec<u8>,
     err: &mut Vec<u8>,
 ) -> Result<u8, AllocError> {
     match request_in(alloc, words) {
         Ok(request) => {
-            let answer = answer_of_file(rt, alloc, &request);
+            let answer = answer_of_file(rt, alloc, is_terminal, &request);
             print_answer(alloc, request.file(), answer, out, err)
         }
         Err(unclear) => print_unclear(alloc, &unclear, out, err),

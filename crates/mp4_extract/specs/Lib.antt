@@ -1,0 +1,4 @@
+pub mod NalUnits
+pub mod ByteStream
+pub mod ParameterSets
+pub mod Adts

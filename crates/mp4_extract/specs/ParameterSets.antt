@@ -1,0 +1,41 @@
+-- What a byte stream takes of the sample entry of a track of video (ISO/IEC 14496-15, 5.3.3.1 and 8.3.3.1).
+use Rattle.std.specs.Prelude.{◌++◌, Result, Ok}
+use Rattle.std.specs.List.{flat_map}
+use Rattle.std.specs.Prelude.{List}
+use Rattle.mp4_codec.specs.Bytes.{Reader, number_at, bytes_at, list_at}
+use Rattle.mp4_codec.specs.Cause.{Cause, ◌>>=◌}
+use Rattle.mp4_entry.specs.Avcc.{unit_at}
+use Rattle.mp4_entry.specs.declared.avcc.AvcCBox.{AvcCBox}
+use Rattle.mp4_entry.specs.declared.avcc.NalUnit.{NalUnit}
+use Rattle.mp4_entry.specs.declared.hvcc.HvcCBox.{HvcCBox}
+use Rattle.mp4_extract.specs.declared.annex_b.AnnexB.{AnnexB}
+use Rattle.mp4_extract.specs.declared.coding.VideoCoding.TheVariants.{H264, H265}
+
+-- of avcC: the sequence parameter sets, and then the picture parameter sets
+unfoldable pub avc_stream : AvcCBox → AnnexB
+avc_stream b = record {
+  coding = H264;
+  length_size_minus_one = b.length_size_minus_one;
+  parameter_sets = b.sequence_parameter_sets ++ b.picture_parameter_sets;
+}
+
+-- the next array of hvcC: the type of its units, how many they are, and each after its length
+unfoldable pub array_at : Reader (List NalUnit)
+array_at bytes = do
+  type ← number_at 1 bytes
+  count ← number_at 2 type.1
+  list_at unit_at count.0 count.1
+
+-- of hvcC: the units of all arrays, in their order; the size of lengths is in the low two bits of the byte before their
+-- number
+unfoldable pub hevc_stream : HvcCBox → Result AnnexB Cause
+hevc_stream b = do
+  front ← bytes_at 21 b.raw
+  length_size ← number_at 1 front.1
+  count ← number_at 1 length_size.1
+  arrays ← list_at array_at count.0 count.1
+  Ok (record {
+    coding = H265;
+    length_size_minus_one = length_size.0;
+    parameter_sets = flat_map (λ (array : List NalUnit). array) arrays.0;
+  })

@@ -1,0 +1,18 @@
+//! How samples are written.
+
+use thiserror::Error as ThisError;
+
+/// How the samples of a track are written.
+#[derive(Clone, Copy, Debug, PartialEq, Eq, ThisError)]
+pub enum SampleFormat {
+    /// As they lie in the file.
+    #[error("as stored")]
+    AsStored,
+    /// Video of `avc1` or `hev1` as a byte stream (ISO/IEC 14496-10 and 23008-2, Annex B): a start code before each unit
+    /// in place of its length, and the parameter sets of the track.
+    #[error("Annex B")]
+    AnnexB,
+    /// Sound of `mp4a` with a header before each sample (ISO/IEC 14496-3, 1.A.2.2.1).
+    #[error("ADTS")]
+    Adts,
+}

@@ -1,0 +1,25 @@
+//! The samples of a track out of a file: their bytes as they are stored, or as players of video and sound take them, and
+//! the texts of subtitles.
+#![tactic(auto)]
+
+mod adts;
+mod annex_b;
+mod coding;
+mod error;
+mod form;
+mod format;
+mod parameter_sets;
+mod samples;
+mod srt;
+mod subtitles;
+mod times;
+
+pub use adts::AdtsConfig;
+pub use annex_b::AnnexB;
+pub use coding::VideoCoding;
+pub use error::ExtractError;
+pub use form::SampleForm;
+pub use format::SampleFormat;
+pub use samples::{SampleWriter, extract};
+pub use srt::{write_lines, write_srt};
+pub use subtitles::{Subtitle, subtitles};
