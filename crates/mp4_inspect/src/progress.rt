@@ -2,10 +2,10 @@
 
 use mp4_report::Grouped;
 use std::rt::Clock;
-use std::time::{Duration, Instant};
+use std::time::Instant;
 
-/// How long a run is quiet.
-const QUIET: Duration = Duration::from_secs(1);
+/// For how many seconds a run is quiet.
+const QUIET_SECONDS: u64 = 1;
 
 /// Says on a terminal how far a run is that takes more than a second.
 #[derive(Drop)]
@@ -34,7 +34,7 @@ impl<'a, R: Clock + Eprint> Progress<'a, R> {
             return;
         };
         match last.elapsed(self.rt) {
-            Ok(passed) if passed >= QUIET => {}
+            Ok(passed) if passed.as_secs() >= QUIET_SECONDS => {}
             _ => return,
         }
         let sample = Grouped(u64::from(sample));

@@ -157,6 +157,15 @@ fn answer<R: Files + Clock + Eprint, S: ByteSource + Drop>(
         Request::Metadata { cover, json, .. } => {
             metadata(rt, alloc, source, cover, json).map(success)
         }
+        Request::Extract { extract, .. } => {
+            let mut progress = Progress::new(rt, is_terminal);
+            let extracted = extracted(rt, alloc, &mut progress, source, extract);
+            progress.finish();
+            extracted.map(success)
+        }
+        Request::Subtitles { track, srt, .. } => {
+            subtitle_lines(alloc, source, track, srt).map(success)
+        }
         Request::Boxes {
             depth,
             all,
