@@ -176,10 +176,18 @@ fn extract_command<'a>(alloc: Global) -> Result<Command<'a>, AllocError> {
         .arg(file_argument(alloc))?
         .arg(track_argument(alloc))?
         .arg(out)?
-        .arg(number_option(alloc, "from", "Begin with the sample of this number, from 1"))?
+        .arg(number_option(
+            alloc,
+            "from",
+            "Begin with the sample of this number, from 1",
+        ))?
         .arg(number_option(alloc, "count", "Write at most so many"))?
         .arg(each)?
-        .arg(flag(alloc, "annexb", "Write H.264 and H.265 with start codes and parameter sets"))?
+        .arg(flag(
+            alloc,
+            "annexb",
+            "Write H.264 and H.265 with start codes and parameter sets",
+        ))?
         .arg(adts)
 }
 

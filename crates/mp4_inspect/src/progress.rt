@@ -20,7 +20,11 @@ pub struct Progress<'a, R> {
 impl<'a, R: Clock + Eprint> Progress<'a, R> {
     /// A run that begins now, on a terminal or not.
     pub fn new(rt: &'a R, is_terminal: bool) -> Self {
-        let last = if is_terminal { Instant::now(rt).ok() } else { None };
+        let last = if is_terminal {
+            Instant::now(rt).ok()
+        } else {
+            None
+        };
         Progress {
             rt,
             last,

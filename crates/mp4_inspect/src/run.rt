@@ -114,13 +114,13 @@ fn subtitle_lines<S: ByteSource + Drop>(
 }
 
 /// Why a file doesn't open, or that it does.
-fn why<S: ByteSource + Drop>(alloc: Global, source: S) -> Result<Answer, Fault> {
+fn why<S: ByteSource + Drop>(alloc: Global, source: S) -> Result<Outcome, Fault> {
     match why_of(alloc, source)? {
-        None => Ok(Answer {
+        None => Ok(Outcome {
             text: b"opens\n".to_vec(alloc).map_err(Error::from)?,
             status: SUCCESS,
         }),
-        Some(report) => Ok(Answer {
+        Some(report) => Ok(Outcome {
             text: format!(in alloc; "{report}\n")
                 .map_err(Error::from)?
                 .into_bytes(),
@@ -131,14 +131,14 @@ fn why<S: ByteSource + Drop>(alloc: Global, source: S) -> Result<Answer, Fault> 
 
 /// What a run prints, and its status.
 #[derive(Drop)]
-struct Answer {
+struct Outcome {
     text: Vec<u8>,
     status: u8,
 }
 
 /// The answer of a request that succeeded.
-fn success(text: Vec<u8>) -> Answer {
-    Answer {
+fn success(text: Vec<u8>) -> Outcome {
+    Outcome {
         text,
         status: SUCCESS,
     }
@@ -151,7 +151,7 @@ fn answer<R: Files + Clock + Eprint, S: ByteSource + Drop>(
     source: S,
     is_terminal: bool,
     request: &Request,
-) -> Result<Answer, Fault> {
+) -> Result<Outcome, Fault> {
     match *request {
         Request::Why { .. } => why(alloc, source),
         Request::Metadata { cover, json, .. } => {
@@ -184,9 +184,9 @@ fn answer<R: Files + Clock + Eprint, S: ByteSource + Drop>(
 /// An answer, or where the file of a source is broken that doesn't open.
 fn with_place<S: ByteSource + Drop>(
     alloc: Global,
-    answer: Result<Answer, Fault>,
+    answer: Result<Outcome, Fault>,
     source: S,
-) -> Result<Answer, Fault> {
+) -> Result<Outcome, Fault> {
     match answer {
         Err(Fault::Movie(Error::OutOfMemory)) => Err(Fault::Movie(Error::OutOfMemory)),
         Err(Fault::Movie(error)) => match why_of(alloc, source)? {
@@ -203,7 +203,7 @@ fn answer_of_file<R: Files + Clock + Eprint>(
     alloc: Global,
     is_terminal: bool,
     request: &Request,
-) -> Result<Answer, Fault> {
+) -> Result<Outcome, Fault> {
     let mut file = open(rt, request.file())?;
     if is_regular(&file) {
         let mut source = SeekSource::new(file);
@@ -216,15 +216,15 @@ fn answer_of_file<R: Files + Clock + Eprint>(
 }
 
 /// Prints what a request asks for, or why that isn't had, and answers the status.
-fn print_answer(
+fn print_outcome(
     alloc: Global,
     file: &str,
-    answer: Result<Answer, Fault>,
+    answer: Result<Outcome, Fault>,
     out: &mut Vec<u8>,
     err: &mut Vec<u8>,
 ) -> Result<u8, AllocError> {
     match answer {
-        Ok(Answer { text, status }) => {
+        Ok(Outcome { text, status }) => {
             out.extend_from_slice(text.as_slice())?;
             Ok(status)
         }
@@ -268,7 +268,7 @@ pub fn run_words<R: Files + Clock + Eprint>(
     match request_in(alloc, words) {
         Ok(request) => {
             let answer = answer_of_file(rt, alloc, is_terminal, &request);
-            print_answer(alloc, request.file(), answer, out, err)
+            print_outcome(alloc, request.file(), answer, out, err)
         }
         Err(unclear) => print_unclear(alloc, &unclear, out, err),
     }

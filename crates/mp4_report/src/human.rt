@@ -1,5 +1,7 @@
 //! Numbers, times and codes as people read them.
 
+ghost use Rattle.std.specs.Prelude.{◌≤◌};
+
 use mp4_codec::FourCC;
 use serde::{Described, Serialize, Serializer};
 use std::fmt;
@@ -22,12 +24,29 @@ fn groups_of(number: u64) -> [u64; 7] {
 }
 
 /// How many decimal digits a number below 1000 has.
-fn digits_of(number: u64) -> usize {
+fn digits_of(number: u64) -> usize
+    ensures { result ≤ 3 }
+{
     match number {
         0..=9 => 1,
         10..=99 => 2,
         _ => 3,
     }
+}
+
+/// The index of the first group that is written: the highest that isn't 0, or the last.
+fn first_group(groups: &[u64; 7]) -> usize
+    ensures { result ≤ 6 }
+{
+    let zeros = groups.iter().take_while(|group| **group == 0).count();
+    zeros.min(6)
+}
+
+/// How many characters [`Grouped`] writes of a number.
+pub(crate) fn grouped_length(number: u64) -> usize {
+    let groups = groups_of(number);
+    let first = first_group(&groups);
+    digits_of(groups[first]) + 4 * (6 - first)
 }
 
 /// A number with a comma before each three digits, as `1,234,567`. A width that is asked for is filled in front.
@@ -36,11 +55,10 @@ pub struct Grouped(pub u64);
 
 impl fmt::Display for Grouped {
     fn fmt<W: fmt::Write>(&self, f: &mut fmt::Formatter<W>) -> fmt::Result {
+        let width = f.width().unwrap_or(0);
+        f.write_repeated(" ", width.saturating_sub(grouped_length(self.0)))?;
         let groups = groups_of(self.0);
-        let zeros = groups.iter().take_while(|group| **group == 0).count();
-        let first = zeros.min(6);
-        let length = digits_of(groups[first]) + 4 * (6 - first);
-        f.write_repeated(" ", f.width().unwrap_or(0).saturating_sub(length))?;
+        let first = first_group(&groups);
         let head = groups[first];
         write!(f, "{head}")?;
         for group in &groups[first + 1..] {
@@ -48,14 +66,6 @@ impl fmt::Display for Grouped {
         }
         Ok(())
     }
-}
-
-/// How many characters [`Grouped`] writes of a number.
-pub(crate) fn grouped_length(number: u64) -> usize {
-    let groups = groups_of(number);
-    let zeros = groups.iter().take_while(|group| **group == 0).count();
-    let first = zeros.min(6);
-    digits_of(groups[first]) + 4 * (6 - first)
 }
 
 /// A time in milliseconds as hours, minutes, seconds and thousandths: `0:01:02.345`.

@@ -199,7 +199,7 @@ impl<S: ByteSource + Drop> Walk<S> {
 
     /// Leaves the containers that end here. Fewer than 8 bytes at the end of a container are skipped.
     fn leave_containers(&mut self) {
-        while self.levels.len() > 1 {
+        for _ in 1..self.levels.len() {
             let end = match self.levels.last() {
                 Some(level) => level.end,
                 None => return,

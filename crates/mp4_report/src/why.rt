@@ -142,10 +142,15 @@ fn write_invalid<W: fmt::Write>(
             f.write_str("each box in it has to end within it, and one passes its end")
         }
         "a child's header" => {
-            f.write_str("each box in it begins with its size and its type, and one has no size that holds them")
+            f.write_str(
+                "each box in it begins with its size and its type, and one has no size that holds them",
+            )
         }
         "a field passes the end" => {
-            write!(f, "its fields have to be whole, and it ends after {size} bytes")
+            write!(
+                f,
+                "its fields have to be whole, and it ends after {size} bytes"
+            )
         }
         "the list of sample sizes" | "a list passes the end" => write_table(f, name, evidence),
         _ => write!(f, "what it holds has no meaning: {text}"),
