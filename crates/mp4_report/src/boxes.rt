@@ -18,11 +18,11 @@ use std::fmt::Write;
 const FIRST_VALUES: usize = 8;
 
 /// The fields of a box, by their names.
-#[derive(Debug, PartialEq, Drop)]
+#[derive(Debug, Drop)]
 pub struct BoxFields(pub Vec<Field>);
 
 /// A box of a file.
-#[derive(Debug, PartialEq, Drop, Serialize)]
+#[derive(Debug, Drop, Serialize)]
 pub struct BoxReport {
     /// The types of the boxes that it is in and its own.
     pub path: String,
@@ -42,7 +42,7 @@ pub struct BoxReport {
 }
 
 /// The boxes of a file.
-#[derive(Debug, PartialEq, Drop, Serialize)]
+#[derive(Debug, Drop, Serialize)]
 pub struct BoxesReport {
     /// The bytes of the file.
     pub file_size: u64,

@@ -30,3 +30,6 @@ pub use samples::{
 pub use sound::Sound;
 pub use tracks::{EntryCode, PictureSize, TrackKind, TrackReport, TracksReport, tracks_of};
 pub use why::{WhyReport, why_of};
+
+#[cfg(test)]
+mod tests;

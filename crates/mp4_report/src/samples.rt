@@ -45,7 +45,7 @@ pub struct SampleReport {
 }
 
 /// Samples of a track in their order.
-#[derive(Debug, PartialEq, Drop, Serialize)]
+#[derive(Debug, Drop, Serialize)]
 pub struct SamplesReport {
     pub track: u32,
     /// Ticks in a second.

@@ -34,7 +34,7 @@ pub struct PictureSize {
 }
 
 /// A track of a file.
-#[derive(Debug, PartialEq, Drop, Serialize)]
+#[derive(Debug, Drop, Serialize)]
 pub struct TrackReport {
     pub id: u32,
     pub kind: TrackKind,
@@ -67,7 +67,7 @@ pub struct TrackReport {
 }
 
 /// The tracks of a file, by rising id.
-#[derive(Debug, PartialEq, Drop, Serialize)]
+#[derive(Debug, Drop, Serialize)]
 pub struct TracksReport {
     pub tracks: Vec<TrackReport>,
 }

@@ -7,7 +7,7 @@ use std::alloc::{AllocError, Global};
 use std::fmt;
 
 /// A list of a box, of which the first values are kept.
-#[derive(Debug, PartialEq, Drop)]
+#[derive(Debug, Drop)]
 pub struct List<T> {
     /// How many there are.
     pub count: u64,
@@ -15,14 +15,14 @@ pub struct List<T> {
 }
 
 /// A table: the names of its columns, and its first rows.
-#[derive(Debug, PartialEq, Drop)]
+#[derive(Debug, Drop)]
 pub struct Table {
     pub names: &'static [&'static str],
     pub rows: List<[i128; 3]>,
 }
 
 /// What a field holds.
-#[derive(Debug, PartialEq, Drop)]
+#[derive(Debug, Drop)]
 pub enum Value {
     /// It may be missing, and is.
     Missing,
@@ -44,7 +44,7 @@ pub enum Value {
 }
 
 /// A field of a box.
-#[derive(Debug, PartialEq, Drop)]
+#[derive(Debug, Drop)]
 pub struct Field {
     pub name: &'static str,
     pub value: Value,
