@@ -258,6 +258,8 @@ pub enum Unclear {
     Message(Error),
     /// `--at` has no number of seconds.
     Seconds,
+    /// There is no command.
+    NoCommand,
 }
 
 impl From<AllocError> for Unclear {
@@ -277,6 +279,7 @@ impl fmt::Display for Unclear {
         match self {
             Unclear::Message(error) => write!(f, "{error}"),
             Unclear::Seconds => f.write_str("error: --at takes a number of seconds, as 12.5\n"),
+            Unclear::NoCommand => f.write_str("error: a command is required\n"),
         }
     }
 }
@@ -286,7 +289,7 @@ impl Unclear {
     pub fn is_mistake(&self) -> bool {
         match self {
             Unclear::Message(error) => error.use_stderr(),
-            Unclear::Seconds => true,
+            Unclear::Seconds | Unclear::NoCommand => true,
         }
     }
 }
@@ -379,6 +382,6 @@ pub fn request_in<'a>(alloc: Global, words: &'a [String]) -> Result<Request<'a>,
     match matches.subcommand() {
         Some((name, arguments)) => request_of(name, arguments),
         // It never comes: a subcommand is required.
-        None => Err(Unclear::Message(Error::from(AllocError))),
+        None => Err(Unclear::NoCommand),
     }
 }

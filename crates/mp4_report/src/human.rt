@@ -159,7 +159,8 @@ impl Serialize for Thousandths {
     }
 }
 
-/// A code of four bytes as a text: `avc1`, `©nam`. A byte that is neither visible, nor a space, nor ©, is a full stop.
+/// A code of four bytes as a text: `avc1`, `©nam`. A byte that is neither visible, nor a space, nor ©, is a full
+/// stop.
 #[derive(Clone, Copy, Debug, PartialEq, Eq)]
 pub struct Code(pub FourCC);
 
