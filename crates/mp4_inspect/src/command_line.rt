@@ -109,35 +109,96 @@ fn number_option<'a>(alloc: Global, name: &'a str, help: &'a str) -> Arg<'a> {
         .help(help)
 }
 
-fn boxes_command<'a>(alloc: Global) -> Result<Command<'a>, AllocError> {
-    Command::new(alloc, "boxes")
-        .about(
-            "Lists each box with its place, its size and its fields, also in files that don't open",
-        )
-        .after_help("Example: mp4_inspect boxes film.mp4 --depth 2")
-        .arg(file_argument(alloc))?
-        .arg(number_option(
-            alloc,
-            "depth",
-            "List boxes to this depth; 1 is the file's own",
-        ))?
-        .arg(flag(alloc, "all", "Print lists whole"))?
-        .arg(json_flag(alloc))
+/// A command that is put together. Once memory ran out nothing is added, and [`Draft::finish`] says so.
+#[derive(Drop)]
+struct Draft<'a> {
+    command: Result<Command<'a>, AllocError>,
 }
 
-fn why_command<'a>(alloc: Global) -> Result<Command<'a>, AllocError> {
-    Command::new(alloc, "why")
-        .about("Says where a file that doesn't open is broken, and what the rule is")
-        .after_help("Example: mp4_inspect why broken.mp4")
-        .arg(file_argument(alloc))
+impl<'a> Draft<'a> {
+    /// A command of this name, what it does, and an example of it.
+    fn new(alloc: Global, name: &'a str, about: &'a str, example: &'a str) -> Self {
+        Draft {
+            command: Ok(Command::new(alloc, name).about(about).after_help(example)),
+        }
+    }
+
+    /// The command with one argument more.
+    fn arg(self, arg: Arg<'a>) -> Self {
+        match self.command {
+            Ok(command) => Draft {
+                command: command.arg(arg),
+            },
+            Err(error) => Draft {
+                command: Err(error),
+            },
+        }
+    }
+
+    /// The command with one argument more, for which memory may have run out.
+    fn made_arg(self, arg: Result<Arg<'a>, AllocError>) -> Self {
+        match arg {
+            Ok(arg) => self.arg(arg),
+            Err(error) => Draft {
+                command: Err(error),
+            },
+        }
+    }
+
+    /// The command with one subcommand more.
+    fn subcommand(self, draft: Draft<'a>) -> Self {
+        match (self.command, draft.command) {
+            (Ok(command), Ok(subcommand)) => Draft {
+                command: command.subcommand(subcommand),
+            },
+            _ => Draft {
+                command: Err(AllocError),
+            },
+        }
+    }
+
+    /// The command; refused where memory ran out.
+    fn finish(self) -> Result<Command<'a>, AllocError> {
+        self.command
+    }
 }
 
-fn tracks_command<'a>(alloc: Global) -> Result<Command<'a>, AllocError> {
-    Command::new(alloc, "tracks")
-        .about("Says what each track is: its codec, pictures or sound, duration and samples")
-        .after_help("Example: mp4_inspect tracks film.mp4 --json")
-        .arg(file_argument(alloc))?
-        .arg(json_flag(alloc))
+fn boxes_command<'a>(alloc: Global) -> Draft<'a> {
+    Draft::new(
+        alloc,
+        "boxes",
+        "Lists each box with its place, its size and its fields, also in files that don't open",
+        "Example: mp4_inspect boxes film.mp4 --depth 2",
+    )
+    .arg(file_argument(alloc))
+    .arg(number_option(
+        alloc,
+        "depth",
+        "List boxes to this depth; 1 is the file's own",
+    ))
+    .arg(flag(alloc, "all", "Print lists whole"))
+    .arg(json_flag(alloc))
+}
+
+fn why_command<'a>(alloc: Global) -> Draft<'a> {
+    Draft::new(
+        alloc,
+        "why",
+        "Says where a file that doesn't open is broken, and what the rule is",
+        "Example: mp4_inspect why broken.mp4",
+    )
+    .arg(file_argument(alloc))
+}
+
+fn tracks_command<'a>(alloc: Global) -> Draft<'a> {
+    Draft::new(
+        alloc,
+        "tracks",
+        "Says what each track is: its codec, pictures or sound, duration and samples",
+        "Example: mp4_inspect tracks film.mp4 --json",
+    )
+    .arg(file_argument(alloc))
+    .arg(json_flag(alloc))
 }
 
 fn track_argument<'a>(alloc: Global) -> Arg<'a> {
@@ -157,98 +218,120 @@ fn flag<'a>(alloc: Global, name: &'a str, help: &'a str) -> Arg<'a> {
         .help(help)
 }
 
-fn extract_command<'a>(alloc: Global) -> Result<Command<'a>, AllocError> {
-    let out = Arg::new(alloc, "out")
+fn out_argument<'a>(alloc: Global) -> Result<Arg<'a>, AllocError> {
+    Arg::new(alloc, "out")
         .value_name("OUT")
         .action(ArgAction::Set)
-        .required_unless_present("each")?
-        .help("The file that the samples are written to, one after the other");
-    let each = Arg::new(alloc, "each")
+        .help("The file that the samples are written to, one after the other")
+        .required_unless_present("each")
+}
+
+fn each_option<'a>(alloc: Global) -> Result<Arg<'a>, AllocError> {
+    Arg::new(alloc, "each")
         .long("each")
         .value_name("FOLDER")
         .action(ArgAction::Set)
-        .conflicts_with("out")?
-        .help("Write each sample to a file of its own in this folder");
-    let adts = flag(alloc, "adts", "Write AAC with ADTS headers").conflicts_with("annexb")?;
-    Command::new(alloc, "extract")
-        .about("Writes the bytes of the samples of a track to a file")
-        .after_help("Example: mp4_inspect extract film.mp4 1 film.h264 --annexb")
-        .arg(file_argument(alloc))?
-        .arg(track_argument(alloc))?
-        .arg(out)?
-        .arg(number_option(
-            alloc,
-            "from",
-            "Begin with the sample of this number, from 1",
-        ))?
-        .arg(number_option(alloc, "count", "Write at most so many"))?
-        .arg(each)?
-        .arg(flag(
-            alloc,
-            "annexb",
-            "Write H.264 and H.265 with start codes and parameter sets",
-        ))?
-        .arg(adts)
+        .help("Write each sample to a file of its own in this folder")
+        .conflicts_with("out")
 }
 
-fn subtitles_command<'a>(alloc: Global) -> Result<Command<'a>, AllocError> {
-    Command::new(alloc, "subtitles")
-        .about("Prints the texts of a track with their times")
-        .after_help("Example: mp4_inspect subtitles film.mp4 3 --srt")
-        .arg(file_argument(alloc))?
-        .arg(track_argument(alloc))?
-        .arg(flag(alloc, "srt", "Print SubRip text"))
+fn extract_command<'a>(alloc: Global) -> Draft<'a> {
+    Draft::new(
+        alloc,
+        "extract",
+        "Writes the bytes of the samples of a track to a file",
+        "Example: mp4_inspect extract film.mp4 1 film.h264 --annexb",
+    )
+    .arg(file_argument(alloc))
+    .arg(track_argument(alloc))
+    .made_arg(out_argument(alloc))
+    .arg(number_option(
+        alloc,
+        "from",
+        "Begin with the sample of this number, from 1",
+    ))
+    .arg(number_option(alloc, "count", "Write at most so many"))
+    .made_arg(each_option(alloc))
+    .arg(flag(
+        alloc,
+        "annexb",
+        "Write H.264 and H.265 with start codes and parameter sets",
+    ))
+    .made_arg(flag(alloc, "adts", "Write AAC with ADTS headers").conflicts_with("annexb"))
 }
 
-fn samples_command<'a>(alloc: Global) -> Result<Command<'a>, AllocError> {
-    let at = Arg::new(alloc, "at")
+fn subtitles_command<'a>(alloc: Global) -> Draft<'a> {
+    Draft::new(
+        alloc,
+        "subtitles",
+        "Prints the texts of a track with their times",
+        "Example: mp4_inspect subtitles film.mp4 3 --srt",
+    )
+    .arg(file_argument(alloc))
+    .arg(track_argument(alloc))
+    .arg(flag(alloc, "srt", "Print SubRip text"))
+}
+
+fn at_option<'a>(alloc: Global) -> Result<Arg<'a>, AllocError> {
+    Arg::new(alloc, "at")
         .long("at")
         .value_name("SECONDS")
         .action(ArgAction::Set)
-        .conflicts_with("from")?
-        .help("Begin with the sample that is decoded at this time, as 12.5");
-    Command::new(alloc, "samples")
-        .about("Lists the samples of a track: where they lie, and when they are decoded and shown")
-        .after_help("Example: mp4_inspect samples film.mp4 1 --at 12.5 --count 10")
-        .arg(file_argument(alloc))?
-        .arg(track_argument(alloc))?
-        .arg(number_option(
-            alloc,
-            "from",
-            "Begin with the sample of this number, from 1",
-        ))?
-        .arg(number_option(alloc, "count", "List at most so many"))?
-        .arg(at)?
-        .arg(json_flag(alloc))
+        .help("Begin with the sample that is decoded at this time, as 12.5")
+        .conflicts_with("from")
 }
 
-fn metadata_command<'a>(alloc: Global) -> Result<Command<'a>, AllocError> {
+fn samples_command<'a>(alloc: Global) -> Draft<'a> {
+    Draft::new(
+        alloc,
+        "samples",
+        "Lists the samples of a track: where they lie, and when they are decoded and shown",
+        "Example: mp4_inspect samples film.mp4 1 --at 12.5 --count 10",
+    )
+    .arg(file_argument(alloc))
+    .arg(track_argument(alloc))
+    .arg(number_option(
+        alloc,
+        "from",
+        "Begin with the sample of this number, from 1",
+    ))
+    .arg(number_option(alloc, "count", "List at most so many"))
+    .made_arg(at_option(alloc))
+    .arg(json_flag(alloc))
+}
+
+fn metadata_command<'a>(alloc: Global) -> Draft<'a> {
     let cover = Arg::new(alloc, "cover")
         .long("cover")
         .value_name("OUT")
         .action(ArgAction::Set)
         .help("Write the picture to this file");
-    Command::new(alloc, "metadata")
-        .about("Says the title, the year, the summary and the picture of the work")
-        .after_help("Example: mp4_inspect metadata film.mp4 --cover cover.jpg")
-        .arg(file_argument(alloc))?
-        .arg(cover)?
-        .arg(json_flag(alloc))
+    Draft::new(
+        alloc,
+        "metadata",
+        "Says the title, the year, the summary and the picture of the work",
+        "Example: mp4_inspect metadata film.mp4 --cover cover.jpg",
+    )
+    .arg(file_argument(alloc))
+    .arg(cover)
+    .arg(json_flag(alloc))
 }
 
 /// The whole command line.
-fn command<'a>(alloc: Global) -> Result<Command<'a>, AllocError> {
-    Command::new(alloc, "mp4_inspect")
-        .about("Inspects MP4 files: their boxes, tracks, samples and metadata")
-        .after_help("Each command has an example: mp4_inspect COMMAND --help")
-        .subcommand_required(true)
-        .subcommand(boxes_command(alloc)?)?
-        .subcommand(tracks_command(alloc)?)?
-        .subcommand(why_command(alloc)?)?
-        .subcommand(samples_command(alloc)?)?
-        .subcommand(extract_command(alloc)?)?
-        .subcommand(subtitles_command(alloc)?)?
-        .subcommand(metadata_command(alloc)?)
+fn command<'a>(alloc: Global) -> Draft<'a> {
+    Draft::new(
+        alloc,
+        "mp4_inspect",
+        "Inspects MP4 files: their boxes, tracks, samples and metadata",
+        "Each command has an example: mp4_inspect COMMAND --help",
+    )
+    .subcommand(boxes_command(alloc))
+    .subcommand(tracks_command(alloc))
+    .subcommand(why_command(alloc))
+    .subcommand(samples_command(alloc))
+    .subcommand(extract_command(alloc))
+    .subcommand(subtitles_command(alloc))
+    .subcommand(metadata_command(alloc))
 }
 
 /// Why words are no request.
@@ -378,7 +461,10 @@ fn request_of<'a>(name: &'a str, arguments: &ArgMatches<'a>) -> Result<Request<'
 /// The request of these words, of which the first is the program's name; or clap's message, which is that of
 /// `--help` too.
 pub fn request_in<'a>(alloc: Global, words: &'a [String]) -> Result<Request<'a>, Unclear> {
-    let matches = command(alloc)?.try_get_matches_from(words)?;
+    let matches = command(alloc)
+        .finish()?
+        .subcommand_required(true)
+        .try_get_matches_from(words)?;
     match matches.subcommand() {
         Some((name, arguments)) => request_of(name, arguments),
         // It never comes: a subcommand is required.
