@@ -1,6 +1,10 @@
 //! The boxes that the library looks for in another.
 
-use mp4_codec::BoxType;
+ghost use Rattle.std.specs.Prelude.{◌≡◌, [], ◌∷◌};
+ghost use Rattle.mp4_faults.specs.Containers.{is_one_of, reads, read_by_table, read_by_other, first_alone};
+ghost use Rattle.mp4_faults.specs.Containers.{before_children, before_metadata, before_sound};
+
+use mp4_codec::{BoxType, Fields};
 
 /// The bytes of the fields of a picture's sample entry, which come before its children (ISO/IEC 14496-12, 12.1.3).
 const VISUAL_FIELDS: u64 = 78;
@@ -17,12 +21,17 @@ const FULL_BOX_FIELDS: u64 = 4;
 const COUNTED_FIELDS: u64 = 8;
 
 /// Whether a type is one of these, by their codes.
-fn is_one_of(name: BoxType, types: &[BoxType]) -> bool {
+fn is_one_of(name: BoxType, types: &[BoxType]) -> bool
+    ensures { result ≡ is_one_of name types.now }
+{
     types.iter().any(|t| u32::from(*t) == u32::from(name))
 }
 
 /// Whether the reading of a box of type `parent` looks at its children of type `child`; all others are skipped.
-pub fn reads_child(parent: BoxType, child: BoxType) -> bool {
+#[tactic(auto, unfolding(crate::specs::Containers::read_by))]
+pub fn reads_child(parent: BoxType, child: BoxType) -> bool
+    ensures { result ≡ reads parent child }
+{
     match parent {
         BoxType::MoovBox => is_one_of(
             child,
@@ -64,7 +73,10 @@ pub fn reads_child(parent: BoxType, child: BoxType) -> bool {
 }
 
 /// The same for the boxes of a sample table.
-fn table_reads_child(parent: BoxType, child: BoxType) -> bool {
+#[tactic(auto, unfolding(crate::specs::Containers::read_by_table))]
+fn table_reads_child(parent: BoxType, child: BoxType) -> bool
+    ensures { result ≡ is_one_of child (read_by_table parent) }
+{
     match parent {
         BoxType::StblBox => is_one_of(
             child,
@@ -98,7 +110,10 @@ fn table_reads_child(parent: BoxType, child: BoxType) -> bool {
 }
 
 /// The same for the boxes of fragments and of metadata.
-fn other_reads_child(parent: BoxType, child: BoxType) -> bool {
+#[tactic(auto, unfolding(crate::specs::Containers::read_by_other))]
+fn other_reads_child(parent: BoxType, child: BoxType) -> bool
+    ensures { result ≡ is_one_of child (read_by_other parent) }
+{
     match parent {
         BoxType::MvexBox => is_one_of(child, &[BoxType::MehdBox, BoxType::TrexBox]),
         BoxType::MoofBox => is_one_of(child, &[BoxType::MfhdBox, BoxType::TrafBox]),
@@ -127,31 +142,50 @@ fn other_reads_child(parent: BoxType, child: BoxType) -> bool {
 
 /// Whether the reading of a box of this type looks at its first child alone: of a sample description that is its
 /// first entry (ISO/IEC 14496-12, 8.5.2), and of edits it is the edit list (8.6.5).
-pub fn looks_at_first_alone(name: BoxType) -> bool {
+pub fn looks_at_first_alone(name: BoxType) -> bool
+    ensures { result ≡ first_alone name }
+{
     is_one_of(name, &[BoxType::StsdBox, BoxType::EdtsBox])
 }
 
 /// Where the children begin in metadata: after version and flags; QuickTime's has none, and begins with its handler.
-fn bytes_before_metadata(payload: &[u8]) -> Option<u64> {
-    match payload {
-        [0, 0, 0, 0, ..] => Some(FULL_BOX_FIELDS),
-        [_, _, _, _, b'h', b'd', b'l', b'r', ..] => Some(0),
+fn bytes_before_metadata(payload: &[u8]) -> Option<u64>
+    ensures { result ≡ before_metadata payload.now }
+{
+    let mut fields = Fields::new(payload);
+    let Ok(first) = fields.u32() else {
+        return None;
+    };
+    if first == 0 {
+        return Some(FULL_BOX_FIELDS);
+    }
+    match fields.u32() {
+        Ok(code) if code == u32::from(BoxType::HdlrBox) => Some(0),
         _ => None,
     }
 }
 
 /// Where the children begin in a sound's sample entry: version 0 is MP4's, version 1 is QuickTime's; no other is read.
-fn bytes_before_sound(payload: &[u8]) -> Option<u64> {
-    match payload {
-        [_, _, _, _, _, _, _, _, 0, 0, ..] => Some(SOUND_FIELDS),
-        [_, _, _, _, _, _, _, _, 0, 1, ..] => Some(LONG_SOUND_FIELDS),
+fn bytes_before_sound(payload: &[u8]) -> Option<u64>
+    ensures { result ≡ before_sound payload.now }
+{
+    let mut fields = Fields::new(payload);
+    let Ok(_) = fields.bytes(8) else {
+        return None;
+    };
+    match fields.u16() {
+        Ok(0) => Some(SOUND_FIELDS),
+        Ok(1) => Some(LONG_SOUND_FIELDS),
         _ => None,
     }
 }
 
 /// Where the children begin in the payload of a box of this type, counted from its first byte; `None` where the library
 /// looks at no children of it.
-pub fn bytes_before_children(name: BoxType, payload: &[u8]) -> Option<u64> {
+#[tactic(auto, unfolding(crate::specs::Containers::before_children))]
+pub fn bytes_before_children(name: BoxType, payload: &[u8]) -> Option<u64>
+    ensures { result ≡ before_children name payload.now }
+{
     match name {
         BoxType::MetaBox => bytes_before_metadata(payload),
         BoxType::Mp4aBox => bytes_before_sound(payload),

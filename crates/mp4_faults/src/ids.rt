@@ -1,7 +1,6 @@
 //! The ids of tracks and of their fragments (ISO/IEC 14496-12, 8.3.2 and 8.8.7).
 
 use mp4_boxes::{MoovBox, TrakBox};
-use mp4_codec::{Error, Items};
 use mp4_moof::MoofBox;
 
 /// A wrong id.
@@ -11,16 +10,6 @@ pub(crate) enum IdFault {
     Track(usize),
     /// The track fragment at the second index, of the movie fragment at the first, is of a track that isn't there.
     Fragment(usize, usize, u32),
-}
-
-impl IdFault {
-    /// The error by which a file with this fault is refused.
-    pub fn error(&self) -> Error {
-        match self {
-            IdFault::Track(_) => Error::InvalidData("a track id of 0"),
-            IdFault::Fragment(_, _, id) => Error::TrakNotFound(*id),
-        }
-    }
 }
 
 /// Whether a track has this id.
@@ -54,9 +43,9 @@ fn unknown_id(traks: &[TrakBox], moofs: &[MoofBox]) -> Option<IdFault> {
 }
 
 /// The first wrong id of a movie and its fragments: those of the tracks come first.
-pub(crate) fn id_fault(moov: &MoovBox, moofs: &Items<MoofBox>) -> Option<IdFault> {
+pub(crate) fn id_fault(moov: &MoovBox, moofs: &[MoofBox]) -> Option<IdFault> {
     if let Some(index) = zero_id(moov.traks.as_slice()) {
         return Some(IdFault::Track(index));
     }
-    unknown_id(moov.traks.as_slice(), moofs.as_slice())
+    unknown_id(moov.traks.as_slice(), moofs)
 }

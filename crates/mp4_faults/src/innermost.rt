@@ -1,5 +1,12 @@
 //! The innermost box that is at fault.
 
+ghost use Rattle.std.specs.Prelude.{◌≡◌, ◌↔◌, ◌++◌, ◌+◌, ◌≤◌, ◌<◌, ◌^◌, List, length, IsTrue, IfOk, IfSome};
+ghost use Rattle.mp4_codec.specs.Cause.{cause_of};
+ghost use Rattle.mp4_faults.specs.declared.fault_place.PathStep.{PathStep};
+ghost use Rattle.mp4_faults.specs.Inner.{inner, end_of};
+ghost use Rattle.mp4_faults.specs.Innermost.{step_after, child_fault, FindsRefused, FindsFaulty, FindsInnermost, IsLack};
+ghost use Rattle.mp4_faults.specs.Refusal.{TellsFault};
+
 use crate::child::{PlacedBox, child_at};
 use crate::containers::{bytes_before_children, looks_at_first_alone, reads_child};
 use crate::fault_place::PathStep;
@@ -8,7 +15,9 @@ use mp4_codec::{BoxType, Error, Items, Result, is_equal};
 use std::alloc::Global;
 
 /// The step to a box of this type, before which there are boxes of these types.
-pub(crate) fn step_to(name: BoxType, before: &[BoxType]) -> PathStep {
+pub(crate) fn step_to(name: BoxType, before: &[BoxType]) -> PathStep
+    ensures { result ≡ step_after name before.now }
+{
     let alike = before
         .iter()
         .filter(|t| u32::from(**t) == u32::from(name))
@@ -19,17 +28,79 @@ pub(crate) fn step_to(name: BoxType, before: &[BoxType]) -> PathStep {
     }
 }
 
+/// The same of errors of a track or a fragment that lacks a box or an entry; any other error is none of these.
+fn is_same_lack(first: &Error, second: &Error) -> bool
+    requires { IsLack first.now }
+    ensures { IsTrue result ↔ (cause_of first.now ≡ cause_of second.now) }
+{
+    match first {
+        Error::BoxInTrakNotFound(a, b) => match second {
+            Error::BoxInTrakNotFound(x, y) => is_equal(a, x) && is_equal(b, y),
+            _ => false,
+        },
+        Error::BoxInTrafNotFound(a, b) => match second {
+            Error::BoxInTrafNotFound(x, y) => is_equal(a, x) && is_equal(b, y),
+            _ => false,
+        },
+        Error::BoxInStblNotFound(a, b) => match second {
+            Error::BoxInStblNotFound(x, y) => is_equal(a, x) && is_equal(b, y),
+            _ => false,
+        },
+        Error::EntryInStblNotFound(a, b, c) => match second {
+            Error::EntryInStblNotFound(x, y, z) => is_equal(a, x)
+                && is_equal(b, y)
+                && is_equal(c, z),
+            _ => false,
+        },
+        Error::EntryInTrunNotFound(a, b, c) => match second {
+            Error::EntryInTrunNotFound(x, y, z) => is_equal(a, x)
+                && is_equal(b, y)
+                && is_equal(c, z),
+            _ => false,
+        },
+        _ => false,
+    }
+}
+
 /// Whether two errors are the same but for their text.
-fn is_same_cause(first: &Error, second: &Error) -> bool {
-    match (first, second) {
-        (Error::InvalidData(_), Error::InvalidData(_)) => true,
-        (Error::Unrepresentable(_), Error::Unrepresentable(_)) => true,
-        _ => first == second,
+fn is_same_cause(first: &Error, second: &Error) -> bool
+    ensures { IsTrue result ↔ (cause_of first.now ≡ cause_of second.now) }
+{
+    match first {
+        Error::EndOfData => matches!(second, Error::EndOfData),
+        Error::OutOfMemory => matches!(second, Error::OutOfMemory),
+        Error::InvalidData(_) => matches!(second, Error::InvalidData(_)),
+        Error::BoxNotFound(a) => match second {
+            Error::BoxNotFound(x) => is_equal(a, x),
+            _ => false,
+        },
+        Error::Box2NotFound(a, b) => match second {
+            Error::Box2NotFound(x, y) => is_equal(a, x) && is_equal(b, y),
+            _ => false,
+        },
+        Error::TrakNotFound(a) => match second {
+            Error::TrakNotFound(x) => is_equal(a, x),
+            _ => false,
+        },
+        Error::UnsupportedBoxVersion(a, b) => match second {
+            Error::UnsupportedBoxVersion(x, y) => is_equal(a, x) && is_equal(b, y),
+            _ => false,
+        },
+        Error::Ended => matches!(second, Error::Ended),
+        Error::ZeroTimescale => matches!(second, Error::ZeroTimescale),
+        Error::TooLarge(a) => match second {
+            Error::TooLarge(x) => is_equal(a, x),
+            _ => false,
+        },
+        Error::Unrepresentable(_) => matches!(second, Error::Unrepresentable(_)),
+        _ => is_same_lack(first, second),
     }
 }
 
 /// Why a child is refused that a container of this type looks at.
-fn child_refusal(alloc: Global, parent: BoxType, child: &PlacedBox) -> Result<Option<Error>> {
+fn child_refusal(alloc: Global, parent: BoxType, child: &PlacedBox) -> Result<Option<Error>>
+    ensures { TellsFault result (child_fault parent (inner child.now)) }
+{
     if !reads_child(parent, child.name) {
         return Ok(None);
     }
@@ -45,7 +116,12 @@ struct RefusedChild<'a> {
 }
 
 /// The first child of a box that is refused, of those that the reading of the box looks at.
-fn first_refused<'a>(alloc: Global, parent: &PlacedBox<'a>) -> Result<Option<RefusedChild<'a>>> {
+fn first_refused<'a>(alloc: Global, parent: &PlacedBox<'a>) -> Result<Option<RefusedChild<'a>>>
+    ensures answer { FindsRefused parent.now.name parent.now.payload.now result }
+    ensures within { IfOk result (λ found. IfSome found (λ r.
+        end_of (inner r.child) ≤ length parent.now.payload.now)) }
+    ensures onward { IfOk result (λ found. IfSome found (λ r. r.child.place + 8 ≤ r.child.from)) }
+{
     let Some(start) = bytes_before_children(parent.name, parent.payload) else {
         return Ok(None);
     };
@@ -71,7 +147,13 @@ fn faulty_child<'a>(
     alloc: Global,
     parent: &PlacedBox<'a>,
     error: &Error,
-) -> Result<Option<(PathStep, PlacedBox<'a>)>> {
+) -> Result<Option<(PathStep, PlacedBox<'a>)>>
+    requires { end_of (inner parent.now) < 2 ^ 64 }
+    ensures answer { FindsFaulty (cause_of error.now) (inner parent.now) result }
+    ensures within { IfOk result (λ found. IfSome found (λ x. end_of (inner x.1) ≤ end_of (inner parent.now))) }
+    ensures shorter { IfOk result (λ found. IfSome found (λ x.
+        length x.1.payload.now < length parent.now.payload.now)) }
+{
     let Some(refused) = first_refused(alloc, parent)? else {
         return Ok(None);
     };
@@ -88,7 +170,11 @@ pub(crate) fn innermost_fault<'a>(
     outermost: PlacedBox<'a>,
     error: &Error,
     path: &mut Items<PathStep>,
-) -> Result<PlacedBox<'a>> {
+) -> Result<PlacedBox<'a>>
+    requires { end_of (inner outermost) < 2 ^ 64 }
+    ensures answer { FindsInnermost (cause_of error.now) (inner outermost.entry) path.old path.new result }
+    ensures within { IfOk result (λ b. end_of (inner b) ≤ end_of (inner outermost.entry)) }
+{
     let mut at = outermost;
     while let Some((step, child)) = faulty_child(alloc, &at, error)? {
         path.push(step)?;

@@ -2,6 +2,7 @@
 //! error.
 #![tactic(auto)]
 
+mod box_fault;
 mod child;
 mod containers;
 mod fault_place;
@@ -11,6 +12,7 @@ mod innermost;
 mod refusal;
 mod top_level;
 
+pub use box_fault::first_fault_in;
 pub use containers::{bytes_before_children, looks_at_first_alone, reads_child};
 pub use fault_place::{BoxPath, FaultPlace, PathStep};
 pub use first_fault::first_fault_of;

@@ -1,5 +1,8 @@
 //! Why a payload is refused.
 
+ghost use Rattle.mp4_codec.specs.Cause.{fault_of};
+ghost use Rattle.mp4_faults.specs.Refusal.{TellsFault, payload_fault, table_fault, other_fault};
+
 use mp4_boxes::{EdtsBox, MdiaBox, MinfBox, MoovBox, StblBox, TrakBox};
 use mp4_codec::{BoxType, Error, ReadBox, Result};
 use mp4_entry::{
@@ -16,7 +19,9 @@ use mp4_table::{Co64Box, CttsBox, StcoBox, StscBox, StssBox, StszBox, SttsBox};
 use std::alloc::Global;
 
 /// Why a payload is refused as that of a box of this kind; `Err` is `OutOfMemory` alone.
-fn refusal<B: ReadBox>(alloc: Global, payload: &[u8]) -> Result<Option<Error>> {
+fn refusal<B: ReadBox>(alloc: Global, payload: &[u8]) -> Result<Option<Error>>
+    ensures { TellsFault result (fault_of (B.value payload.now)) }
+{
     match B::read_payload(alloc, payload) {
         Ok(value) => {
             drop(value);
@@ -29,7 +34,10 @@ fn refusal<B: ReadBox>(alloc: Global, payload: &[u8]) -> Result<Option<Error>> {
 
 /// Why a payload is refused as that of a box of this type; `None` where it isn't, and for types that the library
 /// doesn't read. `Err` is `OutOfMemory` alone.
-pub fn refusal_of(alloc: Global, name: BoxType, payload: &[u8]) -> Result<Option<Error>> {
+#[tactic(auto, unfolding(crate::specs::Refusal::payload_fault))]
+pub fn refusal_of(alloc: Global, name: BoxType, payload: &[u8]) -> Result<Option<Error>>
+    ensures { TellsFault result (payload_fault name payload.now) }
+{
     match name {
         BoxType::FtypBox => refusal::<FtypBox>(alloc, payload),
         BoxType::MoovBox => refusal::<MoovBox>(alloc, payload),
@@ -52,7 +60,10 @@ pub fn refusal_of(alloc: Global, name: BoxType, payload: &[u8]) -> Result<Option
 }
 
 /// The same for the boxes of a sample table.
-fn table_refusal_of(alloc: Global, name: BoxType, payload: &[u8]) -> Result<Option<Error>> {
+#[tactic(auto, unfolding(crate::specs::Refusal::table_fault))]
+fn table_refusal_of(alloc: Global, name: BoxType, payload: &[u8]) -> Result<Option<Error>>
+    ensures { TellsFault result (table_fault name payload.now) }
+{
     match name {
         BoxType::StblBox => refusal::<StblBox>(alloc, payload),
         BoxType::StsdBox => refusal::<StsdBox>(alloc, payload),
@@ -77,7 +88,10 @@ fn table_refusal_of(alloc: Global, name: BoxType, payload: &[u8]) -> Result<Opti
 }
 
 /// The same for the boxes of fragments and of metadata.
-fn other_refusal_of(alloc: Global, name: BoxType, payload: &[u8]) -> Result<Option<Error>> {
+#[tactic(auto, unfolding(crate::specs::Refusal::other_fault))]
+fn other_refusal_of(alloc: Global, name: BoxType, payload: &[u8]) -> Result<Option<Error>>
+    ensures { TellsFault result (other_fault name payload.now) }
+{
     match name {
         BoxType::MvexBox => refusal::<MvexBox>(alloc, payload),
         BoxType::MehdBox => refusal::<MehdBox>(alloc, payload),

@@ -1,10 +1,20 @@
 //! The boxes of a file, one after the other, up to the first fault.
 
+ghost use Rattle.std.specs.Prelude.{◌≡◌, ◌≤◌, ◌<◌, ◌+◌, ◌^◌, ℕ, List, [], ◌∷◌, IfSome, IfOk, IsTrue, IsFalse};
+ghost use Rattle.std.specs.Prelude.{None as none};
+ghost use Rattle.mp4_codec.specs.BoxType.{IsNamed};
+ghost use Rattle.mp4_codec.specs.Cause.{cause_of};
+ghost use Rattle.mp4_source.specs.Answers.{IsLength};
+ghost use Rattle.mp4_media.specs.FileBoxes.{meaning_of};
+ghost use Rattle.mp4_faults.specs.Inner.{inner, end_of};
+ghost use Rattle.mp4_faults.specs.Innermost.{step_after};
+ghost use Rattle.mp4_faults.specs.TopLevel.{GivesNext, TellsNext, IsRead, IsTopBox, IsBegun, TellsContent};
+ghost use Rattle.mp4_faults.specs.TopLevel.{TellsValue, TellsInside, IsSeen};
 ghost use Rattle.mp4_codec.specs.Early.{takes_memory};
 ghost use Rattle.mp4_faults.specs.Payload.{whole_payload};
 
 use crate::child::PlacedBox;
-use crate::fault_place::{FaultPlace, PathStep};
+use crate::fault_place::FaultPlace;
 use crate::innermost::{innermost_fault, step_to};
 use mp4_boxes::MoovBox;
 use mp4_codec::{BoxHeader, BoxType, Error, HEADER_SIZE, Items, OPEN_END, ReadBox, Result};
@@ -37,9 +47,12 @@ impl ReadBox for Payload {
 pub(crate) struct SeenBoxes {
     /// The types of all boxes.
     pub names: Items<BoxType>,
-    pub has_ftyp: bool,
-    /// The last movie, and the place of its first byte.
-    pub moov: Option<(MoovBox, u64)>,
+    /// The last file type.
+    pub ftyp: Option<FtypBox>,
+    /// The last movie.
+    pub moov: Option<MoovBox>,
+    /// The place of its first byte.
+    pub moov_place: u64,
     /// The movie fragments.
     pub moofs: Items<MoofBox>,
     /// The places of their first bytes.
@@ -48,11 +61,14 @@ pub(crate) struct SeenBoxes {
 
 impl SeenBoxes {
     /// No box at all.
-    pub fn none(alloc: Global) -> Self {
+    pub fn none(alloc: Global) -> Self
+        ensures { IsSeen result [] }
+    {
         SeenBoxes {
             names: Items::new(alloc),
-            has_ftyp: false,
+            ftyp: None,
             moov: None,
+            moov_place: 0,
             moofs: Items::new(alloc),
             moof_places: Items::new(alloc),
         }
@@ -69,16 +85,10 @@ pub(crate) enum NextBox {
     Faulty(FaultPlace),
 }
 
-/// A box of a file: its type, and the places of its first byte and of its payload's.
-#[derive(Clone, Copy)]
-struct TopBox {
-    name: BoxType,
-    place: u64,
-    from: u64,
-}
-
 /// A fault of a file outside any box.
-fn fault_of_file(alloc: Global, place: u64, error: Error) -> NextBox {
+fn fault_of_file(alloc: Global, place: u64, error: Error) -> NextBox
+    ensures { result ≡ NextBox.Faulty (record { path = []; place = place; error = error }) }
+{
     NextBox::Faulty(FaultPlace {
         path: Items::new(alloc),
         place,
@@ -93,41 +103,42 @@ fn fault_of_box(
     name: BoxType,
     place: u64,
     error: Error,
-) -> Result<NextBox> {
+) -> Result<NextBox>
+    ensures { GivesNext result (NextBox.Faulty
+        (record { path = step_after name seen.now.names ∷ []; place = place; error = error })) }
+{
     let mut path = Items::new(alloc);
     path.push(step_to(name, seen.names.as_slice()))?;
     Ok(NextBox::Faulty(FaultPlace { path, place, error }))
 }
 
-/// The fault of a box of a file whose payload is refused by this error.
+/// The fault of a box of a file that is refused by this error. Its payload is this.
 fn fault_within(
     alloc: Global,
     seen: &SeenBoxes,
-    top: TopBox,
-    payload: &[u8],
+    outermost: PlacedBox,
     error: Error,
-) -> Result<NextBox> {
+) -> Result<NextBox>
+    requires { end_of (inner outermost) < 2 ^ 64 }
+    ensures { TellsInside seen.now.names (inner outermost.entry) (cause_of error) result }
+{
     let mut path = Items::new(alloc);
-    path.push(step_to(top.name, seen.names.as_slice()))?;
-    let outermost = PlacedBox {
-        name: top.name,
-        place: 0,
-        from: 0,
-        payload,
-    };
+    path.push(step_to(outermost.name, seen.names.as_slice()))?;
     let innermost = innermost_fault(alloc, outermost, &error, &mut path)?;
-    let place = match path.len() {
-        1 => top.place,
-        _ => top.from.saturating_add(innermost.place),
-    };
-    Ok(NextBox::Faulty(FaultPlace { path, place, error }))
+    Ok(NextBox::Faulty(FaultPlace {
+        path,
+        place: innermost.place,
+        error,
+    }))
 }
 
 /// What a payload of this kind holds, or its error; `OutOfMemory` alone is handed on.
 fn value_or_error<B: ReadBox>(
     alloc: Global,
     payload: &[u8],
-) -> Result<std::result::Result<B, Error>> {
+) -> Result<std::result::Result<B, Error>>
+    ensures { TellsValue result (B.value payload.now) }
+{
     match B::read_payload(alloc, payload) {
         Ok(value) => Ok(Ok(value)),
         Err(Error::OutOfMemory) => Err(Error::OutOfMemory),
@@ -135,30 +146,29 @@ fn value_or_error<B: ReadBox>(
     }
 }
 
-/// Adds to what was seen a box whose payload is this, or answers its error.
-fn add_payload(
-    alloc: Global,
-    seen: &mut SeenBoxes,
-    top: TopBox,
-    payload: &[u8],
-) -> Result<Option<Error>> {
+/// Adds to what was seen a box that is read, or answers its error; the types of the boxes stay as they are.
+#[tactic(auto, unfolding(crate::specs::Refusal::payload_fault, crate::specs::Refusal::table_fault, crate::specs::Refusal::other_fault))]
+fn add_content(alloc: Global, seen: &mut SeenBoxes, top: &PlacedBox) -> Result<Option<Error>>
+    requires { IsRead top.now.name }
+    ensures { TellsContent seen.old seen.new (inner top.now) result }
+{
     match top.name {
-        BoxType::FtypBox => match value_or_error::<FtypBox>(alloc, payload)? {
+        BoxType::FtypBox => match value_or_error::<FtypBox>(alloc, top.payload)? {
             Ok(ftyp) => {
-                drop(ftyp);
-                seen.has_ftyp = true;
+                seen.ftyp = Some(ftyp);
                 Ok(None)
             }
             Err(error) => Ok(Some(error)),
         },
-        BoxType::MoovBox => match value_or_error::<MoovBox>(alloc, payload)? {
+        BoxType::MoovBox => match value_or_error::<MoovBox>(alloc, top.payload)? {
             Ok(moov) => {
-                seen.moov = Some((moov, top.place));
+                seen.moov = Some(moov);
+                seen.moov_place = top.place;
                 Ok(None)
             }
             Err(error) => Ok(Some(error)),
         },
-        BoxType::MoofBox => match value_or_error::<MoofBox>(alloc, payload)? {
+        BoxType::MoofBox => match value_or_error::<MoofBox>(alloc, top.payload)? {
             Ok(moof) => {
                 seen.moofs.push(moof)?;
                 seen.moof_places.push(top.place)?;
@@ -166,80 +176,103 @@ fn add_payload(
             }
             Err(error) => Ok(Some(error)),
         },
-        _ => match value_or_error::<EmsgBox>(alloc, payload)? {
+        BoxType::EmsgBox => match value_or_error::<EmsgBox>(alloc, top.payload)? {
             Ok(emsg) => {
                 drop(emsg);
                 Ok(None)
             }
             Err(error) => Ok(Some(error)),
         },
+        _ => Ok(None),
     }
 }
 
 /// Whether boxes of this type are read; all others are skipped.
-fn is_read(name: BoxType) -> bool {
+fn is_read(name: BoxType) -> bool
+    ensures yes { IsTrue result → IsRead name }
+    ensures not { IsFalse result → IsNamed name → meaning_of name ≡ none }
+{
     matches!(
         name,
         BoxType::FtypBox | BoxType::MoovBox | BoxType::MoofBox | BoxType::EmsgBox
     )
 }
 
-/// Passes over a box that isn't read, whose payload has n bytes.
+/// Passes over a box that isn't read, whose payload of n bytes is at the cursor.
 fn skip_box<S: ByteSource + Drop>(
-    alloc: Global,
-    reader: &mut SourceCursor<S>,
-    seen: &mut SeenBoxes,
-    top: TopBox,
-    n: u64,
-) -> Result<NextBox> {
-    let Some(behind) = top.from.checked_add(n) else {
-        let error = Error::InvalidData("a box ends past 64 bits");
-        return fault_of_box(alloc, seen, top.name, top.place, error);
-    };
-    reader.set_position(behind);
-    seen.names.push(top.name)?;
-    Ok(NextBox::Faultless)
-}
-
-/// Reads a box of this size, its header of 8 bytes included, whose payload is at the cursor.
-fn read_box<S: ByteSource + Drop>(
-    alloc: Global,
-    reader: &mut SourceCursor<S>,
-    seen: &mut SeenBoxes,
-    top: TopBox,
-    size: u64,
-) -> std::result::Result<NextBox, FileError> {
-    let payload: Payload = match reader.read_box(alloc, size) {
-        Ok(payload) => payload,
-        Err(FileError::Mp4(Error::EndOfData)) => {
-            return Ok(fault_of_box(alloc, seen, top.name, top.place, Error::EndOfData)?);
-        }
-        Err(error) => return Err(error),
-    };
-    if let Some(error) = add_payload(alloc, seen, top, payload.bytes.as_slice())? {
-        return Ok(fault_within(alloc, seen, top, payload.bytes.as_slice(), error)?);
-    }
-    seen.names.push(top.name)?;
-    Ok(NextBox::Faultless)
-}
-
-/// The box whose header was read, which begins at this place.
-fn box_after<S: ByteSource + Drop>(
     alloc: Global,
     reader: &mut SourceCursor<S>,
     seen: &mut SeenBoxes,
     place: u64,
     header: BoxHeader,
-) -> std::result::Result<NextBox, FileError> {
-    let top = TopBox {
-        name: header.name,
-        place,
-        from: reader.position(),
+) -> Result<NextBox>
+    requires len { IsLength (S.contents reader.old.source) reader.old.len }
+    requires skipped { meaning_of header.name ≡ none }
+    requires size { 8 ≤ header.size }
+    ensures answer { (size : ℕ) → IfSome (S.contents reader.old.source) (λ bytes.
+        IsBegun size bytes place header reader.old.position
+        → TellsNext size bytes place seen.old seen.new reader.new.position result) }
+    ensures onward { reader.old.position ≤ reader.new.position }
+    ensures contents { S.contents reader.new.source ≡ S.contents reader.old.source }
+    ensures can_refuse { S.can_refuse reader.new.source ≡ S.can_refuse reader.old.source }
+    ensures same_len { reader.new.len ≡ reader.old.len }
+{
+    let Some(behind) = reader.position().checked_add(header.size - HEADER_SIZE) else {
+        let error = Error::InvalidData("a box ends past 64 bits");
+        return fault_of_box(alloc, seen, header.name, place, error);
     };
-    if is_read(header.name) {
-        return read_box(alloc, reader, seen, top, header.size);
+    seen.names.push(header.name)?;
+    reader.set_position(behind);
+    Ok(NextBox::Faultless)
+}
+
+/// Adds to what was seen a box that is read and whose payload is at hand, or answers its fault.
+fn add_box(alloc: Global, seen: &mut SeenBoxes, top: PlacedBox) -> Result<NextBox>
+    requires { IsRead top.name }
+    ensures { (size : ℕ) (bytes : List ℕ) → IsTopBox size bytes (inner top.entry)
+        → TellsNext size bytes top.entry.place seen.old seen.new (end_of (inner top.entry)) result }
+{
+    if top.from.checked_add(top.payload.len() as u64).is_none() {
+        return fault_of_box(alloc, seen, top.name, top.place, Error::EndOfData);
     }
-    Ok(skip_box(alloc, reader, seen, top, header.size - HEADER_SIZE)?)
+    if let Some(error) = add_content(alloc, seen, &top)? {
+        return fault_within(alloc, seen, top, error);
+    }
+    seen.names.push(top.name)?;
+    Ok(NextBox::Faultless)
+}
+
+/// Reads a box whose payload is at the cursor.
+fn read_box<S: ByteSource + Drop>(
+    alloc: Global,
+    reader: &mut SourceCursor<S>,
+    seen: &mut SeenBoxes,
+    place: u64,
+    header: BoxHeader,
+) -> std::result::Result<NextBox, FileError>
+    requires len { IsLength (S.contents reader.old.source) reader.old.len }
+    requires is_read { IsRead header.name }
+    requires size { 8 ≤ header.size }
+    ensures onward { IfOk result (λ next. next ≡ NextBox.Faultless → reader.old.position ≤ reader.new.position) }
+    ensures contents { S.contents reader.new.source ≡ S.contents reader.old.source }
+    ensures can_refuse { S.can_refuse reader.new.source ≡ S.can_refuse reader.old.source }
+    ensures same_len { reader.new.len ≡ reader.old.len }
+{
+    let from = reader.position();
+    match reader.read_box::<Payload>(alloc, header.size) {
+        Ok(payload) => {
+            let top = PlacedBox {
+                name: header.name,
+                place,
+                from,
+                payload: payload.bytes.as_slice(),
+            };
+            Ok(add_box(alloc, seen, top)?)
+        }
+        Err(FileError::Mp4(Error::OutOfMemory)) => Err(FileError::Mp4(Error::OutOfMemory)),
+        Err(FileError::Mp4(error)) => Ok(fault_of_box(alloc, seen, header.name, place, error)?),
+        Err(error) => Err(error),
+    }
 }
 
 /// What is at the cursor in a file that ends at the place `size`: after a box without fault the cursor is after it, and
@@ -249,7 +282,14 @@ pub(crate) fn next_box<S: ByteSource + Drop>(
     reader: &mut SourceCursor<S>,
     seen: &mut SeenBoxes,
     size: u64,
-) -> std::result::Result<NextBox, FileError> {
+) -> std::result::Result<NextBox, FileError>
+    requires len { IsLength (S.contents reader.old.source) reader.old.len }
+    ensures below { IfOk result (λ next. next ≡ NextBox.Faultless → reader.old.position < size) }
+    ensures onward { IfOk result (λ next. next ≡ NextBox.Faultless → reader.old.position < reader.new.position) }
+    ensures contents { S.contents reader.new.source ≡ S.contents reader.old.source }
+    ensures can_refuse { S.can_refuse reader.new.source ≡ S.can_refuse reader.old.source }
+    ensures same_len { reader.new.len ≡ reader.old.len }
+{
     let place = reader.position();
     if place >= size {
         return Ok(NextBox::End);
@@ -271,5 +311,8 @@ pub(crate) fn next_box<S: ByteSource + Drop>(
         let error = Error::InvalidData("a box is larger than the file");
         return Ok(fault_of_box(alloc, seen, header.name, place, error)?);
     }
-    box_after(alloc, reader, seen, place, header)
+    if is_read(header.name) {
+        return read_box(alloc, reader, seen, place, header);
+    }
+    Ok(skip_box(alloc, reader, seen, place, header)?)
 }

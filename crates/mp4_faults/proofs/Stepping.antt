@@ -1,0 +1,198 @@
+-- The next box of a file: what is known of it, and of its fault.
+use Rattle.std.proofs.Common.{◌≡◌, inl, inr, ◌<◌, ◌≤◌, ℕ, ◌+◌, ◌-◌, ◌^◌, Bool, true, false, ltb, cond, List, [], ◌∷◌}
+use Rattle.std.proofs.Common.{length, take, drop, Some, None, Result, Ok, Err, refl, sym, ap, subst, ◌∙◌, arith}
+use Rattle.std.proofs.lemmas.Bool.{le-ltb}
+use Rattle.mp4_codec.specs.declared.box_type.BoxType.{BoxType}
+use Rattle.mp4_codec.specs.declared.box_type.BoxType.TheVariants.{FtypBox, MoovBox, MoofBox, EmsgBox}
+use Rattle.mp4_codec.specs.declared.header.BoxHeader.{BoxHeader}
+use Rattle.mp4_codec.specs.Cause.{Cause, cause_of, end_of_data, invalid_data, ◌>>=◌}
+use Rattle.mp4_codec.specs.Cursor.{Cursor, here, header_at}
+use Rattle.mp4_codec.specs.Boxes.{box_at}
+use Rattle.mp4_codec.specs.Steps.{ok_is}
+use Rattle.mp4_media.specs.FileBoxes.{BoxContent, Skipped, meaning_of}
+use Rattle.mp4_media.specs.FileGrammar.{between, Begins, read, skipped, past_the_bytes, meaningless, past_64_bits, nothing}
+use Rattle.mp4_media.specs.FileGrammar.{larger, IsFault}
+use Rattle.mp4_faults.specs.declared.fault_place.FaultPlace.{FaultPlace}
+use Rattle.mp4_faults.specs.declared.top_level.Payload.{Payload}
+use Rattle.mp4_faults.specs.declared.top_level.SeenBoxes.{SeenBoxes}
+use Rattle.mp4_faults.specs.Payload.{whole_payload}
+use Rattle.mp4_faults.specs.Refusal.{payload_fault}
+use Rattle.mp4_faults.specs.Inner.{InnerBox, end_of}
+use Rattle.mp4_faults.specs.Innermost.{IsInnermost, step_after}
+use Rattle.mp4_faults.specs.TopLevel.{IsTopBox, IsNamedBox, IsFaultAt, IsInside, RefusesContent, Means, IsRead, IsBegun}
+use Rattle.mp4_faults.specs.TopLevel.{IsIn, outermost, refused, no_room, GivesNext, TellsNext, SaysNext, TellsInside}
+use Rattle.mp4_codec.specs.declared.error.Error.{Error}
+use Rattle.mp4_faults.specs.declared.top_level.NextBox.{NextBox}
+use Rattle.mp4_faults.specs.declared.top_level.NextBox.TheVariants.{Faulty}
+
+-- A box that is read, whose payload is at hand.
+module _ (size : ℕ) (bytes : List ℕ) (b : InnerBox) (t : IsTopBox size bytes b) where
+  pub top-box : (content : BoxContent) → Means b.name b.payload (Ok content)
+      → IsNamedBox size bytes b.place (end_of b) (b.name, record { place = b.place; content = content })
+  top-box content m = record {
+    box = record {
+      name = b.name;
+      from = b.from;
+      begins = t.begins;
+      fits = t.fits;
+      place_is = refl;
+      holds = read m.0 m.1 t.within (ap m.0 (sym t.payload) ∙ m.2);
+    };
+    name = refl;
+  }
+
+  same-box : b ≡ outermost bytes b.name b.place b.from (end_of b)
+  same-box =
+      ap (λ (p : List ℕ).
+      let x : InnerBox = record { name = b.name; place = b.place; from = b.from; payload = p } in x) t.payload
+
+  pub top-fault : (old new : SeenBoxes) (c : Cause) (f : FaultPlace) → RefusesContent old new b c
+      → IsInside new.names b c f → IsFaultAt size bytes b.place old.names f
+  top-fault old new c f r i = record {
+    fault = subst (λ (x : Cause). IsFault size bytes b.place x) (sym i.cause) (nothing b.name b.from (end_of b) t.begins t.fits
+        (meaningless r.means.0 r.means.1 t.within (ap r.means.0 (sym t.payload) ∙ r.means.2)));
+    is_in = subst (λ (x : Cause). IsIn size bytes b.place old.names x f.path f.place) (sym i.cause) (refused b.name b.from (end_of b) t.begins
+        (ap (λ (p : List ℕ). payload_fault b.name p) (sym t.payload) ∙ r.fault) i.inward i.b
+        (subst (λ (a : InnerBox). IsInnermost c a i.inward i.b) same-box i.innermost)
+        (i.path ∙ ap (λ names. step_after b.name names ∷ i.inward) r.names) i.place);
+  }
+
+-- a box that begins with this header
+pub begins-with : (size : ℕ) (bytes : List ℕ) (place from : ℕ) (h : BoxHeader)
+    → header_at (here bytes place) ≡ Ok (h, here bytes from) → place + 8 ≤ size → 8 ≤ h.size
+    → Begins size bytes place h.name from (from + (h.size - 8))
+begins-with size bytes place from h e room large =
+    let same : h.size ≡ from + (h.size - 8) - from + 8 = omega (arith, large) in
+    record {
+      room = room;
+      head = e ∙ ap (λ (n : ℕ). Ok (record { name = h.name; size = n }, here bytes from)) same;
+      order = omega arith;
+    }
+
+-- boxes that are read have a meaning
+pub read-means : (name : BoxType) → IsRead name
+    → (value : List ℕ → Result BoxContent Cause) × (meaning_of name ≡ Some value)
+unfolding meaning_of
+read-means FtypBox h = (_, refl)
+read-means MoovBox h = (_, refl)
+read-means MoofBox h = (_, refl)
+read-means EmsgBox h = (_, refl)
+read-means other h = absurd h
+
+-- A box with this header, which isn't larger than the file.
+module _ (size : ℕ) (bytes : List ℕ) (place from : ℕ) (h : BoxHeader) (large : 8 ≤ h.size)
+    (t : IsBegun size bytes place h from) where
+  whole-fits : from + (h.size - 8) - from + 8 ≤ size
+  whole-fits = let fits : h.size ≤ size = t.fits in omega (arith, large, fits)
+
+  pub skipped-box : meaning_of h.name ≡ None → from + (h.size - 8) < 2 ^ 64
+      → IsNamedBox size bytes place (from + (h.size - 8)) (h.name, record { place = place; content = Skipped })
+  skipped-box none small = record {
+    box = record {
+      name = h.name;
+      from = from;
+      begins = t.begins;
+      fits = whole-fits;
+      place_is = refl;
+      holds = skipped none small refl;
+    };
+    name = refl;
+  }
+
+  pub too-wide : (f : FaultPlace) (names : List BoxType) → meaning_of h.name ≡ None → 2 ^ 64 ≤ from + (h.size - 8)
+      → cause_of f.error ≡ invalid_data → f.path ≡ step_after h.name names ∷ [] → f.place ≡ place
+      → IsFaultAt size bytes place names f
+  too-wide f names none wide e path at = record {
+    fault = nothing h.name from (from + (h.size - 8)) t.begins whole-fits (past_64_bits none wide e);
+    is_in = no_room h.name from (from + (h.size - 8)) t.begins (inr (inr wide)) path at;
+  }
+
+  pub past-the-bytes : (f : FaultPlace) (names : List BoxType) → IsRead h.name
+      → length bytes < from + (h.size - 8) → cause_of f.error ≡ end_of_data
+      → f.path ≡ step_after h.name names ∷ [] → f.place ≡ place → IsFaultAt size bytes place names f
+  past-the-bytes f names is_read outside e path at =
+      let m = read-means h.name is_read in
+      record {
+        fault = nothing h.name from (from + (h.size - 8)) t.begins whole-fits (past_the_bytes m.0 m.1 outside e);
+        is_in = no_room h.name from (from + (h.size - 8)) t.begins (inr (inl outside)) path at;
+      }
+
+-- a box that is larger than the file
+pub too-large : (size : ℕ) (bytes : List ℕ) (place from : ℕ) (h : BoxHeader) → 8 ≤ h.size → size < h.size
+    → Begins size bytes place h.name from (from + (h.size - 8)) → (f : FaultPlace) (names : List BoxType)
+    → cause_of f.error ≡ invalid_data → f.path ≡ step_after h.name names ∷ [] → f.place ≡ place
+    → IsFaultAt size bytes place names f
+too-large size bytes place from h large past begins f names e path at =
+    let wide : size < from + (h.size - 8) - from + 8 = omega (arith, large, past) in
+    record {
+      fault = larger h.name from (from + (h.size - 8)) begins wide e;
+      is_in = no_room h.name from (from + (h.size - 8)) begins (inl wide) path at;
+    }
+
+-- A payload that is read as it is.
+module _ (size from : ℕ) (bytes : List ℕ) (large : 8 ≤ size) where
+  enough : ltb size 8 ≡ false
+  enough = le-ltb size 8 large
+
+  -- that it is these bytes, and where it ends
+  pub record IsWhole (p : Payload) (behind : ℕ) : Type 0 where
+    pub is : p.bytes ≡ between bytes from (from + (size - 8))
+    pub end : behind ≡ from + (size - 8)
+    pub within : from + (size - 8) ≤ length bytes
+
+  abbrev taken : Bool → Result (Payload × Cursor) Cause
+  taken past = cond past (Err end_of_data)
+      (Ok (record { bytes = take (size - 8) (drop from bytes) }, here bytes (from + (size - 8))))
+
+  taken-is : box_at whole_payload size (here bytes from) ≡ taken (ltb (length bytes) (from + (size - 8)))
+  taken-is = rw enough (by (ltb (length bytes) (from + (size - 8))))
+    where
+      by : (past : Bool)
+          → ◌>>=◌ {A = List ℕ × Cursor} {B = Payload × Cursor}
+          (cond past (Err end_of_data) (Ok (take (size - 8) (drop from bytes), here bytes (from + (size - 8)))))
+          (λ part. Ok (record { bytes = part.0 }, part.1)) ≡ taken past
+      by true = refl
+      by false = refl
+
+  pub payload-whole : (p : Payload) (behind : ℕ)
+      → box_at whole_payload size (here bytes from) ≡ Ok (p, here bytes behind) → IsWhole p behind
+  payload-whole p behind e = by (ltb (length bytes) (from + (size - 8))) refl (sym taken-is ∙ e)
+    where
+      by : (past : Bool) → ltb (length bytes) (from + (size - 8)) ≡ past → taken past ≡ Ok (p, here bytes behind)
+          → IsWhole p behind
+      by true t e = absurd cc
+      by false t e =
+          let same =
+          ok_is (record { bytes = take (size - 8) (drop from bytes) }, here bytes (from + (size - 8)))
+          (p, here bytes behind) e in
+          let n : size - 8 ≡ from + (size - 8) - from = omega arith in
+          record {
+            is =
+                ap (λ (x : Payload × Cursor). x.0.bytes) (sym same)
+                ∙ ap (λ (k : ℕ). take k (drop from bytes)) n;
+            end = ap (λ (x : Payload × Cursor). x.1.position) (sym same);
+            within = grind arith;
+          }
+
+  pub payload-cut : (c : Cause) → box_at whole_payload size (here bytes from) ≡ Err c
+      → (c ≡ end_of_data) × (length bytes < from + (size - 8))
+  payload-cut c e = by (ltb (length bytes) (from + (size - 8))) refl (sym taken-is ∙ e)
+    where
+      by : (past : Bool) → ltb (length bytes) (from + (size - 8)) ≡ past → taken past ≡ Err c
+          → (c ≡ end_of_data) × (length bytes < from + (size - 8))
+      by true t e = (cc, grind arith)
+      by false t e = absurd cc
+
+-- What a call gives that is the answer of another.
+module _ (size : ℕ) (bytes : List ℕ) (place behind : ℕ) (old new : SeenBoxes) where
+  pub gives-fault : (r : Result NextBox Error) (f : FaultPlace) → GivesNext r (Faulty f)
+      → IsFaultAt size bytes place old.names f → TellsNext size bytes place old new behind r
+  gives-fault (Ok next) f g h = subst (λ (n : NextBox). SaysNext size bytes place old new behind n) (sym g) h
+  gives-fault (Err e) f g h = g
+
+  pub tells-inside : (r : Result NextBox Error) (names : List BoxType) (a : InnerBox) (c : Cause)
+      → TellsInside names a c r → ((f : FaultPlace) → IsInside names a c f → IsFaultAt size bytes place old.names f)
+      → TellsNext size bytes place old new behind r
+  tells-inside (Ok next) names a c t h =
+      subst (λ (n : NextBox). SaysNext size bytes place old new behind n) (sym t.1) (h t.0 t.2)
+  tells-inside (Err e) names a c t h = t
