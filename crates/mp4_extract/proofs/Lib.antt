@@ -1,2 +1,4 @@
 pub mod Streams
 pub mod Turning
+pub mod ArrayLoop
+pub mod Joined

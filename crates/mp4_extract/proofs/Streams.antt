@@ -1,18 +1,15 @@
 -- Byte streams of units that are written one after the other.
-use Rattle.std.proofs.Common.{◌≡◌, ℕ, ◌+◌, ◌<◌, Bool, true, false, not, List, [], ◌∷◌, ◌++◌, refl, sym, ◌∙◌, ap, append_assoc}
-use Rattle.std.proofs.Common.{Result, Ok, Err, map, length, take, get_or}
+use Rattle.std.proofs.Common.{◌≡◌, ℕ, ◌+◌, ◌<◌, Bool, true, false, not, List, [], ◌∷◌, ◌++◌, refl, sym, ◌∙◌, ap}
+use Rattle.std.proofs.Common.{append_assoc, map, length, take, get_or}
 use Rattle.std.specs.Prelude.{◌&&◌, ◌||◌, ◌==◌, if◌then◌else◌}
-use Rattle.std.specs.List.{filter}
 use Rattle.std.proofs.lemmas.List.{append-nil, take_more, map-append}
 use Rattle.std.proofs.Math.Dec.{eqb-suc-zero}
-use Rattle.std.proofs.lemmas.List.Elements.{filter-append}
 use Rattle.mp4_entry.specs.declared.avcc.NalUnit.{NalUnit}
 use Rattle.mp4_codec.specs.Bytes.{Appends}
 use Rattle.mp4_extract.specs.declared.coding.VideoCoding.{VideoCoding}
-use Rattle.mp4_extract.specs.declared.annex_b.AnnexB.{AnnexB}
 use Rattle.mp4_extract.specs.NalUnits.{is_parameter_set, is_random_access}
-use Rattle.mp4_extract.specs.ByteStream.{unit_at, HoldUnits, coded_unit, byte_stream, with_sets, sets_of, stream_of}
-use Rattle.mp4_extract.specs.ByteStream.{has_bytes, next_units, wants_sets_after}
+use Rattle.mp4_extract.specs.ByteStream.{coded_unit, byte_stream, with_sets}
+use Rattle.mp4_extract.specs.ByteStream.{next_units, wants_sets_after}
 
 -- whether there is no unit
 abbrev pub is_none : List (List ℕ) → Bool

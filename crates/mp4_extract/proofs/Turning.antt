@@ -1,6 +1,6 @@
 -- A sample of video that is turned into a byte stream, one unit after the other.
-use Rattle.std.proofs.Common.{◌≡◌, ℕ, ◌+◌, ◌<◌, ◌≤◌, Bool, true, false, List, [], ◌∷◌, ◌++◌, refl, sym, ◌∙◌, ap, append_assoc}
-use Rattle.std.proofs.Common.{Result, Ok, Err, length, take, drop, cond, ltb, arith, nat_eq}
+use Rattle.std.proofs.Common.{◌≡◌, ℕ, ◌+◌, ◌≤◌, Bool, true, false, List, [], ◌∷◌, ◌++◌, refl, sym, ◌∙◌, ap}
+use Rattle.std.proofs.Common.{Result, Ok, Err, length, take, drop, cond, arith, nat_eq}
 use Rattle.std.specs.Prelude.{nat_lt, ◌&&◌, if◌then◌else◌}
 use Rattle.mp4_extract.specs.NalUnits.{is_random_access}
 use Rattle.std.specs.List.{filter}
@@ -10,11 +10,10 @@ use Rattle.std.proofs.lemmas.List.Elements.{filter-append}
 use Rattle.mp4_codec.specs.Bytes.{Appends, number_at, bytes_at}
 use Rattle.mp4_codec.specs.Cause.{Cause, invalid_data, ◌>>=◌}
 use Rattle.mp4_codec.specs.FieldLaws.{number-has_length}
-use Rattle.mp4_extract.specs.declared.coding.VideoCoding.{VideoCoding}
 use Rattle.mp4_extract.specs.declared.annex_b.AnnexB.{AnnexB}
-use Rattle.mp4_extract.specs.ByteStream.{unit_at, HoldUnits, IsCut, IsStreamOf, byte_stream, with_sets, sets_of, stream_of}
+use Rattle.mp4_extract.specs.ByteStream.{unit_at, HoldUnits, IsStreamOf, byte_stream, with_sets, sets_of, stream_of}
 use Rattle.mp4_extract.specs.ByteStream.{has_bytes, length_size, next_units, wants_sets_after}
-use Rattle.mp4_extract.proofs.Streams.{is_none, wants_sets, sets-snoc, wants-snoc, stream-more, none-append}
+use Rattle.mp4_extract.proofs.Streams.{is_none, wants_sets, sets-snoc, wants-snoc, stream-more}
 
 -- the units that are written for these of a sample
 abbrev pub written_units : AnnexB → List (List ℕ) → List (List ℕ)

@@ -1,5 +1,5 @@
 -- Samples of sound with a header each (ISO/IEC 14496-3, 1.A.2.2.1).
-use Rattle.std.specs.Prelude.{◌≡◌, ℕ, ◌+◌, ◌*◌, ◌-◌, ◌^◌, ◌<◌, ◌≤◌, nat_lt, nat_le, not, ◌&&◌, if◌then◌else◌, Bool}
+use Rattle.std.specs.Prelude.{ℕ, ◌+◌, ◌*◌, ◌-◌, ◌^◌, nat_lt, nat_le, ◌&&◌, if◌then◌else◌, Bool}
 use Rattle.std.specs.Prelude.{List, [], ◌∷◌, ◌++◌, length, Option, Some, None, Result, Ok, Err}
 use Rattle.mp4_codec.specs.Bytes.{number}
 use Rattle.mp4_codec.specs.Cause.{Cause, too_large, seen}
@@ -56,7 +56,8 @@ abbrev pub is_sayable : DecoderSpecificDescriptor → Bool
 is_sayable d =
     nat_le 1 d.profile && nat_le d.profile 4 && nat_le d.freq_index 12 && nat_le 1 d.chan_conf && nat_le d.chan_conf 7
 
--- the numbers that all headers of a track say, where they can: the object type, the place of the frequency, the channels
+-- the numbers that all headers of a track say, where they can: the object type, the place of the frequency, the
+-- channels
 abbrev pub AdtsNumbers : Type 0
 AdtsNumbers = ℕ × ℕ × ℕ
 

@@ -1,5 +1,5 @@
--- Samples of video as a byte stream: ISO/IEC 14496-15, 5.3.4.2 and 8.3.4.2 say how a sample holds its units, and Annex B of
--- ISO/IEC 14496-10 and of 23008-2 how a byte stream does.
+-- Samples of video as a byte stream: ISO/IEC 14496-15, 5.3.4.2 and 8.3.4.2 say how a sample holds its units, and
+-- Annex B of ISO/IEC 14496-10 and of 23008-2 how a byte stream does.
 use Rattle.std.specs.Prelude.{◌≡◌, ℕ, ◌<◌, ◌==◌, Bool, true, false, not, ◌&&◌, if◌then◌else◌, List, [], ◌∷◌, ◌++◌}
 use Rattle.std.specs.Prelude.{◌+◌, ◌%◌, ◌||◌, length, map, Ok, Err}
 use Rattle.std.specs.List.{filter}

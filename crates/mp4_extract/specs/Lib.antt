@@ -2,3 +2,8 @@ pub mod NalUnits
 pub mod ByteStream
 pub mod ParameterSets
 pub mod Adts
+pub mod Forms
+pub mod Errors
+pub mod Texts
+pub mod Extracting
+pub mod Subtitles

@@ -1,7 +1,5 @@
 -- What a byte stream takes of the sample entry of a track of video (ISO/IEC 14496-15, 5.3.3.1 and 8.3.3.1).
-use Rattle.std.specs.Prelude.{◌++◌, Result, Ok}
-use Rattle.std.specs.List.{flat_map}
-use Rattle.std.specs.Prelude.{List}
+use Rattle.std.specs.Prelude.{ℕ, zero, suc, List, [], ◌++◌, Result, Ok}
 use Rattle.mp4_codec.specs.Bytes.{Reader, number_at, bytes_at, list_at}
 use Rattle.mp4_codec.specs.Cause.{Cause, ◌>>=◌}
 use Rattle.mp4_entry.specs.Avcc.{unit_at}
@@ -26,16 +24,28 @@ array_at bytes = do
   count ← number_at 2 type.1
   list_at unit_at count.0 count.1
 
--- of hvcC: the units of all arrays, in their order; the size of lengths is in the low two bits of the byte before their
--- number
+-- so many arrays, as the units of all
+unfoldable pub arrays_at : ℕ → Reader (List NalUnit)
+arrays_at zero bytes = Ok ([], bytes)
+arrays_at (suc n) bytes = do
+  first ← array_at bytes
+  others ← arrays_at n first.1
+  Ok (first.0 ++ others.0, others.1)
+
+-- units that were read before, and those that are read
+abbrev pub after_units : List NalUnit → Result (List NalUnit × List ℕ) Cause → Result (List NalUnit × List ℕ) Cause
+after_units before read = read >>= λ x. Ok (before ++ x.0, x.1)
+
+-- of hvcC: the units of all arrays, in their order; the size of lengths is in the low two bits of the byte before the
+-- number of arrays
 unfoldable pub hevc_stream : HvcCBox → Result AnnexB Cause
 hevc_stream b = do
   front ← bytes_at 21 b.raw
   length_size ← number_at 1 front.1
   count ← number_at 1 length_size.1
-  arrays ← list_at array_at count.0 count.1
+  units ← arrays_at count.0 count.1
   Ok (record {
     coding = H265;
     length_size_minus_one = length_size.0;
-    parameter_sets = flat_map (λ (array : List NalUnit). array) arrays.0;
+    parameter_sets = units.0;
   })

@@ -4,9 +4,9 @@ ghost use Rattle.std.specs.Prelude.{◌≡◌, ◌⊎◌, ◌==◌, ◌&&◌, []
 ghost use Rattle.mp4_codec.specs.Bytes.{Appends, number_at};
 ghost use Rattle.mp4_codec.specs.Cause.{Reads};
 ghost use Rattle.mp4_codec.specs.declared.error.Error.TheVariants.{OutOfMemory};
-ghost use Rattle.mp4_extract.specs.ByteStream.{IsCut, IsStreamOf, byte_stream, coded_unit, length_size, sets_of};
+ghost use Rattle.mp4_extract.specs.ByteStream.{IsCut, IsStreamOf, byte_stream, coded_unit, length_size, next_units};
+ghost use Rattle.mp4_extract.specs.ByteStream.{sets_of, start_code, unit_at, wants_sets_after};
 ghost use Rattle.mp4_extract.specs.NalUnits.{is_random_access};
-ghost use Rattle.mp4_extract.specs.ByteStream.{start_code, unit_at, wants_sets_after, next_units};
 
 use crate::coding::VideoCoding;
 use mp4_codec::{Field, Fields, Items, Put, Result, put_bytes};
@@ -49,9 +49,11 @@ impl AnnexB {
         length_size_minus_one: u8,
         parameter_sets: Items<NalUnit>,
     ) -> Self
-        ensures coding { result.coding ≡ coding }
-        ensures length_size { result.length_size_minus_one ≡ length_size_minus_one }
-        ensures sets { result.parameter_sets ≡ parameter_sets }
+        ensures { result ≡ record {
+          coding = coding;
+          length_size_minus_one = length_size_minus_one;
+          parameter_sets = parameter_sets;
+        } }
     {
         AnnexB {
             coding,

@@ -1,7 +1,11 @@
 //! Why samples aren't extracted.
 
+ghost use Rattle.std.specs.Prelude.{◌≡◌};
+ghost use Rattle.mp4_extract.specs.declared.error.ExtractError.TheVariants.{OutOfMemory};
+
 use crate::format::SampleFormat;
-use mp4_media::{Error, FileError};
+use mp4_codec::Error;
+use mp4_source::FileError;
 use std::alloc::{AllocError, AllocFailed};
 use std::io;
 use thiserror::Error as ThisError;
@@ -31,20 +35,28 @@ pub enum ExtractError {
 }
 
 impl From<AllocError> for ExtractError {
+    ghost from_gives = { λ _ e. e ≡ OutOfMemory };
+
     fn from(_refused: AllocError) -> ExtractError {
         ExtractError::OutOfMemory
     }
 }
 
 impl<T: Drop> From<AllocFailed<T>> for ExtractError {
+    ghost from_gives = { λ _ e. e ≡ OutOfMemory };
+
     fn from(_refused: AllocFailed<T>) -> ExtractError {
         ExtractError::OutOfMemory
     }
 }
 
 impl ExtractError {
+    ghost use Rattle.mp4_extract.specs.Errors.{of_file, of_sample, of_track};
+
     /// What a track is refused for.
-    pub(crate) fn of_track(error: Error) -> Self {
+    pub(crate) fn of_track(error: Error) -> Self
+        ensures { result ≡ of_track error }
+    {
         match error {
             Error::OutOfMemory => ExtractError::OutOfMemory,
             error => ExtractError::Track(error),
@@ -52,7 +64,9 @@ impl ExtractError {
     }
 
     /// What a sample is refused for.
-    pub(crate) fn of_sample(k: u32, error: Error) -> Self {
+    pub(crate) fn of_sample(k: u32, error: Error) -> Self
+        ensures { result ≡ of_sample k error }
+    {
         match error {
             Error::OutOfMemory => ExtractError::OutOfMemory,
             error => ExtractError::Sample(k, error),
@@ -60,7 +74,9 @@ impl ExtractError {
     }
 
     /// Why a sample isn't read.
-    pub(crate) fn of_read(k: u32, error: FileError) -> Self {
+    pub(crate) fn of_read(k: u32, error: FileError) -> Self
+        ensures { result ≡ of_file k error }
+    {
         match error {
             FileError::Mp4(error) => Self::of_sample(k, error),
             FileError::Io(refused) => ExtractError::Read(k, refused),

@@ -1,11 +1,18 @@
 //! What becomes of the samples of a track.
 
+ghost use Rattle.std.specs.Prelude.{◌≡◌, ◌⊎◌, option_map, IfErr, IfOk};
+ghost use Rattle.mp4_codec.specs.Cause.{Answers};
+ghost use Rattle.mp4_codec.specs.declared.error.Error.TheVariants.{OutOfMemory};
+ghost use Rattle.mp4_extract.specs.Adts.{numbers_of};
+ghost use Rattle.mp4_extract.specs.Forms.{IsFormOf, IsInForm, RefusesSample, RefusesTrack, track_adts, track_stream};
+
 use crate::adts::AdtsConfig;
 use crate::annex_b::AnnexB;
 use crate::error::ExtractError;
 use crate::format::SampleFormat;
 use crate::parameter_sets::{annex_b_of_avcc, annex_b_of_hvcc};
-use mp4_media::{Mp4Track, Result};
+use mp4_codec::Result;
+use mp4_lookup::Mp4Track;
 use std::alloc::Global;
 
 /// A format, with what it takes of a track.
@@ -19,22 +26,34 @@ pub enum SampleForm {
     Adts(AdtsConfig),
 }
 
-/// A byte stream of a track of video, if it is one.
-fn annex_b_of(alloc: Global, track: &Mp4Track) -> Result<Option<AnnexB>> {
+/// The byte stream of a track of video, if it is one.
+#[tactic(auto, unfolding(crate::specs::Forms::track_stream))]
+fn annex_b_of(alloc: Global, track: &Mp4Track) -> Result<Option<AnnexB>>
+    ensures { Answers (λ s. s) result (track_stream track.now.trak) }
+{
     let stsd = &track.trak.mdia.minf.stbl.stsd;
     if let Some(entry) = &stsd.avc1 {
-        return Ok(Some(annex_b_of_avcc(alloc, &entry.avcc)?));
+        let stream = annex_b_of_avcc(alloc, &entry.avcc)?;
+        return Ok(Some(stream));
     }
     if let Some(entry) = &stsd.hev1 {
-        return Ok(Some(annex_b_of_hvcc(alloc, &entry.hvcc)?));
+        let stream = annex_b_of_hvcc(alloc, &entry.hvcc)?;
+        return Ok(Some(stream));
     }
     Ok(None)
 }
 
 /// What the headers of a track of sound say, if it is one and they can say it.
-fn adts_of(track: &Mp4Track) -> Option<AdtsConfig> {
-    let entry = track.trak.mdia.minf.stbl.stsd.mp4a.as_ref()?;
-    let stream = entry.esds.as_ref()?;
+#[tactic(auto, unfolding(crate::specs::Forms::track_adts))]
+fn adts_of(track: &Mp4Track) -> Option<AdtsConfig>
+    ensures { option_map numbers_of result ≡ track_adts track.now.trak }
+{
+    let Some(entry) = &track.trak.mdia.minf.stbl.stsd.mp4a else {
+        return None;
+    };
+    let Some(stream) = &entry.esds else {
+        return None;
+    };
     AdtsConfig::of(stream.es_desc.dec_config.dec_specific)
 }
 
@@ -47,28 +66,43 @@ impl SampleForm {
         alloc: Global,
         track: &Mp4Track,
         format: SampleFormat,
-    ) -> std::result::Result<Self, ExtractError> {
-        let form = match format {
-            SampleFormat::AsStored => Some(SampleForm::AsStored),
-            SampleFormat::AnnexB => annex_b_of(alloc, track)
-                .map_err(ExtractError::of_track)?
-                .map(SampleForm::AnnexB),
-            SampleFormat::Adts => adts_of(track).map(SampleForm::Adts),
-        };
-        form.ok_or(ExtractError::WrongFormat(track.track_id(), format))
+    ) -> std::result::Result<Self, ExtractError>
+        ensures form { IfOk result (λ form. IsFormOf track.now.trak format form) }
+        ensures refused { IfErr result (λ e. RefusesTrack track.now.trak format e) }
+    {
+        match format {
+            SampleFormat::AsStored => Ok(SampleForm::AsStored),
+            SampleFormat::AnnexB => match annex_b_of(alloc, track) {
+                Ok(Some(stream)) => Ok(SampleForm::AnnexB(stream)),
+                Ok(None) => Err(ExtractError::WrongFormat(track.track_id(), format)),
+                Err(error) => Err(ExtractError::of_track(error)),
+            },
+            SampleFormat::Adts => match adts_of(track) {
+                Some(config) => Ok(SampleForm::Adts(config)),
+                None => Err(ExtractError::WrongFormat(track.track_id(), format)),
+            },
+        }
     }
 
     /// A sample in this form: the sample itself, or what the room then holds.
     ///
     /// `InvalidData` where the length of a unit passes the sample's end, `TooLarge(SampleBytes)` where a header can't
     /// say how long the sample is.
-    pub fn apply<'a>(&self, sample: &'a [u8], room: &'a mut Vec<u8>) -> Result<&'a [u8]> {
+    pub fn apply<'a>(&self, sample: &'a [u8], room: &'a mut Vec<u8>) -> Result<&'a [u8]>
+        ensures ok { IfOk result (λ bytes. IsInForm self.now sample.now bytes.now) }
+        ensures refused { IfErr result (λ e. (e ≡ OutOfMemory) ⊎ (RefusesSample self.now sample.now e)) }
+    {
         room.clear();
         match self {
-            SampleForm::AsStored => return Ok(sample),
-            SampleForm::AnnexB(stream) => stream.put_sample(sample, room)?,
-            SampleForm::Adts(config) => config.put_sample(sample, room)?,
+            SampleForm::AsStored => Ok(sample),
+            SampleForm::AnnexB(stream) => {
+                stream.put_sample(sample, room)?;
+                Ok(room.as_slice())
+            }
+            SampleForm::Adts(config) => {
+                config.put_sample(sample, room)?;
+                Ok(room.as_slice())
+            }
         }
-        Ok(room.as_slice())
     }
 }

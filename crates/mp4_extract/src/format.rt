@@ -8,8 +8,8 @@ pub enum SampleFormat {
     /// As they lie in the file.
     #[error("as stored")]
     AsStored,
-    /// Video of `avc1` or `hev1` as a byte stream (ISO/IEC 14496-10 and 23008-2, Annex B): a start code before each unit
-    /// in place of its length, and the parameter sets of the track.
+    /// Video of `avc1` or `hev1` as a byte stream (ISO/IEC 14496-10 and 23008-2, Annex B): a start code before each
+    /// unit in place of its length, and the parameter sets of the track before units at which decoding can begin.
     #[error("Annex B")]
     AnnexB,
     /// Sound of `mp4a` with a header before each sample (ISO/IEC 14496-3, 1.A.2.2.1).

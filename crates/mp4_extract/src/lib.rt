@@ -1,5 +1,5 @@
-//! The samples of a track out of a file: their bytes as they are stored, or as players of video and sound take them, and
-//! the texts of subtitles.
+//! The samples of a track out of a file: their bytes as they are stored, or as players of video and sound take them,
+//! and the texts of subtitles.
 #![tactic(auto)]
 
 mod adts;
@@ -11,7 +11,8 @@ mod format;
 mod parameter_sets;
 mod samples;
 mod srt;
-mod subtitles;
+mod text;
+mod text_track;
 mod times;
 
 pub use adts::AdtsConfig;
@@ -22,4 +23,4 @@ pub use form::SampleForm;
 pub use format::SampleFormat;
 pub use samples::{SampleWriter, extract};
 pub use srt::{write_lines, write_srt};
-pub use subtitles::{Subtitle, subtitles};
+pub use text_track::{Subtitle, subtitles};

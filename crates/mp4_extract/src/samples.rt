@@ -1,5 +1,13 @@
 //! Samples of a track, written one after the other.
 
+ghost use Rattle.std.specs.Prelude.{◌≡◌, ◌<◌, ◌+◌, ◌≤◌, ℕ, List, IfErr, IfOk, IfSome, OnOk};
+ghost use Rattle.std.specs.Io.KnownBytes.{Appends};
+ghost use Rattle.mp4_media.specs.Reading.{sample_in};
+ghost use Rattle.mp4_extract.specs.Extracting.{AreExtracted, AreWritten, IsFormIn, IsPastEnd, IsWritten};
+ghost use Rattle.mp4_extract.specs.Extracting.{RefusesExtraction, RefusesNumber, RefusesOneFrom, RefusesStored};
+ghost use Rattle.mp4_extract.specs.Extracting.{RefusesTrackIn};
+ghost use Rattle.mp4_extract.specs.Forms.{IsInForm};
+
 use crate::error::ExtractError;
 use crate::form::SampleForm;
 use crate::format::SampleFormat;
@@ -8,7 +16,7 @@ use std::alloc::Global;
 use std::io::Write;
 
 /// What the samples of a track are written by: its memory is that of the largest sample, whatever their number is.
-#[derive(Debug, Drop)]
+#[derive(Debug)]
 pub struct SampleWriter {
     track_id: u32,
     form: SampleForm,
@@ -16,6 +24,21 @@ pub struct SampleWriter {
     stored: Vec<u8>,
     /// The sample as it is written, where that is another.
     turned: Vec<u8>,
+}
+
+/// Taken apart here, and not at each end of each function that owns one.
+impl Drop for SampleWriter {
+    fn drop(self) {
+        let SampleWriter {
+            track_id: _,
+            form,
+            stored,
+            turned,
+        } = self;
+        drop(form);
+        drop(stored);
+        drop(turned);
+    }
 }
 
 impl SampleWriter {
@@ -28,13 +51,18 @@ impl SampleWriter {
         file: &Mp4File<S>,
         track_id: u32,
         format: SampleFormat,
-    ) -> Result<Self, ExtractError> {
+    ) -> Result<Self, ExtractError>
+        ensures track_id { IfOk result (λ w. w.track_id ≡ track_id) }
+        ensures form { IfOk result (λ w. IsFormIn file.now.movie.tracks track_id format w.form) }
+        ensures refused { IfErr result (λ e. RefusesTrackIn file.now.movie.tracks track_id format e) }
+    {
         let Some(track) = file.tracks().get(&track_id) else {
             return Err(ExtractError::Track(Error::TrakNotFound(track_id)));
         };
+        let form = SampleForm::new(alloc, track, format)?;
         Ok(SampleWriter {
             track_id,
-            form: SampleForm::new(alloc, track, format)?,
+            form,
             stored: Vec::new(alloc),
             turned: Vec::new(alloc),
         })
@@ -43,27 +71,52 @@ impl SampleWriter {
     /// Writes sample `k` of the track; samples are numbered from 1. It answers whether there is such a sample: where
     /// there isn't, nothing is written.
     ///
-    /// `Sample` where the file's tables refuse the sample, where it doesn't lie whole in the file, and where it has no
-    /// such form; `Read` where the source refuses; then nothing is written. `Write` where the sink refuses.
+    /// `Sample` where the file's tables refuse the sample, as they do number 0 and each number of a track without
+    /// samples (`InvalidData`), where it doesn't lie whole in the file, and where it has no such form; `Read` where the source
+    /// refuses; then nothing is written. `Write` where the sink refuses, which may then hold a part of the sample.
     pub fn write_sample<S: ByteSource + Drop, W: Write>(
         &mut self,
         file: &mut Mp4File<S>,
         k: u32,
         out: &mut W,
-    ) -> Result<bool, ExtractError> {
-        let found = file
-            .read_sample_into(self.track_id, k, &mut self.stored)
-            .map_err(|error| ExtractError::of_read(k, error))?;
-        if found.is_none() {
-            return Ok(false);
+    ) -> Result<bool, ExtractError>
+        ensures written { IfOk result (λ found. IfSome (S.contents file.old.source) (λ source.
+            IsWritten self.old.form (sample_in source file.old.movie.tracks self.old.track_id k)
+            (W.contents out.old) (W.contents out.new) found)) }
+        ensures refused { IfErr result (λ e. IfSome (S.contents file.old.source) (λ source.
+            RefusesNumber self.old.form (sample_in source file.old.movie.tracks self.old.track_id k) k
+            (S.can_refuse file.old.source) e)) }
+        ensures track_id { self.new.track_id ≡ self.old.track_id }
+        ensures form { self.new.form ≡ self.old.form }
+        ensures movie { file.new.movie ≡ file.old.movie }
+        ensures contents { S.contents file.new.source ≡ S.contents file.old.source }
+        ensures can_refuse { S.can_refuse file.new.source ≡ S.can_refuse file.old.source }
+    {
+        match file.read_sample_into(self.track_id, k, &mut self.stored) {
+            Ok(None) => Ok(false),
+            Ok(Some(_)) => {
+                self.put_stored(k, out)?;
+                Ok(true)
+            }
+            Err(error) => Err(ExtractError::of_read(k, error)),
         }
-        let bytes = self
-            .form
-            .apply(self.stored.as_slice(), &mut self.turned)
-            .map_err(|error| ExtractError::of_sample(k, error))?;
-        out.write_all(bytes)
-            .map_err(|refused| ExtractError::Write(k, refused))?;
-        Ok(true)
+    }
+
+    /// Writes the sample that was read, whose number is `k`.
+    fn put_stored<W: Write>(&mut self, k: u32, out: &mut W) -> Result<(), ExtractError>
+        ensures written { OnOk result ((bytes : List ℕ) × (IsInForm self.old.form self.old.stored.items bytes)
+            × (Appends (W.contents out.old) (W.contents out.new) bytes)) }
+        ensures refused { IfErr result (λ e. RefusesStored self.old.form self.old.stored.items k e) }
+        ensures track_id { self.new.track_id ≡ self.old.track_id }
+        ensures form { self.new.form ≡ self.old.form }
+    {
+        match self.form.apply(self.stored.as_slice(), &mut self.turned) {
+            Ok(bytes) => match out.write_all(bytes) {
+                Ok(()) => Ok(()),
+                Err(refused) => Err(ExtractError::Write(k, refused)),
+            },
+            Err(error) => Err(ExtractError::of_sample(k, error)),
+        }
     }
 
     /// Writes the samples from number `from` on, one after the other: `count` of them, or as many as there are. It
@@ -76,12 +129,28 @@ impl SampleWriter {
         from: u32,
         count: u32,
         out: &mut W,
-    ) -> Result<u32, ExtractError> {
+    ) -> Result<u32, ExtractError>
+        ensures count { IfOk result (λ n. n ≤ count) }
+        ensures written { IfOk result (λ n. IfSome (S.contents file.old.source) (λ source.
+            AreWritten self.old.form (sample_in source file.old.movie.tracks self.old.track_id) from
+            (W.contents out.old) (W.contents out.new) n)) }
+        ensures end { IfOk result (λ n. n < count → IfSome (S.contents file.old.source) (λ source.
+            IsPastEnd (sample_in source file.old.movie.tracks self.old.track_id) (from + n))) }
+        ensures refused { IfErr result (λ e. IfSome (S.contents file.old.source) (λ source.
+            RefusesOneFrom self.old.form (sample_in source file.old.movie.tracks self.old.track_id) from
+            (S.can_refuse file.old.source) e)) }
+        ensures track_id { self.new.track_id ≡ self.old.track_id }
+        ensures form { self.new.form ≡ self.old.form }
+        ensures movie { file.new.movie ≡ file.old.movie }
+        ensures contents { S.contents file.new.source ≡ S.contents file.old.source }
+        ensures can_refuse { S.can_refuse file.new.source ≡ S.can_refuse file.old.source }
+    {
         for written in 0..count {
             let Some(k) = from.checked_add(written) else {
                 return Ok(written);
             };
-            if !self.write_sample(file, k, out)? {
+            let found = self.write_sample(file, k, out)?;
+            if !found {
                 return Ok(written);
             }
         }
@@ -102,7 +171,19 @@ pub fn extract<S: ByteSource + Drop, W: Write>(
     count: u32,
     format: SampleFormat,
     out: &mut W,
-) -> Result<u32, ExtractError> {
+) -> Result<u32, ExtractError>
+    ensures count { IfOk result (λ n. n ≤ count) }
+    ensures written { IfOk result (λ n. IfSome (S.contents file.old.source) (λ source.
+        AreExtracted format source file.old.movie.tracks track_id from (W.contents out.old) (W.contents out.new) n)) }
+    ensures end { IfOk result (λ n. n < count → IfSome (S.contents file.old.source) (λ source.
+        IsPastEnd (sample_in source file.old.movie.tracks track_id) (from + n))) }
+    ensures refused { IfErr result (λ e. IfSome (S.contents file.old.source) (λ source.
+        RefusesExtraction format source file.old.movie.tracks track_id from (S.can_refuse file.old.source) e)) }
+    ensures movie { file.new.movie ≡ file.old.movie }
+    ensures contents { S.contents file.new.source ≡ S.contents file.old.source }
+    ensures can_refuse { S.can_refuse file.new.source ≡ S.can_refuse file.old.source }
+{
     let mut writer = SampleWriter::new(alloc, file, track_id, format)?;
-    writer.write_samples(file, from, count, out)
+    let written = writer.write_samples(file, from, count, out)?;
+    Ok(written)
 }

@@ -1,6 +1,6 @@
 //! Subtitles as texts.
 
-use crate::subtitles::Subtitle;
+use crate::text_track::Subtitle;
 use crate::times::Clock;
 use std::io;
 use std::io::Write;

@@ -1,6 +1,9 @@
 //! Times of subtitles.
 
-use mp4_media::{Error, Limit, Result};
+ghost use Rattle.mp4_codec.specs.Cause.{Gives};
+ghost use Rattle.mp4_extract.specs.Texts.{milliseconds_of};
+
+use mp4_codec::{Error, Limit, Result};
 use std::fmt;
 use std::fmt::{Display, Write};
 
@@ -8,13 +11,15 @@ use std::fmt::{Display, Write};
 /// the number in a second (ISO/IEC 14496-12, 8.4.2).
 ///
 /// `ZeroTimescale` where the timescale is 0, then `TooLarge(Value)` where the answer passes 64 bits.
-pub(crate) fn milliseconds(ticks: u64, timescale: u32) -> Result<u64> {
+#[tactic(auto, unfolding(crate::specs::Texts::milliseconds_of))]
+pub(crate) fn milliseconds(ticks: u64, timescale: u32) -> Result<u64>
+    ensures { Gives (λ time. time) result (milliseconds_of ticks timescale) }
+{
     if timescale == 0 {
         return Err(Error::ZeroTimescale);
     }
-    let parts = u128::from(timescale);
-    let time = (u128::from(ticks) * 2000 + parts) / (2 * parts);
-    if time > u128::from(u64::MAX) {
+    let time = (ticks as u128 * 2000 + timescale as u128) / (2 * timescale as u128);
+    if time > u64::MAX as u128 {
         return Err(Error::TooLarge(Limit::Value));
     }
     Ok(time as u64)

@@ -1,4 +1,3 @@
-use Rattle.std.proofs.Common.{sym}
 use Rattle.mp4_extract.specs.ByteStream.{sets_of}
 use Rattle.mp4_extract.proofs.Streams.{none-length, stream-more_one}
 use Rattle.mp4_extract.proofs.annex_b.AnnexB.put_with_sets.Goals as goal

@@ -1,0 +1,106 @@
+-- The samples of a track, one after the other.
+use Rattle.std.specs.Prelude.{◌≡◌, ◌⊎◌, ⊤, ℕ, zero, suc, ◌+◌, ◌^◌, ◌≤◌, Bool, true, false, IsTrue}
+use Rattle.std.specs.Prelude.{List, [], ◌++◌, Option, Some, None, Result, Ok, Err}
+use Rattle.std.specs.HashMap.{HashMap}
+use Rattle.std.specs.Io.KnownBytes.{Appends}
+use Rattle.mp4_codec.specs.Cause.{Cause, cause_of}
+use Rattle.mp4_codec.specs.declared.error.Error.{Error}
+use Rattle.mp4_codec.specs.declared.error.Error.TheVariants.{TrakNotFound}
+use Rattle.mp4_lookup.specs.declared.track.Mp4Track.{Mp4Track}
+use Rattle.mp4_samples.specs.Samples.{TimedSample}
+use Rattle.mp4_media.specs.MovieTracks.{at_id}
+use Rattle.mp4_media.specs.Reading.{sample_in}
+use Rattle.mp4_extract.specs.declared.error.ExtractError.{ExtractError}
+use Rattle.mp4_extract.specs.declared.error.ExtractError.TheVariants.{OutOfMemory, Track, WrongFormat, Sample}
+use Rattle.mp4_extract.specs.declared.error.ExtractError.TheVariants.{Read, Write}
+use Rattle.mp4_extract.specs.declared.form.SampleForm.{SampleForm}
+use Rattle.mp4_extract.specs.declared.format.SampleFormat.{SampleFormat}
+use Rattle.mp4_extract.specs.Forms.{IsFormOf, IsInForm, RefusesSample, RefusesTrack}
+
+-- the answer of a lookup of a sample
+abbrev pub Answer : Type 0
+Answer = Result (Option TimedSample) Cause
+
+-- these bytes are the sample of an answer in a form
+abbrev pub IsSampleIn : SampleForm → Answer → List ℕ → Type 0
+IsSampleIn form answer bytes = (s : TimedSample) × (answer ≡ Ok (Some s)) × (IsInForm form s.sample.bytes bytes)
+
+-- these bytes are those of n samples from number k on in a form, in their order, joined
+abbrev pub AreSamplesIn : SampleForm → (ℕ → Answer) → ℕ → ℕ → List ℕ → Type 0
+AreSamplesIn form samples k zero bytes = bytes ≡ []
+AreSamplesIn form samples k (suc n) bytes =
+    (before : List ℕ) × (last : List ℕ) × (AreSamplesIn form samples k n before)
+    × (IsSampleIn form (samples (k + n)) last) × (bytes ≡ before ++ last)
+
+-- a sink that held some bytes holds the sample of an answer too
+abbrev pub HasSample : SampleForm → Answer → Option (List ℕ) → Option (List ℕ) → Type 0
+HasSample form answer old new = (bytes : List ℕ) × (IsSampleIn form answer bytes) × (Appends old new bytes)
+
+-- a sample was written, or there is none
+abbrev pub IsWritten : SampleForm → Answer → Option (List ℕ) → Option (List ℕ) → Bool → Type 0
+IsWritten form answer old new true = HasSample form answer old new
+IsWritten form answer old new false = (answer ≡ Ok None) × (new ≡ old)
+
+-- n samples from number k on were written
+abbrev pub AreWritten : SampleForm → (ℕ → Answer) → ℕ → Option (List ℕ) → Option (List ℕ) → ℕ → Type 0
+AreWritten form samples k old new n =
+    (bytes : List ℕ) × (AreSamplesIn form samples k n bytes) × (Appends old new bytes)
+
+-- no sample has this number, or it passes the numbers of samples
+abbrev pub IsPastEnd : (ℕ → Answer) → ℕ → Type 0
+IsPastEnd samples k = (2 ^ 32 ≤ k) ⊎ (samples k ≡ Ok None)
+
+-- for this error is the sample of an answer refused: by the file, or since it has no such form
+abbrev pub RefusesAnswer : SampleForm → Answer → Error → Type 0
+RefusesAnswer form answer e =
+    (answer ≡ Err (cause_of e))
+    ⊎ ((s : TimedSample) × (answer ≡ Ok (Some s)) × (RefusesSample form s.sample.bytes e))
+
+-- for this error is a sample with number k, whose bytes were read, refused
+abbrev pub RefusesStored : SampleForm → List ℕ → ℕ → ExtractError → Type 0
+RefusesStored form sample k OutOfMemory = ⊤
+RefusesStored form sample k (Sample number e) = (number ≡ k) × (RefusesSample form sample e)
+RefusesStored form sample k (Write number e) = number ≡ k
+RefusesStored form sample k (Read number e) = ⊥
+RefusesStored form sample k (Track e) = ⊥
+RefusesStored form sample k (WrongFormat id format) = ⊥
+
+-- for this error is the sample with number k refused
+abbrev pub RefusesNumber : SampleForm → Answer → ℕ → Bool → ExtractError → Type 0
+RefusesNumber form answer k can_refuse OutOfMemory = ⊤
+RefusesNumber form answer k can_refuse (Sample number e) = (number ≡ k) × (RefusesAnswer form answer e)
+RefusesNumber form answer k can_refuse (Read number e) = (number ≡ k) × (IsTrue can_refuse)
+RefusesNumber form answer k can_refuse (Write number e) = number ≡ k
+RefusesNumber form answer k can_refuse (Track e) = ⊥
+RefusesNumber form answer k can_refuse (WrongFormat id format) = ⊥
+
+-- for this error is one of the samples from a number on refused
+abbrev pub RefusesOneFrom : SampleForm → (ℕ → Answer) → ℕ → Bool → ExtractError → Type 0
+RefusesOneFrom form samples from can_refuse e =
+    (k : ℕ) × (from ≤ k) × (RefusesNumber form (samples k) k can_refuse e)
+
+module _ {S : Type 0} where
+  -- this is the form of the samples of the track with this id in a format
+  abbrev pub IsFormIn : HashMap ℕ Mp4Track S → ℕ → SampleFormat → SampleForm → Type 0
+  IsFormIn tracks id format form =
+      (t : Mp4Track) × (at_id tracks id ≡ Some t) × (IsFormOf t.trak format form)
+
+  -- n samples of the track with this id were written in a format, from number k on
+  abbrev pub AreExtracted : SampleFormat → List ℕ → HashMap ℕ Mp4Track S → ℕ → ℕ
+      → Option (List ℕ) → Option (List ℕ) → ℕ → Type 0
+  AreExtracted format source tracks id k old new n =
+      (form : SampleForm) × (IsFormIn tracks id format form)
+      × (AreWritten form (sample_in source tracks id) k old new n)
+
+  -- for this error is the track with this id refused: there is none, or it has no form in the format
+  abbrev pub RefusesTrackIn : HashMap ℕ Mp4Track S → ℕ → SampleFormat → ExtractError → Type 0
+  RefusesTrackIn tracks id format e =
+      ((e ≡ Track (TrakNotFound id)) × (at_id tracks id ≡ None))
+      ⊎ ((t : Mp4Track) × (at_id tracks id ≡ Some t) × (RefusesTrack t.trak format e))
+
+  -- for this error is the track refused, or one of its samples from a number on
+  abbrev pub RefusesExtraction : SampleFormat → List ℕ → HashMap ℕ Mp4Track S → ℕ → ℕ → Bool → ExtractError → Type 0
+  RefusesExtraction format source tracks id from can_refuse e =
+      (RefusesTrackIn tracks id format e)
+      ⊎ ((form : SampleForm) × (IsFormIn tracks id format form)
+      × (RefusesOneFrom form (sample_in source tracks id) from can_refuse e))
