@@ -23,14 +23,14 @@ fn write_pieces<R: Clock + Eprint, S: ByteSource + Drop, W: Write>(
 ) -> Result<(), Fault> {
     let mut from = request.from;
     let mut left = request.count;
-    while left > 0 {
+    for _ in 0..request.count.div_ceil(PIECE) {
         let piece = left.min(PIECE);
         let written = writer.write_samples(movie, from, piece, out)?;
         if written < piece {
             return Ok(());
         }
         from = from.saturating_add(written);
-        left -= piece;
+        left = left.saturating_sub(piece);
         progress.note(from);
     }
     Ok(())
