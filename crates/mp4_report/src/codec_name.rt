@@ -1,0 +1,169 @@
+//! The names of codecs for a MIME type's `codecs` (RFC 6381).
+
+use crate::human::Code;
+use mp4_codec::FourCC;
+use mp4_entry::{Avc1Box, Hev1Box, Mp4aBox, StsdBox, Vp09Box};
+use serde::{Described, Serialize, Serializer};
+use std::fmt;
+use std::fmt::Write;
+
+/// The object type of MPEG-4 audio (ISO/IEC 14496-1, 7.2.6.6).
+const MPEG4_AUDIO: u8 = 0x40;
+
+/// The fields of `hvcC` that a codec's name has (ISO/IEC 14496-15, 8.3.3.1).
+#[derive(Clone, Copy, Debug, PartialEq, Eq)]
+pub struct HevcName {
+    /// 0 to 3; shown as nothing, `A`, `B` or `C`.
+    pub profile_space: u8,
+    pub profile: u8,
+    pub compatibility: u32,
+    /// Whether the tier is the high one.
+    pub is_high_tier: bool,
+    /// 30 times the level.
+    pub level: u8,
+    pub constraints: [u8; 6],
+}
+
+/// The name of a codec by RFC 6381.
+#[derive(Clone, Copy, Debug, PartialEq, Eq)]
+pub enum CodecName {
+    /// The profile, its constraints and the level (RFC 6381, 3.3).
+    Avc1([u8; 3]),
+    /// ISO/IEC 14496-15, Annex E.
+    Hev1(HevcName),
+    /// The type of MPEG-4 sound.
+    Mpeg4Audio(u8),
+    /// Another object type in an entry `mp4a`.
+    OtherAudio(u8),
+    /// The profile, the level times 10, and the bits of a sample (VP Codec ISO Media File Format Binding).
+    Vp09([u8; 3]),
+    /// The type of the sample entry alone.
+    Entry(FourCC),
+}
+
+/// The name of a configuration of HEVC; None where it is cut.
+fn hevc_name(config: &[u8]) -> Option<HevcName> {
+    let [_version, general, a, b, c, d, k, l, m, n, o, p, level, ..] = config else {
+        return None;
+    };
+    Some(HevcName {
+        profile_space: *general >> 6,
+        profile: *general & 0x1f,
+        compatibility: u32::from_be_bytes([*a, *b, *c, *d]),
+        is_high_tier: *general & 0x20 != 0,
+        level: *level,
+        constraints: [*k, *l, *m, *n, *o, *p],
+    })
+}
+
+fn name_of_avc1(entry: &Avc1Box) -> CodecName {
+    CodecName::Avc1([
+        entry.avcc.avc_profile_indication,
+        entry.avcc.profile_compatibility,
+        entry.avcc.avc_level_indication,
+    ])
+}
+
+fn name_of_hev1(entry: &Hev1Box) -> CodecName {
+    match hevc_name(entry.hvcc.raw.as_slice()) {
+        Some(name) => CodecName::Hev1(name),
+        None => CodecName::Entry(FourCC::from(*b"hev1")),
+    }
+}
+
+fn name_of_vp09(entry: &Vp09Box) -> CodecName {
+    match entry.vpcc.raw.as_slice() {
+        [_, _, _, _, profile, level, depth, ..] => CodecName::Vp09([*profile, *level, *depth >> 4]),
+        _ => CodecName::Entry(FourCC::from(*b"vp09")),
+    }
+}
+
+fn name_of_mp4a(entry: &Mp4aBox) -> CodecName {
+    let Some(esds) = &entry.esds else {
+        return CodecName::Entry(FourCC::from(*b"mp4a"));
+    };
+    let decoder = esds.es_desc.dec_config;
+    if decoder.object_type_indication == MPEG4_AUDIO {
+        CodecName::Mpeg4Audio(decoder.dec_specific.profile)
+    } else {
+        CodecName::OtherAudio(decoder.object_type_indication)
+    }
+}
+
+/// The name of the codec of a track, by its sample entry; `None` where that is none that the library reads.
+pub(crate) fn codec_name_of(stsd: &StsdBox) -> Option<CodecName> {
+    if let Some(entry) = &stsd.avc1 {
+        return Some(name_of_avc1(entry));
+    }
+    if let Some(entry) = &stsd.hev1 {
+        return Some(name_of_hev1(entry));
+    }
+    if let Some(entry) = &stsd.vp09 {
+        return Some(name_of_vp09(entry));
+    }
+    if let Some(entry) = &stsd.mp4a {
+        return Some(name_of_mp4a(entry));
+    }
+    match &stsd.tx3g {
+        Some(_) => Some(CodecName::Entry(FourCC::from(*b"tx3g"))),
+        None => None,
+    }
+}
+
+/// The letter of a profile space, or nothing for the first.
+fn profile_space_letter(space: u8) -> &'static str {
+    match space {
+        0 => "",
+        1 => "A",
+        2 => "B",
+        _ => "C",
+    }
+}
+
+impl fmt::Display for HevcName {
+    /// Writes the name, as `hev1.1.6.L93.B0`: the profile, the flags of compatibility in reverse order and in hex,
+    /// the tier and the level, and the constraints in hex, those at the end that are 0 left out.
+    fn fmt<W: fmt::Write>(&self, f: &mut fmt::Formatter<W>) -> fmt::Result {
+        let space = profile_space_letter(self.profile_space);
+        let profile = self.profile;
+        let compatibility = self.compatibility.reverse_bits();
+        let tier = if self.is_high_tier { "H" } else { "L" };
+        let level = self.level;
+        write!(f, "hev1.{space}{profile}.{compatibility:X}.{tier}{level}")?;
+        let zeros = self
+            .constraints
+            .iter()
+            .rev()
+            .take_while(|byte| **byte == 0)
+            .count();
+        for constraint in self.constraints.iter().take(6usize.saturating_sub(zeros)) {
+            write!(f, ".{constraint:X}")?;
+        }
+        Ok(())
+    }
+}
+
+impl fmt::Display for CodecName {
+    fn fmt<W: fmt::Write>(&self, f: &mut fmt::Formatter<W>) -> fmt::Result {
+        match self {
+            CodecName::Avc1([profile, constraints, level]) => {
+                write!(f, "avc1.{profile:02x}{constraints:02x}{level:02x}")
+            }
+            CodecName::Hev1(name) => write!(f, "{name}"),
+            CodecName::Mpeg4Audio(kind) => write!(f, "mp4a.40.{kind}"),
+            CodecName::OtherAudio(object) => write!(f, "mp4a.{object:02x}"),
+            CodecName::Vp09([profile, level, depth]) => {
+                write!(f, "vp09.{profile:02}.{level:02}.{depth:02}")
+            }
+            CodecName::Entry(code) => f.write(Code(*code)),
+        }
+    }
+}
+
+impl Described for CodecName {}
+
+impl Serialize for CodecName {
+    fn serialize<S: Serializer>(&self, out: &mut S) -> Result<(), S::Error> {
+        out.collect_str(self)
+    }
+}

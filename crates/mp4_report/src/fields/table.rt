@@ -1,0 +1,113 @@
+//! The fields of sample tables (ISO/IEC 14496-12, 8.6 and 8.7).
+
+use crate::fields::leaf::LeafFields;
+use crate::fields::list::FieldList;
+use crate::fields::value::TableRow;
+use mp4_table::{
+    Co64Box, CttsBox, CttsEntry, StcoBox, StscBox, StscEntry, StssBox, StszBox, SttsBox, SttsEntry,
+};
+
+impl TableRow for SttsEntry {
+    const NAMES: &'static [&'static str] = &["sample_count", "sample_delta"];
+
+    fn cells(&self) -> [i128; 3] {
+        [
+            i128::from(self.sample_count),
+            i128::from(self.sample_delta),
+            0,
+        ]
+    }
+}
+
+impl TableRow for CttsEntry {
+    const NAMES: &'static [&'static str] = &["sample_count", "sample_offset"];
+
+    fn cells(&self) -> [i128; 3] {
+        [
+            i128::from(self.sample_count),
+            i128::from(self.sample_offset),
+            0,
+        ]
+    }
+}
+
+impl TableRow for StscEntry {
+    const NAMES: &'static [&'static str] = &[
+        "first_chunk",
+        "samples_per_chunk",
+        "sample_description_index",
+    ];
+
+    fn cells(&self) -> [i128; 3] {
+        [
+            i128::from(self.first_chunk),
+            i128::from(self.samples_per_chunk),
+            i128::from(self.sample_description_index),
+        ]
+    }
+}
+
+impl LeafFields for SttsBox {
+    fn fields(&self, fields: FieldList) -> FieldList {
+        fields
+            .number("version", u64::from(self.version))
+            .flags("flags", self.flags)
+            .rows("entries", self.entries.as_slice())
+    }
+}
+
+impl LeafFields for CttsBox {
+    fn fields(&self, fields: FieldList) -> FieldList {
+        fields
+            .number("version", u64::from(self.version))
+            .flags("flags", self.flags)
+            .rows("entries", self.entries.as_slice())
+    }
+}
+
+impl LeafFields for StscBox {
+    fn fields(&self, fields: FieldList) -> FieldList {
+        fields
+            .number("version", u64::from(self.version))
+            .flags("flags", self.flags)
+            .rows("entries", self.entries.as_slice())
+    }
+}
+
+impl LeafFields for StcoBox {
+    fn fields(&self, fields: FieldList) -> FieldList {
+        fields
+            .number("version", u64::from(self.version))
+            .flags("flags", self.flags)
+            .numbers("entries", self.entries.as_slice())
+    }
+}
+
+impl LeafFields for Co64Box {
+    fn fields(&self, fields: FieldList) -> FieldList {
+        fields
+            .number("version", u64::from(self.version))
+            .flags("flags", self.flags)
+            .numbers("entries", self.entries.as_slice())
+    }
+}
+
+impl LeafFields for StssBox {
+    fn fields(&self, fields: FieldList) -> FieldList {
+        fields
+            .number("version", u64::from(self.version))
+            .flags("flags", self.flags)
+            .numbers("entries", self.entries.as_slice())
+    }
+}
+
+impl LeafFields for StszBox {
+    fn fields(&self, fields: FieldList) -> FieldList {
+        fields
+            .number("version", u64::from(self.version))
+            .flags("flags", self.flags)
+            .number("sample_size", u64::from(self.sample_size))
+            .number("sample_count", u64::from(self.sample_count))
+            .numbers("sample_sizes", self.sample_sizes.as_slice())
+    }
+}

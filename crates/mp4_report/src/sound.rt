@@ -1,0 +1,67 @@
+//! What a sample entry says of sound.
+
+use crate::human::Grouped;
+use mp4_entry::{ChannelConfig, Mp4aBox, SampleFreqIndex};
+use serde::Serialize;
+use std::fmt;
+use std::fmt::Write;
+
+/// What is known of the sound of a track.
+#[derive(Clone, Copy, Debug, PartialEq, Eq, Serialize)]
+pub struct Sound {
+    /// Samples of sound in a second.
+    pub sampling_frequency: u32,
+    pub channels: u16,
+}
+
+/// How many channels an arrangement of them has (ISO/IEC 14496-3, 1.6.3.5).
+fn channels_of(config: ChannelConfig) -> u16 {
+    match config {
+        ChannelConfig::SevenOne => 8,
+        other => u16::from(other.number()),
+    }
+}
+
+/// The channels that the number of an arrangement says, if it is that of one.
+fn channels_by_number(number: u8) -> Option<u16> {
+    match ChannelConfig::try_from(number) {
+        Ok(config) => Some(channels_of(config)),
+        Err(_) => None,
+    }
+}
+
+/// The frequency that an index says, if it is that of one.
+fn frequency_by_index(index: u8) -> Option<u32> {
+    match SampleFreqIndex::try_from(index) {
+        Ok(index) => Some(index.freq()),
+        Err(_) => None,
+    }
+}
+
+impl Sound {
+    /// The sound of an entry: as its `esds` says, or else as the entry itself does.
+    pub fn of(entry: &Mp4aBox) -> Self {
+        let entry_frequency = u32::from(entry.samplerate.value());
+        let entry_channels = entry.channelcount;
+        let Some(esds) = &entry.esds else {
+            return Sound {
+                sampling_frequency: entry_frequency,
+                channels: entry_channels,
+            };
+        };
+        let decoder = esds.es_desc.dec_config.dec_specific;
+        Sound {
+            sampling_frequency: frequency_by_index(decoder.freq_index).unwrap_or(entry_frequency),
+            channels: channels_by_number(decoder.chan_conf).unwrap_or(entry_channels),
+        }
+    }
+}
+
+impl fmt::Display for Sound {
+    fn fmt<W: fmt::Write>(&self, f: &mut fmt::Formatter<W>) -> fmt::Result {
+        let frequency = Grouped(u64::from(self.sampling_frequency));
+        let channels = self.channels;
+        let noun = if channels == 1 { "channel" } else { "channels" };
+        write!(f, "{frequency} Hz, {channels} {noun}")
+    }
+}

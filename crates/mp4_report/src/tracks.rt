@@ -1,0 +1,345 @@
+//! What the tracks of a file are.
+
+use crate::codec_name::{CodecName, codec_name_of};
+use crate::human::{Clock, Code, Grouped, Thousandths, Visible, milliseconds_of};
+use crate::sound::Sound;
+use crate::summary::{SampleSummary, summary_of};
+use mp4_codec::FourCC;
+use mp4_entry::StsdBox;
+use mp4_lookup::Mp4Track;
+use mp4_media::Movie;
+use serde::{Described, Serialize, Serializer};
+use std::alloc::{AllocError, Global};
+use std::fmt;
+use std::fmt::Write;
+
+/// The duration of a media header that doesn't know it, in 32 bits (ISO/IEC 14496-12, 8.4.2).
+const UNKNOWN_DURATION: u64 = 0xffff_ffff;
+
+/// What a track is for, as its handler says (ISO/IEC 14496-12, 8.4.3).
+#[derive(Clone, Copy, Debug, PartialEq, Eq)]
+pub enum TrackKind {
+    Video,
+    Audio,
+    Subtitles,
+    /// Another handler.
+    Other(FourCC),
+}
+
+/// The size of pictures, in pixels.
+#[derive(Clone, Copy, Debug, PartialEq, Eq, Serialize)]
+pub struct PictureSize {
+    pub width: u16,
+    pub height: u16,
+}
+
+/// A track of a file.
+#[derive(Debug, Drop, Serialize)]
+pub struct TrackReport {
+    pub id: u32,
+    pub kind: TrackKind,
+    /// The name of its codec by RFC 6381; `None` where it has no sample entry.
+    pub codec: Option<CodecName>,
+    /// The size of its pictures, where it is video.
+    pub pictures: Option<PictureSize>,
+    /// Pictures in a second, where it is video.
+    pub frame_rate: Option<Thousandths>,
+    /// What is known of its sound, where it has an entry `mp4a`.
+    pub sound: Option<Sound>,
+    /// The bits of all samples in a second of the duration.
+    pub bit_rate: Option<u64>,
+    /// ISO 639-2/T.
+    pub language: String,
+    /// Ticks in a second.
+    pub timescale: u32,
+    pub duration_ms: Option<u64>,
+    /// How many samples there are, up to the first that is refused.
+    pub samples: u64,
+    pub sync_samples: u64,
+    /// The longest time from a sync sample to the next.
+    pub sync_longest_ms: Option<u64>,
+    /// The mean time from a sync sample to the next.
+    pub sync_mean_ms: Option<u64>,
+    /// How many entries its edit list has.
+    pub edits: u64,
+    /// How many track fragments it has.
+    pub fragments: u64,
+}
+
+/// The tracks of a file, by rising id.
+#[derive(Debug, Drop, Serialize)]
+pub struct TracksReport {
+    pub tracks: Vec<TrackReport>,
+}
+
+/// The first sample entry of a track, by the track's id.
+#[derive(Clone, Copy, Debug, PartialEq, Eq)]
+pub struct EntryCode {
+    pub track_id: u32,
+    pub code: FourCC,
+}
+
+fn kind_of(track: &Mp4Track) -> TrackKind {
+    let handler = track.trak.mdia.hdlr.handler_type;
+    match &handler.value {
+        b"vide" => TrackKind::Video,
+        b"soun" => TrackKind::Audio,
+        b"sbtl" | b"subt" | b"text" => TrackKind::Subtitles,
+        _ => TrackKind::Other(handler),
+    }
+}
+
+/// The size of the pictures of a track: that of its sample entry, or else that of its header.
+fn pictures_of(track: &Mp4Track, stsd: &StsdBox) -> PictureSize {
+    if let Some(entry) = &stsd.hev1 {
+        return PictureSize {
+            width: entry.width,
+            height: entry.height,
+        };
+    }
+    if let Some(entry) = &stsd.vp09 {
+        return PictureSize {
+            width: entry.width,
+            height: entry.height,
+        };
+    }
+    PictureSize {
+        width: track.width(),
+        height: track.height(),
+    }
+}
+
+/// How many ticks a track lasts: as its media header says, or else as its samples do.
+fn ticks_of(track: &Mp4Track) -> Option<u64> {
+    match track.trak.mdia.mdhd.duration {
+        0 | UNKNOWN_DURATION | u64::MAX => match track.time_range() {
+            Some(range) => Some(range.end.saturating_sub(range.start)),
+            None => None,
+        },
+        ticks => Some(ticks),
+    }
+}
+
+/// So many of something in a second, if they are spread over these ticks, rounded down.
+fn rate_of(number: u64, ticks: Option<u64>, timescale: u32) -> Option<u64> {
+    let ticks = u128::from(ticks?);
+    if ticks == 0 {
+        return None;
+    }
+    let all = u128::from(number).saturating_mul(u128::from(timescale));
+    u64::try_from(all / ticks).ok()
+}
+
+/// Pictures in a second, to the nearest thousandth.
+fn frame_rate_of(count: u64, ticks: Option<u64>, timescale: u32) -> Option<Thousandths> {
+    let halves = rate_of(count.saturating_mul(2000), ticks, timescale)?;
+    Some(Thousandths(halves.saturating_add(1) / 2))
+}
+
+/// The code of the sample entry of the track with this id.
+fn entry_code_of(codes: &[EntryCode], track_id: u32) -> Option<FourCC> {
+    let mut found = None;
+    for entry in codes {
+        if entry.track_id == track_id {
+            found = Some(entry.code);
+        }
+    }
+    found
+}
+
+/// The name of the codec of a track.
+fn codec_of(stsd: &StsdBox, codes: &[EntryCode], track_id: u32) -> Option<CodecName> {
+    match codec_name_of(stsd) {
+        Some(name) => Some(name),
+        None => entry_code_of(codes, track_id).map(CodecName::Entry),
+    }
+}
+
+fn edits_of(track: &Mp4Track) -> u64 {
+    match &track.trak.edts {
+        Some(edts) => match &edts.elst {
+            Some(elst) => elst.entries.len() as u64,
+            None => 0,
+        },
+        None => 0,
+    }
+}
+
+/// What a track is, whose samples are these together.
+fn report_of(
+    alloc: Global,
+    id: u32,
+    track: &Mp4Track,
+    summary: SampleSummary,
+    codes: &[EntryCode],
+) -> Result<TrackReport, AllocError> {
+    let kind = kind_of(track);
+    let is_video = kind == TrackKind::Video;
+    let timescale = track.timescale();
+    let ticks = ticks_of(track);
+    let stsd = &track.trak.mdia.minf.stbl.stsd;
+    let frame_rate = frame_rate_of(summary.count, ticks, timescale);
+    let language = String::from_str(alloc, track.language())?;
+    Ok(TrackReport {
+        id,
+        kind,
+        codec: codec_of(stsd, codes, id),
+        pictures: if is_video {
+            Some(pictures_of(track, stsd))
+        } else {
+            None
+        },
+        frame_rate: if is_video { frame_rate } else { None },
+        sound: stsd.mp4a.as_ref().map(Sound::of),
+        bit_rate: rate_of(summary.bytes.saturating_mul(8), ticks, timescale),
+        language,
+        timescale,
+        duration_ms: ticks.and_then(|ticks| milliseconds_of(ticks, timescale)),
+        samples: summary.count,
+        sync_samples: summary.sync,
+        sync_longest_ms: summary
+            .mean()
+            .and(milliseconds_of(summary.longest, timescale)),
+        sync_mean_ms: summary
+            .mean()
+            .and_then(|ticks| milliseconds_of(ticks, timescale)),
+        edits: edits_of(track),
+        fragments: track.trafs.len() as u64,
+    })
+}
+
+/// The ids of a movie's tracks, rising.
+fn track_ids(alloc: Global, movie: &Movie) -> Result<Vec<u32>, AllocError> {
+    let mut ids = Vec::new(alloc);
+    for id in movie.tracks().keys() {
+        ids.push(*id)?;
+    }
+    ids.sort()?;
+    Ok(ids)
+}
+
+/// What the tracks of a movie are; `codes` has the sample entries of those whose entry the library doesn't read.
+pub fn tracks_of(
+    alloc: Global,
+    movie: &Movie,
+    codes: &[EntryCode],
+) -> Result<TracksReport, AllocError> {
+    let mut tracks = Vec::new(alloc);
+    for id in track_ids(alloc, movie)?.iter() {
+        if let Some(track) = movie.tracks().get(id) {
+            tracks.push(report_of(alloc, *id, track, summary_of(track), codes)?)?;
+        }
+    }
+    Ok(TracksReport { tracks })
+}
+
+impl fmt::Display for TrackKind {
+    fn fmt<W: fmt::Write>(&self, f: &mut fmt::Formatter<W>) -> fmt::Result {
+        match self {
+            TrackKind::Video => f.write_str("video"),
+            TrackKind::Audio => f.write_str("audio"),
+            TrackKind::Subtitles => f.write_str("subtitles"),
+            TrackKind::Other(handler) => f.write(Code(*handler)),
+        }
+    }
+}
+
+impl Described for TrackKind {}
+
+impl Serialize for TrackKind {
+    fn serialize<S: Serializer>(&self, out: &mut S) -> Result<(), S::Error> {
+        out.collect_str(self)
+    }
+}
+
+/// Writes the line of a number.
+fn write_number<W: fmt::Write>(
+    f: &mut fmt::Formatter<W>,
+    name: &str,
+    number: u64,
+    unit: &str,
+) -> fmt::Result {
+    let number = Grouped(number);
+    writeln!(f, "  {name:<13} {number}{unit}")
+}
+
+/// Writes the line of the pictures.
+fn write_pictures<W: fmt::Write>(f: &mut fmt::Formatter<W>, track: &TrackReport) -> fmt::Result {
+    let Some(PictureSize { width, height }) = track.pictures else {
+        return Ok(());
+    };
+    write!(f, "  pictures      {width} x {height}")?;
+    if let Some(rate) = track.frame_rate {
+        write!(f, ", {rate} in a second")?;
+    }
+    f.write_str("\n")
+}
+
+/// Writes the line of the sync samples.
+fn write_sync_samples<W: fmt::Write>(
+    f: &mut fmt::Formatter<W>,
+    track: &TrackReport,
+) -> fmt::Result {
+    if track.sync_samples == track.samples && track.samples > 0 {
+        return f.write_str("  sync samples  all\n");
+    }
+    let count = Grouped(track.sync_samples);
+    write!(f, "  sync samples  {count}")?;
+    if let (Some(longest), Some(mean)) = (track.sync_longest_ms, track.sync_mean_ms) {
+        let longest = Clock(longest);
+        let mean = Clock(mean);
+        write!(f, ", at most {longest} apart, {mean} on average")?;
+    }
+    f.write_str("\n")
+}
+
+/// Writes the lines of what lasts: the bits in a second, and the duration.
+fn write_duration<W: fmt::Write>(f: &mut fmt::Formatter<W>, track: &TrackReport) -> fmt::Result {
+    if let Some(milliseconds) = track.duration_ms {
+        let duration = Clock(milliseconds);
+        writeln!(f, "  duration      {duration}")?;
+    }
+    if let Some(bits) = track.bit_rate {
+        write_number(f, "bit rate", bits, " bits in a second")?;
+    }
+    Ok(())
+}
+
+impl fmt::Display for TrackReport {
+    /// Writes a line that names the track, and one for each thing that is known of it.
+    fn fmt<W: fmt::Write>(&self, f: &mut fmt::Formatter<W>) -> fmt::Result {
+        let TrackReport { id, kind, .. } = self;
+        write!(f, "track {id}: {kind}")?;
+        if let Some(codec) = self.codec {
+            write!(f, ", {codec}")?;
+        }
+        f.write_str("\n")?;
+        write_pictures(f, self)?;
+        if let Some(sound) = self.sound {
+            writeln!(f, "  sound         {sound}")?;
+        }
+        let language = Visible(self.language.as_str());
+        writeln!(f, "  language      {language}")?;
+        write_duration(f, self)?;
+        write_number(f, "samples", self.samples, "")?;
+        write_sync_samples(f, self)?;
+        write_number(f, "edits", self.edits, "")?;
+        write_number(f, "fragments", self.fragments, "")
+    }
+}
+
+impl fmt::Display for TracksReport {
+    /// Writes the tracks, an empty line between two of them.
+    fn fmt<W: fmt::Write>(&self, f: &mut fmt::Formatter<W>) -> fmt::Result {
+        for (index, track) in self.tracks.iter().enumerate() {
+            if index > 0 {
+                f.write_str("\n")?;
+            }
+            write!(f, "{track}")?;
+        }
+        if self.tracks.is_empty() {
+            f.write_str("no tracks\n")?;
+        }
+        Ok(())
+    }
+}
