@@ -8,7 +8,7 @@ use std::fmt;
 use std::fmt::Write;
 
 /// The object type of MPEG-4 audio (ISO/IEC 14496-1, 7.2.6.6).
-const MPEG4_AUDIO: u8 = 0x40;
+pub(crate) const MPEG4_AUDIO: u8 = 0x40;
 
 /// The fields of `hvcC` that a codec's name has (ISO/IEC 14496-15, 8.3.3.1).
 #[derive(Clone, Copy, Debug, PartialEq, Eq)]

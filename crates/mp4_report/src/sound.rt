@@ -1,5 +1,6 @@
 //! What a sample entry says of sound.
 
+use crate::codec_name::MPEG4_AUDIO;
 use crate::human::Grouped;
 use mp4_entry::{ChannelConfig, Mp4aBox, SampleFreqIndex};
 use serde::Serialize;
@@ -39,20 +40,30 @@ fn frequency_by_index(index: u8) -> Option<u32> {
 }
 
 impl Sound {
-    /// The sound of an entry: as its `esds` says, or else as the entry itself does.
-    pub fn of(entry: &Mp4aBox) -> Self {
-        let entry_frequency = u32::from(entry.samplerate.value());
-        let entry_channels = entry.channelcount;
-        let Some(esds) = &entry.esds else {
-            return Sound {
-                sampling_frequency: entry_frequency,
-                channels: entry_channels,
-            };
-        };
-        let decoder = esds.es_desc.dec_config.dec_specific;
+    /// The sound that the entry itself says.
+    fn of_entry(entry: &Mp4aBox) -> Self {
         Sound {
-            sampling_frequency: frequency_by_index(decoder.freq_index).unwrap_or(entry_frequency),
-            channels: channels_by_number(decoder.chan_conf).unwrap_or(entry_channels),
+            sampling_frequency: u32::from(entry.samplerate.value()),
+            channels: entry.channelcount,
+        }
+    }
+
+    /// The sound of an entry: as its `esds` says, where that is of MPEG-4 audio, or else as the entry itself does.
+    pub fn of(entry: &Mp4aBox) -> Self {
+        let said = Sound::of_entry(entry);
+        let Some(esds) = &entry.esds else {
+            return said;
+        };
+        let config = esds.es_desc.dec_config;
+        if config.object_type_indication != MPEG4_AUDIO {
+            return said;
+        }
+        let decoder = config.dec_specific;
+        Sound {
+            sampling_frequency: frequency_by_index(decoder.freq_index).unwrap_or(
+                said.sampling_frequency,
+            ),
+            channels: channels_by_number(decoder.chan_conf).unwrap_or(said.channels),
         }
     }
 }

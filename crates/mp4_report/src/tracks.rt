@@ -109,13 +109,22 @@ fn pictures_of(track: &Mp4Track, stsd: &StsdBox) -> PictureSize {
     }
 }
 
-/// How many ticks a track lasts: as its media header says, or else as its samples do.
+/// How many ticks the samples of a track last, from the first on.
+fn ticks_of_samples(track: &Mp4Track) -> Option<u64> {
+    match track.time_range() {
+        Some(range) => Some(range.end.saturating_sub(range.start)),
+        None => None,
+    }
+}
+
+/// How many ticks a track lasts: as its media header says, or as its samples do, where they are in fragments too, of
+/// which the header says nothing, and where it doesn't know.
 fn ticks_of(track: &Mp4Track) -> Option<u64> {
+    if !track.trafs.is_empty() {
+        return ticks_of_samples(track);
+    }
     match track.trak.mdia.mdhd.duration {
-        0 | UNKNOWN_DURATION | u64::MAX => match track.time_range() {
-            Some(range) => Some(range.end.saturating_sub(range.start)),
-            None => None,
-        },
+        0 | UNKNOWN_DURATION | u64::MAX => ticks_of_samples(track),
         ticks => Some(ticks),
     }
 }
