@@ -120,6 +120,7 @@ impl<T> Items<T> {
     }
 
     /// Adds one at the end.
+    // Kept inline: docs/PERF.md, "Why these are calls".
     #[inline]
     pub fn push(&mut self, value: T) -> std::result::Result<(), AllocError>
     where

@@ -1,5 +1,7 @@
 //! A sample of a track's fragments by its number.
 
+// The steps of a look-up are kept inline: docs/PERF.md, "Why these are calls".
+
 ghost use Rattle.std.specs.Prelude.{◌≡◌, ◌-◌, ◌^◌, ◌<◌, ◌≤◌, List, Some, None, length, min, slice_get, IfNone, IfSome};
 ghost use Rattle.std.specs.Option.{option_map};
 ghost use Rattle.mp4_fragments.specs.Cursor.{IsAmongRuns, IsIn, IsInRuns, IsRunEnd};

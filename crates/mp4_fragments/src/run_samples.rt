@@ -1,5 +1,7 @@
 //! The samples of a run.
 
+// The steps of a look-up are kept inline: docs/PERF.md, "Why these are calls".
+
 ghost use Rattle.mp4_codec.specs.ExactTest.{by_test, field_tests};
 ghost use Rattle.std.specs.Prelude.{◌≡◌};
 ghost use Rattle.mp4_fragments.specs.RunSamples.{at_run_sample, run_sample_of, flags_of, is_sync_in, values_of};

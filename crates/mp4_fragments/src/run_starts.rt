@@ -111,8 +111,8 @@ pub(crate) fn checkpoints(
     Ok(checks)
 }
 
-/// Where sample `j` of a run begins, from the last checkpoint that isn't after it; the first begins at `first`. It is
-/// inlined, since each look-up of a sample asks for it.
+/// Where sample `j` of a run begins, from the last checkpoint that isn't after it; the first begins at `first`.
+// Kept inline: docs/PERF.md, "Why these are calls".
 #[inline(always)]
 pub(crate) fn at_by_checkpoints(
     run: &TrunBox,

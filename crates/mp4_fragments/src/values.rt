@@ -14,7 +14,8 @@ pub fn value_at(values: &[u32], default_value: u32, j: u32) -> u32
     }
 }
 
-/// The sum of values that are listed. The loop goes over the slice itself, so that several values are added at once.
+/// The sum of values that are listed.
+// Kept a loop over the slice itself: docs/PERF.md, "Why these are calls".
 fn sum_listed(values: &[u32]) -> u64
     requires { length values.now < 2 ^ 32 }
     ensures sum { result ≡ sum values.now }

@@ -1,5 +1,7 @@
 //! The counters of a look-up.
 
+// The steps of a look-up are kept inline: docs/PERF.md, "Why these are calls".
+
 ghost use Rattle.std.specs.Prelude.{◌≡◌};
 ghost use Rattle.mp4_samples.specs.Places.{place_of};
 ghost use Rattle.mp4_lookup.specs.Costs.{AreFresh, comparisons_counted};

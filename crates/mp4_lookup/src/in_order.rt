@@ -1,5 +1,7 @@
 //! The samples of a track in their order.
 
+// The steps of a look-up are kept inline: docs/PERF.md, "Why these are calls".
+
 ghost use Rattle.std.specs.Prelude.{◌≡◌, ◌-◌, ◌^◌, ◌<◌, IfSome};
 ghost use Rattle.std.specs.Iterator.{YieldsFirstBy, item_count};
 ghost use Rattle.mp4_codec.specs.Cause.{Gives};

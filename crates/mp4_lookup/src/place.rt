@@ -17,8 +17,8 @@ use mp4_codec::Result;
 use mp4_samples::{Place, SamplePlace};
 use mp4_search::Search;
 
-/// Where sample `k` of a track lies, and when it is decoded and shown, as the tables of the track say. It is inlined in
-/// its one caller for each way of searching, so that the counters needn't lie in memory.
+/// Where sample `k` of a track lies, and when it is decoded and shown, as the tables of the track say.
+// Kept inline: docs/PERF.md, "Why these are calls".
 #[inline(always)]
 #[tactic(auto, unfolding(crate::specs::Rule::rule))]
 pub fn place_at<S: Search>(

@@ -1,5 +1,7 @@
 //! Where a walk over the samples of a track is in its tables.
 
+// The steps of a look-up are kept inline: docs/PERF.md, "Why these are calls".
+
 ghost use Rattle.std.specs.Prelude.{◌≡◌, option_map, IfOk};
 ghost use Rattle.mp4_codec.specs.Cause.{Gives};
 ghost use Rattle.mp4_table.specs.Stsc.{HasFirstSamples};

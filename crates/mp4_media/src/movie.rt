@@ -69,8 +69,8 @@ impl Drop for Movie {
     }
 }
 
-/// Opens a file of `size` bytes of which this was found. It is a call of its own, so that its variables don't lie on
-/// the stack below those of the search for boxes: together they pass a processor's first cache.
+/// Opens a file of `size` bytes of which this was found.
+// Kept a call: docs/PERF.md, "Why these are calls".
 #[inline(never)]
 #[tactic(auto, unfolding(mp4_boxes::specs::Needed::two_needed))]
 fn open_found(alloc: Global, found: TopLevelBoxes, size: u64) -> Result<Movie>

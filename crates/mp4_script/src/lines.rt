@@ -24,8 +24,8 @@ pub(crate) fn length_before(text: &[u8], end: u8) -> usize
 }
 
 /// How many bytes are before the first line feed, or how many there are: as [`length_before`] answers, but found many
-/// bytes at a time, since lines may be long. It is a call of its own, so that a loop over lines keeps its variables in
-/// registers.
+/// bytes at a time, since lines may be long.
+// Kept a call: docs/PERF.md, "Why these are calls".
 #[inline(never)]
 fn length_by_memchr(text: &[u8]) -> usize
     ensures { result ≡ position_or_len (λ byte. byte == 10) text.now }

@@ -155,6 +155,7 @@ fn looked_near(
 }
 
 /// What [`last_at_most`] finds, begun at the index where it is expected.
+// Kept a call: docs/PERF.md, "Why these are calls".
 #[inline(never)]
 #[tactic(auto, unfolding(crate::specs::Search::comparisons_from))]
 fn last_at_most_from(
@@ -177,8 +178,8 @@ fn last_at_most_from(
     (last_before(end.low, end.last), readings)
 }
 
-/// [`last_at_most`] as a function of its own. Inlined in a longer one its loop is compiled to select and not to branch,
-/// which is slower where keys come in order and halves are many.
+/// [`last_at_most`] as a function of its own.
+// Kept a call: docs/PERF.md, "Why these are calls".
 #[inline(never)]
 fn last_at_most_apart(numbers: &SearchedNumbers, key: u32) -> (Option<SearchHit>, Readings)
     requires { IsNonDecreasing numbers.now }
@@ -200,6 +201,7 @@ fn last_at_most_apart(numbers: &SearchedNumbers, key: u32) -> (Option<SearchHit>
 /// this one keeps the bound of a search by halves.
 ///
 /// The count is that of the search that was made: by halves, or from some index on.
+// Kept inline: docs/PERF.md, "Why these are calls".
 #[inline(always)]
 pub(crate) fn last_at_most_near(
     numbers: &SearchedNumbers,
@@ -211,7 +213,7 @@ pub(crate) fn last_at_most_near(
     ensures none { IfNone result.0 ((j : ℕ) → j < length numbers.now → key < slice_index numbers.now j) }
     ensures counted { IsCountByGuess numbers.now key result.1 }
 {
-    // Few numbers are searched in the caller's own code: a call would take as long as the search.
+    // Few numbers are searched in the caller's own code: docs/PERF.md, "Why these are calls".
     if numbers.end() <= FEW {
         return last_at_most(numbers, key);
     }

@@ -72,6 +72,7 @@ impl Search for ByHalves {
 
     ghost nothing = { nothing_by_halves };
 
+    // Kept inline: docs/PERF.md, "Why these are calls".
     #[inline(always)]
     fn last_at_most(
         numbers: &SearchedNumbers,
@@ -101,6 +102,7 @@ impl Search for ByGuess {
 
     ghost nothing = { nothing_by_guess };
 
+    // Kept inline: docs/PERF.md, "Why these are calls".
     #[inline(always)]
     fn last_at_most(
         numbers: &SearchedNumbers,
@@ -131,6 +133,7 @@ pub(crate) struct Between {
 }
 
 /// Looks at the number in the middle of those that are left, until none is left.
+// Kept inline: docs/PERF.md, "Why these are calls".
 #[inline(always)]
 pub(crate) fn halve(
     numbers: &SearchedNumbers,
@@ -154,13 +157,11 @@ pub(crate) fn halve(
         mut last,
     } = between;
     while low < high {
-        // This is `low + (high - low) / 2` in two instructions in place of four, since no two places pass 64 bits
-        // together.
+        // No two places pass 64 bits together. Why they are added: docs/PERF.md, "Why these are calls".
         let middle = (low + high) / 2;
         let number = numbers.read(middle, readings);
         if number <= key {
-            // An option, since the compiler then branches here and doesn't select: one search among keys that come in
-            // order goes the way of the search before, and branches are foreseen.
+            // Kept an option: docs/PERF.md, "Why these are calls".
             last = Some(number);
             low = middle + 1;
         } else {

@@ -52,6 +52,7 @@ impl Block {
     }
 
     /// Whether it holds the n bytes from the place on.
+    // Kept inline: docs/PERF.md, "Why these are calls".
     #[inline]
     pub(crate) fn holds(&self, place: u64, n: usize) -> bool
         ensures { IsTrue result ↔ IsHeld place n self.now.start self.now.filled }
@@ -65,6 +66,7 @@ impl Block {
     }
 
     /// The n bytes from the place on.
+    // Kept inline: docs/PERF.md, "Why these are calls".
     #[inline]
     pub(crate) fn part(&self, place: u64, n: usize) -> &[u8]
         requires { IsHeld place n self.now.start self.now.filled }
@@ -99,6 +101,7 @@ impl Block {
     /// Fills the block so that it holds the n bytes from the place on, of a source of `len` bytes: from the
     /// place on, or up to the source's end where fewer bytes follow than it has room for. Where the n bytes
     /// pass the end it is `UnexpectedEof`, and the block stays.
+    // Kept a call: docs/PERF.md, "Why these are calls".
     #[cold]
     #[inline(never)]
     pub(crate) fn reach<S: ByteSource>(

@@ -102,6 +102,7 @@ impl<S: ByteSource> ByteSource for Window<S> {
         Ok(())
     }
 
+    // Kept inline: docs/PERF.md, "Why these are calls".
     #[inline]
     #[tactic(auto, using(crate::proofs::Held::held_part))]
     fn part<'r>(
