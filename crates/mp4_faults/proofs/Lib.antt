@@ -1,3 +1,11 @@
 pub mod Looking
 pub mod Content
 pub mod Stepping
+pub mod Walked
+pub mod Children
+pub mod Gathered
+pub mod Owners
+pub mod Searching
+pub mod FirstOf
+pub mod Places
+pub mod IdPlaces

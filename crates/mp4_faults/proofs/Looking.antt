@@ -1,6 +1,6 @@
 -- Looking for the first child of a container that is refused: each step, and the ends.
 use Rattle.std.proofs.Common.{◌≡◌, ◌++◌, ◌∷◌, [], ℕ, List, Some, None, true, false, refl, sym, ap, ◌∙◌}
-use Rattle.std.proofs.Common.{subst}
+use Rattle.std.proofs.Common.{subst, map}
 use Rattle.std.specs.List.{AllByRecursion}
 use Rattle.mp4_codec.specs.declared.box_type.BoxType.{BoxType}
 use Rattle.mp4_codec.specs.Cause.{Cause}
@@ -18,14 +18,17 @@ unfolding AreWithin
 within-more payload place next [] b are is = (ap (λ n. box_within payload n) (sym are) ∙ is, refl)
 within-more payload place next (x ∷ xs) b are is = (are.0, within-more payload (end_of x) next xs b are.1 is)
 
+pub map-more : {A B : Type 0} (f : A → B) (xs : List A) (x : A) → map f (xs ++ x ∷ []) ≡ map f xs ++ f x ∷ []
+map-more f [] x = refl
+map-more f (y ∷ ys) x = ap (λ zs. f y ∷ zs) (map-more f ys x)
+
 all-more : {A : Type 0} (P : A → Type 0) (xs : List A) (x : A) → AllByRecursion P xs → P x
     → AllByRecursion P (xs ++ x ∷ [])
 all-more P [] x h p = (p, tt)
 all-more P (y ∷ ys) x h p = (h.0, all-more P ys x h.1 p)
 
-names-more : (bs : List InnerBox) (b : InnerBox) → names_of (bs ++ b ∷ []) ≡ names_of bs ++ b.name ∷ []
-names-more [] b = refl
-names-more (x ∷ xs) b = ap (λ names. x.name ∷ names) (names-more xs b)
+pub names-more : (bs : List InnerBox) (b : InnerBox) → names_of (bs ++ b ∷ []) ≡ names_of bs ++ b.name ∷ []
+names-more = map-more (λ (b : InnerBox). b.name)
 
 -- the children that were passed, whose types are these
 pub record Looking (parent : BoxType) (payload : List ℕ) (place : ℕ) (names : List BoxType) : Type 0 where

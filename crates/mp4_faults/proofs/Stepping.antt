@@ -2,6 +2,7 @@
 use Rattle.std.proofs.Common.{◌≡◌, inl, inr, ◌<◌, ◌≤◌, ℕ, ◌+◌, ◌-◌, ◌^◌, Bool, true, false, ltb, cond, List, [], ◌∷◌}
 use Rattle.std.proofs.Common.{length, take, drop, Some, None, Result, Ok, Err, refl, sym, ap, subst, ◌∙◌, arith}
 use Rattle.std.proofs.lemmas.Bool.{le-ltb}
+use Rattle.std.proofs.lemmas.List.{length-drop, length-take-le}
 use Rattle.mp4_codec.specs.declared.box_type.BoxType.{BoxType}
 use Rattle.mp4_codec.specs.declared.box_type.BoxType.TheVariants.{FtypBox, MoovBox, MoofBox, EmsgBox}
 use Rattle.mp4_codec.specs.declared.header.BoxHeader.{BoxHeader}
@@ -9,9 +10,11 @@ use Rattle.mp4_codec.specs.Cause.{Cause, cause_of, end_of_data, invalid_data, �
 use Rattle.mp4_codec.specs.Cursor.{Cursor, here, header_at}
 use Rattle.mp4_codec.specs.Boxes.{box_at}
 use Rattle.mp4_codec.specs.Steps.{ok_is}
+use Rattle.mp4_codec.specs.FramingLaws.{why_no_head}
 use Rattle.mp4_media.specs.FileBoxes.{BoxContent, Skipped, meaning_of}
 use Rattle.mp4_media.specs.FileGrammar.{between, Begins, read, skipped, past_the_bytes, meaningless, past_64_bits}
-use Rattle.mp4_media.specs.FileGrammar.{nothing, larger, IsFault}
+use Rattle.mp4_media.specs.FileGrammar.{nothing, larger, IsFault, rest, no_header}
+use Rattle.mp4_media.specs.FileGrammar.{EndsFile, open_end}
 use Rattle.mp4_faults.specs.declared.fault_place.FaultPlace.{FaultPlace}
 use Rattle.mp4_faults.specs.declared.top_level.Payload.{Payload}
 use Rattle.mp4_faults.specs.declared.top_level.SeenBoxes.{SeenBoxes}
@@ -20,7 +23,11 @@ use Rattle.mp4_faults.specs.Refusal.{payload_fault}
 use Rattle.mp4_faults.specs.Inner.{InnerBox, end_of}
 use Rattle.mp4_faults.specs.Innermost.{IsInnermost, step_after}
 use Rattle.mp4_faults.specs.TopLevel.{IsTopBox, IsNamedBox, IsFaultAt, IsInside, RefusesContent, Means, IsRead, IsBegun}
-use Rattle.mp4_faults.specs.TopLevel.{IsIn, outermost, refused, no_room, GivesNext, TellsNext, SaysNext, TellsInside}
+use Rattle.mp4_faults.specs.TopLevel.{IsIn, outermost, refused, no_room, no_box, GivesNext, TellsNext, SaysNext, TellsInside}
+use Rattle.mp4_faults.specs.TopLevel.{SaysWhose, IsUnread}
+use Rattle.mp4_source.specs.Answers.{RefusesRead}
+use Rattle.mp4_source.specs.declared.file_error.FileError.{FileError}
+use Rattle.mp4_source.specs.declared.file_error.FileError.TheVariants.{Mp4, Io}
 use Rattle.mp4_codec.specs.declared.error.Error.{Error}
 use Rattle.mp4_faults.specs.declared.top_level.NextBox.{NextBox}
 use Rattle.mp4_faults.specs.declared.top_level.NextBox.TheVariants.{Faulty}
@@ -131,6 +138,40 @@ too-large size bytes place from h large past begins f names e path at =
       is_in = no_room h.name from (from + (h.size - 8)) begins (inl wide) path at;
     }
 
+-- A place of a file where no box begins.
+module _ (size : ℕ) (bytes : List ℕ) (place : ℕ) where
+  pub too-few : (f : FaultPlace) (names : List BoxType) → place < size → size < place + 8 → cause_of f.error ≡ end_of_data
+      → f.path ≡ [] → f.place ≡ place → IsFaultAt size bytes place names f
+  too-few f names below few e path at = record { fault = rest below few e; is_in = no_box (inl few) path at }
+
+  pub headless : (f : FaultPlace) (names : List BoxType) → place + 8 ≤ size
+      → header_at (here bytes place) ≡ Err (cause_of f.error)
+      → f.path ≡ [] → f.place ≡ place → IsFaultAt size bytes place names f
+  headless f names room e path at = record {
+    fault = no_header room (why_no_head (here bytes place) (cause_of f.error) e);
+    is_in = no_box (inr e) path at;
+  }
+
+  pub ends-open : (h : BoxHeader) (from : ℕ) → place + 8 ≤ size → header_at (here bytes place) ≡ Ok (h, here bytes from)
+      → h.size ≡ 0 → EndsFile size bytes place
+  ends-open h from room e zero =
+      open_end room h.name from
+      (e ∙ ap (λ (n : ℕ). Ok (record { name = h.name; size = n }, here bytes from)) zero)
+
+-- what a refused read says of the answer that it is of
+pub unread-of : {Y : Type 0} (can_refuse : Bool) (refusal u : FileError) (answer : Result Y Cause)
+    → SaysWhose refusal (Err u) → RefusesRead can_refuse refusal answer → IsUnread can_refuse u
+unread-of can_refuse (Mp4 e) u answer says a = rw says.0 says.1
+unread-of can_refuse (Io e) u answer says a = rw says.0 a
+
+pub fault-read : {Y : Type 0} (can_refuse : Bool) (refusal : FileError) (e : Error) (answer : Result Y Cause)
+    → SaysWhose refusal (Ok e) → RefusesRead can_refuse refusal answer → answer ≡ Err (cause_of e)
+fault-read can_refuse (Mp4 x) e answer says (inl memory) =
+    let same : x ≡ e = cc in absurd (says.1 (sym same ∙ memory))
+fault-read can_refuse (Mp4 x) e answer says (inr fault) =
+    let same : x ≡ e = cc in fault ∙ ap (λ (y : Error). Err (cause_of y)) same
+fault-read can_refuse (Io x) e answer says a = absurd cc
+
 -- A payload that is read as it is.
 module _ (size from : ℕ) (bytes : List ℕ) (large : 8 ≤ size) where
   enough : ltb size 8 ≡ false
@@ -184,6 +225,38 @@ module _ (size from : ℕ) (bytes : List ℕ) (large : 8 ≤ size) where
           → (c ≡ end_of_data) × (length bytes < from + (size - 8))
       by true t e = (cc, grind arith)
       by false t e = absurd cc
+
+-- A box whose payload was read as it is.
+module _ (size : ℕ) (bytes : List ℕ) (place from : ℕ) (h : BoxHeader) (large : 8 ≤ h.size)
+    (t : IsBegun size bytes place h from) (p : Payload) (behind : ℕ) (w : IsWhole h.size from bytes large p behind) where
+  abbrev pub read-box : InnerBox
+  read-box = record { name = h.name; place = place; from = from; payload = p.bytes }
+
+  read-length : length p.bytes ≡ h.size - 8
+  read-length =
+      let within = w.within in
+      let left-length = length-drop from bytes in
+      let n : from + (h.size - 8) - from ≡ h.size - 8 = omega arith in
+      ap length w.is
+      ∙ length-take-le (from + (h.size - 8) - from) (drop from bytes) (omega (arith, n, within, left-length))
+      ∙ n
+
+  pub ends-behind : end_of read-box ≡ behind
+  ends-behind = let long = read-length in let end = w.end in omega (arith, long, end)
+
+  pub is-top-box : behind < 2 ^ 64 → IsTopBox size bytes read-box
+  is-top-box small =
+      let long = read-length in
+      let end = w.end in
+      let to : end_of read-box ≡ from + (h.size - 8) = omega (arith, long) in
+      let fits = t.fits in
+      record {
+        begins = rw to t.begins;
+        fits = omega (arith, long, large, fits);
+        payload = w.is ∙ ap (between bytes from) (sym to);
+        within = let within = w.within in omega (arith, to, within);
+        narrow = omega (arith, to, end, small);
+      }
 
 -- What a call gives that is the answer of another.
 module _ (size : ℕ) (bytes : List ℕ) (place behind : ℕ) (old new : SeenBoxes) where

@@ -5,4 +5,6 @@ pub mod Inner
 pub mod Innermost
 pub mod TopLevel
 pub mod BoxFault
+pub mod Ids
+pub mod WrongId
 pub mod FirstFault

@@ -1,6 +1,7 @@
 -- The boxes of a file up to its first fault, with their types, and where that fault is (ISO/IEC 14496-12, 4.2).
 use Rattle.std.specs.Prelude.{◌≡◌, ◌⊎◌, ◌<◌, ◌≤◌, ℕ, ◌+◌, ◌-◌, ◌^◌, List, [], ◌∷◌, ◌++◌, length, map}
-use Rattle.std.specs.Prelude.{Option, Some, None, Result, Ok, Err}
+use Rattle.std.specs.Prelude.{Option, Some, None, option_map, Result, Ok, Err, Bool, IsTrue}
+use Rattle.std.specs.List.{filter_map}
 use Rattle.mp4_codec.specs.declared.box_type.BoxType.{BoxType}
 use Rattle.mp4_codec.specs.declared.box_type.BoxType.TheVariants.{FtypBox, MoovBox, MoofBox, EmsgBox}
 use Rattle.mp4_codec.specs.declared.header.BoxHeader.{BoxHeader}
@@ -9,7 +10,11 @@ use Rattle.mp4_codec.specs.declared.error.Error.TheVariants.{OutOfMemory}
 use Rattle.mp4_codec.specs.Cause.{Cause, cause_of}
 use Rattle.mp4_codec.specs.Children.{last}
 use Rattle.mp4_codec.specs.Cursor.{header_at, here}
+use Rattle.mp4_source.specs.Answers.{OnMp4}
+use Rattle.mp4_source.specs.declared.file_error.FileError.{FileError}
+use Rattle.mp4_source.specs.declared.file_error.FileError.TheVariants.{Mp4, Io}
 use Rattle.mp4_media.specs.FileBoxes.{FileBox, ftyp_from, moov_from, moof_from, ftyps_in, moovs_in, moofs_in, later}
+use Rattle.mp4_media.specs.FileBoxes.{moof_place_from, moof_places_in}
 use Rattle.mp4_media.specs.FileBoxes.{and_one, BoxContent, meaning_of}
 use Rattle.mp4_media.specs.FileGrammar.{between, Begins, IsFileBox, IsFault, EndsFile}
 use Rattle.mp4_faults.specs.declared.fault_place.PathStep.{PathStep}
@@ -75,26 +80,40 @@ pub record IsFaultAt (size : ℕ) (bytes : List ℕ) (place : ℕ) (before : Lis
   pub fault : IsFault size bytes place (cause_of f.error)
   pub is_in : IsIn size bytes place before (cause_of f.error) f.path f.place
 
+-- the place of a box, where it is a movie
+abbrev pub moov_place_from : FileBox → Option ℕ
+moov_place_from b = option_map (λ _. b.place) (moov_from b.content)
+
+-- the places of the movies among the boxes of a file, in order
+abbrev pub moov_places_in : List FileBox → List ℕ
+moov_places_in = filter_map moov_place_from
+
 -- these boxes were seen
 pub record IsSeen (seen : SeenBoxes) (boxes : List NamedBox) : Type 0 where
   pub names : seen.names ≡ types_of boxes
   pub ftyp : seen.ftyp ≡ last (ftyps_in (boxes_of boxes))
   pub moov : seen.moov ≡ last (moovs_in (boxes_of boxes))
+  pub moov_place : seen.moov_place ≡ last (moov_places_in (boxes_of boxes))
   pub moofs : seen.moofs ≡ moofs_in (boxes_of boxes)
+  pub moof_places : seen.moof_places ≡ moof_places_in (boxes_of boxes)
 
 -- what counts of a box is added to what was seen, but for its type
 pub record AddsContent (old new : SeenBoxes) (b : FileBox) : Type 0 where
   pub names : new.names ≡ old.names
   pub ftyp : new.ftyp ≡ later (ftyp_from b.content) old.ftyp
   pub moov : new.moov ≡ later (moov_from b.content) old.moov
+  pub moov_place : new.moov_place ≡ later (moov_place_from b) old.moov_place
   pub moofs : new.moofs ≡ and_one old.moofs (moof_from b.content)
+  pub moof_places : new.moof_places ≡ and_one old.moof_places (moof_place_from b)
 
 -- this box was seen after what was seen
 pub record Sees (old new : SeenBoxes) (b : NamedBox) : Type 0 where
   pub names : new.names ≡ old.names ++ b.0 ∷ []
   pub ftyp : new.ftyp ≡ later (ftyp_from b.1.content) old.ftyp
   pub moov : new.moov ≡ later (moov_from b.1.content) old.moov
+  pub moov_place : new.moov_place ≡ later (moov_place_from b.1) old.moov_place
   pub moofs : new.moofs ≡ and_one old.moofs (moof_from b.1.content)
+  pub moof_places : new.moof_places ≡ and_one old.moof_places (moof_place_from b.1)
 
 -- What a call says of a place of a file, with what was seen before it and after it, and the place after it.
 abbrev pub SaysNext : ℕ → List ℕ → ℕ → SeenBoxes → SeenBoxes → ℕ → NextBox → Type 0
@@ -113,6 +132,21 @@ abbrev pub TellsNext : ℕ → List ℕ → ℕ → SeenBoxes → SeenBoxes → 
 TellsNext size bytes place old new behind (Ok next) = SaysNext size bytes place old new behind next
 TellsNext size bytes place old new behind (Err e) = e ≡ OutOfMemory
 
+-- memory ran out, or the source refused a read, which it can
+abbrev pub IsUnread : Bool → FileError → Type 0
+IsUnread can_refuse (Mp4 e) = e ≡ OutOfMemory
+IsUnread can_refuse (Io e) = IsTrue can_refuse
+
+-- What a call says of a refused read of a source: it is a fault of the bytes, or memory or the source refused it.
+abbrev pub SaysWhose : FileError → Result Error FileError → Type 0
+SaysWhose refusal (Ok e) = (refusal ≡ Mp4 e) × (e ≡ OutOfMemory → ⊥)
+SaysWhose refusal (Err u) = (u ≡ refusal) × OnMp4 refusal (λ e. e ≡ OutOfMemory)
+
+-- the same of a box that is read from a source
+abbrev pub ReadsNext : ℕ → List ℕ → Bool → ℕ → SeenBoxes → SeenBoxes → ℕ → Result NextBox FileError → Type 0
+ReadsNext size bytes can_refuse place old new behind (Ok next) = SaysNext size bytes place old new behind next
+ReadsNext size bytes can_refuse place old new behind (Err e) = IsUnread can_refuse e
+
 -- boxes of this type are read
 abbrev pub IsRead : BoxType → Type 0
 IsRead FtypBox = Unit {0}
@@ -127,7 +161,7 @@ pub record IsTopBox (size : ℕ) (bytes : List ℕ) (b : InnerBox) : Type 0 wher
   pub fits : end_of b - b.from + 8 ≤ size
   pub payload : b.payload ≡ between bytes b.from (end_of b)
   pub within : end_of b ≤ length bytes
-  pub narrow : length bytes < 2 ^ 64
+  pub narrow : end_of b < 2 ^ 64
 
 -- a box of a file of `size` bytes with this header, which begins at a place and whose payload begins at another
 pub record IsBegun (size : ℕ) (bytes : List ℕ) (place : ℕ) (h : BoxHeader) (from : ℕ) : Type 0 where

@@ -1,164 +1,81 @@
 //! The first fault of a file.
 
-ghost use Rattle.std.specs.Prelude.{◌≡◌, ◌≤◌, IfErr, IfOk, IfSome, length};
-ghost use Rattle.mp4_codec.specs.Cursor.{here};
-ghost use Rattle.mp4_media.specs.Walk.{opened_at};
+ghost use Rattle.std.specs.Prelude.{◌≡◌, ◌<◌, ◌+◌, ◌^◌, ℕ, List, [], IfSome, unwrap_or};
+ghost use Rattle.std.specs.List.{slice_get};
+ghost use Rattle.mp4_codec.specs.declared.box_type.BoxType.TheVariants.{MoovBox, TrakBox, TkhdBox, MoofBox, TrafBox};
+ghost use Rattle.mp4_codec.specs.declared.box_type.BoxType.TheVariants.{TfhdBox};
 ghost use Rattle.mp4_source.specs.Answers.{IsLength};
-ghost use Rattle.mp4_faults.specs.Inner.{inner, end_of};
-ghost use Rattle.mp4_faults.specs.FirstFault.{IsUnread, SaysFirst, SaysOpening};
+ghost use Rattle.mp4_faults.specs.FirstFault.{SaysAtEnd, SaysFirst};
+ghost use Rattle.mp4_faults.specs.Innermost.{count_of};
+ghost use Rattle.mp4_faults.specs.TopLevel.{AreNamedBoxes, IsSeen, NamedBox};
 
-use crate::child::{PlacedBox, child_at};
 use crate::fault_place::{FaultPlace, PathStep};
 use crate::ids::{IdFault, id_fault};
-use crate::top_level::{NextBox, Payload, SeenBoxes, next_box};
-use mp4_codec::{BoxType, Error, HEADER_SIZE, Items};
-use mp4_media::Mp4File;
+use crate::top_level::{NextBox, SeenBoxes, next_box};
+use crate::wrong_id::{IdPlace, wrong_id};
+use mp4_codec::{BoxType, Error, Items};
 use mp4_source::{ByteSource, FileError, SourceCursor, Window};
 use std::alloc::Global;
 
-/// The child of a payload that is the one with this number of its type, from 1.
-fn nth_child(payload: &[u8], name: BoxType, number: u64) -> Option<PlacedBox<'_>>
-    ensures { IfSome result (λ b. end_of (inner b) ≤ length payload.now) }
+/// How many boxes of this type were seen.
+fn count_of(seen: &SeenBoxes, name: BoxType) -> u64
+    ensures { result ≡ count_of name seen.now.names }
 {
-    let mut place = 0;
-    let mut count = 0u64;
-    while let Some(child) = child_at(payload, place) {
-        place = child.end();
-        if u32::from(child.name) == u32::from(name) {
-            count = count.saturating_add(1);
-            if count == number {
-                return Some(child);
-            }
-        }
-    }
-    None
-}
-
-/// The last child of a payload that is of this type, and how many are before it.
-fn last_child(payload: &[u8], name: BoxType) -> Option<(PlacedBox<'_>, u64)>
-    ensures within { IfSome result (λ x. end_of (inner x.0) ≤ length payload.now) }
-    ensures onward { IfSome result (λ x. x.0.place ≤ x.0.from) }
-{
-    let mut place = 0;
-    let mut count = 0u64;
-    let mut last = None;
-    while let Some(child) = child_at(payload, place) {
-        place = child.end();
-        if u32::from(child.name) == u32::from(name) {
-            last = Some((child, count));
-            count = count.saturating_add(1);
-        }
-    }
-    last
-}
-
-/// What says an id: a box of the file, a track or a track fragment in it, and its header.
-#[derive(Clone, Copy)]
-struct IdPlace {
-    top: PathStep,
-    /// The place of the outermost box's first byte.
-    place: u64,
-    middle: PathStep,
-    header: BoxType,
+    let names = seen.names.as_slice().iter();
+    names.filter(|t| u32::from(**t) == u32::from(name)).count() as u64
 }
 
 /// What says the wrong id of the track at this index of the last movie.
-fn track_place(seen: &SeenBoxes, index: usize) -> IdPlace {
-    let movies = seen.names.as_slice().iter();
-    let count = movies
-        .filter(|t| u32::from(**t) == u32::from(BoxType::MoovBox))
-        .count();
+fn track_place(seen: &SeenBoxes, index: usize) -> IdPlace
+    requires { index < 2 ^ 63 }
+    ensures { result ≡ record {
+      top = record { name = MoovBox; number = count_of MoovBox seen.now.names };
+      place = unwrap_or seen.now.moov_place 0;
+      name = TrakBox;
+      number = index + 1;
+      header = TkhdBox;
+    } }
+{
     IdPlace {
         top: PathStep {
             name: BoxType::MoovBox,
-            number: count as u64,
+            number: count_of(seen, BoxType::MoovBox),
         },
-        place: seen.moov_place,
-        middle: PathStep {
-            name: BoxType::TrakBox,
-            number: (index as u64).saturating_add(1),
-        },
+        place: seen.moov_place.unwrap_or(0),
+        name: BoxType::TrakBox,
+        number: index as u64 + 1,
         header: BoxType::TkhdBox,
     }
 }
 
 /// What says the wrong id of a track fragment, at an index of a movie fragment, which is at the other index.
-fn fragment_place(seen: &SeenBoxes, moof: usize, traf: usize) -> IdPlace {
+fn fragment_place(seen: &SeenBoxes, moof: usize, traf: usize) -> IdPlace
+    requires moof { moof < 2 ^ 63 }
+    requires traf { traf < 2 ^ 63 }
+    ensures { result ≡ record {
+      top = record { name = MoofBox; number = moof + 1 };
+      place = unwrap_or (slice_get seen.now.moof_places moof) 0;
+      name = TrafBox;
+      number = traf + 1;
+      header = TfhdBox;
+    } }
+{
     IdPlace {
         top: PathStep {
             name: BoxType::MoofBox,
-            number: (moof as u64).saturating_add(1),
+            number: moof as u64 + 1,
         },
         place: seen.moof_places.get(moof).copied().unwrap_or(0),
-        middle: PathStep {
-            name: BoxType::TrafBox,
-            number: (traf as u64).saturating_add(1),
-        },
+        name: BoxType::TrafBox,
+        number: traf as u64 + 1,
         header: BoxType::TfhdBox,
     }
 }
 
-/// The header that says an id, in the payload of the outermost box, and how many of its type are before it.
-fn header_within(payload: &[u8], id: IdPlace) -> Option<(PlacedBox<'_>, u64)> {
-    let middle = nth_child(payload, id.middle.name, id.middle.number)?;
-    let (header, before) = last_child(middle.payload, id.header)?;
-    Some((middle.outward(header), before))
-}
-
-/// The place of a header that says an id, and how many of its type are before it, as the source is read again; None
-/// where it isn't there any more.
-fn header_of_id<S: ByteSource + Drop>(
-    alloc: Global,
-    reader: &mut SourceCursor<S>,
-    id: IdPlace,
-) -> Result<Option<(u64, u64)>, FileError>
-    requires { IsLength (S.contents reader.old.source) reader.old.len }
-{
-    reader.set_position(id.place);
-    let header = reader.read_header()?;
-    if header.size < HEADER_SIZE {
-        return Ok(None);
-    }
-    let from = reader.position();
-    let payload: Payload = reader.read_box(alloc, header.size)?;
-    match header_within(payload.bytes.as_slice(), id) {
-        None => Ok(None),
-        Some((found, before)) => Ok(Some((from.saturating_add(found.place), before))),
-    }
-}
-
-/// The fault of a wrong id: it is in the header that says it, which is looked up in the source again.
-fn wrong_id<S: ByteSource + Drop>(
-    alloc: Global,
-    reader: &mut SourceCursor<S>,
-    id: IdPlace,
-    error: Error,
-) -> Result<FaultPlace, FileError>
-    requires { IsLength (S.contents reader.old.source) reader.old.len }
-{
-    let mut path = Items::new(alloc);
-    path.push(id.top)?;
-    path.push(id.middle)?;
-    match header_of_id(alloc, reader, id) {
-        Ok(Some((place, before))) => {
-            path.push(PathStep {
-                name: id.header,
-                number: before.saturating_add(1),
-            })?;
-            Ok(FaultPlace { path, place, error })
-        }
-        Err(FileError::Mp4(Error::OutOfMemory)) => Err(FileError::Mp4(Error::OutOfMemory)),
-        Err(FileError::Io(refused)) => Err(FileError::Io(refused)),
-        _ => Ok(FaultPlace {
-            path,
-            place: id.place,
-            error,
-        }),
-    }
-}
-
 /// The fault of a file that lacks a box, and ends at this place.
-fn missing(alloc: Global, place: u64, name: BoxType) -> FaultPlace {
+fn missing(alloc: Global, place: u64, name: BoxType) -> FaultPlace
+    ensures { result ≡ record { path = []; place = place; error = Error.BoxNotFound name } }
+{
     FaultPlace {
         path: Items::new(alloc),
         place,
@@ -173,10 +90,13 @@ fn fault_at_end<S: ByteSource + Drop>(
     seen: &SeenBoxes,
 ) -> Result<Option<FaultPlace>, FileError>
     requires { IsLength (S.contents reader.old.source) reader.old.len }
+    ensures { IfSome (S.contents reader.old.source) (λ bytes. (size start : ℕ) (boxes : List NamedBox)
+        → AreNamedBoxes size bytes start boxes reader.old.position → IsSeen seen.now boxes
+        → SaysAtEnd bytes boxes reader.old.position (S.can_refuse reader.old.source) result) }
 {
-    if seen.ftyp.is_none() {
+    let Some(_) = &seen.ftyp else {
         return Ok(Some(missing(alloc, reader.position(), BoxType::FtypBox)));
-    }
+    };
     let Some(moov) = &seen.moov else {
         return Ok(Some(missing(alloc, reader.position(), BoxType::MoovBox)));
     };
@@ -193,88 +113,30 @@ fn fault_at_end<S: ByteSource + Drop>(
     }
 }
 
-/// The first fault of a file that begins where the cursor is and ends at the place `size`.
+/// The first fault of a file that begins where the cursor is and ends at the place `size`. Nothing was seen of it yet.
 fn fault_from<S: ByteSource + Drop>(
     alloc: Global,
     reader: &mut SourceCursor<S>,
+    seen: &mut SeenBoxes,
     size: u64,
 ) -> Result<Option<FaultPlace>, FileError>
-    requires { IsLength (S.contents reader.old.source) reader.old.len }
+    requires len { IsLength (S.contents reader.old.source) reader.old.len }
+    requires none { IsSeen seen.old [] }
+    ensures { IfSome (S.contents reader.old.source) (λ bytes.
+        SaysFirst size bytes reader.old.position (S.can_refuse reader.old.source) result) }
 {
-    let mut seen = SeenBoxes::none(alloc);
     loop {
-        match next_box(alloc, reader, &mut seen, size)? {
+        match next_box(alloc, reader, seen, size)? {
             NextBox::Faultless => {}
-            NextBox::End => return fault_at_end(alloc, reader, &seen),
+            NextBox::End => return fault_at_end(alloc, reader, seen),
             NextBox::Faulty(fault) => return Ok(Some(fault)),
         }
     }
 }
 
-/// The error by which a file is refused, as [`Mp4File::open`] answers with the same arguments; `None` where it opens.
-fn opening_error<S: ByteSource + Drop>(
-    alloc: Global,
-    source: &mut S,
-    start: u64,
-    size: u64,
-) -> Result<Option<Error>, FileError>
-    ensures { IfSome (S.contents source.old) (λ bytes. SaysOpening (opened_at size (here bytes start)) result) }
-{
-    match Mp4File::open(alloc, source, start, size) {
-        Ok(file) => {
-            drop(file);
-            Ok(None)
-        }
-        Err(FileError::Mp4(Error::OutOfMemory)) => Err(FileError::Mp4(Error::OutOfMemory)),
-        Err(FileError::Mp4(error)) => Ok(Some(error)),
-        Err(error) => Err(error),
-    }
-}
-
-/// Where the file is broken that is refused by this error. Where the source isn't any more as it was when it was
-/// opened, and has no fault now, the place is where the file begins.
-fn place_of_error<S: ByteSource + Drop>(
-    alloc: Global,
-    source: S,
-    start: u64,
-    size: u64,
-    error: Error,
-) -> Result<FaultPlace, FileError>
-    ensures error { IfOk result (λ f. f.error ≡ error) }
-    ensures unread { IfErr result IsUnread }
-{
-    match found_place(alloc, source, start, size) {
-        Ok(Some(found)) => Ok(FaultPlace {
-            path: found.path,
-            place: found.place,
-            error,
-        }),
-        Err(FileError::Mp4(Error::OutOfMemory)) => Err(FileError::Mp4(Error::OutOfMemory)),
-        Err(FileError::Io(refused)) => Err(FileError::Io(refused)),
-        _ => Ok(FaultPlace {
-            path: Items::new(alloc),
-            place: start,
-            error,
-        }),
-    }
-}
-
-/// The first fault that a walk over the boxes of a file finds.
-fn found_place<S: ByteSource + Drop>(
-    alloc: Global,
-    source: S,
-    start: u64,
-    size: u64,
-) -> Result<Option<FaultPlace>, FileError> {
-    let window = Window::new(alloc, source)?;
-    let mut reader = SourceCursor::new(alloc, window, start)?;
-    fault_from(alloc, &mut reader, size)
-}
-
 /// Where a file is broken that begins at the place `start` of a source and ends at its place `size`, both counted from
-/// the source's first byte: the place of its first fault; `None` for a file that opens. What opens, and by which error
-/// it is refused else, is as [`Mp4File::open`] answers with the same arguments: it is opened first, and where it is
-/// refused its boxes are gone over again.
+/// the source's first byte: its first fault, with the path to it and its place; `None` for a file that opens. What
+/// opens, and by which error it is refused else, is as [`mp4_media::Mp4File::open`] answers with the same arguments.
 ///
 /// Refused by `OutOfMemory`, or by `Io` where the source refuses a read.
 pub fn first_fault_of<S: ByteSource + Drop>(
@@ -283,15 +145,10 @@ pub fn first_fault_of<S: ByteSource + Drop>(
     start: u64,
     size: u64,
 ) -> Result<Option<FaultPlace>, FileError>
-    ensures { IfSome (S.contents source) (λ bytes. SaysFirst (opened_at size (here bytes start)) result) }
+    ensures { IfSome (S.contents source) (λ bytes. SaysFirst size bytes start (S.can_refuse source) result) }
 {
-    let mut source = source;
-    match opening_error(alloc, &mut source, start, size) {
-        Ok(None) => Ok(None),
-        Ok(Some(error)) => match place_of_error(alloc, source, start, size, error) {
-            Ok(fault) => Ok(Some(fault)),
-            Err(unread) => Err(unread),
-        },
-        Err(unread) => Err(unread),
-    }
+    let window = Window::new(alloc, source)?;
+    let mut reader = SourceCursor::new(alloc, window, start)?;
+    let mut seen = SeenBoxes::none(alloc);
+    fault_from(alloc, &mut reader, &mut seen, size)
 }

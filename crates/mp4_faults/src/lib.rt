@@ -11,6 +11,7 @@ mod ids;
 mod innermost;
 mod refusal;
 mod top_level;
+mod wrong_id;
 
 pub use box_fault::first_fault_in;
 pub use containers::{bytes_before_children, looks_at_first_alone, reads_child};

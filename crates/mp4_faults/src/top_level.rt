@@ -9,7 +9,7 @@ ghost use Rattle.mp4_media.specs.FileBoxes.{meaning_of};
 ghost use Rattle.mp4_faults.specs.Inner.{inner, end_of};
 ghost use Rattle.mp4_faults.specs.Innermost.{step_after};
 ghost use Rattle.mp4_faults.specs.TopLevel.{GivesNext, TellsNext, IsRead, IsTopBox, IsBegun, TellsContent};
-ghost use Rattle.mp4_faults.specs.TopLevel.{TellsValue, TellsInside, IsSeen};
+ghost use Rattle.mp4_faults.specs.TopLevel.{TellsValue, TellsInside, IsSeen, ReadsNext, SaysWhose};
 ghost use Rattle.mp4_codec.specs.Early.{takes_memory};
 ghost use Rattle.mp4_faults.specs.Payload.{whole_payload};
 
@@ -52,7 +52,7 @@ pub(crate) struct SeenBoxes {
     /// The last movie.
     pub moov: Option<MoovBox>,
     /// The place of its first byte.
-    pub moov_place: u64,
+    pub moov_place: Option<u64>,
     /// The movie fragments.
     pub moofs: Items<MoofBox>,
     /// The places of their first bytes.
@@ -68,7 +68,7 @@ impl SeenBoxes {
             names: Items::new(alloc),
             ftyp: None,
             moov: None,
-            moov_place: 0,
+            moov_place: None,
             moofs: Items::new(alloc),
             moof_places: Items::new(alloc),
         }
@@ -163,7 +163,7 @@ fn add_content(alloc: Global, seen: &mut SeenBoxes, top: &PlacedBox) -> Result<O
         BoxType::MoovBox => match value_or_error::<MoovBox>(alloc, top.payload)? {
             Ok(moov) => {
                 seen.moov = Some(moov);
-                seen.moov_place = top.place;
+                seen.moov_place = Some(top.place);
                 Ok(None)
             }
             Err(error) => Ok(Some(error)),
@@ -242,6 +242,19 @@ fn add_box(alloc: Global, seen: &mut SeenBoxes, top: PlacedBox) -> Result<NextBo
     Ok(NextBox::Faultless)
 }
 
+/// The fault of the bytes by which a read of a source is refused; a refusal by memory or by the source is handed on.
+pub(crate) fn fault_of_bytes(refusal: FileError) -> std::result::Result<Error, FileError>
+    ensures { SaysWhose refusal result }
+{
+    match refusal {
+        FileError::Mp4(error) => match error {
+            Error::OutOfMemory => Err(FileError::Mp4(Error::OutOfMemory)),
+            error => Ok(error),
+        },
+        FileError::Io(refused) => Err(FileError::Io(refused)),
+    }
+}
+
 /// Reads a box whose payload is at the cursor.
 fn read_box<S: ByteSource + Drop>(
     alloc: Global,
@@ -253,6 +266,9 @@ fn read_box<S: ByteSource + Drop>(
     requires len { IsLength (S.contents reader.old.source) reader.old.len }
     requires is_read { IsRead header.name }
     requires size { 8 ≤ header.size }
+    ensures answer { (size : ℕ) → IfSome (S.contents reader.old.source) (λ bytes.
+        IsBegun size bytes place header reader.old.position → ReadsNext size bytes
+        (S.can_refuse reader.old.source) place seen.old seen.new reader.new.position result) }
     ensures onward { IfOk result (λ next. next ≡ NextBox.Faultless → reader.old.position ≤ reader.new.position) }
     ensures contents { S.contents reader.new.source ≡ S.contents reader.old.source }
     ensures can_refuse { S.can_refuse reader.new.source ≡ S.can_refuse reader.old.source }
@@ -261,6 +277,8 @@ fn read_box<S: ByteSource + Drop>(
     let from = reader.position();
     match reader.read_box::<Payload>(alloc, header.size) {
         Ok(payload) => {
+            // For the proof alone, which has to know that the box ends below 2 to the 64.
+            let _ = reader.position();
             let top = PlacedBox {
                 name: header.name,
                 place,
@@ -269,9 +287,10 @@ fn read_box<S: ByteSource + Drop>(
             };
             Ok(add_box(alloc, seen, top)?)
         }
-        Err(FileError::Mp4(Error::OutOfMemory)) => Err(FileError::Mp4(Error::OutOfMemory)),
-        Err(FileError::Mp4(error)) => Ok(fault_of_box(alloc, seen, header.name, place, error)?),
-        Err(error) => Err(error),
+        Err(refusal) => {
+            let error = fault_of_bytes(refusal)?;
+            Ok(fault_of_box(alloc, seen, header.name, place, error)?)
+        }
     }
 }
 
@@ -284,6 +303,8 @@ pub(crate) fn next_box<S: ByteSource + Drop>(
     size: u64,
 ) -> std::result::Result<NextBox, FileError>
     requires len { IsLength (S.contents reader.old.source) reader.old.len }
+    ensures answer { IfSome (S.contents reader.old.source) (λ bytes. ReadsNext size bytes
+        (S.can_refuse reader.old.source) reader.old.position seen.old seen.new reader.new.position result) }
     ensures below { IfOk result (λ next. next ≡ NextBox.Faultless → reader.old.position < size) }
     ensures onward { IfOk result (λ next. next ≡ NextBox.Faultless → reader.old.position < reader.new.position) }
     ensures contents { S.contents reader.new.source ≡ S.contents reader.old.source }
@@ -299,9 +320,7 @@ pub(crate) fn next_box<S: ByteSource + Drop>(
     }
     let header = match reader.read_header() {
         Ok(header) => header,
-        Err(FileError::Mp4(Error::OutOfMemory)) => return Err(FileError::Mp4(Error::OutOfMemory)),
-        Err(FileError::Mp4(error)) => return Ok(fault_of_file(alloc, place, error)),
-        Err(error) => return Err(error),
+        Err(refusal) => return Ok(fault_of_file(alloc, place, fault_of_bytes(refusal)?)),
     };
     if header.size == OPEN_END {
         reader.set_position(place);

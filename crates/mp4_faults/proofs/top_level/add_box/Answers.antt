@@ -23,6 +23,8 @@ returns c =
         names = c.in_ok-push.ensures.ok ∙ rw told.2.names refl;
         ftyp = told.2.ftyp;
         moov = told.2.moov;
+        moov_place = told.2.moov_place;
         moofs = told.2.moofs;
+        moof_places = told.2.moof_places;
       },
     )

@@ -16,7 +16,7 @@ returns-in-Ok c =
     let value = rw c.in-Ok.is at c.in_ok-ftyp-in-FtypBox.ensures in (
       Ftyp c.in-Ok.ftyp,
       means Ftyp ftyp_of top.name top.payload.now (meaning-ftyp top.name c.in-FtypBox.is) c.in-Ok.ftyp value,
-      record { names = refl; ftyp = refl; moov = refl; moofs = refl },
+      record { names = refl; ftyp = refl; moov = refl; moov_place = refl; moofs = refl; moof_places = refl },
     )
 
 pub returns-in-Err : goal.returns-in-Err
@@ -36,7 +36,7 @@ returns-in-Ok-2 c =
     let value = rw c.in-Ok-2.is at c.in_ok-moov-in-MoovBox.ensures in (
       Moov c.in-Ok-2.moov,
       means Moov moov_of top.name top.payload.now (meaning-moov top.name c.in-MoovBox.is) c.in-Ok-2.moov value,
-      record { names = refl; ftyp = refl; moov = refl; moofs = refl },
+      record { names = refl; ftyp = refl; moov = refl; moov_place = refl; moofs = refl; moof_places = refl },
     )
 
 pub returns-in-Err-2 : goal.returns-in-Err-2
@@ -56,7 +56,7 @@ returns-in_ok-push-in-Ok-3-2 c =
     let value = rw c.in-Ok-3.is at c.in_ok-moof-in-MoofBox.ensures in (
       Moof c.in-Ok-3.moof,
       means Moof moof_of top.name top.payload.now (meaning-moof top.name c.in-MoofBox.is) c.in-Ok-3.moof value,
-      record { names = refl; ftyp = refl; moov = refl; moofs = c.in_ok-push-in-Ok-3.ensures.ok },
+      record { names = refl; ftyp = refl; moov = refl; moov_place = refl; moofs = c.in_ok-push-in-Ok-3.ensures.ok; moof_places = c.in_ok-push-in-Ok-3-2.ensures.ok },
     )
 
 pub returns-in-Err-3 : goal.returns-in-Err-3
@@ -76,7 +76,7 @@ returns-in-Ok-4 c =
     let value = rw c.in-Ok-4.is at c.in_ok-emsg-in-EmsgBox.ensures in (
       Emsg c.in-Ok-4.emsg,
       means Emsg emsg_of top.name top.payload.now (meaning-emsg top.name c.in-EmsgBox.is) c.in-Ok-4.emsg value,
-      record { names = refl; ftyp = refl; moov = refl; moofs = refl },
+      record { names = refl; ftyp = refl; moov = refl; moov_place = refl; moofs = refl; moof_places = refl },
     )
 
 pub returns-in-Err-4 : goal.returns-in-Err-4
