@@ -2,7 +2,7 @@
 use Rattle.std.proofs.Common.{◌≡◌, ◌⊎◌, inl, inr, ℕ, ◌+◌, ◌<◌, ◌≤◌, List, [], ◌∷◌, ◌++◌, length, get_or, take, drop}
 use Rattle.std.proofs.Common.{Result, Ok, Err, refl, sym, ap, subst, ◌∙◌, arith}
 use Rattle.std.proofs.lemmas.List.{take_more, drop_more, take_all, take-append-drop, length-take-le, length-drop}
-use Rattle.mp4_mux.specs.Writing.{WriterState}
+use Rattle.mp4_media.specs.Writing.{WriterState}
 use Rattle.mp4_script.specs.declared.script.ScriptFault.{ScriptFault}
 use Rattle.mp4_script.specs.Lines.{lines_of}
 use Rattle.mp4_script.specs.Script.{ScriptCause, script_cause_of, line_step, run_from, run_all, RanOutAt, RanOutIn}

@@ -7,7 +7,7 @@ use Rattle.mp4_entry.specs.declared.config.MediaConfig.TheVariants.{TtxtConfig a
 use Rattle.mp4_meta.specs.Metadata.{numeral}
 use Rattle.mp4_mux.specs.declared.config.TrackConfig.{TrackConfig}
 use Rattle.mp4_mux.specs.Config.{track_config_of}
-use Rattle.mp4_mux.specs.Calls.{Call, add_track, write_sample}
+use Rattle.mp4_media.specs.Calls.{Call, add_track, write_sample}
 use Rattle.mp4_script.specs.declared.commands.Command.{Command}
 use Rattle.mp4_script.specs.declared.commands.Command.TheVariants.{TextTrack, Sample as SampleCommand}
 use Rattle.mp4_script.specs.declared.commands.SampleLine.{SampleLine}

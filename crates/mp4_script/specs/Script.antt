@@ -3,10 +3,10 @@ use Rattle.std.specs.Prelude.{◌≡◌, ◌⊎◌, ℕ, ◌+◌, List, [], ◌�
 use Rattle.std.specs.List.{fold}
 use Rattle.mp4_codec.specs.declared.error.Error.{Error}
 use Rattle.mp4_codec.specs.declared.error.Error.TheVariants.{OutOfMemory}
-use Rattle.mp4_codec.specs.Cause.{Cause, cause_of}
+use Rattle.mp4_media.specs.Cause.{Cause, cause_of}
 use Rattle.mp4_mux.specs.declared.config.Mp4Config.{Mp4Config}
-use Rattle.mp4_mux.specs.Writing.{WriterState, AcceptedTrack, started, with_end, end_cause, whole_of}
-use Rattle.mp4_mux.specs.Calls.{Call, step, call_cause, accept}
+use Rattle.mp4_media.specs.Writing.{WriterState, AcceptedTrack, started, with_end, end_cause, whole_of}
+use Rattle.mp4_media.specs.Calls.{Call, step, call_cause, accept}
 use Rattle.mp4_media.specs.declared.reader.Mp4Reader.{Mp4Reader}
 use Rattle.mp4_media.specs.RoundTrip.{HasExactly, IsOpening, OpensAs}
 use Rattle.mp4_script.specs.Commands.{command_in}

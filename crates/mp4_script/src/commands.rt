@@ -3,7 +3,7 @@
 ghost use Rattle.std.specs.Prelude.{◌≡◌, ◌≤◌, Ok, length, option_map, true, false, IfSome, IfNone};
 ghost use Rattle.std.specs.List.{position_or_len};
 ghost use Rattle.std.specs.Str.{all_ascii_digits};
-ghost use Rattle.mp4_codec.specs.Cause.{Answers};
+ghost use Rattle.mp4_media.specs.Cause.{Answers};
 ghost use Rattle.mp4_media.specs.WriterCalls.{call_of};
 ghost use Rattle.mp4_meta.specs.Metadata.{decimal_value};
 ghost use Rattle.mp4_script.specs.Commands.{command_call, command_in, cut_at_space, decimal_in, offset_in, sample_in};

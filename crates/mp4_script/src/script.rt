@@ -2,8 +2,8 @@
 
 ghost use Rattle.std.specs.Prelude.{◌≡◌, [], ◌∷◌, Ok, IfOk, Some};
 ghost use Rattle.std.specs.List.{AllByRecursion};
-ghost use Rattle.mp4_codec.specs.Cause.{Answers};
-ghost use Rattle.mp4_mux.specs.Calls.{IsInRangeCall};
+ghost use Rattle.mp4_media.specs.Cause.{Answers};
+ghost use Rattle.mp4_media.specs.Calls.{IsInRangeCall};
 ghost use Rattle.mp4_media.specs.WriterCalls.{call_of};
 ghost use Rattle.mp4_script.specs.declared.script.ScriptFault.TheVariants.{Refused};
 ghost use Rattle.mp4_script.specs.Lines.{lines_of};

@@ -1,6 +1,6 @@
 use Rattle.std.proofs.Common.{◌≡◌, sym, ap, ◌∙◌, Some}
 use Rattle.mp4_codec.specs.Steps.{ok_is}
-use Rattle.mp4_mux.specs.Calls.{Call}
+use Rattle.mp4_media.specs.Calls.{Call}
 use Rattle.mp4_media.specs.WriterCalls.{call_of}
 use Rattle.mp4_script.specs.Commands.{command_call, command_in}
 use Rattle.mp4_script.proofs.Scripted.{no_calls, its_answer, its_call}

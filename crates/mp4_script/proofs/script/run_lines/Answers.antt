@@ -1,7 +1,7 @@
 use Rattle.std.proofs.Common.{◌≡◌, ◌+◌, ◌<◌, ◌^◌, ◌≤◌, length, take, drop, ◌++◌, ◌∷◌, [], List, ℕ, rules, refl, sym, ap}
 use Rattle.std.proofs.Common.{subst, ◌∙◌, arith}
 use Rattle.std.specs.List.{AllByRecursion}
-use Rattle.mp4_mux.specs.Calls.{IsInRangeCall}
+use Rattle.mp4_media.specs.Calls.{IsInRangeCall}
 use Rattle.std.proofs.lemmas.List.{take_all, length-drop}
 use Rattle.mp4_mux.proofs.EndedStates.{all-append}
 use Rattle.mp4_script.specs.Lines.{lines_of, lines_left}

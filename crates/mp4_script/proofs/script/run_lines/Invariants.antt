@@ -1,6 +1,6 @@
 use Rattle.std.proofs.Common.{◌≡◌, ◌+◌, length, take, drop, Ok}
 use Rattle.std.specs.List.{AllByRecursion}
-use Rattle.mp4_mux.specs.Calls.{IsInRangeCall}
+use Rattle.mp4_media.specs.Calls.{IsInRangeCall}
 use Rattle.mp4_script.specs.Lines.{lines_of, lines_left}
 use Rattle.mp4_script.specs.Script.{calls_in, run_from}
 use Rattle.mp4_script.proofs.script.run_lines.Given as goal

@@ -1,6 +1,6 @@
 use Rattle.std.proofs.Common.{◌≡◌, List, Ok, refl, sym, ap, subst, ◌∙◌, rules, arith}
-use Rattle.mp4_mux.specs.Writing.{WriterState, AcceptedTrack, end_cause, whole_of}
-use Rattle.mp4_mux.specs.Calls.{writer_of}
+use Rattle.mp4_media.specs.Writing.{WriterState, AcceptedTrack, end_cause, whole_of}
+use Rattle.mp4_media.specs.Calls.{writer_of}
 use Rattle.mp4_media.specs.Finished.{Opens}
 use Rattle.mp4_media.specs.RoundTrip.{HasExactly, OpensAs}
 use Rattle.mp4_script.specs.Script.{standard_writer, run_all}
