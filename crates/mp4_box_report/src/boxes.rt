@@ -1,13 +1,10 @@
 //! The boxes of a file, with their places, their sizes and their fields.
 
-use crate::fields::leaf::{fields_of, has_fields};
-use crate::fields::list::Listing;
-use crate::fields::value::Field;
-use crate::human::{Code, Grouped, grouped_length};
-use crate::reason::reason_text;
 use crate::walk::{BrokenPlace, FoundBox, Step, Walk};
 use mp4_codec::{BoxType, Error, FourCC};
 use mp4_faults::{reads_child, refusal_of};
+use mp4_fields::{Field, Listing, fields_of, has_fields};
+use mp4_readable::{Code, Grouped, grouped_length, reason_text};
 use mp4_source::{ByteSource, FileError};
 use serde::{Described, Serialize, Serializer};
 use std::alloc::{AllocError, Global};
