@@ -155,6 +155,23 @@ fn report_of_break(alloc: Global, broken: BrokenPlace) -> Result<BoxReport, Allo
     })
 }
 
+/// Adds what is said of the boxes that a walk comes to, up to its end.
+fn add_reports<S: ByteSource + Drop>(
+    walk: &mut Walk<S>,
+    listing: Listing,
+    boxes: &mut Vec<BoxReport>,
+) -> Result<(), FileError> {
+    for _ in 0..u64::MAX {
+        let report = match walk.next_step()? {
+            None => break,
+            Some(Step::Box(found)) => report_of_box(walk, listing, found)?,
+            Some(Step::Broken(broken)) => report_of_break(listing.alloc, broken)?,
+        };
+        boxes.push(report)?;
+    }
+    Ok(())
+}
+
 /// The boxes of a source, also where it is no file that opens: a box that is refused is listed with its reason, and
 /// what follows it too.
 ///
@@ -176,14 +193,7 @@ pub fn boxes_of<S: ByteSource + Drop>(
     let mut walk = Walk::new(alloc, source, request.depth.unwrap_or(u32::MAX))?;
     let file_size = walk.source_len()?;
     let mut boxes = Vec::new(alloc);
-    for _ in 0..u64::MAX {
-        let report = match walk.next_step()? {
-            None => break,
-            Some(Step::Box(found)) => report_of_box(&mut walk, listing, found)?,
-            Some(Step::Broken(broken)) => report_of_break(alloc, broken)?,
-        };
-        boxes.push(report)?;
-    }
+    add_reports(&mut walk, listing, &mut boxes)?;
     Ok(BoxesReport { file_size, boxes })
 }
 

@@ -24,6 +24,33 @@ fn id_in<S: ByteSource + Drop>(
     }
 }
 
+/// Adds the types of the first sample entries that a walk comes to, up to its end.
+fn add_codes<S: ByteSource + Drop>(
+    alloc: Global,
+    walk: &mut Walk<S>,
+    codes: &mut HashMap<u32, FourCC>,
+) -> Result<(), FileError> {
+    let mut track_id = 0;
+    let mut is_first = false;
+    for _ in 0..u64::MAX {
+        let found = match walk.next_step()? {
+            None => break,
+            Some(Step::Broken(_)) => continue,
+            Some(Step::Box(found)) => found,
+        };
+        match found.name {
+            BoxType::TkhdBox => track_id = id_in(alloc, walk, &found)?,
+            BoxType::StsdBox => is_first = true,
+            name if found.depth == u64::from(DEPTH) && is_first => {
+                is_first = false;
+                codes.insert(track_id, FourCC::from(name))?;
+            }
+            _ => {}
+        }
+    }
+    Ok(())
+}
+
 /// The types of the first sample entries of the tracks of a source, by the tracks' ids: of several tracks of an id that
 /// of the last.
 ///
@@ -34,23 +61,6 @@ pub fn entry_codes_of<S: ByteSource + Drop>(
 ) -> Result<HashMap<u32, FourCC>, FileError> {
     let mut walk = Walk::new(alloc, source, DEPTH)?;
     let mut codes = HashMap::new(alloc);
-    let mut track_id = 0;
-    let mut is_first = false;
-    for _ in 0..u64::MAX {
-        let found = match walk.next_step()? {
-            None => break,
-            Some(Step::Broken(_)) => continue,
-            Some(Step::Box(found)) => found,
-        };
-        match found.name {
-            BoxType::TkhdBox => track_id = id_in(alloc, &mut walk, &found)?,
-            BoxType::StsdBox => is_first = true,
-            name if found.depth == u64::from(DEPTH) && is_first => {
-                is_first = false;
-                codes.insert(track_id, FourCC::from(name))?;
-            }
-            _ => {}
-        }
-    }
+    add_codes(alloc, &mut walk, &mut codes)?;
     Ok(codes)
 }
