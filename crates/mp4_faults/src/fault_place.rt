@@ -18,7 +18,7 @@ impl DebugItem for PathStep {}
 impl PathStep {
     /// Whether the number is written: it is for types of which a container usually holds several, and for
     /// another type where the box isn't the first.
-    fn is_numbered(&self) -> bool {
+    pub fn is_numbered(&self) -> bool {
         match self.name {
             BoxType::TrakBox | BoxType::TrexBox => true,
             BoxType::MoofBox | BoxType::TrafBox | BoxType::TrunBox | BoxType::EmsgBox => true,

@@ -1,8 +1,9 @@
 //! Why a command gives no report.
 
+use mp4_box_report::WhyReport;
 use mp4_extract::ExtractError;
 use mp4_media::{Error, FileError};
-use mp4_report::{Reason, WhyReport};
+use mp4_readable::Reason;
 use std::io;
 use std::io::ErrorKind;
 use thiserror::Error as ThisError;

@@ -1,6 +1,6 @@
 //! How far a long run is.
 
-use mp4_report::Grouped;
+use mp4_readable::Grouped;
 use std::rt::Clock;
 use std::time::Instant;
 

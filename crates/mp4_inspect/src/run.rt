@@ -5,11 +5,10 @@ use crate::extract::{subtitle_text, write_samples};
 use crate::faults::Fault;
 use crate::files::{is_regular, open, read_all};
 use crate::progress::Progress;
+use mp4_box_report::{BoxesRequest, boxes_of, entry_codes_of, why_of};
 use mp4_media::{ByteSource, Error, Mp4File, SeekSource};
-use mp4_report::{
-    BoxesRequest, SamplesRequest, boxes_of, cover_of, entry_codes_of, json_text, metadata_of,
-    samples_of, tracks_of, why_of,
-};
+use mp4_readable::json_text;
+use mp4_report::{SamplesRequest, cover_of, metadata_of, samples_of, tracks_of};
 use serde::Serialize;
 use std::alloc::{AllocError, Global};
 use std::fmt::Display;
@@ -74,7 +73,7 @@ fn tracks<S: ByteSource + Drop>(alloc: Global, source: S, json: bool) -> Result<
     let mut source = source;
     let codes = entry_codes_of(alloc, &mut source)?;
     let movie = open_movie(alloc, source)?;
-    let report = tracks_of(alloc, &*movie, codes.as_slice()).map_err(Error::from)?;
+    let report = tracks_of(alloc, &*movie, &codes).map_err(Error::from)?;
     printed(alloc, &report, json)
 }
 

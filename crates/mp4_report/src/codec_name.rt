@@ -1,8 +1,11 @@
 //! The names of codecs for a MIME type's `codecs` (RFC 6381).
 
-use crate::human::Code;
+ghost use Rattle.std.specs.Prelude.{◌≡◌, ◌<◌, IfNone, IfSome, length};
+ghost use Rattle.mp4_report.specs.CodecNames.{IsHevcName, sound_name};
+
 use mp4_codec::FourCC;
-use mp4_entry::{Avc1Box, Hev1Box, Mp4aBox, StsdBox, Vp09Box};
+use mp4_entry::{Avc1Box, DecoderConfigDescriptor, Hev1Box, Mp4aBox, StsdBox, Vp09Box};
+use mp4_readable::Code;
 use serde::{Described, Serialize, Serializer};
 use std::fmt;
 use std::fmt::Write;
@@ -42,15 +45,18 @@ pub enum CodecName {
 }
 
 /// The name of a configuration of HEVC; None where it is cut.
-fn hevc_name(config: &[u8]) -> Option<HevcName> {
+fn hevc_name(config: &[u8]) -> Option<HevcName>
+    ensures name { IfSome result (λ name. IsHevcName config.now name) }
+    ensures cut { IfNone result (length config.now < 13) }
+{
     let [_version, general, a, b, c, d, k, l, m, n, o, p, level, ..] = config else {
         return None;
     };
     Some(HevcName {
-        profile_space: *general >> 6,
-        profile: *general & 0x1f,
+        profile_space: *general / 64,
+        profile: *general % 32,
         compatibility: u32::from_be_bytes([*a, *b, *c, *d]),
-        is_high_tier: *general & 0x20 != 0,
+        is_high_tier: *general / 32 % 2 == 1,
         level: *level,
         constraints: [*k, *l, *m, *n, *o, *p],
     })
@@ -78,15 +84,22 @@ fn name_of_vp09(entry: &Vp09Box) -> CodecName {
     }
 }
 
-fn name_of_mp4a(entry: &Mp4aBox) -> CodecName {
-    let Some(esds) = &entry.esds else {
-        return CodecName::Entry(FourCC::from(*b"mp4a"));
-    };
-    let decoder = esds.es_desc.dec_config;
+/// The name of sound that is decoded so.
+#[tactic(auto, unfolding(crate::specs::CodecNames::sound_name))]
+fn sound_name(decoder: DecoderConfigDescriptor) -> CodecName
+    ensures { result ≡ sound_name decoder }
+{
     if decoder.object_type_indication == MPEG4_AUDIO {
         CodecName::Mpeg4Audio(decoder.dec_specific.profile)
     } else {
         CodecName::OtherAudio(decoder.object_type_indication)
+    }
+}
+
+fn name_of_mp4a(entry: &Mp4aBox) -> CodecName {
+    match &entry.esds {
+        Some(esds) => sound_name(esds.es_desc.dec_config),
+        None => CodecName::Entry(FourCC::from(*b"mp4a")),
     }
 }
 

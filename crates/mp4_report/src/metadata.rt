@@ -1,9 +1,9 @@
 //! What a file says of the work that it holds: title, year, summary and picture.
 
-use crate::human::{Grouped, Visible};
 use mp4_codec::Result;
 use mp4_media::Movie;
 use mp4_meta::{IlstBox, Metadata};
+use mp4_readable::{Grouped, Visible};
 use serde::Serialize;
 use std::alloc::Global;
 use std::borrow::CowStr;

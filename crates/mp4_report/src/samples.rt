@@ -1,10 +1,10 @@
 //! The samples of a track: where they lie, and when they are decoded and shown.
 
-use crate::human::{Clock, Grouped, Thousandths, grouped_length, milliseconds_of};
-use crate::reason::reason_text;
+use crate::milliseconds::{milliseconds_of, ticks_at};
 use mp4_codec::{Error, Result};
 use mp4_lookup::Mp4Track;
 use mp4_media::Movie;
+use mp4_readable::{Clock, Grouped, Thousandths, grouped_length, reason_text};
 use mp4_samples::Place;
 use serde::Serialize;
 use std::alloc::{AllocError, Global};
@@ -53,38 +53,6 @@ pub struct SamplesReport {
     pub samples: Vec<SampleReport>,
     /// Why the sample after the last that is listed can't be found, where that is so.
     pub refused: Option<String>,
-}
-
-/// The thousandths that decimals say: those past the third count nothing. `None` for anything but digits.
-fn thousandths_in(decimals: &str) -> Option<u64> {
-    let mut thousandths = 0u64;
-    let mut unit = 100u64;
-    for byte in decimals.bytes() {
-        if !byte.is_ascii_digit() {
-            return None;
-        }
-        thousandths = thousandths.saturating_add(unit.saturating_mul(u64::from(byte & 0xf)));
-        unit /= 10;
-    }
-    Some(thousandths)
-}
-
-/// The milliseconds that a decimal number of seconds says, as 12500 for `12.5`; `None` for another text, and past 64
-/// bits.
-pub fn milliseconds_in(seconds: &str) -> Option<u64> {
-    let (whole, decimals) = seconds.split_once('.').unwrap_or((seconds, ""));
-    let Ok(whole) = whole.parse::<u64>() else {
-        return None;
-    };
-    whole
-        .checked_mul(1000)?
-        .checked_add(thousandths_in(decimals)?)
-}
-
-/// So many milliseconds in ticks, rounded down; the most that 64 bits hold where it passes them.
-fn ticks_at(milliseconds: u64, timescale: u32) -> u64 {
-    let ticks = u128::from(milliseconds).saturating_mul(u128::from(timescale)) / 1000;
-    u64::try_from(ticks).unwrap_or(u64::MAX)
 }
 
 /// The number of the first sample that is listed: 1 where no sample is decoded so early.

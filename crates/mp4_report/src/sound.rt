@@ -1,8 +1,8 @@
 //! What a sample entry says of sound.
 
 use crate::codec_name::MPEG4_AUDIO;
-use crate::human::Grouped;
 use mp4_entry::{ChannelConfig, Mp4aBox, SampleFreqIndex};
+use mp4_readable::Grouped;
 use serde::Serialize;
 use std::fmt;
 use std::fmt::Write;

@@ -1,15 +1,18 @@
 //! What the tracks of a file are.
 
 use crate::codec_name::{CodecName, codec_name_of};
-use crate::human::{Clock, Code, Grouped, Thousandths, Visible, milliseconds_of};
+use crate::milliseconds::milliseconds_of;
+use crate::rate::{rate_of, thousandths_rate_of};
 use crate::sound::Sound;
 use crate::summary::{SampleSummary, summary_of};
 use mp4_codec::FourCC;
 use mp4_entry::StsdBox;
 use mp4_lookup::Mp4Track;
 use mp4_media::Movie;
+use mp4_readable::{Clock, Code, Grouped, Thousandths, Visible};
 use serde::{Described, Serialize, Serializer};
 use std::alloc::{AllocError, Global};
+use std::collections::HashMap;
 use std::fmt;
 use std::fmt::Write;
 
@@ -72,13 +75,6 @@ pub struct TracksReport {
     pub tracks: Vec<TrackReport>,
 }
 
-/// The first sample entry of a track, by the track's id.
-#[derive(Clone, Copy, Debug, PartialEq, Eq)]
-pub struct EntryCode {
-    pub track_id: u32,
-    pub code: FourCC,
-}
-
 fn kind_of(track: &Mp4Track) -> TrackKind {
     let handler = track.trak.mdia.hdlr.handler_type;
     match &handler.value {
@@ -129,38 +125,11 @@ fn ticks_of(track: &Mp4Track) -> Option<u64> {
     }
 }
 
-/// So many of something in a second, if they are spread over these ticks, rounded down.
-fn rate_of(number: u64, ticks: Option<u64>, timescale: u32) -> Option<u64> {
-    let ticks = u128::from(ticks?);
-    if ticks == 0 {
-        return None;
-    }
-    let all = u128::from(number).saturating_mul(u128::from(timescale));
-    u64::try_from(all / ticks).ok()
-}
-
-/// Pictures in a second, to the nearest thousandth.
-fn frame_rate_of(count: u64, ticks: Option<u64>, timescale: u32) -> Option<Thousandths> {
-    let halves = rate_of(count.saturating_mul(2000), ticks, timescale)?;
-    Some(Thousandths(halves.saturating_add(1) / 2))
-}
-
-/// The code of the sample entry of the track with this id.
-fn entry_code_of(codes: &[EntryCode], track_id: u32) -> Option<FourCC> {
-    let mut found = None;
-    for entry in codes {
-        if entry.track_id == track_id {
-            found = Some(entry.code);
-        }
-    }
-    found
-}
-
 /// The name of the codec of a track.
-fn codec_of(stsd: &StsdBox, codes: &[EntryCode], track_id: u32) -> Option<CodecName> {
+fn codec_of(stsd: &StsdBox, codes: &HashMap<u32, FourCC>, track_id: u32) -> Option<CodecName> {
     match codec_name_of(stsd) {
         Some(name) => Some(name),
-        None => entry_code_of(codes, track_id).map(CodecName::Entry),
+        None => codes.get(&track_id).copied().map(CodecName::Entry),
     }
 }
 
@@ -180,14 +149,14 @@ fn report_of(
     id: u32,
     track: &Mp4Track,
     summary: SampleSummary,
-    codes: &[EntryCode],
+    codes: &HashMap<u32, FourCC>,
 ) -> Result<TrackReport, AllocError> {
     let kind = kind_of(track);
     let is_video = kind == TrackKind::Video;
     let timescale = track.timescale();
     let ticks = ticks_of(track);
     let stsd = &track.trak.mdia.minf.stbl.stsd;
-    let frame_rate = frame_rate_of(summary.count, ticks, timescale);
+    let spread = ticks.unwrap_or(0);
     let language = String::from_str(alloc, track.language())?;
     Ok(TrackReport {
         id,
@@ -198,9 +167,13 @@ fn report_of(
         } else {
             None
         },
-        frame_rate: if is_video { frame_rate } else { None },
+        frame_rate: if is_video {
+            thousandths_rate_of(summary.count, spread, timescale).map(Thousandths)
+        } else {
+            None
+        },
         sound: stsd.mp4a.as_ref().map(Sound::of),
-        bit_rate: rate_of(summary.bytes.saturating_mul(8), ticks, timescale),
+        bit_rate: rate_of(summary.bytes.saturating_mul(8), spread, timescale),
         language,
         timescale,
         duration_ms: ticks.and_then(|ticks| milliseconds_of(ticks, timescale)),
@@ -227,11 +200,12 @@ fn track_ids(alloc: Global, movie: &Movie) -> Result<Vec<u32>, AllocError> {
     Ok(ids)
 }
 
-/// What the tracks of a movie are; `codes` has the sample entries of those whose entry the library doesn't read.
+/// What the tracks of a movie are; `codes` has the types of their sample entries, by their ids, for tracks whose entry
+/// the library doesn't read.
 pub fn tracks_of(
     alloc: Global,
     movie: &Movie,
-    codes: &[EntryCode],
+    codes: &HashMap<u32, FourCC>,
 ) -> Result<TracksReport, AllocError> {
     let mut tracks = Vec::new(alloc);
     for id in track_ids(alloc, movie)?.iter() {

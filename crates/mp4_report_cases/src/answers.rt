@@ -1,10 +1,9 @@
 //! What the reports of a file answer to questions.
 
+use mp4_box_report::{BoxesRequest, boxes_of, entry_codes_of, why_of};
 use mp4_media::{Error, FileError, Mp4File};
-use mp4_report::{
-    BoxesRequest, First, Grouped, SamplesRequest, boxes_of, entry_codes_of, json_text, metadata_of,
-    milliseconds_in, samples_of, tracks_of, why_of,
-};
+use mp4_readable::{Grouped, json_text};
+use mp4_report::{First, SamplesRequest, metadata_of, milliseconds_in, samples_of, tracks_of};
 use serde::Serialize;
 use std::alloc::Global;
 use std::fmt::Display;
@@ -44,7 +43,7 @@ fn boxes(alloc: Global, bytes: &[u8], depth: Option<u32>, all: bool, form: &str)
 fn tracks(alloc: Global, bytes: &[u8], form: &str) -> Answer {
     let codes = entry_codes_of(alloc, bytes)?;
     let movie = opened(alloc, bytes)?;
-    printed(alloc, &tracks_of(alloc, &*movie, codes.as_slice())?, form)
+    printed(alloc, &tracks_of(alloc, &*movie, &codes)?, form)
 }
 
 fn metadata(alloc: Global, bytes: &[u8], form: &str) -> Answer {

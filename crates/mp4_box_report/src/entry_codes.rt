@@ -1,11 +1,11 @@
 //! The types of the sample entries of a file's tracks, also of those that the library doesn't read.
 
-use crate::tracks::EntryCode;
 use crate::walk::{FoundBox, Step, Walk};
 use mp4_codec::{BoxType, Error, FourCC, ReadBox};
 use mp4_leaf::TkhdBox;
 use mp4_source::{ByteSource, FileError};
 use std::alloc::Global;
+use std::collections::HashMap;
 
 /// The depth of a track's first sample entry: moov/trak/mdia/minf/stbl/stsd.
 const DEPTH: u32 = 7;
@@ -24,15 +24,12 @@ fn id_in<S: ByteSource + Drop>(
     }
 }
 
-/// The types of the first sample entries of the tracks of a source, by the tracks' ids, in file order.
-///
-/// `Io` where the source refuses a read; else refused by `OutOfMemory` alone.
-pub fn entry_codes_of<S: ByteSource + Drop>(
+/// Adds the types of the first sample entries that a walk comes to, up to its end.
+fn add_codes<S: ByteSource + Drop>(
     alloc: Global,
-    source: S,
-) -> Result<Vec<EntryCode>, FileError> {
-    let mut walk = Walk::new(alloc, source, DEPTH)?;
-    let mut codes = Vec::new(alloc);
+    walk: &mut Walk<S>,
+    codes: &mut HashMap<u32, FourCC>,
+) -> Result<(), FileError> {
     let mut track_id = 0;
     let mut is_first = false;
     for _ in 0..u64::MAX {
@@ -42,17 +39,28 @@ pub fn entry_codes_of<S: ByteSource + Drop>(
             Some(Step::Box(found)) => found,
         };
         match found.name {
-            BoxType::TkhdBox => track_id = id_in(alloc, &mut walk, &found)?,
+            BoxType::TkhdBox => track_id = id_in(alloc, walk, &found)?,
             BoxType::StsdBox => is_first = true,
             name if found.depth == u64::from(DEPTH) && is_first => {
                 is_first = false;
-                codes.push(EntryCode {
-                    track_id,
-                    code: FourCC::from(name),
-                })?;
+                codes.insert(track_id, FourCC::from(name))?;
             }
             _ => {}
         }
     }
+    Ok(())
+}
+
+/// The types of the first sample entries of the tracks of a source, by the tracks' ids: of several tracks of an id that
+/// of the last.
+///
+/// `Io` where the source refuses a read; else refused by `OutOfMemory` alone.
+pub fn entry_codes_of<S: ByteSource + Drop>(
+    alloc: Global,
+    source: S,
+) -> Result<HashMap<u32, FourCC>, FileError> {
+    let mut walk = Walk::new(alloc, source, DEPTH)?;
+    let mut codes = HashMap::new(alloc);
+    add_codes(alloc, &mut walk, &mut codes)?;
     Ok(codes)
 }

@@ -1,9 +1,8 @@
 //! Why a file doesn't open, in one sentence.
 
-use crate::human::Grouped;
-use crate::reason::Reason;
 use mp4_codec::{BoxHeader, BoxType, ByteCursor, Error};
 use mp4_faults::{FaultPlace, first_fault_of};
+use mp4_readable::{Grouped, Reason};
 use mp4_source::{ByteSource, FileError, read_into};
 use std::alloc::Global;
 use std::fmt;

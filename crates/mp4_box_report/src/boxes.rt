@@ -1,13 +1,10 @@
 //! The boxes of a file, with their places, their sizes and their fields.
 
-use crate::fields::leaf::{fields_of, has_fields};
-use crate::fields::list::Listing;
-use crate::fields::value::Field;
-use crate::human::{Code, Grouped, grouped_length};
-use crate::reason::reason_text;
 use crate::walk::{BrokenPlace, FoundBox, Step, Walk};
 use mp4_codec::{BoxType, Error, FourCC};
 use mp4_faults::{reads_child, refusal_of};
+use mp4_fields::{Field, Listing, fields_of, has_fields};
+use mp4_readable::{Code, Grouped, grouped_length, reason_text};
 use mp4_source::{ByteSource, FileError};
 use serde::{Described, Serialize, Serializer};
 use std::alloc::{AllocError, Global};
@@ -158,6 +155,23 @@ fn report_of_break(alloc: Global, broken: BrokenPlace) -> Result<BoxReport, Allo
     })
 }
 
+/// Adds what is said of the boxes that a walk comes to, up to its end.
+fn add_reports<S: ByteSource + Drop>(
+    walk: &mut Walk<S>,
+    listing: Listing,
+    boxes: &mut Vec<BoxReport>,
+) -> Result<(), FileError> {
+    for _ in 0..u64::MAX {
+        let report = match walk.next_step()? {
+            None => break,
+            Some(Step::Box(found)) => report_of_box(walk, listing, found)?,
+            Some(Step::Broken(broken)) => report_of_break(listing.alloc, broken)?,
+        };
+        boxes.push(report)?;
+    }
+    Ok(())
+}
+
 /// The boxes of a source, also where it is no file that opens: a box that is refused is listed with its reason, and
 /// what follows it too.
 ///
@@ -179,14 +193,7 @@ pub fn boxes_of<S: ByteSource + Drop>(
     let mut walk = Walk::new(alloc, source, request.depth.unwrap_or(u32::MAX))?;
     let file_size = walk.source_len()?;
     let mut boxes = Vec::new(alloc);
-    for _ in 0..u64::MAX {
-        let report = match walk.next_step()? {
-            None => break,
-            Some(Step::Box(found)) => report_of_box(&mut walk, listing, found)?,
-            Some(Step::Broken(broken)) => report_of_break(alloc, broken)?,
-        };
-        boxes.push(report)?;
-    }
+    add_reports(&mut walk, listing, &mut boxes)?;
     Ok(BoxesReport { file_size, boxes })
 }
 

@@ -1,8 +1,8 @@
 //! The fields of sample tables (ISO/IEC 14496-12, 8.6 and 8.7).
 
-use crate::fields::leaf::LeafFields;
-use crate::fields::list::FieldList;
-use crate::fields::value::TableRow;
+use crate::leaf::LeafFields;
+use crate::list::FieldList;
+use crate::value::TableRow;
 use mp4_table::{
     Co64Box, CttsBox, CttsEntry, StcoBox, StscBox, StscEntry, StssBox, StszBox, SttsBox, SttsEntry,
 };
@@ -50,8 +50,7 @@ impl TableRow for StscEntry {
 impl LeafFields for SttsBox {
     fn fields(&self, fields: FieldList) -> FieldList {
         fields
-            .number("version", u64::from(self.version))
-            .flags("flags", self.flags)
+            .version_and_flags(self.version, self.flags)
             .rows("entries", self.entries.as_slice())
     }
 }
@@ -59,8 +58,7 @@ impl LeafFields for SttsBox {
 impl LeafFields for CttsBox {
     fn fields(&self, fields: FieldList) -> FieldList {
         fields
-            .number("version", u64::from(self.version))
-            .flags("flags", self.flags)
+            .version_and_flags(self.version, self.flags)
             .rows("entries", self.entries.as_slice())
     }
 }
@@ -68,8 +66,7 @@ impl LeafFields for CttsBox {
 impl LeafFields for StscBox {
     fn fields(&self, fields: FieldList) -> FieldList {
         fields
-            .number("version", u64::from(self.version))
-            .flags("flags", self.flags)
+            .version_and_flags(self.version, self.flags)
             .rows("entries", self.entries.as_slice())
     }
 }
@@ -77,8 +74,7 @@ impl LeafFields for StscBox {
 impl LeafFields for StcoBox {
     fn fields(&self, fields: FieldList) -> FieldList {
         fields
-            .number("version", u64::from(self.version))
-            .flags("flags", self.flags)
+            .version_and_flags(self.version, self.flags)
             .numbers("entries", self.entries.as_slice())
     }
 }
@@ -86,8 +82,7 @@ impl LeafFields for StcoBox {
 impl LeafFields for Co64Box {
     fn fields(&self, fields: FieldList) -> FieldList {
         fields
-            .number("version", u64::from(self.version))
-            .flags("flags", self.flags)
+            .version_and_flags(self.version, self.flags)
             .numbers("entries", self.entries.as_slice())
     }
 }
@@ -95,8 +90,7 @@ impl LeafFields for Co64Box {
 impl LeafFields for StssBox {
     fn fields(&self, fields: FieldList) -> FieldList {
         fields
-            .number("version", u64::from(self.version))
-            .flags("flags", self.flags)
+            .version_and_flags(self.version, self.flags)
             .numbers("entries", self.entries.as_slice())
     }
 }
@@ -104,10 +98,9 @@ impl LeafFields for StssBox {
 impl LeafFields for StszBox {
     fn fields(&self, fields: FieldList) -> FieldList {
         fields
-            .number("version", u64::from(self.version))
-            .flags("flags", self.flags)
-            .number("sample_size", u64::from(self.sample_size))
-            .number("sample_count", u64::from(self.sample_count))
+            .version_and_flags(self.version, self.flags)
+            .number("sample_size", self.sample_size)
+            .number("sample_count", self.sample_count)
             .numbers("sample_sizes", self.sample_sizes.as_slice())
     }
 }

@@ -1,17 +1,11 @@
 //! The fields of headers: ftyp, mvhd, tkhd, mdhd, hdlr, vmhd, smhd and elst.
 
-use crate::fields::leaf::LeafFields;
-use crate::fields::list::FieldList;
-use crate::fields::value::TableRow;
-use mp4_codec::FixedPointU16;
+use crate::leaf::LeafFields;
+use crate::list::FieldList;
+use crate::value::TableRow;
 use mp4_leaf::{
     ElstBox, ElstEntry, FtypBox, HdlrBox, Matrix, MdhdBox, MvhdBox, SmhdBox, TkhdBox, VmhdBox,
 };
-
-/// A number of 16.16 bits.
-fn fixed_16(value: FixedPointU16) -> f64 {
-    f64::from(value.raw_value()) / 65536.0
-}
 
 /// A signed number of 16.16 bits, which is so many 65536ths.
 fn signed_16(raw: i32) -> f64 {
@@ -42,7 +36,7 @@ impl LeafFields for FtypBox {
     fn fields(&self, fields: FieldList) -> FieldList {
         fields
             .code("major_brand", self.major_brand)
-            .number("minor_version", u64::from(self.minor_version))
+            .number("minor_version", self.minor_version)
             .codes("compatible_brands", self.compatible_brands.as_slice())
     }
 }
@@ -50,45 +44,39 @@ impl LeafFields for FtypBox {
 impl LeafFields for MvhdBox {
     fn fields(&self, fields: FieldList) -> FieldList {
         fields
-            .number("version", u64::from(self.version))
-            .flags("flags", self.flags)
-            .time("creation_time", self.creation_time)
-            .time("modification_time", self.modification_time)
-            .number("timescale", u64::from(self.timescale))
+            .version_and_flags(self.version, self.flags)
+            .header_times(self.creation_time, self.modification_time)
+            .number("timescale", self.timescale)
             .number("duration", self.duration)
-            .fixed("rate", fixed_16(self.rate))
-            .fixed("volume", f64::from(self.volume.raw_value()) / 256.0)
+            .fixed_16("rate", self.rate)
+            .fixed_8("volume", self.volume)
             .all_fixed("matrix", &numbers_of(self.matrix))
-            .number("next_track_id", u64::from(self.next_track_id))
+            .number("next_track_id", self.next_track_id)
     }
 }
 
 impl LeafFields for TkhdBox {
     fn fields(&self, fields: FieldList) -> FieldList {
         fields
-            .number("version", u64::from(self.version))
-            .flags("flags", self.flags)
-            .time("creation_time", self.creation_time)
-            .time("modification_time", self.modification_time)
-            .number("track_id", u64::from(self.track_id))
+            .version_and_flags(self.version, self.flags)
+            .header_times(self.creation_time, self.modification_time)
+            .number("track_id", self.track_id)
             .number("duration", self.duration)
-            .number("layer", u64::from(self.layer))
-            .number("alternate_group", u64::from(self.alternate_group))
-            .fixed("volume", f64::from(self.volume.raw_value()) / 256.0)
+            .number("layer", self.layer)
+            .number("alternate_group", self.alternate_group)
+            .fixed_8("volume", self.volume)
             .all_fixed("matrix", &numbers_of(self.matrix))
-            .fixed("width", fixed_16(self.width))
-            .fixed("height", fixed_16(self.height))
+            .fixed_16("width", self.width)
+            .fixed_16("height", self.height)
     }
 }
 
 impl LeafFields for MdhdBox {
     fn fields(&self, fields: FieldList) -> FieldList {
         fields
-            .number("version", u64::from(self.version))
-            .flags("flags", self.flags)
-            .time("creation_time", self.creation_time)
-            .time("modification_time", self.modification_time)
-            .number("timescale", u64::from(self.timescale))
+            .version_and_flags(self.version, self.flags)
+            .header_times(self.creation_time, self.modification_time)
+            .number("timescale", self.timescale)
             .number("duration", self.duration)
             .text("language", self.language.as_str().as_bytes())
     }
@@ -97,8 +85,7 @@ impl LeafFields for MdhdBox {
 impl LeafFields for HdlrBox {
     fn fields(&self, fields: FieldList) -> FieldList {
         fields
-            .number("version", u64::from(self.version))
-            .flags("flags", self.flags)
+            .version_and_flags(self.version, self.flags)
             .code("handler_type", self.handler_type)
             .text("name", self.name.as_slice())
     }
@@ -107,20 +94,18 @@ impl LeafFields for HdlrBox {
 impl LeafFields for VmhdBox {
     fn fields(&self, fields: FieldList) -> FieldList {
         fields
-            .number("version", u64::from(self.version))
-            .flags("flags", self.flags)
-            .number("graphics_mode", u64::from(self.graphics_mode))
-            .number("red", u64::from(self.op_color.red))
-            .number("green", u64::from(self.op_color.green))
-            .number("blue", u64::from(self.op_color.blue))
+            .version_and_flags(self.version, self.flags)
+            .number("graphics_mode", self.graphics_mode)
+            .number("red", self.op_color.red)
+            .number("green", self.op_color.green)
+            .number("blue", self.op_color.blue)
     }
 }
 
 impl LeafFields for SmhdBox {
     fn fields(&self, fields: FieldList) -> FieldList {
         fields
-            .number("version", u64::from(self.version))
-            .flags("flags", self.flags)
+            .version_and_flags(self.version, self.flags)
             .fixed("balance", f64::from(self.balance.raw_value()) / 256.0)
     }
 }
@@ -140,8 +125,7 @@ impl TableRow for ElstEntry {
 impl LeafFields for ElstBox {
     fn fields(&self, fields: FieldList) -> FieldList {
         fields
-            .number("version", u64::from(self.version))
-            .flags("flags", self.flags)
+            .version_and_flags(self.version, self.flags)
             .rows("entries", self.entries.as_slice())
     }
 }

@@ -1,8 +1,8 @@
 //! A walk over the boxes of a source in file order, those within containers too, which goes on after a fault.
 
-use crate::human::Code;
 use mp4_codec::{BoxHeader, BoxType, ByteCursor, Error, FourCC, HEADER_SIZE, OPEN_END};
-use mp4_faults::bytes_before_children;
+use mp4_faults::{PathStep, bytes_before_children};
+use mp4_readable::Code;
 use mp4_source::{ByteSource, FileError, Window, read_into};
 use std::alloc::{AllocError, Global};
 use std::collections::HashMap;
@@ -73,24 +73,15 @@ pub struct Walk<S: ByteSource> {
     room: Vec<u8>,
 }
 
-/// Whether a container holds several boxes of this type as a rule, so that their numbers are shown.
-fn is_numbered(name: BoxType) -> bool {
-    matches!(
-        name,
-        BoxType::TrakBox
-            | BoxType::MoofBox
-            | BoxType::TrafBox
-            | BoxType::TrunBox
-            | BoxType::EmsgBox
-            | BoxType::TrexBox
-    )
-}
-
 /// The path of the box of this type and number in a container.
 fn path_in(alloc: Global, parent: &str, name: BoxType, number: u32) -> Result<String, AllocError> {
+    let step = PathStep {
+        name,
+        number: u64::from(number),
+    };
     let code = Code(FourCC::from(name));
     let slash = if parent.is_empty() { "" } else { "/" };
-    if is_numbered(name) || number > 1 {
+    if step.is_numbered() {
         return format!(in alloc; "{parent}{slash}{code}[{number}]");
     }
     format!(in alloc; "{parent}{slash}{code}")

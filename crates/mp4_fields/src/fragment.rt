@@ -1,14 +1,13 @@
 //! The fields of the boxes of movie fragments (ISO/IEC 14496-12, 8.8), and of event messages.
 
-use crate::fields::leaf::LeafFields;
-use crate::fields::list::FieldList;
+use crate::leaf::LeafFields;
+use crate::list::FieldList;
 use mp4_frag::{EmsgBox, MehdBox, MfhdBox, TfdtBox, TfhdBox, TrexBox, TrunBox};
 
 impl LeafFields for MehdBox {
     fn fields(&self, fields: FieldList) -> FieldList {
         fields
-            .number("version", u64::from(self.version))
-            .flags("flags", self.flags)
+            .version_and_flags(self.version, self.flags)
             .number("fragment_duration", self.fragment_duration)
     }
 }
@@ -16,18 +15,14 @@ impl LeafFields for MehdBox {
 impl LeafFields for TrexBox {
     fn fields(&self, fields: FieldList) -> FieldList {
         fields
-            .number("version", u64::from(self.version))
-            .flags("flags", self.flags)
-            .number("track_id", u64::from(self.track_id))
+            .version_and_flags(self.version, self.flags)
+            .number("track_id", self.track_id)
             .number(
                 "default_sample_description_index",
-                u64::from(self.default_sample_description_index),
+                self.default_sample_description_index,
             )
-            .number(
-                "default_sample_duration",
-                u64::from(self.default_sample_duration),
-            )
-            .number("default_sample_size", u64::from(self.default_sample_size))
+            .number("default_sample_duration", self.default_sample_duration)
+            .number("default_sample_size", self.default_sample_size)
             .flags("default_sample_flags", self.default_sample_flags)
     }
 }
@@ -35,18 +30,16 @@ impl LeafFields for TrexBox {
 impl LeafFields for MfhdBox {
     fn fields(&self, fields: FieldList) -> FieldList {
         fields
-            .number("version", u64::from(self.version))
-            .flags("flags", self.flags)
-            .number("sequence_number", u64::from(self.sequence_number))
+            .version_and_flags(self.version, self.flags)
+            .number("sequence_number", self.sequence_number)
     }
 }
 
 impl LeafFields for TfhdBox {
     fn fields(&self, fields: FieldList) -> FieldList {
         fields
-            .number("version", u64::from(self.version))
-            .flags("flags", self.flags)
-            .number("track_id", u64::from(self.track_id))
+            .version_and_flags(self.version, self.flags)
+            .number("track_id", self.track_id)
             .optional("base_data_offset", self.base_data_offset)
             .optional("sample_description_index", self.sample_description_index)
             .optional("default_sample_duration", self.default_sample_duration)
@@ -58,8 +51,7 @@ impl LeafFields for TfhdBox {
 impl LeafFields for TfdtBox {
     fn fields(&self, fields: FieldList) -> FieldList {
         fields
-            .number("version", u64::from(self.version))
-            .flags("flags", self.flags)
+            .version_and_flags(self.version, self.flags)
             .number("base_media_decode_time", self.base_media_decode_time)
     }
 }
@@ -67,9 +59,8 @@ impl LeafFields for TfdtBox {
 impl LeafFields for TrunBox {
     fn fields(&self, fields: FieldList) -> FieldList {
         fields
-            .number("version", u64::from(self.version))
-            .flags("flags", self.flags)
-            .number("sample_count", u64::from(self.sample_count))
+            .version_and_flags(self.version, self.flags)
+            .number("sample_count", self.sample_count)
             .optional_signed("data_offset", self.data_offset)
             .optional_flags("first_sample_flags", self.first_sample_flags)
             .numbers("sample_durations", self.sample_durations.as_slice())
@@ -82,13 +73,12 @@ impl LeafFields for TrunBox {
 impl LeafFields for EmsgBox {
     fn fields(&self, fields: FieldList) -> FieldList {
         fields
-            .number("version", u64::from(self.version))
-            .flags("flags", self.flags)
-            .number("timescale", u64::from(self.timescale))
+            .version_and_flags(self.version, self.flags)
+            .number("timescale", self.timescale)
             .optional("presentation_time", self.presentation_time)
             .optional("presentation_time_delta", self.presentation_time_delta)
-            .number("event_duration", u64::from(self.event_duration))
-            .number("id", u64::from(self.id))
+            .number("event_duration", self.event_duration)
+            .number("id", self.id)
             .text("scheme_id_uri", self.scheme_id_uri.as_slice())
             .text("value", self.value.as_slice())
             .bytes("message_data", self.message_data.as_slice())

@@ -1,7 +1,7 @@
 //! What a field of a box holds, and how it is printed.
 
-use crate::human::{Code, Date, Grouped};
 use mp4_codec::FourCC;
+use mp4_readable::{Code, Date, Grouped};
 use serde::{Described, Serialize, Serializer};
 use std::alloc::{AllocError, Global};
 use std::fmt;

@@ -1,7 +1,7 @@
 //! The fields of a box, by its type and its payload.
 
-use crate::fields::list::{FieldList, Listing};
-use crate::fields::value::Field;
+use crate::list::{FieldList, Listing};
+use crate::value::Field;
 use mp4_codec::{BoxType, ReadBox, Result};
 use mp4_entry::{Avc1Box, AvcCBox, EsdsBox, Hev1Box, HvcCBox, Mp4aBox, Tx3gBox, Vp09Box, VpccBox};
 use mp4_frag::{EmsgBox, MehdBox, MfhdBox, TfdtBox, TfhdBox, TrexBox, TrunBox};

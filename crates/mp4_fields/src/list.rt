@@ -1,7 +1,7 @@
 //! Lists of fields, as they are put together.
 
-use crate::fields::value::{Field, List, Table, TableRow, Value};
-use mp4_codec::FourCC;
+use crate::value::{Field, List, Table, TableRow, Value};
+use mp4_codec::{FixedPointU8, FixedPointU16, FourCC};
 use std::alloc::{AllocError, Global};
 
 /// How much is kept of lists.
@@ -89,12 +89,22 @@ impl FieldList {
         }
     }
 
-    pub fn number(self, name: &'static str, value: u64) -> Self {
-        self.add(name, Ok(Value::Number(value)))
+    pub fn number<N: Into<u64> + Drop>(self, name: &'static str, value: N) -> Self {
+        self.add(name, Ok(Value::Number(value.into())))
     }
 
     pub fn fixed(self, name: &'static str, value: f64) -> Self {
         self.add(name, Ok(Value::Fixed(value)))
+    }
+
+    /// A number of 8.8 bits.
+    pub fn fixed_8(self, name: &'static str, value: FixedPointU8) -> Self {
+        self.fixed(name, f64::from(value.raw_value()) / 256.0)
+    }
+
+    /// A number of 16.16 bits.
+    pub fn fixed_16(self, name: &'static str, value: FixedPointU16) -> Self {
+        self.fixed(name, f64::from(value.raw_value()) / 65536.0)
     }
 
     /// Flags, which are shown in hex.
@@ -107,6 +117,17 @@ impl FieldList {
         self.add(name, Ok(Value::Time(value)))
     }
 
+    /// What each full box begins with (ISO/IEC 14496-12, 4.2).
+    pub fn version_and_flags(self, version: u8, flags: u32) -> Self {
+        self.number("version", version).flags("flags", flags)
+    }
+
+    /// The times that the headers of movies, tracks and media begin with (ISO/IEC 14496-12, 8.2.2).
+    pub fn header_times(self, creation: u64, modification: u64) -> Self {
+        self.time("creation_time", creation)
+            .time("modification_time", modification)
+    }
+
     pub fn code(self, name: &'static str, value: FourCC) -> Self {
         self.add(name, Ok(Value::Code(value)))
     }
@@ -114,7 +135,7 @@ impl FieldList {
     /// A number that may be missing.
     pub fn optional<N: Into<u64> + Drop>(self, name: &'static str, value: Option<N>) -> Self {
         match value {
-            Some(value) => self.number(name, value.into()),
+            Some(value) => self.number(name, value),
             None => self.add(name, Ok(Value::Missing)),
         }
     }
