@@ -1,6 +1,6 @@
 -- What a part of a writing is refused for.
-use Rattle.std.proofs.Common.{◌≡◌, ℕ, ◌<◌, List, [], length, take, get_or, Option, Some, None, Result, Ok, Err, refl, ap}
-use Rattle.std.proofs.Common.{◌∙◌, inl, inr, sym}
+use Rattle.std.proofs.Common.{◌≡◌, ℕ, ◌<◌, List, [], length, take, get_or, Option, Some, None, Result, Ok, Err}
+use Rattle.std.proofs.Common.{◌∙◌, inl, inr, refl, ap, sym}
 use Rattle.std.specs.Prelude.{IfErr}
 use Rattle.std.proofs.lemmas.Option.{slice_get-get_or}
 use Rattle.mp4_codec.specs.declared.error.Error.{Error}
@@ -83,8 +83,8 @@ at_end (Err f) begun ready st tracks source rows part index refused has whole sa
     (cause_of f.error) (λ r. end part index ready has whole (ap end_cause (sym same) ∙ r)) refused
 
 -- a part that is refused after the beginning is where the writing is refused
-pub after_beginning : {X : Type 0} (result : Result X Fault) (begun : WriterState) (movie : NewMovie) (brands : List Brand)
-    → (tracks : List NewTrack) (source : List ℕ) (rows : List SampleRow)
+pub after_beginning : {X : Type 0} (result : Result X Fault) (begun : WriterState) (movie : NewMovie)
+    → (brands : List Brand) (tracks : List NewTrack) (source : List ℕ) (rows : List SampleRow)
     → begun ≡ started [] (config_of movie brands)
     → IfErr result (λ f. OrNoMemory (IsRefusedPart begun tracks source rows f.part f.index) (cause_of f.error))
     → IfErr result (λ f. OrNoMemory (IsRefusal movie brands tracks source rows f.part f.index) (cause_of f.error))

@@ -28,7 +28,8 @@ pub rows_next : (source : List ℕ) (begun st new : WriterState) (rows : List Sa
     → new ≡ with_rows source begun (take (k + 1) rows)
 rows_next source begun st new rows k d here so_far next =
     let row = get_or rows k d in
-    let one : take (k + 1) rows ≡ take k rows ++ row ∷ [] = ap (λ n. take n rows) (add-one k) ∙ take-suc rows k d here in
+    let one : take (k + 1) rows ≡ take k rows ++ row ∷ [] =
+    ap (λ n. take n rows) (add-one k) ∙ take-suc rows k d here in
     next
     ∙ ap (λ w. with_sample w row.track_id (sample_in source row)) so_far
     ∙ sym (rows_last source begun (take k rows) row)
@@ -47,7 +48,8 @@ pub whole_next : (source : List ℕ) (rows : List SampleRow) (k : ℕ) (d : Samp
     → AreWhole source (take (k + 1) rows)
 whole_next source rows k d here so_far whole =
     let row = get_or rows k d in
-    let one : take (k + 1) rows ≡ take k rows ++ row ∷ [] = ap (λ n. take n rows) (add-one k) ∙ take-suc rows k d here in
+    let one : take (k + 1) rows ≡ take k rows ++ row ∷ [] =
+    ap (λ n. take n rows) (add-one k) ∙ take-suc rows k d here in
     rw one (all-push _ (take k rows) row so_far whole)
 
 pub all_whole : (source : List ℕ) (rows : List SampleRow) (k : ℕ) → length rows ≤ k

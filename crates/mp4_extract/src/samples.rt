@@ -72,8 +72,9 @@ impl SampleWriter {
     /// there isn't, nothing is written.
     ///
     /// `Sample` where the file's tables refuse the sample, as they do number 0 and each number of a track without
-    /// samples (`InvalidData`), where it doesn't lie whole in the file, and where it has no such form; `Read` where the source
-    /// refuses; then nothing is written. `Write` where the sink refuses, which may then hold a part of the sample.
+    /// samples (`InvalidData`), where it doesn't lie whole in the file, and where it has no such form; `Read` where
+    /// the source refuses; then nothing is written. `Write` where the sink refuses, which may then hold a part of the
+    /// sample.
     pub fn write_sample<S: ByteSource + Drop, W: Write>(
         &mut self,
         file: &mut Mp4File<S>,

@@ -1,8 +1,8 @@
 //! Samples and subtitles out of a file.
 
-use crate::command_line::{ExtractRequest, Target};
 use crate::faults::Fault;
 use crate::progress::Progress;
+use crate::question::{ExtractRequest, Target};
 use mp4_extract::{SampleWriter, subtitles, write_lines, write_srt};
 use mp4_media::{ByteSource, Error, Mp4File};
 use std::alloc::Global;

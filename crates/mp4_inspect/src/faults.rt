@@ -44,12 +44,25 @@ impl From<FileError> for Fault {
 }
 
 impl Fault {
+    /// Why something can't be written, if it can't.
+    fn write_error(&self) -> Option<&io::Error> {
+        match self {
+            Fault::CannotWrite(error) => Some(error),
+            Fault::Extract(ExtractError::Write(_, error)) => Some(error),
+            _ => None,
+        }
+    }
+
+    /// Whether what is written is at fault, and not what is read.
+    pub fn is_of_writing(&self) -> bool {
+        self.write_error().is_some()
+    }
+
     /// Whether what reads the output has closed it, which is no error.
     pub fn is_closed_pipe(&self) -> bool {
-        match self {
-            Fault::CannotWrite(error) => error.kind() == ErrorKind::BrokenPipe,
-            Fault::Extract(ExtractError::Write(_, error)) => error.kind() == ErrorKind::BrokenPipe,
-            _ => false,
+        match self.write_error() {
+            Some(error) => error.kind() == ErrorKind::BrokenPipe,
+            None => false,
         }
     }
 }
