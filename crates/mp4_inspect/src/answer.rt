@@ -5,7 +5,7 @@ use crate::faults::Fault;
 use crate::files::{is_regular, open, read_all};
 use crate::progress::Progress;
 use crate::question::{ExtractRequest, MovieQuestion, Question, Request};
-use mp4_box_report::{BoxesRequest, WhyReport, boxes_of, entry_codes_of, why_of};
+use mp4_box_report::{WhyReport, boxes_of, entry_codes_of, why_of};
 use mp4_media::{ByteSource, Error, Movie, Mp4File, SeekSource};
 use mp4_readable::json_text;
 use mp4_report::{SamplesRequest, cover_of, metadata_of, samples_of, tracks_of};
