@@ -1,8 +1,7 @@
 //! A walk over the boxes of a source in file order, those within containers too, which goes on after a fault.
 
-use mp4_codec::{BoxHeader, BoxType, ByteCursor, Error, FourCC, HEADER_SIZE, OPEN_END};
+use mp4_codec::{BoxHeader, BoxType, ByteCursor, Error, HEADER_SIZE, OPEN_END};
 use mp4_faults::{PathStep, bytes_before_children};
-use mp4_readable::Code;
 use mp4_source::{ByteSource, FileError, Window, read_into};
 use std::alloc::{AllocError, Global};
 use std::collections::HashMap;
@@ -79,12 +78,8 @@ fn path_in(alloc: Global, parent: &str, name: BoxType, number: u32) -> Result<St
         name,
         number: u64::from(number),
     };
-    let code = Code(FourCC::from(name));
     let slash = if parent.is_empty() { "" } else { "/" };
-    if step.is_numbered() {
-        return format!(in alloc; "{parent}{slash}{code}[{number}]");
-    }
-    format!(in alloc; "{parent}{slash}{code}")
+    format!(in alloc; "{parent}{slash}{step}")
 }
 
 impl Level {

@@ -1,5 +1,6 @@
 -- The children of a payload are the boxes within it.
-use Rattle.std.proofs.Common.{◌≡◌, ◌⊎◌, inl, inr, ◌≤◌, ◌<◌, ℕ, zero, suc, ◌+◌, ◌-◌, Bool, true, false, cond, ltb, eqb, List, [], ◌∷◌, ◌++◌}
+use Rattle.std.proofs.Common.{◌≡◌, ◌⊎◌, inl, inr, ◌≤◌, ◌<◌, ℕ, zero, suc, ◌+◌, ◌-◌, Bool, true, false, cond, ltb, eqb}
+use Rattle.std.proofs.Common.{List, [], ◌∷◌, ◌++◌}
 use Rattle.std.proofs.Common.{length, take, drop, Option, Some, None, Result, Ok, Err, refl, sym, ap, subst, ◌∙◌, arith}
 use Rattle.std.specs.Prelude.{map}
 use Rattle.std.specs.Option.{option_map}
@@ -32,8 +33,12 @@ module _ (bytes : List ℕ) (p : ℕ) (inside : p ≤ length bytes) where
   same-test q n = rw (length-drop p bytes) (by (ltb (length bytes - p) (q + n)) refl)
     where
       by : (b : Bool) → ltb (length bytes - p) (q + n) ≡ b → ltb (length bytes) (p + q + n) ≡ b
-      by true e = let lt = ltb-true (length bytes - p) (q + n) e in lt-ltb (length bytes) (p + q + n) (omega (arith, lt, inside))
-      by false e = let le = ltb-false (length bytes - p) (q + n) e in le-ltb (length bytes) (p + q + n) (omega (arith, le, inside))
+      by true e =
+          let lt = ltb-true (length bytes - p) (q + n) e in
+          lt-ltb (length bytes) (p + q + n) (omega (arith, lt, inside))
+      by false e =
+          let le = ltb-false (length bytes - p) (q + n) e in
+          le-ltb (length bytes) (p + q + n) (omega (arith, le, inside))
 
   take-there : (q n : ℕ) → take_at n (here bytes (p + q)) ≡ shifted (take_at n (here (drop p bytes) q))
   take-there q n = rw (same-test q n, ← drop-drop q p bytes) (by (ltb (length (drop p bytes)) (q + n)))
@@ -121,8 +126,10 @@ module _ (bytes : List ℕ) (p : ℕ) (inside : p ≤ length bytes) where
   child-of o = option_map (λ (b : InnerBox). (as_child b, drop (end_of b) bytes)) o
 
   cut-there : (name : BoxType) (n q : ℕ)
-      → cut name (take_at n (here (drop p bytes) q)) ≡ child-of (with_part name p (p + q) (take_at n (here bytes (p + q))))
-  cut-there name n q = rw (same-test bytes p inside q n, ← drop-drop q p bytes) (by (ltb (length (drop p bytes)) (q + n)) refl)
+      → cut name (take_at n (here (drop p bytes) q))
+      ≡ child-of (with_part name p (p + q) (take_at n (here bytes (p + q))))
+  cut-there name n q =
+      rw (same-test bytes p inside q n, ← drop-drop q p bytes) (by (ltb (length (drop p bytes)) (q + n)) refl)
     where
       by : (b : Bool) → ltb (length (drop p bytes)) (q + n) ≡ b
           → cut name (cond b (Err end_of_data) (Ok (take n (drop q (drop p bytes)), here (drop p bytes) (q + n))))
@@ -134,7 +141,8 @@ module _ (bytes : List ℕ) (p : ℕ) (inside : p ≤ length bytes) where
           let all = length-drop p bytes in
           let long : n ≤ length (drop q (drop p bytes)) = rw (length-drop q (drop p bytes)) (omega (arith, le)) in
           let size : length (take n (drop q (drop p bytes))) ≡ n = length-take-le n (drop q (drop p bytes)) long in
-          rw (drop-drop (q + n) p bytes, size) (ap (λ (k : ℕ). Some ((name, take n (drop q (drop p bytes))), drop k bytes)) (omega arith))
+          rw (drop-drop (q + n) p bytes, size)
+          (ap (λ (k : ℕ). Some ((name, take n (drop q (drop p bytes))), drop k bytes)) (omega arith))
 
   -- the child that begins the bytes from a place on is the box there
   pub child-there : child_at (drop p bytes) ≡ child-of (box_within bytes p)
@@ -162,7 +170,8 @@ module _ (bytes : List ℕ) (p : ℕ) (inside : p ≤ length bytes) where
           behind-is : (h : BoxHeader) (behind : Cursor) → header_at (here (drop p bytes) 0) ≡ Ok (h, behind)
               → behind ≡ here (drop p bytes) behind.position
           behind-is h behind e =
-              let one = both_steps (head_at (here (drop p bytes) 0)) (λ (y : Head × Cursor). Ok (reported y.0, y.1)) (h, behind) e in
+              let one = both_steps (head_at (here (drop p bytes) 0)) (λ (y : Head × Cursor). Ok (reported y.0, y.1))
+              (h, behind) e in
               let same = ok_is (reported one.0.0, one.0.1) (h, behind) one.2 in
               let r = head_read (here (drop p bytes) 0) one.0.0 one.0.1 one.1 in
               let after : one.0.1 ≡ behind = ap (λ (y : BoxHeader × Cursor). y.1) same in
@@ -177,7 +186,8 @@ module _ (bytes : List ℕ) (place : ℕ) (b : InnerBox) where
   module _ (h : BoxHeader) (behind : Cursor) (read : header_at (here bytes place) ≡ Ok (h, behind)) where
     behind-bytes : behind.bytes ≡ bytes
     behind-bytes =
-        let one = both_steps (head_at (here bytes place)) (λ (y : Head × Cursor). Ok (reported y.0, y.1)) (h, behind) read in
+        let one = both_steps (head_at (here bytes place)) (λ (y : Head × Cursor). Ok (reported y.0, y.1))
+        (h, behind) read in
         let same = ok_is (reported one.0.0, one.0.1) (h, behind) one.2 in
         let r = head_read (here bytes place) one.0.0 one.0.1 one.1 in
         let after : one.0.1 ≡ behind = ap (λ (y : BoxHeader × Cursor). y.1) same in
@@ -253,7 +263,8 @@ module _ (bytes : List ℕ) where
         enough = others.enough;
         inside = others.inside;
         is =
-            ap (λ (x : List ChildBox × List ℕ). x.0) (walk-begins n (drop place bytes) (as_child b) (drop (end_of b) bytes) begins)
+            ap (λ (x : List ChildBox × List ℕ). x.0)
+            (walk-begins n (drop place bytes) (as_child b) (drop (end_of b) bytes) begins)
             ∙ ap (λ (cs : List ChildBox). as_child b ∷ cs) others.is;
       }
 

@@ -1,5 +1,6 @@
 -- The first of a list that is refused.
-use Rattle.std.proofs.Common.{◌≡◌, ◌<◌, ℕ, suc, List, [], ◌∷◌, ◌++◌, take, drop, length, get_or, Some, None, Option, refl}
+use Rattle.std.proofs.Common.{◌≡◌, ◌<◌, ℕ, suc, List, [], ◌∷◌, ◌++◌, take, drop, length, get_or, Some, None, Option}
+use Rattle.std.proofs.Common.{refl}
 use Rattle.std.proofs.Common.{sym, ap, ◌∙◌, arith, Bool, true, false, cond}
 use Rattle.std.specs.Prelude.{is_some, ◌==◌, ◌||◌}
 use Rattle.std.specs.List.{list_any, filter}
@@ -78,7 +79,8 @@ module _ (moov : MoovBox) (moofs : List MoofBox) where
   unfolding id_fault
   fault-is =
       ap (λ (c : Option Cause). all_refusal zero_id moov.traks or c)
-      (sym (same-unknowns (known_in moov.traks) (λ id. is_some (trak_with_id moov.traks id)) (known-is moov.traks) moofs))
+      (sym (same-unknowns (known_in moov.traks) (λ id. is_some (trak_with_id moov.traks id)) (known-is moov.traks)
+      moofs))
 
   pub zero-told : (i : ℕ) (t : TrakBox) → IsFirstIn zero_id moov.traks i t invalid_data
       → id_fault moov moofs ≡ Some invalid_data

@@ -68,7 +68,8 @@ module _ {A : Type 0} (t : BoxType) (value : List ℕ → Result A Cause) where
   count-all (b ∷ bs) none =
       length-append (option_to_list (cond (code_of b.name == code_of t) (value_of (value b.payload)) None))
       (all_of t value (map as_child bs))
-      ∙ ap (λ n. length (option_to_list (cond (code_of b.name == code_of t) (value_of (value b.payload)) None)) + n) (count-all bs none.1)
+      ∙ ap (λ n. length (option_to_list (cond (code_of b.name == code_of t) (value_of (value b.payload)) None)) + n)
+      (count-all bs none.1)
       ∙ ap (λ n. n + count_of t (names_of bs)) (by (code_of b.name == code_of t) (value b.payload) none.0)
       ∙ sym (sum_by-cons (λ (u : BoxType). cond (code_of u == code_of t) 1 0) b.name (names_of bs))
     where

@@ -127,7 +127,8 @@ module _ (size : ℕ) (bytes : List ℕ) (start end : ℕ) (boxes : List NamedBo
   module _ (i : ℕ) (tells : TellsIds m seen.moofs (Some (Track i))) (id : IdPlace)
       (e : id ≡ track-id seen.names (unwrap_or seen.moov_place 0) i) where
     abbrev track : (place : ℕ) × (last (moov_places_in (boxes_of boxes)) ≡ Some place)
-        × ((id : IdPlace) → id.place ≡ place → id.name ≡ trak → id.number ≡ i + 1 → id.header ≡ tkhd → HasHeader bytes id)
+        × ((id : IdPlace) → id.place ≡ place → id.name ≡ trak → id.number ≡ i + 1 → id.header ≡ tkhd
+        → HasHeader bytes id)
     track = track-there size bytes start end boxes are m one-moov i tells.1.0 tells.1.1
 
     track-place : unwrap_or seen.moov_place 0 ≡ track.0
@@ -150,7 +151,8 @@ module _ (size : ℕ) (bytes : List ℕ) (start end : ℕ) (boxes : List NamedBo
   module _ (i j unknown : ℕ) (tells : TellsIds m seen.moofs (Some (Fragment i j unknown))) (id : IdPlace)
       (e : id ≡ traf-id i (unwrap_or (slice_get seen.moof_places i) 0) j) where
     abbrev piece : (place : ℕ) × (slice_get (moof_places_in (boxes_of boxes)) i ≡ Some place)
-        × ((id : IdPlace) → id.place ≡ place → id.name ≡ traf → id.number ≡ j + 1 → id.header ≡ tfhd → HasHeader bytes id)
+        × ((id : IdPlace) → id.place ≡ place → id.name ≡ traf → id.number ≡ j + 1 → id.header ≡ tfhd
+        → HasHeader bytes id)
     piece =
         traf-there size bytes start end boxes are (known_in m.traks) i j unknown
         (subst (λ (ms : List MoofBox). IsFirstUnknown (known_in m.traks) ms i j unknown) is.moofs tells.1.1)

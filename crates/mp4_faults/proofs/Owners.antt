@@ -35,15 +35,16 @@ use Rattle.mp4_faults.proofs.Gathered.{some-needed, has-value}
 module _ {P : Type 0} (fault : ChildBox → Option Cause) (taken : List ChildBox → P) (payload : List ℕ) (parts : P)
     (is : gathered fault taken (children payload) ≡ Ok parts) where
   -- it is taken of all, where no box is after these
-  module _ (bs : List InnerBox) (end : ℕ) (are : AreWithin payload 0 bs end) (none : box_within payload end ≡ None) where
-    all : (children payload).0 ≡ map as_child bs
-    all = all-children payload bs end are none
+  module _ (bs : List InnerBox) (end : ℕ) (are : AreWithin payload 0 bs end) (none : box_within payload end ≡ None)
+    where
+      all : (children payload).0 ≡ map as_child bs
+      all = all-children payload bs end are none
 
-    pub whole : NoFault fault (map as_child bs)
-    whole = subst (NoFault fault) all (gathered-whole fault taken (children payload) parts is)
+      pub whole : NoFault fault (map as_child bs)
+      whole = subst (NoFault fault) all (gathered-whole fault taken (children payload) parts is)
 
-    pub part-is : {Q : Type 0} (view : P → Q) → view (taken (map as_child bs)) ≡ view parts
-    part-is view = ap view (ap taken (sym all) ∙ gathered-taken fault taken (children payload) parts is)
+      pub part-is : {Q : Type 0} (view : P → Q) → view (taken (map as_child bs)) ≡ view parts
+      part-is view = ap view (ap taken (sym all) ∙ gathered-taken fault taken (children payload) parts is)
 
   -- and each of them is without fault
   pub each : (before : List InnerBox) (place : ℕ) (b : InnerBox) → AreWithin payload 0 before place
@@ -52,7 +53,10 @@ module _ {P : Type 0} (fault : ChildBox → Option Cause) (taken : List ChildBox
       let more = within-more payload 0 place before b are there in
       let some = some-children payload (before ++ b ∷ []) (end_of b) more in
       one-of fault (map as_child before) some.0 (as_child b)
-      (subst (NoFault fault) (some.1 ∙ ap (λ (cs : List ChildBox). cs ++ some.0) (map-more as_child before b) ∙ append_assoc (map as_child before) (as_child b ∷ []) some.0) (gathered-whole fault taken (children payload) parts is))
+      (subst (NoFault fault)
+      (some.1 ∙ ap (λ (cs : List ChildBox). cs ++ some.0) (map-more as_child before b)
+      ∙ append_assoc (map as_child before) (as_child b ∷ []) some.0)
+      (gathered-whole fault taken (children payload) parts is))
 
 -- A track of a movie fragment has a header.
 traf-fault-in : (c : ChildBox) → traf_fault c ≡ None → fault_in tfhd tfhd_of c ≡ None

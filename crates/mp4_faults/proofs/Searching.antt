@@ -68,7 +68,9 @@ module _ (name : BoxType) where
         search-counts = record {
           before = s.before ++ b ∷ [];
           are = within-more payload 0 place s.before b s.are is;
-          count_is = ap (λ n. n + 1) s.count_is ∙ sym (count-more s.before b ∙ ap (λ n. count_of name (names_of s.before) + n) one);
+          count_is =
+              ap (λ n. n + 1) s.count_is
+              ∙ sym (count-more s.before b ∙ ap (λ n. count_of name (names_of s.before) + n) one);
           few = let few = s.few in omega (arith, few, onward);
         }
 
@@ -94,7 +96,8 @@ module _ (name : BoxType) where
       -- one of another type
       pub search-passes : (code_of b.name ≡ code_of name → ⊥) → Searched (end_of b) count
       search-passes other =
-          let none : ◌≡◌ {A = ℕ} (cond (is_wanted b.name) 1 0) 0 = rw (ne_eqb (code_of b.name) (code_of name) other) refl in
+          let none : ◌≡◌ {A = ℕ} (cond (is_wanted b.name) 1 0) 0 =
+          rw (ne_eqb (code_of b.name) (code_of name) other) refl in
           record {
             before = s.before ++ b ∷ [];
             are = within-more payload 0 place s.before b s.are is;
@@ -144,7 +147,8 @@ module _ (name : BoxType) where
         → box_within payload place ≡ Some b
         → (code_of b.name ≡ code_of name → ⊥) → IsLastSoFar (end_of b) step l
     last-passes place step l b s is other =
-        let none : ◌≡◌ {A = ℕ} (cond (is_wanted b.name) 1 0) 0 = rw (ne_eqb (code_of b.name) (code_of name) other) refl in
+        let none : ◌≡◌ {A = ℕ} (cond (is_wanted b.name) 1 0) 0 =
+        rw (ne_eqb (code_of b.name) (code_of name) other) refl in
         record {
           leads = s.leads;
           named = s.named;
@@ -209,7 +213,8 @@ module _ (bytes : List ℕ) (id : IdPlace) (has : HasHeader bytes id) (h : BoxHe
   pub large-header : 8 ≤ h.size
   large-header = let size = size-is in omega (arith, size)
 
-  module _ (p : Payload) (behind : ℕ) (whole : IsWhole h.size from bytes large-header p behind) (small : behind < 2 ^ 64)
+  module _ (p : Payload) (behind : ℕ) (whole : IsWhole h.size from bytes large-header p behind)
+      (small : behind < 2 ^ 64)
     where
       to-is : from + (h.size - 8) ≡ has.to
       to-is = let size = size-is in let same = from-is in let order = has.order in omega (arith, size, same, order)

@@ -23,7 +23,8 @@ use Rattle.mp4_faults.specs.Refusal.{payload_fault}
 use Rattle.mp4_faults.specs.Inner.{InnerBox, end_of}
 use Rattle.mp4_faults.specs.Innermost.{IsInnermost, step_after}
 use Rattle.mp4_faults.specs.TopLevel.{IsTopBox, IsNamedBox, IsFaultAt, IsInside, RefusesContent, Means, IsRead, IsBegun}
-use Rattle.mp4_faults.specs.TopLevel.{IsIn, outermost, refused, no_room, no_box, GivesNext, TellsNext, SaysNext, TellsInside}
+use Rattle.mp4_faults.specs.TopLevel.{IsIn, outermost, refused, no_room, no_box, GivesNext, TellsNext, SaysNext}
+use Rattle.mp4_faults.specs.TopLevel.{TellsInside}
 use Rattle.mp4_faults.specs.TopLevel.{SaysWhose, IsUnread}
 use Rattle.mp4_source.specs.Answers.{RefusesRead}
 use Rattle.mp4_source.specs.declared.file_error.FileError.{FileError}
@@ -140,7 +141,8 @@ too-large size bytes place from h large past begins f names e path at =
 
 -- A place of a file where no box begins.
 module _ (size : ℕ) (bytes : List ℕ) (place : ℕ) where
-  pub too-few : (f : FaultPlace) (names : List BoxType) → place < size → size < place + 8 → cause_of f.error ≡ end_of_data
+  pub too-few : (f : FaultPlace) (names : List BoxType) → place < size → size < place + 8
+      → cause_of f.error ≡ end_of_data
       → f.path ≡ [] → f.place ≡ place → IsFaultAt size bytes place names f
   too-few f names below few e path at = record { fault = rest below few e; is_in = no_box (inl few) path at }
 
@@ -228,35 +230,36 @@ module _ (size from : ℕ) (bytes : List ℕ) (large : 8 ≤ size) where
 
 -- A box whose payload was read as it is.
 module _ (size : ℕ) (bytes : List ℕ) (place from : ℕ) (h : BoxHeader) (large : 8 ≤ h.size)
-    (t : IsBegun size bytes place h from) (p : Payload) (behind : ℕ) (w : IsWhole h.size from bytes large p behind) where
-  abbrev pub read-box : InnerBox
-  read-box = record { name = h.name; place = place; from = from; payload = p.bytes }
+    (t : IsBegun size bytes place h from) (p : Payload) (behind : ℕ) (w : IsWhole h.size from bytes large p behind)
+  where
+    abbrev pub read-box : InnerBox
+    read-box = record { name = h.name; place = place; from = from; payload = p.bytes }
 
-  read-length : length p.bytes ≡ h.size - 8
-  read-length =
-      let within = w.within in
-      let left-length = length-drop from bytes in
-      let n : from + (h.size - 8) - from ≡ h.size - 8 = omega arith in
-      ap length w.is
-      ∙ length-take-le (from + (h.size - 8) - from) (drop from bytes) (omega (arith, n, within, left-length))
-      ∙ n
+    read-length : length p.bytes ≡ h.size - 8
+    read-length =
+        let within = w.within in
+        let left-length = length-drop from bytes in
+        let n : from + (h.size - 8) - from ≡ h.size - 8 = omega arith in
+        ap length w.is
+        ∙ length-take-le (from + (h.size - 8) - from) (drop from bytes) (omega (arith, n, within, left-length))
+        ∙ n
 
-  pub ends-behind : end_of read-box ≡ behind
-  ends-behind = let long = read-length in let end = w.end in omega (arith, long, end)
+    pub ends-behind : end_of read-box ≡ behind
+    ends-behind = let long = read-length in let end = w.end in omega (arith, long, end)
 
-  pub is-top-box : behind < 2 ^ 64 → IsTopBox size bytes read-box
-  is-top-box small =
-      let long = read-length in
-      let end = w.end in
-      let to : end_of read-box ≡ from + (h.size - 8) = omega (arith, long) in
-      let fits = t.fits in
-      record {
-        begins = rw to t.begins;
-        fits = omega (arith, long, large, fits);
-        payload = w.is ∙ ap (between bytes from) (sym to);
-        within = let within = w.within in omega (arith, to, within);
-        narrow = omega (arith, to, end, small);
-      }
+    pub is-top-box : behind < 2 ^ 64 → IsTopBox size bytes read-box
+    is-top-box small =
+        let long = read-length in
+        let end = w.end in
+        let to : end_of read-box ≡ from + (h.size - 8) = omega (arith, long) in
+        let fits = t.fits in
+        record {
+          begins = rw to t.begins;
+          fits = omega (arith, long, large, fits);
+          payload = w.is ∙ ap (between bytes from) (sym to);
+          within = let within = w.within in omega (arith, to, within);
+          narrow = omega (arith, to, end, small);
+        }
 
 -- What a call gives that is the answer of another.
 module _ (size : ℕ) (bytes : List ℕ) (place behind : ℕ) (old new : SeenBoxes) where

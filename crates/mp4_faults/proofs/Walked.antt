@@ -1,5 +1,6 @@
 -- The boxes of a file that were passed without a fault, and what the file is where no more is left.
-use Rattle.std.proofs.Common.{◌≡◌, ℕ, ◌-◌, List, [], ◌∷◌, ◌++◌, Bool, Option, Some, None, Result, Ok, Err, refl, sym, ap, subst, ◌∙◌}
+use Rattle.std.proofs.Common.{◌≡◌, ℕ, ◌-◌, List, [], ◌∷◌, ◌++◌, Bool, Option, Some, None, Result, Ok, Err, refl, sym}
+use Rattle.std.proofs.Common.{ap, subst, ◌∙◌}
 use Rattle.std.specs.Prelude.{IfSome}
 use Rattle.mp4_codec.specs.Cause.{cause_of, fault_of}
 use Rattle.mp4_codec.specs.Children.{last}
@@ -73,7 +74,9 @@ module _ (size : ℕ) (bytes : List ℕ) where
           moofs =
               sees.moofs
               ∙ rw (w.is.moofs, more) (sym (filter_map-and_one (λ (x : FileBox). moof_from x.content) before b.1));
-          moof_places = sees.moof_places ∙ rw (w.is.moof_places, more) (sym (filter_map-and_one moof_place_from before b.1));
+          moof_places =
+              sees.moof_places
+              ∙ rw (w.is.moof_places, more) (sym (filter_map-and_one moof_place_from before b.1));
         };
       }
 

@@ -1,6 +1,6 @@
 //! The place of a fault.
 
-use mp4_codec::{BoxType, DebugItem, Error, Items};
+use mp4_codec::{BoxType, DebugItem, Error, FourCC, Items};
 use std::fmt;
 use std::fmt::Write;
 
@@ -14,6 +14,18 @@ pub struct PathStep {
 }
 
 impl DebugItem for PathStep {}
+
+/// Writes the code of a type; a byte that is neither visible, nor a space, nor the © of iTunes' items, is a full stop.
+fn write_type<W: fmt::Write>(name: BoxType, f: &mut fmt::Formatter<W>) -> fmt::Result {
+    for byte in FourCC::from(name).value {
+        let shown = match byte {
+            0x20..=0x7e | 0xa9 => char::from(byte),
+            _ => '.',
+        };
+        f.write_char(shown)?;
+    }
+    Ok(())
+}
 
 impl PathStep {
     /// Whether the number is written: it is for types of which a container usually holds several, and for
@@ -29,10 +41,11 @@ impl PathStep {
 
 impl fmt::Display for PathStep {
     fn fmt<W: fmt::Write>(&self, f: &mut fmt::Formatter<W>) -> fmt::Result {
+        write_type(self.name, f)?;
         if self.is_numbered() {
-            return write!(f, "{}[{}]", self.name, self.number);
+            write!(f, "[{}]", self.number)?;
         }
-        write!(f, "{}", self.name)
+        Ok(())
     }
 }
 

@@ -3,7 +3,8 @@
 ghost use Rattle.std.specs.Prelude.{◌≤◌, IfSome, length};
 ghost use Rattle.mp4_source.specs.Answers.{IsLength};
 ghost use Rattle.mp4_faults.specs.Inner.{inner, end_of};
-ghost use Rattle.mp4_faults.specs.WrongId.{FindsNth, FindsLast, FindsWithin, HasHeader, FindsHeader, IsLost, SaysWrongId};
+ghost use Rattle.mp4_faults.specs.WrongId.{FindsNth, FindsLast, FindsWithin, HasHeader, FindsHeader, IsLost};
+ghost use Rattle.mp4_faults.specs.WrongId.{SaysWrongId};
 
 use crate::child::{PlacedBox, child_at};
 use crate::fault_place::{FaultPlace, PathStep};

@@ -56,7 +56,14 @@ returns-in_ok-push-in-Ok-3-2 c =
     let value = rw c.in-Ok-3.is at c.in_ok-moof-in-MoofBox.ensures in (
       Moof c.in-Ok-3.moof,
       means Moof moof_of top.name top.payload.now (meaning-moof top.name c.in-MoofBox.is) c.in-Ok-3.moof value,
-      record { names = refl; ftyp = refl; moov = refl; moov_place = refl; moofs = c.in_ok-push-in-Ok-3.ensures.ok; moof_places = c.in_ok-push-in-Ok-3-2.ensures.ok },
+      record {
+        names = refl;
+        ftyp = refl;
+        moov = refl;
+        moov_place = refl;
+        moofs = c.in_ok-push-in-Ok-3.ensures.ok;
+        moof_places = c.in_ok-push-in-Ok-3-2.ensures.ok;
+      },
     )
 
 pub returns-in-Err-3 : goal.returns-in-Err-3

@@ -21,7 +21,8 @@ returns-in-Err-clause-answer g c =
     {x = Faulty f}
     (sym c.fault_of_file-in-Err.ensures)
     (headless c.args.size bytes reader.position f old.names (omega arith)
-    (fault-read (g.S.ByteSource.can_refuse reader.source) c.in-Err.refusal e _ c.in_ok-fault_of_bytes-in-Err.ensures refused)
+    (fault-read (g.S.ByteSource.can_refuse reader.source) c.in-Err.refusal e _ c.in_ok-fault_of_bytes-in-Err.ensures
+    refused)
     refl c.position-place.ensures))
 
 pub returns-then-header-eq-OPEN_END-clause-answer :
@@ -36,7 +37,8 @@ returns-then-header-eq-OPEN_END-clause-answer g c =
     ))
 
 -- a box begins at a place, where it isn't larger than the file
-begun : (size : ℕ) (bytes : List ℕ) (place from : ℕ) (h : BoxHeader) → header_at (here bytes place) ≡ Ok (h, here bytes from)
+begun : (size : ℕ) (bytes : List ℕ) (place from : ℕ) (h : BoxHeader)
+    → header_at (here bytes place) ≡ Ok (h, here bytes from)
     → place + 8 ≤ size → 8 ≤ h.size → h.size ≤ size → IsBegun size bytes place h from
 begun size bytes place from h read room large fits =
     record { begins = begins-with size bytes place from h read room large; fits = fits }
@@ -49,7 +51,8 @@ returns-then-header-size-clause-answer g c =
     let from = c.read_header.new.self.position in
     let large : 8 ≤ h.size = grind (arith, c.in-Ok.ensures.size, c.if-header-eq-OPEN_END.false) in
     of_known (g.S.ByteSource.contents reader.source) _ _ c.in-Ok.ensures.answer (λ bytes read.
-    subst (λ (n : NextBox). SaysNext c.args.size bytes reader.position old old from n) (sym c.in_ok-fault_of_box.ensures)
+    subst (λ (n : NextBox). SaysNext c.args.size bytes reader.position old old from n)
+    (sym c.in_ok-fault_of_box.ensures)
     (too-large c.args.size bytes reader.position from h large (omega arith)
     (begins-with c.args.size bytes reader.position from h read (omega arith) large) _ old.names refl refl
     c.position-place.ensures))

@@ -33,7 +33,8 @@ returns-in_ok-add_box-in-Ok-clause-answer g c =
     let told = rw (c.position-from.ensures, c.as_slice.ensures) at c.in_ok-add_box-in-Ok.ensures in
     λ size. of_known (g.S.ByteSource.contents reader.source) _ _ c.in-Ok.ensures.answer (λ bytes read t.
     let w = payload-whole h.size reader.position bytes c.requires.size c.in-Ok.payload behind read in
-    subst (λ (n : ℕ). SaysNext size bytes c.args.place c.args.seen.now c.add_box.new.seen n c.in_ok-add_box-in-Ok.field-0)
+    subst (λ (n : ℕ).
+    SaysNext size bytes c.args.place c.args.seen.now c.add_box.new.seen n c.in_ok-add_box-in-Ok.field-0)
     (ends-behind size bytes c.args.place reader.position h c.requires.size t c.in-Ok.payload behind w)
     (told size bytes
     (is-top-box size bytes c.args.place reader.position h c.requires.size t c.in-Ok.payload behind w small)))
@@ -50,5 +51,5 @@ returns-in_ok-fault_of_box-in-Err-clause-answer g c =
     (fault-read (g.S.ByteSource.can_refuse reader.source) c.in-Err.refusal e _ c.in_ok-error-in-Err.ensures refused) in
     subst (λ (n : NextBox). SaysNext size bytes c.args.place old old c.read_box.new.self.position n) {x = Faulty f}
     (sym c.in_ok-fault_of_box-in-Err.ensures)
-    (past-the-bytes size bytes c.args.place reader.position h c.requires.size t f old.names c.requires.is_read cut.1 cut.0
-    refl refl))
+    (past-the-bytes size bytes c.args.place reader.position h c.requires.size t f old.names c.requires.is_read cut.1
+    cut.0 refl refl))

@@ -25,5 +25,12 @@ returns-clause-answer g c =
       (h.name, record { place = c.args.place; content = Skipped }),
       rw (c.set_position.ensures, behind)
           (skipped-box size bytes c.args.place from h c.requires.size t c.requires.skipped small),
-      record { names = c.in_ok-push.ensures.ok; ftyp = refl; moov = refl; moov_place = refl; moofs = refl; moof_places = refl },
+      record {
+        names = c.in_ok-push.ensures.ok;
+        ftyp = refl;
+        moov = refl;
+        moov_place = refl;
+        moofs = refl;
+        moof_places = refl;
+      },
     ))
