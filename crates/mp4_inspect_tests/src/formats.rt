@@ -1,7 +1,7 @@
 //! Each format once.
 
 use crate::movie::{SOUND, TEXT, VIDEO, movie};
-use mp4_extract::{SampleFormat, extract, subtitles, write_lines, write_srt};
+use mp4_extract::{SampleFormat, Subtitle, extract, subtitles, write_lines, write_srt};
 use mp4_media::Mp4File;
 use std::test::Fail;
 
@@ -39,11 +39,16 @@ fn sound_has_a_header_of_adts(rt: HostRuntime) -> Result<(), Fail> {
     Ok(())
 }
 
-#[test]
-fn texts_are_laid_out_as_srt_and_as_lines(rt: HostRuntime) -> Result<(), Fail> {
+/// The subtitles of the movie.
+fn subtitle_list(rt: &HostRuntime) -> Result<Vec<Subtitle>, Fail> {
     let bytes = movie(rt.alloc())?;
     let mut file = Mp4File::open(rt.alloc(), bytes.as_slice(), 0, bytes.len() as u64)?;
-    let list = subtitles(rt.alloc(), &mut file, TEXT)?;
+    Ok(subtitles(rt.alloc(), &mut file, TEXT)?)
+}
+
+#[test]
+fn texts_are_laid_out_as_srt_and_as_lines(rt: HostRuntime) -> Result<(), Fail> {
+    let list = subtitle_list(&rt)?;
     let mut out = Vec::new(rt.alloc());
     write_srt(list.as_slice(), &mut out)?;
     write_lines(list.as_slice(), &mut out)?;
