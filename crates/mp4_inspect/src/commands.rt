@@ -1,4 +1,4 @@
-//! The commands and their arguments, as clap is told them.
+//! The commands and their arguments, as `clap` reads them.
 
 use clap::{Arg, ArgAction, ArgGroup, Command};
 use std::alloc::{AllocError, Global};

@@ -1,5 +1,5 @@
--- How many there are in a second. Times are in ticks, of which a timescale says how many a second has (ISO/IEC 14496-12,
--- 8.4.2).
+-- How many there are in a second. Times are in ticks, of which a timescale says how many a second has
+-- (ISO/IEC 14496-12, 8.4.2).
 use Rattle.std.specs.Prelude.{ℕ, ◌+◌, ◌-◌, ◌*◌, ◌/◌, ◌^◌, ◌==◌, nat_lt, if◌then◌else◌, Option, Some, None}
 
 -- a number, if it is within 64 bits
