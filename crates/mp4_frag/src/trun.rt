@@ -44,7 +44,7 @@ pub struct TrunBox {
     pub flags: u32,
     /// How many samples there are.
     pub sample_count: u32,
-    /// By flag 0x1: where the first sample lies, in bytes from the base of the track fragment.
+    /// By flag 0x1: where the first sample lies, in bytes from the base data offset of the track fragment.
     pub data_offset: Option<i32>,
     /// By flag 0x4: the first sample's flags, in place of all others.
     pub first_sample_flags: Option<u32>,

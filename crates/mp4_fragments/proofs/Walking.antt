@@ -67,18 +67,18 @@ right_at find e p there checks only = record {
 }
 
 -- a run
-pub Walks-run : (knows : Find → Type 0) (base : Option ℕ) (defaults : SampleDefaults) (run : TrunBox)
+pub Walks-run : (knows : Find → Type 0) (base_data_offset : Option ℕ) (defaults : SampleDefaults) (run : TrunBox)
     (a at after : RunStart) (checks : List RunStart) (only : Option SampleValues) (old new : RunIndex) (t i : ℕ) →
     ((find : Find) → knows find → find t i ≡ Some (run, defaults)) →
-    at ≡ begins base run a → after ≡ at_run_sample run defaults at run.sample_count
+    at ≡ begins base_data_offset run a → after ≡ at_run_sample run defaults at run.sample_count
     → AreCheckpoints run defaults at checks
     → ((first : RunStart) → IfSome only (IsOnly (record { at = first; run = run; defaults = defaults }))) →
     Pushed old new (record { at = at; checks = checks; only = only; traf = t; run = i }) run.sample_count →
-    Walks knows (λ walk. with_run base defaults walk run) a after old new
+    Walks knows (λ walk. with_run base_data_offset defaults walk run) a after old new
 unfolding with_run placed_at
-Walks-run knows base defaults run a at after checks only old new t i there e1 e2 right one pushed =
+Walks-run knows base_data_offset defaults run a at after checks only old new t i there e1 e2 right one pushed =
     let placed : RunStart → PlacedRun = λ a. record { at = a; run = run; defaults = defaults } in
-    let begin : RunStart = begins base run a in
+    let begin : RunStart = begins base_data_offset run a in
     let entry : RunEntry = record { at = at; checks = checks; only = only; traf = t; run = i } in
     record {
       at = λ runs. e2 ∙ ap (λ (a : RunStart). at_run_sample run defaults a run.sample_count) e1;
@@ -89,18 +89,19 @@ Walks-run knows base defaults run a at after checks only old new t i there e1 e2
     }
 
 -- a track fragment
-own : (track : SampleDefaults) (traf : TrafBox) (base : Option ℕ) (t : ℕ) (at last after : RunStart)
+own : (track : SampleDefaults) (traf : TrafBox) (base_data_offset : Option ℕ) (t : ℕ) (at last after : RunStart)
     (old new : RunIndex) →
     after ≡ record { place = last.place; time = if has_run_samples traf then last.time else at.time } →
-    Walks (KnowsRuns t traf.truns (defaults_in traf track)) (λ walk. fold (with_run base
+    Walks (KnowsRuns t traf.truns (defaults_in traf track)) (λ walk. fold (with_run base_data_offset
     (defaults_in traf track)) walk traf.truns) (record {
-      place = base;
+      place = base_data_offset;
       time =
           first_time traf.tfdt at.time;
     }) last old new →
-    Walks (KnowsRuns t traf.truns (defaults_in traf track)) (λ walk. with_traf track walk (traf, base)) at after old new
+    Walks (KnowsRuns t traf.truns (defaults_in traf track)) (λ walk. with_traf track walk (traf, base_data_offset))
+    at after old new
 unfolding with_traf
-own track traf base t at last after old new e walks = record {
+own track traf base_data_offset t at last after old new e walks = record {
   at = λ runs. e ∙ ap (λ (l : RunStart). record {
     place = l.place;
     time =
@@ -109,35 +110,38 @@ own track traf base t at last after old new e walks = record {
   index = walks.index;
 }
 
-pub Walks-traf : (track : SampleDefaults) (traf : TrafBox) (base : Option ℕ) (t : ℕ) (at last after : RunStart)
-    (old new : RunIndex) (time : Option ℕ) (defaults : SampleDefaults) (runs : List TrunBox) →
+pub Walks-traf : (track : SampleDefaults) (traf : TrafBox) (base_data_offset : Option ℕ) (t : ℕ)
+    (at last after : RunStart) (old new : RunIndex) (time : Option ℕ) (defaults : SampleDefaults)
+    (runs : List TrunBox) →
     time ≡ first_time traf.tfdt at.time → defaults ≡ defaults_in traf track → runs ≡ traf.truns →
     after ≡ record { place = last.place; time = if has_run_samples traf then last.time else at.time } →
-    Walks (KnowsRuns t runs defaults) (λ walk. fold (with_run base defaults) walk runs) (record {
+    Walks (KnowsRuns t runs defaults) (λ walk. fold (with_run base_data_offset defaults) walk runs) (record {
       place =
-          base;
+          base_data_offset;
       time = time;
     }) last old new →
-    Walks (KnowsRuns t traf.truns (defaults_in traf track)) (λ walk. with_traf track walk (traf, base)) at after old new
-Walks-traf track traf base t at last after old new time defaults runs e1 e2 e3 e walks =
+    Walks (KnowsRuns t traf.truns (defaults_in traf track)) (λ walk. with_traf track walk (traf, base_data_offset))
+    at after old new
+Walks-traf track traf base_data_offset t at last after old new time defaults runs e1 e2 e3 e walks =
     let P : Option ℕ → SampleDefaults → List TrunBox → Type 0 = λ time defaults runs. Walks
-    (KnowsRuns t runs defaults) (λ walk. fold (with_run base defaults) walk runs) (record {
-      place = base;
+    (KnowsRuns t runs defaults) (λ walk. fold (with_run base_data_offset defaults) walk runs) (record {
+      place = base_data_offset;
       time =
           time;
     }) last old new in
-    own track traf base t at last after old new e
+    own track traf base_data_offset t at last after old new e
     (subst (P (first_time traf.tfdt at.time) (defaults_in traf track)) e3 (subst (λ d. P
     (first_time traf.tfdt at.time) d runs) e2 (subst (λ b. P b defaults runs) e1 walks)))
 
--- the part with a number, and its base
-pub in_zip : (trafs : List TrafBox) (bases : List (Option ℕ)) (t : ℕ) (traf : TrafBox) (base d : Option ℕ)
-    → length bases ≡ length trafs → t < length trafs →
-    traf ≡ get_or trafs t traf → base ≡ get_or bases t d → (traf, base) ≡ get_or (zip trafs bases) t (traf, base)
-in_zip trafs bases t traf base d so_many h is has =
-    let same : get_or bases t base ≡ get_or bases t d = get_or_default bases t base d (omega arith) in
-    let there : base ≡ get_or bases t base = has ∙ sym same in
-    sym (get_or-zip trafs bases t (traf, base) h (omega arith) ∙ ap (λ (f : TrafBox). (f, get_or bases t base))
+-- the part with a number, and its base data offset
+pub in_zip : (trafs : List TrafBox) (offsets : List (Option ℕ)) (t : ℕ) (traf : TrafBox) (offset d : Option ℕ)
+    → length offsets ≡ length trafs → t < length trafs →
+    traf ≡ get_or trafs t traf → offset ≡ get_or offsets t d
+    → (traf, offset) ≡ get_or (zip trafs offsets) t (traf, offset)
+in_zip trafs offsets t traf offset d so_many h is has =
+    let same : get_or offsets t offset ≡ get_or offsets t d = get_or_default offsets t offset d (omega arith) in
+    let there : offset ≡ get_or offsets t offset = has ∙ sym same in
+    sym (get_or-zip trafs offsets t (traf, offset) h (omega arith) ∙ ap (λ (f : TrafBox). (f, get_or offsets t offset))
     (sym is) ∙ ap (λ b. (traf, b)) (sym there))
 
 -- what is found by the numbers of fragments and runs

@@ -4,7 +4,7 @@ use Rattle.std.specs.List.{list_any}
 use Rattle.mp4_frag.specs.declared.tfdt.TfdtBox.{TfdtBox}
 use Rattle.mp4_frag.specs.declared.trun.TrunBox.{TrunBox}
 use Rattle.mp4_moof.specs.declared.traf.TrafBox.{TrafBox}
-use Rattle.mp4_fragments.specs.Bases.{data_begins}
+use Rattle.mp4_fragments.specs.BaseDataOffsets.{data_begins}
 use Rattle.mp4_fragments.specs.Defaults.{defaults_in}
 use Rattle.mp4_fragments.specs.RunSamples.{PlacedRun, at_run_sample, all_run_samples}
 use Rattle.mp4_fragments.specs.declared.defaults.SampleDefaults.{SampleDefaults}
@@ -18,11 +18,12 @@ pub record Walk : Type 0 where
 
 -- the first sample of a run begins when the sample before it has lasted, and where the run's data begins
 abbrev pub begins : Option ℕ → TrunBox → RunStart → RunStart
-begins base run at = record { place = data_begins base run.data_offset at.place; time = at.time }
+begins base_data_offset run at =
+    record { place = data_begins base_data_offset run.data_offset at.place; time = at.time }
 
 unfoldable pub with_run : Option ℕ → SampleDefaults → Walk → TrunBox → Walk
-with_run base defaults walk run =
-    let at : RunStart = begins base run walk.at in
+with_run base_data_offset defaults walk run =
+    let at : RunStart = begins base_data_offset run walk.at in
     record {
       at = at_run_sample run defaults at run.sample_count;
       runs = walk.runs ++ record { at = at; run = run; defaults = defaults } ∷ [];
@@ -38,13 +39,13 @@ has_run_samples traf = list_any (λ run. nat_lt 0 run.sample_count) traf.truns
 
 -- a track fragment, and its base data offset: one without samples doesn't move the time
 unfoldable pub with_traf : SampleDefaults → Walk → TrafBox × Option ℕ → Walk
-with_traf track walk (traf, base) =
+with_traf track walk (traf, base_data_offset) =
     let first : Walk = record {
-      at = record { place = base; time = first_time traf.tfdt walk.at.time };
+      at = record { place = base_data_offset; time = first_time traf.tfdt walk.at.time };
       runs =
           walk.runs;
     } in
-    let last : Walk = fold (with_run base (defaults_in traf track)) first traf.truns in
+    let last : Walk = fold (with_run base_data_offset (defaults_in traf track)) first traf.truns in
     record {
       at = record { place = last.at.place; time = if has_run_samples traf then last.at.time else walk.at.time };
       runs = last.runs;
@@ -53,10 +54,10 @@ with_traf track walk (traf, base) =
 -- The runs of a track with these defaults, whose fragments have these base data offsets, and whose samples before the
 -- fragments end at a time.
 unfoldable pub placed_runs : SampleDefaults → ℕ → List TrafBox → List (Option ℕ) → List PlacedRun
-placed_runs track end trafs bases =
+placed_runs track end trafs base_data_offsets =
     let none : Walk = record { at = record { place = None; time = Some end }; runs = [] } in
-    (fold (with_traf track) none (zip trafs bases)).runs
+    (fold (with_traf track) none (zip trafs base_data_offsets)).runs
 
 -- and the samples that they add to it
 unfoldable pub fragment_samples : SampleDefaults → ℕ → List TrafBox → List (Option ℕ) → List RunSample
-fragment_samples track end trafs bases = all_run_samples (placed_runs track end trafs bases)
+fragment_samples track end trafs base_data_offsets = all_run_samples (placed_runs track end trafs base_data_offsets)

@@ -1,7 +1,7 @@
 pub mod Numbers
 pub mod RunSamples
 pub mod Defaults
-pub mod Bases
+pub mod BaseDataOffsets
 pub mod Fragments
 pub mod Checkpoints
 pub mod Index

@@ -1,7 +1,7 @@
 //! The samples that movie fragments add to a track: where each lies and when it is decoded (ISO/IEC 14496-12, 8.8).
 #![tactic(auto)]
 
-mod bases;
+mod base_data_offsets;
 mod by_time;
 mod cursor;
 mod defaults;
@@ -15,7 +15,7 @@ mod sync;
 mod times;
 mod values;
 
-pub use bases::{counts_from_data_before, traf_base, traf_end};
+pub use base_data_offsets::{counts_from_data_before, traf_base_data_offset, traf_end};
 pub use cursor::{RunCursor, RunEnd, RunPosition};
 pub use defaults::SampleDefaults;
 pub use index::RunIndex;

@@ -2,7 +2,7 @@
 
 ghost use Rattle.std.specs.Prelude.{◌≡◌, ℕ, ◌-◌, ◌^◌, ◌<◌, List, length, min, IfOk, IfSome, Some, fold, zip};
 ghost use Rattle.std.specs.List.{sum_by};
-ghost use Rattle.mp4_fragments.specs.Bases.{data_begins};
+ghost use Rattle.mp4_fragments.specs.BaseDataOffsets.{data_begins};
 ghost use Rattle.mp4_fragments.specs.Defaults.{defaults_in};
 ghost use Rattle.mp4_fragments.specs.Fragments.{begins, first_time, has_run_samples, with_run, with_traf, placed_runs};
 ghost use Rattle.mp4_fragments.specs.Index.{Indexes, IsOnly, Walks, KnowsRuns, KnowsTrafs, run_at};
@@ -16,11 +16,11 @@ use mp4_moof::TrafBox;
 use std::alloc::{AllocError, Global};
 
 /// Where and when a run begins, if the sample before it ends at `at`.
-fn run_begin(base: Option<u64>, run: &TrunBox, at: RunStart) -> RunStart
-    ensures { result ≡ begins base run.now at }
+fn run_begin(base_data_offset: Option<u64>, run: &TrunBox, at: RunStart) -> RunStart
+    ensures { result ≡ begins base_data_offset run.now at }
 {
     RunStart {
-        place: data_begin(base, run.data_offset, at.place),
+        place: data_begin(base_data_offset, run.data_offset, at.place),
         time: at.time,
     }
 }
@@ -62,15 +62,15 @@ fn add_run(
     t: usize,
     i: usize,
     run: &TrunBox,
-    base: Option<u64>,
+    base_data_offset: Option<u64>,
     defaults: SampleDefaults,
     end: RunStart,
 ) -> Result<RunStart, AllocError>
     ensures { IfOk result (λ after.
         Walks (λ find. find t i ≡ Some (run.now, defaults))
-        (λ walk. with_run base defaults walk run.now) end after index.old index.new) }
+        (λ walk. with_run base_data_offset defaults walk run.now) end after index.old index.new) }
 {
-    let at = run_begin(base, run, end);
+    let at = run_begin(base_data_offset, run, end);
     let checks = checkpoints(alloc, run, defaults, at)?;
     let after = at_by_checkpoints(run, defaults, at, checks.as_slice(), run.sample_count);
     index.push(
@@ -92,17 +92,17 @@ fn add_runs(
     index: &mut RunIndex,
     t: usize,
     runs: &[TrunBox],
-    base: Option<u64>,
+    base_data_offset: Option<u64>,
     defaults: SampleDefaults,
     first: RunStart,
 ) -> Result<RunStart, AllocError>
     ensures { IfOk result (λ after.
         Walks (KnowsRuns t runs.now defaults)
-        (λ walk. fold (with_run base defaults) walk runs.now) first after index.old index.new) }
+        (λ walk. fold (with_run base_data_offset defaults) walk runs.now) first after index.old index.new) }
 {
     let mut at = first;
     for (i, run) in runs.iter().enumerate() {
-        at = add_run(alloc, index, t, i, run, base, defaults, at)?;
+        at = add_run(alloc, index, t, i, run, base_data_offset, defaults, at)?;
     }
     Ok(at)
 }
@@ -115,20 +115,20 @@ fn add_traf(
     track: SampleDefaults,
     t: usize,
     traf: &TrafBox,
-    base: Option<u64>,
+    base_data_offset: Option<u64>,
     at: RunStart,
 ) -> Result<RunStart, AllocError>
     ensures { IfOk result (λ after.
         Walks (KnowsRuns t traf.now.truns (defaults_in traf.now track))
-        (λ walk. with_traf track walk (traf.now, base)) at after index.old index.new) }
+        (λ walk. with_traf track walk (traf.now, base_data_offset)) at after index.old index.new) }
 {
     let defaults = track.in_traf(traf);
     let first = RunStart {
-        place: base,
+        place: base_data_offset,
         time: traf_time(&traf.tfdt, at.time),
     };
     let runs = traf.truns.as_slice();
-    let last = add_runs(alloc, index, t, runs, base, defaults, first)?;
+    let last = add_runs(alloc, index, t, runs, base_data_offset, defaults, first)?;
     if any_run_samples(traf) {
         Ok(last)
     } else {
@@ -145,18 +145,18 @@ fn add_trafs(
     index: &mut RunIndex,
     track: SampleDefaults,
     trafs: &[TrafBox],
-    bases: &[Option<u64>],
+    base_data_offsets: &[Option<u64>],
     first: RunStart,
 ) -> Result<RunStart, AllocError>
-    requires { length bases.now ≡ length trafs.now }
+    requires { length base_data_offsets.now ≡ length trafs.now }
     ensures { IfOk result (λ after.
         Walks (KnowsTrafs track trafs.now)
-        (λ walk. fold (with_traf track) walk (zip trafs.now bases.now)) first after index.old index.new) }
+        (λ walk. fold (with_traf track) walk (zip trafs.now base_data_offsets.now)) first after index.old index.new) }
 {
     let mut at = first;
     for (t, traf) in trafs.iter().enumerate() {
-        let base = bases[t];
-        at = add_traf(alloc, index, track, t, traf, base, at)?;
+        let base_data_offset = base_data_offsets[t];
+        at = add_traf(alloc, index, track, t, traf, base_data_offset, at)?;
     }
     Ok(at)
 }
@@ -172,26 +172,26 @@ fn count_runs(trafs: &[TrafBox]) -> usize
     count
 }
 
-/// The index of a track's runs: those of its fragments, which have these bases. Its samples before the
+/// The index of a track's runs: those of its fragments, which have these base data offsets. Its samples before the
 /// fragments end at `end`, in ticks of its timescale. No sample is written out, and the lists of runs grow
 /// once. Refused only where memory runs out.
 #[tactic(auto, unfolding(crate::specs::Fragments::placed_runs))]
 pub fn index_of(
     alloc: Global,
     trafs: &[TrafBox],
-    bases: &[Option<u64>],
+    base_data_offsets: &[Option<u64>],
     track: SampleDefaults,
     end: u64,
 ) -> Result<RunIndex, AllocError>
-    requires { length bases.now ≡ length trafs.now }
+    requires { length base_data_offsets.now ≡ length trafs.now }
     ensures { IfOk result (λ index.
-        Indexes (run_at trafs.now track) (placed_runs track end trafs.now bases.now) index) }
+        Indexes (run_at trafs.now track) (placed_runs track end trafs.now base_data_offsets.now) index) }
 {
     let mut index = RunIndex::with_capacity(alloc, count_runs(trafs))?;
     let first = RunStart {
         place: None,
         time: Some(end),
     };
-    add_trafs(alloc, &mut index, track, trafs, bases, first)?;
+    add_trafs(alloc, &mut index, track, trafs, base_data_offsets, first)?;
     Ok(index)
 }

@@ -2,7 +2,7 @@
 
 ghost use Rattle.std.specs.Prelude.{◌≡◌, ℕ, ℤ, ◌+◌, ◌-◌, ◌*◌, ◌/◌, ◌<◌, ◌≤◌, length, IfOk};
 ghost use Rattle.mp4_fragments.specs.Numbers.{plus, moved};
-ghost use Rattle.mp4_fragments.specs.Bases.{data_begins};
+ghost use Rattle.mp4_fragments.specs.BaseDataOffsets.{data_begins};
 ghost use Rattle.mp4_fragments.specs.RunSamples.{at_run_sample};
 ghost use Rattle.mp4_fragments.specs.Checkpoints.{AreCheckpoints};
 
@@ -30,13 +30,17 @@ fn shift(from: Option<u64>, offset: i32) -> Option<u64>
     from?.checked_add_signed(i64::from(offset))
 }
 
-/// Where the data of a run begins: so far from the base as it says, else where the data before it ended.
-pub(crate) fn data_begin(base: Option<u64>, offset: Option<i32>, before: Option<u64>) -> Option<u64>
-    ensures { result ≡ data_begins base offset before }
+/// Where the data of a run begins: so far from the base data offset as it says, else where the data before it ended.
+pub(crate) fn data_begin(
+    base_data_offset: Option<u64>,
+    offset: Option<i32>,
+    before: Option<u64>,
+) -> Option<u64>
+    ensures { result ≡ data_begins base_data_offset offset before }
 {
     match offset {
         None => before,
-        Some(offset) => shift(base, offset),
+        Some(offset) => shift(base_data_offset, offset),
     }
 }
 

@@ -75,15 +75,16 @@ fn indexes_of(
     alloc: Global,
     trak: &TrakBox,
     trafs: &[TrafBox],
-    bases: &[Option<u64>],
+    base_data_offsets: &[Option<u64>],
     defaults: SampleDefaults,
 ) -> std::result::Result<TrackIndexes, AllocError>
-    requires { length bases.now ≡ length trafs.now }
+    requires { length base_data_offsets.now ≡ length trafs.now }
     ensures tables { IfOk result (λ x. IsIndexOf (tables_of trak.now) x.index) }
     ensures runs { IfOk result
         (λ x. Indexes (run_at trafs.now defaults)
-        (placed_runs defaults (movie_end trak.now) trafs.now bases.now) x.runs) }
-    ensures seek { IfOk result (λ x. IsSeekIndex (placed_runs defaults (movie_end trak.now) trafs.now bases.now)
+        (placed_runs defaults (movie_end trak.now) trafs.now base_data_offsets.now) x.runs) }
+    ensures seek { IfOk result (λ x. IsSeekIndex
+        (placed_runs defaults (movie_end trak.now) trafs.now base_data_offsets.now)
         (2 ^ 32 - 1 - (tables_of trak.now).stsz.sample_count) x.seek) }
     ensures counted { OnOk result ((tables_of trak.now).stsz.sample_count < 2 ^ 32) }
 {
@@ -91,7 +92,7 @@ fn indexes_of(
     let count = stbl.stsz.sample_count;
     let index = index_of(alloc, stbl)?;
     let end = end_after(stbl.stts.entries.as_slice(), count);
-    let runs = index_of_runs(alloc, trafs, bases, defaults, end)?;
+    let runs = index_of_runs(alloc, trafs, base_data_offsets, defaults, end)?;
     let seek = seek_index_of(alloc, trafs, defaults, &runs, u32::MAX - count)?;
     Ok(TrackIndexes { index, runs, seek })
 }
@@ -109,25 +110,26 @@ fn duration_in_fragments(trafs: &Items<TrafBox>, defaults: SampleDefaults) -> u3
 
 impl Mp4Track {
     /// Makes the indexes of a track, once, so that its samples are found fast: one of its tables, and one of the runs
-    /// of its fragments, whose places count from these bases, one for each. `defaults` is what the movie says of the
-    /// samples of its fragments. Every box that was read has the first samples that are asked for.
+    /// of its fragments, whose places count from these base data offsets, one for each. `defaults` is what the movie
+    /// says of the samples of its fragments. Every box that was read has the first samples that are asked for.
     pub fn new(
         alloc: Global,
         trak: TrakBox,
         trafs: Items<TrafBox>,
-        bases: &[Option<u64>],
+        base_data_offsets: &[Option<u64>],
         defaults: SampleDefaults,
     ) -> std::result::Result<Self, AllocError>
         requires first_samples { HasFirstSamples (tables_of trak).stsc.entries }
-        requires bases { length bases.now ≡ length trafs }
+        requires base_data_offsets { length base_data_offsets.now ≡ length trafs }
         ensures trak { IfOk result (λ t. t.trak ≡ trak) }
         ensures trafs { IfOk result (λ t. t.trafs ≡ trafs) }
         ensures runs { IfOk result
-            (λ t. runs_of t.trafs t.defaults t.runs ≡ placed_runs defaults (movie_end trak) trafs bases.now) }
+            (λ t. runs_of t.trafs t.defaults t.runs
+            ≡ placed_runs defaults (movie_end trak) trafs base_data_offsets.now) }
         ensures duration { IfOk result
             (λ t. t.default_sample_duration ≡ (if length trafs == 0 then 0 else defaults.duration)) }
     {
-        match indexes_of(alloc, &trak, trafs.as_slice(), bases, defaults) {
+        match indexes_of(alloc, &trak, trafs.as_slice(), base_data_offsets, defaults) {
             Ok(TrackIndexes { index, runs, seek }) => {
                 let default_sample_duration = duration_in_fragments(&trafs, defaults);
                 Ok(Mp4Track {

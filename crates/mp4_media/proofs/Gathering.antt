@@ -27,7 +27,7 @@ use Rattle.mp4_media.specs.FileBoxes.{later}
 use Rattle.mp4_media.specs.MovieTracks.{trak_with_id, trafs_in, trafs_of, defaults_with_id, with_fragments}
 use Rattle.mp4_media.specs.MovieTracks.{opened_track}
 use Rattle.mp4_media.specs.MovieTracks.{track_at, at_id, has_id, fragments_at, AreTracks, default_duration}
-use Rattle.mp4_media.specs.MovieTracks.{movie_defaults, track_bases}
+use Rattle.mp4_media.specs.MovieTracks.{movie_defaults, track_base_data_offsets}
 use Rattle.mp4_media.specs.MovieTracks.{zero_id, unknown_id, unknown_ids, id_fault}
 
 -- the last that passes a test, with one more at the end
@@ -173,9 +173,10 @@ module _ {S T : Type 0} (moov : MoovBox) (moofs : List MoofBox) (places : List �
         (fresh : is_some (at_id tracks t.tkhd.track_id) ≡ false) (trak_is : track.trak ≡ t)
         (trafs_is : track.trafs ≡ fragments_at fragments t.tkhd.track_id)
         (defaults : SampleDefaults) (defaults_is : defaults ≡ movie_defaults moov t.tkhd.track_id)
-        (bases : List (Option ℕ)) (bases_is : bases ≡ track_bases (movie_defaults moov) moofs places t.tkhd.track_id)
+        (offsets : List (Option ℕ))
+        (offsets_is : offsets ≡ track_base_data_offsets (movie_defaults moov) moofs places t.tkhd.track_id)
         (duration_is : track.default_sample_duration ≡ default_duration track.trafs defaults)
-        (runs_is : track_runs track ≡ placed_runs defaults (movie_end t) track.trafs bases)
+        (runs_is : track_runs track ≡ placed_runs defaults (movie_end t) track.trafs offsets)
         (now : (id : ℕ) → at_id after id ≡ cond (nat_eq t.tkhd.track_id id) (Some track) (at_id tracks id))
         (taken : (id : ℕ) → at_id rest id ≡ cond (nat_eq t.tkhd.track_id id) None (at_id fragments id)) where
       unknown : trak_with_id traks t.tkhd.track_id ≡ None
@@ -186,7 +187,7 @@ module _ {S T : Type 0} (moov : MoovBox) (moofs : List MoofBox) (places : List �
 
       is : opened_track track ≡ with_fragments moov moofs places t
       unfolding fragment_samples
-      is = rw (runs_is, duration_is, defaults_is, bases_is, trak_is, same_trafs) refl
+      is = rw (runs_is, duration_is, defaults_is, offsets_is, trak_is, same_trafs) refl
 
       -- its track is made
       pub made-takes : Made moov moofs places (t ∷ traks) after rest

@@ -6,7 +6,7 @@ pub mod OpenAnswers
 pub mod Finishing
 pub mod TwoParts
 pub mod Gathering
-pub mod BasesByTrack
+pub mod BaseDataOffsetsByTrack
 pub mod Reading
 pub mod InOrder
 pub mod Placed

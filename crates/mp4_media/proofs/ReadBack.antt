@@ -69,39 +69,40 @@ id_of id (t ∷ ts) trak e =
 
 -- the ids of these tracks count up from a number on
 abbrev CountUp : ℕ → List TrakBox → Type 0
-CountUp base traks = (k : ℕ) (t : TrakBox) → slice_get traks k ≡ Some t → t.tkhd.track_id ≡ base + k
+CountUp start traks = (k : ℕ) (t : TrakBox) → slice_get traks k ≡ Some t → t.tkhd.track_id ≡ start + k
 
-count_on : (base : ℕ) (t : TrakBox) (ts : List TrakBox) → CountUp base (t ∷ ts) → CountUp (base + 1) ts
-count_on base t ts h k u e = let next = h (suc k) u e in omega (arith, next)
+count_on : (start : ℕ) (t : TrakBox) (ts : List TrakBox) → CountUp start (t ∷ ts) → CountUp (start + 1) ts
+count_on start t ts h k u e = let next = h (suc k) u e in omega (arith, next)
 
 -- none has an id below it
-none_below : (base id : ℕ) (traks : List TrakBox) → CountUp base traks → id < base → trak_with_id traks id ≡ None
-none_below base id [] h l = refl
-none_below base id (t ∷ ts) h l =
+none_below : (start id : ℕ) (traks : List TrakBox) → CountUp start traks → id < start → trak_with_id traks id ≡ None
+none_below start id [] h l = refl
+none_below start id (t ∷ ts) h l =
     let first = h 0 t refl in
     with_first t ts id
     ∙ rw (
-      none_below (base + 1) id ts (count_on base t ts h) (omega (arith, l)),
+      none_below (start + 1) id ts (count_on start t ts h) (omega (arith, l)),
       ne_eqb t.tkhd.track_id id (λ e. omega (arith, e, first, l)),
     ) refl
 
 -- and each is found at its place
-found_at_place : (base k : ℕ) (traks : List TrakBox) → CountUp base traks
-    → trak_with_id traks (base + k) ≡ slice_get traks k
-found_at_place base k [] h = sym (slice_get_past [] k (omega arith))
-found_at_place base zero (t ∷ ts) h =
-    with_first t ts (base + 0)
+found_at_place : (start k : ℕ) (traks : List TrakBox) → CountUp start traks
+    → trak_with_id traks (start + k) ≡ slice_get traks k
+found_at_place start k [] h = sym (slice_get_past [] k (omega arith))
+found_at_place start zero (t ∷ ts) h =
+    with_first t ts (start + 0)
     ∙ rw (
-      none_below (base + 1) (base + 0) ts (count_on base t ts h) (omega arith),
-      eq-eqb t.tkhd.track_id (base + 0) (h 0 t refl),
+      none_below (start + 1) (start + 0) ts (count_on start t ts h) (omega arith),
+      eq-eqb t.tkhd.track_id (start + 0) (h 0 t refl),
     ) refl
-found_at_place base (suc k) (t ∷ ts) h =
+found_at_place start (suc k) (t ∷ ts) h =
     let first = h 0 t refl in
-    let next : (base + 1) + k ≡ base + suc k = omega arith in
-    with_first t ts (base + suc k)
-    ∙ rw (ne_eqb t.tkhd.track_id (base + suc k) (λ e. omega (arith, e, first))) (alone (trak_with_id ts (base + suc k)))
+    let next : (start + 1) + k ≡ start + suc k = omega arith in
+    with_first t ts (start + suc k)
+    ∙ rw (ne_eqb t.tkhd.track_id (start + suc k) (λ e. omega (arith, e, first)))
+    (alone (trak_with_id ts (start + suc k)))
     ∙ ap (trak_with_id ts) (sym next)
-    ∙ found_at_place (base + 1) k ts (count_on base t ts h)
+    ∙ found_at_place (start + 1) k ts (count_on start t ts h)
   where
     alone : (o : Option TrakBox) → later o None ≡ o
     alone (Some x) = refl

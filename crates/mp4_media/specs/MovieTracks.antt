@@ -16,7 +16,7 @@ use Rattle.mp4_moof.specs.declared.mvex.MvexBox.{MvexBox}
 use Rattle.mp4_moof.specs.declared.moof.MoofBox.{MoofBox}
 use Rattle.mp4_moof.specs.declared.traf.TrafBox.{TrafBox}
 use Rattle.mp4_fragments.specs.declared.defaults.SampleDefaults.{SampleDefaults}
-use Rattle.mp4_fragments.specs.Bases.{bases_of}
+use Rattle.mp4_fragments.specs.BaseDataOffsets.{base_data_offsets_of}
 use Rattle.mp4_fragments.specs.Defaults.{defaults_of_trex, no_defaults}
 use Rattle.mp4_fragments.specs.Fragments.{placed_runs, fragment_samples}
 use Rattle.mp4_fragments.specs.RunSamples.{PlacedRun, all_run_samples}
@@ -57,16 +57,17 @@ abbrev pub default_duration : List TrafBox → SampleDefaults → ℕ
 default_duration trafs defaults = if length trafs == 0 then 0 else defaults.duration
 
 -- of the base data offsets of these track fragments, those of this track's
-unfoldable pub own_bases : ℕ → List TrafBox → List (Option ℕ) → List (Option ℕ)
-own_bases id trafs bases =
+unfoldable pub own_base_data_offsets : ℕ → List TrafBox → List (Option ℕ) → List (Option ℕ)
+own_base_data_offsets id trafs base_data_offsets =
     map (λ (x : TrafBox × Option ℕ). x.1)
-    (filter (λ (x : TrafBox × Option ℕ). x.0.tfhd.track_id == id) (zip trafs bases))
+    (filter (λ (x : TrafBox × Option ℕ). x.0.tfhd.track_id == id) (zip trafs base_data_offsets))
 
 -- The base data offsets of this track's fragments; the movie fragments begin at these places, and one may depend on the
 -- data of another track's.
-unfoldable pub track_bases : (ℕ → SampleDefaults) → List MoofBox → List ℕ → ℕ → List (Option ℕ)
-track_bases defaults moofs places id =
-    flat_map (λ (x : MoofBox × ℕ). own_bases id x.0.trafs (bases_of defaults x.1 x.0.trafs)) (zip moofs places)
+unfoldable pub track_base_data_offsets : (ℕ → SampleDefaults) → List MoofBox → List ℕ → ℕ → List (Option ℕ)
+track_base_data_offsets defaults moofs places id =
+    flat_map (λ (x : MoofBox × ℕ). own_base_data_offsets id x.0.trafs (base_data_offsets_of defaults x.1 x.0.trafs))
+    (zip moofs places)
 
 -- a track of an opened movie: what the movie says of it, its fragments, the runs that they add, and the samples of
 -- these
@@ -83,13 +84,13 @@ abbrev pub with_fragments : MoovBox → List MoofBox → List ℕ → TrakBox �
 with_fragments moov moofs places trak =
     let id = trak.tkhd.track_id in
     let trafs = trafs_of (trafs_in moofs) id in
-    let bases = track_bases (movie_defaults moov) moofs places id in
+    let base_data_offsets = track_base_data_offsets (movie_defaults moov) moofs places id in
     record {
       trak = trak;
       trafs = trafs;
       default_sample_duration = default_duration trafs (movie_defaults moov id);
-      runs = placed_runs (movie_defaults moov id) (movie_end trak) trafs bases;
-      run_samples = fragment_samples (movie_defaults moov id) (movie_end trak) trafs bases;
+      runs = placed_runs (movie_defaults moov id) (movie_end trak) trafs base_data_offsets;
+      run_samples = fragment_samples (movie_defaults moov id) (movie_end trak) trafs base_data_offsets;
     }
 
 -- the track with this id in an opened movie with these fragments, which begin at these places
@@ -152,9 +153,9 @@ module _ {S : Type 0} where
   fragments_at m id = unwrap_or (at_id m id) []
 
 module _ {S : Type 0} where
-  -- the bases that are kept for an id
-  abbrev pub bases_at : HashMap ℕ (List (Option ℕ)) S → ℕ → List (Option ℕ)
-  bases_at m id = unwrap_or (at_id m id) []
+  -- the base data offsets that are kept for an id
+  abbrev pub base_data_offsets_at : HashMap ℕ (List (Option ℕ)) S → ℕ → List (Option ℕ)
+  base_data_offsets_at m id = unwrap_or (at_id m id) []
 
 module _ {S : Type 0} where
   -- the defaults that are kept for an id: 0 for all where there are none

@@ -2,14 +2,15 @@
 //! from, and what the movie says of their samples (ISO/IEC 14496-12, 8.8).
 
 ghost use Rattle.std.specs.Prelude.{◌≡◌, ℕ, [], ◌∷◌, ◌++◌, length, ◌==◌, if◌then◌else◌, IfOk, IfErr, OnOk};
-ghost use Rattle.mp4_fragments.specs.Bases.{bases_from, bases_of, traf_ends};
+ghost use Rattle.mp4_fragments.specs.BaseDataOffsets.{base_data_offsets_from, base_data_offsets_of, traf_ends};
 ghost use Rattle.mp4_fragments.specs.declared.defaults.SampleDefaults.{SampleDefaults};
-ghost use Rattle.mp4_media.specs.MovieTracks.{at_id, bases_at, defaults_at, defaults_with_id, fragments_at, own_bases};
-ghost use Rattle.mp4_media.specs.MovieTracks.{track_bases, trafs_in, trafs_of, trexs_in};
+ghost use Rattle.mp4_media.specs.MovieTracks.{at_id, base_data_offsets_at, defaults_at, defaults_with_id, fragments_at};
+ghost use Rattle.mp4_media.specs.MovieTracks.{own_base_data_offsets, track_base_data_offsets, trafs_in, trafs_of};
+ghost use Rattle.mp4_media.specs.MovieTracks.{trexs_in};
 
 use mp4_codec::{Error, Items, Result, TryClone};
 use mp4_frag::TrexBox;
-use mp4_fragments::{SampleDefaults, counts_from_data_before, traf_base, traf_end};
+use mp4_fragments::{SampleDefaults, counts_from_data_before, traf_base_data_offset, traf_end};
 use mp4_moof::{MoofBox, MvexBox, TrafBox};
 use std::alloc::{AllocError, Global};
 use std::collections::HashMap;
@@ -95,17 +96,21 @@ pub(crate) fn track_defaults(defaults: &HashMap<u32, SampleDefaults>, id: u32) -
 }
 
 /// Adds the base data offset of a track fragment to those of its track.
-fn add_base(
+fn add_base_data_offset(
     alloc: Global,
-    bases: &mut HashMap<u32, Items<Option<u64>>>,
+    base_data_offsets: &mut HashMap<u32, Items<Option<u64>>>,
     id: u32,
-    base: Option<u64>,
+    base_data_offset: Option<u64>,
 ) -> std::result::Result<(), AllocError>
     ensures { OnOk result ((other : ℕ)
-        → bases_at bases.new other
-        ≡ (if id == other then bases_at bases.old id ++ base ∷ [] else bases_at bases.old other)) }
+        → base_data_offsets_at base_data_offsets.new other
+        ≡ (if id == other then base_data_offsets_at base_data_offsets.old id ++ base_data_offset ∷ []
+        else base_data_offsets_at base_data_offsets.old other)) }
 {
-    bases.entry(id)?.or_insert(Items::new(alloc)).push(base)?;
+    base_data_offsets
+        .entry(id)?
+        .or_insert(Items::new(alloc))
+        .push(base_data_offset)?;
     Ok(())
 }
 
@@ -115,47 +120,53 @@ fn end_for_next(
     next: &[TrafBox],
     traf: &TrafBox,
     track: SampleDefaults,
-    base: Option<u64>,
+    base_data_offset: Option<u64>,
 ) -> Option<u64>
     ensures { (defaults : ℕ → SampleDefaults) (moof : ℕ)
-        → bases_from defaults moof result next.now
-        ≡ bases_from defaults moof (traf_ends track base traf.now) next.now }
+        → base_data_offsets_from defaults moof result next.now
+        ≡ base_data_offsets_from defaults moof (traf_ends track base_data_offset traf.now) next.now }
 {
     let Some(next) = next.first() else {
         return None;
     };
     if counts_from_data_before(next) {
-        traf_end(traf, track, base)
+        traf_end(traf, track, base_data_offset)
     } else {
         None
     }
 }
 
-/// Adds the base of each of these track fragments, whose movie fragment begins at `moof`, to those of its track.
-fn add_bases(
+/// Adds the base data offset of each of these track fragments, whose movie fragment begins at `moof`, to those of its
+/// track.
+fn add_base_data_offsets(
     alloc: Global,
-    bases: &mut HashMap<u32, Items<Option<u64>>>,
+    base_data_offsets: &mut HashMap<u32, Items<Option<u64>>>,
     defaults: &HashMap<u32, SampleDefaults>,
     moof: u64,
     trafs: &[TrafBox],
 ) -> std::result::Result<(), AllocError>
     ensures { OnOk result ((id : ℕ)
-        → bases_at bases.new id ≡ bases_at bases.old id
-        ++ own_bases id trafs.now (bases_of (defaults_at defaults.now) moof trafs.now)) }
+        → base_data_offsets_at base_data_offsets.new id ≡ base_data_offsets_at base_data_offsets.old id
+        ++ own_base_data_offsets id trafs.now (base_data_offsets_of (defaults_at defaults.now) moof trafs.now)) }
 {
     let mut before = Some(moof);
     for (i, traf) in trafs.iter().enumerate() {
         let id = traf.tfhd.track_id;
-        let base = traf_base(traf, moof, before);
-        add_base(alloc, bases, id, base)?;
-        before = end_for_next(&trafs[i + 1..], traf, track_defaults(defaults, id), base);
+        let base_data_offset = traf_base_data_offset(traf, moof, before);
+        add_base_data_offset(alloc, base_data_offsets, id, base_data_offset)?;
+        before = end_for_next(
+            &trafs[i + 1..],
+            traf,
+            track_defaults(defaults, id),
+            base_data_offset,
+        );
     }
     Ok(())
 }
 
 /// Where the places of all track fragments count from, for each track in file order, by one pass over all
 /// fragments. Each fragment begins at its place.
-pub(crate) fn bases_by_id(
+pub(crate) fn base_data_offsets_by_id(
     alloc: Global,
     moofs: &[MoofBox],
     places: &[u64],
@@ -163,22 +174,31 @@ pub(crate) fn bases_by_id(
 ) -> std::result::Result<HashMap<u32, Items<Option<u64>>>, AllocError>
     requires { length places.now ≡ length moofs.now }
     ensures { IfOk result (λ m. (id : ℕ)
-        → bases_at m id ≡ track_bases (defaults_at defaults.now) moofs.now places.now id) }
+        → base_data_offsets_at m id ≡ track_base_data_offsets (defaults_at defaults.now) moofs.now places.now id) }
 {
-    let mut bases = HashMap::new(alloc);
+    let mut base_data_offsets = HashMap::new(alloc);
     for (i, moof) in moofs.iter().enumerate() {
         let place = places[i];
-        add_bases(alloc, &mut bases, defaults, place, moof.trafs.as_slice())?;
+        add_base_data_offsets(
+            alloc,
+            &mut base_data_offsets,
+            defaults,
+            place,
+            moof.trafs.as_slice(),
+        )?;
     }
-    Ok(bases)
+    Ok(base_data_offsets)
 }
 
-/// The bases of the track with this id.
-pub(crate) fn bases_with_id(bases: &HashMap<u32, Items<Option<u64>>>, id: u32) -> &[Option<u64>]
-    ensures { result.now ≡ bases_at bases.now id }
+/// The base data offsets of the track with this id.
+pub(crate) fn base_data_offsets_with_id(
+    base_data_offsets: &HashMap<u32, Items<Option<u64>>>,
+    id: u32,
+) -> &[Option<u64>]
+    ensures { result.now ≡ base_data_offsets_at base_data_offsets.now id }
 {
-    match bases.get(&id) {
-        Some(bases) => bases.as_slice(),
+    match base_data_offsets.get(&id) {
+        Some(base_data_offsets) => base_data_offsets.as_slice(),
         None => &[],
     }
 }

@@ -2,7 +2,7 @@
 
 pub use mp4_fragments::{
     RunCursor, RunEnd, RunIndex, RunPosition, RunSample, RunStart, RunTimes, SampleDefaults,
-    SeekIndex, SyncSpans, index_of, seek_index_of, traf_base, traf_end,
+    SeekIndex, SyncSpans, index_of, seek_index_of, traf_base_data_offset, traf_end,
 };
 pub use mp4_search::{
     ByGuess, ByHalves, CappedSums, LookedUp, Parted, Readings, Search, SearchHit, SearchedNumbers,

@@ -8,12 +8,13 @@ ghost use Rattle.mp4_fragments.specs.Fragments.{placed_runs};
 ghost use Rattle.mp4_lookup.specs.TrackRuns.{track_runs};
 ghost use Rattle.mp4_samples.specs.Tables.{tables_of};
 ghost use Rattle.mp4_lookup.specs.Tracks.{movie_end};
-ghost use Rattle.mp4_media.specs.MovieTracks.{AreTracks, HaveFirstSamples, RefusedBy, at_id, bases_at};
+ghost use Rattle.mp4_media.specs.MovieTracks.{AreTracks, HaveFirstSamples, RefusedBy, at_id, base_data_offsets_at};
 ghost use Rattle.mp4_media.specs.MovieTracks.{default_duration, defaults_at, fragments_at, has_id, id_fault};
 ghost use Rattle.mp4_media.specs.MovieTracks.{movie_defaults, unknown_id, unknown_ids, zero_id};
 
 use crate::fragments::{
-    bases_by_id, bases_with_id, defaults_by_id, fragments_by_id, track_defaults, trexs_of,
+    base_data_offsets_by_id, base_data_offsets_with_id, defaults_by_id, fragments_by_id,
+    track_defaults, trexs_of,
 };
 use mp4_boxes::{MoovBox, TrakBox};
 use mp4_codec::{Error, Items, Result, TryClone};
@@ -65,23 +66,24 @@ fn check_fragments(tracks: &HashMap<u32, Mp4Track>, moofs: &[MoofBox]) -> Result
     Ok(())
 }
 
-/// A track with a copy of its box, and its fragments, whose places count from these bases.
+/// A track with a copy of its box, and its fragments, whose places count from these base data offsets.
 fn track_with(
     alloc: Global,
     trak: &TrakBox,
     trafs: Items<TrafBox>,
-    bases: &[Option<u64>],
+    base_data_offsets: &[Option<u64>],
     defaults: SampleDefaults,
 ) -> Result<Mp4Track>
     requires first_samples { HasFirstSamples (tables_of trak.now).stsc.entries }
-    requires bases { length bases.now ≡ length trafs }
+    requires base_data_offsets { length base_data_offsets.now ≡ length trafs }
     ensures memory { IfErr result (λ e. e ≡ Error.OutOfMemory) }
     ensures trak { IfOk result (λ t. t.trak ≡ trak.now) }
     ensures trafs { IfOk result (λ t. t.trafs ≡ trafs) }
-    ensures runs { IfOk result (λ t. track_runs t ≡ placed_runs defaults (movie_end trak.now) trafs bases.now) }
+    ensures runs { IfOk result (λ t. track_runs t
+        ≡ placed_runs defaults (movie_end trak.now) trafs base_data_offsets.now) }
     ensures duration { IfOk result (λ t. t.default_sample_duration ≡ default_duration trafs defaults) }
 {
-    let track = Mp4Track::new(alloc, trak.try_clone()?, trafs, bases, defaults)?;
+    let track = Mp4Track::new(alloc, trak.try_clone()?, trafs, base_data_offsets, defaults)?;
     Ok(track)
 }
 
@@ -90,18 +92,19 @@ fn taken_track(
     alloc: Global,
     trak: &TrakBox,
     fragments: &mut HashMap<u32, Items<TrafBox>>,
-    bases: &HashMap<u32, Items<Option<u64>>>,
+    base_data_offsets: &HashMap<u32, Items<Option<u64>>>,
     defaults: &HashMap<u32, SampleDefaults>,
 ) -> Result<Mp4Track>
     requires first_samples { HasFirstSamples (tables_of trak.now).stsc.entries }
-    requires bases { length (bases_at bases.now trak.now.tkhd.track_id)
+    requires base_data_offsets { length (base_data_offsets_at base_data_offsets.now trak.now.tkhd.track_id)
         ≡ length (fragments_at fragments.old trak.now.tkhd.track_id) }
     ensures memory { IfErr result (λ e. e ≡ Error.OutOfMemory) }
     ensures trak { IfOk result (λ t. t.trak ≡ trak.now) }
     ensures trafs { IfOk result (λ t. t.trafs ≡ fragments_at fragments.old trak.now.tkhd.track_id) }
     ensures runs { IfOk result
         (λ t. track_runs t ≡ placed_runs (defaults_at defaults.now trak.now.tkhd.track_id) (movie_end trak.now)
-        (fragments_at fragments.old trak.now.tkhd.track_id) (bases_at bases.now trak.now.tkhd.track_id)) }
+        (fragments_at fragments.old trak.now.tkhd.track_id)
+        (base_data_offsets_at base_data_offsets.now trak.now.tkhd.track_id)) }
     ensures duration { IfOk result
         (λ t. t.default_sample_duration
         ≡ default_duration (fragments_at fragments.old trak.now.tkhd.track_id)
@@ -112,7 +115,13 @@ fn taken_track(
     let id = trak.tkhd.track_id;
     let trafs = fragments.remove(&id).unwrap_or(Items::new(alloc));
     let of_movie = track_defaults(defaults, id);
-    track_with(alloc, trak, trafs, bases_with_id(bases, id), of_movie)
+    track_with(
+        alloc,
+        trak,
+        trafs,
+        base_data_offsets_with_id(base_data_offsets, id),
+        of_movie,
+    )
 }
 
 /// The tracks of a movie as `made_tracks` answers them, where these are the movie's defaults for samples of fragments.
@@ -129,7 +138,7 @@ fn tracks_with_defaults(
     ensures memory { IfErr result (λ e. e ≡ Error.OutOfMemory) }
     ensures tracks { IfOk result (λ m. AreTracks moov.now moofs.now places.now m) }
 {
-    let bases = bases_by_id(alloc, moofs, places, defaults)?;
+    let base_data_offsets = base_data_offsets_by_id(alloc, moofs, places, defaults)?;
     let mut fragments = fragments_by_id(alloc, moofs)?;
     let traks = moov.traks.as_slice();
     let mut tracks = HashMap::new(alloc);
@@ -137,7 +146,7 @@ fn tracks_with_defaults(
         let trak = &traks[index];
         let id = trak.tkhd.track_id;
         if !has_track(&tracks, id) {
-            let track = taken_track(alloc, trak, &mut fragments, &bases, defaults)?;
+            let track = taken_track(alloc, trak, &mut fragments, &base_data_offsets, defaults)?;
             tracks.insert(id, track)?;
         }
     }

@@ -48,7 +48,7 @@ pub struct PlainRun {
 #[derive(Drop)]
 pub struct PlainPart {
     pub id: u32,
-    pub base: Option<u64>,
+    pub base_data_offset: Option<u64>,
     pub counts_from_fragment: bool,
     pub values: PlainValues,
     pub time: Option<u64>,
@@ -182,17 +182,22 @@ fn add_samples(
     Ok(at)
 }
 
-/// Adds the runs of a track fragment, whose places count from a base, to its track. The answer is where its data ends.
-fn add_runs(track: &mut PlainTrack, part: &PlainPart, base: Option<u64>) -> Result<Option<u64>> {
+/// Adds the runs of a track fragment, whose places count from a base data offset, to its track. The answer is where its
+/// data ends.
+fn add_runs(
+    track: &mut PlainTrack,
+    part: &PlainPart,
+    base_data_offset: Option<u64>,
+) -> Result<Option<u64>> {
     track.is_fragmented = true;
     let before = track.samples.len();
     let mut at = RunStart {
-        place: base,
+        place: base_data_offset,
         time: part.time.or(track.end),
     };
     for run in part.runs.as_slice() {
         if let Some(offset) = run.data_offset {
-            at.place = moved(base, offset);
+            at.place = moved(base_data_offset, offset);
         }
         at = add_samples(track, run, &part.values, at)?;
     }
@@ -206,12 +211,12 @@ fn add_runs(track: &mut PlainTrack, part: &PlainPart, base: Option<u64>) -> Resu
 fn add_part(
     tracks: &mut Vec<PlainTrack>,
     part: &PlainPart,
-    base: Option<u64>,
+    base_data_offset: Option<u64>,
 ) -> Result<Option<u64>> {
-    let mut end = base;
+    let mut end = base_data_offset;
     for track in tracks.iter_mut() {
         if track.id == part.id {
-            end = add_runs(track, part, base)?;
+            end = add_runs(track, part, base_data_offset)?;
         }
     }
     Ok(end)
@@ -221,12 +226,12 @@ fn add_part(
 fn add_fragment(tracks: &mut Vec<PlainTrack>, fragment: &PlainFragment) -> Result<()> {
     let mut end = Some(fragment.place);
     for part in fragment.parts.as_slice() {
-        let base = match part.base {
-            Some(base) => Some(base),
+        let base_data_offset = match part.base_data_offset {
+            Some(base_data_offset) => Some(base_data_offset),
             None if part.counts_from_fragment => Some(fragment.place),
             None => end,
         };
-        end = add_part(tracks, part, base)?;
+        end = add_part(tracks, part, base_data_offset)?;
     }
     Ok(())
 }

@@ -118,7 +118,7 @@ fn put_run(
 }
 
 /// Puts the base data offset of a track fragment if its flag is set.
-fn put_base(
+fn put_base_data_offset(
     bytes: &mut Vec<u8>,
     random: &mut Random,
     flags: u32,
@@ -126,23 +126,23 @@ fn put_base(
     if flags & 0x1 == 0 {
         return Ok(None);
     }
-    let base = long_number(random);
-    bytes.extend_from_slice(&base.to_be_bytes())?;
-    Ok(Some(base))
+    let base_data_offset = long_number(random);
+    bytes.extend_from_slice(&base_data_offset.to_be_bytes())?;
+    Ok(Some(base_data_offset))
 }
 
-/// Puts the header of a track fragment, of random flags; one of four has a base of its own.
+/// Puts the header of a track fragment, of random flags; one of four has a base data offset of its own.
 fn put_header(
     alloc: Global,
     bytes: &mut Vec<u8>,
     random: &mut Random,
     id: u32,
 ) -> Result<PlainPart, AllocError> {
-    let own_base = if random.few() == 0 { 0x1 } else { 0 };
-    let flags = random.next() & 0x3_003a | own_base;
+    let own_base_data_offset = if random.few() == 0 { 0x1 } else { 0 };
+    let flags = random.next() & 0x3_003a | own_base_data_offset;
     let start = begin_box(bytes, b"tfhd")?;
     put_pair(bytes, flags, id)?;
-    let base = put_base(bytes, random, flags)?;
+    let base_data_offset = put_base_data_offset(bytes, random, flags)?;
     put_flagged(bytes, flags, 0x2, 1)?;
     let values = PlainValues {
         duration: put_flagged(bytes, flags, 0x8, number(random))?,
@@ -153,7 +153,7 @@ fn put_header(
     end_box(bytes, start);
     Ok(PlainPart {
         id,
-        base,
+        base_data_offset,
         counts_from_fragment: flags & 0x2_0000 != 0,
         values,
         time: None,

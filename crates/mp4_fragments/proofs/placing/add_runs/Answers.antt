@@ -8,7 +8,8 @@ pub loop-i-preserved : goal.loop-i-preserved
 loop-i-preserved c =
     let run = c.index-runs-i.result in
     Walks-more _ (λ find. find c.args.t c.loop-i.i ≡ Some (run, c.args.defaults))
-    (with_run c.args.base c.args.defaults) c.args.runs.now c.loop-i.i run _ _ _ _ _ _ (omega arith) c.index-runs-i.is
+    (with_run c.args.base_data_offset c.args.defaults) c.args.runs.now c.loop-i.i run _ _ _ _ _ _ (omega arith)
+    c.index-runs-i.is
     (λ find k. k.run c.loop-i.i run (omega arith) ∙ ap (λ (r : TrunBox). Some (r, c.args.defaults))
     (sym c.index-runs-i.is))
     c.loop-i.invariant

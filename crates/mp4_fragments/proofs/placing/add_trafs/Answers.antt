@@ -15,21 +15,21 @@ loop-t-preserved c =
     let t = c.loop-t.t in
     let track = c.args.track in
     let trafs = c.args.trafs.now in
-    let bases = c.args.bases.now in
-    let base : Option ℕ = get_or bases t None in
-    Walks-more _ (KnowsRuns t traf.truns (defaults_in traf track)) (with_traf track) (zip trafs bases) t (
+    let base_data_offsets = c.args.base_data_offsets.now in
+    let base_data_offset : Option ℕ = get_or base_data_offsets t None in
+    Walks-more _ (KnowsRuns t traf.truns (defaults_in traf track)) (with_traf track) (zip trafs base_data_offsets) t (
       traf,
-      base,
-    ) _ _ _ _ _ _ (omega (arith, c.requires, length-zip trafs bases))
-    (in_zip trafs bases t traf base None c.requires (omega arith) is refl)
+      base_data_offset,
+    ) _ _ _ _ _ _ (omega (arith, c.requires, length-zip trafs base_data_offsets))
+    (in_zip trafs base_data_offsets t traf base_data_offset None c.requires (omega arith) is refl)
     (λ find k. subst (λ (r : TrafBox). KnowsRuns t r.truns (defaults_in r track) find) (sym is) (k.traf t traf
     (omega arith)))
     c.loop-t.invariant
     c.in_ok-at.ensures
 
 pub returns : goal.returns
-returns c = Walks-whole _ _ (zip c.args.trafs.now c.args.bases.now) c.loop-t.t _ _ _ _ (omega (
+returns c = Walks-whole _ _ (zip c.args.trafs.now c.args.base_data_offsets.now) c.loop-t.t _ _ _ _ (omega (
   arith,
   c.requires,
-  length-zip c.args.trafs.now c.args.bases.now,
+  length-zip c.args.trafs.now c.args.base_data_offsets.now,
 )) c.loop-t.invariant

@@ -1,4 +1,4 @@
-use Rattle.mp4_media.proofs.BasesByTrack.{end_anywhere, end_elsewhere}
+use Rattle.mp4_media.proofs.BaseDataOffsetsByTrack.{end_anywhere, end_elsewhere}
 use Rattle.mp4_media.proofs.fragments.end_for_next.Goals as goal
 
 pub returns-in_default : goal.returns-in_default
