@@ -9,7 +9,7 @@ use mp4_meta::{MetadataKey, equal_keys_hash_alike};
 use mp4_plain_movies::sample_boxes::Number;
 use mp4_plain_movies::sides::Side;
 use mp4_table::{
-    entries_are_no_fewer_than_turns, entries_have_first_samples, runs_are_no_fewer_than_turns,
+    entries_are_no_fewer_than_changes, entries_have_first_samples, runs_are_no_fewer_than_changes,
 };
 
 #[test]
@@ -20,8 +20,8 @@ fn a_law_can_be_called(rt: HostRuntime) {
     payload_has_its_children(&[0, 0, 0, 8, b'f', b'r', b'e', b'e']);
     what_is_written_reads_back(&Number { value: 2 });
     insertion_changes_one_key::<Side, u32>();
-    runs_are_no_fewer_than_turns();
-    entries_are_no_fewer_than_turns();
+    runs_are_no_fewer_than_changes();
+    entries_are_no_fewer_than_changes();
     entries_have_first_samples();
     assert_eq!(rt; code_again(0x66726565), 0x66726565);
 }

@@ -25,7 +25,7 @@ pub use mp4_mux::{
     interleavings_accept_the_same,
 };
 pub use mp4_table::{
-    entries_are_no_fewer_than_turns, entries_have_first_samples, runs_are_no_fewer_than_turns,
+    entries_are_no_fewer_than_changes, entries_have_first_samples, runs_are_no_fewer_than_changes,
 };
 
 /// The bytes of a writer that was begun in an empty buffer, and whose end was Ok, open as a movie that has exactly the

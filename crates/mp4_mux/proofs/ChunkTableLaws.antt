@@ -10,7 +10,7 @@ use Rattle.std.proofs.lemmas.List.Elements.{All-nil, All-cons, All-weaker, All-h
 use Rattle.std.proofs.lemmas.List.Kept.{AllPairs-cons}
 use Rattle.mp4_table.specs.declared.stsc.StscEntry.{StscEntry}
 use Rattle.mp4_table.specs.Chunks.{samples_in, counts}
-use Rattle.mp4_table.specs.Runs.{changes, turns}
+use Rattle.mp4_table.specs.Runs.{changes_after, changes}
 use Rattle.mp4_table.specs.Stsc.{HasFirstSamples}
 use Rattle.mp4_samples.proofs.ChunkLaws.{Rises, length-counts, get_or-counts}
 use Rattle.mp4_mux.specs.SampleTables.{chunk_entries_from, stsc_for}
@@ -154,24 +154,24 @@ first_chunk-stsc_for (n ∷ ns) h some = rw (← first_entry n ns (All-head (λ 
 
 -- an entry changes where the count does
 length-chunk_entries_from : (n chunk sample : ℕ) (ms : List ℕ)
-    → length (chunk_entries_from n chunk sample ms) ≡ changes nat_eq n ms
-unfolding chunk_entries_from changes
+    → length (chunk_entries_from n chunk sample ms) ≡ changes_after nat_eq n ms
+unfolding chunk_entries_from changes_after
 length-chunk_entries_from n chunk sample [] = refl
 length-chunk_entries_from n chunk sample (m ∷ ms) =
     let rest = chunk_entries_from m (chunk + 1) (sample + m) ms in
     let later = length-chunk_entries_from m (chunk + 1) (sample + m) ms in
     cond_both (eqb m n) rest (entry_at chunk sample m ∷ rest)
-    (λ es. length es ≡ cond (eqb n m) 0 1 + changes nat_eq m ms)
+    (λ es. length es ≡ cond (eqb n m) 0 1 + changes_after nat_eq m ms)
     (λ same. rw (eq-eqb n m (sym (eqb-true m n same))) (omega (arith, later)))
     (λ other. rw (ne_eqb n m (λ e. eqb-false m n other (sym e))) (omega (arith, later)))
 
-pub length-stsc_for_changes : (ns : List ℕ) → length (stsc_for ns).entries ≡ changes nat_eq 0 ns
+pub length-stsc_for_changes_after : (ns : List ℕ) → length (stsc_for ns).entries ≡ changes_after nat_eq 0 ns
 unfolding stsc_for
-length-stsc_for_changes ns = length-chunk_entries_from 0 1 1 ns
+length-stsc_for_changes_after ns = length-chunk_entries_from 0 1 1 ns
 
 -- as few entries as there can be
-pub length-stsc_for : (ns : List ℕ) → All (λ n. 1 ≤ n) ns → length (stsc_for ns).entries ≡ turns nat_eq ns
-unfolding turns
+pub length-stsc_for : (ns : List ℕ) → All (λ n. 1 ≤ n) ns → length (stsc_for ns).entries ≡ changes nat_eq ns
+unfolding changes
 length-stsc_for [] h = ap length no_entry
 length-stsc_for (n ∷ ns) h =
     rw (← first_entry n ns (All-head (λ (n : ℕ). 1 ≤ n) n ns h))

@@ -2,13 +2,13 @@
 use Rattle.std.proofs.Common.{◌≡◌, ℕ, ◌+◌, ◌-◌, ◌<◌, ◌≤◌, Bool, true, false, List, [], ◌∷◌, ◌++◌, length}
 use Rattle.std.proofs.Common.{get_or, drop, refl, sym, ap, ◌∙◌, append_assoc, arith, pos}
 use Rattle.std.proofs.lemmas.List.{drop_more, drop_all, nil_from_length}
-use Rattle.mp4_table.specs.Runs.{changes, turns}
+use Rattle.mp4_table.specs.Runs.{changes_after, changes}
 use Rattle.mp4_mux.specs.declared.sample_info.SampleInfo.{SampleInfo}
 use Rattle.mp4_mux.specs.SampleTables.{runs_from, runs_of}
 
 -- how many members from i on differ from the one before them
 abbrev pub changes_at : {X : Type 0} → (X → X → Bool) → X → List X → ℕ → ℕ
-changes_at same d xs i = changes same (get_or xs (i - 1) d) (drop i xs)
+changes_at same d xs i = changes_after same (get_or xs (i - 1) d) (drop i xs)
 
 -- what a slice of samples has past its end
 abbrev pub no_sample : SampleInfo
@@ -54,28 +54,28 @@ module _ {X R : Type 0} (same : X → X → Bool) (run : ℕ → X → R) (d : X
   runs_at_end n i h = rw (← h, drop_all (length xs) xs (omega arith)) refl
 
 module _ {X : Type 0} (same : X → X → Bool) (d : X) (xs : List X) where
-  pub no_turns : length xs ≡ 0 → 0 ≡ turns same xs
-  unfolding turns
-  no_turns h = rw (nil_from_length xs h) refl
+  pub no_changes : length xs ≡ 0 → 0 ≡ changes same xs
+  unfolding changes
+  no_changes h = rw (nil_from_length xs h) refl
 
-  pub changes_at_first : 0 < length xs → 1 + changes_at same d xs 1 ≡ turns same xs
-  unfolding turns
-  changes_at_first h = sym (ap (λ ys. turns same ys) (drop_more xs 0 d h))
+  pub changes_at_first : 0 < length xs → 1 + changes_at same d xs 1 ≡ changes same xs
+  unfolding changes
+  changes_at_first h = sym (ap (λ ys. changes same ys) (drop_more xs 0 d h))
 
   pub changes_at_same : (i : ℕ) → i < length xs → same (get_or xs (i - 1) d) (get_or xs i d) ≡ true
       → changes_at same d xs i ≡ changes_at same d xs (i + 1)
-  unfolding changes
+  unfolding changes_after
   changes_at_same i h e =
       let at : i + 1 - 1 ≡ i = omega arith in
       rw (drop_more xs i d h, e, at) (omega arith)
 
   pub changes_at_other : (i : ℕ) → i < length xs → same (get_or xs (i - 1) d) (get_or xs i d) ≡ false
       → changes_at same d xs i ≡ 1 + changes_at same d xs (i + 1)
-  unfolding changes
+  unfolding changes_after
   changes_at_other i h e =
       let at : i + 1 - 1 ≡ i = omega arith in
       rw (drop_more xs i d h, e, at) refl
 
   pub changes_at_end : (i : ℕ) → length xs ≤ i → changes_at same d xs i ≡ 0
-  unfolding changes
+  unfolding changes_after
   changes_at_end i h = rw (drop_all i xs h) refl

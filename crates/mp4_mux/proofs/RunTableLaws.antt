@@ -4,39 +4,39 @@ use Rattle.std.proofs.Common.{refl, ap, ◌∙◌, append_assoc, arith}
 use Rattle.std.proofs.lemmas.Bool.{cond_both}
 use Rattle.std.proofs.lemmas.List.{replicate_more}
 use Rattle.std.proofs.lemmas.List.Concat.{flat_map-cons}
-use Rattle.mp4_table.specs.Runs.{expand, changes, turns}
+use Rattle.mp4_table.specs.Runs.{expand, changes_after, changes}
 use Rattle.mp4_mux.specs.SampleTables.{runs_from, runs_of}
 
 -- as many runs as members that are the first or differ from the one before
 length-runs_from : {X R : Type 0} (same : X → X → Bool) (run : ℕ → X → R) (n : ℕ) (x : X) (ys : List X)
-    → length (runs_from same run n x ys) ≡ suc (changes same x ys)
-unfolding runs_from changes
+    → length (runs_from same run n x ys) ≡ suc (changes_after same x ys)
+unfolding runs_from changes_after
 length-runs_from same run n x [] = refl
 length-runs_from same run n x (y ∷ ys) =
     (elim (same x y) as (λ b. length (cond b (runs_from same run (n + 1) y ys) (run n x ∷ runs_from same run 1 y ys))
-    ≡ suc (cond b 0 1 + changes same y ys)) [
+    ≡ suc (cond b 0 1 + changes_after same y ys)) [
       | true ↦ omega (arith, length-runs_from same run (n + 1) y ys)
       | false ↦ omega (arith, length-runs_from same run 1 y ys)
     ])
 
 pub length-runs_of : {X R : Type 0} (same : X → X → Bool) (run : ℕ → X → R) (xs : List X)
-    → length (runs_of same run xs) ≡ turns same xs
-unfolding runs_of turns
+    → length (runs_of same run xs) ≡ changes same xs
+unfolding runs_of changes
 length-runs_of same run [] = refl
 length-runs_of same run (x ∷ xs) = omega (arith, length-runs_from same run 1 x xs)
 
--- turns of what f says of the members
-changes-map : {X A : Type 0} (same : A → A → Bool) (f : X → A) (x : X) (ys : List X)
-    → changes same (f x) (map f ys) ≡ changes (λ a b. same (f a) (f b)) x ys
-unfolding changes
-changes-map same f x [] = refl
-changes-map same f x (y ∷ ys) = ap (λ n. cond (same (f x) (f y)) 0 1 + n) (changes-map same f y ys)
+-- changes of what f says of the members
+changes_after-map : {X A : Type 0} (same : A → A → Bool) (f : X → A) (x : X) (ys : List X)
+    → changes_after same (f x) (map f ys) ≡ changes_after (λ a b. same (f a) (f b)) x ys
+unfolding changes_after
+changes_after-map same f x [] = refl
+changes_after-map same f x (y ∷ ys) = ap (λ n. cond (same (f x) (f y)) 0 1 + n) (changes_after-map same f y ys)
 
-pub turns-map : {X A : Type 0} (same : A → A → Bool) (f : X → A) (xs : List X)
-    → turns same (map f xs) ≡ turns (λ a b. same (f a) (f b)) xs
-unfolding turns
-turns-map same f [] = refl
-turns-map same f (x ∷ xs) = ap (λ n. 1 + n) (changes-map same f x xs)
+pub changes-map : {X A : Type 0} (same : A → A → Bool) (f : X → A) (xs : List X)
+    → changes same (map f xs) ≡ changes (λ a b. same (f a) (f b)) xs
+unfolding changes
+changes-map same f [] = refl
+changes-map same f (x ∷ xs) = ap (λ n. 1 + n) (changes_after-map same f x xs)
 
 -- a run has a count and a value: the value that f says of each of its members
 pub record IsRun {X R A : Type 0} (same : X → X → Bool) (run : ℕ → X → R) (count : R → ℕ) (value : R → A) (f : X → A)

@@ -7,11 +7,11 @@ use Rattle.std.specs.List.{All}
 use Rattle.std.proofs.lemmas.Bool.{eqb-true, cond_both}
 use Rattle.std.proofs.lemmas.Bool.Decides.{Decides-int_eq, Decides-by_and}
 use Rattle.mp4_table.specs.declared.ctts.CttsBox.{CttsBox}
-use Rattle.mp4_table.specs.Runs.{durations, rendering_offsets, turns}
+use Rattle.mp4_table.specs.Runs.{durations, rendering_offsets, changes}
 use Rattle.mp4_mux.specs.declared.sample_info.SampleInfo.{SampleInfo}
 use Rattle.mp4_mux.specs.SampleTables.{runs_of, same_duration, stts_run, stts_for, same_offset, ctts_run, ctts_for}
 use Rattle.mp4_mux.specs.SampleTables.{are_in_order}
-use Rattle.mp4_mux.proofs.RunTableLaws.{length-runs_of, turns-map, IsRun, expand-runs_of}
+use Rattle.mp4_mux.proofs.RunTableLaws.{length-runs_of, changes-map, IsRun, expand-runs_of}
 
 stts_runs : IsRun same_duration stts_run (λ r. r.sample_count) (λ r. r.sample_delta) (λ s. s.duration)
 stts_runs = record {
@@ -28,10 +28,10 @@ durations-stts_for ss =
 
 -- as few entries as there can be
 pub length-stts_for : (ss : List SampleInfo)
-    → length (stts_for ss).entries ≡ turns nat_eq (map (λ s. s.duration) ss)
+    → length (stts_for ss).entries ≡ changes nat_eq (map (λ s. s.duration) ss)
 unfolding stts_for
 length-stts_for ss =
-    length-runs_of same_duration stts_run ss ∙ sym (turns-map nat_eq (λ s. s.duration) ss)
+    length-runs_of same_duration stts_run ss ∙ sym (changes-map nat_eq (λ s. s.duration) ss)
 
 ctts_runs : IsRun same_offset ctts_run (λ r. r.sample_count) (λ r. r.sample_offset) (λ s. s.rendering_offset)
 ctts_runs = record {
@@ -60,11 +60,11 @@ ctts_for-renders ss =
     ctts_runs ss)
 
 pub length-ctts_for : (ss : List SampleInfo)
-    → IfSome (ctts_for ss) (λ ctts. length ctts.entries ≡ turns int_eq (map (λ s. s.rendering_offset) ss))
+    → IfSome (ctts_for ss) (λ ctts. length ctts.entries ≡ changes int_eq (map (λ s. s.rendering_offset) ss))
 unfolding ctts_for
 length-ctts_for ss =
     let table : CttsBox = record { version = 0; flags = 0; entries = runs_of same_offset ctts_run ss } in
     cond_both (are_in_order ss) None (Some table)
-    (λ ctts. IfSome ctts (λ c. length c.entries ≡ turns int_eq (map (λ s. s.rendering_offset) ss)))
+    (λ ctts. IfSome ctts (λ c. length c.entries ≡ changes int_eq (map (λ s. s.rendering_offset) ss)))
     (λ _. tt)
-    (λ _. length-runs_of same_offset ctts_run ss ∙ sym (turns-map int_eq (λ s. s.rendering_offset) ss))
+    (λ _. length-runs_of same_offset ctts_run ss ∙ sym (changes-map int_eq (λ s. s.rendering_offset) ss))

@@ -10,7 +10,7 @@ use Rattle.mp4_codec.specs.Boxes.{optional}
 use Rattle.mp4_codec.specs.FramingLaws.{length-box_bytes}
 use Rattle.mp4_codec.specs.declared.box_type.BoxType.TheVariants.{CttsBox as ctts, StssBox as stss, StcoBox as stco}
 use Rattle.mp4_codec.specs.declared.box_type.BoxType.TheVariants.{Co64Box as co64}
-use Rattle.mp4_table.specs.Runs.{changes}
+use Rattle.mp4_table.specs.Runs.{changes_after}
 use Rattle.mp4_table.specs.Stts.{stts_payload}
 use Rattle.mp4_table.specs.SttsLaws.{length-stts_payload}
 use Rattle.mp4_table.specs.Ctts.{ctts_payload}
@@ -31,7 +31,7 @@ use Rattle.mp4_mux.specs.SampleTables.{runs_of, same_duration, stts_run, same_of
 use Rattle.mp4_mux.specs.SampleTables.{sync_numbers_from, one_size, listed_sizes, are_far, stts_for, ctts_for, stss_for}
 use Rattle.mp4_mux.specs.SampleTables.{stsz_for, stsc_for, stco_for, co64_for}
 use Rattle.mp4_mux.specs.ChunkLists.{places_length}
-use Rattle.mp4_mux.proofs.ChunkTableLaws.{length-stsc_for_changes}
+use Rattle.mp4_mux.proofs.ChunkTableLaws.{length-stsc_for_changes_after}
 
 pub size_of_stts : (ss : List SampleInfo)
     → length (stts_payload (stts_for ss)) ≡ 8 + length (runs_of same_duration stts_run ss) * 8
@@ -91,42 +91,42 @@ unfolding stsz_for listed_sizes
 size_of_stsz_of_one ss e =
     length-stsz_payload (stsz_for ss) ∙ rw (ne_eqb (one_size ss) 0 e) refl
 
-pub size_of_stsc : (ns : List ℕ) → length (stsc_payload (stsc_for ns)) ≡ 8 + changes nat_eq 0 ns * 12
-size_of_stsc ns = omega (arith, length-stsc_payload (stsc_for ns), length-stsc_for_changes ns)
+pub size_of_stsc : (ns : List ℕ) → length (stsc_payload (stsc_for ns)) ≡ 8 + changes_after nat_eq 0 ns * 12
+size_of_stsc ns = omega (arith, length-stsc_payload (stsc_for ns), length-stsc_for_changes_after ns)
 
 -- how many chunks from chunk i on, and of those after all, have another number of samples than the one before them
 abbrev pub changes_at : List ChunkPlace → List ChunkPlace → ℕ → ℕ → ℕ
-changes_at cs behind n i = changes nat_eq n (map (λ c. c.count) (drop i cs ++ behind))
+changes_at cs rest n i = changes_after nat_eq n (map (λ c. c.count) (drop i cs ++ rest))
 
-module _ (cs behind : List ChunkPlace) (d : ChunkPlace) where
+module _ (cs rest : List ChunkPlace) (d : ChunkPlace) where
   pub changes_at_same : (n i : ℕ) → i < length cs → (get_or cs i d).count ≡ n
-      → changes_at cs behind n i ≡ changes_at cs behind n (i + 1)
-  unfolding changes
+      → changes_at cs rest n i ≡ changes_at cs rest n (i + 1)
+  unfolding changes_after
   changes_at_same n i h e = rw (drop_more cs i d h, e, eq-eqb n n refl) (omega arith)
 
   pub changes_at_other : (n i : ℕ) → i < length cs → ((get_or cs i d).count ≡ n → ⊥)
-      → changes_at cs behind n i ≡ 1 + changes_at cs behind (get_or cs i d).count (i + 1)
-  unfolding changes
+      → changes_at cs rest n i ≡ 1 + changes_at cs rest (get_or cs i d).count (i + 1)
+  unfolding changes_after
   changes_at_other n i h e = rw (drop_more cs i d h, ne_eqb n (get_or cs i d).count (λ same. e (sym same))) refl
 
   pub changes_at_end : (n i : ℕ) → length cs ≤ i
-      → changes_at cs behind n i ≡ changes nat_eq n (map (λ c. c.count) behind)
+      → changes_at cs rest n i ≡ changes_after nat_eq n (map (λ c. c.count) rest)
   changes_at_end n i h = rw (drop_all i cs h) refl
 
 -- how many of the chunks after all have another number of samples than the one before them, n
 pub changes_none : (n : ℕ) (last : Option ChunkPlace) → last ≡ None
-    → changes nat_eq n (map (λ c. c.count) (option_to_list last)) ≡ 0
-unfolding changes
+    → changes_after nat_eq n (map (λ c. c.count) (option_to_list last)) ≡ 0
+unfolding changes_after
 changes_none n last e = rw e refl
 
 pub changes_same : (n : ℕ) (last : Option ChunkPlace) (c : ChunkPlace) → last ≡ Some c → c.count ≡ n
-    → changes nat_eq n (map (λ c. c.count) (option_to_list last)) ≡ 0
-unfolding changes
+    → changes_after nat_eq n (map (λ c. c.count) (option_to_list last)) ≡ 0
+unfolding changes_after
 changes_same n last c e same = rw (e, same, eq-eqb n n refl) refl
 
 pub changes_other : (n : ℕ) (last : Option ChunkPlace) (c : ChunkPlace) → last ≡ Some c → (c.count ≡ n → ⊥)
-    → changes nat_eq n (map (λ c. c.count) (option_to_list last)) ≡ 1
-unfolding changes
+    → changes_after nat_eq n (map (λ c. c.count) (option_to_list last)) ≡ 1
+unfolding changes_after
 changes_other n last c e other = rw (e, ne_eqb n c.count (λ same. other (sym same))) refl
 
 pub size_of_stco : (os : List ℕ) → are_far os ≡ false → places_length os ≡ 16 + length os * 4

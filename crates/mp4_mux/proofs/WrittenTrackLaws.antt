@@ -9,7 +9,7 @@ use Rattle.std.proofs.lemmas.List.Elements.{All-map}
 use Rattle.std.proofs.lemmas.List.Sums.{sum-map, sum_by-cons}
 use Rattle.std.proofs.lemmas.Simd.{map-map}
 use Rattle.mp4_table.specs.Chunks.{counts, places}
-use Rattle.mp4_table.specs.Runs.{turns}
+use Rattle.mp4_table.specs.Runs.{changes}
 use Rattle.mp4_entry.specs.declared.config.MediaConfig.{MediaConfig}
 use Rattle.mp4_entry.specs.declared.config.MediaConfig.TheVariants.{AvcConfig as Avc, HevcConfig as Hevc}
 use Rattle.mp4_entry.specs.declared.config.MediaConfig.TheVariants.{Vp9Config as Vp9, AacConfig as Aac}
@@ -121,10 +121,10 @@ module _ (m : ℕ) (id : ℕ) (config : TrackConfig) (front : List ℕ) (cs : Li
 
     fewest : HasFewestEntries (stbl_for track) ss
     fewest = record {
-      stts = length-stts_for infos ∙ ap (turns nat_eq) (map-map (λ (i : SampleInfo). i.duration) info_of ss);
-      ctts = subst (λ offsets. IfSome (ctts_for infos) (λ ctts. length ctts.entries ≡ turns int_eq offsets))
+      stts = length-stts_for infos ∙ ap (changes nat_eq) (map-map (λ (i : SampleInfo). i.duration) info_of ss);
+      ctts = subst (λ offsets. IfSome (ctts_for infos) (λ ctts. length ctts.entries ≡ changes int_eq offsets))
           (map-map (λ (i : SampleInfo). i.rendering_offset) info_of ss) (length-ctts_for infos);
-      stsc = length-stsc_for ns some-counted ∙ ap (turns nat_eq) (sym counts-are);
+      stsc = length-stsc_for ns some-counted ∙ ap (changes nat_eq) (sym counts-are);
     }
 
     -- its box is one of a written track

@@ -6,7 +6,7 @@ use Rattle.std.specs.List.{All, filter, flat_map}
 use Rattle.std.specs.Ordering.{int_eq}
 use Rattle.mp4_codec.specs.Cause.{Cause}
 use Rattle.mp4_table.specs.Chunks.{counts, laid_from}
-use Rattle.mp4_table.specs.Runs.{turns}
+use Rattle.mp4_table.specs.Runs.{changes}
 use Rattle.mp4_entry.specs.Config.{media_type_in}
 use Rattle.mp4_entry.specs.Stsd.{first_entry}
 use Rattle.mp4_entry.specs.TrackType.{track_type_of}
@@ -38,9 +38,9 @@ pub record Finds (file : List ℕ) (answer : Result (Option Place) Cause) (s : T
 -- (8.6.1.2), the same of rendering offsets (8.6.1.3), and the same of chunks by how many samples they have (8.7.4).
 -- That no table with the same meaning has fewer is a law of mp4_table.
 pub record HasFewestEntries (t : StblBox) (ss : List Sample) : Type 0 where
-  pub stts : length t.stts.entries ≡ turns nat_eq (map (λ s. s.duration) ss)
-  pub ctts : IfSome t.ctts (λ ctts. length ctts.entries ≡ turns int_eq (map (λ s. s.rendering_offset) ss))
-  pub stsc : length t.stsc.entries ≡ turns nat_eq (counts t.stsc.entries (length (chunk_offsets t)))
+  pub stts : length t.stts.entries ≡ changes nat_eq (map (λ s. s.duration) ss)
+  pub ctts : IfSome t.ctts (λ ctts. length ctts.entries ≡ changes int_eq (map (λ s. s.rendering_offset) ss))
+  pub stsc : length t.stsc.entries ≡ changes nat_eq (counts t.stsc.entries (length (chunk_offsets t)))
 
 -- The box of an accepted track: its id (8.3.2), the ticks in a second and the language of the configuration (8.4.2),
 -- its kind of track (8.4.3) and of coding (8.5.2), as many samples as were accepted, and where there are any, tables

@@ -6,7 +6,7 @@ ghost use Rattle.std.specs.Prelude.{◌≡◌, ◌+◌, ◌^◌, ◌<◌, length
 ghost use Rattle.std.specs.List.{count_by};
 ghost use Rattle.mp4_codec.specs.Boxes.{optional};
 ghost use Rattle.mp4_codec.specs.declared.box_type.BoxType.TheVariants.{CttsBox as ctts, StssBox as stss};
-ghost use Rattle.mp4_table.specs.Runs.{changes};
+ghost use Rattle.mp4_table.specs.Runs.{changes_after};
 ghost use Rattle.mp4_table.specs.Stts.{stts_payload};
 ghost use Rattle.mp4_table.specs.Ctts.{ctts_payload};
 ghost use Rattle.mp4_table.specs.Stss.{stss_payload};
@@ -81,7 +81,7 @@ pub fn stsz_size(samples: &[SampleInfo]) -> u64
 /// than the one before.
 fn chunk_entry_count(chunks: &[ChunkPlace], last: &Option<ChunkPlace>) -> u64
     requires { length chunks.now < 2 ^ 32 }
-    ensures value { result ≡ changes nat_eq 0 (sample_counts (and_last chunks.now last.now)) }
+    ensures value { result ≡ changes_after nat_eq 0 (sample_counts (and_last chunks.now last.now)) }
     ensures small { result < 2 ^ 33 }
 {
     let mut before: u32 = 0;

@@ -1,4 +1,4 @@
--- Entries are at least as many as the turns of the counts of their chunks.
+-- Entries are at least as many as the changes of the counts of their chunks.
 use Rattle.std.proofs.Common.{◌≡◌, ℕ, zero, suc, ◌+◌, ◌-◌, ◌<◌, ◌≤◌, Bool, true, false, cond, leb, List, [], ◌∷◌}
 use Rattle.std.proofs.Common.{◌++◌, length, replicate, nat_eq, Option, Some, None, IsSome, IsSomeAnd, slice_get}
 use Rattle.std.proofs.Common.{option_map, unwrap_or, is_some, refl, sym, ap, ◌∙◌, subst, append_assoc, arith, add-one}
@@ -9,9 +9,9 @@ use Rattle.std.proofs.lemmas.List.{append-nil, length_push, replicate_more}
 use Rattle.std.proofs.lemmas.List.Sums.{fold-append}
 use Rattle.std.proofs.lemmas.List.FromFn.{map-range_with_len_more}
 use Rattle.mp4_table.specs.declared.stsc.StscEntry.{StscEntry}
-use Rattle.mp4_table.specs.Runs.{turns}
+use Rattle.mp4_table.specs.Runs.{changes}
 use Rattle.mp4_table.specs.Chunks.{entry_of, samples_in, counts, EachHasEntry}
-use Rattle.mp4_table.proofs.Turns.{turns-run_behind}
+use Rattle.mp4_table.proofs.Changes.{changes-last_run}
 
 -- a fact of each list, built up from the front
 from_front : {A : Type 0} (P : List A → Type 0) → P [] → ((xs : List A) (x : A) → P xs → P (xs ++ x ∷ []))
@@ -95,39 +95,39 @@ have_entry : (es : List StscEntry) (e : StscEntry) (n m : ℕ) → n < e.first_c
     → EachHasEntry (es ++ e ∷ []) m → EachHasEntry es n
 have_entry es e n m h le each c one within = rw (entry_of-before es e c (omega arith)) at (each c one (omega arith))
 
-abbrev AtLeastTheTurns : List StscEntry → Type 0
-AtLeastTheTurns es = (n : ℕ) → EachHasEntry es n → turns nat_eq (counts es n) ≤ length es
+abbrev AtLeastTheChanges : List StscEntry → Type 0
+AtLeastTheChanges es = (n : ℕ) → EachHasEntry es n → changes nat_eq (counts es n) ≤ length es
 
-no_entry : AtLeastTheTurns []
-unfolding turns counts
+no_entry : AtLeastTheChanges []
+unfolding changes counts
 no_entry zero each = omega arith
 no_entry (suc n) each = absurd (true≢false (sym (each 1 (omega arith) (omega arith))))
 
-one_more : (es : List StscEntry) (e : StscEntry) → AtLeastTheTurns es → AtLeastTheTurns (es ++ e ∷ [])
-one_more es e p n each = ⊎_elim before behind (cases_lt n e.first_chunk)
+one_more : (es : List StscEntry) (e : StscEntry) → AtLeastTheChanges es → AtLeastTheChanges (es ++ e ∷ [])
+one_more es e p n each = ⊎_elim before after (cases_lt n e.first_chunk)
   where
-    before : n < e.first_chunk → turns nat_eq (counts (es ++ e ∷ []) n) ≤ length (es ++ e ∷ [])
+    before : n < e.first_chunk → changes nat_eq (counts (es ++ e ∷ []) n) ≤ length (es ++ e ∷ [])
     before h = rw (counts-before es e n h)
         (omega (arith, p n (have_entry es e n n h (omega arith) each), length_push es e))
 
     from : (k : ℕ) → k ≤ n → e.first_chunk ≤ k + 1 → counts (es ++ e ∷ []) k ≡ counts es k → EachHasEntry es k
-        → turns nat_eq (counts (es ++ e ∷ []) n) ≤ length (es ++ e ∷ [])
+        → changes nat_eq (counts (es ++ e ∷ []) n) ≤ length (es ++ e ∷ [])
     from k le h same with_entry =
         let whole : n ≡ k + (n - k) = omega arith in
         let cut : counts (es ++ e ∷ []) n ≡ counts es k ++ replicate (n - k) e.samples_per_chunk =
         ap (counts (es ++ e ∷ [])) whole ∙ counts-from es e k (n - k) same h in
         rw cut (omega (
           arith,
-          turns-run_behind nat_eq (λ x. eq-eqb x x refl) (counts es k) (n - k)
+          changes-last_run nat_eq (λ x. eq-eqb x x refl) (counts es k) (n - k)
               e.samples_per_chunk,
           p k with_entry,
           length_push es e,
         ))
 
-    behind : e.first_chunk ≤ n → turns nat_eq (counts (es ++ e ∷ []) n) ≤ length (es ++ e ∷ [])
-    behind h = at_first e.first_chunk refl
+    after : e.first_chunk ≤ n → changes nat_eq (counts (es ++ e ∷ []) n) ≤ length (es ++ e ∷ [])
+    after h = at_first e.first_chunk refl
       where
-        at_first : (f : ℕ) → e.first_chunk ≡ f → turns nat_eq (counts (es ++ e ∷ []) n) ≤ length (es ++ e ∷ [])
+        at_first : (f : ℕ) → e.first_chunk ≡ f → changes nat_eq (counts (es ++ e ∷ []) n) ≤ length (es ++ e ∷ [])
         at_first zero is =
             from 0 (omega arith) (omega arith) (no_chunks (es ++ e ∷ []) ∙ sym (no_chunks es))
             (λ c one within. absurd (omega arith))
@@ -135,8 +135,8 @@ one_more es e p n each = ⊎_elim before behind (cases_lt n e.first_chunk)
             from k (omega arith) (omega arith) (counts-before es e k (omega arith))
             (have_entry es e k n (omega arith) (omega arith) each)
 
-pub turns-counts : (es : List StscEntry) → AtLeastTheTurns es
-turns-counts es = from_front AtLeastTheTurns no_entry one_more es
+pub changes-counts : (es : List StscEntry) → AtLeastTheChanges es
+changes-counts es = from_front AtLeastTheChanges no_entry one_more es
 
 -- what was found stays found
 stays_found : (es : List StscEntry) (c : ℕ) (found : Option StscEntry) → IsSome found

@@ -1,5 +1,5 @@
 pub mod Sizes
 pub mod Numbering
-pub mod Turns
+pub mod Changes
 pub mod Entries
 pub mod Runs

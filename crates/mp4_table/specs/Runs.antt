@@ -17,11 +17,11 @@ abbrev pub rendering_offsets : List CttsEntry → List ℤ
 rendering_offsets runs = expand (λ r. r.sample_count) (λ r. r.sample_offset) runs
 
 -- how many members differ from the one before them; before the first is x
-unfoldable pub changes : {A : Type 0} → (A → A → Bool) → A → List A → ℕ
-changes same x [] = 0
-changes same x (y ∷ ys) = (if same x y then 0 else 1) + changes same y ys
+unfoldable pub changes_after : {A : Type 0} → (A → A → Bool) → A → List A → ℕ
+changes_after same x [] = 0
+changes_after same x (y ∷ ys) = (if same x y then 0 else 1) + changes_after same y ys
 
 -- how many members are the first or differ from the one before
-unfoldable pub turns : {A : Type 0} → (A → A → Bool) → List A → ℕ
-turns same [] = 0
-turns same (x ∷ xs) = 1 + changes same x xs
+unfoldable pub changes : {A : Type 0} → (A → A → Bool) → List A → ℕ
+changes same [] = 0
+changes same (x ∷ xs) = 1 + changes_after same x xs

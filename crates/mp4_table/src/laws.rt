@@ -8,22 +8,22 @@ ghost use Rattle.mp4_table.specs.declared.stts.SttsEntry.{SttsEntry};
 ghost use Rattle.mp4_table.specs.declared.ctts.CttsEntry.{CttsEntry};
 ghost use Rattle.mp4_table.specs.declared.stsc.StscEntry.{StscEntry};
 ghost use Rattle.mp4_table.specs.declared.stsc.StscBox.{StscBox};
-ghost use Rattle.mp4_table.specs.Runs.{durations, rendering_offsets, turns};
+ghost use Rattle.mp4_table.specs.Runs.{durations, rendering_offsets, changes};
 ghost use Rattle.mp4_table.specs.Chunks.{counts, EachHasEntry};
 ghost use Rattle.mp4_table.specs.Stsc.{stsc_of, HasFirstSamples};
 
-/// No table of runs has fewer entries than the list that it stands for has turns: members that are the
+/// No table of runs has fewer entries than the list that it stands for has changes: members that are the
 /// first or differ from the one before.
-pub fn runs_are_no_fewer_than_turns()
-    ensures durations { (runs : List SttsEntry) → turns nat_eq (durations runs) ≤ length runs }
-    ensures rendering_offsets { (runs : List CttsEntry) → turns int_eq (rendering_offsets runs) ≤ length runs }
+pub fn runs_are_no_fewer_than_changes()
+    ensures durations { (runs : List SttsEntry) → changes nat_eq (durations runs) ≤ length runs }
+    ensures rendering_offsets { (runs : List CttsEntry) → changes int_eq (rendering_offsets runs) ≤ length runs }
 {}
 
 /// Where each of the chunks 1 to n has an entry, no table has fewer entries than the counts of samples
-/// in these chunks have turns. Each has an entry where the first entry begins with chunk 1.
-pub fn entries_are_no_fewer_than_turns()
+/// in these chunks have changes. Each has an entry where the first entry begins with chunk 1.
+pub fn entries_are_no_fewer_than_changes()
     ensures counts { (entries : List StscEntry) (n : ℕ) → EachHasEntry entries n
-        → turns nat_eq (counts entries n) ≤ length entries }
+        → changes nat_eq (counts entries n) ≤ length entries }
     ensures from_one { (entries : List StscEntry) (n : ℕ) → IsSomeAnd (slice_get entries 0) (λ e. e.first_chunk ≡ 1)
         → EachHasEntry entries n }
 {}

@@ -15,7 +15,7 @@ mod table;
 pub use co64::Co64Box;
 pub use ctts::{CttsBox, CttsEntry};
 pub use laws::{
-    entries_are_no_fewer_than_turns, entries_have_first_samples, runs_are_no_fewer_than_turns,
+    entries_are_no_fewer_than_changes, entries_have_first_samples, runs_are_no_fewer_than_changes,
 };
 pub use stco::StcoBox;
 pub use stsc::{StscBox, StscEntry};

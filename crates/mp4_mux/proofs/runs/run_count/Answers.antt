@@ -1,13 +1,13 @@
 use Rattle.std.proofs.Common.{◌∙◌, sym, arith, ◌<◌, length}
 use Rattle.std.proofs.lemmas.Bool.{eqb-true, eqb-false}
 use Rattle.mp4_mux.proofs.RunTableLaws.{length-runs_of}
-use Rattle.mp4_mux.proofs.RunSteps.{no_sample, no_turns, changes_at_first, changes_at_same, changes_at_other}
+use Rattle.mp4_mux.proofs.RunSteps.{no_sample, no_changes, changes_at_first, changes_at_same, changes_at_other}
 use Rattle.mp4_mux.proofs.RunSteps.{changes_at_end}
 use Rattle.mp4_mux.proofs.runs.run_count.Goals as goal
 
 pub returns-then-is_empty : goal.returns-then-is_empty
 returns-then-is_empty g c =
-    no_turns g.R.SampleRun.same no_sample c.args.samples.now (eqb-true _ _ (sym c.if-is_empty.ensures))
+    no_changes g.R.SampleRun.same no_sample c.args.samples.now (eqb-true _ _ (sym c.if-is_empty.ensures))
     ∙ sym (length-runs_of g.R.SampleRun.same g.R.SampleRun.run c.args.samples.now)
 
 pub loop-i-init : goal.loop-i-init

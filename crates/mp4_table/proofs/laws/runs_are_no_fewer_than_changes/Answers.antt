@@ -3,13 +3,13 @@ use Rattle.std.specs.Ordering.{int_eq}
 use Rattle.std.proofs.lemmas.Cmp.{int_eq_equiv}
 use Rattle.mp4_table.specs.declared.stts.SttsEntry.{SttsEntry}
 use Rattle.mp4_table.specs.declared.ctts.CttsEntry.{CttsEntry}
-use Rattle.mp4_table.proofs.Turns.{turns-expand}
-use Rattle.mp4_table.proofs.laws.runs_are_no_fewer_than_turns.Goals as goal
+use Rattle.mp4_table.proofs.Changes.{changes-expand}
+use Rattle.mp4_table.proofs.laws.runs_are_no_fewer_than_changes.Goals as goal
 
 pub returns : goal.returns
 returns c = record {
-  durations = turns-expand nat_eq (λ x. eq-eqb x x refl) (λ (r : SttsEntry). r.sample_count)
+  durations = changes-expand nat_eq (λ x. eq-eqb x x refl) (λ (r : SttsEntry). r.sample_count)
       (λ (r : SttsEntry). r.sample_delta);
   rendering_offsets =
-      turns-expand int_eq int_eq_equiv.refl (λ (r : CttsEntry). r.sample_count) (λ (r : CttsEntry). r.sample_offset);
+      changes-expand int_eq int_eq_equiv.refl (λ (r : CttsEntry). r.sample_count) (λ (r : CttsEntry). r.sample_offset);
 }

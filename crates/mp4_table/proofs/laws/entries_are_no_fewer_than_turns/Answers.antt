@@ -1,5 +1,0 @@
-use Rattle.mp4_table.proofs.Entries.{turns-counts, from_one}
-use Rattle.mp4_table.proofs.laws.entries_are_no_fewer_than_turns.Goals as goal
-
-pub returns : goal.returns
-returns c = record { counts = turns-counts; from_one = from_one }
