@@ -31,9 +31,9 @@ IsBytes-drop zero bytes h = h
 IsBytes-drop (suc n) [] h = tt
 IsBytes-drop (suc n) (b ∷ bytes) h = IsBytes-drop n bytes h.1
 
-IsBytes-behind : (xs ys : List ℕ) → IsBytes (xs ++ ys) → IsBytes ys
-IsBytes-behind [] ys h = h
-IsBytes-behind (x ∷ xs) ys h = IsBytes-behind xs ys h.1
+IsBytes-rest : (xs ys : List ℕ) → IsBytes (xs ++ ys) → IsBytes ys
+IsBytes-rest [] ys h = h
+IsBytes-rest (x ∷ xs) ys h = IsBytes-rest xs ys h.1
 
 -- a box begins the bytes
 pub record Framed (bytes : List ℕ) : Type 0 where
@@ -302,7 +302,7 @@ walks [] bytes tail h are n enough =
     subst (λ (x : List ℕ). walk n x ≡ ([], tail)) (sym are.0) (walk-end n tail (subst IsBytes are.0 h) are.1)
 walks (k ∷ list) bytes tail h are n enough =
     one_more tail k list bytes are n enough
-    (walks list are.rest tail (IsBytes-behind are.box are.rest (subst IsBytes are.is h)) are.others)
+    (walks list are.rest tail (IsBytes-rest are.box are.rest (subst IsBytes are.is h)) are.others)
 
 -- and no others
 pub only_children : (payload : List ℕ) → IsBytes payload → (list : List ChildBox) (tail : List ℕ)

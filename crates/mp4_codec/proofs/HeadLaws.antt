@@ -69,84 +69,84 @@ sized name header total head e = chosen (eqb total 0) (ltb total header) (ltb-fa
 
 -- a header that was read: its type is named as such, it has 8 bytes at least, and the place after it is so many
 -- bytes on
-pub record HeadRead (place : Cursor) (head : Head) (behind : Cursor) : Type 0 where
+pub record HeadRead (place : Cursor) (head : Head) (next : Cursor) : Type 0 where
   pub named : IsNamed head.name
   pub long : 8 ≤ head.header
-  pub after : behind ≡ moved head.header place
+  pub after : next ≡ moved head.header place
   pub whole : (head.total ≡ None) ⊎ Closed head
 
 abbrev headed : Cursor → Head → Result (Head × Cursor) Cause
-headed behind h = Ok (h, behind)
+headed next h = Ok (h, next)
 
 -- a size of 64 bits
 abbrev large_headed : BoxType → List ℕ × Cursor → Result (Head × Cursor) Cause
 large_headed name large = head_with name 16 (big_number 8 large.0) >>= headed large.1
 
-module _ (place : Cursor) (name : BoxType) (named : IsNamed name) (head : Head) (behind : Cursor) where
-  of_size : (header : ℕ) → 8 ≤ header → behind ≡ moved header place → Sized name header head
-      → HeadRead place head behind
+module _ (place : Cursor) (name : BoxType) (named : IsNamed name) (head : Head) (next : Cursor) where
+  of_size : (header : ℕ) → 8 ≤ header → next ≡ moved header place → Sized name header head
+      → HeadRead place head next
   of_size header long after s =
       record { named = rw s.name_is named; long = rw s.header_is long; after = rw s.header_is after; whole = s.whole }
 
   -- the size is in 32 bits
-  short_read : (size : ℕ) → (head_with name 8 size >>= headed (moved 8 place)) ≡ Ok (head, behind)
-      → HeadRead place head behind
+  short_read : (size : ℕ) → (head_with name 8 size >>= headed (moved 8 place)) ≡ Ok (head, next)
+      → HeadRead place head next
   short_read size e =
-      let one = both_steps (head_with name 8 size) (headed (moved 8 place)) (head, behind) e in
-      let same = ok_is (one.0, moved 8 place) (head, behind) one.2 in
+      let one = both_steps (head_with name 8 size) (headed (moved 8 place)) (head, next) e in
+      let same = ok_is (one.0, moved 8 place) (head, next) one.2 in
       let first : one.0 ≡ head = ap (λ (x : Head × Cursor). x.0) same in
-      let second : moved 8 place ≡ behind = ap (λ (x : Head × Cursor). x.1) same in
+      let second : moved 8 place ≡ next = ap (λ (x : Head × Cursor). x.1) same in
       of_size 8 (omega arith) (sym second) (subst (Sized name 8) first (sized name 8 size one.0 one.1))
 
   -- the size is after the type
-  long_read : (take_at 8 (moved 8 place) >>= large_headed name) ≡ Ok (head, behind) → HeadRead place head behind
+  long_read : (take_at 8 (moved 8 place) >>= large_headed name) ≡ Ok (head, next) → HeadRead place head next
   long_read e =
-      let one = both_steps (take_at 8 (moved 8 place)) (large_headed name) (head, behind) e in
-      let two = both_steps (head_with name 16 (big_number 8 one.0.0)) (headed one.0.1) (head, behind) one.2 in
-      let same = ok_is (two.0, one.0.1) (head, behind) two.2 in
+      let one = both_steps (take_at 8 (moved 8 place)) (large_headed name) (head, next) e in
+      let two = both_steps (head_with name 16 (big_number 8 one.0.0)) (headed one.0.1) (head, next) one.2 in
+      let same = ok_is (two.0, one.0.1) (head, next) two.2 in
       let first : two.0 ≡ head = ap (λ (x : Head × Cursor). x.0) same in
-      let second : one.0.1 ≡ behind = ap (λ (x : Head × Cursor). x.1) same in
+      let second : one.0.1 ≡ next = ap (λ (x : Head × Cursor). x.1) same in
       let taken : moved 8 (moved 8 place) ≡ one.0.1 =
       ap (λ (x : List ℕ × Cursor). x.1) (was_taken 8 (moved 8 place) one.0 one.1).1 in
       let twice : moved 16 place ≡ moved 8 (moved 8 place) = ap (λ (n : ℕ). here place.bytes n) (omega arith) in
       of_size 16 (omega arith) (sym (twice ∙ taken ∙ second))
       (subst (Sized name 16) first (sized name 16 (big_number 8 one.0.0) two.0 two.1))
 
-  after_read : (size : ℕ) → head_after name size (moved 8 place) ≡ Ok (head, behind) → HeadRead place head behind
+  after_read : (size : ℕ) → head_after name size (moved 8 place) ≡ Ok (head, next) → HeadRead place head next
   after_read size e = chosen (eqb size 1) e
     where
       chosen : (b : Bool)
           → cond b (take_at 8 (moved 8 place) >>= large_headed name)
-          (head_with name 8 size >>= headed (moved 8 place)) ≡ Ok (head, behind)
-          → HeadRead place head behind
+          (head_with name 8 size >>= headed (moved 8 place)) ≡ Ok (head, next)
+          → HeadRead place head next
       chosen true e = long_read e
       chosen false e = short_read size e
 
-pub head_read : (place : Cursor) (head : Head) (behind : Cursor) → head_at place ≡ Ok (head, behind)
-    → HeadRead place head behind
+pub head_read : (place : Cursor) (head : Head) (next : Cursor) → head_at place ≡ Ok (head, next)
+    → HeadRead place head next
 unfolding head_at
-head_read place head behind e =
+head_read place head next e =
     let one = both_steps (take_at 8 place)
     (λ (x : List ℕ × Cursor). head_after (box_type (big_number 4 (drop 4 x.0))) (big_number 4 x.0) x.1)
-    (head, behind) e in
+    (head, next) e in
     let name : BoxType = box_type (big_number 4 (drop 4 one.0.0)) in
     let taken : moved 8 place ≡ one.0.1 = ap (λ (x : List ℕ × Cursor). x.1) (was_taken 8 place one.0 one.1).1 in
-    let after = subst (λ (c : Cursor). head_after name (big_number 4 one.0.0) c ≡ Ok (head, behind)) (sym taken)
+    let after = subst (λ (c : Cursor). head_after name (big_number 4 one.0.0) c ≡ Ok (head, next)) (sym taken)
     one.2 in
-    after_read place name (is_named name (big_number 4 (drop 4 one.0.0)) refl) head behind (big_number 4 one.0.0) after
+    after_read place name (is_named name (big_number 4 (drop 4 one.0.0)) refl) head next (big_number 4 one.0.0) after
 
 -- a header that was read, as it is reported
-pub record HeaderRead (place : Cursor) (header : BoxHeader) (behind : Cursor) : Type 0 where
+pub record HeaderRead (place : Cursor) (header : BoxHeader) (next : Cursor) : Type 0 where
   pub named : IsNamed header.name
-  pub moves : place.position + 8 ≤ behind.position
+  pub moves : place.position + 8 ≤ next.position
 
-pub header_read : (place : Cursor) (header : BoxHeader) (behind : Cursor) → header_at place ≡ Ok (header, behind)
-    → HeaderRead place header behind
-header_read place header behind e =
-    let one = both_steps (head_at place) (λ (x : Head × Cursor). Ok (reported x.0, x.1)) (header, behind) e in
-    let same = ok_is (reported one.0.0, one.0.1) (header, behind) one.2 in
+pub header_read : (place : Cursor) (header : BoxHeader) (next : Cursor) → header_at place ≡ Ok (header, next)
+    → HeaderRead place header next
+header_read place header next e =
+    let one = both_steps (head_at place) (λ (x : Head × Cursor). Ok (reported x.0, x.1)) (header, next) e in
+    let same = ok_is (reported one.0.0, one.0.1) (header, next) one.2 in
     let name_is : one.0.0.name ≡ header.name = ap (λ (x : BoxHeader × Cursor). x.0.name) same in
-    let place_is : one.0.1.position ≡ behind.position = ap (λ (x : BoxHeader × Cursor). x.1.position) same in
+    let place_is : one.0.1.position ≡ next.position = ap (λ (x : BoxHeader × Cursor). x.1.position) same in
     let read = head_read place one.0.0 one.0.1 one.1 in
     let after : one.0.1.position ≡ place.position + one.0.0.header = ap (λ (c : Cursor). c.position) read.after in
     record { named = subst IsNamed name_is read.named; moves = omega (arith, read.long, place_is, after) }

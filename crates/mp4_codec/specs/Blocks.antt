@@ -69,9 +69,9 @@ module _ {A : Type 0} (read : Reader A) (n : ℕ) (value : List ℕ → A) (h : 
       chosen true enough e = absurd cc
       chosen false enough e =
           let whole : n ≤ length bytes = enough refl in
-          let behind : drop n bytes ≡ rest =
+          let rest_is : drop n bytes ≡ rest =
           ap (λ (y : A × List ℕ). y.1) (ok_is (value (take n bytes), drop n bytes) (x, rest) e) in
-          rw (← behind) (omega (arith, length-drop n bytes))
+          rw (← rest_is) (omega (arith, length-drop n bytes))
 
   refuses : (bytes : List ℕ) (c : Cause) → block_at n value bytes ≡ Err c → c ≡ invalid_data
   unfolding block_at

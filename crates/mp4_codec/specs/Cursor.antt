@@ -68,8 +68,8 @@ header_saying name header total = head_with name header total >>= λ head. Ok (r
 
 -- the header whose first 8 bytes are these, and what follows them is at the place: as it is reported, and the place
 -- after it
-abbrev pub header_behind : List ℕ → Cursor → Result (BoxHeader × Cursor) Cause
-header_behind first cursor =
+abbrev pub header_after : List ℕ → Cursor → Result (BoxHeader × Cursor) Cause
+header_after first cursor =
     head_after (box_type (big_number 4 (drop 4 first))) (big_number 4 first) cursor >>= λ x. Ok (reported x.0, x.1)
 
 -- the header at the place as it is reported, and the place after it

@@ -92,8 +92,8 @@ seen-has_length {A} {B} read n see h =
     moved : (bytes : List ℕ) (r : Result (A × List ℕ) Cause) → read bytes ≡ r → (y : B) (rest : List ℕ)
         → seen_as see r ≡ Ok (y, rest) → length bytes ≡ n + length rest
     moved bytes (Ok x) is y rest e =
-        let behind : x.1 ≡ rest = ap (λ (z : B × List ℕ). z.1) (ok_is (see x.0, x.1) (y, rest) e) in
-        rw (← behind) (h.moves bytes x.0 x.1 is)
+        let rest_is : x.1 ≡ rest = ap (λ (z : B × List ℕ). z.1) (ok_is (see x.0, x.1) (y, rest) e) in
+        rw (← rest_is) (h.moves bytes x.0 x.1 is)
     moved bytes (Err c) is y rest e = absurd cc
 
     refused : (bytes : List ℕ) (r : Result (A × List ℕ) Cause) → read bytes ≡ r → (c : Cause) → seen_as see r ≡ Err c

@@ -207,9 +207,9 @@ body bytes before header payload after n m e en em =
     ∙ sym (append_assoc before header (payload ++ after)) in
     let place : length (before ++ header) ≡ length before + n = length-append before header
     ∙ ap (λ (k : ℕ). length before + k) en in
-    let behind : length before + n + length payload ≡ length before + m = omega arith in
+    let end : length before + n + length payload ≡ length before + m = omega arith in
     taken (length payload) (length before + n) bytes (before ++ header) payload after e' place refl
-    ∙ ap (λ (k : ℕ). Ok (payload, here bytes k)) behind
+    ∙ ap (λ (k : ℕ). Ok (payload, here bytes k)) end
 
 reads_short : (name : BoxType) (payload before after : List ℕ) → IsEncodable name → 8 + length payload < 2 ^ 32
     → ReadsAsBox name payload (box_bytes name payload) (before ++ (box_bytes name payload ++ after)) (length before)
@@ -267,8 +267,8 @@ cut_off : (name : BoxType) (payload f rest : List ℕ) → ReadsAsBox name paylo
 cut_off name payload f rest r =
     let not_open : eqb (8 + length payload) 0 ≡ false = off (8 + length payload) 0 (omega arith) in
     let size : 8 + length payload - 8 ≡ length payload = omega arith in
-    let behind : drop (0 + length f) (f ++ rest) ≡ rest = drop_at f rest (0 + length f) (omega arith) in
-    rw (r.head, not_open, size, r.body, behind) refl
+    let rest_is : drop (0 + length f) (f ++ rest) ≡ rest = drop_at f rest (0 + length f) (omega arith) in
+    rw (r.head, not_open, size, r.body, rest_is) refl
 
 -- a box that begins the bytes is the child that begins them
 pub child_at-box : (name : BoxType) (payload f rest : List ℕ) → IsBox name payload f

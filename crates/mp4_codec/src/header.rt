@@ -4,7 +4,7 @@ ghost use Rattle.mp4_codec.specs.ExactTest.{by_law, by_test, field_tests};
 ghost use Rattle.mp4_codec.specs.contracts.box_type.BoxTypeExactEq.TheImpl.Laws.{lawful as box_type_laws};
 ghost use Rattle.std.specs.Prelude.{◌≡◌, ◌≤◌, ◌+◌, ◌⊎◌, length, OnOk, IfOk};
 ghost use Rattle.mp4_codec.specs.Cause.{Gives, AnswersCause, Checks};
-ghost use Rattle.mp4_codec.specs.Cursor.{header_saying, header_behind, header_at};
+ghost use Rattle.mp4_codec.specs.Cursor.{header_saying, header_after, header_at};
 ghost use Rattle.mp4_codec.specs.BoxType.{IsNamed};
 ghost use Rattle.mp4_codec.specs.Bytes.{number, ◌⧺◌};
 ghost use Rattle.mp4_codec.specs.Boxes.{Writes, header_cause, header_encoding};
@@ -94,9 +94,9 @@ impl BoxHeader {
 
     /// What `read` answers after the first 8 bytes of a header, which are these: a size of 1 says that a largesize
     /// follows.
-    fn read_behind(first: &[u8], reader: &mut ByteCursor) -> Result<Self>
+    fn read_after(first: &[u8], reader: &mut ByteCursor) -> Result<Self>
         requires { length first.now ≡ 8 }
-        ensures value { Gives (λ h. (h, reader.new)) result (header_behind first.now reader.old) }
+        ensures value { Gives (λ h. (h, reader.new)) result (header_after first.now reader.old) }
         ensures same { reader.new.bytes ≡ reader.old.bytes }
     {
         let size = BigEndian::read_u32(first);
@@ -115,7 +115,7 @@ impl BoxHeader {
         ensures same { reader.new.bytes ≡ reader.old.bytes }
     {
         let first = reader.take(HEADER_SIZE)?;
-        Self::read_behind(first, reader)
+        Self::read_after(first, reader)
     }
 
     /// The header at the cursor, which is then after it.

@@ -87,7 +87,7 @@ pub none_more : (begins : ℕ → Option ℕ) (from : ℕ) (times : List ℕ) �
 none_more begins from times s none e = earliest begins from times (record {
   past = λ r h. ⊎_elim
       (λ (here : r < from + 1). let same : from ≡ r = omega (arith, none, h) in rw same at e)
-      (λ (behind : from + 1 ≤ r). s.past r (omega (arith, none)))
+      (λ (after : from + 1 ≤ r). s.past r (omega (arith, none)))
       (cases_lt r (from + 1));
   least = λ q r h. absurd (omega (arith, none, h));
   own = λ q h. absurd (omega (arith, none, h));
@@ -118,13 +118,13 @@ one_more begins from t times kept mine below own =
       least = λ q r h k. ⊎_elim
           (λ (before : q < n). rw (old q before) (⊎_elim
           (λ (here : r < from + 1 + n - 1 - q). absurd (omega (arith, many, k)))
-          (λ (behind : from + 1 + n - 1 - q ≤ r). s.least q r before behind)
+          (λ (after : from + 1 + n - 1 - q ≤ r). s.least q r before after)
           (cases_lt r (from + 1 + n - 1 - q))))
           (λ (last : n ≤ q).
           let at : n ≡ q = omega (arith, many) in
           rw (← at, new) (⊎_elim
           (λ (here : r < from + 1). let same : from ≡ r = omega (arith, many, k) in rw same at mine)
-          (λ (behind : from + 1 ≤ r). ⊎_elim
+          (λ (after : from + 1 ≤ r). ⊎_elim
           (λ (some : 0 < n). least_of (begins r) t (slice_index times (n - 1)) (below some)
           (s.least (n - 1) r (omega arith) (omega arith)))
           (λ (none : n ≤ 0). rw (s.past r (omega arith)) tt)
@@ -273,7 +273,7 @@ in_run [] n d h = absurd (omega (arith, h))
 in_run (p ∷ runs) n d h =
     ⊎_elim
     (λ (here : n < run_count p). (0, omega arith, omega arith, omega arith))
-    (λ (behind : run_count p ≤ n).
+    (λ (after : run_count p ≤ n).
     let rest = in_run runs (n - run_count p) d (omega (arith, sum_by-cons run_count p runs)) in
     let more = sum_by-cons run_count p (take (rest.0) runs) in (
       suc rest.0,
@@ -551,8 +551,8 @@ last_early runs end time c before run_samples d times s at some small counted pa
             let inside_run = rw same at r.3 in
             rw (time_of j reached inside_run) (parted.others (j - sum_by run_count (take (c - 1) runs))
             (omega (arith, h, counted, one)) (omega (arith, k, counted, reached, inside_run))))
-            (λ (behind : c ≤ r.0). late_run_sample runs end time j r.0 d r.1 r.2 r.3 k
-            (late_runs (begin_of runs end) times time c r.0 s at behind))
+            (λ (after : c ≤ r.0). late_run_sample runs end time j r.0 d r.1 r.2 r.3 k
+            (late_runs (begin_of runs end) times time c r.0 s at after))
             (cases_lt r.0 c))
             (cases_lt r.0 (c - 1)))
             (λ (past : sum_by run_count runs ≤ j). past_early runs time j past)

@@ -78,7 +78,7 @@ impl<'t> RunCursor<'t> {
     pub(crate) fn is_before_run_sample(&self) -> bool
         ensures before { IsTrue result
             → (self.now.passed < self.now.run.now.sample_count) × (self.now.passed < 2 ^ 32 - 1) }
-        ensures behind { IsFalse result → self.now.run.now.sample_count ≤ self.now.passed }
+        ensures after { IsFalse result → self.now.run.now.sample_count ≤ self.now.passed }
     {
         self.passed < self.run.sample_count
     }

@@ -93,8 +93,8 @@ pub(crate) fn times_of(
     let entries = index.entries.as_slice();
     let mut latest_first = Vec::with_capacity(alloc, runs)?;
     let mut earliest = None;
-    for behind in 0..runs {
-        let begin = begin_of(trafs, track, &entries[runs - 1 - behind]);
+    for from_last in 0..runs {
+        let begin = begin_of(trafs, track, &entries[runs - 1 - from_last]);
         earliest = keep_begin(&mut latest_first, earliest, begin)?;
     }
     Ok(RunTimes { latest_first })

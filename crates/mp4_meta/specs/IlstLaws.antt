@@ -105,12 +105,12 @@ parts : (b : IlstBox) → IsCanonicalIlst b → Parts b
 unfolding ilst_payload
 parts b f =
     let written = is_written (ilst_payload b) None f.written in
-    let behind_poster = item_box_bytes Summary b.items in
-    let behind_year = item_box_bytes Poster b.items ⧺ behind_poster in
-    let behind_title = item_box_bytes Year b.items ⧺ behind_year in
-    let first = both_fit (item_box_bytes Title b.items) behind_title (2 ^ 32) (omega (arith, written.small)) in
-    let second = both_fit (item_box_bytes Year b.items) behind_year (2 ^ 32) first.1 in
-    let third = both_fit (item_box_bytes Poster b.items) behind_poster (2 ^ 32) second.1 in
+    let after_poster = item_box_bytes Summary b.items in
+    let after_year = item_box_bytes Poster b.items ⧺ after_poster in
+    let after_title = item_box_bytes Year b.items ⧺ after_year in
+    let first = both_fit (item_box_bytes Title b.items) after_title (2 ^ 32) (omega (arith, written.small)) in
+    let second = both_fit (item_box_bytes Year b.items) after_year (2 ^ 32) first.1 in
+    let third = both_fit (item_box_bytes Poster b.items) after_poster (2 ^ 32) second.1 in
     record {
       title = optional_part title_kind (item_at Title b.items) f.in_range.title f.well_formed.title
           (none_refuses _) first.0;

@@ -36,8 +36,8 @@ parts : (b : MoofBox) → IsCanonicalMoof b → Parts b
 unfolding moof_payload moof_refusal
 parts b f =
     let written = is_written (moof_payload b) (moof_refusal b) f.written in
-    let behind_mfhd = all_box_bytes traf traf_payload b.trafs in
-    let mfhd_fits = both_fit (box_bytes mfhd (mfhd_payload b.mfhd)) behind_mfhd (2 ^ 32)
+    let after_mfhd = all_box_bytes traf traf_payload b.trafs in
+    let mfhd_fits = both_fit (box_bytes mfhd (mfhd_payload b.mfhd)) after_mfhd (2 ^ 32)
     (omega (arith, written.small)) in
     record {
       mfhd = required_part mfhd_kind b.mfhd f.in_range.mfhd f.well_formed.mfhd refl mfhd_fits.0;

@@ -40,8 +40,8 @@ parts : (b : MvexBox) → IsCanonicalMvex b → Parts b
 unfolding mvex_payload mvex_refusal
 parts b f =
     let written = is_written (mvex_payload b) (mvex_refusal b) f.written in
-    let behind_mehd = all_box_bytes trex trex_payload b.trexs in
-    let mehd_fits = both_fit (optional mehd mehd_payload b.mehd) behind_mehd (2 ^ 32) (omega (arith, written.small)) in
+    let after_mehd = all_box_bytes trex trex_payload b.trexs in
+    let mehd_fits = both_fit (optional mehd mehd_payload b.mehd) after_mehd (2 ^ 32) (omega (arith, written.small)) in
     record {
       mehd = optional_part mehd_kind b.mehd f.in_range.mehd f.well_formed.mehd written.sound mehd_fits.0;
       trexs = list_part trex_kind b.trexs f.in_range.trexs f.well_formed.trexs (none_refuse b.trexs) mehd_fits.1;

@@ -46,11 +46,11 @@ parts : (b : TrafBox) → IsCanonicalTraf b → Parts b
 unfolding traf_payload traf_refusal
 parts b f =
     let written = is_written (traf_payload b) (traf_refusal b) f.written in
-    let behind_tfdt = all_box_bytes trun trun_payload b.truns in
-    let behind_tfhd = optional tfdt tfdt_payload b.tfdt ⧺ behind_tfdt in
-    let tfhd_fits = both_fit (box_bytes tfhd (tfhd_payload b.tfhd)) behind_tfhd (2 ^ 32)
+    let after_tfdt = all_box_bytes trun trun_payload b.truns in
+    let after_tfhd = optional tfdt tfdt_payload b.tfdt ⧺ after_tfdt in
+    let tfhd_fits = both_fit (box_bytes tfhd (tfhd_payload b.tfhd)) after_tfhd (2 ^ 32)
     (omega (arith, written.small)) in
-    let tfdt_fits = both_fit (optional tfdt tfdt_payload b.tfdt) behind_tfdt (2 ^ 32) tfhd_fits.1 in
+    let tfdt_fits = both_fit (optional tfdt tfdt_payload b.tfdt) after_tfdt (2 ^ 32) tfhd_fits.1 in
     let tfhd_sound = or_parts (tfhd_refusal b.tfhd) _ written.sound in
     let tfdt_sound = or_parts (optional_refusal tfdt_refusal b.tfdt) _ tfhd_sound.1 in
     record {

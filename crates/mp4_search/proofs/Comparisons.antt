@@ -16,12 +16,12 @@ these_left numbers key low high compared =
     record { steps = high - low; enough = omega arith; left = omega arith }
 
 -- one comparison more: what is left is after the number in the middle
-pub behind : (numbers : List ℕ) (key low high middle compared all : ℕ)
+pub after : (numbers : List ℕ) (key low high middle compared all : ℕ)
     → AreLeft numbers key low high compared all → low < high
     → middle ≡ low + (high - low) / 2 → slice_index numbers middle ≤ key
     → AreLeft numbers key (middle + 1) high (compared + 1) all
 unfolding comparisons_between
-behind numbers key low high middle compared all a h half at_most = rw half (step a.steps a.enough a.left)
+after numbers key low high middle compared all a h half at_most = rw half (step a.steps a.enough a.left)
   where
     small : slice_index numbers (low + (high - low) / 2) ≤ key
     small = rw half at at_most

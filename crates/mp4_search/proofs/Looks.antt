@@ -12,7 +12,7 @@ unfolding after_look
 not_later numbers key i left h =
     ⊎_elim
     (λ (before : i < left.low). not_earlier numbers key i left before)
-    (λ behind. rw (le-ltb i left.low behind, le-leb left.high i h) refl)
+    (λ after. rw (le-ltb i left.low after, le-leb left.high i h) refl)
     (cases_lt i left.low)
 
 -- what is left is after i

@@ -28,8 +28,8 @@ module _ (bytes part : List ℕ) (place : ℕ) (room : place + 8 ≤ length byte
     long = ap length is ∙ length-take _ (drop place bytes) ∙ rw (length-drop place bytes) (omega arith)
 
     -- what is after p bytes of the part
-    behind : (p m : ℕ) → p + m ≤ length part → take m (drop p part) ≡ take m (drop (place + p) bytes)
-    behind p m fits =
+    after : (p m : ℕ) → p + m ≤ length part → take m (drop p part) ≡ take m (drop (place + p) bytes)
+    after p m fits =
         let n = min (length bytes - place) 16 in
         let cut : drop p part ≡ take (n - p) (drop (place + p) bytes) =
         ap (drop p) (is ∙ ap (λ k. take k (drop place bytes)) (omega (arith, long, fits)))
@@ -48,7 +48,7 @@ module _ (bytes part : List ℕ) (place : ℕ) (room : place + 8 ≤ length byte
             rw (e, lt-ltb (length bytes) (place + p + m) (omega (arith, short, long))) refl
         by false e =
             let fits = ltb-false (length part) (p + m) e in
-            let all : take m (drop (place + p) bytes) ≡ take m (drop p part) = sym (behind p m fits) in
+            let all : take m (drop (place + p) bytes) ≡ take m (drop p part) = sym (after p m fits) in
             let place_is : place + p + m ≡ place + (p + m) = omega arith in
             rw (e, le-ltb (length bytes) (place + p + m) (omega (arith, fits, long)), all, place_is) refl
 
@@ -140,12 +140,12 @@ after_within name size c x fits e = by (size == 1) e
     by false e = short (head_with name 8 size) e
 
 -- a header that was read is whole within the bytes
-pub header_within : (place : Cursor) (h : BoxHeader) (behind : Cursor) → header_at place ≡ Ok (h, behind)
-    → behind.position ≤ length place.bytes
+pub header_within : (place : Cursor) (h : BoxHeader) (after : Cursor) → header_at place ≡ Ok (h, after)
+    → after.position ≤ length place.bytes
 unfolding head_at
-header_within place h behind e =
-    let one = both_steps (head_at place) (λ (x : Head × Cursor). Ok (reported x.0, x.1)) (h, behind) e in
-    let last = ap (λ (x : BoxHeader × Cursor). x.1.position) (ok_is (reported one.0.0, one.0.1) (h, behind) one.2) in
+header_within place h after e =
+    let one = both_steps (head_at place) (λ (x : Head × Cursor). Ok (reported x.0, x.1)) (h, after) e in
+    let last = ap (λ (x : BoxHeader × Cursor). x.1.position) (ok_is (reported one.0.0, one.0.1) (h, after) one.2) in
     let two = both_steps (take_at 8 place)
     (λ (x : List ℕ × Cursor). head_after (box_type (big_number 4 (drop 4 x.0))) (big_number 4 x.0) x.1) one.0 one.1 in
     let first = was_taken 8 place two.0 two.1 in

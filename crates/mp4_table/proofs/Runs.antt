@@ -20,10 +20,10 @@ runs_fault_of before r = fault_of (r >>= λ runs. numbered_after before runs.0)
 abbrev led_by : StscEntry → Result (List StscEntry × List ℕ) Cause → Result (List StscEntry × List ℕ) Cause
 led_by e r = ◌>>=◌ {B = List StscEntry × List ℕ} r (λ others. Ok (e ∷ others.0, others.1))
 
-fault_behind : (first : StscEntry) (r : Result (List StscEntry) Cause)
+fault_after_first : (first : StscEntry) (r : Result (List StscEntry) Cause)
     → fault_of (r >>= λ others. Ok (first ∷ others)) ≡ fault_of r
-fault_behind first (Ok x) = refl
-fault_behind first (Err c) = refl
+fault_after_first first (Ok x) = refl
+fault_after_first first (Err c) = refl
 
 -- a run that can be numbered leaves the fault of the runs after it
 one_more : (before : Option StscEntry) (e : StscEntry) (first_sample : ℕ)
@@ -33,7 +33,7 @@ one_more : (before : Option StscEntry) (e : StscEntry) (first_sample : ℕ)
 unfolding numbered_after
 one_more before e first_sample is (Err c) = refl
 one_more before e first_sample is (Ok x) =
-    rw is (fault_behind (with_first_sample first_sample e)
+    rw is (fault_after_first (with_first_sample first_sample e)
     (numbered_after (Some (with_first_sample first_sample e)) x.0))
 
 -- the refusal of a run

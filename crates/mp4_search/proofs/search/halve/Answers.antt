@@ -1,5 +1,5 @@
 use Rattle.std.proofs.Common.{◌≡◌, ◌+◌, ◌-◌, ◌/◌, arith}
-use Rattle.mp4_search.proofs.Comparisons.{these_left, behind, before, none_left}
+use Rattle.mp4_search.proofs.Comparisons.{these_left, after, before, none_left}
 use Rattle.mp4_search.proofs.Digits.{digits_half, digits_64}
 use Rattle.mp4_search.proofs.search.halve.Goals as goal
 
@@ -32,7 +32,7 @@ loop-low-preserved-then-number-key c =
         above = l.invariant.between.above;
       };
       paid = omega (arith, paid, l.invariant.paid);
-      left = rw c.read-number.ensures.counted (behind c.args.numbers.now c.args.key l.low l.high middle l.readings _
+      left = rw c.read-number.ensures.counted (after c.args.numbers.now c.args.key l.low l.high middle l.readings _
           l.invariant.left (omega arith) (omega arith) (omega (arith, c.read-number.ensures.number)));
     }
 

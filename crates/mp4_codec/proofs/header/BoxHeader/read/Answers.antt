@@ -7,15 +7,15 @@ use Rattle.mp4_codec.specs.Cursor.{Cursor, header_at}
 use Rattle.mp4_codec.proofs.HeadLaws.{header_read}
 use Rattle.mp4_codec.proofs.header.BoxHeader.read.Goals as goal
 
-moves : (place behind : Cursor) (result : Result BoxHeader Error) → Gives (λ h. (h, behind)) result (header_at place)
-    → OnOk result (place.position + 8 ≤ behind.position)
-moves place behind (Ok header) e = (header_read place header behind e).moves
-moves place behind (Err error) e = tt
+moves : (place after : Cursor) (result : Result BoxHeader Error) → Gives (λ h. (h, after)) result (header_at place)
+    → OnOk result (place.position + 8 ≤ after.position)
+moves place after (Ok header) e = (header_read place header after e).moves
+moves place after (Err error) e = tt
 
-named : (place behind : Cursor) (result : Result BoxHeader Error) → Gives (λ h. (h, behind)) result (header_at place)
+named : (place after : Cursor) (result : Result BoxHeader Error) → Gives (λ h. (h, after)) result (header_at place)
     → IfOk result (λ h. IsNamed h.name)
-named place behind (Ok header) e = (header_read place header behind e).named
-named place behind (Err error) e = tt
+named place after (Ok header) e = (header_read place header after e).named
+named place after (Err error) e = tt
 
 pub returns-clause-moved : goal.returns-clause-moved
 returns-clause-moved c = moves c.args.reader.now c.read_head.new.reader c.read_head.result c.read_head.ensures.value

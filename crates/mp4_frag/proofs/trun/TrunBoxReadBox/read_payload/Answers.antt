@@ -18,15 +18,15 @@ no_rows payload bytes rest version flags first second h =
     rw (ok_is flags h.flags (sym read ∙ h.is)) h.no_rows
 
 -- where the samples are refused, so is the run
-refused : (payload behind_version behind_flags behind_count behind_offset behind_first : List ℕ)
+refused : (payload after_version after_flags after_count after_offset after_first : List ℕ)
     (version flags count : ℕ) (offset : Option ℤ) (first : Option ℕ) (cause : Cause)
-    → number_at 1 payload ≡ Ok (version, behind_version) → number_at 3 behind_version ≡ Ok (flags, behind_flags)
-    → number_at 4 behind_flags ≡ Ok (count, behind_count)
-    → optional_at int32_at 0x1 flags behind_count ≡ Ok (offset, behind_offset)
-    → optional_at (number_at 4) 0x4 flags behind_offset ≡ Ok (first, behind_first)
-    → columns_at flags count behind_first ≡ Err cause → trun_of payload ≡ Err cause
+    → number_at 1 payload ≡ Ok (version, after_version) → number_at 3 after_version ≡ Ok (flags, after_flags)
+    → number_at 4 after_flags ≡ Ok (count, after_count)
+    → optional_at int32_at 0x1 flags after_count ≡ Ok (offset, after_offset)
+    → optional_at (number_at 4) 0x4 flags after_offset ≡ Ok (first, after_first)
+    → columns_at flags count after_first ≡ Err cause → trun_of payload ≡ Err cause
 unfolding trun_of
-refused payload behind_version behind_flags behind_count behind_offset behind_first version flags count offset first
+refused payload after_version after_flags after_count after_offset after_first version flags count offset first
     cause e1 e2 e3 e4 e5 e6 = rw (e1, e2, e3, e4, e5, e6) refl
 
 pub returns-in_err-samples-clause-nothing : goal.returns-in_err-samples-clause-nothing

@@ -5,6 +5,6 @@ use Rattle.mp4_fragments.proofs.cursor.RunPosition.end_before.Goals as goal
 pub returns-else-is_before_run_sample : goal.returns-else-is_before_run_sample
 returns-else-is_before_run_sample c = λ runs at. (
   run_end_of runs c.in-InRun.cursor _ (rw c.in-InRun.is at at)
-      (omega (arith, c.if-is_before_run_sample.ensures.behind)) refl (omega (arith, c.if-cursor-number.false)),
+      (omega (arith, c.if-is_before_run_sample.ensures.after)) refl (omega (arith, c.if-cursor-number.false)),
   refl,
 )
