@@ -126,7 +126,7 @@ function compare_each(    k, has_offsets) {
   }
 }
 
-# Samples of uncompressed sound last a tick each, and ffprobe joins up to 1024 that lie one behind the other in a packet.
+# Samples of uncompressed sound last a tick each, and ffprobe joins up to 1024 that lie one after the other in a packet.
 function are_joined(    k) {
   if (kind != "audio" || samples <= packets) return 0
   for (k = 1; k <= samples; k++) if (duration[k] != 1 || offset[k] != 0 || sync[k] != 1) return 0

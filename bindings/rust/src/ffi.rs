@@ -1,4 +1,4 @@
-//! The calls of the proved library, each behind a safe function; all unsafe code is here.
+//! The calls of the proved library, each wrapped by a safe function; all unsafe code is here.
 //!
 //! What the library asks of its caller (`bindings/c/mp4.h`): no pointer is null, each is aligned
 //! for its type and points to as many elements as its number says, and what is filled in overlaps

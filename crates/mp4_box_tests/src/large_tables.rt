@@ -7,12 +7,12 @@ use mp4_table::{StscBox, SttsBox};
 use std::alloc::Global;
 
 /// The bytes of a table of a million entries, which each begin with their place, before these bytes.
-fn million(alloc: Global, head: &[u8], behind: &[u8]) -> Result<Vec<u8>> {
+fn million(alloc: Global, head: &[u8], after: &[u8]) -> Result<Vec<u8>> {
     let mut bytes = Vec::new(alloc);
     bytes.extend_from_slice(head)?;
     for place in 1..=1_000_000u32 {
         bytes.extend_from_slice(&place.to_be_bytes())?;
-        bytes.extend_from_slice(behind)?;
+        bytes.extend_from_slice(after)?;
     }
     Ok(bytes)
 }

@@ -12,9 +12,9 @@ answer_shows {X} answer (Err e) is =
     subst (λ (r : Result X Cause). Shows {X = X} (at_once r) (Err e)) (sym is) refl
 
 -- after children that were read, the answer shows itself
-pub shown_behind : {P X : Type 0} (children : Early) (parts : P) (answer : Result X Cause) (result : Result X Error)
+pub shown_after : {P X : Type 0} (children : Early) (parts : P) (answer : Result X Cause) (result : Result X Error)
     → Shows {X = P} children (Ok parts) → Gives (λ x. x) result answer
     → Shows (children and_then at_once answer) result
-shown_behind (fails c) parts answer result shown is = absurd shown
-shown_behind succeeds parts answer result shown is = answer_shows answer result is
-shown_behind takes_memory parts answer result shown is = tt
+shown_after (fails c) parts answer result shown is = absurd shown
+shown_after succeeds parts answer result shown is = answer_shows answer result is
+shown_after takes_memory parts answer result shown is = tt

@@ -69,15 +69,15 @@ parts : (b : MoovBox) → IsCanonicalMoov b → Parts b
 unfolding moov_payload moov_refusal
 parts b f =
     let written = is_written (moov_payload b) (moov_refusal b) f.written in
-    let behind_meta = optional udta udta_payload b.udta in
-    let behind_mvex = optional meta meta_payload b.meta ⧺ behind_meta in
-    let behind_trak = optional mvex mvex_payload b.mvex ⧺ behind_mvex in
-    let behind_mvhd = all_box_bytes trak trak_payload b.traks ⧺ behind_trak in
-    let mvhd_fits = both_fit (box_bytes mvhd (mvhd_payload b.mvhd)) behind_mvhd (2 ^ 32)
+    let after_meta = optional udta udta_payload b.udta in
+    let after_mvex = optional meta meta_payload b.meta ⧺ after_meta in
+    let after_trak = optional mvex mvex_payload b.mvex ⧺ after_mvex in
+    let after_mvhd = all_box_bytes trak trak_payload b.traks ⧺ after_trak in
+    let mvhd_fits = both_fit (box_bytes mvhd (mvhd_payload b.mvhd)) after_mvhd (2 ^ 32)
     (omega (arith, written.small)) in
-    let trak_fits = both_fit (all_box_bytes trak trak_payload b.traks) behind_trak (2 ^ 32) mvhd_fits.1 in
-    let mvex_fits = both_fit (optional mvex mvex_payload b.mvex) behind_mvex (2 ^ 32) trak_fits.1 in
-    let meta_fits = both_fit (optional meta meta_payload b.meta) behind_meta (2 ^ 32) mvex_fits.1 in
+    let trak_fits = both_fit (all_box_bytes trak trak_payload b.traks) after_trak (2 ^ 32) mvhd_fits.1 in
+    let mvex_fits = both_fit (optional mvex mvex_payload b.mvex) after_mvex (2 ^ 32) trak_fits.1 in
+    let meta_fits = both_fit (optional meta meta_payload b.meta) after_meta (2 ^ 32) mvex_fits.1 in
     let mvhd_sound = or_parts (mvhd_refusal b.mvhd) _ written.sound in
     let trak_sound = or_parts (all_refusal trak_refusal b.traks) _ mvhd_sound.1 in
     record {

@@ -60,13 +60,13 @@ parts : (b : TrakBox) → IsCanonicalTrak b → Parts b
 unfolding trak_payload trak_refusal
 parts b f =
     let written = is_written (trak_payload b) (trak_refusal b) f.written in
-    let behind_meta = box_bytes mdia (mdia_payload b.mdia) in
-    let behind_edts = optional meta meta_payload b.meta ⧺ behind_meta in
-    let behind_tkhd = optional edts edts_payload b.edts ⧺ behind_edts in
-    let tkhd_fits = both_fit (box_bytes tkhd (tkhd_payload b.tkhd)) behind_tkhd (2 ^ 32)
+    let after_meta = box_bytes mdia (mdia_payload b.mdia) in
+    let after_edts = optional meta meta_payload b.meta ⧺ after_meta in
+    let after_tkhd = optional edts edts_payload b.edts ⧺ after_edts in
+    let tkhd_fits = both_fit (box_bytes tkhd (tkhd_payload b.tkhd)) after_tkhd (2 ^ 32)
     (omega (arith, written.small)) in
-    let edts_fits = both_fit (optional edts edts_payload b.edts) behind_edts (2 ^ 32) tkhd_fits.1 in
-    let meta_fits = both_fit (optional meta meta_payload b.meta) behind_meta (2 ^ 32) edts_fits.1 in
+    let edts_fits = both_fit (optional edts edts_payload b.edts) after_edts (2 ^ 32) tkhd_fits.1 in
+    let meta_fits = both_fit (optional meta meta_payload b.meta) after_meta (2 ^ 32) edts_fits.1 in
     let tkhd_sound = or_parts (tkhd_refusal b.tkhd) _ written.sound in
     let edts_sound = or_parts (optional_refusal edts_refusal b.edts) _ tkhd_sound.1 in
     record {

@@ -6,41 +6,41 @@ use Rattle.mp4_codec.specs.Bytes.{list_at, number_at, bytes_at}
 use Rattle.mp4_codec.specs.Early.{takes_memory, refused_at_once}
 use Rattle.mp4_entry.specs.declared.avcc.NalUnit.{NalUnit}
 use Rattle.mp4_entry.specs.declared.avcc.AvcCBox.{AvcCBox}
-use Rattle.mp4_entry.specs.Avcc.{unit_at, behind_units, avcc_check, avcc_of}
+use Rattle.mp4_entry.specs.Avcc.{unit_at, after_units, avcc_check, avcc_of}
 
-abbrev behind : Result (List NalUnit × List ℕ) Cause → Result (List ℕ) Cause
-behind r = r >>= λ sets. Ok sets.1
+abbrev rest_of : Result (List NalUnit × List ℕ) Cause → Result (List ℕ) Cause
+rest_of r = r >>= λ sets. Ok sets.1
 
-behind_more : (first : NalUnit) (r : Result (List NalUnit × List ℕ) Cause)
-    → behind (◌>>=◌ {B = List NalUnit × List ℕ} r (λ others. Ok (first ∷ others.0, others.1))) ≡ behind r
-behind_more first (Ok x) = refl
-behind_more first (Err c) = refl
+rest_of_more : (first : NalUnit) (r : Result (List NalUnit × List ℕ) Cause)
+    → rest_of (◌>>=◌ {B = List NalUnit × List ℕ} r (λ others. Ok (first ∷ others.0, others.1))) ≡ rest_of r
+rest_of_more first (Ok x) = refl
+rest_of_more first (Err c) = refl
 
 module _ (count i : ℕ) (bytes : List ℕ) (total : Result (List ℕ) Cause) (lt : i < count)
-    (so_far : behind_units (count - i) bytes ≡ total) where
+    (so_far : after_units (count - i) bytes ≡ total) where
   steps : count - i ≡ suc (count - (i + 1))
   steps = omega arith
 
   pub goes_on : (unit : NalUnit) (after : List ℕ) → unit_at bytes ≡ Ok (unit, after)
-      → behind_units (count - (i + 1)) after ≡ total
+      → after_units (count - (i + 1)) after ≡ total
   unfolding list_at
   goes_on unit after read =
-      let one : behind_units (count - i) bytes ≡ behind_units (count - (i + 1)) after =
-      rw (steps, read) (behind_more unit (list_at unit_at (count - (i + 1)) after)) in
+      let one : after_units (count - i) bytes ≡ after_units (count - (i + 1)) after =
+      rw (steps, read) (rest_of_more unit (list_at unit_at (count - (i + 1)) after)) in
       sym one ∙ so_far
 
   pub ends : (c : Cause) → unit_at bytes ≡ Err c → total ≡ Err c
   unfolding list_at
   ends c read =
-      let one : behind_units (count - i) bytes ≡ Err c = rw (steps, read) refl in
+      let one : after_units (count - i) bytes ≡ Err c = rw (steps, read) refl in
       sym so_far ∙ one
 
 pub is_done : (count i : ℕ) (bytes : List ℕ) (total : Result (List ℕ) Cause) → count ≤ i
-    → behind_units (count - i) bytes ≡ total → total ≡ Ok bytes
+    → after_units (count - i) bytes ≡ total → total ≡ Ok bytes
 unfolding list_at
 is_done count i bytes total le so_far =
     let none : count - i ≡ 0 = omega arith in
-    let one : behind_units (count - i) bytes ≡ Ok bytes = rw none refl in
+    let one : after_units (count - i) bytes ≡ Ok bytes = rw none refl in
     sym so_far ∙ one
 
 -- a step of both, where the rest of one is the rest of the other
@@ -51,7 +51,7 @@ step (Err c) f g same = refl
 
 sets_step : {B : Type 0} (r : Result (List NalUnit × List ℕ) Cause) (f : List NalUnit × List ℕ → Result B Cause)
     (g : List ℕ → Result (Unit {0}) Cause) → ((x : List NalUnit × List ℕ) → g x.1 ≡ seen (λ _. tt) (f x))
-    → (behind r >>= g) ≡ seen (λ _. tt) (r >>= f)
+    → (rest_of r >>= g) ≡ seen (λ _. tt) (r >>= f)
 sets_step (Ok x) f g same = same x
 sets_step (Err c) f g same = refl
 

@@ -20,8 +20,8 @@ unfoldable pub unit : NalUnit → List ℕ
 unit u = number 2 (length u.bytes) ⧺ u.bytes
 
 -- what is left after so many sets
-abbrev pub behind_units : ℕ → List ℕ → Result (List ℕ) Cause
-behind_units count bytes = list_at unit_at count bytes >>= λ sets. Ok sets.1
+abbrev pub after_units : ℕ → List ℕ → Result (List ℕ) Cause
+after_units count bytes = list_at unit_at count bytes >>= λ sets. Ok sets.1
 
 -- whether a payload holds a configuration: its sets are passed over
 unfoldable pub avcc_check : List ℕ → Result (Unit {0}) Cause
@@ -32,9 +32,9 @@ avcc_check payload = do
   level ← number_at 1 compatibility.1
   length_size ← number_at 1 level.1
   sequence_count ← number_at 1 length_size.1
-  behind_sequence_sets ← behind_units (sequence_count.0 % 32) sequence_count.1
-  picture_count ← number_at 1 behind_sequence_sets
-  behind_picture_sets ← behind_units picture_count.0 picture_count.1
+  after_sequence_sets ← after_units (sequence_count.0 % 32) sequence_count.1
+  picture_count ← number_at 1 after_sequence_sets
+  after_picture_sets ← after_units picture_count.0 picture_count.1
   Ok tt
 
 -- the configuration that a payload holds, field by field: of the length's size the low two bits count, of the number of

@@ -123,10 +123,10 @@ unfolding descriptor_at
 descriptor_at-shorter [] d e = absurd cc
 descriptor_at-shorter (tag ∷ bytes) d e =
     let size = length_at 4 0 bytes in
-    let behind : drop size.0 size.1 ≡ d.1 =
+    let rest_is : drop size.0 size.1 ≡ d.1 =
     ap (λ (x : Next). x.1) (some_is ((tag, take size.0 size.1), drop size.0 size.1) d e) in
     let fewer = length_at-shorter 4 0 bytes in
-    rw (← behind) (omega (arith, length-drop size.0 size.1, fewer))
+    rw (← rest_is) (omega (arith, length-drop size.0 size.1, fewer))
 
 first_or-same : (tag : ℕ) (f g : List ℕ → List ℕ) (o : Option Next) → ((d : Next) → o ≡ Some d → f d.1 ≡ g d.1)
     → first_or tag f o ≡ first_or tag g o
@@ -227,8 +227,8 @@ pub padded_at-joined : (m n : ℕ) (bytes : List ℕ) (a : ℕ) (xs : List ℕ) 
     → (a, xs) ≡ padded_at m bytes → (b, ys) ≡ padded_at n xs → (a * 256 ^ n + b, ys) ≡ padded_at (m + n) bytes
 padded_at-joined m n bytes a xs b ys first second =
     let high : a ≡ (padded_at m bytes).0 = ap (λ (x : ℕ × List ℕ). x.0) first in
-    let behind : xs ≡ drop m bytes = ap (λ (x : ℕ × List ℕ). x.1) first ∙ padded_at-rest m bytes in
-    let next : (b, ys) ≡ padded_at n (drop m bytes) = second ∙ ap (padded_at n) behind in
+    let rest_is : xs ≡ drop m bytes = ap (λ (x : ℕ × List ℕ). x.1) first ∙ padded_at-rest m bytes in
+    let next : (b, ys) ≡ padded_at n (drop m bytes) = second ∙ ap (padded_at n) rest_is in
     let low : b ≡ (padded_at n (drop m bytes)).0 = ap (λ (x : ℕ × List ℕ). x.0) next in
     let end : ys ≡ drop n (drop m bytes) =
     ap (λ (x : ℕ × List ℕ). x.1) next ∙ padded_at-rest n (drop m bytes) in

@@ -65,18 +65,18 @@ unfoldable pub is_set : ℕ → ℕ → Bool
 is_set flags flag = not (bit_and flags flag == 0)
 
 -- what is after the id of another stream, of two bytes, where its flag is set
-abbrev pub behind_id : Bool → List ℕ → List ℕ
-behind_id there bytes = if there then drop 2 bytes else bytes
+abbrev pub after_id : Bool → List ℕ → List ℕ
+after_id there bytes = if there then drop 2 bytes else bytes
 
 -- what is after a URL with its length in one byte, where its flag is set
-abbrev pub behind_url : Bool → List ℕ → List ℕ
-behind_url there bytes = if there then (let size = padded_at 1 bytes in drop size.0 size.1) else bytes
+abbrev pub after_url : Bool → List ℕ → List ℕ
+after_url there bytes = if there then (let size = padded_at 1 bytes in drop size.0 size.1) else bytes
 
 -- what is after the fields that the flags of a stream ask for: the stream that it depends on, a URL, and the
 -- stream of its clock
-abbrev pub behind_options : ℕ → List ℕ → List ℕ
-behind_options flags bytes =
-    behind_id (is_set flags 0x20) (behind_url (is_set flags 0x40) (behind_id (is_set flags 0x80) bytes))
+abbrev pub after_options : ℕ → List ℕ → List ℕ
+after_options flags bytes =
+    after_id (is_set flags 0x20) (after_url (is_set flags 0x40) (after_id (is_set flags 0x80) bytes))
 
 -- the stream that a body describes; its decoder is the body of the first descriptor of tag 4 in it
 unfoldable pub es_descriptor_of : List ℕ → ESDescriptor
@@ -84,7 +84,7 @@ es_descriptor_of body =
     let es_id = padded_at 2 body in
     let flags = padded_at 1 es_id.1 in record {
       es_id = es_id.0;
-      dec_config = decoder_config_of (first_of 4 (behind_options flags.0 flags.1));
+      dec_config = decoder_config_of (first_of 4 (after_options flags.0 flags.1));
       sl_config = record {};
     }
 

@@ -16,7 +16,7 @@ use Rattle.mp4_entry.specs.declared.esds.DecoderSpecificDescriptor.{DecoderSpeci
 use Rattle.mp4_entry.specs.Narrow.{past}
 use Rattle.mp4_entry.specs.NarrowLaws.{within}
 use Rattle.mp4_entry.specs.Esds.{bits, profile_in, frequency_in, frequency_end, decoder_specific_of}
-use Rattle.mp4_entry.specs.Esds.{decoder_config_of, is_set, behind_options, es_descriptor_of, esds_of, specific_word}
+use Rattle.mp4_entry.specs.Esds.{decoder_config_of, is_set, after_options, es_descriptor_of, esds_of, specific_word}
 use Rattle.mp4_entry.specs.Esds.{stream_byte, decoder_config, es_descriptor, esds_payload, esds_refusal}
 use Rattle.mp4_entry.specs.Esds.{specific_refusal, IsInRangeEsds, IsCanonicalEsds}
 
@@ -38,10 +38,10 @@ word_again w h =
     let fits : w < 256 ^ 2 = omega (arith, h) in
     let two : padded_at 2 (number 2 w) ≡ (w, []) =
     ap (padded_at 2) (sym (then_nothing (number 2 w))) ∙ padded_again 2 w [] fits in
-    let behind : drop 2 (number 2 w) ≡ [] =
+    let rest_is : drop 2 (number 2 w) ≡ [] =
     sym (padded_at-rest 2 (number 2 w)) ∙ ap (λ (x : ℕ × List ℕ). x.1) two in
     let split = ap (λ (x : ℕ × List ℕ). x.0) (padded_at-split 2 4 (number 2 w)) in
-    split ∙ rw (ap (λ (x : ℕ × List ℕ). x.0) two, behind, padded_at-nothing 4) (omega arith)
+    split ∙ rw (ap (λ (x : ℕ × List ℕ). x.0) two, rest_is, padded_at-nothing 4) (omega arith)
 
 -- what a word says, field by field
 record Says (word p f c : ℕ) : Type 0 where
@@ -125,7 +125,7 @@ config_again d f =
       up_stream_again d.stream_type d.up_stream f.up_stream,
     ) refl
 
-no_options : (bytes : List ℕ) → behind_options 0 bytes ≡ bytes
+no_options : (bytes : List ℕ) → after_options 0 bytes ≡ bytes
 unfolding is_set
 no_options bytes = refl
 

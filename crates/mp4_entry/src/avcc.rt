@@ -7,7 +7,7 @@ ghost use Rattle.mp4_codec.specs.declared.box_type.BoxType.TheVariants.{AvcCBox 
 ghost use Rattle.mp4_codec.specs.Cause.{Gives, Answers, Checks, Reads};
 ghost use Rattle.mp4_codec.specs.Bytes.{Appends, number, list_at};
 ghost use Rattle.mp4_codec.specs.Boxes.{size_around, all_refusal};
-ghost use Rattle.mp4_entry.specs.Avcc.{unit_at, unit, unit_refusal, behind_units, avcc_check, avcc_of, avcc_payload};
+ghost use Rattle.mp4_entry.specs.Avcc.{unit_at, unit, unit_refusal, after_units, avcc_check, avcc_of, avcc_payload};
 ghost use Rattle.mp4_entry.specs.Avcc.{avcc_refusal, default_avcc, avcc_of_sets, IsInRangeAvcC, IsInRangeNalUnit};
 ghost use Rattle.mp4_entry.specs.Avcc.{IsWellFormedAvcC};
 ghost use Rattle.mp4_entry.specs.AvccLaws.{avcc_again};
@@ -98,7 +98,7 @@ impl InRange for NalUnit {
 /// Passes over so many sets. The first that passes the end is `InvalidData`.
 #[tactic(auto, unfolding(crate::specs::Avcc::unit_at))]
 fn skip_units(fields: &mut Fields, count: u8) -> Field<()>
-    ensures { Reads (λ _. fields.new) result (behind_units count fields.old) }
+    ensures { Reads (λ _. fields.new) result (after_units count fields.old) }
 {
     for _ in 0..count {
         let length = fields.u16()?;

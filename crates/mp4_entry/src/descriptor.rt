@@ -115,8 +115,8 @@ impl<'a> Padded<'a> {
     fn descriptor(&mut self) -> Option<(u8, &'a [u8])>
         ensures { option_map (λ d. ((d.0, d.1.now), self.new)) result ≡ descriptor_at self.old }
     {
-        let (tag, behind) = self.rest.split_first()?;
-        self.rest = behind;
+        let (tag, after_tag) = self.rest.split_first()?;
+        self.rest = after_tag;
         let length = self.length() as usize;
         let (body, rest) = self.rest.split_at(length.min(self.rest.len()));
         self.rest = rest;

@@ -9,8 +9,8 @@ ghost use Rattle.mp4_codec.specs.Bytes.{Appends, number};
 ghost use Rattle.mp4_codec.specs.Boxes.{size_around};
 ghost use Rattle.mp4_entry.specs.Descriptor.{descriptor};
 ghost use Rattle.mp4_entry.specs.Esds.{bits, profile_in, profile_end, frequency_in, frequency_end, decoder_specific_of};
-ghost use Rattle.mp4_entry.specs.Esds.{decoder_config_of, es_descriptor_of, is_set, behind_id, behind_url};
-ghost use Rattle.mp4_entry.specs.Esds.{behind_options};
+ghost use Rattle.mp4_entry.specs.Esds.{decoder_config_of, es_descriptor_of, is_set, after_id, after_url};
+ghost use Rattle.mp4_entry.specs.Esds.{after_options};
 ghost use Rattle.mp4_entry.specs.Esds.{esds_of, esds_payload, esds_refusal, specific_word, stream_byte, decoder_config};
 ghost use Rattle.mp4_entry.specs.Esds.{es_descriptor, specific_refusal, config_refusal, IsInRangeEsds};
 ghost use Rattle.mp4_entry.specs.Esds.{IsWellFormedEsds, default_esds};
@@ -156,7 +156,7 @@ fn is_set(flags: u8, flag: u8) -> bool
 
 /// Passes over the id of another stream, where it is there.
 fn skip_id(fields: &mut Padded, there: bool)
-    ensures { fields.new ≡ behind_id there fields.old }
+    ensures { fields.new ≡ after_id there fields.old }
 {
     if there {
         fields.skip(2);
@@ -165,7 +165,7 @@ fn skip_id(fields: &mut Padded, there: bool)
 
 /// Passes over a URL with its length, where it is there.
 fn skip_url(fields: &mut Padded, there: bool)
-    ensures { fields.new ≡ behind_url there fields.old }
+    ensures { fields.new ≡ after_url there fields.old }
 {
     if there {
         let length = fields.u8();
@@ -175,7 +175,7 @@ fn skip_url(fields: &mut Padded, there: bool)
 
 /// Passes over the fields that the flags of a stream ask for.
 fn skip_options(fields: &mut Padded, flags: u8)
-    ensures { fields.new ≡ behind_options flags fields.old }
+    ensures { fields.new ≡ after_options flags fields.old }
 {
     skip_id(fields, is_set(flags, 0x80));
     skip_url(fields, is_set(flags, 0x40));

@@ -11,7 +11,7 @@ use Rattle.mp4_extract.specs.declared.adts.AdtsConfig.{AdtsConfig}
 abbrev pub Field : Type 0
 Field = ℕ × ℕ
 
--- fields one after the other, the first in the highest bits, behind those that are there
+-- fields one after the other, the first in the highest bits, after those that are there
 abbrev pub packed : ℕ → List Field → ℕ
 packed bits [] = bits
 packed bits ((width, value) ∷ fields) = packed (bits * 2 ^ width + value) fields

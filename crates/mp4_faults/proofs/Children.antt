@@ -58,7 +58,7 @@ module _ (bytes : List ℕ) (p : ℕ) (inside : p ≤ length bytes) where
   with-there (Err c) q = refl
 
   abbrev part-or-end : Bool → List ℕ → Cursor → Result (List ℕ × Cursor) Cause
-  part-or-end past part behind = cond past (Err end_of_data) (Ok (part, behind))
+  part-or-end past part next = cond past (Err end_of_data) (Ok (part, next))
 
   abbrev large-head : BoxType → List ℕ × Cursor → Result (Head × Cursor) Cause
   large-head name x = head_with name 16 (big_number 8 x.0) >>= and-cursor x.1
@@ -164,17 +164,17 @@ module _ (bytes : List ℕ) (p : ℕ) (inside : p ≤ length bytes) where
       by (Err c) e = refl
       by (Ok x) e =
           let h = x.0 in
-          let same : x.1 ≡ here (drop p bytes) x.1.position = behind-is x.0 x.1 e in
+          let same : x.1 ≡ here (drop p bytes) x.1.position = next-is x.0 x.1 e in
           rw same (sized h.name h.size x.1.position (eqb h.size 0))
         where
-          behind-is : (h : BoxHeader) (behind : Cursor) → header_at (here (drop p bytes) 0) ≡ Ok (h, behind)
-              → behind ≡ here (drop p bytes) behind.position
-          behind-is h behind e =
+          next-is : (h : BoxHeader) (next : Cursor) → header_at (here (drop p bytes) 0) ≡ Ok (h, next)
+              → next ≡ here (drop p bytes) next.position
+          next-is h next e =
               let one = both_steps (head_at (here (drop p bytes) 0)) (λ (y : Head × Cursor). Ok (reported y.0, y.1))
-              (h, behind) e in
-              let same = ok_is (reported one.0.0, one.0.1) (h, behind) one.2 in
+              (h, next) e in
+              let same = ok_is (reported one.0.0, one.0.1) (h, next) one.2 in
               let r = head_read (here (drop p bytes) 0) one.0.0 one.0.1 one.1 in
-              let after : one.0.1 ≡ behind = ap (λ (y : BoxHeader × Cursor). y.1) same in
+              let after : one.0.1 ≡ next = ap (λ (y : BoxHeader × Cursor). y.1) same in
               rw (← after, r.after) refl
 
 -- where a box is that is within bytes
@@ -183,37 +183,37 @@ pub record IsInside (bytes : List ℕ) (place : ℕ) (b : InnerBox) : Type 0 whe
   pub end : end_of b ≤ length bytes
 
 module _ (bytes : List ℕ) (place : ℕ) (b : InnerBox) where
-  module _ (h : BoxHeader) (behind : Cursor) (read : header_at (here bytes place) ≡ Ok (h, behind)) where
-    behind-bytes : behind.bytes ≡ bytes
-    behind-bytes =
+  module _ (h : BoxHeader) (next : Cursor) (read : header_at (here bytes place) ≡ Ok (h, next)) where
+    next-bytes : next.bytes ≡ bytes
+    next-bytes =
         let one = both_steps (head_at (here bytes place)) (λ (y : Head × Cursor). Ok (reported y.0, y.1))
-        (h, behind) read in
-        let same = ok_is (reported one.0.0, one.0.1) (h, behind) one.2 in
+        (h, next) read in
+        let same = ok_is (reported one.0.0, one.0.1) (h, next) one.2 in
         let r = head_read (here bytes place) one.0.0 one.0.1 one.1 in
-        let after : one.0.1 ≡ behind = ap (λ (y : BoxHeader × Cursor). y.1) same in
+        let after : one.0.1 ≡ next = ap (λ (y : BoxHeader × Cursor). y.1) same in
         ap (λ (c : Cursor). c.bytes) (sym after) ∙ ap (λ (c : Cursor). c.bytes) r.after
 
-    by-part : (past : Bool) → ltb (length behind.bytes) (behind.position + (h.size - 8)) ≡ past
-        → with_part h.name place behind.position (cond past (Err end_of_data)
-        (Ok (take (h.size - 8) (left behind), moved (h.size - 8) behind))) ≡ Some b → IsInside bytes place b
+    by-part : (past : Bool) → ltb (length next.bytes) (next.position + (h.size - 8)) ≡ past
+        → with_part h.name place next.position (cond past (Err end_of_data)
+        (Ok (take (h.size - 8) (left next), moved (h.size - 8) next))) ≡ Some b → IsInside bytes place b
     by-part true past e = absurd cc
     by-part false past e =
-        let moves = (header_read (here bytes place) h behind read).moves in
-        let same = ap (λ (bs : List ℕ). length bs) behind-bytes in
-        let within = ltb-false (length behind.bytes) (behind.position + (h.size - 8)) past in
-        let part = take (h.size - 8) (left behind) in
-        let rest-length = length-drop behind.position behind.bytes in
+        let moves = (header_read (here bytes place) h next read).moves in
+        let same = ap (λ (bs : List ℕ). length bs) next-bytes in
+        let within = ltb-false (length next.bytes) (next.position + (h.size - 8)) past in
+        let part = take (h.size - 8) (left next) in
+        let rest-length = length-drop next.position next.bytes in
         let size : length part ≡ h.size - 8 =
-        length-take-le (h.size - 8) (left behind) (omega (arith, within, rest-length)) in
-        let whole : InnerBox = record { name = h.name; place = place; from = behind.position; payload = part } in
+        length-take-le (h.size - 8) (left next) (omega (arith, within, rest-length)) in
+        let whole : InnerBox = record { name = h.name; place = place; from = next.position; payload = part } in
         let is : whole ≡ b = cc in
         subst (IsInside bytes place) is (record { header = moves; end = omega (arith, size, within, same) })
 
     by-size : (no_end : Bool)
-        → cond no_end None (with_part h.name place behind.position (take_at (h.size - 8) behind)) ≡ Some b
+        → cond no_end None (with_part h.name place next.position (take_at (h.size - 8) next)) ≡ Some b
         → IsInside bytes place b
     by-size true e = absurd cc
-    by-size false e = by-part (ltb (length behind.bytes) (behind.position + (h.size - 8))) refl e
+    by-size false e = by-part (ltb (length next.bytes) (next.position + (h.size - 8))) refl e
 
   pub inside-of : box_within bytes place ≡ Some b → IsInside bytes place b
   unfolding box_within

@@ -213,8 +213,8 @@ module _ (bytes : List ℕ) (id : IdPlace) (has : HasHeader bytes id) (h : BoxHe
   pub large-header : 8 ≤ h.size
   large-header = let size = size-is in omega (arith, size)
 
-  module _ (p : Payload) (behind : ℕ) (whole : IsWhole h.size from bytes large-header p behind)
-      (small : behind < 2 ^ 64)
+  module _ (p : Payload) (after : ℕ) (whole : IsWhole h.size from bytes large-header p after)
+      (small : after < 2 ^ 64)
     where
       to-is : from + (h.size - 8) ≡ has.to
       to-is = let size = size-is in let same = from-is in let order = has.order in omega (arith, size, same, order)
@@ -222,7 +222,7 @@ module _ (bytes : List ℕ) (id : IdPlace) (has : HasHeader bytes id) (h : BoxHe
       payload-is : p.bytes ≡ between bytes has.from has.to
       payload-is = whole.is ∙ rw (to-is, from-is) refl
 
-      payload-long : from + length p.bytes ≡ behind
+      payload-long : from + length p.bytes ≡ after
       payload-long =
           let inside = has.inside in
           let order = has.order in

@@ -180,9 +180,9 @@ module _ (size from : ℕ) (bytes : List ℕ) (large : 8 ≤ size) where
   enough = le-ltb size 8 large
 
   -- that it is these bytes, and where it ends
-  pub record IsWhole (p : Payload) (behind : ℕ) : Type 0 where
+  pub record IsWhole (p : Payload) (after : ℕ) : Type 0 where
     pub is : p.bytes ≡ between bytes from (from + (size - 8))
-    pub end : behind ≡ from + (size - 8)
+    pub end : after ≡ from + (size - 8)
     pub within : from + (size - 8) ≤ length bytes
 
   abbrev taken : Bool → Result (Payload × Cursor) Cause
@@ -199,17 +199,17 @@ module _ (size from : ℕ) (bytes : List ℕ) (large : 8 ≤ size) where
       by true = refl
       by false = refl
 
-  pub payload-whole : (p : Payload) (behind : ℕ)
-      → box_at whole_payload size (here bytes from) ≡ Ok (p, here bytes behind) → IsWhole p behind
-  payload-whole p behind e = by (ltb (length bytes) (from + (size - 8))) refl (sym taken-is ∙ e)
+  pub payload-whole : (p : Payload) (after : ℕ)
+      → box_at whole_payload size (here bytes from) ≡ Ok (p, here bytes after) → IsWhole p after
+  payload-whole p after e = by (ltb (length bytes) (from + (size - 8))) refl (sym taken-is ∙ e)
     where
-      by : (past : Bool) → ltb (length bytes) (from + (size - 8)) ≡ past → taken past ≡ Ok (p, here bytes behind)
-          → IsWhole p behind
+      by : (past : Bool) → ltb (length bytes) (from + (size - 8)) ≡ past → taken past ≡ Ok (p, here bytes after)
+          → IsWhole p after
       by true t e = absurd cc
       by false t e =
           let same =
           ok_is (record { bytes = take (size - 8) (drop from bytes) }, here bytes (from + (size - 8)))
-          (p, here bytes behind) e in
+          (p, here bytes after) e in
           let n : size - 8 ≡ from + (size - 8) - from = omega arith in
           record {
             is =
@@ -230,7 +230,7 @@ module _ (size from : ℕ) (bytes : List ℕ) (large : 8 ≤ size) where
 
 -- A box whose payload was read as it is.
 module _ (size : ℕ) (bytes : List ℕ) (place from : ℕ) (h : BoxHeader) (large : 8 ≤ h.size)
-    (t : IsBegun size bytes place h from) (p : Payload) (behind : ℕ) (w : IsWhole h.size from bytes large p behind)
+    (t : IsBegun size bytes place h from) (p : Payload) (after : ℕ) (w : IsWhole h.size from bytes large p after)
   where
     abbrev pub read-box : InnerBox
     read-box = record { name = h.name; place = place; from = from; payload = p.bytes }
@@ -244,10 +244,10 @@ module _ (size : ℕ) (bytes : List ℕ) (place from : ℕ) (h : BoxHeader) (lar
         ∙ length-take-le (from + (h.size - 8) - from) (drop from bytes) (omega (arith, n, within, left-length))
         ∙ n
 
-    pub ends-behind : end_of read-box ≡ behind
-    ends-behind = let long = read-length in let end = w.end in omega (arith, long, end)
+    pub ends-after : end_of read-box ≡ after
+    ends-after = let long = read-length in let end = w.end in omega (arith, long, end)
 
-    pub is-top-box : behind < 2 ^ 64 → IsTopBox size bytes read-box
+    pub is-top-box : after < 2 ^ 64 → IsTopBox size bytes read-box
     is-top-box small =
         let long = read-length in
         let end = w.end in
@@ -262,15 +262,15 @@ module _ (size : ℕ) (bytes : List ℕ) (place from : ℕ) (h : BoxHeader) (lar
         }
 
 -- What a call gives that is the answer of another.
-module _ (size : ℕ) (bytes : List ℕ) (place behind : ℕ) (old new : SeenBoxes) where
+module _ (size : ℕ) (bytes : List ℕ) (place after : ℕ) (old new : SeenBoxes) where
   pub gives-fault : (r : Result NextBox Error) (f : FaultPlace) → GivesNext r (Faulty f)
-      → IsFaultAt size bytes place old.names f → TellsNext size bytes place old new behind r
-  gives-fault (Ok next) f g h = subst (λ (n : NextBox). SaysNext size bytes place old new behind n) (sym g) h
+      → IsFaultAt size bytes place old.names f → TellsNext size bytes place old new after r
+  gives-fault (Ok next) f g h = subst (λ (n : NextBox). SaysNext size bytes place old new after n) (sym g) h
   gives-fault (Err e) f g h = g
 
   pub tells-inside : (r : Result NextBox Error) (names : List BoxType) (a : InnerBox) (c : Cause)
       → TellsInside names a c r → ((f : FaultPlace) → IsInside names a c f → IsFaultAt size bytes place old.names f)
-      → TellsNext size bytes place old new behind r
+      → TellsNext size bytes place old new after r
   tells-inside (Ok next) names a c t h =
-      subst (λ (n : NextBox). SaysNext size bytes place old new behind n) (sym t.1) (h t.0 t.2)
+      subst (λ (n : NextBox). SaysNext size bytes place old new after n) (sym t.1) (h t.0 t.2)
   tells-inside (Err e) names a c t h = t

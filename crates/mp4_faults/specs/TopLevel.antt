@@ -45,7 +45,7 @@ pub record IsNamedBox (size : ℕ) (bytes : List ℕ) (place next : ℕ) (b : Na
 unfoldable pub AreNamedBoxes : ℕ → List ℕ → ℕ → List NamedBox → ℕ → Type 0
 AreNamedBoxes size bytes place [] next = next ≡ place
 AreNamedBoxes size bytes place (b ∷ bs) next =
-    (behind : ℕ) × IsNamedBox size bytes place behind b × AreNamedBoxes size bytes behind bs next
+    (after : ℕ) × IsNamedBox size bytes place after b × AreNamedBoxes size bytes after bs next
 
 -- no header of a box is at a place of a file of `size` bytes
 abbrev pub HasNoHeader : ℕ → List ℕ → ℕ → Cause → Type 0
@@ -117,10 +117,10 @@ pub record Sees (old new : SeenBoxes) (b : NamedBox) : Type 0 where
 
 -- What a call says of a place of a file, with what was seen before it and after it, and the place after it.
 abbrev pub SaysNext : ℕ → List ℕ → ℕ → SeenBoxes → SeenBoxes → ℕ → NextBox → Type 0
-SaysNext size bytes place old new behind Faultless =
-    (b : NamedBox) × IsNamedBox size bytes place behind b × Sees old new b
-SaysNext size bytes place old new behind End = EndsFile size bytes place × (behind ≡ place) × (new ≡ old)
-SaysNext size bytes place old new behind (Faulty f) = IsFaultAt size bytes place old.names f
+SaysNext size bytes place old new after Faultless =
+    (b : NamedBox) × IsNamedBox size bytes place after b × Sees old new b
+SaysNext size bytes place old new after End = EndsFile size bytes place × (after ≡ place) × (new ≡ old)
+SaysNext size bytes place old new after (Faulty f) = IsFaultAt size bytes place old.names f
 
 -- a call that gives what is next, or memory ran out
 abbrev pub GivesNext : Result NextBox Error → NextBox → Type 0
@@ -129,8 +129,8 @@ GivesNext (Err e) expected = e ≡ OutOfMemory
 
 -- the same of a box that is at hand
 abbrev pub TellsNext : ℕ → List ℕ → ℕ → SeenBoxes → SeenBoxes → ℕ → Result NextBox Error → Type 0
-TellsNext size bytes place old new behind (Ok next) = SaysNext size bytes place old new behind next
-TellsNext size bytes place old new behind (Err e) = e ≡ OutOfMemory
+TellsNext size bytes place old new after (Ok next) = SaysNext size bytes place old new after next
+TellsNext size bytes place old new after (Err e) = e ≡ OutOfMemory
 
 -- memory ran out, or the source refused a read, which it can
 abbrev pub IsUnread : Bool → FileError → Type 0
@@ -144,8 +144,8 @@ SaysWhose refusal (Err u) = (u ≡ refusal) × OnMp4 refusal (λ e. e ≡ OutOfM
 
 -- the same of a box that is read from a source
 abbrev pub ReadsNext : ℕ → List ℕ → Bool → ℕ → SeenBoxes → SeenBoxes → ℕ → Result NextBox FileError → Type 0
-ReadsNext size bytes can_refuse place old new behind (Ok next) = SaysNext size bytes place old new behind next
-ReadsNext size bytes can_refuse place old new behind (Err e) = IsUnread can_refuse e
+ReadsNext size bytes can_refuse place old new after (Ok next) = SaysNext size bytes place old new after next
+ReadsNext size bytes can_refuse place old new after (Err e) = IsUnread can_refuse e
 
 -- boxes of this type are read
 abbrev pub IsRead : BoxType → Type 0

@@ -217,12 +217,12 @@ fn skip_box<S: ByteSource + Drop>(
     ensures can_refuse { S.can_refuse reader.new.source ≡ S.can_refuse reader.old.source }
     ensures same_len { reader.new.len ≡ reader.old.len }
 {
-    let Some(behind) = reader.position().checked_add(header.size - HEADER_SIZE) else {
+    let Some(after) = reader.position().checked_add(header.size - HEADER_SIZE) else {
         let error = Error::InvalidData("a box ends past 64 bits");
         return fault_of_box(alloc, seen, header.name, place, error);
     };
     seen.names.push(header.name)?;
-    reader.set_position(behind);
+    reader.set_position(after);
     Ok(NextBox::Faultless)
 }
 

@@ -53,7 +53,7 @@ fn has_bytes(answer: &Result<Option<Mp4Sample>, FileError>, bytes: &[u8]) -> boo
 }
 
 /// The movie, whose third sample is in a box after it, and the length of the movie alone.
-fn with_last_sample_behind(alloc: Global) -> Result<(Vec<u8>, usize), FileError> {
+fn with_last_sample_after(alloc: Global) -> Result<(Vec<u8>, usize), FileError> {
     let movie = movie_file(alloc)?;
     let place = u32::try_from(movie.len().saturating_add(8)).unwrap_or(u32::MAX);
     let mut bytes = with_number(alloc, movie.as_slice(), b"stco", SECOND_CHUNK, place)?;
@@ -63,8 +63,8 @@ fn with_last_sample_behind(alloc: Global) -> Result<(Vec<u8>, usize), FileError>
 
 /// Whether a sample after the end that a file had is refused, though the file has grown by it, and is read where the
 /// file is opened again.
-fn is_behind_the_end(alloc: Global) -> Result<bool, FileError> {
-    let (bytes, len) = with_last_sample_behind(alloc)?;
+fn is_past_the_end(alloc: Global) -> Result<bool, FileError> {
+    let (bytes, len) = with_last_sample_after(alloc)?;
     let mut file = changing(alloc, bytes.as_slice(), len, bytes.len())?;
     let is_refused = is_read(&file.read_sample(1, 3), &Err(Error::EndOfData));
     drop(file);
@@ -74,7 +74,7 @@ fn is_behind_the_end(alloc: Global) -> Result<bool, FileError> {
 
 #[test]
 fn a_sample_that_a_file_grows_by_is_end_of_data(rt: HostRuntime) {
-    check(&rt, "behind the end", is_behind_the_end(rt.alloc()));
+    check(&rt, "past the end", is_past_the_end(rt.alloc()));
 }
 
 /// The kinds of error of samples of a file that shrinks to 52 bytes, in the middle of the second, and whether the first

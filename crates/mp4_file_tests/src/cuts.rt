@@ -102,7 +102,7 @@ fn cuts_of_fragments(alloc: Global) -> Result<Openings, FileError> {
 }
 
 /// Those of the fragmented file after seven bytes of something else.
-fn cuts_behind_a_prefix(alloc: Global) -> Result<Openings, FileError> {
+fn cuts_after_a_prefix(alloc: Global) -> Result<Openings, FileError> {
     let mut bytes = b"ftypmoo".to_vec(alloc)?;
     bytes.extend_from_slice(fragmented_file(alloc)?.as_slice())?;
     cuts_of(alloc, bytes.as_slice(), 7)
@@ -137,8 +137,8 @@ fn every_cut_of_a_fragmented_file_has_its_error(rt: HostRuntime) {
 }
 
 #[test]
-fn every_cut_behind_a_prefix_has_its_error(rt: HostRuntime) {
-    same(&rt, cuts_behind_a_prefix(rt.alloc()), opened(3));
+fn every_cut_after_a_prefix_has_its_error(rt: HostRuntime) {
+    same(&rt, cuts_after_a_prefix(rt.alloc()), opened(3));
 }
 
 #[test]

@@ -90,10 +90,10 @@ pub fn with_number(
     alloc: Global,
     bytes: &[u8],
     name: &[u8],
-    behind: usize,
+    distance: usize,
     number: u32,
 ) -> Result<Vec<u8>, AllocError> {
-    let place = last_place(bytes, name).saturating_add(behind);
+    let place = last_place(bytes, name).saturating_add(distance);
     let mut changed = bytes.get(..place).unwrap_or(&[]).to_vec(alloc)?;
     changed.extend_from_slice(&number.to_be_bytes())?;
     let rest = bytes.get(place.saturating_add(4)..).unwrap_or(&[]);

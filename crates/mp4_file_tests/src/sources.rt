@@ -74,8 +74,8 @@ impl Read for Disk<'_> {
         let share = buf.len().checked_div(self.share).unwrap_or(1);
         let most = share.max(1).min(buf.len());
         let held = rest.read(&mut buf[..most])?;
-        let behind = self.position.saturating_add(held as u64);
-        let n = held.saturating_add(put_zeros(behind, self.len, &mut buf[held..most]));
+        let after = self.position.saturating_add(held as u64);
+        let n = held.saturating_add(put_zeros(after, self.len, &mut buf[held..most]));
         self.position = self.position.saturating_add(n as u64);
         Ok(n)
     }

@@ -26,13 +26,13 @@ use Rattle.mp4_lookup.proofs.Sums.{ticks_before}
 pub last_of_added : (has added : ℕ → Bool) (count end n : ℕ)
     → ((j : ℕ) → count < j → has j ≡ added (j - count - 1)) → IsLastWith added end n
     → IsLastWith has (count + 1 + end) (count + 1 + n)
-last_of_added has added count end n behind last =
+last_of_added has added count end n after last =
     let at : count + 1 + n - count - 1 ≡ n = omega arith in
     record {
       within = omega (arith, last.within);
-      own = behind (count + 1 + n) (omega arith) ∙ ap added at ∙ last.own;
+      own = after (count + 1 + n) (omega arith) ∙ ap added at ∙ last.own;
       later = λ j h k.
-          behind j (omega (arith, h)) ∙ last.later (j - count - 1) (omega (arith, h)) (omega (arith, h, k));
+          after j (omega (arith, h)) ∙ last.later (j - count - 1) (omega (arith, h)) (omega (arith, h, k));
     }
 
 -- where none of those that are added has it, it is the last of the movie box
@@ -40,17 +40,17 @@ pub last_of_movie : (has first added : ℕ → Bool) (count end : ℕ) (last : O
     → ((j : ℕ) → j ≤ count → has j ≡ first j) → ((j : ℕ) → count < j → has j ≡ added (j - count - 1))
     → ((j : ℕ) → j < end → added j ≡ false) → AnswersLast first (count + 1) last
     → AnswersLast has (count + 1 + end) last
-last_of_movie has first added count end None before behind none last = λ j h.
+last_of_movie has first added count end None before after none last = λ j h.
     ⊎_elim
     (λ (inside : j < count + 1). before j (omega (arith, inside)) ∙ last j inside)
-    (λ (past : count + 1 ≤ j). behind j (omega (arith, past)) ∙ none (j - count - 1) (omega (arith, past, h)))
+    (λ (past : count + 1 ≤ j). after j (omega (arith, past)) ∙ none (j - count - 1) (omega (arith, past, h)))
     (cases_lt j (count + 1))
-last_of_movie has first added count end (Some n) before behind none last = record {
+last_of_movie has first added count end (Some n) before after none last = record {
   within = omega (arith, last.within);
   own = before n (omega (arith, last.within)) ∙ last.own;
   later = λ j h k. ⊎_elim
       (λ (inside : j < count + 1). before j (omega (arith, inside)) ∙ last.later j h inside)
-      (λ (past : count + 1 ≤ j). behind j (omega (arith, past)) ∙ none (j - count - 1) (omega (arith, past, k)))
+      (λ (past : count + 1 ≤ j). after j (omega (arith, past)) ∙ none (j - count - 1) (omega (arith, past, k)))
       (cases_lt j (count + 1));
 }
 
@@ -166,10 +166,10 @@ start_in runs i j d there inside =
     ∙ sum-take-expand (λ (r : SttsEntry). r.sample_count) (λ (r : SttsEntry). r.sample_delta) runs i j d there inside
 
 -- where samples come after a run, a run does
-run_behind : (runs : List SttsEntry) (i : ℕ) (d : SttsEntry) → i < length runs
+run_after : (runs : List SttsEntry) (i : ℕ) (d : SttsEntry) → i < length runs
     → sum_by (λ r. r.sample_count) (take i runs) + (get_or runs i d).sample_count < sum_by (λ r. r.sample_count) runs
     → i + 1 < length runs
-run_behind runs i d there more =
+run_after runs i d there more =
     let samples = λ (r : SttsEntry). r.sample_count in
     ⊎_elim
     (λ (h : i + 1 < length runs). h)
@@ -250,7 +250,7 @@ early_samples runs counts times count time i before within d s small fits at e m
           omega (
             arith,
             later_run runs counts times time i s at
-                (run_behind runs i d there (omega (arith, k, is, whole, all))),
+                (run_after runs i d there (omega (arith, k, is, whole, all))),
             sum_by_more ticks runs i d there,
             same,
           ))

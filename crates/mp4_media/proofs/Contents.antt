@@ -51,12 +51,12 @@ meaning-none name named not_ftyp not_moov not_moof not_emsg =
 
 module _ {A : Type 0} (kind : A → BoxContent) (value : List ℕ → Result A Cause) where
   abbrev with_place : {B : Type 0} → Cursor → B → Result (B × Cursor) Cause
-  with_place behind x = Ok (x, behind)
+  with_place after x = Ok (x, after)
 
-  of_value : (r : Result A Cause) (behind : Cursor) (x : A × Cursor) → (r >>= with_place behind) ≡ Ok x
-      → ((r >>= λ b. Ok (kind b)) >>= with_place behind) ≡ Ok (kind x.0, x.1)
-  of_value (Ok y) behind x e = cc
-  of_value (Err c) behind x e = absurd cc
+  of_value : (r : Result A Cause) (after : Cursor) (x : A × Cursor) → (r >>= with_place after) ≡ Ok x
+      → ((r >>= λ b. Ok (kind b)) >>= with_place after) ≡ Ok (kind x.0, x.1)
+  of_value (Ok y) after x e = cc
+  of_value (Err c) after x e = absurd cc
 
   of_payload : (r : Result (List ℕ × Cursor) Cause) (x : A × Cursor)
       → (r >>= λ part. value part.0 >>= with_place part.1) ≡ Ok x
@@ -64,10 +64,10 @@ module _ {A : Type 0} (kind : A → BoxContent) (value : List ℕ → Result A C
   of_payload (Ok part) x e = of_value (value part.0) part.1 x e
   of_payload (Err c) x e = absurd cc
 
-  no_value : (r : Result A Cause) (behind : Cursor) (c : Cause) → (r >>= with_place behind) ≡ Err c
-      → ((r >>= λ b. Ok (kind b)) >>= with_place behind) ≡ Err c
-  no_value (Ok y) behind c e = absurd cc
-  no_value (Err d) behind c e = cc
+  no_value : (r : Result A Cause) (after : Cursor) (c : Cause) → (r >>= with_place after) ≡ Err c
+      → ((r >>= λ b. Ok (kind b)) >>= with_place after) ≡ Err c
+  no_value (Ok y) after c e = absurd cc
+  no_value (Err d) after c e = cc
 
   no_payload : (r : Result (List ℕ × Cursor) Cause) (c : Cause)
       → (r >>= λ part. value part.0 >>= with_place part.1) ≡ Err c
@@ -77,9 +77,9 @@ module _ {A : Type 0} (kind : A → BoxContent) (value : List ℕ → Result A C
 
   module _ (name : BoxType) (is : meaning_of name ≡ Some (read_as kind value)) (size : ℕ) (cursor : Cursor) where
     -- a box that is read
-    pub content-read : (x : A) (behind : Cursor) → box_at value size cursor ≡ Ok (x, behind)
-        → content_at (meaning_of name) size cursor ≡ Ok (kind x, behind)
-    content-read x behind e = rw is (of_payload (payload_at size cursor) (x, behind) e)
+    pub content-read : (x : A) (after : Cursor) → box_at value size cursor ≡ Ok (x, after)
+        → content_at (meaning_of name) size cursor ≡ Ok (kind x, after)
+    content-read x after e = rw is (of_payload (payload_at size cursor) (x, after) e)
 
     -- a box that has no meaning
     pub content-refused : (c : Cause) → box_at value size cursor ≡ Err c

@@ -17,7 +17,8 @@ use Rattle.mp4_source.specs.declared.file_error.FileError.TheVariants.{Mp4, Io}
 use Rattle.mp4_media.specs.FileBoxes.{BoxContent}
 use Rattle.mp4_media.specs.declared.opening.TopLevelBoxes.{TopLevelBoxes}
 use Rattle.mp4_media.specs.FileBoxes.{meaning_of, read_as}
-use Rattle.mp4_media.specs.Walk.{box_behind, content_at, next_box_at, with_content, with_box, and_content, and_found}
+use Rattle.mp4_media.specs.Walk.{box_after_header, content_at, next_box_at, with_content, with_box, and_content}
+use Rattle.mp4_media.specs.Walk.{and_found}
 use Rattle.mp4_media.specs.Walk.{found_at, opened_at, opened_from}
 use Rattle.mp4_media.proofs.Contents.{content-read, content-refused}
 
@@ -93,26 +94,26 @@ module _ (size : ℕ) (place : Cursor) where
   short_rest below short = rw (lt-leb size place.position below, lt-ltb size (place.position + 8) short) refl
 
   module _ (below : place.position < size) (long : place.position + 8 ≤ size) where
-    next_is : next_box_at size place ≡ (header_at place >>= λ x. box_behind size place x.0 x.1)
+    next_is : next_box_at size place ≡ (header_at place >>= λ x. box_after_header size place x.0 x.1)
     unfolding next_box_at
     next_is = rw (lt-leb size place.position below, le-ltb size (place.position + 8) long) refl
 
     pub no_head : (c : Cause) → header_at place ≡ Err c → next_box_at size place ≡ Err c
     no_head c e = next_is ∙ rw e refl
 
-    module _ (h : BoxHeader) (behind : Cursor) (head : header_at place ≡ Ok (h, behind)) where
-      behind_head : next_box_at size place ≡ box_behind size place h behind
-      behind_head = next_is ∙ rw head refl
+    module _ (h : BoxHeader) (after : Cursor) (head : header_at place ≡ Ok (h, after)) where
+      after_head : next_box_at size place ≡ box_after_header size place h after
+      after_head = next_is ∙ rw head refl
 
       pub open_end : h.size ≡ 0 → next_box_at size place ≡ Ok (None, place)
-      open_end zero = behind_head ∙ rw zero refl
+      open_end zero = after_head ∙ rw zero refl
 
       pub too_large : (h.size == 0) ≡ false → size < h.size → next_box_at size place ≡ Err invalid_data
-      too_large some large = behind_head ∙ rw (some, lt-ltb size h.size large) refl
+      too_large some large = after_head ∙ rw (some, lt-ltb size h.size large) refl
 
       pub content_next : (h.size == 0) ≡ false → h.size ≤ size
-          → next_box_at size place ≡ (content_at (meaning_of h.name) h.size behind >>= with_content place.position)
-      content_next some fits = behind_head ∙ rw (some, le-ltb size h.size fits) refl
+          → next_box_at size place ≡ (content_at (meaning_of h.name) h.size after >>= with_content place.position)
+      content_next some fits = after_head ∙ rw (some, le-ltb size h.size fits) refl
 
 -- the next box, added to what was found
 abbrev pub and_more : TopLevelBoxes × Cursor → Result (Bool × TopLevelBoxes × Cursor) Cause

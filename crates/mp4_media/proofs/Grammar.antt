@@ -33,20 +33,20 @@ le-leb : (m n : ℕ) → m ≤ n → leb m n ≡ true
 le-leb m n h = grind arith
 
 -- a header that was read: it has 8 bytes at least, and its size is 0 or at least 8
-record HeaderRead (place : Cursor) (h : BoxHeader) (behind : Cursor) : Type 0 where
-  long : place.position + 8 ≤ behind.position
-  after : behind ≡ here place.bytes behind.position
+record HeaderRead (place : Cursor) (h : BoxHeader) (end : Cursor) : Type 0 where
+  long : place.position + 8 ≤ end.position
+  after : end ≡ here place.bytes end.position
   sized : (h.size ≡ 0) ⊎ (8 ≤ h.size)
 
 abbrev as_reported : Head × Cursor → Result (BoxHeader × Cursor) Cause
 as_reported x = Ok (reported x.0, x.1)
 
-header_read : (place : Cursor) (h : BoxHeader) (behind : Cursor) → header_at place ≡ Ok (h, behind)
-    → HeaderRead place h behind
-header_read place h behind e =
-    let one = both_steps (head_at place) as_reported (h, behind) e in
+header_read : (place : Cursor) (h : BoxHeader) (end : Cursor) → header_at place ≡ Ok (h, end)
+    → HeaderRead place h end
+header_read place h end e =
+    let one = both_steps (head_at place) as_reported (h, end) e in
     let r = head_read place one.0.0 one.0.1 one.1 in
-    let same = ok_is (reported one.0.0, one.0.1) (h, behind) one.2 in
+    let same = ok_is (reported one.0.0, one.0.1) (h, end) one.2 in
     subst (λ (x : BoxHeader × Cursor). HeaderRead place x.0 x.1) same (record {
       long = omega (arith, ap (λ (p : Cursor). p.position) r.after, r.long);
       after = rw r.after refl;
@@ -185,15 +185,15 @@ module _ (size : ℕ) (bytes : List ℕ) (place : ℕ) where
   by_total name from to w (inr fits) = by_meaning name from to w fits (meaning_of name) refl
 
   module _ (room : place + 8 ≤ size) where
-    by_size : (h : BoxHeader) (behind : Cursor) → header_at (here bytes place) ≡ Ok (h, behind)
-        → behind ≡ here bytes behind.position
+    by_size : (h : BoxHeader) (end : Cursor) → header_at (here bytes place) ≡ Ok (h, end)
+        → end ≡ here bytes end.position
         → (h.size ≡ 0) ⊎ (8 ≤ h.size) → Stands size bytes place
-    by_size h behind e after (inl no_end) =
-        ends (open_end room h.name behind.position
+    by_size h end e after (inl no_end) =
+        ends (open_end room h.name end.position
         (e ∙ ap (λ (p : Cursor). Ok (h, p)) after ∙ ap
-        (λ (n : ℕ). Ok (record { name = h.name; size = n }, here bytes behind.position)) no_end))
-    by_size h behind e after (inr large) =
-        let from : ℕ = behind.position in
+        (λ (n : ℕ). Ok (record { name = h.name; size = n }, here bytes end.position)) no_end))
+    by_size h end e after (inr large) =
+        let from : ℕ = end.position in
         let to : ℕ = from + (h.size - 8) in
         let same : h.size ≡ to - from + 8 = omega (arith, large) in
         by_total h.name from to (record {

@@ -11,8 +11,8 @@ use Rattle.mp4_samples.specs.Samples.{borrowed_sample, read_at, read_in}
 use Rattle.mp4_media.specs.InOrder.{ReadSample, read_all, ref_answer}
 
 -- what is left after a sample that was read, or refused
-abbrev pub behind : Bool → List ℕ → List (Result Place Cause) → List (Result ReadSample Cause)
-behind ended file answers = if ended then [] else read_all file answers
+abbrev pub rest_of_answers : Bool → List ℕ → List (Result Place Cause) → List (Result ReadSample Cause)
+rest_of_answers ended file answers = if ended then [] else read_all file answers
 
 module _ (file : List ℕ) (p : Place) (answers : List (Result Place Cause)) where
   abbrev past : Bool
@@ -20,7 +20,7 @@ module _ (file : List ℕ) (p : Place) (answers : List (Result Place Cause)) whe
 
   pub read_step : (r : Result SampleRef Error) (ended : Bool)
       → Gives (λ s. Some (borrowed_sample s)) r (read_in file (Some p)) → IfOk r (λ s. s.offset ≡ p.offset)
-      → ended ≡ is_err r → read_all file (Ok p ∷ answers) ≡ ref_answer r ∷ behind ended file answers
+      → ended ≡ is_err r → read_all file (Ok p ∷ answers) ≡ ref_answer r ∷ rest_of_answers ended file answers
   unfolding read_all
   read_step (Ok s) ended rule at e = rw e (by past rule)
     where

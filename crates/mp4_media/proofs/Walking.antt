@@ -15,7 +15,7 @@ use Rattle.mp4_media.specs.declared.opening.TopLevelBoxes.{TopLevelBoxes}
 use Rattle.mp4_media.specs.FileBoxes.{ftyp_from, moov_from, moof_from, moof_place_from, emsg_from, ftyps_in, moovs_in}
 use Rattle.mp4_media.specs.FileBoxes.{moofs_in}
 use Rattle.mp4_media.specs.MovieTracks.{id_fault}
-use Rattle.mp4_media.specs.Walk.{box_behind, next_box_at, file_boxes_at, found_of, with_box, and_found, found_at}
+use Rattle.mp4_media.specs.Walk.{box_after_header, next_box_at, file_boxes_at, found_of, with_box, and_found, found_at}
 use Rattle.mp4_media.specs.Walk.{opened_with, opened_at}
 use Rattle.mp4_media.proofs.Contents.{last-later, filter_map-and_one}
 
@@ -62,29 +62,29 @@ regrouped done b (Ok x) = ap (λ (bs : List FileBox). Ok (bs, x.1)) (sym (append
 regrouped done b (Err c) = refl
 
 module _ (size : ℕ) (start place : Cursor) (found : TopLevelBoxes) where
-  stepped : (b : FileBox) (behind : Cursor) (after : TopLevelBoxes) → next_box_at size place ≡ Ok (Some b, behind)
-      → place.position < size → place.position < behind.position
+  stepped : (b : FileBox) (end : Cursor) (after : TopLevelBoxes) → next_box_at size place ≡ Ok (Some b, end)
+      → place.position < size → place.position < end.position
       → after ≡ with_box found b → (done : List FileBox) → found ≡ found_of done
       → (steps : ℕ) → size ≤ steps + place.position
       → file_boxes_at size size start ≡ after_boxes done (file_boxes_at steps size place)
-      → Scanning size start after behind
+      → Scanning size start after end
   unfolding file_boxes_at
-  stepped b behind after next below onward added done given zero enough is = absurd (omega arith)
-  stepped b behind after next below onward added done given (suc n) enough is = record {
+  stepped b end after next below onward added done given zero enough is = absurd (omega arith)
+  stepped b end after next below onward added done given (suc n) enough is = record {
     done = done ++ b ∷ [];
     given = added ∙ ap (λ f. with_box f b) given ∙ found-push done b;
     steps = n;
     enough = omega arith;
-    is = is ∙ rw next (regrouped done b (file_boxes_at n size behind));
+    is = is ∙ rw next (regrouped done b (file_boxes_at n size end));
   }
 
   -- one box more
-  pub scan-takes : (b : FileBox) (behind : Cursor) (after : TopLevelBoxes)
-      → next_box_at size place ≡ Ok (Some b, behind)
-      → place.position < size → place.position < behind.position
-      → after ≡ with_box found b → Scanning size start found place → Scanning size start after behind
-  scan-takes b behind after next below onward added w =
-      stepped b behind after next below onward added w.done w.given w.steps w.enough w.is
+  pub scan-takes : (b : FileBox) (end : Cursor) (after : TopLevelBoxes)
+      → next_box_at size place ≡ Ok (Some b, end)
+      → place.position < size → place.position < end.position
+      → after ≡ with_box found b → Scanning size start found place → Scanning size start after end
+  scan-takes b end after next below onward added w =
+      stepped b end after next below onward added w.done w.given w.steps w.enough w.is
 
   within : (b : Bool) (r : Result (Option FileBox × Cursor) Cause) (c : Cause) → (b ≡ false → place.position < size)
       → cond b (Ok (None, place)) r ≡ Err c → place.position < size
@@ -97,7 +97,7 @@ module _ (size : ℕ) (start place : Cursor) (found : TopLevelBoxes) where
   below c e =
       within (leb size place.position)
       (cond (ltb size (place.position + 8)) (Err end_of_data)
-      (header_at place >>= λ x. box_behind size place x.0 x.1)) c (leb-false size place.position) e
+      (header_at place >>= λ x. box_after_header size place x.0 x.1)) c (leb-false size place.position) e
 
   refused : (c : Cause) → next_box_at size place ≡ Err c → place.position < size → (done : List FileBox) (steps : ℕ)
       → size ≤ steps + place.position
@@ -112,42 +112,42 @@ module _ (size : ℕ) (start place : Cursor) (found : TopLevelBoxes) where
       → file_boxes_at size size start ≡ Err c
   scan-refuses c next w = refused c next (below c next) w.done w.steps w.enough w.is
 
-  ended : (behind : Cursor) → next_box_at size place ≡ Ok (None, behind) → behind.position ≡ place.position
+  ended : (end : Cursor) → next_box_at size place ≡ Ok (None, end) → end.position ≡ place.position
       → (done : List FileBox) (steps : ℕ)
       → file_boxes_at size size start ≡ after_boxes done (file_boxes_at steps size place)
       → file_boxes_at size size start ≡ Ok (done, place.position)
   unfolding file_boxes_at
-  ended behind next same done zero is = is ∙ ap (λ (bs : List FileBox). Ok (bs, place.position)) (append-nil done)
-  ended behind next same done (suc n) is =
+  ended end next same done zero is = is ∙ ap (λ (bs : List FileBox). Ok (bs, place.position)) (append-nil done)
+  ended end next same done (suc n) is =
       is ∙ rw (next, same) (ap (λ (bs : List FileBox). Ok (bs, place.position)) (append-nil done))
 
   -- no box is left
-  pub scan-ends : (behind : Cursor) → next_box_at size place ≡ Ok (None, behind) → behind.position ≡ place.position
+  pub scan-ends : (end : Cursor) → next_box_at size place ≡ Ok (None, end) → end.position ≡ place.position
       → (w : Scanning size start found place) → file_boxes_at size size start ≡ Ok (w.done, place.position)
-  scan-ends behind next same w = ended behind next same w.done w.steps w.is
+  scan-ends end next same w = ended end next same w.done w.steps w.is
 
 -- What the next box adds to what was found.
-module _ (found after : TopLevelBoxes) (behind : Cursor) where
-  pub box_added : (r : Result (Option FileBox × Cursor) Cause) → (r >>= and_found found) ≡ Ok (true, after, behind)
-      → (b : FileBox) × (r ≡ Ok (Some b, behind)) × (after ≡ with_box found b)
+module _ (found after : TopLevelBoxes) (end : Cursor) where
+  pub box_added : (r : Result (Option FileBox × Cursor) Cause) → (r >>= and_found found) ≡ Ok (true, after, end)
+      → (b : FileBox) × (r ≡ Ok (Some b, end)) × (after ≡ with_box found b)
   box_added (Ok (Some b, place)) e =
-      let same = ok_is (true, with_box found b, place) (true, after, behind) e in (
+      let same = ok_is (true, with_box found b, place) (true, after, end) e in (
         b,
         ap (λ (t : Bool × TopLevelBoxes × Cursor). Ok (Some b, t.2)) same,
         ap (λ (t : Bool × TopLevelBoxes × Cursor). t.1) (sym same),
       )
   box_added (Ok (None, place)) e =
-      let same = ok_is (false, found, place) (true, after, behind) e in
+      let same = ok_is (false, found, place) (true, after, end) e in
       absurd (false≢true (ap (λ (t : Bool × TopLevelBoxes × Cursor). t.0) same))
   box_added (Err c) e = absurd cc
 
-  pub none_added : (r : Result (Option FileBox × Cursor) Cause) → (r >>= and_found found) ≡ Ok (false, after, behind)
-      → (r ≡ Ok (None, behind)) × (after ≡ found)
+  pub none_added : (r : Result (Option FileBox × Cursor) Cause) → (r >>= and_found found) ≡ Ok (false, after, end)
+      → (r ≡ Ok (None, end)) × (after ≡ found)
   none_added (Ok (Some b, place)) e =
-      let same = ok_is (true, with_box found b, place) (false, after, behind) e in
+      let same = ok_is (true, with_box found b, place) (false, after, end) e in
       absurd (false≢true (sym (ap (λ (t : Bool × TopLevelBoxes × Cursor). t.0) same)))
   none_added (Ok (None, place)) e =
-      let same = ok_is (false, found, place) (false, after, behind) e in (
+      let same = ok_is (false, found, place) (false, after, end) e in (
         ap (λ (t : Bool × TopLevelBoxes × Cursor). Ok (None, t.2)) same,
         ap (λ (t : Bool × TopLevelBoxes × Cursor). t.1) (sym same),
       )

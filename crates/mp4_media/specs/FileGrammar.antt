@@ -52,7 +52,7 @@ pub data EndsFile (size : ℕ) (bytes : List ℕ) (place : ℕ) : Type 0 where
 unfoldable pub AreFileBoxes : ℕ → List ℕ → ℕ → List FileBox → ℕ → Type 0
 AreFileBoxes size bytes place [] next = next ≡ place
 AreFileBoxes size bytes place (b ∷ bs) next =
-    (behind : ℕ) × IsFileBox size bytes place behind b × AreFileBoxes size bytes behind bs next
+    (after : ℕ) × IsFileBox size bytes place after b × AreFileBoxes size bytes after bs next
 
 -- The bytes from this place on are a file of `size` bytes: boxes to its end, of which the last file type, the last
 -- movie, all fragments and all event messages are what is opened. The ids of the movie's tracks and of its fragments

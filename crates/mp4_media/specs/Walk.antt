@@ -23,18 +23,18 @@ skip_at n cursor = if nat_lt (2 ^ 64 - 1) (cursor.position + n) then Err invalid
 -- the content of a box of this size, whose payload is at the cursor, and the place after it
 abbrev pub content_at : Option (List ℕ → Result BoxContent Cause) → ℕ → Cursor → Result (BoxContent × Cursor) Cause
 content_at (Some value) size cursor = box_at value size cursor
-content_at None size cursor = skip_at (size - 8) cursor >>= λ behind. Ok (Skipped, behind)
+content_at None size cursor = skip_at (size - 8) cursor >>= λ after. Ok (Skipped, after)
 
 abbrev pub with_content : ℕ → BoxContent × Cursor → Result (Option FileBox × Cursor) Cause
 with_content place x = Ok (Some (record { place = place; content = x.0 }), x.1)
 
 -- The box whose header was read at the place, in a file of `size` bytes: none where its end is open, since the file
 -- ends there; a size past the file's is refused.
-abbrev pub box_behind : ℕ → Cursor → BoxHeader → Cursor → Result (Option FileBox × Cursor) Cause
-box_behind size place h behind =
+abbrev pub box_after_header : ℕ → Cursor → BoxHeader → Cursor → Result (Option FileBox × Cursor) Cause
+box_after_header size place h after =
     if h.size == 0 then Ok (None, place) else
     if nat_lt size h.size then Err invalid_data else
-    (content_at (meaning_of h.name) h.size behind >>= with_content place.position)
+    (content_at (meaning_of h.name) h.size after >>= with_content place.position)
 
 -- The next box of a file of `size` bytes, and the place after it: none at a place that isn't below `size`; a rest of
 -- less than a header is refused.
@@ -42,7 +42,7 @@ unfoldable pub next_box_at : ℕ → Cursor → Result (Option FileBox × Cursor
 next_box_at size place =
     if nat_le size place.position then Ok (None, place) else
     if nat_lt size (place.position + 8) then Err end_of_data else
-    (header_at place >>= λ x. box_behind size place x.0 x.1)
+    (header_at place >>= λ x. box_after_header size place x.0 x.1)
 
 abbrev pub and_boxes : (Cursor → Result (List FileBox × ℕ) Cause) → Option FileBox × Cursor
     → Result (List FileBox × ℕ) Cause
@@ -85,7 +85,7 @@ with_content_at name size found place cursor = content_at (meaning_of name) size
 
 abbrev pub and_found : TopLevelBoxes → Option FileBox × Cursor → Result (Bool × TopLevelBoxes × Cursor) Cause
 and_found found (None, place) = Ok (false, found, place)
-and_found found (Some b, behind) = Ok (true, with_box found b, behind)
+and_found found (Some b, after) = Ok (true, with_box found b, after)
 
 -- whether a box is at a place in a file of `size` bytes, what was found with it, and the place after it
 abbrev pub with_next_at : ℕ → TopLevelBoxes → Cursor → Result (Bool × TopLevelBoxes × Cursor) Cause

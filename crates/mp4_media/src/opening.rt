@@ -43,14 +43,14 @@ impl TopLevelBoxes {
 }
 
 /// The place after so many bytes from this one, also past the end of a file; `InvalidData` past 64 bits.
-fn place_behind(place: u64, n: u64) -> Result<u64>
-    ensures value { (bytes : List ℕ) → Gives (λ behind. here bytes behind) result (skip_at n (here bytes place)) }
-    ensures onward { IfOk result (λ behind. place ≤ behind) }
+fn place_after(place: u64, n: u64) -> Result<u64>
+    ensures value { (bytes : List ℕ) → Gives (λ after. here bytes after) result (skip_at n (here bytes place)) }
+    ensures onward { IfOk result (λ after. place ≤ after) }
 {
-    let Some(behind) = place.checked_add(n) else {
+    let Some(after) = place.checked_add(n) else {
         return Err(Error::InvalidData("a box ends past 64 bits"));
     };
-    Ok(behind)
+    Ok(after)
 }
 
 /// Adds the box to what was found that begins at the place and whose payload is at the cursor, which is then
@@ -100,8 +100,8 @@ fn add_content<S: ByteSource + Drop>(
         }
         _ => {
             let payload = reader.position();
-            let behind = place_behind(payload, header.size - HEADER_SIZE)?;
-            reader.set_position(behind);
+            let after = place_after(payload, header.size - HEADER_SIZE)?;
+            reader.set_position(after);
             Ok(())
         }
     }

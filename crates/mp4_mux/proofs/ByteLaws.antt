@@ -8,13 +8,13 @@ use Rattle.mp4_mux.specs.Writing.{WriterState, data_of, data_place}
 use Rattle.mp4_mux.specs.Written.{Tiles, LiesIn, LiesInOne, SampleRange, ranges}
 
 -- none of the ranges begins before the first
-starts_behind : (place : ℕ) (ns : List ℕ) (j : ℕ) (r : ℕ × ℕ) → slice_get (laid_from place ns) j ≡ Some r → place ≤ r.0
+starts_from : (place : ℕ) (ns : List ℕ) (j : ℕ) (r : ℕ × ℕ) → slice_get (laid_from place ns) j ≡ Some r → place ≤ r.0
 unfolding laid_from
-starts_behind place [] j r e = absurd cc
-starts_behind place (n ∷ ns) zero r e =
+starts_from place [] j r e = absurd cc
+starts_from place (n ∷ ns) zero r e =
     let first : (place, n) ≡ r = ap (λ o. unwrap_or o (place, n)) e in
     omega (arith, ap (λ (x : ℕ × ℕ). x.0) first)
-starts_behind place (n ∷ ns) (suc j) r e = let later = starts_behind (place + n) ns j r e in omega (arith, later)
+starts_from place (n ∷ ns) (suc j) r e = let later = starts_from (place + n) ns j r e in omega (arith, later)
 
 -- a byte of the first range is in no later one
 first_only : (place n : ℕ) (ns : List ℕ) (byte : ℕ) → byte < place + n → (j : ℕ) (r : ℕ × ℕ)
@@ -22,9 +22,9 @@ first_only : (place n : ℕ) (ns : List ℕ) (byte : ℕ) → byte < place + n �
 unfolding laid_from
 first_only place n ns byte l zero r e lies = refl
 first_only place n ns byte l (suc j) r e lies =
-    let behind = starts_behind (place + n) ns j r e in
+    let after = starts_from (place + n) ns j r e in
     let low = lies.0 in
-    absurd (omega (arith, behind, low, l))
+    absurd (omega (arith, after, low, l))
 
 -- a byte after it is not in the first
 later_only : (place n : ℕ) (ns : List ℕ) (byte : ℕ) → place + n ≤ byte

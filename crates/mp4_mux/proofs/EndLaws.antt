@@ -88,10 +88,10 @@ module _ (chunks : List Chunk) (placed : List PlacedChunk) where
       let next = place + length (sample_bytes b.pending) in
       let rest = finish (id + 1) next bs (λ u l.
       let further : id + suc u ≡ (id + 1) + u = omega arith in
-      let behind : place + length (unwritten (take (suc u) (b ∷ bs))) ≡ next + length (unwritten (take u bs)) =
+      let same_place : place + length (unwritten (take (suc u) (b ∷ bs))) ≡ next + length (unwritten (take u bs)) =
       omega (arith, length-append (sample_bytes b.pending) (unwritten (take u bs))) in
       subst (λ n. Finishes n (next + length (unwritten (take u bs))) (building_at bs u)) further
-      (subst (λ n. Finishes (id + suc u) n (building_at bs u)) behind (h (suc u) (omega (arith, l))))) in
+      (subst (λ n. Finishes (id + suc u) n (building_at bs u)) same_place (h (suc u) (omega (arith, l))))) in
       ap₂ (λ (x : FinishedTrack) (xs : List FinishedTrack). x ∷ xs)
       (ap₂ (λ (ss : List SampleInfo) (cs : List PlacedChunk). record {
         id = id;

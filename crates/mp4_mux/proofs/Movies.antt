@@ -30,11 +30,11 @@ get_or-finished id place zero (b ∷ bs) d e l =
 get_or-finished id place (suc i) (b ∷ bs) d e l =
     let next = place + length (sample_bytes b.pending) in
     let at : (id + 1) + i ≡ id + suc i = omega arith in
-    let behind : next + length (unwritten (take i bs)) ≡ place + length (unwritten (take (suc i) (b ∷ bs))) =
+    let same_place : next + length (unwritten (take i bs)) ≡ place + length (unwritten (take (suc i) (b ∷ bs))) =
     omega (arith, length-append (sample_bytes b.pending) (unwritten (take i bs))) in
     get_or-finished (id + 1) next i bs d e (omega arith)
     ∙ ap (λ n. finished_building n (next + length (unwritten (take i bs))) (get_or bs i e)) at
-    ∙ ap (λ n. finished_building (id + suc i) n (get_or bs i e)) behind
+    ∙ ap (λ n. finished_building (id + suc i) n (get_or bs i e)) same_place
 
 -- the tracks last as long as what is kept of them
 pub durations-finished : (timescale id place : ℕ) (bs : List Building)

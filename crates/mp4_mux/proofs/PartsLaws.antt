@@ -222,11 +222,11 @@ module _ (p : Parts) (h : IsWriting p) (goes_on : p.ended ≡ false) (config : T
 
   by_track : (P : ℕ → Building → Type 0) → ((t : ℕ) → t < length p.media.tracks → P t (building_at p.media.tracks t))
       → P (length p.media.tracks) fresh → (t : ℕ) → t < length more_tracks → P t (building_at more_tracks t)
-  by_track P before behind t l = ⊎_elim
+  by_track P before after t l = ⊎_elim
       (λ (m : t < length p.media.tracks). subst (P t) (sym (stays t m)) (before t m))
       (λ (m : length p.media.tracks ≤ t).
       let is : length p.media.tracks ≡ t = omega (arith, m, l, length_push p.media.tracks fresh) in
-      subst (λ u. P u (building_at more_tracks u)) is (subst (P (length p.media.tracks)) (sym last) behind))
+      subst (λ u. P u (building_at more_tracks u)) is (subst (P (length p.media.tracks)) (sym last) after))
       (cases_lt t (length p.media.tracks))
 
   none_accepted : accepted_of new (length p.media.tracks + 1) ≡ []

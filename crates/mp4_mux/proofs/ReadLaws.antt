@@ -22,12 +22,12 @@ unfolding laid_from
 read_laid before [] more = refl
 read_laid before (s ∷ ss) more =
     let file = before ++ (sample_bytes (s ∷ ss) ++ more) in
-    let behind : file ≡ before ++ (s.bytes ++ (sample_bytes ss ++ more)) =
+    let file_is : file ≡ before ++ (s.bytes ++ (sample_bytes ss ++ more)) =
     ap (λ bs. before ++ bs) (append_assoc s.bytes (sample_bytes ss) more) in
     let further : file ≡ (before ++ s.bytes) ++ (sample_bytes ss ++ more) =
-    behind ∙ sym (append_assoc before s.bytes (sample_bytes ss ++ more)) in
+    file_is ∙ sym (append_assoc before s.bytes (sample_bytes ss ++ more)) in
     ap₂ (λ (x : List ℕ) (xs : List (List ℕ)). x ∷ xs)
-    (ap (λ bs. take (length s.bytes) (drop (length before) bs)) behind
+    (ap (λ bs. take (length s.bytes) (drop (length before) bs)) file_is
     ∙ ap (take (length s.bytes)) (drop_at before (s.bytes ++ (sample_bytes ss ++ more)) (length before) refl)
     ∙ take_at s.bytes (sample_bytes ss ++ more) (length s.bytes) refl)
     (ap₂ (λ (f : List ℕ) n. map (bytes_at f) (laid_from n (sizes_of ss))) further (sym (length-append before s.bytes))
@@ -44,12 +44,12 @@ read_ranges before (c ∷ cs) more id =
     let file = before ++ ((bs ++ chunk_bytes cs) ++ more) in
     let here = laid_from (length before) (sizes_of c.samples) in
     let later = ranges_of id (ranges_from (length before + length bs) cs) in
-    let behind : file ≡ before ++ (bs ++ (chunk_bytes cs ++ more)) =
+    let file_is : file ≡ before ++ (bs ++ (chunk_bytes cs ++ more)) =
     ap (λ xs. before ++ xs) (append_assoc bs (chunk_bytes cs) more) in
     let further : file ≡ (before ++ bs) ++ (chunk_bytes cs ++ more) =
-    behind ∙ sym (append_assoc before bs (chunk_bytes cs ++ more)) in
+    file_is ∙ sym (append_assoc before bs (chunk_bytes cs ++ more)) in
     let first : map (bytes_at file) here ≡ map (λ (s : Sample). s.bytes) c.samples =
-    ap (λ f. map (bytes_at f) here) behind ∙ read_laid before c.samples (chunk_bytes cs ++ more) in
+    ap (λ f. map (bytes_at f) here) file_is ∙ read_laid before c.samples (chunk_bytes cs ++ more) in
     let rest : map (bytes_at file) later ≡ map (λ (s : Sample). s.bytes) (samples_of id cs) =
     ap₂ (λ (f : List ℕ) n. map (bytes_at f) (ranges_of id (ranges_from n cs))) further (sym (length-append before bs))
     ∙ read_ranges (before ++ bs) cs more id in

@@ -177,11 +177,11 @@ module _ (f : TrackFields) (h : IsTrack f) (is : List SampleInfo) (i : SampleInf
       let rest = drop f.closed_count is in
       let before : sum_by (λ (s : SampleInfo). s.size) rest ≡ length left =
       omega (arith, last_size, length-take-le (length f.bytes - i.size) f.bytes (omega arith)) in
-      let behind : i.size ≡ length end = omega (arith, last_size, length-drop (length f.bytes - i.size) f.bytes) in
+      let end_length : i.size ≡ length end = omega (arith, last_size, length-drop (length f.bytes - i.size) f.bytes) in
       let joined : samples_in (drop f.closed_count f.samples) f.bytes ≡ samples_in rest left ++ sample_at i end ∷ [] =
       ap₂ (λ (js : List SampleInfo) (bs : List ℕ). samples_in js bs) rest_pop
       (sym (take-append-drop (length f.bytes - i.size) f.bytes))
-      ∙ samples_in-push rest left i end before behind in
+      ∙ samples_in-push rest left i end before end_length in
       let one_less : take (length (samples_in (drop f.closed_count f.samples) f.bytes) - 1)
       (samples_in (drop f.closed_count f.samples) f.bytes) ≡ samples_in rest left =
       rw joined

@@ -37,7 +37,7 @@ pub fn chunks_are_just_full()
 /// An end adds chunks after the others, in the order of the tracks: what is pending of a track is a chunk, where
 /// anything is, so that each track has at most one of them. It accepts nothing, and loses nothing.
 pub fn an_end_closes_one_chunk_a_track()
-    ensures behind { (st : WriterState) → (with_end st).chunks ≡ st.chunks ++ last_chunks 1 st.tracks }
+    ensures after { (st : WriterState) → (with_end st).chunks ≡ st.chunks ++ last_chunks 1 st.tracks }
     ensures pending { (st : WriterState) (id : ℕ) → 1 ≤ id
         → chunks_of id (last_chunks 1 st.tracks) ≡ chunk_of id (track_at st id).pending }
     ensures once { (ts : List TrackState) (id : ℕ) → length (chunks_of id (last_chunks 1 ts)) ≤ 1 }

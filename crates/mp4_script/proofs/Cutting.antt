@@ -36,8 +36,8 @@ unfolding lines_of
 cut_line text end is within =
     let others = drop (end + 1) text in
     let all : length others ≤ length text - (end + 1) = omega (arith, length-drop (end + 1) text) in
-    let behind : take (length text - (end + 1)) others ≡ others = take_all (length text - (end + 1)) others all in
-    slice_split_first is_feed text 0 (omega (arith, is)) ∙ rw (← is, behind) refl
+    let rest_is : take (length text - (end + 1)) others ≡ others = take_all (length text - (end + 1)) others all in
+    slice_split_first is_feed text 0 (omega (arith, is)) ∙ rw (← is, rest_is) refl
 
 one_byte_more : (byte : ℕ) (bytes : List ℕ) (b : Bool) → is_feed byte ≡ b
     → cond (not b) (1 + position_or_len is_feed bytes) 0 ≡ length (byte ∷ bytes)

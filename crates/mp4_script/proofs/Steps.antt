@@ -21,9 +21,9 @@ module _ (n : ℕ) (lines others : List (List ℕ)) (line : List ℕ) (left : dr
   rest [] = []
   rest (x ∷ xs) = xs
 
-  pub line_behind : drop (n + 1) lines ≡ others
+  pub lines_after : drop (n + 1) lines ≡ others
   unfolding rest
-  line_behind = ap rest same
+  lines_after = ap rest same
 
   pub line_before : take (n + 1) lines ≡ take n lines ++ line ∷ []
   line_before =
@@ -105,7 +105,7 @@ module _ (script : List ℕ) (n : ℕ) (others : List (List ℕ)) (line : List �
         inl (record {
           before = take n lines;
           line = line;
-          behind = others;
+          after = others;
           next = writer;
           lines = all;
           run = ran;

@@ -25,8 +25,8 @@ cut_at_space line =
     if nat_lt end (length line) then Some (take end line, drop (end + 1) line) else None
 
 -- what is after a beginning
-abbrev pub behind : List ℕ → List ℕ → Option (List ℕ)
-behind beginning line =
+abbrev pub after : List ℕ → List ℕ → Option (List ℕ)
+after beginning line =
     if pointwise nat_eq (take (length beginning) line) beginning then Some (drop (length beginning) line) else None
 
 -- one to ten decimal digits are a number, where it has 32 bits
@@ -35,7 +35,7 @@ decimal_in digits = if nat_lt 10 (length digits) then None else numeral digits
 
 -- the same after a minus, or without one: from -2^31 to 2^31 - 1
 abbrev pub offset_in : List ℕ → Option ℤ
-offset_in field = elim (behind (codes "-") field) [
+offset_in field = elim (after (codes "-") field) [
   | Some digits ↦ decimal_in digits >>? λ n. if nat_lt (2 ^ 31) n then None else Some (neg_ℤ (pos n))
   | None ↦ decimal_in field >>? λ n. if nat_lt n (2 ^ 31) then Some (pos n) else None
 ]
@@ -61,9 +61,9 @@ sample_in fields =
 -- `track text TIMESCALE` adds a track of text, and `sample TRACK DURATION OFFSET SYNC TEXT` writes a sample; no other
 -- line is a command
 unfoldable pub command_in : List ℕ → Option Call
-command_in line = elim (behind (codes "track text ") line) [
+command_in line = elim (after (codes "track text ") line) [
   | Some timescale ↦ decimal_in timescale >>? λ ticks. Some (add_track (text_config ticks))
-  | None ↦ behind (codes "sample ") line >>? sample_in
+  | None ↦ after (codes "sample ") line >>? sample_in
 ]
 
 -- the call that a command asks for

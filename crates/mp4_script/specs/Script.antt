@@ -94,9 +94,9 @@ RanOutAt number line fault = CallsWriter line × (fault ≡ Refused number OutOf
 pub record RanOutIn (script : List ℕ) (writer : WriterState) (fault : ScriptFault) : Type 0 where
   pub before : List (List ℕ)
   pub line : List ℕ
-  pub behind : List (List ℕ)
+  pub after : List (List ℕ)
   pub next : WriterState
-  pub lines : lines_of script ≡ before ++ (line ∷ behind)
+  pub lines : lines_of script ≡ before ++ (line ∷ after)
   pub run : run_from 1 before writer ≡ Ok next
   pub ran_out : RanOutAt (length before + 1) line fault
 

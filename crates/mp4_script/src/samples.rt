@@ -27,14 +27,14 @@ fn next_place(samples: &mut Samples, len: u64) -> Result<Option<Place>> {
 
 /// Writes a number and this byte after it, which end at `end`, and answers where they begin.
 #[tactic(auto, using(crate::proofs::Digits::digits))]
-fn put_number(line: &mut [u8; LINE], end: usize, number: u64, behind: u8) -> usize
+fn put_number(line: &mut [u8; LINE], end: usize, number: u64, after: u8) -> usize
     requires room { 21 ≤ end }
     requires within { end ≤ 148 }
     ensures few { end ≤ result + 21 }
     ensures before { result < end }
-    ensures written { drop result line.new ≡ decimal number ++ behind ∷ drop end line.old }
+    ensures written { drop result line.new ≡ decimal number ++ after ∷ drop end line.old }
 {
-    line[end - 1] = behind;
+    line[end - 1] = after;
     write_digits(number, line, end - 1)
 }
 

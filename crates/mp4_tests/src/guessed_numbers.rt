@@ -267,10 +267,10 @@ fn by_chance(alloc: Global, random: &mut Random, count: u32, steps: u32) -> Resu
 
 /// So many keys up past the last of some numbers.
 fn keys_up_to(alloc: Global, random: &mut Random, numbers: &[u32], count: u32) -> Result<Vec<u32>> {
-    let behind = numbers.last().copied().unwrap_or(0).wrapping_add(3);
+    let past = numbers.last().copied().unwrap_or(0).wrapping_add(3);
     let mut keys = Vec::new(alloc);
     for _ in 0..count {
-        keys.push(random.below(behind))?;
+        keys.push(random.below(past))?;
     }
     Ok(keys)
 }

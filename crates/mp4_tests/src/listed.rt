@@ -43,7 +43,7 @@ struct Ends {
     /// Samples that begin before the end of the file and end after it: they aren't read.
     across: u32,
     /// Samples with bytes that begin where the file ends: neither are they.
-    behind: u32,
+    after: u32,
 }
 
 /// No list.
@@ -53,7 +53,7 @@ const NO_ENDS: Ends = Ends {
     at_end: 0,
     empty: 0,
     across: 0,
-    behind: 0,
+    after: 0,
 };
 
 impl Ends {
@@ -70,7 +70,7 @@ impl Ends {
     fn add_cut(&mut self, place: &SamplePlace, end: u64) {
         self.cut = self.cut.wrapping_add(1);
         self.across = self.across.wrapping_add(u32::from(place.offset < end));
-        self.behind = self.behind.wrapping_add(u32::from(place.offset == end));
+        self.after = self.after.wrapping_add(u32::from(place.offset == end));
     }
 
     /// Counts the lines of a list of samples at these places, of a file that ends there.
@@ -93,7 +93,7 @@ impl Ends {
         at_least(rt, "samples up to the end", self.at_end, 400);
         at_least(rt, "samples without bytes at the end", self.empty, 50);
         at_least(rt, "samples across the end", self.across, 400);
-        at_least(rt, "samples behind the end", self.behind, 400);
+        at_least(rt, "samples after the end", self.after, 400);
     }
 }
 
@@ -145,11 +145,11 @@ fn first_length(random: &mut Random, places: &[SamplePlace], boxes: usize) -> us
     let mut count = 0u32;
     for place in places {
         let end = place.offset.wrapping_add(u64::from(place.size));
-        let behind = end.wrapping_sub(boxes as u64);
-        if behind <= 1000 {
+        let distance = end.wrapping_sub(boxes as u64);
+        if distance <= 1000 {
             count = count.wrapping_add(1);
             if random.below(count) == 0 {
-                first = boxes.wrapping_add((behind as usize).saturating_sub(LENGTHS / 2));
+                first = boxes.wrapping_add((distance as usize).saturating_sub(LENGTHS / 2));
             }
         }
     }

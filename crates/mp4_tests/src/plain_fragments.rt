@@ -142,7 +142,7 @@ fn moved(place: Option<u64>, offset: i32) -> Option<u64> {
 }
 
 /// So far on.
-fn behind(place: Option<u64>, distance: u32) -> Option<u64> {
+fn after(place: Option<u64>, distance: u32) -> Option<u64> {
     place?.checked_add(u64::from(distance))
 }
 
@@ -158,8 +158,8 @@ fn add_sample(track: &mut PlainTrack, values: &PlainValues, at: RunStart) -> Res
         is_sync: values.flags.unwrap_or(0) / 0x1_0000 % 2 == 0,
     })?;
     Ok(RunStart {
-        place: behind(at.place, size),
-        time: behind(at.time, duration),
+        place: after(at.place, size),
+        time: after(at.time, duration),
     })
 }
 

@@ -16,7 +16,7 @@ pub struct TextFile<'a> {
     /// What is in the movie after the track.
     pub more: &'a str,
     /// The boxes after the movie.
-    pub behind: &'a [&'a str],
+    pub after: &'a [&'a str],
 }
 
 const FTYP: &str = "00000020 66747970 69736f6d 00000200 69736f6d 69736f32 61766331 6d703431 ";
@@ -42,7 +42,7 @@ pub const FRAGMENTED: TextFile<'static> = TextFile {
         "00000010 7374636f 00000000 00000000 ",
     ],
     more: MVEX,
-    behind: &[MOOF, "0000000f 6d646174 61626364656667 "],
+    after: &[MOOF, "0000000f 6d646174 61626364656667 "],
 };
 
 /// What these texts encode, one after the other.
@@ -68,6 +68,6 @@ pub fn file_of(alloc: Global, file: &TextFile) -> Result<Vec<u8>, AllocError> {
     let movie = movie_of(alloc, file)?;
     let mut bytes = all_encoded(alloc, file.before)?;
     bytes.extend_from_slice(&hex(alloc, movie.as_str())?)?;
-    bytes.extend_from_slice(&all_encoded(alloc, file.behind)?)?;
+    bytes.extend_from_slice(&all_encoded(alloc, file.after)?)?;
     Ok(bytes)
 }

@@ -307,11 +307,11 @@ fn long_run_again(rt: &HostRuntime) -> Result<String> {
 }
 
 /// The fragmented file with these boxes after its movie, which is made again after a refusal.
-fn with_boxes_again(rt: &HostRuntime, behind: &[&str]) -> Result<Vec<u8>> {
+fn with_boxes_again(rt: &HostRuntime, after: &[&str]) -> Result<Vec<u8>> {
     file_again(
         rt,
         &TextFile {
-            behind,
+            after,
             ..FRAGMENTED
         },
     )

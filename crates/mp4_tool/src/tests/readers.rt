@@ -5,11 +5,11 @@ use std::io::{ErrorKind, Read};
 
 /// Gives line feeds one by one, and then fails.
 #[derive(Drop)]
-pub struct FailsBehind {
+pub struct FailsAfter {
     pub bytes: u64,
 }
 
-impl Read for FailsBehind {
+impl Read for FailsAfter {
     fn read(&mut self, buf: &mut [u8]) -> io::Result<usize> {
         if self.bytes == 0 {
             return Err(io::Error::from(ErrorKind::PermissionDenied));

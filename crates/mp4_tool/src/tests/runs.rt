@@ -1,6 +1,6 @@
 //! Whole runs of the program.
 
-use super::readers::{FailsBehind, Slow};
+use super::readers::{FailsAfter, Slow};
 use super::texts::{EMPTY_INFO, EMPTY_MOVIE, TEXT_INFO, TEXT_SAMPLES, TEXT_SCRIPT};
 use crate::run::run;
 use mp4_media::Result;
@@ -105,7 +105,7 @@ fn a_slow_input_is_read_and_a_failing_one_refused(
     let printed = ran(&rt, "show", &mut slow)?;
     assert!(rt; printed.is(0, EMPTY_INFO, ""), "{printed:?}");
     for bytes in [0, 3] {
-        let printed = ran(&rt, "show", &mut FailsBehind { bytes })?;
+        let printed = ran(&rt, "show", &mut FailsAfter { bytes })?;
         assert!(rt;
             printed.is(1, "", "mp4_tool: cannot read standard input\n"),
             "{printed:?}"

@@ -18,12 +18,12 @@ pub returns-clause-answer : goal.returns-clause-answer
 returns-clause-answer g c =
     let h = c.args.header in
     let from = c.args.reader.now.position in
-    let behind : c.in-Some.behind ≡ from + (h.size - 8) = grind (arith, c.in-Some.ensures, c.position.ensures) in
-    let small : from + (h.size - 8) < 2 ^ 64 = grind (arith, behind, c.in-Some.ensures) in
+    let after : c.in-Some.after ≡ from + (h.size - 8) = grind (arith, c.in-Some.ensures, c.position.ensures) in
+    let small : from + (h.size - 8) < 2 ^ 64 = grind (arith, after, c.in-Some.ensures) in
     λ size. all_known (g.S.ByteSource.contents c.args.reader.now.source) _
     (λ bytes t. (
       (h.name, record { place = c.args.place; content = Skipped }),
-      rw (c.set_position.ensures, behind)
+      rw (c.set_position.ensures, after)
           (skipped-box size bytes c.args.place from h c.requires.size t c.requires.skipped small),
       record {
         names = c.in_ok-push.ensures.ok;

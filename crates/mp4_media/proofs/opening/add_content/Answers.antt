@@ -88,20 +88,20 @@ returns-in_ok-moov-in-MoovBox-clause-numbered g c =
     let value = c.in_ok-moov-in-MoovBox.ensures.value in
     λ before. moov_of-has_first_samples value.0 c.in_ok-moov-in-MoovBox.moov value.1
 
-pub returns-in_err-behind-in_default-clause-answer : goal.returns-in_err-behind-in_default-clause-answer
-returns-in_err-behind-in_default-clause-answer g c =
-    let p = err_from_is_err_and c.from_residual-in_err-behind-in_default.result
-    c.from_residual-in_err-behind-in_default.ensures.1 in
+pub returns-in_err-after-in_default-clause-answer : goal.returns-in_err-after-in_default-clause-answer
+returns-in_err-after-in_default-clause-answer g c =
+    let p = err_from_is_err_and c.from_residual-in_err-after-in_default.result
+    c.from_residual-in_err-after-in_default.ensures.1 in
     let none = meaning-none c.args.header.name c.requires.named c.in_default.not-FtypBox c.in_default.not-MoovBox
     c.in_default.not-MoofBox c.in_default.not-EmsgBox in
     all_known (g.S.ByteSource.contents c.args.reader.now.source) _
-    (λ bytes. let skipped = rw c.position-payload.ensures at (c.in_err-behind-in_default.ensures.value bytes) in
+    (λ bytes. let skipped = rw c.position-payload.ensures at (c.in_err-after-in_default.ensures.value bytes) in
     rw (p.1, p.2, none, skipped) (inr refl))
 
-pub returns-in_ok-behind-in_default-clause-answer : goal.returns-in_ok-behind-in_default-clause-answer
-returns-in_ok-behind-in_default-clause-answer g c =
+pub returns-in_ok-after-in_default-clause-answer : goal.returns-in_ok-after-in_default-clause-answer
+returns-in_ok-after-in_default-clause-answer g c =
     let none = meaning-none c.args.header.name c.requires.named c.in_default.not-FtypBox c.in_default.not-MoovBox
     c.in_default.not-MoofBox c.in_default.not-EmsgBox in
     all_known (g.S.ByteSource.contents c.args.reader.now.source) _
-    (λ bytes. let skipped = rw c.position-payload.ensures at (c.in_ok-behind-in_default.ensures.value bytes) in
+    (λ bytes. let skipped = rw c.position-payload.ensures at (c.in_ok-after-in_default.ensures.value bytes) in
     rw (none, skipped, c.set_position.ensures) refl)

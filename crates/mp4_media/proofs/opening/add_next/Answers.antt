@@ -60,14 +60,14 @@ returns-then-header-size-clause-answer g c =
 
 -- the box that is added
 module _ (size : ℕ) (place : Cursor) (below : place.position < size) (long : place.position + 8 ≤ size) (h : BoxHeader)
-    (behind : Cursor) (head : header_at place ≡ Ok (h, behind)) (some : (h.size == 0) ≡ false) (fits : h.size ≤ size)
+    (after : Cursor) (head : header_at place ≡ Ok (h, after)) (some : (h.size == 0) ≡ false) (fits : h.size ≤ size)
     (found : TopLevelBoxes) where
   next_is_added : with_next_at size found place
-      ≡ (with_content_at h.name h.size found place.position behind >>= and_more)
+      ≡ (with_content_at h.name h.size found place.position after >>= and_more)
   next_is_added =
       ap (λ r. r >>= and_found found)
-      (content_next size place below long h behind head some fits)
-      ∙ next_added found place.position (content_at (meaning_of h.name) h.size behind)
+      (content_next size place below long h after head some fits)
+      ∙ next_added found place.position (content_at (meaning_of h.name) h.size after)
 
 pub returns-in_err-add_content-clause-answer : goal.returns-in_err-add_content-clause-answer
 returns-in_err-add_content-clause-answer g c =

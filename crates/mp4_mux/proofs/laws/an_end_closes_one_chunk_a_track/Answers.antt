@@ -5,7 +5,7 @@ use Rattle.mp4_mux.proofs.laws.an_end_closes_one_chunk_a_track.Goals as goal
 
 pub returns : goal.returns
 returns c = record {
-  behind = λ st. refl;
+  after = λ st. refl;
   pending = last_chunks-pending;
   once = λ ts id. last_chunks-once id ts;
   order = last_chunks-ordered 1;

@@ -12,7 +12,7 @@ one_if_true false = refl
 pub returns-clause-written : goal.returns-clause-written
 unfolding sample_line
 returns-clause-written c =
-    let behind : drop 148 c.args.line.now ≡ [] = drop_all 148 c.args.line.now (omega arith) in
+    let rest_is : drop 148 c.args.line.now ≡ [] = drop_all 148 c.args.line.now (omega arith) in
     let later : to_z w32 (of_z w32 c.args.place.rendering_offset) ≡ c.args.place.rendering_offset =
     grind (arith, to_z-of_z) in
     let sync = c.put_number-start.ensures.written in
@@ -29,7 +29,7 @@ returns-clause-written c =
       duration,
       rendering_offset,
       sync,
-      behind,
+      rest_is,
       c.from.ensures,
       c.from-2.ensures,
       c.from-3.ensures,

@@ -8,7 +8,7 @@ use Rattle.mp4_script.specs.Lines.{lines_of, lines_left}
 use Rattle.mp4_script.specs.Script.{calls_in, run_from}
 use Rattle.mp4_script.proofs.Cutting.{count-lines}
 use Rattle.mp4_script.proofs.Scripted.{calls_in-append}
-use Rattle.mp4_script.proofs.Steps.{line_behind, line_before, line_is_run, line_is_refused, all_are_run}
+use Rattle.mp4_script.proofs.Steps.{lines_after, line_before, line_is_run, line_is_refused, all_are_run}
 use Rattle.mp4_script.proofs.script.run_lines.Goals as goal
 
 pub overflow_add-number : goal.overflow_add-number
@@ -29,7 +29,7 @@ loop-line-preserved c =
     ap calls_in (line_before n lines others line left) ∙ calls_in-append (take n lines) (line ∷ []) in
     record {
       numbered = omega (arith, inv.numbered, ap length c.in-Some.ensures.line);
-      left = line_behind n lines others line left;
+      left = lines_after n lines others line left;
       ran = line_is_run c.args.script.now n others line c.args.writer.now c.loop-line.writer left inv.ran
           c.run_line.new.writer c.in_ok-run_line.ensures.answer;
       fits = subst (AllByRecursion IsInRangeCall) (sym calls)

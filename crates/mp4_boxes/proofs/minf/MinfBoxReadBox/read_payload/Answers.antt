@@ -3,7 +3,7 @@ use Rattle.mp4_codec.specs.Children.{children}
 use Rattle.mp4_codec.specs.Early.{early_gathered}
 use Rattle.mp4_boxes.specs.Minf.{minf_of, minf_early, minf_child_early}
 use Rattle.mp4_boxes.proofs.Tables.{minf_of_steps}
-use Rattle.mp4_boxes.proofs.ShownEarly.{shown_behind}
+use Rattle.mp4_boxes.proofs.ShownEarly.{shown_after}
 use Rattle.mp4_boxes.proofs.minf.MinfBoxReadBox.read_payload.Goals as goal
 
 pub returns : goal.returns
@@ -14,6 +14,6 @@ returns c =
     rw (minf_of_steps payload, c.in_ok-vmhd.ensures.value, c.in_ok-dinf.ensures) refl in
     record {
       value = value;
-      early = shown_behind (early_gathered minf_child_early (children payload)) c.in_ok-vmhd.field-0
+      early = shown_after (early_gathered minf_child_early (children payload)) c.in_ok-vmhd.field-0
           (minf_of payload) (Ok _) c.in_ok-vmhd.ensures.early value;
     }
