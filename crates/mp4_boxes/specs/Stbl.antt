@@ -26,6 +26,10 @@ use Rattle.mp4_table.specs.Co64.{co64_of, co64_payload, IsInRangeCo64, IsWellFor
 use Rattle.mp4_boxes.specs.declared.stbl.StblBox.{StblBox}
 use Rattle.mp4_boxes.specs.declared.stbl.StblParts.{StblParts}
 
+-- the number of samples of the track's tables (ISO/IEC 14496-12, 8.7.3)
+abbrev pub sample_count : StblBox → ℕ
+sample_count t = t.stsz.sample_count
+
 -- why a child refuses the sample table
 unfoldable pub stbl_fault : ChildBox → Option Cause
 stbl_fault c =

@@ -15,7 +15,7 @@ ghost use Rattle.mp4_codec.specs.Cause.{Gives};
 ghost use Rattle.mp4_codec.specs.Boxes.{size_around};
 ghost use Rattle.mp4_boxes.specs.Stbl.{stbl_payload, default_stbl, stbl_fault, stbl_child_early, stbl_taken};
 ghost use Rattle.mp4_boxes.specs.Stbl.{stbl_added, stbl_of, stbl_early, stbl_refusal, needed_places, IsInRangeStbl};
-ghost use Rattle.mp4_boxes.specs.Stbl.{IsWellFormedStbl};
+ghost use Rattle.mp4_boxes.specs.Stbl.{IsWellFormedStbl, sample_count};
 ghost use Rattle.mp4_boxes.specs.StblLaws.{stbl_adds, stbl_again};
 
 use crate::parts::required_four;
@@ -105,6 +105,14 @@ impl StblBox {
             stco: None,
             co64: None,
         })
+    }
+
+    /// How many samples the tables describe, as the sample sizes say it (ISO/IEC 14496-12, 8.7.3).
+    #[inline(always)]
+    pub fn sample_count(&self) -> u32
+        ensures { result ≡ sample_count self.now }
+    {
+        self.stsz.sample_count
     }
 
     /// `stbl`.

@@ -14,6 +14,7 @@ use Rattle.mp4_search.specs.BitSet.{looks_at_bit}
 use Rattle.mp4_search.specs.Search.{IsCountByGuess, IsCountByHalves, IsFew, IsFewByGuess, comparisons_in}
 use Rattle.mp4_search.specs.declared.bit_set.BitSet.{BitSet}
 use Rattle.mp4_table.specs.declared.stsc.StscEntry.{StscEntry}
+use Rattle.mp4_boxes.specs.Stbl.{sample_count}
 use Rattle.mp4_lookup.specs.Costs.{AreCounts, AreFew, AreFewByGuess, AreFewForRunSample, AreFewForRunSampleByGuess}
 use Rattle.mp4_lookup.specs.Costs.{AreRunSampleCounts, AreTrackCounts, comparisons_at, comparisons_in_runs}
 use Rattle.mp4_lookup.specs.Costs.{comparisons_of}
@@ -70,9 +71,9 @@ unfolding comparisons_of
 counted_of t k c a = step (is_of_movie t.trak t.trafs k) a.tables a.added
   where
     step : (b : Bool) → (IsTrue b → AreCounts IsCountByHalves (λ bits n. 0) t.index k c)
-        → (b ≡ false → AreRunSampleCounts IsCountByHalves t.runs (k - (tables_of t.trak).stsz.sample_count - 1) c)
+        → (b ≡ false → AreRunSampleCounts IsCountByHalves t.runs (k - sample_count (tables_of t.trak) - 1) c)
         → c ≡ (if b then comparisons_at t.index k else
-        comparisons_in_runs t.runs (k - (tables_of t.trak).stsz.sample_count - 1))
+        comparisons_in_runs t.runs (k - sample_count (tables_of t.trak) - 1))
     step true tables added = counted_at t.index k c (tables refl)
     step false tables added = counted_in_runs t.runs _ c (added refl)
 

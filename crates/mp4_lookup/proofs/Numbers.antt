@@ -6,6 +6,7 @@ use Rattle.std.specs.Option.{SomeIff}
 use Rattle.std.proofs.lemmas.Bool.{cases_lt, le-leb, le-ltb, lt-leb, lt-ltb}
 use Rattle.mp4_boxes.specs.declared.stbl.StblBox.{StblBox}
 use Rattle.mp4_table.specs.Runs.{durations}
+use Rattle.mp4_boxes.specs.Stbl.{sample_count}
 use Rattle.mp4_fragments.specs.ByTime.{decoded_by, run_sample_by, run_sample_time}
 use Rattle.mp4_fragments.specs.RunSamples.{PlacedRun, all_run_samples}
 use Rattle.mp4_fragments.specs.Sync.{sync_at}
@@ -15,43 +16,43 @@ use Rattle.mp4_lookup.specs.ByTime.{decode_time, duration_of, is_sync_in_table, 
 use Rattle.mp4_lookup.specs.ByTime.{end_time, last_number, time_range}
 use Rattle.mp4_lookup.proofs.Seeking.{last_of_added, last_of_movie}
 
-pub movie_time : (t : StblBox) (runs : List PlacedRun) (k : ℕ) → k ≤ t.stsz.sample_count
+pub movie_time : (t : StblBox) (runs : List PlacedRun) (k : ℕ) → k ≤ sample_count t
     → decode_time t runs k ≡ time_in (durations t.stts.entries) k
 unfolding decode_time
-movie_time t runs k h = rw (le-leb k t.stsz.sample_count h) refl
+movie_time t runs k h = rw (le-leb k (sample_count t) h) refl
 
-pub added_time : (t : StblBox) (runs : List PlacedRun) (k : ℕ) → t.stsz.sample_count < k
-    → decode_time t runs k ≡ run_sample_time runs (k - t.stsz.sample_count - 1)
+pub added_time : (t : StblBox) (runs : List PlacedRun) (k : ℕ) → sample_count t < k
+    → decode_time t runs k ≡ run_sample_time runs (k - sample_count t - 1)
 unfolding decode_time
-added_time t runs k h = rw (lt-leb k t.stsz.sample_count h) refl
+added_time t runs k h = rw (lt-leb k (sample_count t) h) refl
 
-movie_sync : (t : StblBox) (runs : List PlacedRun) (k : ℕ) → k ≤ t.stsz.sample_count
+movie_sync : (t : StblBox) (runs : List PlacedRun) (k : ℕ) → k ≤ sample_count t
     → is_sync_sample t runs k ≡ is_sync_in_table t.stss k
 unfolding is_sync_sample
-movie_sync t runs k h = rw (le-leb k t.stsz.sample_count h) refl
+movie_sync t runs k h = rw (le-leb k (sample_count t) h) refl
 
-added_sync : (t : StblBox) (runs : List PlacedRun) (k : ℕ) → t.stsz.sample_count < k
-    → is_sync_sample t runs k ≡ sync_at runs (k - t.stsz.sample_count - 1)
+added_sync : (t : StblBox) (runs : List PlacedRun) (k : ℕ) → sample_count t < k
+    → is_sync_sample t runs k ≡ sync_at runs (k - sample_count t - 1)
 unfolding is_sync_sample
-added_sync t runs k h = rw (lt-leb k t.stsz.sample_count h) refl
+added_sync t runs k h = rw (lt-leb k (sample_count t) h) refl
 
 -- the last by time
 
-pub added_by : (t : StblBox) (runs : List PlacedRun) (time n : ℕ) → t.stsz.sample_count < 2 ^ 32
-    → IsLastWith (run_sample_by runs time) (2 ^ 32 - 1 - t.stsz.sample_count) n
-    → IsLastWith (sample_by t runs time) (2 ^ 32) (t.stsz.sample_count + 1 + n)
+pub added_by : (t : StblBox) (runs : List PlacedRun) (time n : ℕ) → sample_count t < 2 ^ 32
+    → IsLastWith (run_sample_by runs time) (2 ^ 32 - 1 - sample_count t) n
+    → IsLastWith (sample_by t runs time) (2 ^ 32) (sample_count t + 1 + n)
 added_by t runs time n small last =
-    let count = t.stsz.sample_count in
+    let count = sample_count t in
     let whole : count + 1 + (2 ^ 32 - 1 - count) ≡ 2 ^ 32 = omega (arith, small) in
     rw whole at (last_of_added (sample_by t runs time) (run_sample_by runs time) count (2 ^ 32 - 1 - count) n
     (λ j h. ap (decoded_by time) (added_time t runs j h)) last)
 
-pub movie_by : (t : StblBox) (runs : List PlacedRun) (time : ℕ) (last : Option ℕ) → t.stsz.sample_count < 2 ^ 32
-    → ((n : ℕ) → n < 2 ^ 32 - 1 - t.stsz.sample_count → run_sample_by runs time n ≡ false)
-    → AnswersLast (λ k. decoded_by time (time_in (durations t.stts.entries) k)) (t.stsz.sample_count + 1) last
+pub movie_by : (t : StblBox) (runs : List PlacedRun) (time : ℕ) (last : Option ℕ) → sample_count t < 2 ^ 32
+    → ((n : ℕ) → n < 2 ^ 32 - 1 - sample_count t → run_sample_by runs time n ≡ false)
+    → AnswersLast (λ k. decoded_by time (time_in (durations t.stts.entries) k)) (sample_count t + 1) last
     → AnswersLast (sample_by t runs time) (2 ^ 32) last
 movie_by t runs time last small none s =
-    let count = t.stsz.sample_count in
+    let count = sample_count t in
     let whole : count + 1 + (2 ^ 32 - 1 - count) ≡ 2 ^ 32 = omega (arith, small) in
     rw whole at (last_of_movie (sample_by t runs time) (λ k. decoded_by time (time_in (durations t.stts.entries) k))
     (run_sample_by runs time) count (2 ^ 32 - 1 - count) last
@@ -59,21 +60,21 @@ movie_by t runs time last small none s =
 
 -- the last sync sample
 
-pub added_sync_upto : (t : StblBox) (runs : List PlacedRun) (k n : ℕ) → t.stsz.sample_count < k
-    → IsLastWith (sync_at runs) (k - t.stsz.sample_count - 1 + 1) n
-    → IsLastWith (is_sync_sample t runs) (k + 1) (t.stsz.sample_count + 1 + n)
+pub added_sync_upto : (t : StblBox) (runs : List PlacedRun) (k n : ℕ) → sample_count t < k
+    → IsLastWith (sync_at runs) (k - sample_count t - 1 + 1) n
+    → IsLastWith (is_sync_sample t runs) (k + 1) (sample_count t + 1 + n)
 added_sync_upto t runs k n past last =
-    let count = t.stsz.sample_count in
+    let count = sample_count t in
     let whole : count + 1 + (k - count - 1 + 1) ≡ k + 1 = omega (arith, past) in
     rw whole at (last_of_added (is_sync_sample t runs) (sync_at runs) count (k - count - 1 + 1) n
     (λ j h. added_sync t runs j h) last)
 
 pub movie_sync_upto : (t : StblBox) (runs : List PlacedRun) (k : ℕ) (last : Option ℕ)
-    → ((n : ℕ) → t.stsz.sample_count + 1 + n ≤ k → sync_at runs n ≡ false)
-    → AnswersLast (is_sync_in_table t.stss) (min k t.stsz.sample_count + 1) last
+    → ((n : ℕ) → sample_count t + 1 + n ≤ k → sync_at runs n ≡ false)
+    → AnswersLast (is_sync_in_table t.stss) (min k (sample_count t) + 1) last
     → AnswersLast (is_sync_sample t runs) (k + 1) last
 movie_sync_upto t runs k last none s =
-    let count = t.stsz.sample_count in
+    let count = sample_count t in
     let has = is_sync_sample t runs in
     ⊎_elim
     (λ (past : count < k).
@@ -93,21 +94,21 @@ movie_sync_upto t runs k last none s =
 
 -- how long they last
 
-pub movie_duration : (t : StblBox) (runs : List PlacedRun) (k : ℕ) → k ≤ t.stsz.sample_count
+pub movie_duration : (t : StblBox) (runs : List PlacedRun) (k : ℕ) → k ≤ sample_count t
     → duration_of t runs k ≡ get_or (durations t.stts.entries) (k - 1) 0
 unfolding duration_of
-movie_duration t runs k h = rw (le-leb k t.stsz.sample_count h) refl
+movie_duration t runs k h = rw (le-leb k (sample_count t) h) refl
 
-pub added_timing : (t : StblBox) (runs : List PlacedRun) (k : ℕ) (m : RunSample) → t.stsz.sample_count < k
-    → slice_get (all_run_samples runs) (k - t.stsz.sample_count - 1) ≡ Some m
+pub added_timing : (t : StblBox) (runs : List PlacedRun) (k : ℕ) (m : RunSample) → sample_count t < k
+    → slice_get (all_run_samples runs) (k - sample_count t - 1) ≡ Some m
     → (decode_time t runs k ≡ m.at.time) × (duration_of t runs k ≡ m.duration)
 unfolding decode_time duration_of run_sample_time
-added_timing t runs k m h e = rw (lt-leb k t.stsz.sample_count h, e) (refl, refl)
+added_timing t runs k m h e = rw (lt-leb k (sample_count t) h, e) (refl, refl)
 
-pub no_timing : (t : StblBox) (runs : List PlacedRun) (k : ℕ) → t.stsz.sample_count < k
-    → slice_get (all_run_samples runs) (k - t.stsz.sample_count - 1) ≡ None → decode_time t runs k ≡ None
+pub no_timing : (t : StblBox) (runs : List PlacedRun) (k : ℕ) → sample_count t < k
+    → slice_get (all_run_samples runs) (k - sample_count t - 1) ≡ None → decode_time t runs k ≡ None
 unfolding decode_time run_sample_time
-no_timing t runs k h e = rw (lt-leb k t.stsz.sample_count h, e) refl
+no_timing t runs k h e = rw (lt-leb k (sample_count t) h, e) refl
 
 -- when they end
 

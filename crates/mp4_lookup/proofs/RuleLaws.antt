@@ -19,6 +19,7 @@ use Rattle.mp4_table.specs.Stsc.{HasFirstSamples}
 use Rattle.mp4_table.specs.Runs.{durations, rendering_offsets}
 use Rattle.mp4_table.specs.Starts.{start_of}
 use Rattle.mp4_codec.specs.Cause.{Cause, invalid_data, ◌>>=◌}
+use Rattle.mp4_boxes.specs.Stbl.{sample_count}
 use Rattle.mp4_samples.specs.declared.sample.Place.{Place}
 use Rattle.mp4_samples.specs.Tables.{sizes, chunk_offsets, ctts_runs, is_sync_at}
 use Rattle.mp4_samples.specs.Plain.{Consistent, plain, plain_at, sample_place, within_file, sample_places}
@@ -66,7 +67,7 @@ size_agrees z m n j h k q =
 
 -- the tables agree, as far as stsc goes
 fine_from : (t : StblBox) → Consistent t → HasFirstSamples t.stsc.entries
-    → Fine t.stsc.entries (length (chunk_offsets t)) t.stsz.sample_count
+    → Fine t.stsc.entries (length (chunk_offsets t)) (sample_count t)
 fine_from t fits firsts = record {
   some = some_entry t.stsc.entries fits.first_chunk;
   rises = fits.rising;
@@ -99,23 +100,23 @@ chunk_for_is : (e : StscEntry) (k c : ℕ) → c + 1 ≡ e.first_chunk + (k - e.
 unfolding chunk_for
 chunk_for_is e k c h small = rw (← h, ne_eqb (c + 1) 0 (λ z. omega (arith, z)), lt-leb (2 ^ 32) (c + 1) small) refl
 
-plain_at_within : (t : StblBox) (k : ℕ) → 1 ≤ k → k ≤ t.stsz.sample_count
+plain_at_within : (t : StblBox) (k : ℕ) → 1 ≤ k → k ≤ sample_count t
     → plain_at t k ≡ within_file (Some (sample_place t k))
 unfolding plain_at
 plain_at_within t zero first within = absurd (omega arith)
 plain_at_within t (suc k) first within =
     ap within_file (slice_get-get_or (plain t) k (sample_place t (suc k))
-    (rw (length-map-range_with_len (sample_place t) 1 t.stsz.sample_count) (omega arith))
-    ∙ ap Some (get_or-map-range_with_len (sample_place t) 1 t.stsz.sample_count k (suc k) (sample_place t (suc k))
+    (rw (length-map-range_with_len (sample_place t) 1 (sample_count t)) (omega arith))
+    ∙ ap Some (get_or-map-range_with_len (sample_place t) 1 (sample_count t) k (suc k) (sample_place t (suc k))
     (omega arith)
     (omega arith)))
 
-plain_at_past : (t : StblBox) (k : ℕ) → t.stsz.sample_count < k → plain_at t k ≡ Ok None
+plain_at_past : (t : StblBox) (k : ℕ) → sample_count t < k → plain_at t k ≡ Ok None
 unfolding plain_at
 plain_at_past t zero past = absurd (omega arith)
 plain_at_past t (suc k) past =
     ap within_file (slice_get_past (plain t) k
-    (rw (length-map-range_with_len (sample_place t) 1 t.stsz.sample_count) (omega arith)))
+    (rw (length-map-range_with_len (sample_place t) 1 (sample_count t)) (omega arith)))
 
 rule_past : (t : StblBox) (track k c : ℕ) (e : StscEntry) → entry_for t.stsc.entries k ≡ Ok e
     → chunk_for e k ≡ Ok (c + 1) → slice_get (chunk_offsets t) (c + 1 - 1) ≡ None → rule t track k ≡ Ok None
@@ -141,7 +142,7 @@ rule_found t track k c offset size x duration begin e h1 h2 h3 h4 h5 h6 =
 
 -- a number up to the last
 within : (t : StblBox) (track k i c r : ℕ) (d : StscEntry) → Consistent t → HasFirstSamples t.stsc.entries → 1 ≤ k
-    → k ≤ t.stsz.sample_count → k < 2 ^ 32 →
+    → k ≤ sample_count t → k < 2 ^ 32 →
     entry_for t.stsc.entries k ≡ Ok (get_or t.stsc.entries i d) → chunk_for (get_or t.stsc.entries i d) k ≡ Ok (c + 1)
     → first_in_chunk (get_or t.stsc.entries i d) k ≡ k - r →
     c < length (chunk_offsets t) → sum (take c (counts t.stsc.entries (length (chunk_offsets t)))) + r + 1 ≡ k
@@ -150,7 +151,7 @@ within : (t : StblBox) (track k i c r : ℕ) (d : StscEntry) → Consistent t �
 within t track k i c r d fits firsts first last small h1 h2 h3 there whole rest =
     let all = counts t.stsc.entries (length (chunk_offsets t)) in
     let before = sum (take c all) in
-    let n = t.stsz.sample_count in
+    let n = sample_count t in
     let at : k - 1 ≡ before + r = omega (arith, whole) in
     let begin : k - r - 1 ≡ before = omega (arith, whole) in
     let listed : length (sizes t.stsz n) ≡ n = fits.sizes_listed in
@@ -213,29 +214,29 @@ rule_is_plain t track (suc p) fits firsts small =
     let e = get_or entries i d in
     let q = (k - e.first_sample) / e.samples_per_chunk in
     let r = (k - e.first_sample) % e.samples_per_chunk in
-    let lies = lies_at entries chunks t.stsz.sample_count k i d fine there.1 in
+    let lies = lies_at entries chunks (sample_count t) k i d fine there.1 in
     let c = e.first_chunk + q - 1 in
     let positive : 1 ≤ e.first_chunk = first_chunk_positive entries i d fine.rises (fine.one d) there.1.within in
     let chunk_is : c + 1 ≡ e.first_chunk + q = omega arith in
     let entry = entry_for_is entries k i d (omega arith) firsts fits.some_per_chunk there.1 in
     let chunk = chunk_for_is e k c chunk_is
-    (omega (arith, chunk_le entries chunks t.stsz.sample_count k i q r d fine there.1 lies)) in
+    (omega (arith, chunk_le entries chunks (sample_count t) k i q r d fine there.1 lies)) in
     ⊎_elim
-    (λ (past : t.stsz.sample_count < k). rule_past t track k c e entry chunk
+    (λ (past : sample_count t < k). rule_past t track k c e entry chunk
     (slice_get_past (chunk_offsets t) (c + 1 - 1)
-    (omega (arith, chunk_past entries chunks t.stsz.sample_count k i q r d fine there.1 lies past)))
+    (omega (arith, chunk_past entries chunks (sample_count t) k i q r d fine there.1 lies past)))
     ∙ sym (plain_at_past t k past))
     (λ last.
     let in_time : c < chunks =
-    omega (arith, chunk_within entries chunks t.stsz.sample_count k i q r d fine there.1 lies last) in
+    omega (arith, chunk_within entries chunks (sample_count t) k i q r d fine there.1 lies last) in
     within t track k i c r d fits firsts (omega arith) last small entry chunk refl in_time
-    (sum-take-before entries chunks t.stsz.sample_count k i q r c d fine there.1 lies chunk_is in_time)
+    (sum-take-before entries chunks (sample_count t) k i q r c d fine there.1 lies chunk_is in_time)
     (rw (
       get_or-counts entries chunks c in_time,
       samples_in_is entries i (c + 1) d fine.rises there.1.within (omega arith)
           (λ h. omega (arith, lies.before_next h)),
     ) lies.rest))
-    (cases_lt t.stsz.sample_count k)
+    (cases_lt (sample_count t) k)
 
 -- the sum of the sizes from one number up to another, where all are one size
 pub sum-sizes_one : (z : StszBox) (first k : ℕ) → 1 ≤ first → first ≤ k → 0 < z.sample_size

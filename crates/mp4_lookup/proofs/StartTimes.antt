@@ -12,6 +12,7 @@ use Rattle.mp4_table.specs.Starts.{start_of}
 use Rattle.mp4_boxes.specs.declared.stbl.StblBox.{StblBox}
 use Rattle.mp4_boxes.specs.declared.trak.TrakBox.{TrakBox}
 use Rattle.mp4_moof.specs.declared.traf.TrafBox.{TrafBox}
+use Rattle.mp4_boxes.specs.Stbl.{sample_count}
 use Rattle.mp4_fragments.specs.ByTime.{run_sample_time}
 use Rattle.mp4_fragments.specs.RunSamples.{PlacedRun, all_run_samples}
 use Rattle.mp4_fragments.specs.Sync.{is_sync_run_sample, sync_at}
@@ -143,13 +144,13 @@ run_sample_times (Some m) p e = begun_time m.at.place m.at.time m p e
 
 -- at the number of a sample that is located
 pub times_of_place : (trak : TrakBox) (trafs : List TrafBox) (runs : List PlacedRun) (k : ℕ) (p : Place)
-    → (length trafs ≡ 0 → k ≤ (tables_of trak).stsz.sample_count) → answer_at trak trafs runs k ≡ Ok (Some p)
+    → (length trafs ≡ 0 → k ≤ sample_count (tables_of trak)) → answer_at trak trafs runs k ≡ Ok (Some p)
     → (decode_time (tables_of trak) runs k ≡ Some p.start_time) × (duration_of (tables_of trak) runs k ≡ p.duration)
     × (is_sync_sample (tables_of trak) runs k ≡ p.is_sync)
 unfolding answer_at decode_time duration_of is_sync_sample is_sync_in_table run_sample_time sync_at
 times_of_place trak trafs runs k p counted e =
     let t = tables_of trak in
-    let count = t.stsz.sample_count in
+    let count = sample_count t in
     ⊎_elim
     (λ (past : count < k).
     let added : is_of_movie trak trafs k ≡ false = or_from (length trafs == 0) (nat_le k count)

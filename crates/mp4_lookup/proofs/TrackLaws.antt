@@ -6,6 +6,7 @@ use Rattle.mp4_codec.specs.Cause.{◌>>=◌}
 use Rattle.mp4_table.specs.Stsc.{HasFirstSamples}
 use Rattle.mp4_boxes.specs.declared.trak.TrakBox.{TrakBox}
 use Rattle.mp4_moof.specs.declared.traf.TrafBox.{TrafBox}
+use Rattle.mp4_boxes.specs.Stbl.{sample_count}
 use Rattle.mp4_fragments.specs.RunSamples.{PlacedRun}
 use Rattle.mp4_samples.specs.Plain.{Consistent, plain_at}
 use Rattle.mp4_samples.specs.Samples.{read_in, plain_sample_at}
@@ -17,7 +18,7 @@ use Rattle.mp4_lookup.proofs.RuleLaws.{rule_is_plain}
 pub unfragmented_is_of_movie : (trak : TrakBox) (trafs : List TrafBox) (k : ℕ) → length trafs ≡ 0
     → is_of_movie trak trafs k ≡ true
 unfragmented_is_of_movie trak trafs k none =
-    ap (λ b. b || nat_le k (tables_of trak).stsz.sample_count) (eq-eqb (length trafs) 0 none)
+    ap (λ b. b || nat_le k (sample_count (tables_of trak))) (eq-eqb (length trafs) 0 none)
 
 pub answer_is_plain : (trak : TrakBox) (trafs : List TrafBox) (runs : List PlacedRun) (k : ℕ)
     → is_of_movie trak trafs k ≡ true → Consistent (tables_of trak)

@@ -8,6 +8,7 @@ use Rattle.mp4_table.specs.declared.stss.StssBox.{StssBox}
 use Rattle.mp4_table.specs.Runs.{durations}
 use Rattle.mp4_table.specs.Starts.{start_of}
 use Rattle.mp4_boxes.specs.declared.stbl.StblBox.{StblBox}
+use Rattle.mp4_boxes.specs.Stbl.{sample_count}
 use Rattle.mp4_fragments.specs.ByTime.{decoded_by, run_sample_time}
 use Rattle.mp4_fragments.specs.RunSamples.{PlacedRun, all_run_samples}
 use Rattle.mp4_fragments.specs.Sync.{sync_at}
@@ -23,8 +24,8 @@ time_in durations k = if nat_lt 0 k && nat_le k (length durations) then Some (st
 -- stsz says, then those of these runs.
 unfoldable pub decode_time : StblBox → List PlacedRun → ℕ → Option ℕ
 decode_time t runs k =
-    if nat_le k t.stsz.sample_count then time_in (durations t.stts.entries) k else
-    run_sample_time runs (k - t.stsz.sample_count - 1)
+    if nat_le k (sample_count t) then time_in (durations t.stts.entries) k else
+    run_sample_time runs (k - sample_count t - 1)
 
 -- Sample k is decoded at or before a time. Times need not rise from one fragment to the next: the last such sample is
 -- the one after which none is decoded so early.
@@ -50,11 +51,11 @@ is_sync_in_table stss k = nat_lt 0 k && is_sync_at stss k
 -- sample k of a track is a sync sample
 unfoldable pub is_sync_sample : StblBox → List PlacedRun → ℕ → Bool
 is_sync_sample t runs k =
-    if nat_le k t.stsz.sample_count then is_sync_in_table t.stss k else sync_at runs (k - t.stsz.sample_count - 1)
+    if nat_le k (sample_count t) then is_sync_in_table t.stss k else sync_at runs (k - sample_count t - 1)
 
 -- how many samples a track has that 32 bits number
 abbrev pub last_number : StblBox → List PlacedRun → ℕ
-last_number t runs = min (t.stsz.sample_count + length (all_run_samples runs)) (2 ^ 32 - 1)
+last_number t runs = min (sample_count t + length (all_run_samples runs)) (2 ^ 32 - 1)
 
 -- how long a sample of a fragment lasts
 abbrev pub run_sample_duration : Option RunSample → ℕ
@@ -64,8 +65,8 @@ run_sample_duration (Some m) = m.duration
 -- how long sample k of a track lasts
 unfoldable pub duration_of : StblBox → List PlacedRun → ℕ → ℕ
 duration_of t runs k =
-    if nat_le k t.stsz.sample_count then get_or (durations t.stts.entries) (k - 1) 0 else
-    run_sample_duration (slice_get (all_run_samples runs) (k - t.stsz.sample_count - 1))
+    if nat_le k (sample_count t) then get_or (durations t.stts.entries) (k - 1) 0 else
+    run_sample_duration (slice_get (all_run_samples runs) (k - sample_count t - 1))
 
 -- when sample k of a track has lasted: none is known past 64 bits
 unfoldable pub end_time : StblBox → List PlacedRun → ℕ → Option ℕ

@@ -4,6 +4,7 @@ use Rattle.std.specs.Prelude.{IfOk, IfSome, Option, Result}
 use Rattle.std.specs.List.Sorted.{IsStrictlyIncreasing}
 use Rattle.mp4_codec.specs.declared.error.Error.{Error}
 use Rattle.mp4_boxes.specs.declared.stbl.StblBox.{StblBox}
+use Rattle.mp4_boxes.specs.Stbl.{sample_count}
 use Rattle.mp4_fragments.specs.declared.index.RunIndex.{RunIndex}
 use Rattle.mp4_fragments.specs.RunSamples.{PlacedRun}
 use Rattle.mp4_lookup.specs.declared.counters.Counters.{Counters}
@@ -61,7 +62,7 @@ pub record AreTrackCounts (counts : List ℕ → ℕ → ℕ → Type 0) (looks 
     (c : Comparisons) : Type 0 where
   pub tables : IsTrue (is_of_movie t.trak t.trafs k) → AreCounts counts looks t.index k c
   pub added : is_of_movie t.trak t.trafs k ≡ false
-      → AreRunSampleCounts counts t.runs (k - (tables_of t.trak).stsz.sample_count - 1) c
+      → AreRunSampleCounts counts t.runs (k - sample_count (tables_of t.trak) - 1) c
 
 -- What the lookup of sample k of a track by a guess counts: in each table, or in the runs, the comparisons of one
 -- search, by halves or from some entry on; where the numbers of stss don't strictly rise, one look at the bit of k, and
@@ -92,7 +93,7 @@ comparisons_in_runs index number =
 unfoldable pub comparisons_of : Mp4Track → ℕ → Comparisons
 comparisons_of t k =
     if is_of_movie t.trak t.trafs k then comparisons_at t.index k else
-    comparisons_in_runs t.runs (k - (tables_of t.trak).stsz.sample_count - 1)
+    comparisons_in_runs t.runs (k - sample_count (tables_of t.trak) - 1)
 
 -- In each table at most as many comparisons as the number of its entries has binary digits, in stss where it strictly
 -- rises, and none there where it doesn't; no run of a fragment is looked at.

@@ -7,6 +7,7 @@ use Rattle.mp4_codec.specs.Cause.{Cause, too_large, ◌>>=◌}
 use Rattle.mp4_entry.specs.declared.mp4a.Mp4aBox.{Mp4aBox}
 use Rattle.mp4_entry.specs.declared.esds.EsdsBox.{EsdsBox}
 use Rattle.mp4_boxes.specs.declared.trak.TrakBox.{TrakBox}
+use Rattle.mp4_boxes.specs.Stbl.{sample_count}
 use Rattle.mp4_fragments.specs.RunSamples.{PlacedRun, all_run_samples}
 use Rattle.mp4_lookup.specs.Headers.{duration_of}
 use Rattle.mp4_samples.specs.Tables.{tables_of}
@@ -18,7 +19,7 @@ within_32_bits n = if nat_lt (2 ^ 32 - 1) n then Err (too_large Value) else Ok n
 -- how many samples a track has, to which fragments add these runs: those of its movie box (8.7.3), and all samples of
 -- the runs (8.8.8)
 unfoldable pub sample_count_of : TrakBox → List PlacedRun → Result ℕ Cause
-sample_count_of trak runs = within_32_bits ((tables_of trak).stsz.sample_count + length (all_run_samples runs))
+sample_count_of trak runs = within_32_bits (sample_count (tables_of trak) + length (all_run_samples runs))
 
 -- Samples in a second: the count over the duration in whole milliseconds. Where that is 0 the rate is 0, and the count
 -- isn't looked at.

@@ -7,6 +7,7 @@ use Rattle.mp4_table.specs.Runs.{durations}
 use Rattle.mp4_table.specs.Starts.{start_of}
 use Rattle.mp4_boxes.specs.declared.trak.TrakBox.{TrakBox}
 use Rattle.mp4_moof.specs.declared.traf.TrafBox.{TrafBox}
+use Rattle.mp4_boxes.specs.Stbl.{sample_count}
 use Rattle.mp4_fragments.specs.RunSamples.{PlacedRun, all_run_samples}
 use Rattle.mp4_fragments.specs.declared.run_samples.RunSample.{RunSample}
 use Rattle.mp4_samples.specs.declared.sample.Place.{Place}
@@ -16,11 +17,11 @@ use Rattle.mp4_lookup.specs.Rule.{rule}
 
 -- when the samples of the movie box have lasted, as far as stts says it
 abbrev pub movie_end : TrakBox → ℕ
-movie_end trak = start_of (durations (tables_of trak).stts.entries) ((tables_of trak).stsz.sample_count + 1)
+movie_end trak = start_of (durations (tables_of trak).stts.entries) (sample_count (tables_of trak) + 1)
 
 -- Number k is one of the movie box's samples. In a track that a fragment names, numbers past its count are not.
 abbrev pub is_of_movie : TrakBox → List TrafBox → ℕ → Bool
-is_of_movie trak trafs k = (length trafs == 0) || nat_le k (tables_of trak).stsz.sample_count
+is_of_movie trak trafs k = (length trafs == 0) || nat_le k (sample_count (tables_of trak))
 
 -- a place or a time that is overflowed is refused
 abbrev pub begins_at : Option ℕ → Option ℕ → RunSample → Result (Option Place) Cause
@@ -45,7 +46,7 @@ run_sample_place (Some m) = begins_at m.at.place m.at.time m
 unfoldable pub answer_at : TrakBox → List TrafBox → List PlacedRun → ℕ → Result (Option Place) Cause
 answer_at trak trafs runs k =
     if is_of_movie trak trafs k then rule (tables_of trak) trak.tkhd.track_id k else
-    run_sample_place (slice_get (all_run_samples runs) (k - (tables_of trak).stsz.sample_count - 1))
+    run_sample_place (slice_get (all_run_samples runs) (k - sample_count (tables_of trak) - 1))
 
 -- what is read at number k of a track of a file, to which fragments add these runs
 unfoldable pub sample_at : List ℕ → TrakBox → List TrafBox → List PlacedRun → ℕ → Result (Option TimedSample) Cause

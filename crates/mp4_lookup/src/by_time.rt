@@ -3,6 +3,7 @@
 
 ghost use Rattle.std.specs.Prelude.{◌≡◌, ℕ, ◌+◌, ◌-◌, ◌^◌, ◌<◌, ◌≤◌, false, get_or, length, option_map};
 ghost use Rattle.std.specs.Prelude.{IfNone, IfSome};
+ghost use Rattle.mp4_boxes.specs.Stbl.{sample_count};
 ghost use Rattle.mp4_fragments.specs.ByTime.{run_sample_by};
 ghost use Rattle.mp4_fragments.specs.RunSamples.{all_run_samples};
 ghost use Rattle.mp4_fragments.specs.Sync.{sync_at};
@@ -81,7 +82,7 @@ impl Mp4Track {
         let mut tables = Readings::of(self);
         let stbl = &self.trak.mdia.minf.stbl;
         let runs = stbl.stts.entries.as_slice();
-        let number = last_by_time(runs, &self.index, stbl.stsz.sample_count, time, &mut tables);
+        let number = last_by_time(runs, &self.index, stbl.sample_count(), time, &mut tables);
         FoundNumber {
             number,
             comparisons: added.count().saturating_add(tables.count()),
@@ -93,11 +94,11 @@ impl Mp4Track {
         requires fresh { readings.old ≡ 0 }
         ensures some { IfSome result
             (IsLastWith (sample_by (tables_of self.now.trak) (track_runs self.now) time) (2 ^ 32)) }
-        ensures none { IfNone result ((n : ℕ) → n < 2 ^ 32 - 1 - (tables_of self.now.trak).stsz.sample_count
+        ensures none { IfNone result ((n : ℕ) → n < 2 ^ 32 - 1 - sample_count (tables_of self.now.trak)
             → run_sample_by (track_runs self.now) time n ≡ false) }
         ensures few { readings.new ≤ digits (length (track_runs self.now)) + 33 }
     {
-        let count = self.trak.mdia.minf.stbl.stsz.sample_count;
+        let count = self.trak.mdia.minf.stbl.sample_count();
         let trafs = self.trafs.as_slice();
         let end = u32::MAX - count;
         let times = &self.seek.times;
@@ -137,7 +138,7 @@ impl Mp4Track {
         }
         let mut tables = Readings::of(self);
         let stbl = &self.trak.mdia.minf.stbl;
-        let last = k.min(stbl.stsz.sample_count);
+        let last = k.min(stbl.sample_count());
         let number = last_sync_upto(&stbl.stss, &self.index, last, &mut tables);
         FoundNumber {
             number,
@@ -150,11 +151,11 @@ impl Mp4Track {
         requires fresh { readings.old ≡ 0 }
         ensures some { IfSome result
             (IsLastWith (is_sync_sample (tables_of self.now.trak) (track_runs self.now)) (k + 1)) }
-        ensures none { IfNone result ((n : ℕ) → (tables_of self.now.trak).stsz.sample_count + 1 + n ≤ k
+        ensures none { IfNone result ((n : ℕ) → sample_count (tables_of self.now.trak) + 1 + n ≤ k
             → sync_at (track_runs self.now) n ≡ false) }
         ensures few { readings.new ≤ digits (length (all_run_samples (track_runs self.now))) }
     {
-        let count = self.trak.mdia.minf.stbl.stsz.sample_count;
+        let count = self.trak.mdia.minf.stbl.sample_count();
         if k <= count {
             return None;
         }
@@ -196,7 +197,7 @@ impl Mp4Track {
         ensures begin { option_map (λ x. x.0) result ≡ decode_time (tables_of self.now.trak) (track_runs self.now) k }
         ensures duration { IfSome result (λ x. x.1 ≡ duration_of (tables_of self.now.trak) (track_runs self.now) k) }
     {
-        let count = self.trak.mdia.minf.stbl.stsz.sample_count;
+        let count = self.trak.mdia.minf.stbl.sample_count();
         if k <= count {
             return self.timing_in_tables(k);
         }
@@ -242,7 +243,7 @@ impl Mp4Track {
     fn last_number(&self) -> u32
         ensures { result ≡ last_number (tables_of self.now.trak) (track_runs self.now) }
     {
-        let count = self.trak.mdia.minf.stbl.stsz.sample_count;
+        let count = self.trak.mdia.minf.stbl.sample_count();
         let left = u32::MAX - count;
         count + self.added_samples().min(u64::from(left)) as u32
     }

@@ -4,6 +4,7 @@
 
 ghost use Rattle.std.specs.Prelude.{◌≡◌, ℕ, ◌^◌, ◌<◌, ◌≤◌, List, length, Some, Ok};
 ghost use Rattle.mp4_table.specs.Stsc.{HasFirstSamples};
+ghost use Rattle.mp4_boxes.specs.Stbl.{sample_count};
 ghost use Rattle.mp4_boxes.specs.declared.stbl.StblBox.{StblBox};
 ghost use Rattle.mp4_boxes.specs.declared.trak.TrakBox.{TrakBox};
 ghost use Rattle.mp4_fragments.specs.RunSamples.{PlacedRun};
@@ -28,7 +29,7 @@ pub fn rule_is_plain_expansion()
 /// names that is said of the numbers up to the count of stsz.
 pub fn decode_times_are_start_times()
     ensures { (trak : TrakBox) (trafs : List TrafBox) (runs : List PlacedRun) (k : ℕ) (p : Place)
-        → (length trafs ≡ 0 → k ≤ (tables_of trak).stsz.sample_count) → answer_at trak trafs runs k ≡ Ok (Some p)
+        → (length trafs ≡ 0 → k ≤ sample_count (tables_of trak)) → answer_at trak trafs runs k ≡ Ok (Some p)
         → (decode_time (tables_of trak) runs k ≡ Some p.start_time) × (duration_of (tables_of trak) runs k ≡ p.duration)
         × (is_sync_sample (tables_of trak) runs k ≡ p.is_sync) }
 {}

@@ -6,6 +6,7 @@
 ghost use Rattle.std.specs.Prelude.{◌≡◌, ◌-◌, ◌^◌, ◌<◌, false, Some, length, min, option_map, slice_get};
 ghost use Rattle.std.specs.Prelude.{IsTrue};
 ghost use Rattle.mp4_codec.specs.Cause.{Gives};
+ghost use Rattle.mp4_boxes.specs.Stbl.{sample_count};
 ghost use Rattle.mp4_fragments.specs.RunSamples.{all_run_samples};
 ghost use Rattle.mp4_samples.specs.Places.{place_of};
 ghost use Rattle.mp4_samples.specs.Plain.{Consistent, plain_at};
@@ -115,7 +116,7 @@ impl Mp4Track {
         if self.is_of_movie(k) {
             place_at::<S>(stbl, &self.index, self.trak.tkhd.track_id, k, &mut counters)
         } else {
-            self.added_at::<S>(k - stbl.stsz.sample_count - 1, &mut counters)
+            self.added_at::<S>(k - stbl.sample_count() - 1, &mut counters)
         }
     }
 
@@ -123,9 +124,9 @@ impl Mp4Track {
     #[inline(always)]
     pub(crate) fn is_of_movie(&self, k: u32) -> bool
         ensures value { result ≡ is_of_movie self.now.trak self.now.trafs k }
-        ensures past { result ≡ false → (tables_of self.now.trak).stsz.sample_count < k }
+        ensures past { result ≡ false → sample_count (tables_of self.now.trak) < k }
     {
-        self.trafs.is_empty() || k <= self.trak.mdia.minf.stbl.stsz.sample_count
+        self.trafs.is_empty() || k <= self.trak.mdia.minf.stbl.sample_count()
     }
 
     /// Where the sample with this number lies among those that fragments add; it counts from 0.

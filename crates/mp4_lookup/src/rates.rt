@@ -28,7 +28,7 @@ impl Mp4Track {
     pub fn sample_count(&self) -> Result<u32>
         ensures { Gives (λ count. count) result (sample_count_of self.now.trak (track_runs self.now)) }
     {
-        let count = u64::from(self.trak.mdia.minf.stbl.stsz.sample_count);
+        let count = u64::from(self.trak.mdia.minf.stbl.sample_count());
         u32::try_from(count.saturating_add(self.added_samples())).map_err(|_| Error::TooLarge(
             Limit::Value,
         ))

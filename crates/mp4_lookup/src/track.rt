@@ -3,6 +3,7 @@
 ghost use Rattle.std.specs.Prelude.{◌≡◌, ◌-◌, ◌^◌, ◌<◌, length, ◌==◌, if◌then◌else◌, IfOk, OnOk};
 ghost use Rattle.std.proofs.Props.{props};
 ghost use Rattle.mp4_table.specs.Stsc.{HasFirstSamples};
+ghost use Rattle.mp4_boxes.specs.Stbl.{sample_count};
 ghost use Rattle.mp4_fragments.specs.Fragments.{placed_runs};
 ghost use Rattle.mp4_fragments.specs.Index.{Indexes, run_at, runs_of};
 ghost use Rattle.mp4_fragments.specs.Seek.{IsSeekIndex};
@@ -38,8 +39,8 @@ pub struct Mp4Track {
     ghost indexed: { IsIndexOf trak.mdia.minf.stbl index } by { Prim.hlevel props },
     ghost placed: { Indexes (run_at trafs defaults) (runs_of trafs defaults runs) runs } by { Prim.hlevel props },
     ghost sought: { IsSeekIndex (runs_of trafs defaults runs)
-        (2 ^ 32 - 1 - trak.mdia.minf.stbl.stsz.sample_count) seek } by { Prim.hlevel props },
-    ghost counted: { trak.mdia.minf.stbl.stsz.sample_count < 2 ^ 32 } by { Prim.hlevel props },
+        (2 ^ 32 - 1 - sample_count trak.mdia.minf.stbl) seek } by { Prim.hlevel props },
+    ghost counted: { sample_count trak.mdia.minf.stbl < 2 ^ 32 } by { Prim.hlevel props },
 }
 
 /// Taken apart here, and not at each end of each function that owns a track.
@@ -85,11 +86,11 @@ fn indexes_of(
         (placed_runs defaults (movie_end trak.now) trafs.now base_data_offsets.now) x.runs) }
     ensures seek { IfOk result (λ x. IsSeekIndex
         (placed_runs defaults (movie_end trak.now) trafs.now base_data_offsets.now)
-        (2 ^ 32 - 1 - (tables_of trak.now).stsz.sample_count) x.seek) }
-    ensures counted { OnOk result ((tables_of trak.now).stsz.sample_count < 2 ^ 32) }
+        (2 ^ 32 - 1 - sample_count (tables_of trak.now)) x.seek) }
+    ensures counted { OnOk result (sample_count (tables_of trak.now) < 2 ^ 32) }
 {
     let stbl = &trak.mdia.minf.stbl;
-    let count = stbl.stsz.sample_count;
+    let count = stbl.sample_count();
     let index = index_of(alloc, stbl)?;
     let end = end_after(stbl.stts.entries.as_slice(), count);
     let runs = index_of_runs(alloc, trafs, base_data_offsets, defaults, end)?;

@@ -18,6 +18,7 @@ use Rattle.mp4_boxes.specs.declared.trak.TrakBox.{TrakBox}
 use Rattle.mp4_moof.specs.declared.traf.TrafBox.{TrafBox}
 use Rattle.mp4_boxes.specs.declared.moov.MoovBox.{MoovBox}
 use Rattle.mp4_moof.specs.declared.moof.MoofBox.{MoofBox}
+use Rattle.mp4_boxes.specs.Stbl.{sample_count}
 use Rattle.mp4_fragments.specs.Fragments.{placed_runs}
 use Rattle.mp4_fragments.specs.RunSamples.{PlacedRun}
 use Rattle.mp4_lookup.specs.declared.track.Mp4Track.{Mp4Track}
@@ -226,10 +227,10 @@ module _ (st : WriterState) (id : ℕ) (a : AcceptedTrack) (trak : TrakBox) (w :
 
 -- where fragments add no run, the samples of the movie box are counted alone
 counted_alone : (t : Mp4Track) → track_runs t ≡ []
-    → sample_count_of t.trak (track_runs t) ≡ Ok (tables_of t.trak).stsz.sample_count
+    → sample_count_of t.trak (track_runs t) ≡ Ok (sample_count (tables_of t.trak))
 unfolding sample_count_of
 counted_alone t none =
-    let n = (tables_of t.trak).stsz.sample_count in
+    let n = sample_count (tables_of t.trak) in
     rw (none, le-ltb (2 ^ 32 - 1) (n + 0) (omega (arith, t.counted))) (ap Ok (omega arith))
 
 -- A finished movie that was opened again.
@@ -334,7 +335,7 @@ module _ (st : WriterState) (w : IsWrittenMovie st) (fits : length (whole_of st)
         (λ u a trak one t box trafs runs. read_at_number st (u + 1) a trak one fits t box trafs k small) id;
     counts = at_each_id (λ t. sample_count_of t.trak (track_runs t)) (λ a. Ok (length a.samples))
         (λ u a trak one t box trafs runs.
-        counted_alone t runs ∙ ap Ok (ap (λ (b : TrakBox). (tables_of b).stsz.sample_count) box ∙ one.count));
+        counted_alone t runs ∙ ap Ok (ap (λ (b : TrakBox). sample_count (tables_of b)) box ∙ one.count));
   }
 
 -- bytes that are a file aren't opened only where memory ran out

@@ -14,6 +14,7 @@ use Rattle.mp4_table.specs.Starts.{start_of}
 use Rattle.mp4_boxes.specs.declared.stbl.StblBox.{StblBox}
 use Rattle.mp4_boxes.specs.declared.trak.TrakBox.{TrakBox}
 use Rattle.mp4_moof.specs.declared.traf.TrafBox.{TrafBox}
+use Rattle.mp4_boxes.specs.Stbl.{sample_count}
 use Rattle.mp4_fragments.specs.declared.run_samples.RunSample.{RunSample}
 use Rattle.mp4_fragments.specs.RunSamples.{PlacedRun, all_run_samples}
 use Rattle.mp4_lookup.specs.declared.track.Mp4Track.{Mp4Track}
@@ -125,7 +126,7 @@ answer-none : (trak : TrakBox) (trafs : List TrafBox) (runs : List PlacedRun) (k
     → WantsNone (answer_at trak trafs runs k)
 unfolding answer_at
 answer-none trak trafs runs k =
-    let run_sample : Option RunSample = slice_get (all_run_samples runs) (k - (tables_of trak).stsz.sample_count - 1) in
+    let run_sample : Option RunSample = slice_get (all_run_samples runs) (k - sample_count (tables_of trak) - 1) in
     either (is_of_movie trak trafs k) (rule (tables_of trak) trak.tkhd.track_id k) (run_sample_place run_sample)
     (rule-none (tables_of trak) trak.tkhd.track_id k) (run_sample-none run_sample)
 

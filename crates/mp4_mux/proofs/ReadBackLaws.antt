@@ -7,6 +7,7 @@ use Rattle.std.proofs.lemmas.List.{get_or-map, length-map}
 use Rattle.std.proofs.lemmas.Option.{same_Some, slice_get-get_or, slice_get_past, slice_get_within}
 use Rattle.mp4_boxes.specs.declared.stbl.StblBox.{StblBox}
 use Rattle.mp4_boxes.specs.declared.trak.TrakBox.{TrakBox}
+use Rattle.mp4_boxes.specs.Stbl.{sample_count}
 use Rattle.mp4_samples.specs.Samples.{Sample, TimedSample, timed_from, timed, read_at}
 use Rattle.mp4_samples.specs.Plain.{sample_place, plain, plain_at, within_file}
 use Rattle.mp4_samples.specs.Tables.{tables_of}
@@ -65,7 +66,7 @@ samples_read st id a trak h = go a.samples refl
     go : (ss : List Sample) → a.samples ≡ ss
         → map (read_at (whole_of st)) (plain (tables_of trak)) ≡ timed a.samples
     go [] e =
-        ap (map (read_at (whole_of st))) (none (tables_of trak).stsz.sample_count (h.count ∙ ap length e))
+        ap (map (read_at (whole_of st))) (none (sample_count (tables_of trak)) (h.count ∙ ap length e))
         ∙ nothing ∙ ap timed (sym e)
     go (s ∷ ss) e = (h.described (omega (arith, ap length e))).samples
 

@@ -12,6 +12,7 @@ use Rattle.mp4_table.specs.declared.stsc.StscBox.{StscBox}
 use Rattle.mp4_table.specs.Chunks.{counts, laid_from, places}
 use Rattle.mp4_table.specs.Runs.{expand, durations, rendering_offsets}
 use Rattle.mp4_boxes.specs.declared.stbl.StblBox.{StblBox}
+use Rattle.mp4_boxes.specs.Stbl.{sample_count}
 use Rattle.mp4_samples.specs.Plain.{Consistent, sample_places, sample_place, plain}
 use Rattle.mp4_samples.specs.Tables.{chunk_offsets, offsets_of, sizes, ctts_runs, is_sync_at}
 use Rattle.mp4_mux.specs.declared.sample_info.SampleInfo.{SampleInfo}
@@ -86,7 +87,7 @@ map-range_same f g a (suc n) same =
 
 module _ (ss : List SampleInfo) (ns os : List ℕ) (t : StblBox) (tables : HasTables ss ns os t)
     (fill : FillsChunks ss ns os) where
-  count_is : t.stsz.sample_count ≡ length ss
+  count_is : sample_count t ≡ length ss
   count_is = ap (λ z. z.sample_count) tables.stsz ∙ sample_count-stsz_for ss
 
   offsets_are : chunk_offsets t ≡ os
@@ -95,7 +96,7 @@ module _ (ss : List SampleInfo) (ns os : List ℕ) (t : StblBox) (tables : HasTa
   durations_are : durations t.stts.entries ≡ map (λ s. s.duration) ss
   durations_are = ap (λ b. durations b.entries) tables.stts ∙ durations-stts_for ss
 
-  sizes_are : sizes t.stsz t.stsz.sample_count ≡ map (λ s. s.size) ss
+  sizes_are : sizes t.stsz (sample_count t) ≡ map (λ s. s.size) ss
   sizes_are = ap₂ sizes tables.stsz count_is ∙ sizes-stsz_for ss
 
   counts_are : counts t.stsc.entries (length (chunk_offsets t)) ≡ ns

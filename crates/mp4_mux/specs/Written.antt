@@ -12,6 +12,7 @@ use Rattle.mp4_entry.specs.Stsd.{first_entry}
 use Rattle.mp4_entry.specs.TrackType.{track_type_of}
 use Rattle.mp4_boxes.specs.declared.stbl.StblBox.{StblBox}
 use Rattle.mp4_boxes.specs.declared.trak.TrakBox.{TrakBox}
+use Rattle.mp4_boxes.specs.Stbl.{sample_count}
 use Rattle.mp4_samples.specs.Samples.{Sample, TimedSample, timed, read_at}
 use Rattle.mp4_samples.specs.declared.sample.Place.{Place}
 use Rattle.mp4_samples.specs.Plain.{Consistent, sample_places, plain}
@@ -51,7 +52,7 @@ pub record IsWrittenTrack (st : WriterState) (id : ℕ) (a : AcceptedTrack) (tra
   pub language : trak.mdia.mdhd.language ≡ a.config.language
   pub kind : track_type_of trak.mdia.hdlr.handler_type ≡ Ok a.config.track_type
   pub coding : coding_of (first_entry (tables_of trak).stsd) ≡ Some (media_type_in a.config.media_conf)
-  pub count : (tables_of trak).stsz.sample_count ≡ length a.samples
+  pub count : sample_count (tables_of trak) ≡ length a.samples
   pub described : 0 < length a.samples → Describes (whole_of st) (tables_of trak) a.samples
   pub empty : length a.samples ≡ 0 → (tables_of trak).stsc.entries ≡ []
   pub fewest : HasFewestEntries (tables_of trak) a.samples

@@ -8,27 +8,28 @@ use Rattle.mp4_table.specs.Runs.{durations, rendering_offsets}
 use Rattle.mp4_table.specs.Chunks.{counts, places}
 use Rattle.mp4_table.specs.Starts.{start_of}
 use Rattle.mp4_boxes.specs.declared.stbl.StblBox.{StblBox}
+use Rattle.mp4_boxes.specs.Stbl.{sample_count}
 use Rattle.mp4_samples.specs.declared.sample.Place.{Place}
 use Rattle.mp4_samples.specs.Tables.{chunk_offsets, sizes, ctts_runs, sync_numbers, is_sync_at}
 
 -- The tables describe the same samples, at least one. Chunks are numbered from 1, and each has at least one sample.
 pub record Consistent (t : StblBox) : Type 0 where
-  pub some_samples : 0 < t.stsz.sample_count
-  pub sizes_listed : length (sizes t.stsz t.stsz.sample_count) ≡ t.stsz.sample_count
+  pub some_samples : 0 < sample_count t
+  pub sizes_listed : length (sizes t.stsz (sample_count t)) ≡ sample_count t
   pub first_chunk : IsSomeAnd (slice_get t.stsc.entries 0) (λ e. e.first_chunk ≡ 1)
   pub rising : AllPairs (λ a b. a.first_chunk < b.first_chunk) t.stsc.entries
   pub last_chunk : All (λ e. e.first_chunk ≤ length (chunk_offsets t)) t.stsc.entries
   pub some_per_chunk : All (λ e. 1 ≤ e.samples_per_chunk) t.stsc.entries
-  pub counted : sum (counts t.stsc.entries (length (chunk_offsets t))) ≡ t.stsz.sample_count
-  pub timed : length (durations t.stts.entries) ≡ t.stsz.sample_count
-  pub rendered : IfSome t.ctts (λ ctts. length (rendering_offsets ctts.entries) ≡ t.stsz.sample_count)
+  pub counted : sum (counts t.stsc.entries (length (chunk_offsets t))) ≡ sample_count t
+  pub timed : length (durations t.stts.entries) ≡ sample_count t
+  pub rendered : IfSome t.ctts (λ ctts. length (rendering_offsets ctts.entries) ≡ sample_count t)
   pub sync_rising : IsStrictlyIncreasing (sync_numbers t.stss)
-  pub sync_within : All (λ n. (1 ≤ n) × (n ≤ t.stsz.sample_count)) (sync_numbers t.stss)
+  pub sync_within : All (λ n. (1 ≤ n) × (n ≤ sample_count t)) (sync_numbers t.stss)
 
 -- place and size of each sample
 abbrev pub sample_places : StblBox → List (ℕ × ℕ)
 sample_places t =
-    places (counts t.stsc.entries (length (chunk_offsets t))) (chunk_offsets t) (sizes t.stsz t.stsz.sample_count)
+    places (counts t.stsc.entries (length (chunk_offsets t))) (chunk_offsets t) (sizes t.stsz (sample_count t))
 
 -- sample k, read off the tables written out
 abbrev pub sample_place : StblBox → ℕ → Place
@@ -43,7 +44,7 @@ sample_place t k = record {
 
 -- the samples in order
 abbrev pub plain : StblBox → List Place
-plain t = map (sample_place t) (range_with_len 1 t.stsz.sample_count)
+plain t = map (sample_place t) (range_with_len 1 (sample_count t))
 
 -- no place is past 64 bits
 abbrev pub within_file : Option Place → Result (Option Place) Cause

@@ -117,7 +117,7 @@ impl PlainTrack {
 
     /// What a number of the track is answered with, whose movie box has these tables.
     pub fn answer(&self, stbl: &StblBox, k: u32) -> Result<Option<WalkedPlace>> {
-        let count = stbl.stsz.sample_count;
+        let count = stbl.sample_count();
         if k <= count || !self.is_fragmented {
             return walk(stbl, self.id, k);
         }
@@ -273,7 +273,7 @@ fn unfragmented(
         tracks.push(PlainTrack {
             id,
             values: values_of(defaults, id),
-            end: Some(end_of(stbl.stts.entries.as_slice(), stbl.stsz.sample_count)),
+            end: Some(end_of(stbl.stts.entries.as_slice(), stbl.sample_count())),
             is_fragmented: false,
             samples: Vec::new(alloc),
         })?;

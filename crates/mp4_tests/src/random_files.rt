@@ -97,7 +97,7 @@ fn walked(
         return Err(Error::TrakNotFound(id));
     };
     let stbl = &trak.mdia.minf.stbl;
-    if parts > 0 && k > stbl.stsz.sample_count {
+    if parts > 0 && k > stbl.sample_count() {
         return Ok(None);
     }
     walk(stbl, id, k)

@@ -15,7 +15,7 @@ use std::alloc::Global;
 fn counted(reader: &Mp4Reader, index: usize) -> u32 {
     match reader.moov.traks.get(index) {
         None => 0,
-        Some(trak) => trak.mdia.minf.stbl.stsz.sample_count,
+        Some(trak) => trak.mdia.minf.stbl.sample_count(),
     }
 }
 

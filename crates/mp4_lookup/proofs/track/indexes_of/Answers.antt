@@ -16,6 +16,7 @@ pub returns-clause-seek : goal.returns-clause-seek
 returns-clause-seek c =
     let trafs = c.args.trafs.now in
     let defaults = c.args.defaults in
-    let end = 2 ^ 32 - 1 - c.args.trak.now.mdia.minf.stbl.stsz.sample_count in
-    rw (c.end_after-end.ensures, c.as_slice.ensures) at (subst (λ runs. IsSeekIndex runs end c.in_ok-seek.seek)
+    let end = 2 ^ 32 - 1 - c.sample_count-count.result in
+    rw (c.end_after-end.ensures, c.as_slice.ensures, c.sample_count-count.ensures)
+    at (subst (λ runs. IsSeekIndex runs end c.in_ok-seek.seek)
     (indexed_runs trafs defaults _ c.in_ok-runs.runs c.in_ok-runs.ensures) c.in_ok-seek.ensures)

@@ -6,5 +6,6 @@ use Rattle.mp4_lookup.proofs.track.Mp4Track.added_by_time.Goals as goal
 pub returns-in-Some-clause-some : goal.returns-in-Some-clause-some
 returns-in-Some-clause-some c =
     let t = c.args.self.now in
-    added_by (tables_of t.trak) (track_runs t) c.args.time c.in-Some.number t.counted
-    (rw c.as_slice-trafs.ensures at c.in-Some.ensures.number)
+    rw c.sample_count-count.ensures
+    (added_by (tables_of t.trak) (track_runs t) c.args.time c.in-Some.number t.counted
+    (rw (c.sample_count-count.ensures, c.as_slice-trafs.ensures) at c.in-Some.ensures.number))

@@ -1,4 +1,5 @@
 use Rattle.std.proofs.Common.{◌≡◌, ◌-◌, ◌<◌, length, true≢false, sym, ◌∙◌}
+use Rattle.mp4_boxes.specs.Stbl.{sample_count}
 use Rattle.mp4_samples.specs.Tables.{tables_of}
 use Rattle.mp4_lookup.specs.Costs.{AreCounts, AreRunSampleCounts, AreTrackCounts}
 use Rattle.mp4_lookup.specs.TrackRuns.{track_runs}
@@ -24,10 +25,10 @@ returns-else-is_of_movie-clause-counted g c =
     let counts = g.S.Search.Counts in
     let looks = g.S.Search.looks in
     let added = sym c.is_of_movie.ensures.value ∙ c.if-is_of_movie.false in
-    of_place (λ p. AreRunSampleCounts counts t.runs (k - (tables_of t.trak).stsz.sample_count - 1) p.comparisons)
+    of_place (λ p. AreRunSampleCounts counts t.runs (k - sample_count (tables_of t.trak) - 1) p.comparisons)
     (λ p. AreTrackCounts counts looks t k p.comparisons) c.added_at.result
     (λ p a. record { tables = λ yes. absurd (true≢false (sym yes ∙ added)); added = λ _. a })
-    c.added_at.ensures.counted
+    (rw c.sample_count.ensures at c.added_at.ensures.counted)
 
 pub returns-else-is_of_movie-clause-added : goal.returns-else-is_of_movie-clause-added
 returns-else-is_of_movie-clause-added g c = λ _.

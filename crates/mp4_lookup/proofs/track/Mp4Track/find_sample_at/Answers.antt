@@ -7,4 +7,5 @@ pub returns-clause-number : goal.returns-clause-number
 returns-clause-number c =
     let t = c.args.self.now in
     movie_by (tables_of t.trak) (track_runs t) c.args.time c.last_by_time-number.result t.counted
-    c.in_default.ensures.none (rw c.as_slice-runs.ensures at c.last_by_time-number.ensures.number)
+    c.in_default.ensures.none
+    (rw (c.as_slice-runs.ensures, c.sample_count.ensures) at c.last_by_time-number.ensures.number)

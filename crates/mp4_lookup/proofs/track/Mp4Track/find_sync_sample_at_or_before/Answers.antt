@@ -7,4 +7,4 @@ pub returns-clause-number : goal.returns-clause-number
 returns-clause-number c =
     let t = c.args.self.now in
     movie_sync_upto (tables_of t.trak) (track_runs t) c.args.k c.last_sync_upto-number.result c.in_default.ensures.none
-    (rw c.min-last.ensures at c.last_sync_upto-number.ensures.number)
+    (rw (c.min-last.ensures, c.sample_count.ensures) at c.last_sync_upto-number.ensures.number)

@@ -1,4 +1,5 @@
 use Rattle.std.proofs.Common.{◌-◌, ◌^◌, sym, subst}
+use Rattle.mp4_boxes.specs.Stbl.{sample_count}
 use Rattle.mp4_fragments.specs.Index.{Indexes, run_at}
 use Rattle.mp4_fragments.proofs.IndexLaws.{indexed_runs}
 use Rattle.mp4_fragments.specs.Seek.{IsSeekIndex}
@@ -11,7 +12,7 @@ invariant_of-result c =
     let index = c.in-Ok.field-0.runs in
     let made = rw c.as_slice.ensures at c.in-Ok.ensures.runs in
     let runs = sym (indexed_runs trafs defaults _ index made) in
-    let end = 2 ^ 32 - 1 - c.args.trak.mdia.minf.stbl.stsz.sample_count in
+    let end = 2 ^ 32 - 1 - sample_count c.args.trak.mdia.minf.stbl in
     record {
       numbered = c.requires.first_samples;
       indexed = c.in-Ok.ensures.tables;
