@@ -16,6 +16,7 @@ mod laws;
 mod media_type;
 mod mp4a;
 mod narrow;
+mod sample_entry;
 mod sample_freq_index;
 mod stsd;
 mod track_type;
