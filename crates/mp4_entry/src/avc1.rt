@@ -12,10 +12,10 @@ ghost use Rattle.mp4_entry.specs.Avc1.{default_avc1, visual_of, IsInRangeAvc1, I
 ghost use Rattle.mp4_entry.specs.Avc1Laws.{avc1_again};
 
 use crate::avcc::AvcCBox;
-use crate::visual::{VISUAL_SIZE, Visual, put_visual, read_visual};
+use crate::visual::{VISUAL_SIZE, Visual, put_visual_entry, read_visual_entry};
 use mp4_codec::{
-    BoxType, Error, ExactEq, Fields, FixedPointU16, InRange, Items, Mp4Box, Put, ReadBox, Result,
-    TryClone, WriteBox, last_child,
+    BoxType, ExactEq, FixedPointU16, InRange, Items, Mp4Box, Put, ReadBox, Result, TryClone,
+    WriteBox,
 };
 use std::alloc::Global;
 
@@ -192,11 +192,7 @@ impl ReadBox for Avc1Box {
 
     #[tactic(auto, unfolding(crate::specs::Avc1::avc1_of, crate::specs::Avc1::avc1_early))]
     fn read_payload(alloc: Global, payload: &[u8]) -> Result<Self> {
-        let mut fields = Fields::new(payload);
-        let visual = read_visual(&mut fields)?;
-        let Some(avcc) = last_child(alloc, fields.rest())? else {
-            return Err(Error::InvalidData("an entry without its avcC"));
-        };
+        let (visual, avcc) = read_visual_entry(alloc, payload, "an entry without its avcC")?;
         Ok(Avc1Box::with(visual, avcc))
     }
 }
@@ -214,10 +210,9 @@ impl WriteBox for Avc1Box {
         Ok(())
     }
 
-    #[tactic(auto, using(crate::proofs::Sizes::sizes))]
+    #[tactic(auto, unfolding(crate::specs::Avc1::avc1_payload))]
     fn put_payload(&self, out: &mut Vec<u8>) -> Put {
-        put_visual(out, self.visual())?;
-        self.avcc.put_box(out)?;
+        put_visual_entry(out, self.visual(), &self.avcc)?;
         Ok(())
     }
 }

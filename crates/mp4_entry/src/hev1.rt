@@ -12,10 +12,9 @@ ghost use Rattle.mp4_entry.specs.Hev1.{visual_of, IsInRangeHev1, IsWellFormedHev
 ghost use Rattle.mp4_entry.specs.Hev1Laws.{hev1_again};
 
 use crate::hvcc::HvcCBox;
-use crate::visual::{VISUAL_SIZE, Visual, put_visual, read_visual};
+use crate::visual::{VISUAL_SIZE, Visual, put_visual_entry, read_visual_entry};
 use mp4_codec::{
-    BoxType, Error, ExactEq, Fields, FixedPointU16, InRange, Mp4Box, Put, ReadBox, Result,
-    TryClone, WriteBox, last_child,
+    BoxType, ExactEq, FixedPointU16, InRange, Mp4Box, Put, ReadBox, Result, TryClone, WriteBox,
 };
 use std::alloc::Global;
 
@@ -181,11 +180,7 @@ impl ReadBox for Hev1Box {
 
     #[tactic(auto, unfolding(crate::specs::Hev1::hev1_of, crate::specs::Hev1::hev1_early))]
     fn read_payload(alloc: Global, payload: &[u8]) -> Result<Self> {
-        let mut fields = Fields::new(payload);
-        let visual = read_visual(&mut fields)?;
-        let Some(hvcc) = last_child(alloc, fields.rest())? else {
-            return Err(Error::InvalidData("an entry without its hvcC"));
-        };
+        let (visual, hvcc) = read_visual_entry(alloc, payload, "an entry without its hvcC")?;
         Ok(Hev1Box::with(visual, hvcc))
     }
 }
@@ -201,10 +196,9 @@ impl WriteBox for Hev1Box {
         Ok(())
     }
 
-    #[tactic(auto, using(crate::proofs::Sizes::sizes))]
+    #[tactic(auto, unfolding(crate::specs::Hev1::hev1_payload))]
     fn put_payload(&self, out: &mut Vec<u8>) -> Put {
-        put_visual(out, self.visual())?;
-        self.hvcc.put_box(out)?;
+        put_visual_entry(out, self.visual(), &self.hvcc)?;
         Ok(())
     }
 }

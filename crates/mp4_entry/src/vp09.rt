@@ -11,11 +11,10 @@ ghost use Rattle.mp4_entry.specs.Vp09.{vp09_of, vp09_early, vp09_payload, vp09_w
 ghost use Rattle.mp4_entry.specs.Vp09.{visual_of, IsInRangeVp09, IsWellFormedVp09, IsInRangeVp9Config};
 ghost use Rattle.mp4_entry.specs.Vp09Laws.{vp09_again};
 
-use crate::visual::{VISUAL_SIZE, Visual, put_visual, read_visual};
+use crate::visual::{VISUAL_SIZE, Visual, put_visual_entry, read_visual_entry};
 use crate::vpcc::VpccBox;
 use mp4_codec::{
-    BoxType, Error, ExactEq, Fields, FixedPointU16, InRange, Mp4Box, Put, ReadBox, Result,
-    TryClone, WriteBox, last_child,
+    BoxType, ExactEq, FixedPointU16, InRange, Mp4Box, Put, ReadBox, Result, TryClone, WriteBox,
 };
 use std::alloc::Global;
 
@@ -181,11 +180,7 @@ impl ReadBox for Vp09Box {
 
     #[tactic(auto, unfolding(crate::specs::Vp09::vp09_of, crate::specs::Vp09::vp09_early))]
     fn read_payload(alloc: Global, payload: &[u8]) -> Result<Self> {
-        let mut fields = Fields::new(payload);
-        let visual = read_visual(&mut fields)?;
-        let Some(vpcc) = last_child(alloc, fields.rest())? else {
-            return Err(Error::InvalidData("an entry without its vpcC"));
-        };
+        let (visual, vpcc) = read_visual_entry(alloc, payload, "an entry without its vpcC")?;
         Ok(Vp09Box::with(visual, vpcc))
     }
 }
@@ -201,10 +196,9 @@ impl WriteBox for Vp09Box {
         Ok(())
     }
 
-    #[tactic(auto, using(crate::proofs::Sizes::sizes))]
+    #[tactic(auto, unfolding(crate::specs::Vp09::vp09_payload))]
     fn put_payload(&self, out: &mut Vec<u8>) -> Put {
-        put_visual(out, self.visual())?;
-        self.vpcc.put_box(out)?;
+        put_visual_entry(out, self.visual(), &self.vpcc)?;
         Ok(())
     }
 }
