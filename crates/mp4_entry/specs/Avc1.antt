@@ -1,5 +1,5 @@
 -- The sample entry of AVC video (ISO/IEC 14496-15, 5.4.2).
-use Rattle.std.specs.Prelude.{ℕ, ◌^◌, ◌<◌, List, Option, Result}
+use Rattle.std.specs.Prelude.{ℕ, ◌+◌, ◌^◌, ◌<◌, List, length, Option, Result}
 use Rattle.std.specs.List.{AllByRecursion}
 use Rattle.mp4_codec.specs.declared.box_type.BoxType.TheVariants.{AvcCBox as avcc}
 use Rattle.mp4_codec.specs.Cause.{Cause, seen}
@@ -74,6 +74,10 @@ default_avc1 = avc1_with (visual_of_size 0 0) default_avcc
 -- the entry of a configuration: pictures of its size, with its parameter sets
 abbrev pub avc1_of_config : AvcConfig → Avc1Box
 avc1_of_config c = avc1_with (visual_of_size c.width c.height) (avcc_of_sets c.seq_param_set c.pic_param_set)
+
+-- the bytes of that entry, its header included
+abbrev pub avc1_config_length : AvcConfig → ℕ
+avc1_config_length c = 105 + length c.seq_param_set + length c.pic_param_set
 
 -- each number is within its type
 pub record IsInRangeAvcConfig (c : AvcConfig) : Type 0 where

@@ -7,7 +7,7 @@ use Rattle.mp4_entry.specs.declared.avc1.AvcConfig.{AvcConfig}
 use Rattle.mp4_entry.specs.VisualLaws.{length-visual_entry_payload, visual_entry_again}
 use Rattle.mp4_entry.specs.Avcc.{avcc_of, avcc_payload, IsInRangeAvcC, IsWellFormedAvcC, avcc_refusal}
 use Rattle.mp4_entry.specs.AvccLaws.{avcc_again, length-avcc_of_sets}
-use Rattle.mp4_entry.specs.Avc1.{visual_of, avc1_of, avc1_payload, avc1_refusal, IsCanonicalAvc1, avc1_of_config}
+use Rattle.mp4_entry.specs.Avc1.{visual_of, avc1_of, avc1_payload, avc1_refusal, IsCanonicalAvc1, avc1_of_config, avc1_config_length}
 
 pub length-avc1_payload : (b : Avc1Box) → length (avc1_payload b) ≡ 86 + length (avcc_payload b.avcc)
 unfolding avc1_payload
@@ -22,6 +22,6 @@ avc1_again b f =
 
 -- the bytes of the entry of a configuration, its header included
 pub avc1_of_config_size : (c : AvcConfig)
-    → 8 + length (avc1_payload (avc1_of_config c)) ≡ 105 + length c.seq_param_set + length c.pic_param_set
+    → 8 + length (avc1_payload (avc1_of_config c)) ≡ avc1_config_length c
 avc1_of_config_size c =
     omega (arith, length-avc1_payload (avc1_of_config c), length-avcc_of_sets c.seq_param_set c.pic_param_set)

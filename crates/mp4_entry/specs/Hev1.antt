@@ -69,6 +69,10 @@ default_hev1 = hev1_with (visual_of_size 0 0) default_hvcc
 abbrev pub hev1_of_config : HevcConfig → Hev1Box
 hev1_of_config c = hev1_with (visual_of_size c.width c.height) default_hvcc
 
+-- the bytes of that entry, its header included
+abbrev pub hev1_config_length : HevcConfig → ℕ
+hev1_config_length c = 117
+
 -- each number is within its type
 pub record IsInRangeHevcConfig (c : HevcConfig) : Type 0 where
   pub width : c.width < 2 ^ 16

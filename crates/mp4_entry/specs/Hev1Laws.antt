@@ -9,7 +9,7 @@ use Rattle.mp4_entry.specs.declared.hev1.HevcConfig.{HevcConfig}
 use Rattle.mp4_entry.specs.VisualLaws.{length-visual_entry_payload, visual_entry_again}
 use Rattle.mp4_entry.specs.Hvcc.{hvcc_of, hvcc_payload, IsInRangeHvcC, IsWellFormedHvcC}
 use Rattle.mp4_entry.specs.HvccLaws.{hvcc_again, length-hvcc_payload}
-use Rattle.mp4_entry.specs.Hev1.{visual_of, hev1_of, hev1_payload, IsCanonicalHev1, hev1_of_config}
+use Rattle.mp4_entry.specs.Hev1.{visual_of, hev1_of, hev1_payload, IsCanonicalHev1, hev1_of_config, hev1_config_length}
 
 pub length-hev1_payload : (b : Hev1Box) → length (hev1_payload b) ≡ 86 + length (hvcc_payload b.hvcc)
 unfolding hev1_payload
@@ -22,5 +22,5 @@ hev1_again b f =
     (record { named = refl; code = lit< tt }) hvcc_again (visual_of b) b.hvcc f.in_range.visual tt tt f.written) refl
 
 -- the bytes of the entry of a configuration, its header included
-pub hev1_of_config_size : (c : HevcConfig) → 8 + length (hev1_payload (hev1_of_config c)) ≡ 117
+pub hev1_of_config_size : (c : HevcConfig) → 8 + length (hev1_payload (hev1_of_config c)) ≡ hev1_config_length c
 hev1_of_config_size c = simp (length-hev1_payload, length-hvcc_payload, length-then, length-number, length-zeros) refl

@@ -69,6 +69,10 @@ default_vp09 = vp09_with (visual_of_size 0 0) default_vpcc
 abbrev pub vp09_of_config : Vp9Config → Vp09Box
 vp09_of_config c = vp09_with (visual_of_size c.width c.height) default_vpcc
 
+-- the bytes of that entry, its header included
+abbrev pub vp09_config_length : Vp9Config → ℕ
+vp09_config_length c = 106
+
 -- each number is within its type
 pub record IsInRangeVp9Config (c : Vp9Config) : Type 0 where
   pub width : c.width < 2 ^ 16

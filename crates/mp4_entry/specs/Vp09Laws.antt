@@ -9,7 +9,7 @@ use Rattle.mp4_entry.specs.declared.vp09.Vp9Config.{Vp9Config}
 use Rattle.mp4_entry.specs.VisualLaws.{length-visual_entry_payload, visual_entry_again}
 use Rattle.mp4_entry.specs.Vpcc.{vpcc_of, vpcc_payload, IsInRangeVpcc, IsWellFormedVpcc}
 use Rattle.mp4_entry.specs.VpccLaws.{vpcc_again, length-vpcc_payload}
-use Rattle.mp4_entry.specs.Vp09.{visual_of, vp09_of, vp09_payload, IsCanonicalVp09, vp09_of_config}
+use Rattle.mp4_entry.specs.Vp09.{visual_of, vp09_of, vp09_payload, IsCanonicalVp09, vp09_of_config, vp09_config_length}
 
 pub length-vp09_payload : (b : Vp09Box) → length (vp09_payload b) ≡ 86 + length (vpcc_payload b.vpcc)
 unfolding vp09_payload
@@ -22,5 +22,5 @@ vp09_again b f =
     (record { named = refl; code = lit< tt }) vpcc_again (visual_of b) b.vpcc f.in_range.visual tt tt f.written) refl
 
 -- the bytes of the entry of a configuration, its header included
-pub vp09_of_config_size : (c : Vp9Config) → 8 + length (vp09_payload (vp09_of_config c)) ≡ 106
+pub vp09_of_config_size : (c : Vp9Config) → 8 + length (vp09_payload (vp09_of_config c)) ≡ vp09_config_length c
 vp09_of_config_size c = simp (length-vp09_payload, length-vpcc_payload, length-then, length-number) refl

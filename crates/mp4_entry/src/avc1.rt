@@ -9,6 +9,7 @@ ghost use Rattle.mp4_codec.specs.Boxes.{size_around};
 ghost use Rattle.mp4_entry.specs.declared.visual.Visual.{Visual};
 ghost use Rattle.mp4_entry.specs.Avc1.{avc1_of, avc1_early, avc1_payload, avc1_refusal, avc1_with, avc1_of_config};
 ghost use Rattle.mp4_entry.specs.Avc1.{default_avc1, visual_of, IsInRangeAvc1, IsWellFormedAvc1, IsInRangeAvcConfig};
+ghost use Rattle.mp4_entry.specs.Avc1.{avc1_config_length};
 ghost use Rattle.mp4_entry.specs.Avc1Laws.{avc1_again};
 
 use crate::avcc::AvcCBox;
@@ -18,6 +19,9 @@ use mp4_codec::{
     WriteBox,
 };
 use std::alloc::Global;
+
+/// The bytes of the entry of a configuration, its header included, without its parameter sets.
+pub(crate) const AVC1_SIZE: u64 = 105;
 
 /// The sample entry of AVC video, `avc1` (ISO/IEC 14496-15, 5.4.2).
 ///
@@ -124,9 +128,7 @@ impl Avc1Box {
     #[tactic(auto, using(crate::specs::Avc1Laws::avc1_of_config_size))]
     pub fn new(alloc: Global, config: &AvcConfig) -> Result<Self>
         ensures value { Answers (λ b. b) result (Ok (avc1_of_config config.now)) }
-        ensures size { IfOk result
-            (λ b. 8 + length (avc1_payload b) ≡ 105 + length config.now.seq_param_set
-            + length config.now.pic_param_set) }
+        ensures size { IfOk result (λ b. 8 + length (avc1_payload b) ≡ avc1_config_length config.now) }
     {
         let avcc = AvcCBox::of_sets(alloc, &config.seq_param_set, &config.pic_param_set)?;
         Ok(Avc1Box::with(Visual::of_size(config.width, config.height), avcc))

@@ -9,6 +9,7 @@ ghost use Rattle.mp4_codec.specs.Boxes.{size_around, no_refusal};
 ghost use Rattle.mp4_entry.specs.declared.visual.Visual.{Visual};
 ghost use Rattle.mp4_entry.specs.Hev1.{hev1_of, hev1_early, hev1_payload, hev1_with, hev1_of_config, default_hev1};
 ghost use Rattle.mp4_entry.specs.Hev1.{visual_of, IsInRangeHev1, IsWellFormedHev1, IsInRangeHevcConfig};
+ghost use Rattle.mp4_entry.specs.Hev1.{hev1_config_length};
 ghost use Rattle.mp4_entry.specs.Hev1Laws.{hev1_again};
 
 use crate::hvcc::HvcCBox;
@@ -17,6 +18,9 @@ use mp4_codec::{
     BoxType, ExactEq, FixedPointU16, InRange, Mp4Box, Put, ReadBox, Result, TryClone, WriteBox,
 };
 use std::alloc::Global;
+
+/// The bytes of the entry of a configuration, its header included.
+pub(crate) const HEV1_SIZE: u64 = 117;
 
 /// The sample entry of HEVC video, `hev1` (ISO/IEC 14496-15, 8.4.1).
 ///
@@ -115,7 +119,7 @@ impl Hev1Box {
     #[tactic(auto, using(crate::specs::Hev1Laws::hev1_of_config_size))]
     pub fn new(alloc: Global, config: &HevcConfig) -> Result<Self>
         ensures value { Answers (λ b. b) result (Ok (hev1_of_config config.now)) }
-        ensures size { IfOk result (λ b. 8 + length (hev1_payload b) ≡ 117) }
+        ensures size { IfOk result (λ b. 8 + length (hev1_payload b) ≡ hev1_config_length config.now) }
     {
         let hvcc = HvcCBox::default(alloc)?;
         Ok(Hev1Box::with(Visual::of_size(config.width, config.height), hvcc))

@@ -30,7 +30,7 @@ pub use avc_profile::AvcProfile;
 pub use avc1::{Avc1Box, AvcConfig};
 pub use avcc::{AvcCBox, NalUnit};
 pub use channel_config::ChannelConfig;
-pub use config::MediaConfig;
+pub use config::{MediaConfig, entry_size};
 pub use esds::{
     DecoderConfigDescriptor, DecoderSpecificDescriptor, ESDescriptor, EsdsBox, SLConfigDescriptor,
 };
