@@ -25,8 +25,12 @@ use Rattle.mp4_entry.specs.Mp4a.{mp4a_of, mp4a_payload, mp4a_refusal, IsInRangeM
 use Rattle.mp4_entry.specs.Mp4aLaws.{mp4a_again}
 use Rattle.mp4_entry.specs.Tx3g.{tx3g_of, tx3g_payload, IsInRangeTx3g, IsWellFormedTx3g}
 use Rattle.mp4_entry.specs.Tx3gLaws.{tx3g_again}
-use Rattle.mp4_entry.specs.Stsd.{SampleEntry, avc_video, hevc_video, vp9_video, aac_sound, text, no_known, entry_of}
-use Rattle.mp4_entry.specs.Stsd.{entry_in, stsd_of, present_or}
+use Rattle.mp4_entry.specs.declared.sample_entry.SampleEntry.{SampleEntry}
+use Rattle.mp4_entry.specs.declared.sample_entry.SampleEntry.TheVariants.{AvcVideo as avc_video}
+use Rattle.mp4_entry.specs.declared.sample_entry.SampleEntry.TheVariants.{HevcVideo as hevc_video}
+use Rattle.mp4_entry.specs.declared.sample_entry.SampleEntry.TheVariants.{Vp9Video as vp9_video, AacSound as aac_sound}
+use Rattle.mp4_entry.specs.declared.sample_entry.SampleEntry.TheVariants.{Text as text, NoKnown as no_known}
+use Rattle.mp4_entry.specs.Stsd.{entry_of, entry_in, stsd_of, present_or}
 use Rattle.mp4_entry.specs.Stsd.{first_entry, entry_count, entry_bytes, entry_refusal, stsd_payload, stsd_refusal}
 use Rattle.mp4_entry.specs.Stsd.{IsInRangeStsd, IsWellFormedEntry, IsCanonicalStsd}
 

@@ -17,9 +17,10 @@ use crate::vp09::Vp09Box;
 use mp4_codec::{BoxType, Child, Mp4Box, Put, ReadBox, Result, WriteBox};
 use std::alloc::Global;
 
-/// A sample entry; an entry of another type is as none.
+/// A sample entry; an entry of another type is as none. The crate doesn't export it: it is public so that definitions
+/// of the crates above can speak of it, as of how samples are coded.
 #[derive(Drop)]
-pub(crate) enum SampleEntry {
+pub enum SampleEntry {
     AvcVideo(Avc1Box),
     HevcVideo(Hev1Box),
     Vp9Video(Vp09Box),
