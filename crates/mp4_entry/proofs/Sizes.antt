@@ -1,6 +1,7 @@
 -- The lengths of the entries, for the check.
 use Rattle.mp4_codec.specs.FramingLaws.{length-box_bytes}
 use Rattle.mp4_codec.specs.PutLaws.{nothing_added}
+use Rattle.mp4_entry.specs.VisualLaws.{length-visual_entry_payload}
 use Rattle.mp4_entry.specs.AvccLaws.{length-unit, length-avcc_payload}
 use Rattle.mp4_entry.specs.Avc1Laws.{length-avc1_payload}
 use Rattle.mp4_entry.specs.HvccLaws.{length-hvcc_payload}
@@ -13,6 +14,7 @@ use Rattle.mp4_entry.specs.EsdsLaws.{length-esds_payload}
 use Rattle.mp4_entry.specs.Mp4aLaws.{length-mp4a_payload}
 
 pub ruleset sizes = (
+  length-visual_entry_payload,
   length-unit,
   length-avcc_payload,
   length-avc1_payload,

@@ -1,17 +1,16 @@
 -- The sample entry of AVC video (ISO/IEC 14496-15, 5.4.2).
-use Rattle.std.specs.Prelude.{ℕ, ◌^◌, ◌<◌, List, Option, Result, Ok}
+use Rattle.std.specs.Prelude.{ℕ, ◌+◌, ◌^◌, ◌<◌, List, length, Option, Result}
 use Rattle.std.specs.List.{AllByRecursion}
 use Rattle.mp4_codec.specs.declared.box_type.BoxType.TheVariants.{AvcCBox as avcc}
-use Rattle.mp4_codec.specs.Cause.{Cause, ◌>>=◌}
-use Rattle.mp4_codec.specs.Bytes.{◌⧺◌}
-use Rattle.mp4_codec.specs.Boxes.{box_bytes, IsCanonical}
-use Rattle.mp4_codec.specs.Early.{Early, early_gathered, early_last, at_once, refused_at_once, ◌and_then◌, ◌before◌}
-use Rattle.mp4_codec.specs.Children.{children, gathered, fault_in, last_of}
+use Rattle.mp4_codec.specs.Cause.{Cause, seen}
+use Rattle.mp4_codec.specs.Boxes.{IsCanonical}
+use Rattle.mp4_codec.specs.Early.{Early, refused_at_once}
 use Rattle.mp4_entry.specs.declared.visual.Visual.{Visual}
 use Rattle.mp4_entry.specs.declared.avcc.AvcCBox.{AvcCBox}
 use Rattle.mp4_entry.specs.declared.avc1.AvcConfig.{AvcConfig}
 use Rattle.mp4_entry.specs.declared.avc1.Avc1Box.{Avc1Box}
-use Rattle.mp4_entry.specs.Visual.{visual_at, visual, visual_of_size, required, IsInRangeVisual}
+use Rattle.mp4_entry.specs.Visual.{visual_entry, visual_entry_early, visual_entry_payload, visual_of_size}
+use Rattle.mp4_entry.specs.Visual.{IsInRangeVisual}
 use Rattle.mp4_entry.specs.Avcc.{avcc_of, avcc_payload, avcc_refusal, default_avcc, avcc_of_sets, IsInRangeAvcC}
 
 -- an entry that begins so, and holds this
@@ -27,20 +26,13 @@ avc1_with v avcc_box = record {
   avcc = avcc_box;
 }
 
--- the entry that a payload holds: what a visual entry begins with, and the last "avcC" of its children
+-- the entry that a payload holds: its configuration is the last "avcC" of its children
 unfoldable pub avc1_of : List ℕ → Result Avc1Box Cause
-avc1_of payload = do
-  begins ← visual_at payload
-  last_avcc ← gathered (fault_in avcc avcc_of) (last_of avcc avcc_of) (children begins.1)
-  avcc_box ← required last_avcc
-  Ok (avc1_with begins.0 avcc_box)
+avc1_of payload = seen (λ e. avc1_with e.0 e.1) (visual_entry avcc avcc_of payload)
 
--- what a payload shows of it before memory is requested: what it begins with, then its children
+-- what a payload shows of it before memory is requested
 unfoldable pub avc1_early : List ℕ → Early
-avc1_early payload =
-    visual_at payload before λ begins.
-    early_gathered (early_last avcc (λ child. refused_at_once (avcc_of child))) (children begins.1)
-    and_then at_once (avc1_of payload)
+avc1_early payload = visual_entry_early avcc (λ child. refused_at_once (avcc_of child)) avcc_of payload
 
 -- what the entry begins with
 abbrev pub visual_of : Avc1Box → Visual
@@ -56,7 +48,7 @@ visual_of b = record {
 
 -- the payload that holds an entry
 unfoldable pub avc1_payload : Avc1Box → List ℕ
-avc1_payload b = visual (visual_of b) ⧺ box_bytes avcc (avcc_payload b.avcc)
+avc1_payload b = visual_entry_payload (visual_of b) avcc (avcc_payload b.avcc)
 
 -- why an entry is not written: what it holds is not
 unfoldable pub avc1_refusal : Avc1Box → Option Cause
@@ -82,6 +74,10 @@ default_avc1 = avc1_with (visual_of_size 0 0) default_avcc
 -- the entry of a configuration: pictures of its size, with its parameter sets
 abbrev pub avc1_of_config : AvcConfig → Avc1Box
 avc1_of_config c = avc1_with (visual_of_size c.width c.height) (avcc_of_sets c.seq_param_set c.pic_param_set)
+
+-- the bytes of that entry, its header included
+abbrev pub avc1_config_length : AvcConfig → ℕ
+avc1_config_length c = 105 + length c.seq_param_set + length c.pic_param_set
 
 -- each number is within its type
 pub record IsInRangeAvcConfig (c : AvcConfig) : Type 0 where

@@ -1,5 +1,5 @@
 -- What the sample entry of a track is made from.
-use Rattle.std.specs.Prelude.{ℕ, ◌+◌, length, Option, Some, None, nat_lt, if◌then◌else◌}
+use Rattle.std.specs.Prelude.{ℕ, length, Option, Some, None, nat_lt, if◌then◌else◌}
 use Rattle.mp4_codec.specs.Cause.{Cause, unrepresentable, ◌or◌}
 use Rattle.mp4_entry.specs.declared.avc1.AvcConfig.{AvcConfig}
 use Rattle.mp4_entry.specs.declared.mp4a.AacConfig.{AacConfig}
@@ -12,10 +12,11 @@ use Rattle.mp4_entry.specs.declared.media_type.MediaType.TheVariants.{H264, H265
 use Rattle.mp4_entry.specs.declared.track_type.TrackType.{TrackType}
 use Rattle.mp4_entry.specs.declared.track_type.TrackType.TheVariants.{Video, Audio, Subtitle}
 use Rattle.mp4_entry.specs.Narrow.{past}
-use Rattle.mp4_entry.specs.Avc1.{IsInRangeAvcConfig}
-use Rattle.mp4_entry.specs.Hev1.{IsInRangeHevcConfig}
-use Rattle.mp4_entry.specs.Vp09.{IsInRangeVp9Config}
-use Rattle.mp4_entry.specs.Mp4a.{IsInRangeAacConfig}
+use Rattle.mp4_entry.specs.Avc1.{IsInRangeAvcConfig, avc1_config_length}
+use Rattle.mp4_entry.specs.Hev1.{IsInRangeHevcConfig, hev1_config_length}
+use Rattle.mp4_entry.specs.Vp09.{IsInRangeVp9Config, vp09_config_length}
+use Rattle.mp4_entry.specs.Mp4a.{IsInRangeAacConfig, mp4a_config_length}
+use Rattle.mp4_entry.specs.Tx3g.{tx3g_length}
 
 -- a sequence parameter set has its profile and level in the bytes 2 to 4, and the length of a set has 16 bits
 abbrev pub avc_refusal : AvcConfig → Option Cause
@@ -61,8 +62,8 @@ IsInRangeMediaConfig (Ttxt c) = Unit {0}
 
 -- the bytes of the entry that a configuration makes, its header included
 abbrev pub entry_length : MediaConfig → ℕ
-entry_length (Avc c) = 105 + length c.seq_param_set + length c.pic_param_set
-entry_length (Hevc c) = 117
-entry_length (Vp9 c) = 106
-entry_length (Aac c) = 75
-entry_length (Ttxt c) = 46
+entry_length (Avc c) = avc1_config_length c
+entry_length (Hevc c) = hev1_config_length c
+entry_length (Vp9 c) = vp09_config_length c
+entry_length (Aac c) = mp4a_config_length c
+entry_length (Ttxt c) = tx3g_length

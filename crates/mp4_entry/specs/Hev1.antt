@@ -1,16 +1,15 @@
 -- The sample entry of HEVC video (ISO/IEC 14496-15, 8.4.1).
-use Rattle.std.specs.Prelude.{ℕ, ◌^◌, ◌<◌, List, Result, Ok}
+use Rattle.std.specs.Prelude.{ℕ, ◌^◌, ◌<◌, List, Result}
 use Rattle.mp4_codec.specs.declared.box_type.BoxType.TheVariants.{HvcCBox as hvcc}
-use Rattle.mp4_codec.specs.Cause.{Cause, ◌>>=◌}
-use Rattle.mp4_codec.specs.Bytes.{◌⧺◌}
-use Rattle.mp4_codec.specs.Boxes.{box_bytes, IsCanonical, no_refusal}
-use Rattle.mp4_codec.specs.Early.{Early, early_gathered, early_last, at_once, refused_at_once, ◌and_then◌, ◌before◌}
-use Rattle.mp4_codec.specs.Children.{children, gathered, fault_in, last_of}
+use Rattle.mp4_codec.specs.Cause.{Cause, seen}
+use Rattle.mp4_codec.specs.Boxes.{IsCanonical, no_refusal}
+use Rattle.mp4_codec.specs.Early.{Early, refused_at_once}
 use Rattle.mp4_entry.specs.declared.visual.Visual.{Visual}
 use Rattle.mp4_entry.specs.declared.hvcc.HvcCBox.{HvcCBox}
 use Rattle.mp4_entry.specs.declared.hev1.HevcConfig.{HevcConfig}
 use Rattle.mp4_entry.specs.declared.hev1.Hev1Box.{Hev1Box}
-use Rattle.mp4_entry.specs.Visual.{visual_at, visual, visual_of_size, required, IsInRangeVisual}
+use Rattle.mp4_entry.specs.Visual.{visual_entry, visual_entry_early, visual_entry_payload, visual_of_size}
+use Rattle.mp4_entry.specs.Visual.{IsInRangeVisual}
 use Rattle.mp4_entry.specs.Hvcc.{hvcc_of, hvcc_payload, default_hvcc}
 
 -- an entry that begins so, and holds this
@@ -26,20 +25,13 @@ hev1_with v hvcc_box = record {
   hvcc = hvcc_box;
 }
 
--- the entry that a payload holds: what a visual entry begins with, and the last "hvcC" of its children
+-- the entry that a payload holds: its configuration is the last "hvcC" of its children
 unfoldable pub hev1_of : List ℕ → Result Hev1Box Cause
-hev1_of payload = do
-  begins ← visual_at payload
-  last_hvcc ← gathered (fault_in hvcc hvcc_of) (last_of hvcc hvcc_of) (children begins.1)
-  hvcc_box ← required last_hvcc
-  Ok (hev1_with begins.0 hvcc_box)
+hev1_of payload = seen (λ e. hev1_with e.0 e.1) (visual_entry hvcc hvcc_of payload)
 
--- what a payload shows of it before memory is requested: what it begins with, then its children
+-- what a payload shows of it before memory is requested
 unfoldable pub hev1_early : List ℕ → Early
-hev1_early payload =
-    visual_at payload before λ begins.
-    early_gathered (early_last hvcc (λ child. refused_at_once (hvcc_of child))) (children begins.1)
-    and_then at_once (hev1_of payload)
+hev1_early payload = visual_entry_early hvcc (λ child. refused_at_once (hvcc_of child)) hvcc_of payload
 
 -- what the entry begins with
 abbrev pub visual_of : Hev1Box → Visual
@@ -55,7 +47,7 @@ visual_of b = record {
 
 -- the payload that holds an entry
 unfoldable pub hev1_payload : Hev1Box → List ℕ
-hev1_payload b = visual (visual_of b) ⧺ box_bytes hvcc (hvcc_payload b.hvcc)
+hev1_payload b = visual_entry_payload (visual_of b) hvcc (hvcc_payload b.hvcc)
 
 -- each number is within its type
 pub record IsInRangeHev1 (b : Hev1Box) : Type 0 where
@@ -76,6 +68,10 @@ default_hev1 = hev1_with (visual_of_size 0 0) default_hvcc
 -- the entry of a configuration: pictures of its size
 abbrev pub hev1_of_config : HevcConfig → Hev1Box
 hev1_of_config c = hev1_with (visual_of_size c.width c.height) default_hvcc
+
+-- the bytes of that entry, its header included
+abbrev pub hev1_config_length : HevcConfig → ℕ
+hev1_config_length c = 117
 
 -- each number is within its type
 pub record IsInRangeHevcConfig (c : HevcConfig) : Type 0 where

@@ -154,6 +154,10 @@ mp4a_of_config c = record {
   esds = Some (esds_of_config c);
 }
 
+-- the bytes of that entry, its header included
+abbrev pub mp4a_config_length : AacConfig → ℕ
+mp4a_config_length c = 75
+
 -- each number is within its type
 pub record IsInRangeAacConfig (c : AacConfig) : Type 0 where
   pub bitrate : c.bitrate < 2 ^ 32

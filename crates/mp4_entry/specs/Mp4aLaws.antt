@@ -18,7 +18,7 @@ use Rattle.mp4_entry.specs.declared.mp4a.AacConfig.{AacConfig}
 use Rattle.mp4_entry.specs.Esds.{esds_of, esds_payload, esds_refusal, IsInRangeEsds, IsWellFormedEsds}
 use Rattle.mp4_entry.specs.EsdsLaws.{esds_again, length-esds_payload}
 use Rattle.mp4_entry.specs.Mp4a.{last_payload, or_wave_esds, child_esds, versioned_esds, mp4a_of, mp4a_payload}
-use Rattle.mp4_entry.specs.Mp4a.{mp4a_refusal, IsCanonicalMp4a, mp4a_of_config}
+use Rattle.mp4_entry.specs.Mp4a.{mp4a_refusal, IsCanonicalMp4a, mp4a_of_config, mp4a_config_length}
 
 pub length-mp4a_payload : (b : Mp4aBox) → length (mp4a_payload b) ≡ 28 + length (optional esds esds_payload b.esds)
 unfolding mp4a_payload
@@ -84,5 +84,5 @@ mp4a_again b f =
     ) refl
 
 -- the bytes of the entry of a configuration, its header included
-pub mp4a_of_config_size : (c : AacConfig) → 8 + length (mp4a_payload (mp4a_of_config c)) ≡ 75
+pub mp4a_of_config_size : (c : AacConfig) → 8 + length (mp4a_payload (mp4a_of_config c)) ≡ mp4a_config_length c
 mp4a_of_config_size c = simp (length-mp4a_payload, length-box_bytes, length-esds_payload) refl

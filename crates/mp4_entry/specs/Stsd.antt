@@ -12,26 +12,20 @@ use Rattle.mp4_entry.specs.declared.config.MediaConfig.TheVariants.{AvcConfig as
 use Rattle.mp4_entry.specs.declared.config.MediaConfig.TheVariants.{Vp9Config as Vp9, AacConfig as Aac}
 use Rattle.mp4_entry.specs.declared.config.MediaConfig.TheVariants.{TtxtConfig as Ttxt}
 use Rattle.mp4_entry.specs.declared.stsd.StsdBox.{StsdBox}
-use Rattle.mp4_entry.specs.declared.avc1.Avc1Box.{Avc1Box}
-use Rattle.mp4_entry.specs.declared.hev1.Hev1Box.{Hev1Box}
-use Rattle.mp4_entry.specs.declared.vp09.Vp09Box.{Vp09Box}
-use Rattle.mp4_entry.specs.declared.mp4a.Mp4aBox.{Mp4aBox}
-use Rattle.mp4_entry.specs.declared.tx3g.Tx3gBox.{Tx3gBox}
+use Rattle.mp4_entry.specs.declared.sample_entry.EntryRef.{EntryRef}
+use Rattle.mp4_entry.specs.declared.sample_entry.EntryRef.TheVariants.{AvcVideo, HevcVideo, Vp9Video, AacSound, Text}
+use Rattle.mp4_entry.specs.declared.sample_entry.EntryRef.TheVariants.{NoKnown}
+use Rattle.mp4_entry.specs.declared.sample_entry.SampleEntry.{SampleEntry}
+use Rattle.mp4_entry.specs.declared.sample_entry.SampleEntry.TheVariants.{AvcVideo as avc_video}
+use Rattle.mp4_entry.specs.declared.sample_entry.SampleEntry.TheVariants.{HevcVideo as hevc_video}
+use Rattle.mp4_entry.specs.declared.sample_entry.SampleEntry.TheVariants.{Vp9Video as vp9_video, AacSound as aac_sound}
+use Rattle.mp4_entry.specs.declared.sample_entry.SampleEntry.TheVariants.{Text as text, NoKnown as no_known}
 use Rattle.mp4_entry.specs.Avc1.{avc1_of, avc1_early, avc1_payload, avc1_refusal, IsInRangeAvc1, IsWellFormedAvc1}
 use Rattle.mp4_entry.specs.Avc1.{avc1_of_config}
 use Rattle.mp4_entry.specs.Hev1.{hev1_of, hev1_early, hev1_payload, IsInRangeHev1, IsWellFormedHev1, hev1_of_config}
 use Rattle.mp4_entry.specs.Vp09.{vp09_of, vp09_early, vp09_payload, IsInRangeVp09, IsWellFormedVp09, vp09_of_config}
 use Rattle.mp4_entry.specs.Mp4a.{mp4a_of, mp4a_payload, mp4a_refusal, IsInRangeMp4a, IsWellFormedMp4a, mp4a_of_config}
 use Rattle.mp4_entry.specs.Tx3g.{tx3g_of, tx3g_payload, IsInRangeTx3g, IsWellFormedTx3g, default_tx3g}
-
--- a sample entry; an entry of another type is as none
-pub data SampleEntry : Type 0 where
-  avc_video : Avc1Box → SampleEntry
-  hevc_video : Hev1Box → SampleEntry
-  vp9_video : Vp09Box → SampleEntry
-  aac_sound : Mp4aBox → SampleEntry
-  text : Tx3gBox → SampleEntry
-  no_known : SampleEntry
 
 -- the entry that a child is
 unfoldable pub entry_of : ChildBox → Result SampleEntry Cause
@@ -108,14 +102,19 @@ first_entry b =
     present_or b.mp4a aac_sound (
     present_or b.tx3g text no_known))))
 
+-- the entry that is borrowed
+abbrev pub borrowed_entry : EntryRef → SampleEntry
+borrowed_entry (AvcVideo e) = avc_video e.now
+borrowed_entry (HevcVideo e) = hevc_video e.now
+borrowed_entry (Vp9Video e) = vp9_video e.now
+borrowed_entry (AacSound e) = aac_sound e.now
+borrowed_entry (Text e) = text e.now
+borrowed_entry NoKnown = no_known
+
 -- how many entries are written
 abbrev pub entry_count : SampleEntry → ℕ
-entry_count (avc_video e) = 1
-entry_count (hevc_video e) = 1
-entry_count (vp9_video e) = 1
-entry_count (aac_sound e) = 1
-entry_count (text e) = 1
 entry_count no_known = 0
+entry_count entry = 1
 
 -- the box of an entry
 abbrev pub entry_bytes : SampleEntry → List ℕ

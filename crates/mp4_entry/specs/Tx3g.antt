@@ -38,3 +38,7 @@ default_style = 0 ∷ 0 ∷ 0 ∷ 0 ∷ 0x01 ∷ 0xff ∷ 0 ∷ 0 ∷ 0 ∷ 0xff
 -- the entry of the first data reference
 abbrev pub default_tx3g : Tx3gBox
 default_tx3g = record { data_reference_index = 1; raw = default_style }
+
+-- the bytes of each entry, its header included
+abbrev pub tx3g_length : ℕ
+tx3g_length = 46

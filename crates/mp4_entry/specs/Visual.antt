@@ -1,7 +1,11 @@
--- What visual sample entries begin with, in front of their children (ISO/IEC 14496-12, 12.1.3).
+-- Visual sample entries: what they begin with, and the configuration of their decoder (ISO/IEC 14496-12, 12.1.3).
 use Rattle.std.specs.Prelude.{ℕ, ◌^◌, ◌<◌, List, Option, Some, None, Result, Ok, Err}
+use Rattle.mp4_codec.specs.declared.box_type.BoxType.{BoxType}
 use Rattle.mp4_codec.specs.Cause.{Cause, invalid_data, ◌>>=◌}
 use Rattle.mp4_codec.specs.Bytes.{Reader, number_at, bytes_at, number, zeros, ◌⧺◌}
+use Rattle.mp4_codec.specs.Boxes.{box_bytes}
+use Rattle.mp4_codec.specs.Children.{children, gathered, fault_in, last_of}
+use Rattle.mp4_codec.specs.Early.{Early, early_gathered, early_last, at_once, ◌and_then◌, ◌before◌}
 use Rattle.mp4_entry.specs.declared.visual.Visual.{Visual}
 
 -- the next beginning of an entry: the number of the data reference, the size of a picture, its pixels an inch both
@@ -53,6 +57,26 @@ visual v =
 abbrev pub required : {A : Type 0} → Option A → Result A Cause
 required None = Err invalid_data
 required (Some x) = Ok x
+
+-- the visual entry that a payload holds, by the type of its configuration and by what that one's payload means: what
+-- it begins with, and the last configuration of its children
+unfoldable pub visual_entry : {C : Type 0} → BoxType → (List ℕ → Result C Cause) → List ℕ → Result (Visual × C) Cause
+visual_entry kind value payload = do
+  begins ← visual_at payload
+  last_config ← gathered (fault_in kind value) (last_of kind value) (children begins.1)
+  config ← required last_config
+  Ok (begins.0, config)
+
+-- what a payload shows of it before memory is requested: what it begins with, then its children
+unfoldable pub visual_entry_early : {C : Type 0} → BoxType → (List ℕ → Early) → (List ℕ → Result C Cause) → List ℕ
+    → Early
+visual_entry_early kind early value payload =
+    visual_at payload before λ begins.
+    early_gathered (early_last kind early) (children begins.1) and_then at_once (visual_entry kind value payload)
+
+-- the payload that holds a visual entry, by the type and the payload of its configuration
+unfoldable pub visual_entry_payload : Visual → BoxType → List ℕ → List ℕ
+visual_entry_payload v kind config = visual v ⧺ box_bytes kind config
 
 -- each number is within its type
 pub record IsInRangeVisual (v : Visual) : Type 0 where

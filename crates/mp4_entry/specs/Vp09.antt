@@ -1,16 +1,15 @@
 -- The sample entry of VP9 video (the VP codec binding to ISO media files).
-use Rattle.std.specs.Prelude.{ℕ, ◌^◌, ◌<◌, List, Result, Ok}
+use Rattle.std.specs.Prelude.{ℕ, ◌^◌, ◌<◌, List, Result}
 use Rattle.mp4_codec.specs.declared.box_type.BoxType.TheVariants.{VpccBox as vpcc}
-use Rattle.mp4_codec.specs.Cause.{Cause, ◌>>=◌}
-use Rattle.mp4_codec.specs.Bytes.{◌⧺◌}
-use Rattle.mp4_codec.specs.Boxes.{box_bytes, IsCanonical, no_refusal}
-use Rattle.mp4_codec.specs.Early.{Early, early_gathered, early_last, at_once, refused_at_once, ◌and_then◌, ◌before◌}
-use Rattle.mp4_codec.specs.Children.{children, gathered, fault_in, last_of}
+use Rattle.mp4_codec.specs.Cause.{Cause, seen}
+use Rattle.mp4_codec.specs.Boxes.{IsCanonical, no_refusal}
+use Rattle.mp4_codec.specs.Early.{Early, refused_at_once}
 use Rattle.mp4_entry.specs.declared.visual.Visual.{Visual}
 use Rattle.mp4_entry.specs.declared.vpcc.VpccBox.{VpccBox}
 use Rattle.mp4_entry.specs.declared.vp09.Vp9Config.{Vp9Config}
 use Rattle.mp4_entry.specs.declared.vp09.Vp09Box.{Vp09Box}
-use Rattle.mp4_entry.specs.Visual.{visual_at, visual, visual_of_size, required, IsInRangeVisual}
+use Rattle.mp4_entry.specs.Visual.{visual_entry, visual_entry_early, visual_entry_payload, visual_of_size}
+use Rattle.mp4_entry.specs.Visual.{IsInRangeVisual}
 use Rattle.mp4_entry.specs.Vpcc.{vpcc_of, vpcc_payload, default_vpcc}
 
 -- an entry that begins so, and holds this
@@ -26,20 +25,13 @@ vp09_with v vpcc_box = record {
   vpcc = vpcc_box;
 }
 
--- the entry that a payload holds: what a visual entry begins with, and the last "vpcC" of its children
+-- the entry that a payload holds: its configuration is the last "vpcC" of its children
 unfoldable pub vp09_of : List ℕ → Result Vp09Box Cause
-vp09_of payload = do
-  begins ← visual_at payload
-  last_vpcc ← gathered (fault_in vpcc vpcc_of) (last_of vpcc vpcc_of) (children begins.1)
-  vpcc_box ← required last_vpcc
-  Ok (vp09_with begins.0 vpcc_box)
+vp09_of payload = seen (λ e. vp09_with e.0 e.1) (visual_entry vpcc vpcc_of payload)
 
--- what a payload shows of it before memory is requested: what it begins with, then its children
+-- what a payload shows of it before memory is requested
 unfoldable pub vp09_early : List ℕ → Early
-vp09_early payload =
-    visual_at payload before λ begins.
-    early_gathered (early_last vpcc (λ child. refused_at_once (vpcc_of child))) (children begins.1)
-    and_then at_once (vp09_of payload)
+vp09_early payload = visual_entry_early vpcc (λ child. refused_at_once (vpcc_of child)) vpcc_of payload
 
 -- what the entry begins with
 abbrev pub visual_of : Vp09Box → Visual
@@ -55,7 +47,7 @@ visual_of b = record {
 
 -- the payload that holds an entry
 unfoldable pub vp09_payload : Vp09Box → List ℕ
-vp09_payload b = visual (visual_of b) ⧺ box_bytes vpcc (vpcc_payload b.vpcc)
+vp09_payload b = visual_entry_payload (visual_of b) vpcc (vpcc_payload b.vpcc)
 
 -- each number is within its type
 pub record IsInRangeVp09 (b : Vp09Box) : Type 0 where
@@ -76,6 +68,10 @@ default_vp09 = vp09_with (visual_of_size 0 0) default_vpcc
 -- the entry of a configuration: pictures of its size
 abbrev pub vp09_of_config : Vp9Config → Vp09Box
 vp09_of_config c = vp09_with (visual_of_size c.width c.height) default_vpcc
+
+-- the bytes of that entry, its header included
+abbrev pub vp09_config_length : Vp9Config → ℕ
+vp09_config_length c = 106
 
 -- each number is within its type
 pub record IsInRangeVp9Config (c : Vp9Config) : Type 0 where

@@ -9,15 +9,19 @@ ghost use Rattle.mp4_codec.specs.Boxes.{size_around};
 ghost use Rattle.mp4_entry.specs.declared.visual.Visual.{Visual};
 ghost use Rattle.mp4_entry.specs.Avc1.{avc1_of, avc1_early, avc1_payload, avc1_refusal, avc1_with, avc1_of_config};
 ghost use Rattle.mp4_entry.specs.Avc1.{default_avc1, visual_of, IsInRangeAvc1, IsWellFormedAvc1, IsInRangeAvcConfig};
+ghost use Rattle.mp4_entry.specs.Avc1.{avc1_config_length};
 ghost use Rattle.mp4_entry.specs.Avc1Laws.{avc1_again};
 
 use crate::avcc::AvcCBox;
-use crate::visual::{VISUAL_SIZE, Visual, put_visual, read_visual};
+use crate::visual::{VISUAL_SIZE, Visual, put_visual_entry, read_visual_entry};
 use mp4_codec::{
-    BoxType, Error, ExactEq, Fields, FixedPointU16, InRange, Items, Mp4Box, Put, ReadBox, Result,
-    TryClone, WriteBox, last_child,
+    BoxType, ExactEq, FixedPointU16, InRange, Items, Mp4Box, Put, ReadBox, Result, TryClone,
+    WriteBox,
 };
 use std::alloc::Global;
+
+/// The bytes of the entry of a configuration, its header included, without its parameter sets.
+pub(crate) const AVC1_SIZE: u64 = 105;
 
 /// The sample entry of AVC video, `avc1` (ISO/IEC 14496-15, 5.4.2).
 ///
@@ -124,9 +128,7 @@ impl Avc1Box {
     #[tactic(auto, using(crate::specs::Avc1Laws::avc1_of_config_size))]
     pub fn new(alloc: Global, config: &AvcConfig) -> Result<Self>
         ensures value { Answers (λ b. b) result (Ok (avc1_of_config config.now)) }
-        ensures size { IfOk result
-            (λ b. 8 + length (avc1_payload b) ≡ 105 + length config.now.seq_param_set
-            + length config.now.pic_param_set) }
+        ensures size { IfOk result (λ b. 8 + length (avc1_payload b) ≡ avc1_config_length config.now) }
     {
         let avcc = AvcCBox::of_sets(alloc, &config.seq_param_set, &config.pic_param_set)?;
         Ok(Avc1Box::with(Visual::of_size(config.width, config.height), avcc))
@@ -192,11 +194,7 @@ impl ReadBox for Avc1Box {
 
     #[tactic(auto, unfolding(crate::specs::Avc1::avc1_of, crate::specs::Avc1::avc1_early))]
     fn read_payload(alloc: Global, payload: &[u8]) -> Result<Self> {
-        let mut fields = Fields::new(payload);
-        let visual = read_visual(&mut fields)?;
-        let Some(avcc) = last_child(alloc, fields.rest())? else {
-            return Err(Error::InvalidData("an entry without its avcC"));
-        };
+        let (visual, avcc) = read_visual_entry(alloc, payload, "an entry without its avcC")?;
         Ok(Avc1Box::with(visual, avcc))
     }
 }
@@ -214,10 +212,9 @@ impl WriteBox for Avc1Box {
         Ok(())
     }
 
-    #[tactic(auto, using(crate::proofs::Sizes::sizes))]
+    #[tactic(auto, unfolding(crate::specs::Avc1::avc1_payload))]
     fn put_payload(&self, out: &mut Vec<u8>) -> Put {
-        put_visual(out, self.visual())?;
-        self.avcc.put_box(out)?;
+        put_visual_entry(out, self.visual(), &self.avcc)?;
         Ok(())
     }
 }

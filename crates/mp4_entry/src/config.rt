@@ -7,18 +7,18 @@ ghost use Rattle.mp4_entry.specs.contracts.vp09.Vp9ConfigExactEq.TheImpl.Laws.{l
 ghost use Rattle.mp4_entry.specs.contracts.mp4a.AacConfigExactEq.TheImpl.Laws.{lawful as aac_config_laws};
 ghost use Rattle.mp4_entry.specs.contracts.tx3g.TtxtConfigExactEq.TheImpl.Laws.{lawful as ttxt_config_laws};
 ghost use Rattle.mp4_entry.specs.contracts.config.MediaConfig.{enum as media_configs};
-ghost use Rattle.std.specs.Prelude.{◌≡◌, Ok};
+ghost use Rattle.std.specs.Prelude.{◌≡◌, ◌-◌, ◌^◌, Ok, min};
 ghost use Rattle.mp4_codec.specs.Cause.{Answers, Checks};
 ghost use Rattle.mp4_entry.specs.Config.{media_refusal, avc_refusal, track_type_in, media_type_in};
-ghost use Rattle.mp4_entry.specs.Config.{IsInRangeMediaConfig};
+ghost use Rattle.mp4_entry.specs.Config.{IsInRangeMediaConfig, entry_length};
 
-use crate::avc1::AvcConfig;
-use crate::hev1::HevcConfig;
+use crate::avc1::{AVC1_SIZE, AvcConfig};
+use crate::hev1::{HEV1_SIZE, HevcConfig};
 use crate::media_type::MediaType;
-use crate::mp4a::AacConfig;
+use crate::mp4a::{AacConfig, MP4A_SIZE};
 use crate::track_type::TrackType;
-use crate::tx3g::TtxtConfig;
-use crate::vp09::Vp9Config;
+use crate::tx3g::{TX3G_SIZE, TtxtConfig};
+use crate::vp09::{VP09_SIZE, Vp9Config};
 use mp4_codec::{Error, ExactEq, InRange, Result, TryClone};
 
 /// The longest parameter set, whose length has 16 bits.
@@ -108,6 +108,23 @@ impl MediaConfig {
             MediaConfig::AacConfig(_) => MediaType::AAC,
             MediaConfig::TtxtConfig(_) => MediaType::TTXT,
         }
+    }
+}
+
+/// How many bytes the entry of a configuration has, its header included; they stop at 2^64 - 1. It requests no memory.
+pub fn entry_size(config: &MediaConfig) -> u64
+    ensures { result ≡ min (entry_length config.now) (2 ^ 64 - 1) }
+{
+    match config {
+        MediaConfig::AvcConfig(config) => {
+            let sequence = config.seq_param_set.len() as u64;
+            let picture = config.pic_param_set.len() as u64;
+            sequence.saturating_add(picture).saturating_add(AVC1_SIZE)
+        }
+        MediaConfig::HevcConfig(_) => HEV1_SIZE,
+        MediaConfig::Vp9Config(_) => VP09_SIZE,
+        MediaConfig::AacConfig(_) => MP4A_SIZE,
+        MediaConfig::TtxtConfig(_) => TX3G_SIZE,
     }
 }
 

@@ -9,15 +9,18 @@ ghost use Rattle.mp4_codec.specs.Boxes.{size_around, no_refusal};
 ghost use Rattle.mp4_entry.specs.declared.visual.Visual.{Visual};
 ghost use Rattle.mp4_entry.specs.Hev1.{hev1_of, hev1_early, hev1_payload, hev1_with, hev1_of_config, default_hev1};
 ghost use Rattle.mp4_entry.specs.Hev1.{visual_of, IsInRangeHev1, IsWellFormedHev1, IsInRangeHevcConfig};
+ghost use Rattle.mp4_entry.specs.Hev1.{hev1_config_length};
 ghost use Rattle.mp4_entry.specs.Hev1Laws.{hev1_again};
 
 use crate::hvcc::HvcCBox;
-use crate::visual::{VISUAL_SIZE, Visual, put_visual, read_visual};
+use crate::visual::{VISUAL_SIZE, Visual, put_visual_entry, read_visual_entry};
 use mp4_codec::{
-    BoxType, Error, ExactEq, Fields, FixedPointU16, InRange, Mp4Box, Put, ReadBox, Result,
-    TryClone, WriteBox, last_child,
+    BoxType, ExactEq, FixedPointU16, InRange, Mp4Box, Put, ReadBox, Result, TryClone, WriteBox,
 };
 use std::alloc::Global;
+
+/// The bytes of the entry of a configuration, its header included.
+pub(crate) const HEV1_SIZE: u64 = 117;
 
 /// The sample entry of HEVC video, `hev1` (ISO/IEC 14496-15, 8.4.1).
 ///
@@ -116,7 +119,7 @@ impl Hev1Box {
     #[tactic(auto, using(crate::specs::Hev1Laws::hev1_of_config_size))]
     pub fn new(alloc: Global, config: &HevcConfig) -> Result<Self>
         ensures value { Answers (λ b. b) result (Ok (hev1_of_config config.now)) }
-        ensures size { IfOk result (λ b. 8 + length (hev1_payload b) ≡ 117) }
+        ensures size { IfOk result (λ b. 8 + length (hev1_payload b) ≡ hev1_config_length config.now) }
     {
         let hvcc = HvcCBox::default(alloc)?;
         Ok(Hev1Box::with(Visual::of_size(config.width, config.height), hvcc))
@@ -181,11 +184,7 @@ impl ReadBox for Hev1Box {
 
     #[tactic(auto, unfolding(crate::specs::Hev1::hev1_of, crate::specs::Hev1::hev1_early))]
     fn read_payload(alloc: Global, payload: &[u8]) -> Result<Self> {
-        let mut fields = Fields::new(payload);
-        let visual = read_visual(&mut fields)?;
-        let Some(hvcc) = last_child(alloc, fields.rest())? else {
-            return Err(Error::InvalidData("an entry without its hvcC"));
-        };
+        let (visual, hvcc) = read_visual_entry(alloc, payload, "an entry without its hvcC")?;
         Ok(Hev1Box::with(visual, hvcc))
     }
 }
@@ -201,10 +200,9 @@ impl WriteBox for Hev1Box {
         Ok(())
     }
 
-    #[tactic(auto, using(crate::proofs::Sizes::sizes))]
+    #[tactic(auto, unfolding(crate::specs::Hev1::hev1_payload))]
     fn put_payload(&self, out: &mut Vec<u8>) -> Put {
-        put_visual(out, self.visual())?;
-        self.hvcc.put_box(out)?;
+        put_visual_entry(out, self.visual(), &self.hvcc)?;
         Ok(())
     }
 }

@@ -32,9 +32,8 @@ pub fn numbers_have_one_value()
     ensures object_type { (n type : ℕ) → object_type_of n ≡ Ok type → n ≡ type }
 {}
 
-/// The sample description of a configuration has 16 bytes and those of its entry, its headers included: 105 and the
-/// lengths of both parameter sets for AVC, 117 for HEVC, 106 for VP9, 75 for AAC, 46 for text. It is written where the
-/// configuration isn't refused.
+/// The sample description of a configuration has 16 bytes and those of its entry, its headers included. It is written
+/// where the configuration isn't refused.
 pub fn configurations_are_written()
     ensures size { (c : MediaConfig) → length (stsd_payload (stsd_of_config c)) ≡ 8 + entry_length c }
     ensures written { (c : MediaConfig) → media_refusal c ≡ None

@@ -16,6 +16,7 @@ mod laws;
 mod media_type;
 mod mp4a;
 mod narrow;
+mod sample_entry;
 mod sample_freq_index;
 mod stsd;
 mod track_type;
@@ -29,7 +30,7 @@ pub use avc_profile::AvcProfile;
 pub use avc1::{Avc1Box, AvcConfig};
 pub use avcc::{AvcCBox, NalUnit};
 pub use channel_config::ChannelConfig;
-pub use config::MediaConfig;
+pub use config::{MediaConfig, entry_size};
 pub use esds::{
     DecoderConfigDescriptor, DecoderSpecificDescriptor, ESDescriptor, EsdsBox, SLConfigDescriptor,
 };

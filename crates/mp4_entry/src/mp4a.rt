@@ -14,6 +14,7 @@ ghost use Rattle.mp4_codec.specs.Boxes.{size_around};
 ghost use Rattle.mp4_entry.specs.Mp4a.{as_it_is, last_payload, found_esds, direct_esds, child_esds, versioned_esds};
 ghost use Rattle.mp4_entry.specs.Mp4a.{mp4a_of, mp4a_payload, mp4a_refusal, IsInRangeMp4a, IsWellFormedMp4a};
 ghost use Rattle.mp4_entry.specs.Mp4a.{default_mp4a, samplerate_of, esds_of_config, mp4a_of_config, IsInRangeAacConfig};
+ghost use Rattle.mp4_entry.specs.Mp4a.{mp4a_config_length};
 ghost use Rattle.mp4_entry.specs.Mp4aLaws.{mp4a_again};
 ghost use Rattle.mp4_codec.specs.Early.{at_once};
 
@@ -29,6 +30,9 @@ use mp4_codec::{
     put_zeros,
 };
 use std::alloc::Global;
+
+/// The bytes of the entry of a configuration, its header included.
+pub(crate) const MP4A_SIZE: u64 = 75;
 
 /// The sample entry of MPEG-4 audio, `mp4a` (ISO/IEC 14496-14, 5.6; ISO/IEC 14496-12, 12.2.3).
 ///
@@ -209,7 +213,7 @@ impl Mp4aBox {
     #[tactic(auto, using(crate::specs::Mp4aLaws::mp4a_of_config_size))]
     pub fn new(config: &AacConfig) -> Self
         ensures value { result ≡ mp4a_of_config config.now }
-        ensures size { 8 + length (mp4a_payload result) ≡ 75 }
+        ensures size { 8 + length (mp4a_payload result) ≡ mp4a_config_length config.now }
     {
         Mp4aBox {
             data_reference_index: 1,

@@ -15,6 +15,9 @@ use mp4_codec::{
 };
 use std::alloc::Global;
 
+/// The bytes of each entry, its header included.
+pub(crate) const TX3G_SIZE: u64 = 46;
+
 /// How a text track is begun; there is nothing to choose.
 #[derive(Clone, Copy, Debug, PartialEq, Eq)]
 pub struct TtxtConfig {}
@@ -63,12 +66,12 @@ impl Tx3gBox {
         BoxType::Tx3gBox
     }
 
-    /// The bytes of the box, its header included: 46.
+    /// The bytes of the box, its header included.
     #[tactic(auto, using(crate::proofs::Sizes::sizes))]
     pub fn get_size(&self) -> u64
         ensures { result ≡ size_around (tx3g_payload self.now) }
     {
-        46
+        TX3G_SIZE
     }
 }
 

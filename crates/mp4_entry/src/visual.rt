@@ -1,11 +1,17 @@
-//! What the visual sample entries begin with.
+//! The visual sample entries: what they begin with, and the configuration of their decoder.
 
-ghost use Rattle.std.specs.Prelude.{OnOk, ◌≡◌};
-ghost use Rattle.mp4_codec.specs.Cause.{Gives, Reads};
+ghost use Rattle.std.specs.Prelude.{OnOk, ◌≡◌, ◌+◌, ◌^◌, ◌<◌, length};
+ghost use Rattle.mp4_codec.specs.Cause.{Answers, Reads};
 ghost use Rattle.mp4_codec.specs.Bytes.{Appends};
+ghost use Rattle.mp4_codec.specs.Early.{Shows};
 ghost use Rattle.mp4_entry.specs.Visual.{visual_at, visual, visual_of_size, IsInRangeVisual};
+ghost use Rattle.mp4_entry.specs.Visual.{visual_entry, visual_entry_early, visual_entry_payload};
 
-use mp4_codec::{Field, Fields, FixedPointU16, InRange, Put, Result, put_u16, put_u32, put_zeros};
+use mp4_codec::{
+    Error, Field, Fields, FixedPointU16, InRange, Mp4Box, Put, ReadBox, Result, WriteBox,
+    last_child, put_u16, put_u32, put_zeros,
+};
+use std::alloc::Global;
 
 /// The bytes of a visual sample entry without its children: 8 of its header, and 78.
 pub(crate) const VISUAL_SIZE: u64 = 86;
@@ -97,5 +103,38 @@ pub(crate) fn put_visual(out: &mut Vec<u8>, v: Visual) -> Put
     put_zeros(out, 32)?;
     put_u16(out, v.depth)?;
     put_u16(out, 0xffff)?;
+    Ok(())
+}
+
+/// The visual sample entry of a payload: what it begins with, and the last configuration of its children.
+///
+/// Other children are skipped. The first configuration that is refused is the answer. A child that passes the end is
+/// `InvalidData`, and so is an entry without configuration, which has the text `missing`.
+#[tactic(auto, unfolding(crate::specs::Visual::visual_entry, crate::specs::Visual::visual_entry_early))]
+pub(crate) fn read_visual_entry<C: Mp4Box + ReadBox>(
+    alloc: Global,
+    payload: &[u8],
+    missing: &'static str,
+) -> Result<(Visual, C)>
+    ensures value { Answers (λ e. e) result (visual_entry C.KIND C.value payload.now) }
+    ensures early { Shows (visual_entry_early C.KIND C.early C.value payload.now) result }
+{
+    let mut fields = Fields::new(payload);
+    let visual = read_visual(&mut fields)?;
+    let Some(config) = last_child(alloc, fields.rest())? else {
+        return Err(Error::InvalidData(missing));
+    };
+    Ok((visual, config))
+}
+
+/// Adds the payload of such an entry.
+#[tactic(auto, using(crate::proofs::Sizes::sizes))]
+pub(crate) fn put_visual_entry<C: WriteBox>(out: &mut Vec<u8>, v: Visual, config: &C) -> Put
+    requires { 8 + length (visual_entry_payload v C.KIND (C.payload config.now)) < 2 ^ 32 }
+    ensures { OnOk result
+        (Appends out.old.items out.new.items (visual_entry_payload v C.KIND (C.payload config.now))) }
+{
+    put_visual(out, v)?;
+    config.put_box(out)?;
     Ok(())
 }

@@ -9,15 +9,18 @@ ghost use Rattle.mp4_codec.specs.Boxes.{size_around, no_refusal};
 ghost use Rattle.mp4_entry.specs.declared.visual.Visual.{Visual};
 ghost use Rattle.mp4_entry.specs.Vp09.{vp09_of, vp09_early, vp09_payload, vp09_with, vp09_of_config, default_vp09};
 ghost use Rattle.mp4_entry.specs.Vp09.{visual_of, IsInRangeVp09, IsWellFormedVp09, IsInRangeVp9Config};
+ghost use Rattle.mp4_entry.specs.Vp09.{vp09_config_length};
 ghost use Rattle.mp4_entry.specs.Vp09Laws.{vp09_again};
 
-use crate::visual::{VISUAL_SIZE, Visual, put_visual, read_visual};
+use crate::visual::{VISUAL_SIZE, Visual, put_visual_entry, read_visual_entry};
 use crate::vpcc::VpccBox;
 use mp4_codec::{
-    BoxType, Error, ExactEq, Fields, FixedPointU16, InRange, Mp4Box, Put, ReadBox, Result,
-    TryClone, WriteBox, last_child,
+    BoxType, ExactEq, FixedPointU16, InRange, Mp4Box, Put, ReadBox, Result, TryClone, WriteBox,
 };
 use std::alloc::Global;
+
+/// The bytes of the entry of a configuration, its header included.
+pub(crate) const VP09_SIZE: u64 = 106;
 
 /// The sample entry of VP9 video, `vp09` (the VP codec binding to ISO media files).
 ///
@@ -116,7 +119,7 @@ impl Vp09Box {
     #[tactic(auto, using(crate::specs::Vp09Laws::vp09_of_config_size))]
     pub fn new(alloc: Global, config: &Vp9Config) -> Result<Self>
         ensures value { Answers (λ b. b) result (Ok (vp09_of_config config.now)) }
-        ensures size { IfOk result (λ b. 8 + length (vp09_payload b) ≡ 106) }
+        ensures size { IfOk result (λ b. 8 + length (vp09_payload b) ≡ vp09_config_length config.now) }
     {
         let vpcc = VpccBox::default(alloc)?;
         Ok(Vp09Box::with(Visual::of_size(config.width, config.height), vpcc))
@@ -181,11 +184,7 @@ impl ReadBox for Vp09Box {
 
     #[tactic(auto, unfolding(crate::specs::Vp09::vp09_of, crate::specs::Vp09::vp09_early))]
     fn read_payload(alloc: Global, payload: &[u8]) -> Result<Self> {
-        let mut fields = Fields::new(payload);
-        let visual = read_visual(&mut fields)?;
-        let Some(vpcc) = last_child(alloc, fields.rest())? else {
-            return Err(Error::InvalidData("an entry without its vpcC"));
-        };
+        let (visual, vpcc) = read_visual_entry(alloc, payload, "an entry without its vpcC")?;
         Ok(Vp09Box::with(visual, vpcc))
     }
 }
@@ -201,10 +200,9 @@ impl WriteBox for Vp09Box {
         Ok(())
     }
 
-    #[tactic(auto, using(crate::proofs::Sizes::sizes))]
+    #[tactic(auto, unfolding(crate::specs::Vp09::vp09_payload))]
     fn put_payload(&self, out: &mut Vec<u8>) -> Put {
-        put_visual(out, self.visual())?;
-        self.vpcc.put_box(out)?;
+        put_visual_entry(out, self.visual(), &self.vpcc)?;
         Ok(())
     }
 }

@@ -34,7 +34,7 @@ use Rattle.mp4_entry.specs.Narrow.{past}
 use Rattle.mp4_entry.specs.Esds.{esds_refusal, specific_refusal}
 use Rattle.mp4_entry.specs.EsdsLaws.{length-esds_payload}
 use Rattle.mp4_entry.specs.Mp4a.{samplerate_of, esds_of_config, mp4a_payload, mp4a_refusal, IsInRangeMp4a}
-use Rattle.mp4_entry.specs.Mp4a.{IsInRangeAacConfig}
+use Rattle.mp4_entry.specs.Mp4a.{IsInRangeAacConfig, mp4a_config_length}
 use Rattle.mp4_entry.specs.Mp4aLaws.{length-mp4a_payload}
 use Rattle.mp4_entry.specs.Config.{media_refusal, IsInRangeMediaConfig, entry_length}
 use Rattle.mp4_entry.proofs.ConfigLaws.{length-stsd_of_config, media_written}
@@ -49,7 +49,7 @@ buffer_size-small ss = omega arith
 
 -- the size of a buffer doesn't change the length of an entry
 
-length-mp4a_with : (size : ℕ) (c : AacConfig) → 8 + length (mp4a_payload (mp4a_with size c)) ≡ 75
+length-mp4a_with : (size : ℕ) (c : AacConfig) → 8 + length (mp4a_payload (mp4a_with size c)) ≡ mp4a_config_length c
 length-mp4a_with size c = simp (length-mp4a_payload, length-box_bytes, length-esds_payload) refl
 
 pub length-stsd_for : (media : MediaConfig) (ss : List SampleInfo)

@@ -88,13 +88,5 @@ pub(crate) fn entry_size(media: &MediaConfig) -> u64
     requires { entry_length media.now < 2 ^ 32 }
     ensures { result ≡ entry_length media.now }
 {
-    match media {
-        MediaConfig::AvcConfig(config) => {
-            105 + config.seq_param_set.len() as u64 + config.pic_param_set.len() as u64
-        }
-        MediaConfig::HevcConfig(_) => 117,
-        MediaConfig::Vp9Config(_) => 106,
-        MediaConfig::AacConfig(_) => 75,
-        MediaConfig::TtxtConfig(_) => 46,
-    }
+    mp4_entry::entry_size(media)
 }

@@ -2,7 +2,11 @@
 use Rattle.std.specs.Prelude.{Option, Some, None}
 use Rattle.mp4_entry.specs.declared.media_type.MediaType.{MediaType}
 use Rattle.mp4_entry.specs.declared.media_type.MediaType.TheVariants.{H264, H265, VP9, AAC, TTXT}
-use Rattle.mp4_entry.specs.Stsd.{SampleEntry, avc_video, hevc_video, vp9_video, aac_sound, text, no_known}
+use Rattle.mp4_entry.specs.declared.sample_entry.SampleEntry.{SampleEntry}
+use Rattle.mp4_entry.specs.declared.sample_entry.SampleEntry.TheVariants.{AvcVideo as avc_video}
+use Rattle.mp4_entry.specs.declared.sample_entry.SampleEntry.TheVariants.{HevcVideo as hevc_video}
+use Rattle.mp4_entry.specs.declared.sample_entry.SampleEntry.TheVariants.{Vp9Video as vp9_video, AacSound as aac_sound}
+use Rattle.mp4_entry.specs.declared.sample_entry.SampleEntry.TheVariants.{Text as text, NoKnown as no_known}
 
 -- by the sample entry: the coding that it is of, and none where it is no known one
 abbrev pub coding_of : SampleEntry → Option MediaType
