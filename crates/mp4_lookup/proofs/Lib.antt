@@ -13,3 +13,4 @@ pub mod Seeking
 pub mod Syncs
 pub mod StartTimes
 pub mod Numbers
+pub mod Stretches

@@ -56,12 +56,11 @@ impl Mp4Track {
         ensures here { AreIn (tables_of self.now.trak) position.new }
         ensures added { IfSome run_position.new (IsAmongRuns (track_runs self.now)) }
     {
-        let mut counters = Counters::of(self);
-        let stbl = &self.trak.mdia.minf.stbl;
         if self.is_of_movie(k) {
-            return position.place(stbl, &self.index, self.trak.tkhd.track_id, k, &mut counters);
+            return position.place(self, k);
         }
-        let number = k - stbl.stsz.sample_count - 1;
+        let mut counters = Counters::of(self);
+        let number = k - self.trak.mdia.minf.stbl.stsz.sample_count - 1;
         let trafs = self.trafs.as_slice();
         let Some(run_sample) = self.runs.find_next(
             trafs,
