@@ -1,6 +1,6 @@
 //! Values that differ in one field are unequal, and each is equal to itself.
 
-use crate::asserts::{check, holds};
+use crate::asserts::{assert_that, check};
 use mp4_boxes::{EdtsBox, MdiaBox, MinfBox, MoovBox, StblBox, TrakBox};
 use mp4_codec::{
     BoxHeader, BoxType, Child, Error, ExactEq, FixedPointI8, FixedPointU8, FixedPointU16, FourCC,
@@ -30,7 +30,7 @@ use std::process::Abort;
 
 /// Ends the test unless two values are unequal, and each is equal to itself.
 fn differ<T: ExactEq + Drop>(rt: &impl Abort, case: u32, one: T, other: T) {
-    holds(rt, case, are_apart(&one, &other));
+    assert_that(rt, case, are_apart(&one, &other));
 }
 
 /// Whether the box of these bytes is unequal to the box where the byte at a place is another.
@@ -221,7 +221,7 @@ fn sample_entries_that_differ_in_a_field_are_unequal(rt: HostRuntime) {
     check(&rt, 1, avc_entries_differ(rt.alloc()));
     check(&rt, 2, hevc_entries_differ(rt.alloc()));
     check(&rt, 3, vp9_entries_differ(rt.alloc()));
-    holds(&rt, 4, descriptors_differ());
+    assert_that(&rt, 4, descriptors_differ());
     let sound = Mp4aBox {
         samplesize: 7,
         ..Mp4aBox::default()
@@ -513,8 +513,8 @@ fn malformed_fields_differ() -> bool {
 
 #[test]
 fn children_and_causes_of_fields_that_differ_are_unequal(rt: HostRuntime) {
-    holds(&rt, "children", children_differ());
-    holds(&rt, "causes", malformed_fields_differ());
+    assert_that(&rt, "children", children_differ());
+    assert_that(&rt, "causes", malformed_fields_differ());
 }
 
 const FIRST: BoxType = BoxType::MoovBox;
@@ -578,6 +578,6 @@ fn is_told(place: usize, error: &Error) -> bool {
 #[test]
 fn errors_that_differ_are_unequal(rt: HostRuntime) {
     for (place, error) in ERRORS.iter().enumerate() {
-        holds(&rt, place, is_told(place, error));
+        assert_that(&rt, place, is_told(place, error));
     }
 }

@@ -1,6 +1,6 @@
 //! What boxes are made with: the cursor, lists, texts, maps, copies, and the messages of errors.
 
-use crate::asserts::{check, holds, same};
+use crate::asserts::{assert_equal, assert_that, check};
 use mp4_codec::{
     BoxType, ByteCursor, Error, FixedPointI8, FixedPointU8, FixedPointU16, FourCC, HEADER_EXT_SIZE,
     HEADER_SIZE, Items, KeyedItems, Limit, Result, Text, TryClone,
@@ -19,18 +19,18 @@ use std::collections::HashMap;
 fn a_cursor_takes_within_its_bytes(rt: HostRuntime) {
     let bytes = [1, 2, 3, 4];
     let mut cursor = ByteCursor::new(&bytes);
-    same(&rt, cursor.position(), 0);
-    holds(&rt, 1, cursor.take(3) == Ok([1, 2, 3].as_slice()));
-    same(&rt, cursor.position(), 3);
-    holds(&rt, 2, cursor.take(2).is_err());
-    same(&rt, cursor.position(), 3);
-    same(&rt, cursor.rest().len(), 1);
+    assert_equal(&rt, cursor.position(), 0);
+    assert_that(&rt, 1, cursor.take(3) == Ok([1, 2, 3].as_slice()));
+    assert_equal(&rt, cursor.position(), 3);
+    assert_that(&rt, 2, cursor.take(2).is_err());
+    assert_equal(&rt, cursor.position(), 3);
+    assert_equal(&rt, cursor.rest().len(), 1);
     cursor.set_position(u64::MAX);
-    holds(&rt, 3, cursor.take(1).is_err());
-    same(&rt, cursor.position(), u64::MAX);
-    same(&rt, cursor.rest().len(), 0);
-    same(&rt, cursor.bytes().len(), 4);
-    same(&rt, (HEADER_SIZE, HEADER_EXT_SIZE), (8, 4));
+    assert_that(&rt, 3, cursor.take(1).is_err());
+    assert_equal(&rt, cursor.position(), u64::MAX);
+    assert_equal(&rt, cursor.rest().len(), 0);
+    assert_equal(&rt, cursor.bytes().len(), 4);
+    assert_equal(&rt, (HEADER_SIZE, HEADER_EXT_SIZE), (8, 4));
 }
 
 /// A list of two.
@@ -128,19 +128,19 @@ fn is_map_given_back(alloc: Global, rows: &[(Side, u32)]) -> Result<bool> {
 fn a_map_holds_what_was_inserted_last_in_any_order(rt: HostRuntime) {
     let alloc = rt.alloc();
     let rows = [(Side::East, 7), (Side::West, 9), (Side::East, 8)];
-    same(&rt, held(alloc, &rows, Side::East), Ok(Some(8)));
-    same(&rt, held(alloc, &rows, Side::West), Ok(Some(9)));
-    same(&rt, held(alloc, &rows, Side::North), Ok(None));
-    same(&rt, held(alloc, &[], Side::East), Ok(None));
-    same(
+    assert_equal(&rt, held(alloc, &rows, Side::East), Ok(Some(8)));
+    assert_equal(&rt, held(alloc, &rows, Side::West), Ok(Some(9)));
+    assert_equal(&rt, held(alloc, &rows, Side::North), Ok(None));
+    assert_equal(&rt, held(alloc, &[], Side::East), Ok(None));
+    assert_equal(
         &rt,
         (count(alloc, &rows), count(alloc, &[])),
         (Ok(2), Ok(0)),
     );
     let one = [(Side::South, 1), (Side::North, 2)];
     let other = [(Side::North, 2), (Side::South, 1)];
-    same(&rt, are_equal(alloc, &one, &other), Ok(true));
-    same(&rt, are_equal(alloc, &one, &other[..1]), Ok(false));
+    assert_equal(&rt, are_equal(alloc, &one, &other), Ok(true));
+    assert_equal(&rt, are_equal(alloc, &one, &other[..1]), Ok(false));
     check(&rt, 1, is_map_given_back(alloc, &one));
 }
 
@@ -230,10 +230,10 @@ fn descriptors_are_copied() -> bool {
 
 #[test]
 fn a_copy_of_a_part_of_a_box_is_equal(rt: HostRuntime) {
-    holds(&rt, "numbers", numbers_are_copied());
-    holds(&rt, "parts", parts_are_copied());
-    holds(&rt, "entries", entries_are_copied());
-    holds(&rt, "descriptors", descriptors_are_copied());
+    assert_that(&rt, "numbers", numbers_are_copied());
+    assert_that(&rt, "parts", parts_are_copied());
+    assert_that(&rt, "entries", entries_are_copied());
+    assert_that(&rt, "descriptors", descriptors_are_copied());
 }
 
 const MESSAGES: [(Error, &str); 21] = [

@@ -5,7 +5,7 @@
 mod broken_boxes;
 mod shared_lists;
 
-use crate::asserts::{check, holds};
+use crate::asserts::{assert_that, check};
 use mp4_boxes::{MdiaBox, MinfBox, MoovBox, StblBox, TrakBox};
 use mp4_codec::{
     BoxHeader, BoxType, Error, Fields, FourCC, Items, KeyedItems, Mp4Box, ReadBox, Result, Text,
@@ -341,49 +341,49 @@ fn a_refused_default_of_leaves_is_made_again(rt: HostRuntime) {
         DataBox::default(rt.alloc()),
         DataBox::default(rt.alloc()),
     );
-    holds(&rt, "DataBox", alike);
+    assert_that(&rt, "DataBox", alike);
     let alike = are_alike(
         &rt,
         DinfBox::default(rt.alloc()),
         DinfBox::default(rt.alloc()),
     );
-    holds(&rt, "DinfBox", alike);
+    assert_that(&rt, "DinfBox", alike);
     let alike = are_alike(
         &rt,
         DrefBox::default(rt.alloc()),
         DrefBox::default(rt.alloc()),
     );
-    holds(&rt, "DrefBox", alike);
+    assert_that(&rt, "DrefBox", alike);
     let alike = are_alike(
         &rt,
         ElstBox::default(rt.alloc()),
         ElstBox::default(rt.alloc()),
     );
-    holds(&rt, "ElstBox", alike);
+    assert_that(&rt, "ElstBox", alike);
     let alike = are_alike(
         &rt,
         FtypBox::default(rt.alloc()),
         FtypBox::default(rt.alloc()),
     );
-    holds(&rt, "FtypBox", alike);
+    assert_that(&rt, "FtypBox", alike);
     let alike = are_alike(
         &rt,
         HdlrBox::default(rt.alloc()),
         HdlrBox::default(rt.alloc()),
     );
-    holds(&rt, "HdlrBox", alike);
+    assert_that(&rt, "HdlrBox", alike);
     let alike = are_alike(
         &rt,
         MdhdBox::default(rt.alloc()),
         MdhdBox::default(rt.alloc()),
     );
-    holds(&rt, "MdhdBox", alike);
+    assert_that(&rt, "MdhdBox", alike);
     let alike = are_alike(
         &rt,
         UrlBox::default(rt.alloc()),
         UrlBox::default(rt.alloc()),
     );
-    holds(&rt, "UrlBox", alike);
+    assert_that(&rt, "UrlBox", alike);
 }
 
 #[test]
@@ -393,43 +393,43 @@ fn a_refused_default_of_tables_is_made_again(rt: HostRuntime) {
         Co64Box::default(rt.alloc()),
         Co64Box::default(rt.alloc()),
     );
-    holds(&rt, "Co64Box", alike);
+    assert_that(&rt, "Co64Box", alike);
     let alike = are_alike(
         &rt,
         CttsBox::default(rt.alloc()),
         CttsBox::default(rt.alloc()),
     );
-    holds(&rt, "CttsBox", alike);
+    assert_that(&rt, "CttsBox", alike);
     let alike = are_alike(
         &rt,
         StcoBox::default(rt.alloc()),
         StcoBox::default(rt.alloc()),
     );
-    holds(&rt, "StcoBox", alike);
+    assert_that(&rt, "StcoBox", alike);
     let alike = are_alike(
         &rt,
         StscBox::default(rt.alloc()),
         StscBox::default(rt.alloc()),
     );
-    holds(&rt, "StscBox", alike);
+    assert_that(&rt, "StscBox", alike);
     let alike = are_alike(
         &rt,
         StssBox::default(rt.alloc()),
         StssBox::default(rt.alloc()),
     );
-    holds(&rt, "StssBox", alike);
+    assert_that(&rt, "StssBox", alike);
     let alike = are_alike(
         &rt,
         StszBox::default(rt.alloc()),
         StszBox::default(rt.alloc()),
     );
-    holds(&rt, "StszBox", alike);
+    assert_that(&rt, "StszBox", alike);
     let alike = are_alike(
         &rt,
         SttsBox::default(rt.alloc()),
         SttsBox::default(rt.alloc()),
     );
-    holds(&rt, "SttsBox", alike);
+    assert_that(&rt, "SttsBox", alike);
 }
 
 #[test]
@@ -439,37 +439,37 @@ fn a_refused_default_of_entries_is_made_again(rt: HostRuntime) {
         Avc1Box::default(rt.alloc()),
         Avc1Box::default(rt.alloc()),
     );
-    holds(&rt, "Avc1Box", alike);
+    assert_that(&rt, "Avc1Box", alike);
     let alike = are_alike(
         &rt,
         AvcCBox::default(rt.alloc()),
         AvcCBox::default(rt.alloc()),
     );
-    holds(&rt, "AvcCBox", alike);
+    assert_that(&rt, "AvcCBox", alike);
     let alike = are_alike(
         &rt,
         Hev1Box::default(rt.alloc()),
         Hev1Box::default(rt.alloc()),
     );
-    holds(&rt, "Hev1Box", alike);
+    assert_that(&rt, "Hev1Box", alike);
     let alike = are_alike(
         &rt,
         HvcCBox::default(rt.alloc()),
         HvcCBox::default(rt.alloc()),
     );
-    holds(&rt, "HvcCBox", alike);
+    assert_that(&rt, "HvcCBox", alike);
     let alike = are_alike(
         &rt,
         Vp09Box::default(rt.alloc()),
         Vp09Box::default(rt.alloc()),
     );
-    holds(&rt, "Vp09Box", alike);
+    assert_that(&rt, "Vp09Box", alike);
     let alike = are_alike(
         &rt,
         VpccBox::default(rt.alloc()),
         VpccBox::default(rt.alloc()),
     );
-    holds(&rt, "VpccBox", alike);
+    assert_that(&rt, "VpccBox", alike);
 }
 
 #[test]
@@ -479,49 +479,49 @@ fn a_refused_default_of_fragments_is_made_again(rt: HostRuntime) {
         EmsgBox::default(rt.alloc()),
         EmsgBox::default(rt.alloc()),
     );
-    holds(&rt, "EmsgBox", alike);
+    assert_that(&rt, "EmsgBox", alike);
     let alike = are_alike(
         &rt,
         IlstBox::default(rt.alloc()),
         IlstBox::default(rt.alloc()),
     );
-    holds(&rt, "IlstBox", alike);
+    assert_that(&rt, "IlstBox", alike);
     let alike = are_alike(
         &rt,
         IlstItemBox::default(rt.alloc()),
         IlstItemBox::default(rt.alloc()),
     );
-    holds(&rt, "IlstItemBox", alike);
+    assert_that(&rt, "IlstItemBox", alike);
     let alike = are_alike(
         &rt,
         MetaBox::default(rt.alloc()),
         MetaBox::default(rt.alloc()),
     );
-    holds(&rt, "MetaBox", alike);
+    assert_that(&rt, "MetaBox", alike);
     let alike = are_alike(
         &rt,
         MoofBox::default(rt.alloc()),
         MoofBox::default(rt.alloc()),
     );
-    holds(&rt, "MoofBox", alike);
+    assert_that(&rt, "MoofBox", alike);
     let alike = are_alike(
         &rt,
         MvexBox::default(rt.alloc()),
         MvexBox::default(rt.alloc()),
     );
-    holds(&rt, "MvexBox", alike);
+    assert_that(&rt, "MvexBox", alike);
     let alike = are_alike(
         &rt,
         TrafBox::default(rt.alloc()),
         TrafBox::default(rt.alloc()),
     );
-    holds(&rt, "TrafBox", alike);
+    assert_that(&rt, "TrafBox", alike);
     let alike = are_alike(
         &rt,
         TrunBox::default(rt.alloc()),
         TrunBox::default(rt.alloc()),
     );
-    holds(&rt, "TrunBox", alike);
+    assert_that(&rt, "TrunBox", alike);
 }
 
 #[test]
@@ -531,31 +531,31 @@ fn a_refused_default_of_containers_is_made_again(rt: HostRuntime) {
         MdiaBox::default(rt.alloc()),
         MdiaBox::default(rt.alloc()),
     );
-    holds(&rt, "MdiaBox", alike);
+    assert_that(&rt, "MdiaBox", alike);
     let alike = are_alike(
         &rt,
         MinfBox::default(rt.alloc()),
         MinfBox::default(rt.alloc()),
     );
-    holds(&rt, "MinfBox", alike);
+    assert_that(&rt, "MinfBox", alike);
     let alike = are_alike(
         &rt,
         MoovBox::default(rt.alloc()),
         MoovBox::default(rt.alloc()),
     );
-    holds(&rt, "MoovBox", alike);
+    assert_that(&rt, "MoovBox", alike);
     let alike = are_alike(
         &rt,
         StblBox::default(rt.alloc()),
         StblBox::default(rt.alloc()),
     );
-    holds(&rt, "StblBox", alike);
+    assert_that(&rt, "StblBox", alike);
     let alike = are_alike(
         &rt,
         TrakBox::default(rt.alloc()),
         TrakBox::default(rt.alloc()),
     );
-    holds(&rt, "TrakBox", alike);
+    assert_that(&rt, "TrakBox", alike);
 }
 
 /// Whether a refused header leaves the buffer, and made again it is written.
@@ -744,8 +744,8 @@ fn a_refused_push_leaves_the_list(rt: HostRuntime) {
 #[test]
 fn a_refused_list_is_made_again(rt: HostRuntime) {
     if Items::<u32>::with_capacity(rt.alloc(), 3).is_err() {
-        holds(&rt, 1, is_refusal(&rt, &Error::OutOfMemory));
-        holds(&rt, 2, Items::<u32>::with_capacity(rt.alloc(), 3).is_ok());
+        assert_that(&rt, 1, is_refusal(&rt, &Error::OutOfMemory));
+        assert_that(&rt, 2, Items::<u32>::with_capacity(rt.alloc(), 3).is_ok());
     }
 }
 

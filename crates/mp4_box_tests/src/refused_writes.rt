@@ -1,6 +1,6 @@
 //! Values that no bytes give: those that are refused when they are written, and those that are written as another.
 
-use crate::asserts::{check, holds, same};
+use crate::asserts::{assert_equal, assert_that, check};
 use mp4_codec::{
     BoxHeader, BoxType, Error, Items, Limit, Result, Text, WriteBox, check_all, check_optional,
     check_value, check_version,
@@ -157,9 +157,9 @@ fn the_first_reason_in_written_order_is_the_answer(rt: HostRuntime) {
     check(&rt, "headers", first_is_the_answer(rt.alloc()));
     let none: Option<MvhdBox> = None;
     let late = movie_header(0, (0, 0, PAST));
-    same(&rt, check_optional(&none), Ok(()));
-    same(&rt, late.check(), Err(Error::TooLarge(Limit::Value)));
-    same(
+    assert_equal(&rt, check_optional(&none), Ok(()));
+    assert_equal(&rt, late.check(), Err(Error::TooLarge(Limit::Value)));
+    assert_equal(
         &rt,
         check_optional(&Some(late)),
         Err(Error::TooLarge(Limit::Value)),
@@ -173,17 +173,17 @@ fn is_unknown(version: u8) -> bool {
 
 #[test]
 fn a_version_is_0_or_1_and_a_number_fits_it(rt: HostRuntime) {
-    same(&rt, (check_version(0), check_version(1)), (Ok(()), Ok(())));
-    holds(&rt, "2 and 255", is_unknown(2) && is_unknown(255));
+    assert_equal(&rt, (check_version(0), check_version(1)), (Ok(()), Ok(())));
+    assert_that(&rt, "2 and 255", is_unknown(2) && is_unknown(255));
     for version in [0, 2] {
-        same(&rt, check_value(version, PAST - 1), Ok(()));
-        same(
+        assert_equal(&rt, check_value(version, PAST - 1), Ok(()));
+        assert_equal(
             &rt,
             check_value(version, PAST),
             Err(Error::TooLarge(Limit::Value)),
         );
     }
-    same(&rt, check_value(1, u64::MAX), Ok(()));
+    assert_equal(&rt, check_value(1, u64::MAX), Ok(()));
 }
 
 /// A header of track 9 with these flags, and all five fields or none.
@@ -379,7 +379,7 @@ fn refused_header(alloc: Global, size: u64) -> Result<Option<Error>> {
 fn a_header_of_a_size_below_8_is_not_written(rt: HostRuntime) {
     for size in 1..8 {
         let refused = refused_header(rt.alloc(), size);
-        holds(
+        assert_that(
             &rt,
             size,
             matches!(&refused, Ok(Some(Error::InvalidData(_)))),
@@ -452,7 +452,7 @@ fn a_value_that_no_bytes_give_is_written_as_another(rt: HostRuntime) {
     let mut leaf = TkhdBox::default();
     leaf.set_width(65535);
     leaf.set_height(1);
-    same(
+    assert_equal(
         &rt,
         (leaf.width.raw_value(), leaf.height.raw_value()),
         (0xffff_0000, 0x0001_0000),

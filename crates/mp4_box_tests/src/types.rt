@@ -1,6 +1,6 @@
 //! What sample entries and containers say of their types and sizes.
 
-use crate::asserts::{check, same};
+use crate::asserts::{assert_equal, check};
 use mp4_boxes::{MdiaBox, MinfBox, MoovBox, StblBox};
 use mp4_codec::{BoxType, Result};
 use mp4_entry::{Avc1Box, EsdsBox, Hev1Box, Mp4aBox, StsdBox, Tx3gBox, Vp09Box};
@@ -37,25 +37,25 @@ fn an_entry_says_its_type_and_size(rt: HostRuntime) {
     check(&rt, "hev1", is_hevc(rt.alloc()));
     check(&rt, "vp09", is_vp9(rt.alloc()));
     let esds = EsdsBox::default();
-    same(
+    assert_equal(
         &rt,
         (esds.get_type(), esds.get_size()),
         (BoxType::EsdsBox, 39),
     );
     let mp4a = Mp4aBox::default();
-    same(
+    assert_equal(
         &rt,
         (mp4a.get_type(), mp4a.get_size()),
         (BoxType::Mp4aBox, 36),
     );
     let tx3g = Tx3gBox::default();
-    same(
+    assert_equal(
         &rt,
         (tx3g.get_type(), tx3g.get_size()),
         (BoxType::Tx3gBox, 46),
     );
     let stsd = StsdBox::default();
-    same(
+    assert_equal(
         &rt,
         (stsd.get_type(), stsd.get_size()),
         (BoxType::StsdBox, 16),
@@ -107,7 +107,7 @@ fn a_container_says_its_type_and_size(rt: HostRuntime) {
     check(&rt, "mdia", are_media(rt.alloc()));
     check(&rt, "moov", is_movie(rt.alloc()));
     let udta = UdtaBox::default();
-    same(
+    assert_equal(
         &rt,
         (udta.get_type(), udta.get_size()),
         (BoxType::UdtaBox, 8),

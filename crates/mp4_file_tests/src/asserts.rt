@@ -10,7 +10,7 @@ pub fn check(rt: &impl Abort, case: impl Display + Drop, answer: Result<bool, Fi
 }
 
 /// Ends the test and prints both values, unless the answer is the expected one.
-pub fn same<T: PartialEq + Debug + Drop>(
+pub fn assert_equal<T: PartialEq + Debug + Drop>(
     rt: &impl Abort,
     answer: Result<T, FileError>,
     expected: T,

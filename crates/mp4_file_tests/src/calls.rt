@@ -1,7 +1,7 @@
 //! How often a source is called: a disk is asked once for its length, and then by a seek and a read for each block of a
 //! window, each part that is larger, and each sample.
 
-use crate::asserts::same;
+use crate::asserts::assert_equal;
 use crate::movies::{fragmented_file, many_boxes, padded_file, two_terabytes};
 use crate::sources::Disk;
 use mp4_media::{FileError, Mp4File, SeekSource};
@@ -49,11 +49,11 @@ fn calls_for_two_terabytes(alloc: Global) -> Result<u64, FileError> {
 #[test]
 fn a_file_is_opened_by_a_read_a_block(rt: HostRuntime) {
     let alloc = rt.alloc();
-    same(&rt, calls_for_a_block(alloc), 3);
-    same(&rt, calls_for_many_boxes(alloc), 7);
+    assert_equal(&rt, calls_for_a_block(alloc), 3);
+    assert_equal(&rt, calls_for_many_boxes(alloc), 7);
     // Blocks at the file's begin, at the movie and after it; and the movie, which is larger than a block.
-    same(&rt, calls_for_large_boxes(alloc), 9);
-    same(&rt, calls_for_two_terabytes(alloc), 3);
+    assert_equal(&rt, calls_for_large_boxes(alloc), 9);
+    assert_equal(&rt, calls_for_two_terabytes(alloc), 3);
 }
 
 /// How often the disk of a file is called by one sample, read into a buffer, and by one that isn't there.
@@ -68,8 +68,8 @@ fn calls_for_a_sample(alloc: Global, k: u32) -> Result<u64, FileError> {
 #[test]
 fn a_sample_is_read_by_one_seek_and_one_read(rt: HostRuntime) {
     let alloc = rt.alloc();
-    same(&rt, calls_for_a_sample(alloc, 1), 2);
-    same(&rt, calls_for_a_sample(alloc, 3), 2);
-    same(&rt, calls_for_a_sample(alloc, 7), 2);
-    same(&rt, calls_for_a_sample(alloc, 8), 0);
+    assert_equal(&rt, calls_for_a_sample(alloc, 1), 2);
+    assert_equal(&rt, calls_for_a_sample(alloc, 3), 2);
+    assert_equal(&rt, calls_for_a_sample(alloc, 7), 2);
+    assert_equal(&rt, calls_for_a_sample(alloc, 8), 0);
 }

@@ -1,7 +1,7 @@
 //! Files whose length changes after they were opened.
 
 use crate::answers::{has_same_boxes, is_read, kind_of, reads_track};
-use crate::asserts::{check, same};
+use crate::asserts::{assert_equal, check};
 use crate::movies::{SECOND_CHUNK, fragmented_file, movie_file, with_number};
 use crate::sources::Disk;
 use mp4_codec::Error;
@@ -94,5 +94,5 @@ fn kinds_of_a_shrunken_file(alloc: Global) -> Result<([Option<ErrorKind>; 3], bo
 fn a_sample_that_is_gone_is_an_error_of_reading(rt: HostRuntime) {
     let end = Some(ErrorKind::UnexpectedEof);
     let kinds = kinds_of_a_shrunken_file(rt.alloc());
-    same(&rt, kinds, ([end, end, end], true));
+    assert_equal(&rt, kinds, ([end, end, end], true));
 }

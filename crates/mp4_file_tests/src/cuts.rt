@@ -1,7 +1,7 @@
 //! Cut files: a file over a source is refused as its bytes in memory are, or opened as they are.
 
 use crate::answers::has_same_boxes;
-use crate::asserts::same;
+use crate::asserts::assert_equal;
 use crate::movies::{fragmented_file, movie_file};
 use mp4_codec::{ByteCursor, Error};
 use mp4_media::{ByteSource, FileError, Mp4File, Mp4Reader, SeekSource};
@@ -128,29 +128,29 @@ fn opened(opened: u32) -> Openings {
 
 #[test]
 fn every_cut_of_a_movie_has_its_error(rt: HostRuntime) {
-    same(&rt, cuts_of_a_movie(rt.alloc()), opened(1));
+    assert_equal(&rt, cuts_of_a_movie(rt.alloc()), opened(1));
 }
 
 #[test]
 fn every_cut_of_a_fragmented_file_has_its_error(rt: HostRuntime) {
-    same(&rt, cuts_of_fragments(rt.alloc()), opened(3));
+    assert_equal(&rt, cuts_of_fragments(rt.alloc()), opened(3));
 }
 
 #[test]
 fn every_cut_after_a_prefix_has_its_error(rt: HostRuntime) {
-    same(&rt, cuts_after_a_prefix(rt.alloc()), opened(3));
+    assert_equal(&rt, cuts_after_a_prefix(rt.alloc()), opened(3));
 }
 
 #[test]
 fn every_size_of_a_fragmented_file_has_its_answer(rt: HostRuntime) {
     // Up to 911 the movie's own size is the least; from there on 1 to 7 bytes after a box are too few, and any number
     // past the end: 57 sizes end in the movie, 25 in the event message, 145 in the fragment and 3 in the free box.
-    same(&rt, sizes_of_fragments(rt.alloc()), opened(230));
+    assert_equal(&rt, sizes_of_fragments(rt.alloc()), opened(230));
 }
 
 #[test]
 fn every_start_in_a_fragmented_file_has_its_answer(rt: HostRuntime) {
-    same(&rt, starts_of_fragments(rt.alloc()), opened(1));
+    assert_equal(&rt, starts_of_fragments(rt.alloc()), opened(1));
 }
 
 /// The error of a file whose movie says that it has 2^62 bytes, for which nobody has memory, and has none.
@@ -165,5 +165,5 @@ fn missing_movie(alloc: Global) -> Result<bool, FileError> {
 
 #[test]
 fn a_box_that_is_not_there_is_end_of_data(rt: HostRuntime) {
-    same(&rt, missing_movie(rt.alloc()), true);
+    assert_equal(&rt, missing_movie(rt.alloc()), true);
 }

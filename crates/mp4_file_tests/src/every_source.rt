@@ -1,7 +1,7 @@
 //! A file is the same whatever its bytes are read from.
 
 use crate::answers::{has_same_boxes, reads_track};
-use crate::asserts::{check, same};
+use crate::asserts::{assert_equal, check};
 use crate::movies::{fragmented_file, movie_file, padded_file};
 use crate::sources::Disk;
 use mp4_media::{ByteSource, FileError, Mp4File, SeekSource, Window, read_mp4};
@@ -107,7 +107,7 @@ fn counts(alloc: Global) -> Result<(usize, usize, u32), FileError> {
 
 #[test]
 fn a_fragmented_file_has_seven_samples(rt: HostRuntime) {
-    same(&rt, counts(rt.alloc()), (1, 1, 7));
+    assert_equal(&rt, counts(rt.alloc()), (1, 1, 7));
 }
 
 /// The lengths of a buffer with no room, after each of three samples is read into it, and the last one's bytes.
@@ -134,5 +134,5 @@ fn buffer_lengths(alloc: Global) -> Result<([usize; 3], bool), FileError> {
 
 #[test]
 fn a_buffer_holds_just_the_last_sample(rt: HostRuntime) {
-    same(&rt, buffer_lengths(rt.alloc()), ([3, 3, 2], true));
+    assert_equal(&rt, buffer_lengths(rt.alloc()), ([3, 3, 2], true));
 }

@@ -113,9 +113,9 @@ fn of_movie<R: Files + Clock + Eprint, S: ByteSource + Drop>(
 ) -> Result<Vec<u8>, Fault> {
     match question {
         MovieQuestion::Samples {
-            samples: asked,
+            samples: request,
             json,
-        } => samples(alloc, &*movie, asked, json),
+        } => samples(alloc, &*movie, request, json),
         MovieQuestion::Extract(request) => extracted(rt, alloc, is_terminal, movie, request),
         MovieQuestion::Subtitles { track, srt } => subtitle_text(alloc, movie, track, srt),
         MovieQuestion::Metadata { cover, json } => metadata(rt, alloc, &*movie, cover, json),

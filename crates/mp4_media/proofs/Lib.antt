@@ -12,3 +12,7 @@ pub mod InOrder
 pub mod Placed
 pub mod ReadBack
 pub mod Performing
+-- what callers cite of the laws of a writer, by the name of this crate
+pub use Rattle.mp4_mux.proofs.StartLaws
+pub use Rattle.mp4_mux.proofs.CallLaws
+pub use Rattle.mp4_mux.proofs.EndedStates

@@ -5,13 +5,7 @@ use Rattle.mp4_media.specs.declared.writer.Mp4Writer.TheInside.{Inside}
 
 abbrev pub parts_of : Inside → Parts
 parts_of w =
-    record {
-      front = w.front;
-      mdat = w.mdat;
-      config = w.config;
-      media = record { buffer = w.buffer.items; tracks = w.tracks.items; written = w.written.items };
-      ended = w.ended;
-    }
+    record { front = w.front; mdat = w.mdat; config = w.config; media = w.media; ended = w.ended }
 
 abbrev pub writer_state : Inside → WriterState
 writer_state w = state_of (parts_of w)

@@ -1,26 +1,16 @@
 //! Movies that are written.
 
-ghost use Rattle.std.specs.Prelude.{◌≡◌, ◌+◌, ◌<◌, ◌≤◌, ◌^◌, ◌++◌, ◌∷◌, [], length, None, OnOk, OnErr, IfErr, IfOk};
-ghost use Rattle.std.specs.List.{All};
-ghost use Rattle.mp4_codec.specs.Boxes.{write_cause};
+ghost use Rattle.std.specs.Prelude.{◌≡◌, None, OnOk, OnErr, IfOk};
 ghost use Rattle.mp4_codec.specs.Cause.{AnswersCause, Checks};
-ghost use Rattle.mp4_boxes.specs.Moov.{moov_payload, moov_refusal};
 ghost use Rattle.mp4_samples.specs.Samples.{sample_of};
-ghost use Rattle.mp4_mux.specs.Building.{new_building};
-ghost use Rattle.mp4_mux.specs.Config.{config_cause};
-ghost use Rattle.mp4_mux.specs.FinishedTrack.{movie_for};
-ghost use Rattle.mp4_mux.specs.Parts.{bytes_at_end, finished_buildings, unwritten};
-ghost use Rattle.mp4_mux.specs.Writing.{movie_bytes, started, with_track, with_sample, with_end, start_cause};
+ghost use Rattle.mp4_mux.specs.Writing.{started, with_track, with_sample, with_end, start_cause};
 ghost use Rattle.mp4_mux.specs.Writing.{track_cause, sample_cause, end_cause, whole_of, WriterState};
 ghost use Rattle.mp4_mux.specs.Written.{IsWrittenMovie};
 ghost use Rattle.mp4_media.specs.Finished.{Opens};
 ghost use Rattle.mp4_media.specs.WriterFields.{writer_state, IsWriter};
 
 use mp4_codec::{Error, InRange, Limit, Result, TryClone};
-use mp4_mux::{
-    ChunkRef, Mp4Config, TrackConfig, TrackWriter, add_sample, begin, check_file_type, check_movie,
-    finish, pending_bytes, put_movie,
-};
+use mp4_mux::{Media, Mp4Config, TrackConfig, begin, check_file_type, check_movie};
 use mp4_samples::Mp4Sample;
 use std::alloc::Global;
 use std::marker::Model;
@@ -36,10 +26,7 @@ pub struct Mp4Writer {
     /// The place of mdat.
     mdat: usize,
     config: Mp4Config,
-    buffer: Vec<u8>,
-    tracks: Vec<TrackWriter>,
-    /// All chunks, in the order in which they were written.
-    written: Vec<ChunkRef>,
+    media: Media,
     ended: bool,
 }
 
@@ -58,51 +45,10 @@ impl Drop for Mp4Writer {
             front: _,
             mdat: _,
             config: _,
-            buffer: _,
-            tracks: _,
-            written: _,
+            media: _,
             ended: _,
         } = self;
     }
-}
-
-/// Adds a track without samples, in a movie of this timescale. Refused by `OutOfMemory` alone; then the tracks are as
-/// they were.
-fn push_track(tracks: &mut Vec<TrackWriter>, timescale: u32, config: &TrackConfig) -> Result<()>
-    requires { config_cause config.now ≡ None }
-    ensures ok { OnOk result (tracks.new.items ≡ tracks.old.items ++ new_building timescale config.now ∷ []) }
-    ensures memory { IfErr result (λ e. e ≡ Error.OutOfMemory) }
-    ensures err { OnErr result (tracks.new.items ≡ tracks.old.items) }
-{
-    let config = config.try_clone()?;
-    let track = TrackWriter::new(*tracks.allocator(), timescale, config);
-    tracks.push(track)?;
-    Ok(())
-}
-
-/// Ends the bytes of a movie whose mdat has its place there: the bytes that wait of its tracks are added, the header of
-/// mdat says how many bytes it has then, and the movie box follows.
-///
-/// Refused by `OutOfMemory` alone; then the buffer is as it was.
-fn add_end(buffer: &mut Vec<u8>, mdat: usize, timescale: u32, tracks: &[TrackWriter]) -> Result<()>
-    requires mdat { mdat + 16 ≤ length buffer.old.items }
-    requires few { length tracks.now < 2 ^ 32 }
-    requires clocks { All (λ b. b.movie_timescale ≡ timescale) tracks.now }
-    requires written { length buffer.old.items + length (unwritten tracks.now) < 2 ^ 64
-        → write_cause (moov_payload (movie_for timescale (finished_buildings 1 (length buffer.old.items) tracks.now)))
-        (moov_refusal (movie_for timescale (finished_buildings 1 (length buffer.old.items) tracks.now))) ≡ None }
-    ensures ok { OnOk result (buffer.new.items
-        ≡ bytes_at_end mdat (unwritten tracks.now)
-        (movie_bytes timescale (finished_buildings 1 (length buffer.old.items) tracks.now)) buffer.old.items) }
-    ensures memory { IfErr result (λ e. e ≡ Error.OutOfMemory) }
-    ensures err { OnErr result (buffer.new.items ≡ buffer.old.items) }
-{
-    let end = buffer.len();
-    let mut tail = pending_bytes(*buffer.allocator(), tracks)?;
-    let size = (end - mdat) as u64 + tail.len() as u64;
-    put_movie(&mut tail, timescale, tracks, end as u64)?;
-    finish(buffer, mdat, size, &tail)?;
-    Ok(())
 }
 
 impl Mp4Writer {
@@ -132,9 +78,7 @@ impl Mp4Writer {
                 front,
                 mdat,
                 config,
-                buffer,
-                tracks: Vec::new(alloc),
-                written: Vec::new(alloc),
+                media: Media::new(alloc, buffer),
                 ended: false,
             }),
             Err(error) => {
@@ -153,7 +97,7 @@ impl Mp4Writer {
             return Err(Error::Ended);
         }
         config.check()?;
-        if self.tracks.len() >= u32::MAX as usize {
+        if self.media.tracks().len() >= u32::MAX as usize {
             return Err(Error::TooLarge(Limit::TrackCount));
         }
         Ok(())
@@ -171,7 +115,7 @@ impl Mp4Writer {
     {
         self.check_track(config)?;
         config.in_range();
-        push_track(&mut self.tracks, self.config.timescale, config)?;
+        self.media.add_track(self.config.timescale, config)?;
         Ok(())
     }
 
@@ -182,10 +126,11 @@ impl Mp4Writer {
         if self.ended {
             return Err(Error::Ended);
         }
-        if id == 0 || id as usize > self.tracks.len() {
+        let tracks = self.media.tracks();
+        if id == 0 || id as usize > tracks.len() {
             return Err(Error::TrakNotFound(id));
         }
-        self.tracks[id as usize - 1].check_sample(sample)
+        tracks[id as usize - 1].check_sample(sample)
     }
 
     /// Writes a sample of a track after those that were written of it; its `start_time` isn't looked at, since it
@@ -207,13 +152,7 @@ impl Mp4Writer {
         sample.duration.in_range();
         sample.rendering_offset.in_range();
         let track = id - 1;
-        add_sample(
-            &mut self.buffer,
-            &mut self.tracks,
-            &mut self.written,
-            track,
-            sample,
-        )?;
+        self.media.add_sample(track, sample)?;
         Ok(())
     }
 
@@ -226,8 +165,8 @@ impl Mp4Writer {
         }
         check_movie(
             self.config.timescale,
-            &self.tracks,
-            self.buffer.len() as u64,
+            self.media.tracks(),
+            self.media.bytes().len() as u64,
         )
     }
 
@@ -239,12 +178,7 @@ impl Mp4Writer {
         ensures err { OnErr result (self.new ≡ self.old) }
     {
         self.check_end()?;
-        add_end(
-            &mut self.buffer,
-            self.mdat,
-            self.config.timescale,
-            &self.tracks,
-        )?;
+        self.media.add_end(self.mdat, self.config.timescale)?;
         self.ended = true;
         Ok(())
     }
@@ -267,13 +201,13 @@ impl Mp4Writer {
         let _ = &self.ended;
         self.end()?;
         // For the proof alone, which learns what holds of the whole.
-        let _ = &self.ended;
+        let _ = self.media.bytes();
         Ok(())
     }
 
     /// Where the writer takes its memory from.
     pub(crate) fn allocator(&self) -> Global {
-        *self.buffer.allocator()
+        self.media.allocator()
     }
 
     /// The bytes as they are.
@@ -284,11 +218,9 @@ impl Mp4Writer {
             front: _,
             mdat: _,
             config: _,
-            buffer: bytes,
-            tracks: _,
-            written: _,
+            media,
             ended: _,
         } = self;
-        bytes
+        media.into_bytes()
     }
 }

@@ -146,7 +146,8 @@ module _ (st : WriterState) (id : ℕ) (h : IsIdOf st id) (s : Sample) where
 
 -- Why nothing is refused.
 
-past : (b : Bool) (c : Cause) (later : Option Cause) → cond b (Some c) later ≡ None → (b ≡ false) × (later ≡ None)
+-- a test whose cause is not the answer is not met
+pub past : (b : Bool) (c : Cause) (later : Option Cause) → cond b (Some c) later ≡ None → (b ≡ false) × (later ≡ None)
 past true c later e = cc
 past false c later e = (refl, e)
 

@@ -42,6 +42,10 @@ chunk_in bs buffer r =
 abbrev pub track_of : Building → TrackState
 track_of b = record { config = b.config; pending = b.pending }
 
+-- one more track, after the others
+abbrev pub media_with_track : Media → Building → Media
+media_with_track m b = record m { tracks = m.tracks ++ b ∷ [] }
+
 -- the pending samples of a track, which is this one now, are in a chunk after the others, and nothing is pending of
 -- it
 abbrev pub media_with_chunk : Media → ℕ → Building → Media

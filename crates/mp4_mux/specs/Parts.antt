@@ -117,11 +117,13 @@ bytes_at_end mdat pending movie buffer =
 abbrev pub movie_at_end : Parts → List ℕ
 movie_at_end p = movie_bytes p.config.timescale (finished_buildings 1 (length p.media.buffer) p.media.tracks)
 
+-- the data at the end of a movie of this timescale, whose mdat has its place there
+abbrev pub media_at_end : ℕ → ℕ → Media → Media
+media_at_end mdat timescale m = record m {
+  buffer = bytes_at_end mdat (unwritten m.tracks)
+      (movie_bytes timescale (finished_buildings 1 (length m.buffer) m.tracks)) m.buffer;
+}
+
 -- what a writer keeps at the end
 abbrev pub parts_at_end : Parts → Parts
-parts_at_end p = record p {
-  media = record p.media {
-    buffer = bytes_at_end p.mdat (unwritten p.media.tracks) (movie_at_end p) p.media.buffer;
-  };
-  ended = true;
-}
+parts_at_end p = record p { media = media_at_end p.mdat p.config.timescale p.media; ended = true }

@@ -9,6 +9,7 @@ mod durations;
 mod ending;
 mod laws;
 mod mdat;
+mod media;
 mod runs;
 mod sample_info;
 mod table_sizes;
@@ -28,5 +29,6 @@ pub use laws::{
     interleavings_accept_the_same,
 };
 pub use mdat::mdat_header;
+pub use media::Media;
 pub use sample_info::SampleInfo;
-pub use track_writer::{TrackWriter, add_sample};
+pub use track_writer::TrackWriter;

@@ -14,7 +14,6 @@ ghost use Rattle.mp4_mux.specs.Chunks.{sample_bytes, is_full};
 ghost use Rattle.mp4_mux.specs.Writing.{info_of};
 ghost use Rattle.mp4_mux.specs.Building.{Building, new_building, pushed, popped, pending_place, closed, ticks};
 ghost use Rattle.mp4_mux.specs.Building.{room_cause};
-ghost use Rattle.mp4_mux.specs.Media.{Media, building_at, media_with};
 ghost use Rattle.mp4_mux.specs.Parts.{last_place, track_with, finished_building};
 ghost use Rattle.mp4_mux.specs.TrackFields.{track_view, IsTrackWriter};
 
@@ -133,10 +132,8 @@ impl TrackWriter {
     }
 
     /// Adds a sample, which is pending. An `Err` changes nothing.
-    fn push(&mut self, sample: &Mp4Sample) -> Result<(), AllocError>
-        requires count { length self.old.samples < 2 ^ 32 - 1 }
-        requires size { length sample.now.bytes < 2 ^ 32 }
-        requires room { ticks self.old sample.now.duration < 2 ^ 64 }
+    pub(crate) fn push(&mut self, sample: &Mp4Sample) -> Result<(), AllocError>
+        requires { room_cause self.old (sample_of sample.now) ≡ None }
         ensures ok { OnOk result (self.new ≡ pushed self.old (sample_of sample.now)) }
         ensures err { OnErr result (self.new ≡ self.old) }
     {
@@ -156,7 +153,7 @@ impl TrackWriter {
     }
 
     /// Takes the last sample back, which no chunk has yet.
-    fn pop(&mut self)
+    pub(crate) fn pop(&mut self)
         requires { 0 < length self.old.pending }
         ensures { self.new ≡ popped self.old }
     {
@@ -170,7 +167,7 @@ impl TrackWriter {
     }
 
     /// Whether the pending samples are to be written as a chunk.
-    fn is_full(&self) -> bool
+    pub(crate) fn is_full(&self) -> bool
         ensures { result ≡ is_full self.now.config.timescale self.now.pending }
     {
         self.pending_duration >= self.config.timescale as u64 && !self.pending.is_empty()
@@ -196,7 +193,7 @@ impl TrackWriter {
 
     /// Writes the pending samples as a chunk at the end of the buffer, and notes it after the chunks of all tracks; the
     /// track's index counts from 0. An `Err` changes nothing.
-    fn write_chunk(
+    pub(crate) fn write_chunk(
         &mut self,
         buffer: &mut Vec<u8>,
         written: &mut Vec<ChunkRef>,
@@ -327,39 +324,6 @@ fn append_chunk(
     if let Err(e) = buffer.extend_from_slice(bytes) {
         let _ = written.take_last();
         return Err(e);
-    }
-    Ok(())
-}
-
-/// Adds a sample to those that are pending of a track, whose index counts from 0, and writes these as a chunk where
-/// they are full now. An `Err` changes nothing.
-#[tactic(auto, unfolding(crate::specs::Media::media_with))]
-pub fn add_sample(
-    buffer: &mut Vec<u8>,
-    tracks: &mut Vec<TrackWriter>,
-    written: &mut Vec<ChunkRef>,
-    track: u32,
-    sample: &Mp4Sample,
-) -> Result<(), AllocError>
-    requires track { track < length tracks.old.items }
-    requires count { length (building_at tracks.old.items track).samples < 2 ^ 32 - 1 }
-    requires size { length sample.now.bytes < 2 ^ 32 }
-    requires room { ticks (building_at tracks.old.items track) sample.now.duration < 2 ^ 64 }
-    ensures ok { OnOk result (◌≡◌ {A = Media}
-        (record { buffer = buffer.new.items; tracks = tracks.new.items; written = written.new.items })
-        (media_with (record { buffer = buffer.old.items; tracks = tracks.old.items; written = written.old.items }) track
-        (sample_of sample.now))) }
-    ensures err { OnErr result
-        ((buffer.new.items ≡ buffer.old.items) × (tracks.new.items ≡ tracks.old.items)
-        × (written.new.items ≡ written.old.items)) }
-{
-    let writer = &mut tracks[track as usize];
-    writer.push(sample)?;
-    if writer.is_full() {
-        if let Err(e) = writer.write_chunk(buffer, written, track) {
-            writer.pop();
-            return Err(e);
-        }
     }
     Ok(())
 }

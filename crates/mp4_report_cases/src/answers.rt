@@ -87,7 +87,7 @@ fn samples_at(alloc: Global, bytes: &[u8], track: &str, seconds: &str, count: &s
 }
 
 /// What the file of these bytes answers to the words of a question; `None` where they are no question.
-fn asked(alloc: Global, bytes: &[u8], words: &[&str]) -> Option<Answer> {
+fn answer_of_words(alloc: Global, bytes: &[u8], words: &[&str]) -> Option<Answer> {
     match words {
         ["boxes"] => Some(boxes(alloc, bytes, None, false, "text")),
         ["boxes", "all"] => Some(boxes(alloc, bytes, None, true, "text")),
@@ -118,7 +118,7 @@ fn asked(alloc: Global, bytes: &[u8], words: &[&str]) -> Option<Answer> {
 /// What the file of these bytes answers to a question, or why it refuses it; `None` where that is no question.
 pub fn answer(alloc: Global, bytes: &[u8], question: &str) -> mp4_media::Result<Option<String>> {
     let words: Vec<&str> = question.split(' ').collect(alloc)?;
-    match asked(alloc, bytes, words.as_slice()) {
+    match answer_of_words(alloc, bytes, words.as_slice()) {
         None => Ok(None),
         Some(Ok(answer)) => Ok(Some(answer)),
         Some(Err(FileError::Mp4(Error::OutOfMemory))) => Err(Error::OutOfMemory),

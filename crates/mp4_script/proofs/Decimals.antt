@@ -6,7 +6,7 @@ use Rattle.std.proofs.lemmas.Nat.{pow-add}
 use Rattle.std.proofs.lemmas.Str.Parse.{tells_all_ascii_digits}
 use Rattle.std.specs.Char.{is_ascii_digit}
 use Rattle.std.specs.Str.{all_ascii_digits}
-use Rattle.mp4_meta.specs.Metadata.{decimal_value}
+use Rattle.mp4_media.specs.Metadata.{decimal_value}
 
 one_digit_more : (xs : List ℕ) (c : ℕ) → decimal_value (xs ++ c ∷ []) ≡ decimal_value xs * 10 + (c - 48)
 one_digit_more [] c = omega arith

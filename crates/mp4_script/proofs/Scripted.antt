@@ -4,17 +4,17 @@ use Rattle.std.proofs.Common.{Some, None}
 use Rattle.std.proofs.Common.{Result, Ok, Err, refl, sym, ap, subst, ◌∙◌, true≢false, arith}
 use Rattle.std.specs.Prelude.{IfOk}
 use Rattle.std.proofs.lemmas.Bool.{eqb-true}
-use Rattle.mp4_codec.specs.declared.error.Error.{Error}
-use Rattle.mp4_codec.specs.declared.error.Error.TheVariants.{OutOfMemory}
+use Rattle.mp4_media.specs.Error.{Error}
+use Rattle.mp4_media.specs.Error.TheVariants.{OutOfMemory}
 use Rattle.mp4_script.specs.declared.script.ScriptFault.{ScriptFault}
 use Rattle.mp4_script.specs.declared.script.ScriptFault.TheVariants.{Refused}
 use Rattle.std.specs.List.{AllByRecursion, fold}
 use Rattle.mp4_media.specs.Cause.{Cause, AnswersCause}
 use Rattle.mp4_media.specs.Writing.{WriterState, AcceptedTrack, with_end, end_cause}
-use Rattle.mp4_mux.proofs.EndedStates.{all-append}
+use Rattle.mp4_media.proofs.EndedStates.{all-append}
 use Rattle.mp4_media.specs.Calls.{Call, Reply, write_end, step, call_cause, after, Answered, accept, accepted_after}
 use Rattle.mp4_media.specs.Calls.{IsInRangeCall, Session, IsAnswered, IsEnded, writer_of, accepted_by}
-use Rattle.mp4_mux.proofs.CallLaws.{after_one_more, answered_one_more}
+use Rattle.mp4_media.proofs.CallLaws.{after_one_more, answered_one_more}
 use Rattle.mp4_script.specs.Commands.{command_in}
 use Rattle.mp4_script.specs.Lines.{lines_of}
 use Rattle.mp4_script.specs.Script.{ScriptCause, refused, called, line_step, run_from, run_all, calls_in}

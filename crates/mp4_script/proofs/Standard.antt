@@ -2,12 +2,12 @@
 use Rattle.std.proofs.Common.{◌≡◌, ◌⊎◌, inl, inr, ℕ, List, [], None, Some, Result, Ok, Err, refl, sym, ap}
 use Rattle.std.proofs.Common.{subst, ◌∙◌, arith}
 use Rattle.std.specs.Prelude.{Option, IfOk}
-use Rattle.mp4_codec.specs.declared.error.Error.{Error}
-use Rattle.mp4_codec.specs.declared.error.Error.TheVariants.{OutOfMemory}
+use Rattle.mp4_media.specs.Error.{Error}
+use Rattle.mp4_media.specs.Error.TheVariants.{OutOfMemory}
 use Rattle.mp4_media.specs.Cause.{Cause, cause_of, Answers, AnswersCause}
-use Rattle.mp4_mux.specs.declared.config.Mp4Config.{Mp4Config}
+use Rattle.mp4_media.specs.Mp4Config.{Mp4Config}
 use Rattle.mp4_media.specs.Writing.{WriterState, started, with_end, whole_of, start_cause, end_cause}
-use Rattle.mp4_mux.proofs.StartLaws.{start_cause-few}
+use Rattle.mp4_media.proofs.StartLaws.{start_cause-few}
 use Rattle.mp4_script.specs.declared.script.ScriptFault.{ScriptFault}
 use Rattle.mp4_script.specs.declared.script.ScriptFault.TheVariants.{End}
 use Rattle.mp4_script.specs.Script.{ScriptCause, script_cause_of, at_end, standard_config, standard_writer, run_all}

@@ -3,10 +3,10 @@ use Rattle.std.specs.Prelude.{ℕ, ℤ, ◌+◌, ◌^◌, pos, neg_ℤ, Bool, tr
 use Rattle.std.specs.Prelude.{Option, Some, None, nat_eq, nat_lt, ◌==◌, if◌then◌else◌}
 use Rattle.std.specs.List.{position_or_len}
 use Rattle.std.specs.Cmp.Lexicographic.{pointwise}
-use Rattle.mp4_entry.specs.declared.config.MediaConfig.TheVariants.{TtxtConfig as Ttxt}
-use Rattle.mp4_meta.specs.Metadata.{numeral}
-use Rattle.mp4_mux.specs.declared.config.TrackConfig.{TrackConfig}
-use Rattle.mp4_mux.specs.Config.{track_config_of}
+use Rattle.mp4_media.specs.MediaConfig.TheVariants.{TtxtConfig as Ttxt}
+unfoldable pub use Rattle.mp4_media.specs.Metadata.{numeral}
+use Rattle.mp4_media.specs.TrackConfig.{TrackConfig}
+use Rattle.mp4_media.specs.Config.{track_config_of}
 use Rattle.mp4_media.specs.Calls.{Call, add_track, write_sample}
 use Rattle.mp4_script.specs.declared.commands.Command.{Command}
 use Rattle.mp4_script.specs.declared.commands.Command.TheVariants.{TextTrack, Sample as SampleCommand}

@@ -1,10 +1,10 @@
 -- What a script makes: its lines are run one after the other, each as one step of a writer.
 use Rattle.std.specs.Prelude.{◌≡◌, ◌⊎◌, ℕ, ◌+◌, List, [], ◌∷◌, ◌++◌, length, Option, Some, None, Result, Ok, Err, codes}
 use Rattle.std.specs.List.{fold}
-use Rattle.mp4_codec.specs.declared.error.Error.{Error}
-use Rattle.mp4_codec.specs.declared.error.Error.TheVariants.{OutOfMemory}
+use Rattle.mp4_media.specs.Error.{Error}
+use Rattle.mp4_media.specs.Error.TheVariants.{OutOfMemory}
 use Rattle.mp4_media.specs.Cause.{Cause, cause_of}
-use Rattle.mp4_mux.specs.declared.config.Mp4Config.{Mp4Config}
+use Rattle.mp4_media.specs.Mp4Config.{Mp4Config}
 use Rattle.mp4_media.specs.Writing.{WriterState, AcceptedTrack, started, with_end, end_cause, whole_of}
 use Rattle.mp4_media.specs.Calls.{Call, step, call_cause, accept}
 use Rattle.mp4_media.specs.declared.reader.Mp4Reader.{Mp4Reader}

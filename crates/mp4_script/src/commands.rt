@@ -5,7 +5,7 @@ ghost use Rattle.std.specs.List.{position_or_len};
 ghost use Rattle.std.specs.Str.{all_ascii_digits};
 ghost use Rattle.mp4_media.specs.Cause.{Answers};
 ghost use Rattle.mp4_media.specs.WriterCalls.{call_of};
-ghost use Rattle.mp4_meta.specs.Metadata.{decimal_value};
+ghost use Rattle.mp4_media.specs.Metadata.{decimal_value};
 ghost use Rattle.mp4_script.specs.Commands.{command_call, command_in, cut_at_space, decimal_in, offset_in, sample_in};
 ghost use Rattle.mp4_script.specs.Commands.{sample_call, sync_in, text_config};
 
@@ -79,7 +79,7 @@ fn value_of(digits: &[u8]) -> Option<u64>
 }
 
 /// The number that one to ten decimal digits write, where it has 32 bits.
-#[tactic(auto, unfolding(crate::specs::Commands::decimal_in, mp4_meta::specs::Metadata::numeral))]
+#[tactic(auto, unfolding(crate::specs::Commands::decimal_in, crate::specs::Commands::numeral))]
 pub fn decimal_in(digits: &[u8]) -> Option<u32>
     ensures { result ≡ decimal_in digits.now }
 {

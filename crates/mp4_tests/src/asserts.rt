@@ -12,12 +12,12 @@ pub fn check(rt: &impl Abort, case: impl Display + Drop, answer: Result<bool>) {
 }
 
 /// Ends the test and prints which case it is, unless the statement holds.
-pub fn holds(rt: &impl Abort, case: impl Display + Drop, statement: bool) {
+pub fn assert_that(rt: &impl Abort, case: impl Display + Drop, statement: bool) {
     assert!(rt; statement, "case {case}");
 }
 
 /// Ends the test and prints both values, unless they are equal.
-pub fn same<T: PartialEq + Debug + Drop>(rt: &impl Abort, value: T, expected: T) {
+pub fn assert_equal<T: PartialEq + Debug + Drop>(rt: &impl Abort, value: T, expected: T) {
     assert_eq!(rt; value, expected);
 }
 

@@ -1,6 +1,6 @@
 //! Values of movies that differ in one field are unequal, and each is equal to itself and to one of the same fields.
 
-use crate::asserts::{check, holds};
+use crate::asserts::{assert_that, check};
 use bytes::Bytes;
 use mp4_codec::{FourCC, Items, Result, Text};
 use mp4_entry::{MediaConfig, TrackType, TtxtConfig, Vp9Config};
@@ -102,7 +102,7 @@ fn configurations_and_samples_that_differ_are_unequal(rt: HostRuntime) {
     check(&rt, "movies", movies_differ(alloc));
     check(&rt, "tracks", tracks_differ(alloc));
     check(&rt, "samples", samples_differ(alloc));
-    holds(&rt, "text", are_alike(&TtxtConfig {}, &TtxtConfig {}));
+    assert_that(&rt, "text", are_alike(&TtxtConfig {}, &TtxtConfig {}));
 }
 
 /// Whether calls that add tracks are unequal where the configurations are.
@@ -131,7 +131,7 @@ fn calls_that_differ_are_unequal(rt: HostRuntime) {
     check(&rt, "additions", additions_differ(rt.alloc()));
     check(&rt, "writes", writes_differ(rt.alloc()));
     let end = are_alike(&WriterCall::WriteEnd, &WriterCall::WriteEnd);
-    holds(&rt, "end", end);
+    assert_that(&rt, "end", end);
 }
 
 /// Whether defaults of samples that differ in any one field are unequal.
@@ -210,9 +210,9 @@ fn run_samples_differ() -> bool {
 
 #[test]
 fn samples_of_fragments_that_differ_are_unequal(rt: HostRuntime) {
-    holds(&rt, "defaults", defaults_differ());
-    holds(&rt, "run starts", run_starts_differ());
-    holds(&rt, "run samples", run_samples_differ());
+    assert_that(&rt, "defaults", defaults_differ());
+    assert_that(&rt, "run starts", run_starts_differ());
+    assert_that(&rt, "run samples", run_samples_differ());
 }
 
 /// Whether places of chunks that differ in any one field are unequal.
@@ -287,11 +287,11 @@ fn found_numbers_differ() -> bool {
 
 #[test]
 fn parts_of_writers_and_searches_that_differ_are_unequal(rt: HostRuntime) {
-    holds(&rt, "places", places_differ());
-    holds(&rt, "chunks", chunks_differ());
-    holds(&rt, "descriptions", descriptions_differ());
-    holds(&rt, "durations", durations_differ());
-    holds(&rt, "found numbers", found_numbers_differ());
+    assert_that(&rt, "places", places_differ());
+    assert_that(&rt, "chunks", chunks_differ());
+    assert_that(&rt, "descriptions", descriptions_differ());
+    assert_that(&rt, "durations", durations_differ());
+    assert_that(&rt, "found numbers", found_numbers_differ());
 }
 
 /// A sample that is borrowed.
@@ -362,6 +362,6 @@ fn queries_differ() -> bool {
 
 #[test]
 fn borrowed_samples_and_queries_that_differ_are_unequal(rt: HostRuntime) {
-    holds(&rt, "borrowed samples", borrowed_samples_differ());
-    holds(&rt, "queries", queries_differ());
+    assert_that(&rt, "borrowed samples", borrowed_samples_differ());
+    assert_that(&rt, "queries", queries_differ());
 }

@@ -1,7 +1,7 @@
 //! Random lists of calls of a writer, from fixed seeds, refused ones among them: each call answers
 //! as the plain model says, and the bytes are those of the model.
 
-use crate::asserts::same;
+use crate::asserts::assert_equal;
 use crate::written::{answers_alike, begun};
 use mp4_codec::Result;
 use mp4_entry::TrackType;
@@ -270,10 +270,10 @@ fn first_that_differs(alloc: Global, first: u64, end: u64) -> Result<Option<u64>
 
 #[test]
 fn five_hundred_lists_of_calls_are_written_as_the_model_says(rt: HostRuntime) {
-    same(&rt, first_that_differs(rt.alloc(), 0, 500), Ok(None));
+    assert_equal(&rt, first_that_differs(rt.alloc(), 0, 500), Ok(None));
 }
 
 #[test]
 fn five_hundred_lists_more_are_written_as_the_model_says(rt: HostRuntime) {
-    same(&rt, first_that_differs(rt.alloc(), 500, 1000), Ok(None));
+    assert_equal(&rt, first_that_differs(rt.alloc(), 500, 1000), Ok(None));
 }

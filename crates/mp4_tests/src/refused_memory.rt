@@ -2,7 +2,7 @@
 //! these tests with one request refused, each in turn. A refused call then answers `OutOfMemory`, it leaves what it
 //! must, and made again it is Ok; or it does without that memory. The next request is tried until a test makes no more.
 
-use crate::asserts::{check, same};
+use crate::asserts::{assert_equal, check};
 use crate::queries::{is_held, lends, offset_of};
 use crate::reader_files::{FRAGMENTED, TextFile, file_of};
 use crate::tracks::{first_and_third_are_sync, holds_of, text_samples_are_found};
@@ -125,7 +125,7 @@ fn size_again(rt: &HostRuntime) -> Result<u64> {
 
 #[test]
 fn a_refused_opening_is_made_again(rt: HostRuntime) {
-    same(&rt, size_again(&rt), Ok(164));
+    assert_equal(&rt, size_again(&rt), Ok(164));
 }
 
 /// A sample that is read, again after a refusal.

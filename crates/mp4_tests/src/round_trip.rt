@@ -1,6 +1,6 @@
 //! What a writer writes is read back: of each track the samples that were accepted, as the plain model lists them.
 
-use crate::asserts::{check, same};
+use crate::asserts::{assert_equal, check};
 use crate::random_movies::{random_bytes, random_movie};
 use crate::read_back::is_read_back;
 use crate::writer_calls::{config_of, writer_call};
@@ -45,7 +45,7 @@ fn first_that_differs(alloc: Global, end: u64) -> Result<Option<u64>> {
 
 #[test]
 fn three_hundred_lists_of_calls_are_read_back(rt: HostRuntime) {
-    same(&rt, first_that_differs(rt.alloc(), 300), Ok(None));
+    assert_equal(&rt, first_that_differs(rt.alloc(), 300), Ok(None));
 }
 
 /// The calls that add a track of text and write a sample of it, without an end.

@@ -78,7 +78,7 @@ pub fn bytes_of(
 }
 
 /// What a subject answers to a question, or why it refuses it.
-fn asked(
+fn answer_of_subject(
     alloc: Global,
     subject: Subject,
     words: &str,
@@ -114,7 +114,7 @@ pub fn answer(
     bytes: &[u8],
     question: &str,
 ) -> Result<Option<String>> {
-    match asked(alloc, subject, words, bytes, question) {
+    match answer_of_subject(alloc, subject, words, bytes, question) {
         Err(Error::OutOfMemory) => Err(Error::OutOfMemory),
         Err(error) => Ok(Some(format!(in alloc; "refused: {error}")?)),
         answer => answer,

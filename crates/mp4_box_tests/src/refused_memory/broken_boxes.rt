@@ -1,7 +1,7 @@
 //! Payloads that have no meaning. Their cause is found before memory is requested: where a call of a test here requests
 //! memory and is refused it, the answer is `OutOfMemory`, and the test ends.
 
-use crate::asserts::holds;
+use crate::asserts::assert_that;
 use mp4_boxes::{EdtsBox, MdiaBox, MinfBox, MoovBox, StblBox, TrakBox};
 use mp4_codec::{BoxType, ByteCursor, Error, HEADER_SIZE, ReadBox};
 use mp4_entry::{
@@ -173,7 +173,7 @@ fn a_payload_that_is_cut_is_refused_before_memory_is_requested(rt: HostRuntime) 
     let zeros = [0u8; 128];
     for (kind, length) in CUT {
         let payload = zeros.get(..length).unwrap_or(&[]);
-        holds(&rt, kind, is_refused(rt.alloc(), kind, payload, &INVALID));
+        assert_that(&rt, kind, is_refused(rt.alloc(), kind, payload, &INVALID));
     }
 }
 
@@ -200,7 +200,7 @@ fn a_payload_that_lacks_a_child_is_refused_before_memory_is_requested(rt: HostRu
     let zeros = [0u8; 128];
     for (kind, length, cause) in LACKING {
         let payload = zeros.get(..length).unwrap_or(&[]);
-        holds(&rt, kind, is_refused(rt.alloc(), kind, payload, &cause));
+        assert_that(&rt, kind, is_refused(rt.alloc(), kind, payload, &cause));
     }
 }
 
@@ -229,7 +229,7 @@ fn a_payload_of_an_unread_version_is_refused_before_memory_is_requested(rt: Host
         *version = 2;
     }
     for (kind, cause) in UNREAD {
-        holds(&rt, kind, is_refused(rt.alloc(), kind, &payload, &cause));
+        assert_that(&rt, kind, is_refused(rt.alloc(), kind, &payload, &cause));
     }
 }
 
@@ -274,7 +274,7 @@ const COUNTED: [(BoxType, &[u8]); 10] = [
 #[test]
 fn a_list_that_passes_the_end_is_refused_before_memory_is_requested(rt: HostRuntime) {
     for (kind, payload) in COUNTED {
-        holds(&rt, kind, is_refused(rt.alloc(), kind, payload, &INVALID));
+        assert_that(&rt, kind, is_refused(rt.alloc(), kind, payload, &INVALID));
     }
 }
 
@@ -289,9 +289,9 @@ const ENDLESS_EMSG: [u8; 6] = *b"\0\0\0\0\0b";
 #[test]
 fn falling_runs_and_an_endless_text_are_refused_before_memory_is_requested(rt: HostRuntime) {
     let stsc = is_refused(rt.alloc(), BoxType::StscBox, &FALLING_STSC, &INVALID);
-    holds(&rt, "falling stsc", stsc);
+    assert_that(&rt, "falling stsc", stsc);
     let emsg = is_refused(rt.alloc(), BoxType::EmsgBox, &ENDLESS_EMSG, &INVALID);
-    holds(&rt, "endless emsg", emsg);
+    assert_that(&rt, "endless emsg", emsg);
 }
 
 /// Boxes, payloads whose first child is refused, and why.
@@ -357,12 +357,12 @@ const BROKEN_AVC1: [u8; 94] = *b"\
 #[test]
 fn a_broken_child_is_refused_before_memory_is_requested(rt: HostRuntime) {
     for (kind, payload, cause) in OF_A_BROKEN_CHILD {
-        holds(&rt, kind, is_refused(rt.alloc(), kind, payload, &cause));
+        assert_that(&rt, kind, is_refused(rt.alloc(), kind, payload, &cause));
     }
     let meta = is_refused(rt.alloc(), BoxType::MetaBox, &BROKEN_META, &INVALID);
-    holds(&rt, "meta", meta);
+    assert_that(&rt, "meta", meta);
     let avc1 = is_refused(rt.alloc(), BoxType::Avc1Box, &BROKEN_AVC1, &INVALID);
-    holds(&rt, "avc1", avc1);
+    assert_that(&rt, "avc1", avc1);
 }
 
 /// Boxes of children.
@@ -386,7 +386,7 @@ const CONTAINERS: [BoxType; 13] = [
 fn a_child_that_passes_the_end_is_refused_before_memory_is_requested(rt: HostRuntime) {
     for kind in CONTAINERS {
         let payload = b"\0\0\0\x09free";
-        holds(&rt, kind, is_refused(rt.alloc(), kind, payload, &INVALID));
+        assert_that(&rt, kind, is_refused(rt.alloc(), kind, payload, &INVALID));
     }
 }
 
@@ -447,8 +447,8 @@ const KINDS: [BoxType; 49] = [
 fn a_box_of_a_wrong_size_is_refused_before_memory_is_requested(rt: HostRuntime) {
     for kind in KINDS {
         let small = refusal_of(rt.alloc(), kind, &[], 7);
-        holds(&rt, kind, matches!(small, Some(Error::InvalidData(_))));
+        assert_that(&rt, kind, matches!(small, Some(Error::InvalidData(_))));
         let large = refusal_of(rt.alloc(), kind, &[0; 128], 137);
-        holds(&rt, kind, large == Some(Error::EndOfData));
+        assert_that(&rt, kind, large == Some(Error::EndOfData));
     }
 }

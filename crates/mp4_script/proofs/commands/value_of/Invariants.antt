@@ -1,6 +1,6 @@
 use Rattle.std.proofs.Common.{◌≡◌, ◌^◌, ◌<◌, take, true}
 use Rattle.std.specs.Str.{all_ascii_digits}
-use Rattle.mp4_meta.specs.Metadata.{decimal_value}
+use Rattle.mp4_media.specs.Metadata.{decimal_value}
 use Rattle.mp4_script.proofs.commands.value_of.Given as goal
 
 abbrev pub invariant-loop-digit : goal.invariant-loop-digit

@@ -1,5 +1,5 @@
 use Rattle.std.proofs.Common.{◌≡◌, sym, ap, ◌∙◌, Some}
-use Rattle.mp4_codec.specs.Steps.{ok_is}
+use Rattle.mp4_media.specs.Steps.{ok_is}
 use Rattle.mp4_media.specs.Calls.{Call}
 use Rattle.mp4_media.specs.WriterCalls.{call_of}
 use Rattle.mp4_script.specs.Commands.{command_call, command_in}

@@ -3,7 +3,7 @@ use Rattle.std.proofs.Common.{subst, ◌∙◌, arith}
 use Rattle.std.specs.List.{AllByRecursion}
 use Rattle.mp4_media.specs.Calls.{IsInRangeCall}
 use Rattle.std.proofs.lemmas.List.{take_all, length-drop}
-use Rattle.mp4_mux.proofs.EndedStates.{all-append}
+use Rattle.mp4_media.proofs.EndedStates.{all-append}
 use Rattle.mp4_script.specs.Lines.{lines_of, lines_left}
 use Rattle.mp4_script.specs.Script.{calls_in, run_from}
 use Rattle.mp4_script.proofs.Cutting.{count-lines}

@@ -22,21 +22,21 @@ open_cause c =
     ap (λ (st : WriterState). track_cause st c.args.config.now) (sym (state-open (parts_of c.self.inside) (goes_on c)))
     ∙ no_cause c
 
-pub push_track-requires : goal.push_track-requires
-push_track-requires c =
-    let b = (goal.at.push_track-requires c).In_ok-check_track in
+pub add_track-requires : goal.add_track-requires
+add_track-requires c =
+    let b = (goal.at.add_track-requires c).In_ok-check_track in
     (track_welcome (open_state (parts_of c.self.inside)) c.args.config.now (open_cause b)).config_is
 
 pub invariant_of-self-2 : goal.invariant_of-self-2
 invariant_of-self-2 c =
     let b = (goal.at.invariant_of-self-2 c).In_ok-check_track in
-    rw c.in_ok-push_track.ensures.ok
+    rw c.in_ok-add_track.ensures.ok
     (writing-track (parts_of c.self.inside) c.self.invariant (goes_on b) c.args.config.now (open_cause b)
     c.in_range.ensures)
 
 pub returns-clause-ok : goal.returns-clause-ok
 returns-clause-ok c =
     let b = (goal.at.returns-clause-ok c).In_ok-check_track in
-    rw (c.in_ok-push_track.ensures.ok, ← c.self.view_is)
+    rw (c.in_ok-add_track.ensures.ok, ← c.self.view_is)
     (state-track (parts_of c.self.inside) c.self.invariant (goes_on b) c.args.config.now (open_cause b)
     c.in_range.ensures)

@@ -1,4 +1,3 @@
-use Rattle.std.proofs.Common.{◌≡◌, length, arith}
 use Rattle.mp4_mux.proofs.StateLaws.{end_cause-ended}
 use Rattle.mp4_mux.specs.Parts.{state_of}
 use Rattle.mp4_mux.proofs.PartsLaws.{state-ended, state-open}
@@ -13,20 +12,19 @@ returns-then-self c =
 
 pub check_movie-requires-clause-few : goal.check_movie-requires-clause-few
 check_movie-requires-clause-few c =
-    rw c.deref.ensures.value (few-kept (parts_of c.self.inside) c.self.invariant c.if-self.false)
+    rw c.tracks.ensures (few-kept (parts_of c.self.inside) c.self.invariant c.if-self.false)
 
 pub check_movie-requires-clause-clocks : goal.check_movie-requires-clause-clocks
 check_movie-requires-clause-clocks c =
-    rw c.deref.ensures.value (clocks-kept (parts_of c.self.inside) c.self.invariant c.if-self.false)
+    rw c.tracks.ensures (clocks-kept (parts_of c.self.inside) c.self.invariant c.if-self.false)
 
 pub returns : goal.returns
 returns c =
     let p = parts_of c.self.inside in
-    let end : c.len.result ≡ length c.self.inside.buffer.items = omega (arith, c.self.inside.buffer.ok.0) in
     rw (
       ← c.self.view_is,
       state-open p c.if-self.false,
       end_cause-kept p c.self.invariant c.if-self.false,
-      ← end,
-      ← c.deref.ensures.value,
+      ← c.bytes.ensures.bytes,
+      ← c.tracks.ensures,
     ) c.check_movie.ensures

@@ -1,4 +1,4 @@
-use Rattle.std.proofs.Common.{◌≡◌, Some, Result, Ok, Err, IsErrAnd, refl, sym, ap, arith}
+use Rattle.std.proofs.Common.{◌≡◌, Some, Result, Ok, Err, IsErrAnd, length, refl, sym, ap, arith}
 use Rattle.mp4_codec.specs.declared.error.Error.{Error}
 use Rattle.mp4_codec.specs.Cause.{Checks, cause_of}
 use Rattle.mp4_mux.specs.Writing.{track_cause}
@@ -27,16 +27,16 @@ returns-in_err-check c =
     rw (← c.self.view_is, state-open p c.if-self.false, refused)
     (checks-same c.from_residual.result c.in_err-check.field-0.0 c.from_residual.ensures.1)
 
-pub returns-then-len : goal.returns-then-len
-returns-then-len c =
+pub returns-then-tracks : goal.returns-then-tracks
+returns-then-tracks c =
     let p = parts_of c.self.inside in
     rw (← c.self.view_is, state-open p c.if-self.false)
     (track_cause-many (open_state p) c.args.config.now refl c.in_ok-check.ensures
-    (omega (arith, track-count p c.self.invariant c.if-self.false, c.if-len.true, c.self.inside.tracks.ok.0)))
+    (omega (arith, track-count p c.self.invariant c.if-self.false, c.if-tracks.true, ap length c.tracks.ensures)))
 
 pub returns : goal.returns
 returns c =
     let p = parts_of c.self.inside in
     rw (← c.self.view_is, state-open p c.if-self.false)
     (track_cause-none (open_state p) c.args.config.now refl c.in_ok-check.ensures
-    (omega (arith, track-count p c.self.invariant c.if-self.false, c.if-len.false, c.self.inside.tracks.ok.0)))
+    (omega (arith, track-count p c.self.invariant c.if-self.false, c.if-tracks.false, ap length c.tracks.ensures)))

@@ -1,14 +1,15 @@
-use Rattle.std.proofs.Common.{◌≡◌, List, ℕ, sym, ap, ◌∙◌, subst, arith}
+use Rattle.std.proofs.Common.{◌≡◌, sym, ap, ◌∙◌, subst, arith}
 use Rattle.std.proofs.Common.{None, true, false}
 use Rattle.mp4_mux.specs.Writing.{end_cause, with_end}
 use Rattle.mp4_mux.proofs.StateLaws.{end_welcome}
-use Rattle.mp4_mux.specs.Parts.{Parts, open_state, state_of, IsWriting, parts_at_end}
+use Rattle.mp4_mux.specs.Media.{Media}
+use Rattle.mp4_mux.specs.Parts.{Parts, open_state, state_of, IsWriting}
 use Rattle.mp4_mux.proofs.PartsLaws.{state-ended, state-open}
 use Rattle.mp4_mux.proofs.EndLaws.{data_end-kept, few-kept, clocks-kept, state-then, writing-then}
 use Rattle.mp4_mux.proofs.EndMovieLaws.{movie-written-kept}
 use Rattle.mp4_media.specs.WriterFields.{parts_of}
 use Rattle.mp4_media.proofs.writer.Mp4Writer.end.Goals as goal
-use Rattle.mp4_media.proofs.writer.Mp4Writer.end.Goals.{In_ok-check_end, In_ok-add_end}
+use Rattle.mp4_media.proofs.writer.Mp4Writer.end.Goals.{In_ok-check_end}
 
 goes_on : (c : In_ok-check_end) → c.self.inside.ended ≡ false
 goes_on c =
@@ -22,40 +23,35 @@ open_cause c =
 pub add_end-requires-clause-few : goal.add_end-requires-clause-few
 add_end-requires-clause-few c =
     let b = (goal.at.add_end-requires-clause-few c).In_ok-check_end in
-    rw c.deref.ensures.value (few-kept (parts_of c.self.inside) c.self.invariant (goes_on b))
+    few-kept (parts_of c.self.inside) c.self.invariant (goes_on b)
 
 pub add_end-requires-clause-clocks : goal.add_end-requires-clause-clocks
 add_end-requires-clause-clocks c =
     let b = (goal.at.add_end-requires-clause-clocks c).In_ok-check_end in
-    rw c.deref.ensures.value (clocks-kept (parts_of c.self.inside) c.self.invariant (goes_on b))
+    clocks-kept (parts_of c.self.inside) c.self.invariant (goes_on b)
 
 pub add_end-requires-clause-written : goal.add_end-requires-clause-written
 add_end-requires-clause-written c =
     let b = (goal.at.add_end-requires-clause-written c).In_ok-check_end in
     let p = parts_of c.self.inside in
-    rw c.deref.ensures.value (λ room. movie-written-kept p c.self.invariant (goes_on b)
-    (omega (arith, room, data_end-kept p c.self.invariant (goes_on b))) (open_cause b))
+    λ room. movie-written-kept p c.self.invariant (goes_on b)
+    (omega (arith, room, data_end-kept p c.self.invariant (goes_on b))) (open_cause b)
 
--- what is kept then
-at_end : (c : In_ok-add_end)
-    → c.add_end.new.buffer.items ≡ (parts_at_end (parts_of c.self.inside)).media.buffer
-at_end c = rw c.deref.ensures.value at c.in_ok-add_end.ensures.ok
-
--- what is kept with these bytes
-abbrev with_bytes : Parts → List ℕ → Parts
-with_bytes p bs = record p { media = record p.media { buffer = bs }; ended = true }
+-- what is kept with these data
+abbrev ended_with : Parts → Media → Parts
+ended_with p m = record p { media = m; ended = true }
 
 pub invariant_of-self-2 : goal.invariant_of-self-2
 invariant_of-self-2 c =
     let p = parts_of c.self.inside in
     let b = (goal.at.invariant_of-self-2 c).In_ok-check_end in
-    subst (λ (bs : List ℕ). IsWriting (with_bytes p bs)) (sym (at_end (goal.at.invariant_of-self-2 c).In_ok-add_end))
+    subst (λ (m : Media). IsWriting (ended_with p m)) (sym c.in_ok-add_end.ensures.ok)
     (writing-then p c.self.invariant (goes_on b))
 
 pub returns-clause-ok : goal.returns-clause-ok
 returns-clause-ok c =
     let p = parts_of c.self.inside in
     let b = (goal.at.returns-clause-ok c).In_ok-check_end in
-    ap (λ (bs : List ℕ). state_of (with_bytes p bs)) (at_end (goal.at.returns-clause-ok c).In_ok-add_end)
+    ap (λ (m : Media). state_of (ended_with p m)) c.in_ok-add_end.ensures.ok
     ∙ state-then p c.self.invariant (goes_on b)
     ∙ ap with_end c.self.view_is

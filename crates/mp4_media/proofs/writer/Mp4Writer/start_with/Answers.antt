@@ -8,9 +8,8 @@ invariant_of-result c =
     rw (
       front,
       c.in-Ok.ensures.place,
+      c.new.ensures,
       c.in-Ok.ensures.bytes,
-      c.new.ensures.items,
-      c.new-in-Ok.ensures.items,
     )
     (writing_at_start c.args.buffer.items c.args.config c.in_range.ensures c.requires)
 
@@ -20,8 +19,7 @@ returns-in-Ok-clause-ok c =
     rw (
       front,
       c.in-Ok.ensures.place,
+      c.new.ensures,
       c.in-Ok.ensures.bytes,
-      c.new.ensures.items,
-      c.new-in-Ok.ensures.items,
     )
     (state_at_start c.args.buffer.items c.args.config)

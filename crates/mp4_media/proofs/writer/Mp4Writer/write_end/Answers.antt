@@ -47,9 +47,8 @@ returns-clause-opens c =
     let same : with_end (open_state p) ≡ state_of q =
     is p old _ c.self.view_is cause ok ∙ sym c.self-2.view_is in
     let over : q.ended ≡ true = sym (state-ended q) ∙ ap (λ (st : WriterState). st.ended) (sym same) in
-    let small : length c.self-2.inside.buffer.items < 2 ^ 63 =
-    omega (arith, c.self-2.inside.buffer.ok.0, c.self-2.inside.buffer.small) in
-    let whole : length (whole_of (with_end (open_state p))) ≡ length c.self-2.inside.buffer.items =
+    let small : length c.self-2.inside.media.buffer < 2 ^ 63 = c.bytes.ensures.small in
+    let whole : length (whole_of (with_end (open_state p))) ≡ length c.self-2.inside.media.buffer =
     ap (λ (st : WriterState). length (whole_of st)) same ∙ ap length (sym c.self-2.invariant.whole) in
     let within : data_place (open_state p) + length (data_of (with_end (open_state p))) < 2 ^ 64 =
     omega (arith, data_end-le-whole (open_state p), whole, small) in

@@ -5,7 +5,7 @@ use Rattle.mp4_mux.specs.Writing.{WriterState, info_of, sample_cause, with_sampl
 use Rattle.mp4_mux.specs.Media.{Media}
 use Rattle.mp4_mux.proofs.StateLaws.{IsWelcome, sample_welcome, sound_sample}
 use Rattle.mp4_mux.specs.Parts.{open_state, state_of, IsWriting}
-use Rattle.mp4_mux.proofs.PartsLaws.{state-ended, state-open, is_track, ticks-same, count-same, state-sample}
+use Rattle.mp4_mux.proofs.PartsLaws.{state-ended, state-open, is_track, cause-same, state-sample}
 use Rattle.mp4_mux.proofs.PartsLaws.{writing-sample}
 use Rattle.mp4_media.specs.WriterFields.{parts_of}
 use Rattle.mp4_media.proofs.writer.Mp4Writer.write_sample.Goals as goal
@@ -43,26 +43,12 @@ add_sample-requires-clause-track c =
     is_track (parts_of c.self.inside) c.self.invariant (goes_on b) c.args.id (welcome b).track
     (sample_of c.args.sample.now)
 
-pub add_sample-requires-clause-count : goal.add_sample-requires-clause-count
-add_sample-requires-clause-count c =
-    let b = (goal.at.add_sample-requires-clause-count c).In_ok-check_sample in
-    let w = welcome b in
-    omega (
-      arith,
-      count-same (parts_of c.self.inside) c.self.invariant (goes_on b) c.args.id w.track (sample_of c.args.sample.now),
-      w.count,
-    )
-
-pub add_sample-requires-clause-size : goal.add_sample-requires-clause-size
-add_sample-requires-clause-size c = (welcome (goal.at.add_sample-requires-clause-size c).In_ok-check_sample).size
-
 pub add_sample-requires-clause-room : goal.add_sample-requires-clause-room
 add_sample-requires-clause-room c =
     let b = (goal.at.add_sample-requires-clause-room c).In_ok-check_sample in
-    let w = welcome b in
-    let same = ticks-same (parts_of c.self.inside) c.self.invariant (goes_on b) c.args.id w.track
-    (sample_of c.args.sample.now) in
-    omega (arith, same, w.room)
+    sym (cause-same (parts_of c.self.inside) c.self.invariant (goes_on b) c.args.id (welcome b).track
+    (sample_of c.args.sample.now))
+    ∙ open_cause b
 
 in_range : (c : After-in_range-2) → IsInRangeSampleInfo (info_of (sample_of c.args.sample.now))
 in_range c = record {

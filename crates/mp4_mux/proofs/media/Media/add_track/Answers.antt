@@ -1,9 +1,9 @@
-use Rattle.std.proofs.Common.{◌≡◌, ◌++◌, ◌∷◌, [], sym, ap, ◌∙◌}
+use Rattle.std.proofs.Common.{◌≡◌, List, ◌++◌, ◌∷◌, [], sym, ap, ◌∙◌}
 use Rattle.mp4_codec.specs.Steps.{ok_is}
 use Rattle.mp4_mux.specs.Building.{Building, new_building}
 use Rattle.mp4_mux.specs.Config.{config_cause}
-use Rattle.mp4_media.proofs.writer.push_track.Goals as goal
-use Rattle.mp4_media.proofs.writer.push_track.Goals.{In_ok-config}
+use Rattle.mp4_mux.proofs.media.Media.add_track.Goals as goal
+use Rattle.mp4_mux.proofs.media.Media.add_track.Goals.{In_ok-config}
 
 config_is : (c : In_ok-config) → c.in_ok-config.config ≡ c.args.config.now
 config_is c = sym (ok_is c.args.config.now c.in_ok-config.config c.in_ok-config.ensures)
@@ -14,6 +14,9 @@ new-track-requires c = ap config_cause (config_is (goal.at.new-track-requires c)
 pub returns-clause-ok : goal.returns-clause-ok
 returns-clause-ok c =
     let b = (goal.at.returns-clause-ok c).In_ok-config in
-    c.in_ok-push.ensures.items
-    ∙ ap (λ (b : Building). c.args.tracks.now.items ++ b ∷ [])
-    (c.new-track.ensures ∙ ap (new_building c.args.timescale) (config_is b))
+    let old = c.self.inside in
+    rw (← c.self.view_is)
+    (ap (λ (bs : List Building). record { buffer = old.buffer.items; tracks = bs; written = old.written.items })
+    (c.in_ok-push.ensures.items
+    ∙ ap (λ (b : Building). old.tracks.items ++ b ∷ [])
+    (c.new-track.ensures ∙ ap (new_building c.args.timescale) (config_is b))))
