@@ -79,7 +79,7 @@ impl Position {
     /// Where sample `k` of a track lies, and when it is decoded and shown, as the tables of the track say. A table is
     /// searched only where the walk is neither at the sample there nor right before it. The samples after it are kept,
     /// as far as the walk stays where it is in each table.
-    #[inline(never)]
+    #[inline(always)]
     #[tactic(auto, unfolding(crate::specs::Rule::rule))]
     fn place_by_tables(&mut self, track: &Mp4Track, k: u32) -> Result<Option<Place>>
         requires here { AreIn (tables_of track.now.trak) self.old }
@@ -122,7 +122,8 @@ impl Position {
         requires stretch { IsStretch stbl.now stretch }
         ensures { AreIn stbl.now self.new }
     {
-        if stretch.number + 1 < stretch.end {
+        // Most often it is the chunk that ends, and then nothing else is looked at.
+        if stretch.number + 1 < self.chunk.chunk.end && stretch.number + 1 < stretch.end {
             let mut left = stretch;
             left.pass(stbl, size);
             self.stretch = left;

@@ -144,9 +144,27 @@ impl TimeRun {
             *self = next;
             return Ok(());
         }
-        let counts = &index.stts_counts;
-        *self = time_run_at::<ByGuess>(runs, counts, &index.stts_times, track_id, k, readings)?;
+        *self = TimeRun::search(runs, index, track_id, k, readings)?;
         Ok(())
+    }
+
+    /// The run of sample `k`, which is searched.
+    #[inline(never)]
+    fn search(
+        runs: &[SttsEntry],
+        index: &TrackIndex,
+        track_id: u32,
+        k: u32,
+        readings: &mut Readings,
+    ) -> Result<TimeRun>
+        requires first { 1 ≤ k }
+        requires sums { TimesBefore runs.now index.now.stts_counts index.now.stts_times.items }
+        requires fresh { readings.old ≡ 0 }
+        ensures run { IfOk result (λ r. IsTimeRun runs.now r × (r.before < k) × (k ≤ r.before + r.count)) }
+        ensures refused { IfErr result (λ e. time_at runs.now track_id k ≡ Err (cause_of e)) }
+    {
+        let counts = &index.stts_counts;
+        time_run_at::<ByGuess>(runs, counts, &index.stts_times, track_id, k, readings)
     }
 }
 
@@ -304,8 +322,25 @@ impl OffsetRun {
         let runs = runs_of_ctts(ctts);
         *self = match self.next_run(runs, k) {
             Some(next) => next,
-            None => offset_run_at::<ByGuess>(runs, counts, k, readings),
+            None => OffsetRun::search(runs, counts, k, readings),
         };
+    }
+
+    /// The run of sample `k`, which is searched.
+    #[inline(never)]
+    fn search(
+        runs: &[CttsEntry],
+        counts: &SearchedNumbers,
+        k: u32,
+        readings: &mut Readings,
+    ) -> OffsetRun
+        requires first { 1 ≤ k }
+        requires sums { CountsBefore (λ r. r.sample_count) runs.now counts.now }
+        requires fresh { readings.old ≡ 0 }
+        ensures run { IsOffsetRun runs.now result }
+        ensures has { (result.before < k) × (k ≤ result.before + result.count) }
+    {
+        offset_run_at::<ByGuess>(runs, counts, k, readings)
     }
 }
 
@@ -453,7 +488,7 @@ impl SyncGap {
     }
 
     /// The gap from sample `k` on, which is searched.
-    #[inline(always)]
+    #[inline(never)]
     fn search(numbers: &[u32], searched: &SearchedNumbers, k: u32, readings: &mut Readings) -> Self
         requires rises { IsStrictlyIncreasing numbers.now }
         requires same { searched.now ≡ numbers.now }
