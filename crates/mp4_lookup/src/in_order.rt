@@ -60,7 +60,7 @@ impl Mp4Track {
             return position.place(self, k);
         }
         let mut counters = Counters::of(self);
-        let number = k - self.trak.mdia.minf.stbl.stsz.sample_count - 1;
+        let number = k - self.trak.mdia.minf.stbl.sample_count() - 1;
         let trafs = self.trafs.as_slice();
         let Some(run_sample) = self.runs.find_next(
             trafs,

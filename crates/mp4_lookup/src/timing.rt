@@ -478,7 +478,7 @@ impl SyncGap {
     fn next_gap(&self, numbers: &[u32], k: u32) -> Option<SyncGap>
         requires rises { IsNonDecreasing numbers.now }
         requires gap { IsSyncGap numbers.now self.now }
-        requires behind { self.now.end < k }
+        requires after { self.now.end < k }
         ensures { IfSome result (λ g. IsSyncGap numbers.now g × (g.from ≡ k) × (k ≤ g.end)) }
     {
         if self.next > numbers.len() || (self.next < numbers.len() && numbers[self.next] < k) {
