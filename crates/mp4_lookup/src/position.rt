@@ -89,19 +89,14 @@ impl Position {
         let mut counters = Counters::of(track);
         let stbl = &track.trak.mdia.minf.stbl;
         let index = &track.index;
-        let Some(located) = self.chunk.located(
-            stbl,
-            index,
-            k,
-            &mut counters.stsc,
-            &mut counters.sizes,
-        )?
+        let Some(located) = self
+            .chunk
+            .located(stbl, index, k, &mut counters.stsc, &mut counters.sizes)?
         else {
             return Ok(None);
         };
         let runs = &stbl.stts.entries;
-        self.time
-            .move_to(runs, index, track.trak.tkhd.track_id, k, &mut counters.stts)?;
+        self.time.move_to(runs, index, track.trak.tkhd.track_id, k, &mut counters.stts)?;
         let counts = &index.ctts_counts;
         self.rendering
             .move_to(&stbl.ctts, counts, k, &mut counters.ctts);
@@ -122,8 +117,7 @@ impl Position {
         requires stretch { IsStretch stbl.now stretch }
         ensures { AreIn stbl.now self.new }
     {
-        // Most often it is the chunk that ends, and then nothing else is looked at.
-        if stretch.number + 1 < self.chunk.chunk.end && stretch.number + 1 < stretch.end {
+        if stretch.number + 1 < stretch.end {
             let mut left = stretch;
             left.pass(stbl, size);
             self.stretch = left;

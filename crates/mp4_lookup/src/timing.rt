@@ -144,27 +144,9 @@ impl TimeRun {
             *self = next;
             return Ok(());
         }
-        *self = TimeRun::search(runs, index, track_id, k, readings)?;
-        Ok(())
-    }
-
-    /// The run of sample `k`, which is searched.
-    #[inline(never)]
-    fn search(
-        runs: &[SttsEntry],
-        index: &TrackIndex,
-        track_id: u32,
-        k: u32,
-        readings: &mut Readings,
-    ) -> Result<TimeRun>
-        requires first { 1 ≤ k }
-        requires sums { TimesBefore runs.now index.now.stts_counts index.now.stts_times.items }
-        requires fresh { readings.old ≡ 0 }
-        ensures run { IfOk result (λ r. IsTimeRun runs.now r × (r.before < k) × (k ≤ r.before + r.count)) }
-        ensures refused { IfErr result (λ e. time_at runs.now track_id k ≡ Err (cause_of e)) }
-    {
         let counts = &index.stts_counts;
-        time_run_at::<ByGuess>(runs, counts, &index.stts_times, track_id, k, readings)
+        *self = time_run_at::<ByGuess>(runs, counts, &index.stts_times, track_id, k, readings)?;
+        Ok(())
     }
 }
 
@@ -322,25 +304,8 @@ impl OffsetRun {
         let runs = runs_of_ctts(ctts);
         *self = match self.next_run(runs, k) {
             Some(next) => next,
-            None => OffsetRun::search(runs, counts, k, readings),
+            None => offset_run_at::<ByGuess>(runs, counts, k, readings),
         };
-    }
-
-    /// The run of sample `k`, which is searched.
-    #[inline(never)]
-    fn search(
-        runs: &[CttsEntry],
-        counts: &SearchedNumbers,
-        k: u32,
-        readings: &mut Readings,
-    ) -> OffsetRun
-        requires first { 1 ≤ k }
-        requires sums { CountsBefore (λ r. r.sample_count) runs.now counts.now }
-        requires fresh { readings.old ≡ 0 }
-        ensures run { IsOffsetRun runs.now result }
-        ensures has { (result.before < k) × (k ≤ result.before + result.count) }
-    {
-        offset_run_at::<ByGuess>(runs, counts, k, readings)
     }
 }
 
@@ -488,7 +453,7 @@ impl SyncGap {
     }
 
     /// The gap from sample `k` on, which is searched.
-    #[inline(never)]
+    #[inline(always)]
     fn search(numbers: &[u32], searched: &SearchedNumbers, k: u32, readings: &mut Readings) -> Self
         requires rises { IsStrictlyIncreasing numbers.now }
         requires same { searched.now ≡ numbers.now }
