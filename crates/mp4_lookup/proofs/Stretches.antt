@@ -1,19 +1,18 @@
 -- Samples that differ in nothing but their sizes: a chunk from a later sample on, and a step over the first of them.
-use Rattle.std.proofs.Common.{◌≡◌, ℕ, ℤ, ◌+◌, ◌-◌, ◌*◌, ◌^◌, ◌<◌, ◌≤◌, pos, Bool, length, get_or, sum, ap, ◌∙◌, arith, refl}
-use Rattle.std.proofs.Common.{Option, Some, None, Result, Ok, add-mul}
+use Rattle.std.proofs.Common.{◌≡◌, ℕ, ℤ, ◌+◌, ◌-◌, ◌*◌, ◌^◌, ◌<◌, ◌≤◌, Bool, sum}
+use Rattle.std.proofs.Common.{Option, Some, None, Result, Ok, add-mul, ap, ◌∙◌, arith, refl}
 use Rattle.std.specs.Prelude.{slice_get, slice_range}
 use Rattle.std.proofs.lemmas.Bool.{lt-leb}
 use Rattle.std.proofs.lemmas.List.Sums.{sum_by_more}
 use Rattle.std.proofs.lemmas.Option.{get_or_from_slice_get, slice_get_within}
 use Rattle.mp4_codec.specs.Cause.{Cause, ◌>>=◌}
-use Rattle.mp4_table.specs.Runs.{rendering_offsets}
 use Rattle.mp4_table.specs.declared.stsz.StszBox.{StszBox}
 use Rattle.mp4_boxes.specs.declared.stbl.StblBox.{StblBox}
 use Rattle.mp4_samples.specs.declared.sample.Place.{Place}
-use Rattle.mp4_samples.specs.Tables.{ctts_runs, is_sync_at, sizes}
+use Rattle.mp4_samples.specs.Tables.{ctts_runs, sizes}
 use Rattle.mp4_lookup.proofs.RuleLaws.{sizes_agree}
 use Rattle.mp4_lookup.proofs.Searches.{sum-slice_range}
-use Rattle.mp4_lookup.specs.Rule.{if_there, located_at, located_in_chunk, rule, time_at, within_64_bits}
+use Rattle.mp4_lookup.specs.Rule.{if_there, located_in_chunk, rule, time_at, within_64_bits}
 use Rattle.mp4_lookup.specs.Walk.{IsChunk, IsOffsetRun, IsStretch, IsSyncRun, IsTimeRun}
 use Rattle.mp4_lookup.specs.declared.position.Position.{Position}
 use Rattle.mp4_lookup.specs.declared.stretch.Stretch.{Stretch}
@@ -69,7 +68,8 @@ time_later start first k n duration h1 h2 =
 -- the samples after the first
 pub stretch_after : (t : StblBox) (s later : Stretch) (size : ℕ) → IsStretch t s → s.number < s.end
     → slice_get (sizes t.stsz s.number) (s.number - 1) ≡ Some size → later.number ≡ s.number + 1
-    → later.end ≡ s.end → later.offset < 2 ^ 64 → later.offset ≡ s.offset + size → later.start_time ≡ s.start_time + s.duration
+    → later.end ≡ s.end → later.offset < 2 ^ 64 → later.offset ≡ s.offset + size
+    → later.start_time ≡ s.start_time + s.duration
     → later.duration ≡ s.duration → later.rendering_offset ≡ s.rendering_offset → later.is_sync ≡ s.is_sync
     → IsStretch t later
 stretch_after t s later size at there sized number end small offset start duration shown sync =
@@ -148,7 +148,8 @@ pub stretch_at : (t : StblBox) (p : Position) (run : SyncRun) (k : ℕ) (s : Str
     → p.chunk.chunk.first ≤ k → k < p.chunk.chunk.end → p.time.before < k → p.rendering.before < k → s.number ≡ k
     → s.end ≤ run.end → s.end ≤ p.chunk.chunk.end → s.end ≤ p.time.before + p.time.count + 1
     → s.end ≤ p.rendering.before + p.rendering.count + 1
-    → s.offset < 2 ^ 64 → s.offset ≡ p.chunk.chunk.offset + sum (slice_range (sizes t.stsz k) (p.chunk.chunk.first - 1) (k - 1))
+    → s.offset < 2 ^ 64
+    → s.offset ≡ p.chunk.chunk.offset + sum (slice_range (sizes t.stsz k) (p.chunk.chunk.first - 1) (k - 1))
     → s.start_time ≡ p.time.begin + (k - 1 - p.time.before) * p.time.delta → s.duration ≡ p.time.delta
     → s.rendering_offset ≡ p.rendering.offset → s.is_sync ≡ run.is_sync → IsStretch t s
 stretch_at t p run k s chunk times offsets syncs in_chunk ends in_time in_offsets number e1 e2 e3 e4 small offset start

@@ -468,8 +468,8 @@ impl ChunkPosition {
         })
     }
 
-    /// The chunk of sample `k` and its entry, if it is there: of the same entry, or of the one after it, else of one that
-    /// is searched.
+    /// The chunk of sample `k` and its entry, if it is there: of the same entry, or of the one after it, else of one
+    /// that is searched.
     // Kept a call: docs/PERF.md, "Why these are calls".
     #[inline(never)]
     fn moved_to(

@@ -124,8 +124,8 @@ impl Position {
         }
     }
 
-    /// Where sample `k` of a track lies, and when it is decoded and shown: the next of those that are kept, or else as the
-    /// tables say.
+    /// Where sample `k` of a track lies, and when it is decoded and shown: the next of those that are kept, or else as
+    /// the tables say.
     #[inline(always)]
     pub fn place(&mut self, track: &Mp4Track, k: u32) -> Result<Option<Place>>
         requires here { AreIn (tables_of track.now.trak) self.old }

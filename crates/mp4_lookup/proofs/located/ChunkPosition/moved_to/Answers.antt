@@ -1,7 +1,7 @@
 use Rattle.std.proofs.Common.{◌∙◌, arith}
 use Rattle.std.proofs.lemmas.Result.{err_from_is_err_and}
 use Rattle.mp4_lookup.specs.Walk.{IsForSamples}
-use Rattle.mp4_lookup.proofs.Steps.{entry_of, of_both, of_no_chunk, of_refused, located_by_entry, located_refused}
+use Rattle.mp4_lookup.proofs.Steps.{entry_of, located_by_entry, located_refused}
 use Rattle.mp4_lookup.proofs.Steps.{unusable}
 use Rattle.mp4_lookup.proofs.located.ChunkPosition.moved_to.Goals as goal
 

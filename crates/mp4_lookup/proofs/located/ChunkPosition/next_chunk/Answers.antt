@@ -1,4 +1,4 @@
-use Rattle.std.proofs.Common.{refl, sym, arith, rules}
+use Rattle.std.proofs.Common.{arith, rules}
 use Rattle.mp4_lookup.proofs.Steps.{next_in}
 use Rattle.mp4_lookup.proofs.located.ChunkPosition.next_chunk.Goals as goal
 

@@ -14,6 +14,7 @@ returns-clause-stretch c =
     (omega (arith, c.min.ensures, c.min-2.ensures, c.min-end.ensures, c.end.ensures, c.end-2.ensures))
     (omega (arith, c.min.ensures, c.min-2.ensures, c.min-end.ensures, c.end.ensures, c.end-2.ensures))
     (omega (arith, c.min.ensures, c.min-2.ensures, c.min-end.ensures, c.end.ensures, c.end-2.ensures))
-    (omega (arith, c.min.ensures, c.min-2.ensures, c.min-end.ensures, c.end.ensures, c.end-2.ensures)) c.ranges.offset.fits q.offset
+    (omega (arith, c.min.ensures, c.min-2.ensures, c.min-end.ensures, c.end.ensures, c.end-2.ensures))
+    c.ranges.offset.fits q.offset
     (ap (λ x. x.1) c.time-duration.ensures) (ap (λ x. x.0) c.time-duration.ensures)
     (to_z-of_z w32 p.rendering.offset fits) refl
