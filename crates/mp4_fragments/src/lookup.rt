@@ -213,27 +213,6 @@ impl RunIndex {
                 return Some(run_sample);
             }
         }
-        self.find_anew(trafs, track, number, readings, position)
-    }
-
-    /// The sample with this number, whose run is searched; the walk goes there.
-    // Kept a call: docs/PERF.md, "Why these are calls".
-    #[inline(never)]
-    fn find_anew<'t>(
-        &self,
-        trafs: &'t [TrafBox],
-        track: SampleDefaults,
-        number: u32,
-        readings: &mut Readings,
-        position: &mut Option<RunPosition<'t>>,
-    ) -> Option<RunSample>
-        requires number { number < 2 ^ 32 - 1 }
-        requires indexed { Indexes (run_at trafs.now track) (runs_of trafs.now track self.now) self.now }
-        requires fresh { readings.old ≡ 0 }
-        requires position { IfSome position.old (IsAmongRuns (runs_of trafs.now track self.now)) }
-        ensures run_sample { result ≡ slice_get (all_run_samples (runs_of trafs.now track self.now)) number }
-        ensures position { IfSome position.new (IsAmongRuns (runs_of trafs.now track self.now)) }
-    {
         let Some(mut found) = self.cursor_at::<ByGuess>(trafs, track, number, readings) else {
             return None;
         };

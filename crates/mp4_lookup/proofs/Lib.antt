@@ -13,4 +13,3 @@ pub mod Seeking
 pub mod Syncs
 pub mod StartTimes
 pub mod Numbers
-pub mod Stretches

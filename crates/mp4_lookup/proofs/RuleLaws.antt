@@ -37,7 +37,7 @@ time_at_is runs track k first within =
     rw (slice_get-get_or (durations runs) (k - 1) 0 (omega arith)) refl
 
 -- the sizes do not depend on how many are asked for, as far as both go
-pub sizes_agree : (z : StszBox) (m n s r : ℕ) → s + r ≤ m → s + r ≤ n
+sizes_agree : (z : StszBox) (m n s r : ℕ) → s + r ≤ m → s + r ≤ n
     → take r (drop s (sizes z m)) ≡ take r (drop s (sizes z n))
 unfolding sizes
 sizes_agree z m n s r h k =

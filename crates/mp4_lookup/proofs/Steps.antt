@@ -1,7 +1,7 @@
 -- Where a walk is in each table: which samples an entry, a chunk or a run is for.
-use Rattle.std.proofs.Common.{◌≡◌, ℕ, ◌+◌, ◌-◌, ◌*◌, ◌/◌, ◌%◌, ◌^◌, ◌<◌, ◌≤◌, pos, List, length, get_or, take, map, sum}
-use Rattle.std.proofs.Common.{false, Option, Some, None, Result, Ok, Err, refl, sym, ap, ◌∙◌, add-mul, arith, ⊎_elim}
-use Rattle.std.specs.Prelude.{nat_le, ◌==◌, slice_get, slice_index, slice_range, IfErr, IfOk, IfNone, IfSome}
+use Rattle.std.proofs.Common.{◌≡◌, ℕ, ◌+◌, ◌-◌, ◌*◌, ◌/◌, ◌%◌, ◌^◌, ◌<◌, ◌≤◌, pos, List, length, get_or, take, map}
+use Rattle.std.proofs.Common.{false, Option, Some, None, Result, Ok, Err, refl, sym, ap, ◌∙◌, arith, ⊎_elim}
+use Rattle.std.specs.Prelude.{nat_le, ◌==◌, slice_get, slice_index, IfErr, IfOk, IfNone, IfSome}
 use Rattle.mp4_codec.specs.Cause.{Cause, invalid_data}
 use Rattle.mp4_codec.specs.declared.error.Error.{Error}
 use Rattle.mp4_table.specs.Chunks.{last_where}
@@ -18,15 +18,12 @@ use Rattle.mp4_table.specs.declared.stts.SttsEntry.{SttsEntry}
 use Rattle.mp4_table.specs.Stsc.{HasFirstSamples}
 use Rattle.mp4_boxes.specs.declared.stbl.StblBox.{StblBox}
 use Rattle.mp4_samples.proofs.LastLaws.{last_where_is}
-use Rattle.mp4_samples.specs.Tables.{chunk_offsets, sizes}
+use Rattle.mp4_samples.specs.Tables.{chunk_offsets}
 use Rattle.mp4_search.specs.Search.{IsLastAtMost}
 use Rattle.mp4_lookup.proofs.EntryLaws.{first_samples_climb, first_samples_positive}
-use Rattle.mp4_lookup.proofs.Searches.{sum-slice_range}
-use Rattle.mp4_lookup.specs.Rule.{chunk_for, entry_for, first_in_chunk, if_there, located_at, located_by}
-use Rattle.mp4_lookup.specs.Rule.{located_in_chunk}
-use Rattle.mp4_lookup.specs.Walk.{IsChunkOf, IsForSamples, IsInChunk, IsOffsetRun, IsSyncGap, IsTimeRun}
+use Rattle.mp4_lookup.specs.Rule.{chunk_for, entry_for, first_in_chunk, located_at, located_by, located_in_chunk}
+use Rattle.mp4_lookup.specs.Walk.{IsForSamples, IsOffsetRun, IsSyncGap, IsTimeRun}
 use Rattle.mp4_lookup.specs.declared.located.Chunk.{Chunk}
-use Rattle.mp4_lookup.specs.declared.located.ChunkPosition.{ChunkPosition}
 use Rattle.mp4_lookup.specs.declared.located.EntryRun.{EntryRun}
 use Rattle.mp4_lookup.specs.declared.timing.OffsetRun.{OffsetRun}
 use Rattle.mp4_lookup.specs.declared.timing.SyncGap.{SyncGap}
@@ -147,94 +144,6 @@ chunk_same t e k n c offset reached some chunk there from to =
       omega (arith, begin, from),
       rw (one, there, same) refl,
     )
-
--- such a chunk's number, and where it begins
-pub chunk_numbered : (e : StscEntry) (k end : ℕ) (c : Chunk) → e.first_sample ≤ k → 1 ≤ e.samples_per_chunk
-    → c.number ≡ e.first_chunk + (k - e.first_sample) / e.samples_per_chunk → 1 ≤ c.number
-    → c.first ≡ k - (k - e.first_sample) % e.samples_per_chunk → (c.end < end → c.end ≡ c.first + e.samples_per_chunk)
-    → IsChunkOf e end c
-chunk_numbered e k end c reached some number counts first ends =
-    let m = k - e.first_sample in
-    let w = e.samples_per_chunk in
-    let whole = div-add-mod' m w in
-    let begin : c.first - e.first_sample ≡ m / w * w + 0 = omega (arith, first, whole, reached) in
-    let positive : 0 < w = omega (arith, some) in
-    record {
-      some = some;
-      from = omega (arith, first, whole, reached);
-      whole = rw begin (mod-mul-add (m / w) w 0 positive);
-      number = number ∙ sym (rw (begin, div-mul-add (m / w) w 0 positive) refl);
-      counts = counts;
-      ends = ends;
-    }
-
--- the chunk after one, as its entry says: its number, and that it begins where that one ends
-chunk_after : (e : StscEntry) (end k : ℕ) (c : Chunk) → IsChunkOf e end c → k ≡ c.end → c.end < end
-    → c.number + 1 < 2 ^ 32
-    → (chunk_for e k ≡ Ok (c.number + 1)) × ((k - e.first_sample) % e.samples_per_chunk ≡ 0)
-    × (e.first_chunk + (k - e.first_sample) / e.samples_per_chunk ≡ c.number + 1)
-unfolding chunk_for
-chunk_after e end k c is at inside small =
-    let m = c.first - e.first_sample in
-    let w = e.samples_per_chunk in
-    let positive : 0 < w = omega (arith, is.some) in
-    let step : k - e.first_sample ≡ (m / w + 1) * w + 0 =
-    omega (arith, at, is.ends inside, is.from, div-add-mod' m w, is.whole, add-mul (m / w) 1 w) in
-    let row : (k - e.first_sample) / w ≡ m / w + 1 = rw step (div-mul-add (m / w + 1) w 0 positive) in
-    let column : (k - e.first_sample) % w ≡ 0 = rw step (mod-mul-add (m / w + 1) w 0 positive) in
-    let number : e.first_chunk + (k - e.first_sample) / w ≡ c.number + 1 = rw row (omega (arith, is.number)) in (
-      rw (number, ne_eqb (c.number + 1) 0 (λ z. omega (arith, z)), lt-leb (2 ^ 32) (c.number + 1) small) refl,
-      column,
-      number,
-    )
-
--- the first sample of a chunk lies where the chunk begins
-pub no_sizes : (t : StblBox) (k : ℕ) → sum (slice_range (sizes t.stsz k) (k - 1) (k - 1)) ≡ 0
-no_sizes t k = omega (arith, sum-slice_range (sizes t.stsz k) (k - 1) (k - 1) (omega arith))
-
-pub first_located : (t : StblBox) (offset k : ℕ) (size : Option ℕ) → offset < 2 ^ 64
-    → slice_get (sizes t.stsz k) (k - 1) ≡ size
-    → located_in_chunk t offset k k ≡ if_there {B = ℕ × ℕ} size (λ size. Ok (Some (offset, size)))
-first_located t offset k None small is = rw is refl
-first_located t offset k (Some size) small is =
-    let place : offset + sum (slice_range (sizes t.stsz k) (k - 1) (k - 1)) ≡ offset = omega (arith, no_sizes t k) in
-    rw (is, place, lt-leb (2 ^ 64) offset small) refl
-
--- the samples of the chunk after one
-pub next_in : (t : StblBox) (p : ChunkPosition) (c : Chunk) → IsInChunk t p → p.chunk.first < p.chunk.end
-    → c.first ≡ p.chunk.end → p.chunk.end < p.entry.end → c.number ≡ p.chunk.number + 1 → c.number < 2 ^ 32
-    → slice_get (chunk_offsets t) (c.number - 1) ≡ Some c.offset → c.end ≤ p.entry.end
-    → c.end ≤ c.first + p.entry.entry.samples_per_chunk
-    → (c.end < p.entry.end → c.end ≡ c.first + p.entry.entry.samples_per_chunk)
-    → IsInChunk t (record { entry = p.entry; chunk = c })
-next_in t p c at there first inside number small offset e1 e2 ends =
-    let e = p.entry.entry in
-    let is = at.numbered there in
-    let after = chunk_after e p.entry.end c.first p.chunk is first inside (omega (arith, number, small)) in
-    let chunk : chunk_for e c.first ≡ Ok c.number = rw number after.0 in
-    let reached : e.first_sample ≤ c.first = omega (arith, is.from, first, there) in
-    let positive : 1 ≤ e.first_sample = at.entry.first (omega (arith, reached, first, inside)) in
-    let begin : first_in_chunk e c.first ≡ c.first = rw after.1 (omega arith) in
-    record {
-      entry = at.entry;
-      chunk = record {
-        first = λ _. omega (arith, positive, reached);
-        samples = λ n from to.
-            let same = chunk_same t e c.first n c.number c.offset reached is.some chunk offset
-            (omega (arith, begin, from)) (omega (arith, begin, to, e2)) in
-            located_by_entry t e n
-            (entry_of t.stsc.entries p.entry n at.entry same.0 (omega (arith, to, e1)) is.some)
-            ∙ same.1 ∙ rw begin refl;
-      };
-      numbered = λ _. record {
-        some = is.some;
-        from = reached;
-        whole = after.1;
-        number = number ∙ sym after.2;
-        counts = omega (arith, number);
-        ends = ends;
-      };
-    }
 
 -- stts and ctts
 

@@ -1,24 +1,20 @@
 -- Where a walk over the samples of a track is in each table, so that those that come next are found without a search.
-use Rattle.std.specs.Prelude.{◌≡◌, ℕ, ◌+◌, ◌-◌, ◌*◌, ◌/◌, ◌%◌, ◌^◌, ◌<◌, ◌≤◌, pos, List, length, take, get_or}
-use Rattle.std.specs.Prelude.{slice_index, Option, Ok, Some, nat_le, ◌==◌}
+use Rattle.std.specs.Prelude.{◌≡◌, ℕ, ◌+◌, ◌-◌, ◌*◌, ◌^◌, ◌<◌, ◌≤◌, pos, List, length, take, get_or}
+use Rattle.std.specs.Prelude.{slice_index, Ok, Some, nat_le, ◌==◌}
 use Rattle.std.specs.List.{list_any, sum_by}
 use Rattle.mp4_table.specs.declared.ctts.CttsEntry.{CttsEntry}
 use Rattle.mp4_table.specs.declared.stsc.StscEntry.{StscEntry}
-use Rattle.mp4_table.specs.declared.stss.StssBox.{StssBox}
 use Rattle.mp4_table.specs.declared.stts.SttsEntry.{SttsEntry}
 use Rattle.mp4_table.specs.Chunks.{last_where}
 use Rattle.mp4_table.specs.Runs.{rendering_offsets}
 use Rattle.mp4_boxes.specs.declared.stbl.StblBox.{StblBox}
 use Rattle.mp4_lookup.specs.Rule.{located_at, located_in_chunk, time_at}
-use Rattle.mp4_samples.specs.Tables.{ctts_runs, is_sync_at, sync_numbers}
+use Rattle.mp4_samples.specs.Tables.{ctts_runs, sync_numbers}
 use Rattle.mp4_lookup.specs.declared.located.Chunk.{Chunk}
-use Rattle.mp4_lookup.specs.declared.located.ChunkPosition.{ChunkPosition}
 use Rattle.mp4_lookup.specs.declared.located.EntryRun.{EntryRun}
 use Rattle.mp4_lookup.specs.declared.position.Position.{Position}
-use Rattle.mp4_lookup.specs.declared.stretch.Stretch.{Stretch}
 use Rattle.mp4_lookup.specs.declared.timing.OffsetRun.{OffsetRun}
 use Rattle.mp4_lookup.specs.declared.timing.SyncGap.{SyncGap}
-use Rattle.mp4_lookup.specs.declared.timing.SyncRun.{SyncRun}
 use Rattle.mp4_lookup.specs.declared.timing.TimeRun.{TimeRun}
 
 -- the entry of stsc for the samples from its first to before its end
@@ -31,22 +27,6 @@ pub record IsForSamples (entries : List StscEntry) (r : EntryRun) : Type 0 where
 pub record IsChunk (t : StblBox) (c : Chunk) : Type 0 where
   pub first : c.first < c.end → 1 ≤ c.first
   pub samples : (k : ℕ) → c.first ≤ k → k < c.end → located_at t k ≡ located_in_chunk t c.offset c.first k
-
--- A chunk of an entry, which is for the samples before an end: the chunk has as many samples as the entry says, and its
--- number is that of the entry's first chunk and the chunks between.
-pub record IsChunkOf (e : StscEntry) (end : ℕ) (c : Chunk) : Type 0 where
-  pub some : 1 ≤ e.samples_per_chunk
-  pub from : e.first_sample ≤ c.first
-  pub whole : (c.first - e.first_sample) % e.samples_per_chunk ≡ 0
-  pub number : c.number ≡ e.first_chunk + (c.first - e.first_sample) / e.samples_per_chunk
-  pub counts : 1 ≤ c.number
-  pub ends : c.end < end → c.end ≡ c.first + e.samples_per_chunk
-
--- where a walk is in stsc: in a chunk of an entry, or before all
-pub record IsInChunk (t : StblBox) (p : ChunkPosition) : Type 0 where
-  pub entry : IsForSamples t.stsc.entries p.entry
-  pub chunk : IsChunk t p.chunk
-  pub numbered : p.chunk.first < p.chunk.end → IsChunkOf p.entry.entry p.entry.end p.chunk
 
 -- The samples of a run of stts, and when they are decoded; and what comes before the run after it. No time passes 64
 -- bits.
@@ -70,28 +50,10 @@ pub record IsSyncGap (numbers : List ℕ) (g : SyncGap) : Type 0 where
   pub samples : (k : ℕ) → g.from ≤ k → k ≤ g.end → k < 2 ^ 32 → list_any (λ n. n == k) numbers ≡ (k == g.end)
   pub earlier : (i : ℕ) → i < g.next → i < length numbers → slice_index numbers i ≤ g.end
 
--- samples from k to before an end, which are sync samples all or none
-pub record IsSyncRun (stss : Option StssBox) (k : ℕ) (r : SyncRun) : Type 0 where
-  pub there : k < r.end
-  pub small : r.end ≤ 2 ^ 32
-  pub alike : (n : ℕ) → k ≤ n → n < r.end → is_sync_at stss n ≡ r.is_sync
-
--- samples that differ in nothing but their sizes: they lie one after the other from an offset on, and are decoded one
--- after the other from a time on
-pub record IsStretch (t : StblBox) (s : Stretch) : Type 0 where
-  pub first : s.number < s.end → 1 ≤ s.number
-  pub small : s.offset < 2 ^ 64
-  pub located : (k : ℕ) → s.number ≤ k → k < s.end → located_at t k ≡ located_in_chunk t s.offset s.number k
-  pub timed : (track k : ℕ) → s.number ≤ k → k < s.end
-      → time_at t.stts.entries track k ≡ Ok (s.duration, s.start_time + (k - s.number) * s.duration)
-  pub shown : (k : ℕ) → s.number ≤ k → k < s.end
-      → get_or (rendering_offsets (ctts_runs t.ctts)) (k - 1) (pos 0) ≡ s.rendering_offset
-  pub sync : (k : ℕ) → s.number ≤ k → k < s.end → is_sync_at t.stss k ≡ s.is_sync
-
 -- a walk is in each of these tables
 pub record AreIn (t : StblBox) (p : Position) : Type 0 where
-  pub chunk : IsInChunk t p.chunk
+  pub entries : IsForSamples t.stsc.entries p.entry
+  pub chunk : IsChunk t p.chunk
   pub times : IsTimeRun t.stts.entries p.time
   pub offsets : IsOffsetRun (ctts_runs t.ctts) p.rendering
   pub sync : IsSyncGap (sync_numbers t.stss) p.sync
-  pub stretch : IsStretch t p.stretch

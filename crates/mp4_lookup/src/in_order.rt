@@ -56,11 +56,12 @@ impl Mp4Track {
         ensures here { AreIn (tables_of self.now.trak) position.new }
         ensures added { IfSome run_position.new (IsAmongRuns (track_runs self.now)) }
     {
-        if self.is_of_movie(k) {
-            return position.place(self, k);
-        }
         let mut counters = Counters::of(self);
-        let number = k - self.trak.mdia.minf.stbl.sample_count() - 1;
+        let stbl = &self.trak.mdia.minf.stbl;
+        if self.is_of_movie(k) {
+            return position.place(stbl, &self.index, self.trak.tkhd.track_id, k, &mut counters);
+        }
+        let number = k - stbl.sample_count() - 1;
         let trafs = self.trafs.as_slice();
         let Some(run_sample) = self.runs.find_next(
             trafs,

@@ -19,7 +19,6 @@ mod rates;
 mod runs;
 mod samples;
 mod seek;
-mod stretch;
 mod time;
 mod timing;
 mod track;

@@ -5,8 +5,7 @@
 
 ghost use Rattle.mp4_codec.specs.ExactTest.{by_test, field_tests};
 ghost use Rattle.std.specs.Prelude.{◌≡◌, ℕ, ◌+◌, ◌-◌, ◌^◌, ◌<◌, ◌≤◌, map, length, sum, slice_get, slice_range};
-ghost use Rattle.std.specs.Prelude.{option_map, List, get_or, IfErr, IfOk, IfNone, IfSome, IsFalse, IsTrue, OnOk};
-ghost use Rattle.std.specs.Prelude.{◌/◌, Some, Ok, Err, None};
+ghost use Rattle.std.specs.Prelude.{option_map, List, get_or, IfErr, IfOk, IfNone, IfSome, IsTrue, OnOk, Ok, Err, None};
 ghost use Rattle.mp4_codec.specs.Cause.{Gives, cause_of, invalid_data};
 ghost use Rattle.mp4_table.specs.Stsc.{HasFirstSamples};
 ghost use Rattle.mp4_search.specs.Search.{IsLastAtMost};
@@ -16,7 +15,7 @@ ghost use Rattle.mp4_samples.specs.Tables.{chunk_offsets, sizes};
 ghost use Rattle.mp4_lookup.specs.Index.{IsIndexOf};
 ghost use Rattle.mp4_lookup.specs.Costs.{AreFewSizeReads};
 ghost use Rattle.mp4_lookup.specs.Rule.{chunk_for, entry_for, located_at, located_by, located_in_chunk, within_64_bits};
-ghost use Rattle.mp4_lookup.specs.Walk.{IsChunk, IsChunkOf, IsForSamples, IsInChunk};
+ghost use Rattle.mp4_lookup.specs.Walk.{IsChunk, IsForSamples};
 
 use crate::index::TrackIndex;
 use mp4_boxes::StblBox;
@@ -150,33 +149,35 @@ impl EntryRun {
         self.entry.first_sample <= k && u64::from(k) < self.end
     }
 
-    /// The entry of sample `k`: the same, or the one after it, else one that is searched.
-    fn moved_to(
-        &self,
+    /// Becomes the entry of sample `k`: the same, or the one after it, else one that is searched.
+    #[inline(always)]
+    fn move_to(
+        &mut self,
         entries: &[StscEntry],
         first_samples: &SearchedNumbers,
         k: u32,
         readings: &mut Readings,
-    ) -> Result<EntryRun>
+    ) -> Result<()>
         requires firsts { HasFirstSamples entries.now }
         requires index { first_samples.now ≡ map (λ e. e.first_sample) entries.now }
         requires fresh { readings.old ≡ 0 }
-        requires samples { IsForSamples entries.now self.now }
-        ensures samples { IfOk result (IsForSamples entries.now) }
-        ensures has { IfOk result (λ r. (r.entry.first_sample ≤ k) × (k < r.end)) }
+        requires samples { IsForSamples entries.now self.old }
+        ensures samples { IsForSamples entries.now self.new }
+        ensures has { OnOk result ((self.new.entry.first_sample ≤ k) × (k < self.new.end)) }
         ensures refused { IfErr result (λ e. entry_for entries.now k ≡ Err (cause_of e)) }
     {
         if self.has(k) {
-            return Ok(*self);
+            return Ok(());
         }
         if self.next < entries.len() {
-            let next = EntryRun::of(entries, self.next);
-            if next.has(k) {
-                return Ok(next);
+            *self = EntryRun::of(entries, self.next);
+            if self.has(k) {
+                return Ok(());
             }
         }
         let index = entry_index::<ByGuess>(entries, first_samples, k, readings)?;
-        Ok(EntryRun::of(entries, index))
+        *self = EntryRun::of(entries, index);
+        Ok(())
     }
 }
 
@@ -186,8 +187,6 @@ fn chunk_of(entry: &StscEntry, k: u32) -> Result<u32>
     requires from { entry.now.first_sample ≤ k }
     requires some { 1 ≤ entry.now.samples_per_chunk }
     ensures chunk { Gives (λ c. c) result (chunk_for entry.now k) }
-    ensures number { IfOk result (λ c. c ≡ entry.now.first_chunk
-        + (k - entry.now.first_sample) / entry.now.samples_per_chunk) }
     ensures counts { IfOk result (λ c. 1 ≤ c) }
 {
     let chunk = u64::from(entry.first_chunk)
@@ -216,7 +215,7 @@ fn chunk_offset_at(stbl: &StblBox, chunk: u32) -> Option<u64>
 
 /// The size of sample `k`.
 #[tactic(auto, unfolding(mp4_samples::specs::Tables::sizes))]
-pub fn size_at(stsz: &StszBox, k: u32) -> Option<u32>
+fn size_at(stsz: &StszBox, k: u32) -> Option<u32>
     requires { 1 ≤ k }
     ensures { result ≡ slice_get (sizes stsz.now k) (k - 1) }
 {
@@ -254,8 +253,7 @@ fn size_between(
 
 /// A place, if it is within 64 bits: so many bytes after the beginning of a chunk.
 fn place_within(chunk_offset: u64, earlier: u64) -> Result<u64>
-    ensures within { Gives (λ place. place) result (within_64_bits (chunk_offset + earlier)) }
-    ensures place { IfOk result (λ place. place ≡ chunk_offset + earlier) }
+    ensures { Gives (λ place. place) result (within_64_bits (chunk_offset + earlier)) }
 {
     match chunk_offset.checked_add(earlier) {
         Some(place) => Ok(place),
@@ -263,30 +261,9 @@ fn place_within(chunk_offset: u64, earlier: u64) -> Result<u64>
     }
 }
 
-/// Where sample `k` lies, and its size, in a chunk that begins with it: no sum is asked for.
-#[inline(always)]
-fn first_located(stbl: &StblBox, chunk_offset: u64, k: u32) -> Option<LocatedBytes>
-    requires first { 1 ≤ k }
-    ensures located { located_in_chunk stbl.now chunk_offset k k
-        ≡ Ok (option_map (λ s. (s.offset, s.size)) result) }
-    ensures place { IfSome result
-        (λ s. s.offset ≡ chunk_offset + sum (slice_range (sizes stbl.now.stsz k) (k - 1) (k - 1))) }
-    ensures size { IfSome result (λ s. slice_get (sizes stbl.now.stsz k) (k - 1) ≡ Some s.size) }
-{
-    let Some(size) = size_at(&stbl.stsz, k) else {
-        return None;
-    };
-    Some(LocatedBytes {
-        offset: chunk_offset,
-        size,
-    })
-}
-
 /// The samples of a chunk, as one entry of stsc places them.
 #[derive(Clone, Copy, Debug)]
 pub struct Chunk {
-    /// Chunks count from 1.
-    pub number: u32,
     /// Its first sample.
     pub first: u32,
     /// The number after its last sample, or after the last that the entry is for.
@@ -307,7 +284,6 @@ fn chunk_by(stbl: &StblBox, entry: &StscEntry, end: u64, k: u32) -> Result<Optio
         → (entry.now.first_sample ≤ n) × (n < end)
         × (located_by stbl.now entry.now n ≡ located_in_chunk stbl.now c.offset c.first n))) }
     ensures inside { IfOk result (λ c. IfSome c (λ c. (1 ≤ c.first) × (c.first ≤ k) × (k < c.end))) }
-    ensures numbered { IfOk result (λ c. IfSome c (IsChunkOf entry.now end)) }
     ensures none { IfOk result (λ c. IfNone c (located_by stbl.now entry.now k ≡ Ok None)) }
     ensures refused { IfErr result (λ e. located_by stbl.now entry.now k ≡ Err (cause_of e)) }
 {
@@ -317,34 +293,19 @@ fn chunk_by(stbl: &StblBox, entry: &StscEntry, end: u64, k: u32) -> Result<Optio
     };
     let first = k - (k - entry.first_sample) % entry.samples_per_chunk;
     let end = end.min(u64::from(first) + u64::from(entry.samples_per_chunk));
-    Ok(Some(Chunk {
-        number: chunk,
-        first,
-        end,
-        offset,
-    }))
+    Ok(Some(Chunk { first, end, offset }))
 }
 
 impl Chunk {
     /// Before the first chunk, with no sample.
     pub fn none() -> Self
-        ensures chunk { (t : StblBox) → IsChunk t result }
-        ensures empty { result.end ≡ 0 }
+        ensures { (t : StblBox) → IsChunk t result }
     {
         Chunk {
-            number: 0,
             first: 0,
             end: 0,
             offset: 0,
         }
-    }
-
-    /// Whether it has sample `k`.
-    #[inline(always)]
-    fn has(&self, k: u32) -> bool
-        ensures { IsTrue result → (self.now.first ≤ k) × (k < self.now.end) }
-    {
-        self.first <= k && u64::from(k) < self.end
     }
 
     /// Where sample `k` of the chunk lies, and its size.
@@ -363,9 +324,6 @@ impl Chunk {
         requires fresh { readings.old ≡ 0 }
         ensures located { Gives (λ s. option_map (λ s. (s.offset, s.size)) s) result
             (located_in_chunk stbl.now self.now.offset self.now.first k) }
-        ensures place { IfOk result (λ s. IfSome s (λ s. s.offset ≡ self.now.offset
-            + sum (slice_range (sizes stbl.now.stsz k) (self.now.first - 1) (k - 1)))) }
-        ensures size { IfOk result (λ s. IfSome s (λ s. slice_get (sizes stbl.now.stsz k) (k - 1) ≡ Some s.size)) }
         ensures size_reads { IfOk result (λ s. IfSome s (λ s. AreFewSizeReads stbl.now readings.new)) }
     {
         let Some(size) = size_at(&stbl.stsz, k) else {
@@ -428,140 +386,63 @@ pub fn located_at<S: Search>(
     chunk.located(stbl, &index.size_sums, k, sizes)
 }
 
-/// The chunk that a walk is in, and its entry of stsc.
-#[derive(Clone, Copy, Debug)]
-pub struct ChunkPosition {
-    pub entry: EntryRun,
-    pub chunk: Chunk,
+/// The chunk of sample `k`, if it is there, in a walk that is in this entry of stsc and this chunk, or else moves to
+/// the entry of the sample.
+#[inline(always)]
+fn chunk_in_order(
+    stbl: &StblBox,
+    index: &TrackIndex,
+    k: u32,
+    run: &mut EntryRun,
+    chunk: Chunk,
+    searched: &mut Readings,
+) -> Result<Option<Chunk>>
+    requires firsts { HasFirstSamples stbl.now.stsc.entries }
+    requires index { IsIndexOf stbl.now index.now }
+    requires fresh { searched.old ≡ 0 }
+    requires entries { IsForSamples stbl.now.stsc.entries run.old }
+    requires chunk { IsChunk stbl.now chunk }
+    ensures entries { IsForSamples stbl.now.stsc.entries run.new }
+    ensures samples { IfOk result (λ c. IfSome c (IsChunk stbl.now)) }
+    ensures inside { IfOk result (λ c. IfSome c (λ c. (c.first ≤ k) × (k < c.end))) }
+    ensures none { IfOk result (λ c. IfNone c (located_at stbl.now k ≡ Ok None)) }
+    ensures refused { IfErr result (λ e. located_at stbl.now k ≡ Err (cause_of e)) }
+    ensures counts { OnOk result (1 ≤ k) }
+{
+    if chunk.first <= k && u64::from(k) < chunk.end {
+        return Ok(Some(chunk));
+    }
+    let entries = stbl.stsc.entries.as_slice();
+    run.move_to(entries, &index.first_samples, k, searched)?;
+    check_usable(&run.entry)?;
+    chunk_by(stbl, &run.entry, run.end, k)
 }
 
-impl ChunkPosition {
-    /// Before the first chunk.
-    pub fn none() -> Self
-        ensures { (t : StblBox) → IsInChunk t result }
-    {
-        ChunkPosition {
-            entry: EntryRun::none(),
-            chunk: Chunk::none(),
-        }
-    }
-
-    /// The chunk after it, if sample `k` is the first of that one, and it is of the same entry.
-    #[inline(always)]
-    fn next_chunk(&self, stbl: &StblBox, k: u32) -> Option<Chunk>
-        requires here { IsInChunk stbl.now self.now }
-        ensures here { IfSome result (λ c. IsInChunk stbl.now (record { entry = self.now.entry; chunk = c })) }
-        ensures has { IfSome result (λ c. (c.first ≤ k) × (k < c.end)) }
-    {
-        let last = self.chunk;
-        if u64::from(k) != last.end || last.first >= k || last.end >= self.entry.end {
-            return None;
-        }
-        let number = last.number.checked_add(1)?;
-        let offset = chunk_offset_at(stbl, number)?;
-        let samples = u64::from(self.entry.entry.samples_per_chunk);
-        Some(Chunk {
-            number,
-            first: k,
-            end: self.entry.end.min(last.end + samples),
-            offset,
-        })
-    }
-
-    /// The chunk of sample `k` and its entry, if it is there: of the same entry, or of the one after it, else of one
-    /// that is searched.
-    // Kept a call: docs/PERF.md, "Why these are calls".
-    #[inline(never)]
-    fn moved_to(
-        &self,
-        stbl: &StblBox,
-        index: &TrackIndex,
-        k: u32,
-        searched: &mut Readings,
-    ) -> Result<Option<ChunkPosition>>
-        requires firsts { HasFirstSamples stbl.now.stsc.entries }
-        requires index { IsIndexOf stbl.now index.now }
-        requires fresh { searched.old ≡ 0 }
-        requires here { IsInChunk stbl.now self.now }
-        ensures here { IfOk result (λ p. IfSome p (IsInChunk stbl.now)) }
-        ensures has { IfOk result (λ p. IfSome p (λ p. (p.chunk.first ≤ k) × (k < p.chunk.end))) }
-        ensures none { IfOk result (λ p. IfNone p (located_at stbl.now k ≡ Ok None)) }
-        ensures refused { IfErr result (λ e. located_at stbl.now k ≡ Err (cause_of e)) }
-    {
-        let entries = stbl.stsc.entries.as_slice();
-        let entry = self
-            .entry
-            .moved_to(entries, &index.first_samples, k, searched)?;
-        check_usable(&entry.entry)?;
-        let Some(chunk) = chunk_by(stbl, &entry.entry, entry.end, k)? else {
-            return Ok(None);
-        };
-        Ok(Some(ChunkPosition { entry, chunk }))
-    }
-
-    /// Moves to the chunk of sample `k`, and answers whether it is there. Where it isn't, the walk stays.
-    #[inline(always)]
-    fn move_to(
-        &mut self,
-        stbl: &StblBox,
-        index: &TrackIndex,
-        k: u32,
-        searched: &mut Readings,
-    ) -> Result<bool>
-        requires firsts { HasFirstSamples stbl.now.stsc.entries }
-        requires index { IsIndexOf stbl.now index.now }
-        requires fresh { searched.old ≡ 0 }
-        requires here { IsInChunk stbl.now self.old }
-        ensures here { IsInChunk stbl.now self.new }
-        ensures has { IfOk result (λ there. IsTrue there
-            → (self.new.chunk.first ≤ k) × (k < self.new.chunk.end)) }
-        ensures none { IfOk result (λ there. IsFalse there → located_at stbl.now k ≡ Ok None) }
-        ensures refused { IfErr result (λ e. located_at stbl.now k ≡ Err (cause_of e)) }
-    {
-        if self.chunk.has(k) {
-            return Ok(true);
-        }
-        if let Some(next) = self.next_chunk(stbl, k) {
-            self.chunk = next;
-            return Ok(true);
-        }
-        match self.moved_to(stbl, index, k, searched)? {
-            None => Ok(false),
-            Some(position) => {
-                *self = position;
-                Ok(true)
-            }
-        }
-    }
-
-    /// Where sample `k` lies, and its size; the walk moves to its chunk.
-    #[inline(always)]
-    pub fn located(
-        &mut self,
-        stbl: &StblBox,
-        index: &TrackIndex,
-        k: u32,
-        searched: &mut Readings,
-        summed: &mut Readings,
-    ) -> Result<Option<LocatedBytes>>
-        requires firsts { HasFirstSamples stbl.now.stsc.entries }
-        requires index { IsIndexOf stbl.now index.now }
-        requires fresh_entries { searched.old ≡ 0 }
-        requires fresh_sizes { summed.old ≡ 0 }
-        requires here { IsInChunk stbl.now self.old }
-        ensures here { IsInChunk stbl.now self.new }
-        ensures located { Gives (λ s. option_map (λ s. (s.offset, s.size)) s) result (located_at stbl.now k) }
-        ensures place { IfOk result (λ s. IfSome s (λ s. s.offset ≡ self.new.chunk.offset
-            + sum (slice_range (sizes stbl.now.stsz k) (self.new.chunk.first - 1) (k - 1)))) }
-        ensures size { IfOk result (λ s. IfSome s (λ s. slice_get (sizes stbl.now.stsz k) (k - 1) ≡ Some s.size)) }
-        ensures inside { IfOk result (λ s. IfSome s (λ s. (self.new.chunk.first ≤ k) × (k < self.new.chunk.end))) }
-    {
-        if !self.move_to(stbl, index, k, searched)? {
-            return Ok(None);
-        }
-        if self.chunk.first == k {
-            return Ok(first_located(stbl, self.chunk.offset, k));
-        }
-        self.chunk.located(stbl, &index.size_sums, k, summed)
-    }
+/// Where sample `k` lies, and its size, in a walk that is in this entry of stsc and this chunk, or else moves there.
+#[inline(always)]
+pub fn located_in_order(
+    stbl: &StblBox,
+    index: &TrackIndex,
+    k: u32,
+    run: &mut EntryRun,
+    chunk: &mut Chunk,
+    searched: &mut Readings,
+    sizes: &mut Readings,
+) -> Result<Option<LocatedBytes>>
+    requires firsts { HasFirstSamples stbl.now.stsc.entries }
+    requires index { IsIndexOf stbl.now index.now }
+    requires fresh_entries { searched.old ≡ 0 }
+    requires fresh_sizes { sizes.old ≡ 0 }
+    requires entries { IsForSamples stbl.now.stsc.entries run.old }
+    requires chunk { IsChunk stbl.now chunk.old }
+    ensures entries { IsForSamples stbl.now.stsc.entries run.new }
+    ensures chunk { IsChunk stbl.now chunk.new }
+    ensures located { Gives (λ s. option_map (λ s. (s.offset, s.size)) s) result (located_at stbl.now k) }
+    ensures counts { OnOk result (1 ≤ k) }
+{
+    let Some(found) = chunk_in_order(stbl, index, k, run, *chunk, searched)? else {
+        return Ok(None);
+    };
+    *chunk = found;
+    found.located(stbl, &index.size_sums, k, sizes)
 }

@@ -3,7 +3,7 @@
 // The steps of a look-up are kept inline: docs/PERF.md, "Why these are calls".
 
 ghost use Rattle.std.specs.Prelude.{◌≡◌, ℕ, ◌+◌, ◌-◌, ◌*◌, ◌^◌, ◌<◌, ◌≤◌, List, length, pos, get_or, slice_index};
-ghost use Rattle.std.specs.Prelude.{IfErr, IfOk, IfSome, IsSome, IsTrue, OnOk};
+ghost use Rattle.std.specs.Prelude.{IfErr, IfOk, IfSome, IsTrue, OnOk};
 ghost use Rattle.std.specs.Prelude.{Err, ◌==◌, ◌↔◌, false};
 ghost use Rattle.std.specs.List.{All, list_any, sum_by};
 ghost use Rattle.std.specs.List.Sorted.{IsNonDecreasing, IsStrictlyIncreasing};
@@ -15,7 +15,7 @@ ghost use Rattle.mp4_search.specs.Sums.{CountsBefore};
 ghost use Rattle.mp4_lookup.specs.Sums.{TimesBefore};
 ghost use Rattle.mp4_samples.specs.Tables.{ctts_runs, is_sync_at, sync_numbers};
 ghost use Rattle.mp4_lookup.specs.Rule.{time_at};
-ghost use Rattle.mp4_lookup.specs.Walk.{IsOffsetRun, IsSyncGap, IsSyncRun, IsTimeRun};
+ghost use Rattle.mp4_lookup.specs.Walk.{IsOffsetRun, IsSyncGap, IsTimeRun};
 
 use crate::index::{TrackIndex, runs_of_ctts};
 use mp4_codec::{BoxType, Error, Result, SharedItems};
@@ -77,7 +77,7 @@ impl TimeRun {
 
     /// Duration and start of sample `k` of it.
     #[inline(always)]
-    pub fn time(&self, k: u32) -> (u32, u64)
+    fn time(&self, k: u32) -> (u32, u64)
         requires from { self.now.before < k }
         requires fits { self.now.begin + (k - 1 - self.now.before) * self.now.delta < 2 ^ 64 }
         ensures { result ≡ (self.now.delta, self.now.begin + (k - 1 - self.now.before) * self.now.delta) }
@@ -110,17 +110,9 @@ impl TimeRun {
         })
     }
 
-    /// The number after its last sample.
-    #[inline(always)]
-    pub fn end(&self) -> u64
-        ensures { result ≡ self.now.before + self.now.count + 1 }
-    {
-        u64::from(self.before) + u64::from(self.count) + 1
-    }
-
     /// Becomes the run of sample `k`: the same, or the one after it, else one that is searched.
     #[inline(always)]
-    pub fn move_to(
+    fn move_to(
         &mut self,
         runs: &SharedItems<SttsEntry>,
         index: &TrackIndex,
@@ -203,6 +195,28 @@ pub fn time_at<S: Search>(
     Ok(run.time(k))
 }
 
+/// Duration and start of sample `k`, in a walk that is in this run, or else moves to the run after it, or to one that
+/// it searches.
+#[inline(always)]
+pub fn time_in_order(
+    runs: &SharedItems<SttsEntry>,
+    index: &TrackIndex,
+    track_id: u32,
+    k: u32,
+    run: &mut TimeRun,
+    readings: &mut Readings,
+) -> Result<(u32, u64)>
+    requires first { 1 ≤ k }
+    requires sums { TimesBefore runs.now index.now.stts_counts index.now.stts_times.items }
+    requires fresh { readings.old ≡ 0 }
+    requires run { IsTimeRun runs.now run.old }
+    ensures run { IsTimeRun runs.now run.new }
+    ensures time { Gives (λ t. t) result (time_at runs.now track_id k) }
+{
+    run.move_to(runs, index, track_id, k, readings)?;
+    Ok(run.time(k))
+}
+
 /// A run of ctts, or the samples past all runs.
 #[derive(Clone, Copy, Debug)]
 pub struct OffsetRun {
@@ -273,40 +287,6 @@ impl OffsetRun {
             next: self.next + 1,
         })
     }
-
-    /// The number after its last sample.
-    #[inline(always)]
-    pub fn end(&self) -> u64
-        ensures { result ≡ self.now.before + self.now.count + 1 }
-    {
-        u64::from(self.before) + u64::from(self.count) + 1
-    }
-
-    /// Becomes the run of sample `k`: the same, or the one after it, else one that is searched.
-    #[inline(always)]
-    pub fn move_to(
-        &mut self,
-        ctts: &Option<CttsBox>,
-        counts: &SearchedNumbers,
-        k: u32,
-        readings: &mut Readings,
-    )
-        requires first { 1 ≤ k }
-        requires sums { CountsBefore (λ r. r.sample_count) (ctts_runs ctts.now) counts.now }
-        requires fresh { readings.old ≡ 0 }
-        requires run { IsOffsetRun (ctts_runs ctts.now) self.old }
-        ensures run { IsOffsetRun (ctts_runs ctts.now) self.new }
-        ensures has { (self.new.before < k) × (k ≤ self.new.before + self.new.count) }
-    {
-        if self.has(k) {
-            return;
-        }
-        let runs = runs_of_ctts(ctts);
-        *self = match self.next_run(runs, k) {
-            Some(next) => next,
-            None => offset_run_at::<ByGuess>(runs, counts, k, readings),
-        };
-    }
 }
 
 /// The run of sample `k`.
@@ -354,6 +334,32 @@ pub fn rendering_offset_at<S: Search>(
     ensures counted { S.Counts counts.now (k - 1) readings.new }
 {
     offset_run_at::<S>(runs, counts, k, readings).offset
+}
+
+/// The same in a walk that is in this run, or else moves to the run after it, or to one that it searches.
+#[inline(always)]
+pub fn rendering_offset_in_order(
+    ctts: &Option<CttsBox>,
+    counts: &SearchedNumbers,
+    k: u32,
+    run: &mut OffsetRun,
+    readings: &mut Readings,
+) -> i32
+    requires first { 1 ≤ k }
+    requires sums { CountsBefore (λ r. r.sample_count) (ctts_runs ctts.now) counts.now }
+    requires fresh { readings.old ≡ 0 }
+    requires run { IsOffsetRun (ctts_runs ctts.now) run.old }
+    ensures run { IsOffsetRun (ctts_runs ctts.now) run.new }
+    ensures value { result ≡ get_or (rendering_offsets (ctts_runs ctts.now)) (k - 1) (pos 0) }
+{
+    if !run.has(k) {
+        let runs = runs_of_ctts(ctts);
+        *run = match run.next_run(runs, k) {
+            Some(next) => next,
+            None => offset_run_at::<ByGuess>(runs, counts, k, readings),
+        };
+    }
+    run.offset
 }
 
 /// Whether the numbers, which rise, contain `k`.
@@ -473,21 +479,22 @@ impl SyncGap {
         }
     }
 
-    /// Becomes the gap of sample `k`: the same, or the one after it, else one that is searched.
+    /// Whether sample `k` is one of the numbers, in a walk that is in this gap, or else moves to the gap after it, or
+    /// to one that it searches.
     #[inline(always)]
-    fn move_among(
+    fn is_among(
         &mut self,
         numbers: &[u32],
         searched: &SearchedNumbers,
         k: u32,
         readings: &mut Readings,
-    )
+    ) -> bool
         requires rises { IsStrictlyIncreasing numbers.now }
         requires same { searched.now ≡ numbers.now }
         requires fresh { readings.old ≡ 0 }
         requires gap { IsSyncGap numbers.now self.old }
         ensures gap { IsSyncGap numbers.now self.new }
-        ensures has { (self.new.from ≤ k) × (k ≤ self.new.end) }
+        ensures value { result ≡ list_any (λ n. n == k) numbers.now }
     {
         if u64::from(k) > self.end {
             *self = match self.next_gap(numbers, k) {
@@ -497,80 +504,35 @@ impl SyncGap {
         } else if k < self.from {
             *self = SyncGap::search(numbers, searched, k, readings);
         }
-    }
-
-    /// The samples from `k` on that come before the sync sample at the end, or that one alone.
-    #[inline(always)]
-    fn run_from(&self, stss: &Option<StssBox>, k: u32) -> SyncRun
-        requires listed { IsSome stss.now }
-        requires gap { IsSyncGap (sync_numbers stss.now) self.now }
-        requires has { (self.now.from ≤ k) × (k ≤ self.now.end) }
-        ensures { IsSyncRun stss.now k result }
-    {
-        if u64::from(k) == self.end {
-            SyncRun::one(stss, k, true)
-        } else {
-            SyncRun {
-                is_sync: false,
-                end: self.end.min(1 << 32),
-            }
-        }
-    }
-
-    /// Moves to sample `k`, and answers whether it is a sync sample, and up to where those after it are the same. Where
-    /// the numbers of stss don't strictly rise, they aren't searched.
-    #[inline(always)]
-    pub fn move_to(
-        &mut self,
-        stss: &Option<StssBox>,
-        index: &TrackIndex,
-        k: u32,
-        readings: &mut Readings,
-    ) -> SyncRun
-        requires rises { IsTrue index.now.sync_rises ↔ IsStrictlyIncreasing (sync_numbers stss.now) }
-        requires sync { index.now.sync_numbers ≡ sync_numbers stss.now }
-        requires bits { AreBitsOf (sync_numbers stss.now) index.now.sync_bits }
-        requires fresh { readings.old ≡ 0 }
-        requires gap { IsSyncGap (sync_numbers stss.now) self.old }
-        ensures gap { IsSyncGap (sync_numbers stss.now) self.new }
-        ensures run { IsSyncRun stss.now k result }
-    {
-        let Some(listed) = stss else {
-            return SyncRun {
-                is_sync: true,
-                end: 1 << 32,
-            };
-        };
-        let numbers = listed.entries.as_slice();
-        if index.sync_rises {
-            self.move_among(numbers, &index.sync_numbers, k, readings);
-            self.run_from(stss, k)
-        } else {
-            let is_sync = ByGuess::is_among(numbers, &index.sync_bits, k, readings);
-            SyncRun::one(stss, k, is_sync)
-        }
+        u64::from(k) == self.end
     }
 }
 
-/// Samples from one on which are sync samples all or none.
-#[derive(Clone, Copy, Debug)]
-pub struct SyncRun {
-    /// Whether they are.
-    pub is_sync: bool,
-    /// The number after the last of them.
-    pub end: u64,
-}
-
-impl SyncRun {
-    /// Sample `k` alone.
-    #[inline(always)]
-    fn one(stss: &Option<StssBox>, k: u32, is_sync: bool) -> Self
-        requires { is_sync_at stss.now k ≡ is_sync }
-        ensures { IsSyncRun stss.now k result }
-    {
-        SyncRun {
-            is_sync,
-            end: u64::from(k) + 1,
-        }
+/// Whether sample `k` is a sync sample, in a walk that is in this gap between sync samples. Where the numbers of stss
+/// don't strictly rise, they aren't searched.
+#[inline(always)]
+pub fn is_sync_in_order(
+    stss: &Option<StssBox>,
+    index: &TrackIndex,
+    k: u32,
+    gap: &mut SyncGap,
+    readings: &mut Readings,
+) -> bool
+    requires rises { IsTrue index.now.sync_rises ↔ IsStrictlyIncreasing (sync_numbers stss.now) }
+    requires sync { index.now.sync_numbers ≡ sync_numbers stss.now }
+    requires bits { AreBitsOf (sync_numbers stss.now) index.now.sync_bits }
+    requires fresh { readings.old ≡ 0 }
+    requires gap { IsSyncGap (sync_numbers stss.now) gap.old }
+    ensures gap { IsSyncGap (sync_numbers stss.now) gap.new }
+    ensures value { result ≡ is_sync_at stss.now k }
+{
+    let Some(stss) = stss else {
+        return true;
+    };
+    let numbers = stss.entries.as_slice();
+    if index.sync_rises {
+        gap.is_among(numbers, &index.sync_numbers, k, readings)
+    } else {
+        ByGuess::is_among(numbers, &index.sync_bits, k, readings)
     }
 }

@@ -1,5 +1,5 @@
 use Rattle.std.proofs.Common.{sym, arith}
-use Rattle.mp4_lookup.proofs.Steps.{chunk_numbered, chunk_same}
+use Rattle.mp4_lookup.proofs.Steps.{chunk_same}
 use Rattle.mp4_lookup.proofs.located.chunk_by.Goals as goal
 
 pub returns-clause-samples : goal.returns-clause-samples
@@ -8,9 +8,3 @@ returns-clause-samples c = λ n from to.
     c.requires.to c.requires.some c.in_ok-chunk.ensures.chunk (sym c.in-Some.ensures) from
     (omega (arith, to, c.min-end.ensures, c.from.ensures, c.from-2.ensures)) in
     (same.0, omega (arith, to, c.min-end.ensures), same.1)
-
-pub returns-clause-numbered : goal.returns-clause-numbered
-returns-clause-numbered c =
-    chunk_numbered c.args.entry.now c.args.k c.args.end _ c.requires.to c.requires.some c.in_ok-chunk.ensures.number
-    c.in_ok-chunk.ensures.counts (omega arith)
-    (λ ends. omega (arith, ends, c.min-end.ensures, c.from.ensures, c.from-2.ensures))

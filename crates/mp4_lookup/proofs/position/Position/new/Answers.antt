@@ -3,9 +3,9 @@ use Rattle.mp4_lookup.proofs.position.Position.new.Goals as goal
 
 pub returns : goal.returns
 returns c = λ t. record {
-  chunk = c.none.ensures t;
-  times = c.none-2.ensures t.stts.entries;
-  offsets = c.none-3.ensures (ctts_runs t.ctts);
-  sync = c.none-4.ensures (sync_numbers t.stss);
-  stretch = c.none-5.ensures t;
+  entries = c.none.ensures t.stsc.entries;
+  chunk = c.none-2.ensures t;
+  times = c.none-3.ensures t.stts.entries;
+  offsets = c.none-4.ensures (ctts_runs t.ctts);
+  sync = c.none-5.ensures (sync_numbers t.stss);
 }
