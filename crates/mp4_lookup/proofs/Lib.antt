@@ -9,6 +9,7 @@ pub mod Sums
 pub mod Counts
 pub mod InOrder
 pub mod Steps
+pub mod ChunkRuns
 pub mod Seeking
 pub mod Syncs
 pub mod StartTimes

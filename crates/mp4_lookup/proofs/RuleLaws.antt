@@ -37,7 +37,7 @@ time_at_is runs track k first within =
     rw (slice_get-get_or (durations runs) (k - 1) 0 (omega arith)) refl
 
 -- the sizes do not depend on how many are asked for, as far as both go
-sizes_agree : (z : StszBox) (m n s r : ℕ) → s + r ≤ m → s + r ≤ n
+pub sizes_agree : (z : StszBox) (m n s r : ℕ) → s + r ≤ m → s + r ≤ n
     → take r (drop s (sizes z m)) ≡ take r (drop s (sizes z n))
 unfolding sizes
 sizes_agree z m n s r h k =
@@ -53,7 +53,7 @@ sizes_agree z m n s r h k =
       | false ↦ refl
     ]
 
-size_agrees : (z : StszBox) (m n j : ℕ) → j < m → j < n → j < length (sizes z n)
+pub size_agrees : (z : StszBox) (m n j : ℕ) → j < m → j < n → j < length (sizes z n)
     → slice_get (sizes z m) j ≡ Some (get_or (sizes z n) j 0)
 unfolding sizes
 size_agrees z m n j h k q =

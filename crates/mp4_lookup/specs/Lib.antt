@@ -9,6 +9,7 @@ pub mod Headers
 pub mod Kind
 pub mod Rates
 pub mod Codec
+pub mod Tables
 pub mod Walk
 pub mod InOrder
 pub mod ByTime

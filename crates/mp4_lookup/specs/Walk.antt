@@ -10,7 +10,7 @@ use Rattle.mp4_table.specs.Runs.{rendering_offsets}
 use Rattle.mp4_boxes.specs.declared.stbl.StblBox.{StblBox}
 use Rattle.mp4_lookup.specs.Rule.{located_at, located_in_chunk, time_at}
 use Rattle.mp4_samples.specs.Tables.{ctts_runs, sync_numbers}
-use Rattle.mp4_lookup.specs.declared.located.Chunk.{Chunk}
+use Rattle.mp4_lookup.specs.declared.located.ChunkRun.{ChunkRun}
 use Rattle.mp4_lookup.specs.declared.located.EntryRun.{EntryRun}
 use Rattle.mp4_lookup.specs.declared.position.Position.{Position}
 use Rattle.mp4_lookup.specs.declared.timing.OffsetRun.{OffsetRun}
@@ -23,37 +23,43 @@ pub record IsForSamples (entries : List StscEntry) (r : EntryRun) : Type 0 where
   pub last : (k : ℕ) → r.entry.first_sample ≤ k → k < r.end
       → last_where (λ e. nat_le e.first_sample k) entries ≡ Some r.entry
 
--- the samples of a chunk, from its first to before its end
-pub record IsChunk (t : StblBox) (c : Chunk) : Type 0 where
-  pub first : c.first < c.end → 1 ≤ c.first
-  pub samples : (k : ℕ) → c.first ≤ k → k < c.end → located_at t k ≡ located_in_chunk t c.offset c.first k
+-- sample k is the first of the chunk of this number, by this entry of stsc
+pub record BeginsChunk (e : StscEntry) (k number : ℕ) : Type 0 where
+  pub some : 1 ≤ e.samples_per_chunk
+  pub from : e.first_chunk ≤ number
+  pub at : k ≡ e.first_sample + (number - e.first_chunk) * e.samples_per_chunk
 
--- The samples of a run of stts, and when they are decoded; and what comes before the run after it. No time passes 64
--- bits.
-pub record IsTimeRun (runs : List SttsEntry) (r : TimeRun) : Type 0 where
-  pub samples : (track k : ℕ) → r.before < k → k ≤ r.before + r.count
-      → time_at runs track k ≡ Ok (r.delta, r.begin + (k - 1 - r.before) * r.delta)
-  pub counted : r.next < length runs → r.before + r.count ≡ sum_by (λ r. r.sample_count) (take r.next runs)
+-- What is left of a chunk from sample k on: where its samples lie; and if its entry is for more samples, they begin the
+-- chunk after it.
+pub record IsChunkRun (t : StblBox) (k : ℕ) (c : ChunkRun) : Type 0 where
+  pub entry : IsForSamples t.stsc.entries c.run
+  pub first : 0 < c.left → 1 ≤ k
+  pub samples : (n : ℕ) → k ≤ n → n < k + c.left → located_at t n ≡ located_in_chunk t c.offset k n
+  pub after : k + c.left < c.run.end → BeginsChunk c.run.entry (k + c.left) (c.number + 1)
+
+-- What is left of a run of stts from sample k on, and when its samples are decoded; and what comes before the run after
+-- it. No time passes 64 bits.
+pub record IsTimeRun (runs : List SttsEntry) (k : ℕ) (r : TimeRun) : Type 0 where
+  pub samples : (track j : ℕ) → j < r.left → time_at runs track (k + j) ≡ Ok (r.delta, r.start + j * r.delta)
+  pub counted : r.next < length runs → k - 1 + r.left ≡ sum_by (λ r. r.sample_count) (take r.next runs)
   pub timed : r.next < length runs
-      → r.begin + r.count * r.delta ≡ sum_by (λ r. r.sample_count * r.sample_delta) (take r.next runs)
-  pub fits : r.begin ≤ r.before * (2 ^ 32 - 1)
+      → r.start + r.left * r.delta ≡ sum_by (λ r. r.sample_count * r.sample_delta) (take r.next runs)
+  pub fits : r.start ≤ (k - 1) * (2 ^ 32 - 1)
   pub short : r.delta < 2 ^ 32
 
--- the samples of a run of ctts, or past all runs, and how much later than they are decoded they are shown
-pub record IsOffsetRun (runs : List CttsEntry) (r : OffsetRun) : Type 0 where
-  pub samples : (k : ℕ) → r.before < k → k ≤ r.before + r.count
-      → get_or (rendering_offsets runs) (k - 1) (pos 0) ≡ r.offset
-  pub counted : r.next < length runs → r.before + r.count ≡ sum_by (λ r. r.sample_count) (take r.next runs)
+-- what is left of a run of ctts, or of the samples past all runs, and how much later than they are decoded they are shown
+pub record IsOffsetRun (runs : List CttsEntry) (k : ℕ) (r : OffsetRun) : Type 0 where
+  pub samples : (j : ℕ) → j < r.left → get_or (rendering_offsets runs) (k + j - 1) (pos 0) ≡ r.offset
+  pub counted : r.next < length runs → k - 1 + r.left ≡ sum_by (λ r. r.sample_count) (take r.next runs)
 
--- samples of which none but the last is one of the numbers of stss; those before the next are at most the last
-pub record IsSyncGap (numbers : List ℕ) (g : SyncGap) : Type 0 where
-  pub samples : (k : ℕ) → g.from ≤ k → k ≤ g.end → k < 2 ^ 32 → list_any (λ n. n == k) numbers ≡ (k == g.end)
+-- samples from k on of which none but the last is one of the numbers of stss; those before the next are at most the last
+pub record IsSyncGap (numbers : List ℕ) (k : ℕ) (g : SyncGap) : Type 0 where
+  pub samples : (n : ℕ) → 1 ≤ n → k ≤ n → n ≤ g.end → n < 2 ^ 32 → list_any (λ m. m == n) numbers ≡ (n == g.end)
   pub earlier : (i : ℕ) → i < g.next → i < length numbers → slice_index numbers i ≤ g.end
 
--- a walk is in each of these tables
-pub record AreIn (t : StblBox) (p : Position) : Type 0 where
-  pub entries : IsForSamples t.stsc.entries p.entry
-  pub chunk : IsChunk t p.chunk
-  pub times : IsTimeRun t.stts.entries p.time
-  pub offsets : IsOffsetRun (ctts_runs t.ctts) p.rendering
-  pub sync : IsSyncGap (sync_numbers t.stss) p.sync
+-- a walk is before sample k in each of these tables
+pub record AreIn (t : StblBox) (k : ℕ) (p : Position) : Type 0 where
+  pub chunk : IsChunkRun t k p.chunk
+  pub times : IsTimeRun t.stts.entries k p.time
+  pub offsets : IsOffsetRun (ctts_runs t.ctts) k p.rendering
+  pub sync : IsSyncGap (sync_numbers t.stss) k p.sync

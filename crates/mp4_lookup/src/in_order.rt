@@ -2,13 +2,14 @@
 
 // The steps of a look-up are kept inline: docs/PERF.md, "Why these are calls".
 
-ghost use Rattle.std.specs.Prelude.{◌≡◌, ◌-◌, ◌^◌, ◌<◌, IfSome};
+ghost use Rattle.std.specs.Prelude.{◌≡◌, ◌+◌, ◌-◌, ◌^◌, ◌<◌, IfOk, IfSome, IsTrue};
 ghost use Rattle.std.specs.Iterator.{YieldsFirstBy, item_count};
 ghost use Rattle.mp4_codec.specs.Cause.{Gives};
 ghost use Rattle.mp4_fragments.specs.Cursor.{IsAmongRuns};
 ghost use Rattle.mp4_samples.specs.Tables.{tables_of};
 ghost use Rattle.mp4_lookup.specs.InOrder.{answer_of, answers_from, samples_left};
-ghost use Rattle.mp4_lookup.specs.Tracks.{answer_at};
+ghost use Rattle.mp4_lookup.specs.Tables.{AreTables};
+ghost use Rattle.mp4_lookup.specs.Tracks.{answer_at, is_of_movie};
 ghost use Rattle.mp4_lookup.specs.TrackRuns.{track_runs};
 ghost use Rattle.mp4_lookup.specs.Walk.{AreIn};
 
@@ -16,6 +17,7 @@ use crate::counters::Counters;
 use crate::locate::run_sample_placed;
 use crate::position::Position;
 use crate::samples::Samples;
+use crate::tables::Tables;
 use crate::track::Mp4Track;
 use mp4_codec::Result;
 use mp4_fragments::RunPosition;
@@ -26,10 +28,12 @@ impl Mp4Track {
     pub fn samples_from(&self, k: u32) -> Samples<'_>
         ensures { samples_left result ≡ answers_from (2 ^ 32 - k) self.now k }
     {
+        let tables = Tables::of(&self.trak.mdia.minf.stbl, &self.index);
         Samples {
             track: self,
+            tables,
             number: Some(k),
-            position: Position::new(),
+            position: Position::before(&tables, k),
             run_position: None,
         }
     }
@@ -41,27 +45,32 @@ impl Mp4Track {
         self.samples_from(1)
     }
 
-    /// What `locate` answers at number `k`, but for what it cost, by a walk that goes on from where it was.
+    /// What `locate` answers at number `k`, but for what it cost, by a walk that goes on from where it was: before that
+    /// sample.
     #[inline(always)]
     #[tactic(auto, unfolding(crate::specs::Tracks::answer_at))]
     fn next_place<'t>(
         &'t self,
         k: u32,
+        tables: &Tables,
         position: &mut Position,
         run_position: &mut Option<RunPosition<'t>>,
     ) -> Result<Option<Place>>
-        requires here { AreIn (tables_of self.now.trak) position.old }
+        requires tables { AreTables tables.now }
+        requires of_track { tables.now.stbl.now ≡ tables_of self.now.trak }
+        requires here { IsTrue (is_of_movie self.now.trak self.now.trafs k)
+            → AreIn (tables_of self.now.trak) k position.old }
         requires added { IfSome run_position.old (IsAmongRuns (track_runs self.now)) }
         ensures rule { Gives (λ p. p) result (answer_at self.now.trak self.now.trafs (track_runs self.now) k) }
-        ensures here { AreIn (tables_of self.now.trak) position.new }
+        ensures here { IfOk result (λ p. IfSome p (λ p. IsTrue (is_of_movie self.now.trak self.now.trafs (k + 1))
+            → AreIn (tables_of self.now.trak) (k + 1) position.new)) }
         ensures added { IfSome run_position.new (IsAmongRuns (track_runs self.now)) }
     {
         let mut counters = Counters::of(self);
-        let stbl = &self.trak.mdia.minf.stbl;
         if self.is_of_movie(k) {
-            return position.place(stbl, &self.index, self.trak.tkhd.track_id, k, &mut counters);
+            return position.place(tables, self.trak.tkhd.track_id, k, &mut counters);
         }
-        let number = k - stbl.sample_count() - 1;
+        let number = k - self.trak.mdia.minf.stbl.sample_count() - 1;
         let trafs = self.trafs.as_slice();
         let Some(run_sample) = self.runs.find_next(
             trafs,
@@ -87,10 +96,12 @@ impl<'t> Iterator for Samples<'t> {
     fn next(&mut self) -> Option<Result<Place>> {
         let number = self.number?;
         self.number = None;
-        match self
-            .track
-            .next_place(number, &mut self.position, &mut self.run_position)
-        {
+        match self.track.next_place(
+            number,
+            &self.tables,
+            &mut self.position,
+            &mut self.run_position,
+        ) {
             Ok(None) => None,
             Ok(Some(place)) => {
                 self.number = number.checked_add(1);

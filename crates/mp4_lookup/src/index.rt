@@ -83,7 +83,7 @@ pub fn runs_of_ctts(ctts: &Option<CttsBox>) -> &[CttsEntry]
 }
 
 /// The numbers of stss, and none without it.
-fn numbers_of_stss(stss: &Option<StssBox>) -> &[u32]
+pub fn numbers_of_stss(stss: &Option<StssBox>) -> &[u32]
     ensures { result.now ≡ sync_numbers stss.now }
 {
     match stss {

@@ -19,6 +19,7 @@ mod rates;
 mod runs;
 mod samples;
 mod seek;
+mod tables;
 mod time;
 mod timing;
 mod track;

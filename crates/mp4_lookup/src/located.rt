@@ -15,9 +15,11 @@ ghost use Rattle.mp4_samples.specs.Tables.{chunk_offsets, sizes};
 ghost use Rattle.mp4_lookup.specs.Index.{IsIndexOf};
 ghost use Rattle.mp4_lookup.specs.Costs.{AreFewSizeReads};
 ghost use Rattle.mp4_lookup.specs.Rule.{chunk_for, entry_for, located_at, located_by, located_in_chunk, within_64_bits};
-ghost use Rattle.mp4_lookup.specs.Walk.{IsChunk, IsForSamples};
+ghost use Rattle.mp4_lookup.specs.Tables.{AreTables};
+ghost use Rattle.mp4_lookup.specs.Walk.{BeginsChunk, IsChunkRun, IsForSamples};
 
 use crate::index::TrackIndex;
+use crate::tables::Tables;
 use mp4_boxes::StblBox;
 use mp4_codec::{Error, ExactEq, Result};
 use mp4_search::{ByGuess, CappedSums, Readings, Search, SearchedNumbers};
@@ -107,7 +109,8 @@ pub struct EntryRun {
 impl EntryRun {
     /// Before the first entry, for no sample.
     pub fn none() -> Self
-        ensures { (entries : List StscEntry) → IsForSamples entries result }
+        ensures samples { (entries : List StscEntry) → IsForSamples entries result }
+        ensures end { result.end ≡ 0 }
     {
         EntryRun {
             entry: StscEntry {
@@ -122,6 +125,7 @@ impl EntryRun {
     }
 
     /// The entry at an index.
+    #[inline(always)]
     fn of(entries: &[StscEntry], index: usize) -> Self
         requires firsts { HasFirstSamples entries.now }
         requires within { index < length entries.now }
@@ -141,43 +145,22 @@ impl EntryRun {
         }
     }
 
-    /// Whether the entry is for sample `k`.
+    /// The entry after it, if sample `k` is the first of that one.
     #[inline(always)]
-    fn has(&self, k: u32) -> bool
-        ensures { IsTrue result → (self.now.entry.first_sample ≤ k) × (k < self.now.end) }
-    {
-        self.entry.first_sample <= k && u64::from(k) < self.end
-    }
-
-    /// Becomes the entry of sample `k`: the same, or the one after it, else one that is searched.
-    #[inline(always)]
-    fn move_to(
-        &mut self,
-        entries: &[StscEntry],
-        first_samples: &SearchedNumbers,
-        k: u32,
-        readings: &mut Readings,
-    ) -> Result<()>
+    fn next_entry(&self, entries: &[StscEntry], k: u32) -> Option<EntryRun>
         requires firsts { HasFirstSamples entries.now }
-        requires index { first_samples.now ≡ map (λ e. e.first_sample) entries.now }
-        requires fresh { readings.old ≡ 0 }
-        requires samples { IsForSamples entries.now self.old }
-        ensures samples { IsForSamples entries.now self.new }
-        ensures has { OnOk result ((self.new.entry.first_sample ≤ k) × (k < self.new.end)) }
-        ensures refused { IfErr result (λ e. entry_for entries.now k ≡ Err (cause_of e)) }
+        ensures samples { IfSome result (IsForSamples entries.now) }
+        ensures has { IfSome result (λ r. (r.entry.first_sample ≡ k) × (k < r.end)) }
     {
-        if self.has(k) {
-            return Ok(());
+        if self.next >= entries.len() {
+            return None;
         }
-        if self.next < entries.len() {
-            *self = EntryRun::of(entries, self.next);
-            if self.has(k) {
-                return Ok(());
-            }
+        let after = EntryRun::of(entries, self.next);
+        if after.entry.first_sample == k && u64::from(k) < after.end {
+            Some(after)
+        } else {
+            None
         }
-        let index = entry_index::<ByGuess>(entries, first_samples, k, readings)?;
-        *self = EntryRun::of(entries, index);
-        Ok(())
     }
 }
 
@@ -264,6 +247,8 @@ fn place_within(chunk_offset: u64, earlier: u64) -> Result<u64>
 /// The samples of a chunk, as one entry of stsc places them.
 #[derive(Clone, Copy, Debug)]
 pub struct Chunk {
+    /// Its number, which counts from 1.
+    pub number: u32,
     /// Its first sample.
     pub first: u32,
     /// The number after its last sample, or after the last that the entry is for.
@@ -284,30 +269,26 @@ fn chunk_by(stbl: &StblBox, entry: &StscEntry, end: u64, k: u32) -> Result<Optio
         → (entry.now.first_sample ≤ n) × (n < end)
         × (located_by stbl.now entry.now n ≡ located_in_chunk stbl.now c.offset c.first n))) }
     ensures inside { IfOk result (λ c. IfSome c (λ c. (1 ≤ c.first) × (c.first ≤ k) × (k < c.end))) }
+    ensures few { IfOk result (λ c. IfSome c (λ c. c.end ≤ k + entry.now.samples_per_chunk)) }
+    ensures after { IfOk result (λ c. IfSome c (λ c. c.end < end → BeginsChunk entry.now c.end (c.number + 1))) }
     ensures none { IfOk result (λ c. IfNone c (located_by stbl.now entry.now k ≡ Ok None)) }
     ensures refused { IfErr result (λ e. located_by stbl.now entry.now k ≡ Err (cause_of e)) }
 {
-    let chunk = chunk_of(entry, k)?;
-    let Some(offset) = chunk_offset_at(stbl, chunk) else {
+    let number = chunk_of(entry, k)?;
+    let Some(offset) = chunk_offset_at(stbl, number) else {
         return Ok(None);
     };
     let first = k - (k - entry.first_sample) % entry.samples_per_chunk;
     let end = end.min(u64::from(first) + u64::from(entry.samples_per_chunk));
-    Ok(Some(Chunk { first, end, offset }))
+    Ok(Some(Chunk {
+        number,
+        first,
+        end,
+        offset,
+    }))
 }
 
 impl Chunk {
-    /// Before the first chunk, with no sample.
-    pub fn none() -> Self
-        ensures { (t : StblBox) → IsChunk t result }
-    {
-        Chunk {
-            first: 0,
-            end: 0,
-            offset: 0,
-        }
-    }
-
     /// Where sample `k` of the chunk lies, and its size.
     #[inline(always)]
     fn located(
@@ -335,7 +316,7 @@ impl Chunk {
     }
 }
 
-/// The chunk of sample `k`, if it is there; it answers for the samples of the chunk up to `k`.
+/// The chunk of sample `k`, if it is there.
 #[inline(always)]
 fn chunk_at<S: Search>(
     stbl: &StblBox,
@@ -346,8 +327,8 @@ fn chunk_at<S: Search>(
     requires firsts { HasFirstSamples stbl.now.stsc.entries }
     requires index { IsIndexOf stbl.now index.now }
     requires fresh { entries.old ≡ 0 }
-    ensures samples { IfOk result (λ c. IfSome c (IsChunk stbl.now)) }
-    ensures inside { IfOk result (λ c. IfSome c (λ c. (c.first ≤ k) × (k < c.end))) }
+    ensures sample { IfOk result (λ c. IfSome c (λ c. (1 ≤ c.first) × (c.first ≤ k)
+        × (located_at stbl.now k ≡ located_in_chunk stbl.now c.offset c.first k))) }
     ensures none { IfOk result (λ c. IfNone c (located_at stbl.now k ≡ Ok None)) }
     ensures refused { IfErr result (λ e. located_at stbl.now k ≡ Err (cause_of e)) }
     ensures counts { OnOk result (1 ≤ k) }
@@ -386,63 +367,214 @@ pub fn located_at<S: Search>(
     chunk.located(stbl, &index.size_sums, k, sizes)
 }
 
-/// The chunk of sample `k`, if it is there, in a walk that is in this entry of stsc and this chunk, or else moves to
-/// the entry of the sample.
+/// The entry of stsc of sample `k`, which is searched: its chunks have samples.
 #[inline(always)]
-fn chunk_in_order(
-    stbl: &StblBox,
-    index: &TrackIndex,
-    k: u32,
-    run: &mut EntryRun,
-    chunk: Chunk,
-    searched: &mut Readings,
-) -> Result<Option<Chunk>>
-    requires firsts { HasFirstSamples stbl.now.stsc.entries }
-    requires index { IsIndexOf stbl.now index.now }
+fn entry_run_at(tables: &Tables, k: u32, searched: &mut Readings) -> Result<EntryRun>
+    requires tables { AreTables tables.now }
     requires fresh { searched.old ≡ 0 }
-    requires entries { IsForSamples stbl.now.stsc.entries run.old }
-    requires chunk { IsChunk stbl.now chunk }
-    ensures entries { IsForSamples stbl.now.stsc.entries run.new }
-    ensures samples { IfOk result (λ c. IfSome c (IsChunk stbl.now)) }
-    ensures inside { IfOk result (λ c. IfSome c (λ c. (c.first ≤ k) × (k < c.end))) }
-    ensures none { IfOk result (λ c. IfNone c (located_at stbl.now k ≡ Ok None)) }
-    ensures refused { IfErr result (λ e. located_at stbl.now k ≡ Err (cause_of e)) }
+    ensures samples { IfOk result (IsForSamples tables.now.stbl.now.stsc.entries) }
+    ensures has { IfOk result (λ r. (r.entry.first_sample ≤ k) × (k < r.end) × (1 ≤ r.entry.samples_per_chunk)) }
     ensures counts { OnOk result (1 ≤ k) }
+    ensures refused { IfErr result (λ e. entry_for tables.now.stbl.now.stsc.entries k ≡ Err (cause_of e)) }
 {
-    if chunk.first <= k && u64::from(k) < chunk.end {
-        return Ok(Some(chunk));
-    }
-    let entries = stbl.stsc.entries.as_slice();
-    run.move_to(entries, &index.first_samples, k, searched)?;
+    let index = entry_index::<ByGuess>(tables.entries, &tables.index.first_samples, k, searched)?;
+    let run = EntryRun::of(tables.entries, index);
     check_usable(&run.entry)?;
-    chunk_by(stbl, &run.entry, run.end, k)
+    Ok(run)
 }
 
-/// Where sample `k` lies, and its size, in a walk that is in this entry of stsc and this chunk, or else moves there.
+/// What is left of a chunk, from a sample on, and the entry of stsc that it is by.
+#[derive(Clone, Copy, Debug)]
+pub struct ChunkRun {
+    pub run: EntryRun,
+    /// Its number, which counts from 1.
+    pub number: u32,
+    /// How many samples are left.
+    pub left: u32,
+    /// Where the first of them begins.
+    pub offset: u64,
+}
+
+impl ChunkRun {
+    /// Before the first chunk: no sample is left.
+    pub fn none() -> Self
+        ensures chunk { (t : StblBox) (k : ℕ) → IsChunkRun t k result }
+        ensures none { result.left ≡ 0 }
+    {
+        ChunkRun {
+            run: EntryRun::none(),
+            number: 0,
+            left: 0,
+            offset: 0,
+        }
+    }
+
+    /// Where the first sample that is left lies, which has this size; one fewer is left then. No place passes 64 bits:
+    /// where one would, no sample is left, and the walk looks for the next.
+    #[inline(always)]
+    fn take(&mut self, size: u32) -> u64
+        requires some { 0 < self.old.left }
+        ensures taken { result ≡ self.old.offset }
+        ensures rest { (t : StblBox) (k : ℕ) → 1 ≤ k → IsChunkRun t k self.old
+            → slice_get (sizes t.stsz k) (k - 1) ≡ Some size → IsChunkRun t (k + 1) self.new }
+    {
+        let offset = self.offset;
+        match offset.checked_add(u64::from(size)) {
+            Some(next) => {
+                self.offset = next;
+                self.left -= 1;
+            }
+            None => *self = ChunkRun::none(),
+        }
+        offset
+    }
+
+    /// The chunk of a number, whose first sample is `k`, by this entry of stsc. None where there is no such chunk.
+    #[inline(always)]
+    fn of(tables: &Tables, run: EntryRun, number: u32, k: u32) -> Option<ChunkRun>
+        requires tables { AreTables tables.now }
+        requires samples { IsForSamples tables.now.stbl.now.stsc.entries run }
+        requires has { k < run.end }
+        requires counts { 1 ≤ number }
+        requires begins { BeginsChunk run.entry k number }
+        ensures chunk { IfSome result (λ c. IsChunkRun tables.now.stbl.now k c × (0 < c.left)) }
+        ensures none { IfNone result (located_at tables.now.stbl.now k ≡ Ok None) }
+    {
+        let Some(offset) = tables.chunk_offset(number) else {
+            return None;
+        };
+        let left = u64::from(run.entry.samples_per_chunk).min(run.end - u64::from(k));
+        Some(ChunkRun {
+            run,
+            number,
+            left: left as u32,
+            offset,
+        })
+    }
+
+    /// The chunk after it, whose first sample is `k`, by the same entry of stsc.
+    #[inline(always)]
+    fn next_chunk(&self, tables: &Tables, k: u32) -> Result<Option<ChunkRun>>
+        requires tables { AreTables tables.now }
+        requires chunk { IsChunkRun tables.now.stbl.now k self.now }
+        requires none { self.now.left ≡ 0 }
+        requires has { k < self.now.run.end }
+        ensures chunk { IfOk result (λ c. IfSome c (λ c. IsChunkRun tables.now.stbl.now k c × (0 < c.left))) }
+        ensures none { IfOk result (λ c. IfNone c (located_at tables.now.stbl.now k ≡ Ok None)) }
+        ensures refused { IfErr result (λ e. located_at tables.now.stbl.now k ≡ Err (cause_of e)) }
+    {
+        let Some(number) = self.number.checked_add(1) else {
+            return Err(Error::InvalidData("a chunk's number passes 32 bits"));
+        };
+        Ok(ChunkRun::of(tables, self.run, number, k))
+    }
+
+    /// The first chunk by an entry of stsc, whose first sample is `k`.
+    #[inline(always)]
+    fn first_chunk(tables: &Tables, run: EntryRun, k: u32) -> Result<Option<ChunkRun>>
+        requires tables { AreTables tables.now }
+        requires samples { IsForSamples tables.now.stbl.now.stsc.entries run }
+        requires first { run.entry.first_sample ≡ k }
+        requires has { k < run.end }
+        ensures chunk { IfOk result (λ c. IfSome c (λ c. IsChunkRun tables.now.stbl.now k c × (0 < c.left))) }
+        ensures none { IfOk result (λ c. IfNone c (located_at tables.now.stbl.now k ≡ Ok None)) }
+        ensures refused { IfErr result (λ e. located_at tables.now.stbl.now k ≡ Err (cause_of e)) }
+    {
+        check_usable(&run.entry)?;
+        let number = run.entry.first_chunk;
+        if number == 0 {
+            return Err(Error::InvalidData("chunks are numbered from 1"));
+        }
+        Ok(ChunkRun::of(tables, run, number, k))
+    }
+
+    /// What is left of the chunk of sample `k` from it on, by its entry of stsc, which is searched. None where there is
+    /// no such sample.
+    fn search(
+        tables: &Tables,
+        k: u32,
+        searched: &mut Readings,
+        size_reads: &mut Readings,
+    ) -> Result<Option<ChunkRun>>
+        requires tables { AreTables tables.now }
+        requires fresh_entries { searched.old ≡ 0 }
+        requires fresh_sizes { size_reads.old ≡ 0 }
+        ensures chunk { IfOk result (λ c. IfSome c (λ c. IsChunkRun tables.now.stbl.now k c × (0 < c.left))) }
+        ensures none { IfOk result (λ c. IfNone c (located_at tables.now.stbl.now k ≡ Ok None)) }
+        ensures refused { IfErr result (λ e. located_at tables.now.stbl.now k ≡ Err (cause_of e)) }
+        ensures counts { OnOk result (1 ≤ k) }
+    {
+        let run = entry_run_at(tables, k, searched)?;
+        let stbl = tables.stbl;
+        let Some(chunk) = chunk_by(stbl, &run.entry, run.end, k)? else {
+            return Ok(None);
+        };
+        let Some(sample) = chunk.located(stbl, &tables.index.size_sums, k, size_reads)? else {
+            return Ok(None);
+        };
+        Ok(Some(ChunkRun {
+            run,
+            number: chunk.number,
+            left: (chunk.end - u64::from(k)) as u32,
+            offset: sample.offset,
+        }))
+    }
+
+    /// What is left of the chunk of sample `k`, none of this one being left: the chunk after it, or the first chunk by
+    /// the entry of stsc after this one's, else the entry is searched. None where there is no such sample.
+    #[inline(always)]
+    fn after(
+        &self,
+        tables: &Tables,
+        k: u32,
+        searched: &mut Readings,
+        size_reads: &mut Readings,
+    ) -> Result<Option<ChunkRun>>
+        requires tables { AreTables tables.now }
+        requires chunk { IsChunkRun tables.now.stbl.now k self.now }
+        requires none { self.now.left ≡ 0 }
+        requires fresh_entries { searched.old ≡ 0 }
+        requires fresh_sizes { size_reads.old ≡ 0 }
+        ensures chunk { IfOk result (λ c. IfSome c (λ c. IsChunkRun tables.now.stbl.now k c × (0 < c.left))) }
+        ensures none { IfOk result (λ c. IfNone c (located_at tables.now.stbl.now k ≡ Ok None)) }
+        ensures refused { IfErr result (λ e. located_at tables.now.stbl.now k ≡ Err (cause_of e)) }
+    {
+        if u64::from(k) < self.run.end {
+            return self.next_chunk(tables, k);
+        }
+        match self.run.next_entry(tables.entries, k) {
+            Some(run) => ChunkRun::first_chunk(tables, run, k),
+            None => ChunkRun::search(tables, k, searched, size_reads),
+        }
+    }
+}
+
+/// Where sample `k` lies, and its size: the next sample of a walk that is in this chunk, or else moves to the sample's.
 #[inline(always)]
 pub fn located_in_order(
-    stbl: &StblBox,
-    index: &TrackIndex,
+    tables: &Tables,
     k: u32,
-    run: &mut EntryRun,
-    chunk: &mut Chunk,
+    chunk: &mut ChunkRun,
     searched: &mut Readings,
-    sizes: &mut Readings,
+    size_reads: &mut Readings,
 ) -> Result<Option<LocatedBytes>>
-    requires firsts { HasFirstSamples stbl.now.stsc.entries }
-    requires index { IsIndexOf stbl.now index.now }
+    requires tables { AreTables tables.now }
+    requires chunk { IsChunkRun tables.now.stbl.now k chunk.old }
     requires fresh_entries { searched.old ≡ 0 }
-    requires fresh_sizes { sizes.old ≡ 0 }
-    requires entries { IsForSamples stbl.now.stsc.entries run.old }
-    requires chunk { IsChunk stbl.now chunk.old }
-    ensures entries { IsForSamples stbl.now.stsc.entries run.new }
-    ensures chunk { IsChunk stbl.now chunk.new }
-    ensures located { Gives (λ s. option_map (λ s. (s.offset, s.size)) s) result (located_at stbl.now k) }
-    ensures counts { OnOk result (1 ≤ k) }
+    requires fresh_sizes { size_reads.old ≡ 0 }
+    ensures chunk { IfOk result (λ s. IfSome s (λ s. IsChunkRun tables.now.stbl.now (k + 1) chunk.new)) }
+    ensures located { Gives (λ s. option_map (λ s. (s.offset, s.size)) s) result (located_at tables.now.stbl.now k) }
+    ensures counts { IfOk result (λ s. IfSome s (λ s. 1 ≤ k)) }
 {
-    let Some(found) = chunk_in_order(stbl, index, k, run, *chunk, searched)? else {
+    if chunk.left == 0 {
+        let Some(next) = chunk.after(tables, k, searched, size_reads)? else {
+            return Ok(None);
+        };
+        *chunk = next;
+    }
+    let Some(size) = tables.size_of(k) else {
         return Ok(None);
     };
-    *chunk = found;
-    found.located(stbl, &index.size_sums, k, sizes)
+    let offset = chunk.take(size);
+    Ok(Some(LocatedBytes { offset, size }))
 }

@@ -4,7 +4,7 @@
 
 ghost use Rattle.std.specs.Prelude.{◌≡◌, ℕ, ◌+◌, ◌-◌, ◌*◌, ◌^◌, ◌<◌, ◌≤◌, List, length, pos, get_or, slice_index};
 ghost use Rattle.std.specs.Prelude.{IfErr, IfOk, IfSome, IsTrue, OnOk};
-ghost use Rattle.std.specs.Prelude.{Err, ◌==◌, ◌↔◌, false};
+ghost use Rattle.std.specs.Prelude.{Ok, Err, ◌==◌, ◌↔◌, false};
 ghost use Rattle.std.specs.List.{All, list_any, sum_by};
 ghost use Rattle.std.specs.List.Sorted.{IsNonDecreasing, IsStrictlyIncreasing};
 ghost use Rattle.mp4_codec.specs.Cause.{Gives, cause_of};
@@ -13,14 +13,16 @@ ghost use Rattle.mp4_table.specs.Starts.{start_of};
 ghost use Rattle.mp4_search.specs.BitSet.{AreBitsOf};
 ghost use Rattle.mp4_search.specs.Sums.{CountsBefore};
 ghost use Rattle.mp4_lookup.specs.Sums.{TimesBefore};
+ghost use Rattle.mp4_lookup.specs.Tables.{AreTables};
 ghost use Rattle.mp4_samples.specs.Tables.{ctts_runs, is_sync_at, sync_numbers};
 ghost use Rattle.mp4_lookup.specs.Rule.{time_at};
 ghost use Rattle.mp4_lookup.specs.Walk.{IsOffsetRun, IsSyncGap, IsTimeRun};
 
-use crate::index::{TrackIndex, runs_of_ctts};
-use mp4_codec::{BoxType, Error, Result, SharedItems};
+use crate::index::TrackIndex;
+use crate::tables::Tables;
+use mp4_codec::{BoxType, Error, Result};
 use mp4_search::{ByGuess, Readings, Search, SearchedNumbers};
-use mp4_table::{CttsBox, CttsEntry, StssBox, SttsEntry};
+use mp4_table::{CttsEntry, StssBox, SttsEntry};
 
 /// When so many samples of these runs have lasted, or all, where there are fewer.
 pub fn end_after(runs: &[SttsEntry], count: u32) -> u64
@@ -38,15 +40,13 @@ pub fn end_after(runs: &[SttsEntry], count: u32) -> u64
     end
 }
 
-/// A run of stts, and what comes before it.
+/// What is left of a run of stts, from a sample on.
 #[derive(Clone, Copy, Debug)]
 pub struct TimeRun {
-    /// How many samples come before it.
-    pub before: u32,
-    /// How many ticks they last.
-    pub begin: u64,
-    /// How many samples it has.
-    pub count: u32,
+    /// How many ticks all samples before it last.
+    pub start: u64,
+    /// How many samples are left.
+    pub left: u32,
     /// How many ticks each of them lasts.
     pub delta: u32,
     /// The index of the run after it.
@@ -54,47 +54,45 @@ pub struct TimeRun {
 }
 
 impl TimeRun {
-    /// Before the first run, with no sample.
-    pub fn none() -> Self
-        ensures { (runs : List SttsEntry) → IsTimeRun runs result }
+    /// Of no run, before sample `k`: the run of the first sample comes next, and that of another is searched.
+    pub fn before(runs: &[SttsEntry], k: u32) -> Self
+        ensures { IsTimeRun runs.now k result }
     {
         TimeRun {
-            before: 0,
-            begin: 0,
-            count: 0,
+            start: 0,
+            left: 0,
             delta: 0,
-            next: 0,
+            next: if k == 1 { 0 } else { runs.len() },
         }
     }
 
-    /// Whether it has sample `k`.
+    /// Duration and start of the first sample that is left, which is one fewer then.
     #[inline(always)]
-    fn has(&self, k: u32) -> bool
-        ensures { IsTrue result → (self.now.before < k) × (k ≤ self.now.before + self.now.count) }
+    fn take(&mut self, k: u32) -> (u32, u64)
+        requires first { 1 ≤ k }
+        requires some { 0 < self.old.left }
+        requires fits { self.old.start ≤ (k - 1) * (2 ^ 32 - 1) }
+        requires short { self.old.delta < 2 ^ 32 }
+        ensures taken { (runs : List SttsEntry) (track : ℕ) → IsTimeRun runs k self.old
+            → time_at runs track k ≡ Ok result }
+        ensures rest { (runs : List SttsEntry) → IsTimeRun runs k self.old → IsTimeRun runs (k + 1) self.new }
     {
-        self.before < k && k - self.before <= self.count
-    }
-
-    /// Duration and start of sample `k` of it.
-    #[inline(always)]
-    fn time(&self, k: u32) -> (u32, u64)
-        requires from { self.now.before < k }
-        requires fits { self.now.begin + (k - 1 - self.now.before) * self.now.delta < 2 ^ 64 }
-        ensures { result ≡ (self.now.delta, self.now.begin + (k - 1 - self.now.before) * self.now.delta) }
-    {
-        let further = k - 1 - self.before;
-        let start = self.begin + u64::from(further) * u64::from(self.delta);
+        let start = self.start;
+        self.start += u64::from(self.delta);
+        self.left -= 1;
         (self.delta, start)
     }
 
-    /// The run after it, if sample `k` is the first of that one.
+    /// The run after it, of which sample `k` is the first, where none is left of this one and that one has any.
     #[inline(always)]
     fn next_run(&self, runs: &[SttsEntry], k: u32) -> Option<TimeRun>
-        requires run { IsTimeRun runs.now self.now }
+        requires first { 1 ≤ k }
+        requires none { self.now.left ≡ 0 }
+        requires run { IsTimeRun runs.now k self.now }
         requires small { All (λ r. r.sample_delta < 2 ^ 32) runs.now }
-        ensures { IfSome result (λ r. IsTimeRun runs.now r × (r.before < k) × (k ≤ r.before + r.count)) }
+        ensures { IfSome result (λ r. IsTimeRun runs.now k r × (0 < r.left)) }
     {
-        if k <= self.before || k - 1 - self.before != self.count || self.next >= runs.len() {
+        if self.next >= runs.len() {
             return None;
         }
         let run = runs[self.next];
@@ -102,19 +100,18 @@ impl TimeRun {
             return None;
         }
         Some(TimeRun {
-            before: k - 1,
-            begin: self.begin + u64::from(self.count) * u64::from(self.delta),
-            count: run.sample_count,
+            start: self.start,
+            left: run.sample_count,
             delta: run.sample_delta,
             next: self.next + 1,
         })
     }
 
-    /// Becomes the run of sample `k`: the same, or the one after it, else one that is searched.
+    /// Becomes what is left of the run of sample `k`: the run after this one, else one that is searched.
     #[inline(always)]
     fn move_to(
         &mut self,
-        runs: &SharedItems<SttsEntry>,
+        runs: &[SttsEntry],
         index: &TrackIndex,
         track_id: u32,
         k: u32,
@@ -123,15 +120,12 @@ impl TimeRun {
         requires first { 1 ≤ k }
         requires sums { TimesBefore runs.now index.now.stts_counts index.now.stts_times.items }
         requires fresh { readings.old ≡ 0 }
-        requires run { IsTimeRun runs.now self.old }
-        ensures run { IsTimeRun runs.now self.new }
-        ensures has { OnOk result ((self.new.before < k) × (k ≤ self.new.before + self.new.count)) }
+        requires none { self.old.left ≡ 0 }
+        requires run { IsTimeRun runs.now k self.old }
+        ensures run { OnOk result (IsTimeRun runs.now k self.new) }
+        ensures some { OnOk result (0 < self.new.left) }
         ensures refused { IfErr result (λ e. time_at runs.now track_id k ≡ Err (cause_of e)) }
     {
-        if self.has(k) {
-            return Ok(());
-        }
-        let runs = runs.as_slice();
         if let Some(next) = self.next_run(runs, k) {
             *self = next;
             return Ok(());
@@ -142,7 +136,7 @@ impl TimeRun {
     }
 }
 
-/// The run of sample `k`, which is searched.
+/// What is left of the run of sample `k` from it on: the run is searched.
 #[inline(always)]
 fn time_run_at<S: Search>(
     runs: &[SttsEntry],
@@ -155,7 +149,7 @@ fn time_run_at<S: Search>(
     requires first { 1 ≤ k }
     requires sums { TimesBefore runs.now counts.now times.now }
     requires fresh { readings.old ≡ 0 }
-    ensures run { IfOk result (λ r. IsTimeRun runs.now r × (r.before < k) × (k ≤ r.before + r.count)) }
+    ensures run { IfOk result (λ r. IsTimeRun runs.now k r × (0 < r.left)) }
     ensures refused { IfErr result (λ e. time_at runs.now track_id k ≡ Err (cause_of e)) }
     ensures counted { S.Counts counts.now (k - 1) readings.new }
 {
@@ -163,13 +157,13 @@ fn time_run_at<S: Search>(
         return Err(Error::EntryInStblNotFound(track_id, BoxType::SttsBox, k));
     };
     let run = runs[found.index];
-    if k - 1 - found.number >= run.sample_count {
+    let earlier = k - 1 - found.number;
+    if earlier >= run.sample_count {
         return Err(Error::EntryInStblNotFound(track_id, BoxType::SttsBox, k));
     }
     Ok(TimeRun {
-        before: found.number,
-        begin: times[found.index],
-        count: run.sample_count,
+        start: times[found.index] + u64::from(earlier) * u64::from(run.sample_delta),
+        left: run.sample_count - earlier,
         delta: run.sample_delta,
         next: found.index + 1,
     })
@@ -192,38 +186,37 @@ pub fn time_at<S: Search>(
     ensures counted { S.Counts counts.now (k - 1) readings.new }
 {
     let run = time_run_at::<S>(runs, counts, times, track_id, k, readings)?;
-    Ok(run.time(k))
+    Ok((run.delta, run.start))
 }
 
-/// Duration and start of sample `k`, in a walk that is in this run, or else moves to the run after it, or to one that
-/// it searches.
+/// Duration and start of sample `k`, the next of a walk that is in this run, or else moves to the run after it, or to
+/// one that it searches.
 #[inline(always)]
 pub fn time_in_order(
-    runs: &SharedItems<SttsEntry>,
-    index: &TrackIndex,
+    tables: &Tables,
     track_id: u32,
     k: u32,
     run: &mut TimeRun,
     readings: &mut Readings,
 ) -> Result<(u32, u64)>
+    requires tables { AreTables tables.now }
     requires first { 1 ≤ k }
-    requires sums { TimesBefore runs.now index.now.stts_counts index.now.stts_times.items }
     requires fresh { readings.old ≡ 0 }
-    requires run { IsTimeRun runs.now run.old }
-    ensures run { IsTimeRun runs.now run.new }
-    ensures time { Gives (λ t. t) result (time_at runs.now track_id k) }
+    requires run { IsTimeRun tables.now.stbl.now.stts.entries k run.old }
+    ensures run { OnOk result (IsTimeRun tables.now.stbl.now.stts.entries (k + 1) run.new) }
+    ensures time { Gives (λ t. t) result (time_at tables.now.stbl.now.stts.entries track_id k) }
 {
-    run.move_to(runs, index, track_id, k, readings)?;
-    Ok(run.time(k))
+    if run.left == 0 {
+        run.move_to(tables.durations, tables.index, track_id, k, readings)?;
+    }
+    Ok(run.take(k))
 }
 
-/// A run of ctts, or the samples past all runs.
+/// What is left of a run of ctts, or of the samples past all runs, from a sample on.
 #[derive(Clone, Copy, Debug)]
 pub struct OffsetRun {
-    /// How many samples come before it.
-    pub before: u32,
-    /// How many samples it has.
-    pub count: u32,
+    /// How many samples are left.
+    pub left: u32,
     /// How much later than they are decoded they are shown.
     pub offset: i32,
     /// The index of the run after it.
@@ -231,15 +224,14 @@ pub struct OffsetRun {
 }
 
 impl OffsetRun {
-    /// Before the first run, with no sample.
-    pub fn none() -> Self
-        ensures { (runs : List CttsEntry) → IsOffsetRun runs result }
+    /// Of no run, before sample `k`: the run of the first sample comes next, and that of another is searched.
+    pub fn before(runs: &[CttsEntry], k: u32) -> Self
+        ensures { IsOffsetRun runs.now k result }
     {
         OffsetRun {
-            before: 0,
-            count: 0,
+            left: 0,
             offset: 0,
-            next: 0,
+            next: if k == 1 { 0 } else { runs.len() },
         }
     }
 
@@ -247,33 +239,39 @@ impl OffsetRun {
     fn past(runs: &[CttsEntry], k: u32) -> Self
         requires first { 1 ≤ k }
         requires past { sum_by (λ r. r.sample_count) runs.now ≤ k - 1 }
-        ensures run { IsOffsetRun runs.now result }
-        ensures has { (result.before < k) × (k ≤ result.before + result.count) }
+        ensures run { IsOffsetRun runs.now k result }
+        ensures some { 0 < result.left }
         ensures zero { result.offset ≡ pos 0 }
     {
         OffsetRun {
-            before: k - 1,
-            count: u32::MAX - (k - 1),
+            left: u32::MAX - (k - 1),
             offset: 0,
             next: runs.len(),
         }
     }
 
-    /// Whether it has sample `k`.
+    /// How much later than it is decoded the first sample that is left is shown; one fewer is left then.
     #[inline(always)]
-    fn has(&self, k: u32) -> bool
-        ensures { IsTrue result → (self.now.before < k) × (k ≤ self.now.before + self.now.count) }
+    fn take(&mut self) -> i32
+        requires some { 0 < self.old.left }
+        ensures taken { (runs : List CttsEntry) (k : ℕ) → IsOffsetRun runs k self.old
+            → result ≡ get_or (rendering_offsets runs) (k - 1) (pos 0) }
+        ensures rest { (runs : List CttsEntry) (k : ℕ) → 1 ≤ k → IsOffsetRun runs k self.old
+            → IsOffsetRun runs (k + 1) self.new }
     {
-        self.before < k && k - self.before <= self.count
+        self.left -= 1;
+        self.offset
     }
 
-    /// The run after it, if sample `k` is the first of that one.
+    /// The run after it, of which sample `k` is the first, where none is left of this one and that one has any.
     #[inline(always)]
     fn next_run(&self, runs: &[CttsEntry], k: u32) -> Option<OffsetRun>
-        requires run { IsOffsetRun runs.now self.now }
-        ensures { IfSome result (λ r. IsOffsetRun runs.now r × (r.before < k) × (k ≤ r.before + r.count)) }
+        requires first { 1 ≤ k }
+        requires none { self.now.left ≡ 0 }
+        requires run { IsOffsetRun runs.now k self.now }
+        ensures { IfSome result (λ r. IsOffsetRun runs.now k r × (0 < r.left)) }
     {
-        if k <= self.before || k - 1 - self.before != self.count || self.next >= runs.len() {
+        if self.next >= runs.len() {
             return None;
         }
         let run = runs[self.next];
@@ -281,15 +279,14 @@ impl OffsetRun {
             return None;
         }
         Some(OffsetRun {
-            before: k - 1,
-            count: run.sample_count,
+            left: run.sample_count,
             offset: run.sample_offset,
             next: self.next + 1,
         })
     }
 }
 
-/// The run of sample `k`.
+/// What is left of the run of sample `k` from it on: the run is searched.
 #[inline(always)]
 fn offset_run_at<S: Search>(
     runs: &[CttsEntry],
@@ -300,20 +297,20 @@ fn offset_run_at<S: Search>(
     requires first { 1 ≤ k }
     requires sums { CountsBefore (λ r. r.sample_count) runs.now counts.now }
     requires fresh { readings.old ≡ 0 }
-    ensures run { IsOffsetRun runs.now result }
-    ensures has { (result.before < k) × (k ≤ result.before + result.count) }
+    ensures run { IsOffsetRun runs.now k result }
+    ensures some { 0 < result.left }
     ensures counted { S.Counts counts.now (k - 1) readings.new }
 {
     let Some(found) = S::last_at_most(counts, k - 1, readings) else {
         return OffsetRun::past(runs, k);
     };
     let run = runs[found.index];
-    if k - 1 - found.number >= run.sample_count {
+    let earlier = k - 1 - found.number;
+    if earlier >= run.sample_count {
         return OffsetRun::past(runs, k);
     }
     OffsetRun {
-        before: found.number,
-        count: run.sample_count,
+        left: run.sample_count - earlier,
         offset: run.sample_offset,
         next: found.index + 1,
     }
@@ -336,30 +333,30 @@ pub fn rendering_offset_at<S: Search>(
     offset_run_at::<S>(runs, counts, k, readings).offset
 }
 
-/// The same in a walk that is in this run, or else moves to the run after it, or to one that it searches.
+/// The same of the next sample of a walk that is in this run, or else moves to the run after it, or to one that it
+/// searches.
 #[inline(always)]
 pub fn rendering_offset_in_order(
-    ctts: &Option<CttsBox>,
-    counts: &SearchedNumbers,
+    tables: &Tables,
     k: u32,
     run: &mut OffsetRun,
     readings: &mut Readings,
 ) -> i32
+    requires tables { AreTables tables.now }
     requires first { 1 ≤ k }
-    requires sums { CountsBefore (λ r. r.sample_count) (ctts_runs ctts.now) counts.now }
     requires fresh { readings.old ≡ 0 }
-    requires run { IsOffsetRun (ctts_runs ctts.now) run.old }
-    ensures run { IsOffsetRun (ctts_runs ctts.now) run.new }
-    ensures value { result ≡ get_or (rendering_offsets (ctts_runs ctts.now)) (k - 1) (pos 0) }
+    requires run { IsOffsetRun (ctts_runs tables.now.stbl.now.ctts) k run.old }
+    ensures run { IsOffsetRun (ctts_runs tables.now.stbl.now.ctts) (k + 1) run.new }
+    ensures value { result ≡ get_or (rendering_offsets (ctts_runs tables.now.stbl.now.ctts)) (k - 1) (pos 0) }
 {
-    if !run.has(k) {
-        let runs = runs_of_ctts(ctts);
+    let runs = tables.rendering_offsets;
+    if run.left == 0 {
         *run = match run.next_run(runs, k) {
             Some(next) => next,
-            None => offset_run_at::<ByGuess>(runs, counts, k, readings),
+            None => offset_run_at::<ByGuess>(runs, &tables.index.ctts_counts, k, readings),
         };
     }
-    run.offset
+    run.take()
 }
 
 /// Whether the numbers, which rise, contain `k`.
@@ -402,10 +399,9 @@ pub fn is_sync<S: Search>(
     }
 }
 
-/// Samples of which the last alone may be a sync sample.
+/// Samples from one on, of which the last alone may be a sync sample.
 #[derive(Clone, Copy, Debug)]
 pub struct SyncGap {
-    pub from: u32,
     /// The sync sample that ends them; 2^32 where none comes any more.
     pub end: u64,
     /// The index of the number after that one.
@@ -415,13 +411,9 @@ pub struct SyncGap {
 impl SyncGap {
     /// Before the first number, with no sample.
     pub fn none() -> Self
-        ensures { (numbers : List ℕ) → IsSyncGap numbers result }
+        ensures { (numbers : List ℕ) (k : ℕ) → IsSyncGap numbers k result }
     {
-        SyncGap {
-            from: 1,
-            end: 0,
-            next: 0,
-        }
+        SyncGap { end: 0, next: 0 }
     }
 
     /// The samples from `from` on up to the number with this index: those before it are below `from`, and it isn't.
@@ -430,15 +422,14 @@ impl SyncGap {
         requires within { index ≤ length numbers.now }
         requires earlier { (i : ℕ) → i < index → slice_index numbers.now i < from }
         requires later { index < length numbers.now → from ≤ slice_index numbers.now index }
-        ensures gap { IsSyncGap numbers.now result }
-        ensures has { (result.from ≡ from) × (from ≤ result.end) }
+        ensures gap { IsSyncGap numbers.now from result }
+        ensures has { from ≤ result.end }
     {
         let end = match numbers.get(index) {
             Some(number) => u64::from(*number),
             None => 1 << 32,
         };
         SyncGap {
-            from,
             end,
             next: index + 1,
         }
@@ -448,9 +439,9 @@ impl SyncGap {
     #[inline(always)]
     fn next_gap(&self, numbers: &[u32], k: u32) -> Option<SyncGap>
         requires rises { IsNonDecreasing numbers.now }
-        requires gap { IsSyncGap numbers.now self.now }
+        requires gap { IsSyncGap numbers.now k self.now }
         requires after { self.now.end < k }
-        ensures { IfSome result (λ g. IsSyncGap numbers.now g × (g.from ≡ k) × (k ≤ g.end)) }
+        ensures { IfSome result (λ g. IsSyncGap numbers.now k g × (k ≤ g.end)) }
     {
         if self.next > numbers.len() || (self.next < numbers.len() && numbers[self.next] < k) {
             return None;
@@ -464,8 +455,8 @@ impl SyncGap {
         requires rises { IsStrictlyIncreasing numbers.now }
         requires same { searched.now ≡ numbers.now }
         requires fresh { readings.old ≡ 0 }
-        ensures gap { IsSyncGap numbers.now result }
-        ensures has { (result.from ≡ k) × (k ≤ result.end) }
+        ensures gap { IsSyncGap numbers.now k result }
+        ensures has { k ≤ result.end }
     {
         match ByGuess::last_at_most(searched, k, readings) {
             None => SyncGap::up_to(numbers, 0, k),
@@ -479,8 +470,8 @@ impl SyncGap {
         }
     }
 
-    /// Whether sample `k` is one of the numbers, in a walk that is in this gap, or else moves to the gap after it, or
-    /// to one that it searches.
+    /// Whether sample `k`, the next of a walk, is one of the numbers: the walk is in this gap, or else moves to the gap
+    /// after it, or to one that it searches.
     #[inline(always)]
     fn is_among(
         &mut self,
@@ -491,9 +482,10 @@ impl SyncGap {
     ) -> bool
         requires rises { IsStrictlyIncreasing numbers.now }
         requires same { searched.now ≡ numbers.now }
+        requires first { 1 ≤ k }
         requires fresh { readings.old ≡ 0 }
-        requires gap { IsSyncGap numbers.now self.old }
-        ensures gap { IsSyncGap numbers.now self.new }
+        requires gap { IsSyncGap numbers.now k self.old }
+        ensures gap { IsSyncGap numbers.now (k + 1) self.new }
         ensures value { result ≡ list_any (λ n. n == k) numbers.now }
     {
         if u64::from(k) > self.end {
@@ -501,38 +493,29 @@ impl SyncGap {
                 Some(next) => next,
                 None => SyncGap::search(numbers, searched, k, readings),
             };
-        } else if k < self.from {
-            *self = SyncGap::search(numbers, searched, k, readings);
         }
         u64::from(k) == self.end
     }
 }
 
-/// Whether sample `k` is a sync sample, in a walk that is in this gap between sync samples. Where the numbers of stss
-/// don't strictly rise, they aren't searched.
+/// Whether sample `k`, the next of a walk that is in this gap between sync samples, is a sync sample. Where the numbers
+/// of stss don't strictly rise, they aren't searched.
 #[inline(always)]
-pub fn is_sync_in_order(
-    stss: &Option<StssBox>,
-    index: &TrackIndex,
-    k: u32,
-    gap: &mut SyncGap,
-    readings: &mut Readings,
-) -> bool
-    requires rises { IsTrue index.now.sync_rises ↔ IsStrictlyIncreasing (sync_numbers stss.now) }
-    requires sync { index.now.sync_numbers ≡ sync_numbers stss.now }
-    requires bits { AreBitsOf (sync_numbers stss.now) index.now.sync_bits }
+pub fn is_sync_in_order(tables: &Tables, k: u32, gap: &mut SyncGap, readings: &mut Readings) -> bool
+    requires tables { AreTables tables.now }
+    requires first { 1 ≤ k }
     requires fresh { readings.old ≡ 0 }
-    requires gap { IsSyncGap (sync_numbers stss.now) gap.old }
-    ensures gap { IsSyncGap (sync_numbers stss.now) gap.new }
-    ensures value { result ≡ is_sync_at stss.now k }
+    requires gap { IsSyncGap (sync_numbers tables.now.stbl.now.stss) k gap.old }
+    ensures gap { IsSyncGap (sync_numbers tables.now.stbl.now.stss) (k + 1) gap.new }
+    ensures value { result ≡ is_sync_at tables.now.stbl.now.stss k }
 {
-    let Some(stss) = stss else {
+    if !tables.has_sync_numbers {
         return true;
-    };
-    let numbers = stss.entries.as_slice();
+    }
+    let index = tables.index;
     if index.sync_rises {
-        gap.is_among(numbers, &index.sync_numbers, k, readings)
+        gap.is_among(tables.sync_numbers, &index.sync_numbers, k, readings)
     } else {
-        ByGuess::is_among(numbers, &index.sync_bits, k, readings)
+        ByGuess::is_among(tables.sync_numbers, &index.sync_bits, k, readings)
     }
 }

@@ -16,13 +16,13 @@ past-requires-clause-past g c =
     c.requires.sums (rw c.in_default.is at c.last_at_most.ensures.none) in
     all_before c.args.runs.now 0 (c.args.k - 1) (omega (arith, none)) (omega arith)
 
-pub past-requires-then-k-found-clause-past : goal.past-requires-then-k-found-clause-past
-past-requires-then-k-found-clause-past g c =
+pub past-requires-then-earlier-run-clause-past : goal.past-requires-then-earlier-run-clause-past
+past-requires-then-earlier-run-clause-past g c =
     let d : CttsEntry = record { sample_count = 0; sample_offset = pos 0 } in
     let i = c.in-Some.found.index in
     let found = rw c.in-Some.is at c.last_at_most.ensures.found in
     let past = past_found (λ (r : CttsEntry). r.sample_count) c.args.runs.now c.args.counts.now (c.args.k - 1) i d
-    c.requires.sums (omega arith) found.0 (omega (arith, found.1, c.if-k-found.true)) in
+    c.requires.sums (omega arith) found.0 (omega (arith, found.1, c.if-earlier-run.true)) in
     all_before c.args.runs.now (i + 1) (c.args.k - 1) past.0 past.1
 
 pub returns-clause-run : goal.returns-clause-run
@@ -34,4 +34,5 @@ returns-clause-run g c =
     let before = before_found (λ (r : CttsEntry). r.sample_count) runs c.args.counts.now (c.args.k - 1) i
     c.requires.sums (omega arith) found.0 in
     let fits : FitsSigned w32 (get_or runs i d).sample_offset = search rules in
-    offset_run runs i d _ before.0 (found.1 ∙ before.1) refl (to_z-of_z w32 _ fits) refl
+    offset_run runs c.args.k i _ d _ c.requires.first before.0 (found.1 ∙ before.1)
+    (omega (arith, found.1, before.1, before.2)) (omega arith) (to_z-of_z w32 _ fits) refl

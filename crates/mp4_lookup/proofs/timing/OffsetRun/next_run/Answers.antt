@@ -1,4 +1,4 @@
-use Rattle.std.proofs.Common.{refl, arith, rules, pos, w32, get_or}
+use Rattle.std.proofs.Common.{◌-◌, refl, arith, rules, pos, w32, get_or}
 use Rattle.std.specs.Prelude.{FitsSigned}
 use Rattle.std.proofs.lemmas.Int.{to_z-of_z}
 use Rattle.mp4_table.specs.declared.ctts.CttsEntry.{CttsEntry}
@@ -9,9 +9,11 @@ pub returns : goal.returns
 returns c =
     let d : CttsEntry = record { sample_count = 0; sample_offset = pos 0 } in
     let runs = c.args.runs.now in
+    let k = c.args.k in
     let i = c.args.self.now.next in
     let fits : FitsSigned w32 (get_or runs i d).sample_offset = search rules in (
-      offset_run runs i d _ (omega arith) (omega (arith, c.requires.run.counted)) refl (to_z-of_z w32 _ fits) refl,
-      omega arith,
+      offset_run runs k i (k - 1) d _ c.requires.first (omega arith)
+          (omega (arith, c.requires.run.counted (omega arith), c.requires.none)) (omega arith) (omega arith) (to_z-of_z w32 _ fits)
+          refl,
       omega arith,
     )

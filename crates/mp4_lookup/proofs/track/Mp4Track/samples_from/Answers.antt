@@ -1,5 +1,9 @@
-use Rattle.mp4_samples.specs.Tables.{tables_of}
 use Rattle.mp4_lookup.proofs.track.Mp4Track.samples_from.Goals as goal
 
 pub invariant_of-result : goal.invariant_of-result
-invariant_of-result c = record { here = c.new.ensures (tables_of c.args.self.now.trak); added = tt }
+invariant_of-result c = record {
+  lists = c.of-tables.ensures.tables;
+  of_track = c.of-tables.ensures.stbl;
+  here = λ _. rw c.of-tables.ensures.stbl at c.before-2.ensures;
+  added = tt;
+}
