@@ -12,8 +12,8 @@ use Rattle.mp4_samples.specs.Tables.{chunk_offsets, sizes}
 use Rattle.mp4_lookup.specs.Rule.{if_there, located_at, located_by, located_in_chunk, within_64_bits}
 use Rattle.mp4_lookup.specs.Walk.{BeginsChunk, IsChunkRun, IsForSamples}
 use Rattle.mp4_lookup.specs.declared.located.Chunk.{Chunk}
-use Rattle.mp4_lookup.specs.declared.located.ChunkRun.{ChunkRun}
-use Rattle.mp4_lookup.specs.declared.located.EntryRun.{EntryRun}
+use Rattle.mp4_lookup.specs.declared.chunk_run.ChunkRun.{ChunkRun}
+use Rattle.mp4_lookup.specs.declared.chunk_run.EntryRun.{EntryRun}
 use Rattle.mp4_lookup.proofs.RuleLaws.{size_agrees, sizes_agree}
 use Rattle.mp4_lookup.proofs.Searches.{sum-slice_range}
 use Rattle.mp4_lookup.proofs.Steps.{begins_after, begins_past, begins_there, chunk_same, entry_of, located_by_entry}

@@ -26,7 +26,7 @@ use Rattle.mp4_lookup.specs.Rule.{chunk_for, entry_for, first_in_chunk, located_
 use Rattle.mp4_lookup.specs.Rule.{time_at}
 use Rattle.mp4_lookup.specs.Walk.{BeginsChunk, IsForSamples, IsOffsetRun, IsSyncGap, IsTimeRun}
 use Rattle.mp4_lookup.specs.declared.located.Chunk.{Chunk}
-use Rattle.mp4_lookup.specs.declared.located.EntryRun.{EntryRun}
+use Rattle.mp4_lookup.specs.declared.chunk_run.EntryRun.{EntryRun}
 use Rattle.mp4_lookup.specs.declared.timing.OffsetRun.{OffsetRun}
 use Rattle.mp4_lookup.specs.declared.timing.SyncGap.{SyncGap}
 use Rattle.mp4_lookup.specs.declared.timing.TimeRun.{TimeRun}

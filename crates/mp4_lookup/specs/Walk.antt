@@ -10,8 +10,8 @@ use Rattle.mp4_table.specs.Runs.{rendering_offsets}
 use Rattle.mp4_boxes.specs.declared.stbl.StblBox.{StblBox}
 use Rattle.mp4_lookup.specs.Rule.{located_at, located_in_chunk, time_at}
 use Rattle.mp4_samples.specs.Tables.{ctts_runs, sync_numbers}
-use Rattle.mp4_lookup.specs.declared.located.ChunkRun.{ChunkRun}
-use Rattle.mp4_lookup.specs.declared.located.EntryRun.{EntryRun}
+use Rattle.mp4_lookup.specs.declared.chunk_run.ChunkRun.{ChunkRun}
+use Rattle.mp4_lookup.specs.declared.chunk_run.EntryRun.{EntryRun}
 use Rattle.mp4_lookup.specs.declared.position.Position.{Position}
 use Rattle.mp4_lookup.specs.declared.timing.OffsetRun.{OffsetRun}
 use Rattle.mp4_lookup.specs.declared.timing.SyncGap.{SyncGap}

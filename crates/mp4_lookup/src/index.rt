@@ -1,6 +1,6 @@
 //! What is kept beside the tables of a track, so that its samples are found fast.
 
-ghost use Rattle.std.specs.Prelude.{◌≡◌, ℕ, ◌-◌, ◌*◌, ◌^◌, ◌<◌, ◌↔◌, false, min, IfOk, OnOk, IsTrue};
+ghost use Rattle.std.specs.Prelude.{◌≡◌, ◌-◌, ◌*◌, ◌^◌, ◌<◌, ◌↔◌, false, min, IfOk, OnOk, IsTrue};
 ghost use Rattle.mp4_lookup.specs.Sums.{SizesBefore};
 ghost use Rattle.std.specs.List.{All};
 ghost use Rattle.std.specs.List.Sorted.{IsStrictlyIncreasing};

@@ -4,6 +4,7 @@
 #![tactic(auto)]
 
 mod by_time;
+mod chunk_run;
 mod codec;
 mod counters;
 mod headers;

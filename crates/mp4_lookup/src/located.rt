@@ -5,7 +5,7 @@
 
 ghost use Rattle.mp4_codec.specs.ExactTest.{by_test, field_tests};
 ghost use Rattle.std.specs.Prelude.{◌≡◌, ℕ, ◌+◌, ◌-◌, ◌^◌, ◌<◌, ◌≤◌, map, length, sum, slice_get, slice_range};
-ghost use Rattle.std.specs.Prelude.{option_map, List, get_or, IfErr, IfOk, IfNone, IfSome, IsTrue, OnOk, Ok, Err, None};
+ghost use Rattle.std.specs.Prelude.{option_map, IfErr, IfOk, IfNone, IfSome, OnOk, Ok, Err, None};
 ghost use Rattle.mp4_codec.specs.Cause.{Gives, cause_of, invalid_data};
 ghost use Rattle.mp4_table.specs.Stsc.{HasFirstSamples};
 ghost use Rattle.mp4_search.specs.Search.{IsLastAtMost};
@@ -15,14 +15,12 @@ ghost use Rattle.mp4_samples.specs.Tables.{chunk_offsets, sizes};
 ghost use Rattle.mp4_lookup.specs.Index.{IsIndexOf};
 ghost use Rattle.mp4_lookup.specs.Costs.{AreFewSizeReads};
 ghost use Rattle.mp4_lookup.specs.Rule.{chunk_for, entry_for, located_at, located_by, located_in_chunk, within_64_bits};
-ghost use Rattle.mp4_lookup.specs.Tables.{AreTables};
-ghost use Rattle.mp4_lookup.specs.Walk.{BeginsChunk, IsChunkRun, IsForSamples};
+ghost use Rattle.mp4_lookup.specs.Walk.{BeginsChunk};
 
 use crate::index::TrackIndex;
-use crate::tables::Tables;
 use mp4_boxes::StblBox;
 use mp4_codec::{Error, ExactEq, Result};
-use mp4_search::{ByGuess, CappedSums, Readings, Search, SearchedNumbers};
+use mp4_search::{CappedSums, Readings, Search, SearchedNumbers};
 use mp4_table::{StscEntry, StszBox};
 
 /// Where a sample lies.
@@ -39,7 +37,7 @@ impl ExactEq for LocatedBytes {
 /// The index of the last entry whose first sample is at most `k`.
 #[inline(always)]
 #[tactic(auto, unfolding(crate::specs::Rule::entry_for))]
-fn entry_index<S: Search>(
+pub fn entry_index<S: Search>(
     entries: &[StscEntry],
     first_samples: &SearchedNumbers,
     k: u32,
@@ -64,7 +62,7 @@ fn entry_index<S: Search>(
 
 /// An entry whose chunks have no samples is refused.
 #[inline(always)]
-fn check_usable(entry: &StscEntry) -> Result<()>
+pub fn check_usable(entry: &StscEntry) -> Result<()>
     ensures some { OnOk result (1 ≤ entry.now.samples_per_chunk) }
     ensures refused { IfErr result (λ e. (entry.now.samples_per_chunk ≡ 0) × (cause_of e ≡ invalid_data)) }
 {
@@ -94,74 +92,6 @@ fn entry_at<S: Search>(
     let entry = entries[index];
     check_usable(&entry)?;
     Ok(entry)
-}
-
-/// An entry of stsc, and the samples that it is for.
-#[derive(Clone, Copy, Debug)]
-pub struct EntryRun {
-    pub entry: StscEntry,
-    /// The first sample of the entry after it, and 2^32 for the last entry.
-    pub end: u64,
-    /// The index of the entry after it.
-    pub next: usize,
-}
-
-impl EntryRun {
-    /// Before the first entry, for no sample.
-    pub fn none() -> Self
-        ensures samples { (entries : List StscEntry) → IsForSamples entries result }
-        ensures end { result.end ≡ 0 }
-    {
-        EntryRun {
-            entry: StscEntry {
-                first_chunk: 0,
-                samples_per_chunk: 0,
-                sample_description_index: 0,
-                first_sample: 0,
-            },
-            end: 0,
-            next: 0,
-        }
-    }
-
-    /// The entry at an index.
-    #[inline(always)]
-    fn of(entries: &[StscEntry], index: usize) -> Self
-        requires firsts { HasFirstSamples entries.now }
-        requires within { index < length entries.now }
-        ensures samples { IsForSamples entries.now result }
-        ensures entry { result.entry ≡ get_or entries.now index result.entry }
-        ensures has { (k : ℕ) → k < 2 ^ 32 → IsLastAtMost (map (λ e. e.first_sample) entries.now) k index
-            → (result.entry.first_sample ≤ k) × (k < result.end) }
-    {
-        let end = match entries.get(index + 1) {
-            Some(next) => u64::from(next.first_sample),
-            None => 1 << 32,
-        };
-        EntryRun {
-            entry: entries[index],
-            end,
-            next: index + 1,
-        }
-    }
-
-    /// The entry after it, if sample `k` is the first of that one.
-    #[inline(always)]
-    fn next_entry(&self, entries: &[StscEntry], k: u32) -> Option<EntryRun>
-        requires firsts { HasFirstSamples entries.now }
-        ensures samples { IfSome result (IsForSamples entries.now) }
-        ensures has { IfSome result (λ r. (r.entry.first_sample ≡ k) × (k < r.end)) }
-    {
-        if self.next >= entries.len() {
-            return None;
-        }
-        let after = EntryRun::of(entries, self.next);
-        if after.entry.first_sample == k && u64::from(k) < after.end {
-            Some(after)
-        } else {
-            None
-        }
-    }
 }
 
 /// The chunk of sample `k`, which counts from 1.
@@ -260,7 +190,7 @@ pub struct Chunk {
 /// The chunk of sample `k`, by its entry of stsc, which is for the samples before `end`.
 #[inline(always)]
 #[tactic(auto, unfolding(crate::specs::Rule::chunk_for))]
-fn chunk_by(stbl: &StblBox, entry: &StscEntry, end: u64, k: u32) -> Result<Option<Chunk>>
+pub fn chunk_by(stbl: &StblBox, entry: &StscEntry, end: u64, k: u32) -> Result<Option<Chunk>>
     requires from { 1 ≤ entry.now.first_sample }
     requires to { entry.now.first_sample ≤ k }
     requires some { 1 ≤ entry.now.samples_per_chunk }
@@ -291,7 +221,7 @@ fn chunk_by(stbl: &StblBox, entry: &StscEntry, end: u64, k: u32) -> Result<Optio
 impl Chunk {
     /// Where sample `k` of the chunk lies, and its size.
     #[inline(always)]
-    fn located(
+    pub fn located(
         &self,
         stbl: &StblBox,
         sums: &CappedSums,
@@ -365,216 +295,4 @@ pub fn located_at<S: Search>(
         return Ok(None);
     };
     chunk.located(stbl, &index.size_sums, k, sizes)
-}
-
-/// The entry of stsc of sample `k`, which is searched: its chunks have samples.
-#[inline(always)]
-fn entry_run_at(tables: &Tables, k: u32, searched: &mut Readings) -> Result<EntryRun>
-    requires tables { AreTables tables.now }
-    requires fresh { searched.old ≡ 0 }
-    ensures samples { IfOk result (IsForSamples tables.now.stbl.now.stsc.entries) }
-    ensures has { IfOk result (λ r. (r.entry.first_sample ≤ k) × (k < r.end) × (1 ≤ r.entry.samples_per_chunk)) }
-    ensures counts { OnOk result (1 ≤ k) }
-    ensures refused { IfErr result (λ e. entry_for tables.now.stbl.now.stsc.entries k ≡ Err (cause_of e)) }
-{
-    let index = entry_index::<ByGuess>(tables.entries, &tables.index.first_samples, k, searched)?;
-    let run = EntryRun::of(tables.entries, index);
-    check_usable(&run.entry)?;
-    Ok(run)
-}
-
-/// What is left of a chunk, from a sample on, and the entry of stsc that it is by.
-#[derive(Clone, Copy, Debug)]
-pub struct ChunkRun {
-    pub run: EntryRun,
-    /// Its number, which counts from 1.
-    pub number: u32,
-    /// How many samples are left.
-    pub left: u32,
-    /// Where the first of them begins.
-    pub offset: u64,
-}
-
-impl ChunkRun {
-    /// Before the first chunk: no sample is left.
-    pub fn none() -> Self
-        ensures chunk { (t : StblBox) (k : ℕ) → IsChunkRun t k result }
-        ensures none { result.left ≡ 0 }
-    {
-        ChunkRun {
-            run: EntryRun::none(),
-            number: 0,
-            left: 0,
-            offset: 0,
-        }
-    }
-
-    /// Where the first sample that is left lies, which has this size; one fewer is left then. No place passes 64 bits:
-    /// where one would, no sample is left, and the walk looks for the next.
-    #[inline(always)]
-    fn take(&mut self, size: u32) -> u64
-        requires some { 0 < self.old.left }
-        ensures taken { result ≡ self.old.offset }
-        ensures rest { (t : StblBox) (k : ℕ) → 1 ≤ k → IsChunkRun t k self.old
-            → slice_get (sizes t.stsz k) (k - 1) ≡ Some size → IsChunkRun t (k + 1) self.new }
-    {
-        let offset = self.offset;
-        match offset.checked_add(u64::from(size)) {
-            Some(next) => {
-                self.offset = next;
-                self.left -= 1;
-            }
-            None => *self = ChunkRun::none(),
-        }
-        offset
-    }
-
-    /// The chunk of a number, whose first sample is `k`, by this entry of stsc. None where there is no such chunk.
-    #[inline(always)]
-    fn of(tables: &Tables, run: EntryRun, number: u32, k: u32) -> Option<ChunkRun>
-        requires tables { AreTables tables.now }
-        requires samples { IsForSamples tables.now.stbl.now.stsc.entries run }
-        requires has { k < run.end }
-        requires counts { 1 ≤ number }
-        requires begins { BeginsChunk run.entry k number }
-        ensures chunk { IfSome result (λ c. IsChunkRun tables.now.stbl.now k c × (0 < c.left)) }
-        ensures none { IfNone result (located_at tables.now.stbl.now k ≡ Ok None) }
-    {
-        let Some(offset) = tables.chunk_offset(number) else {
-            return None;
-        };
-        let left = u64::from(run.entry.samples_per_chunk).min(run.end - u64::from(k));
-        Some(ChunkRun {
-            run,
-            number,
-            left: left as u32,
-            offset,
-        })
-    }
-
-    /// The chunk after it, whose first sample is `k`, by the same entry of stsc.
-    #[inline(always)]
-    fn next_chunk(&self, tables: &Tables, k: u32) -> Result<Option<ChunkRun>>
-        requires tables { AreTables tables.now }
-        requires chunk { IsChunkRun tables.now.stbl.now k self.now }
-        requires none { self.now.left ≡ 0 }
-        requires has { k < self.now.run.end }
-        ensures chunk { IfOk result (λ c. IfSome c (λ c. IsChunkRun tables.now.stbl.now k c × (0 < c.left))) }
-        ensures none { IfOk result (λ c. IfNone c (located_at tables.now.stbl.now k ≡ Ok None)) }
-        ensures refused { IfErr result (λ e. located_at tables.now.stbl.now k ≡ Err (cause_of e)) }
-    {
-        let Some(number) = self.number.checked_add(1) else {
-            return Err(Error::InvalidData("a chunk's number passes 32 bits"));
-        };
-        Ok(ChunkRun::of(tables, self.run, number, k))
-    }
-
-    /// The first chunk by an entry of stsc, whose first sample is `k`.
-    #[inline(always)]
-    fn first_chunk(tables: &Tables, run: EntryRun, k: u32) -> Result<Option<ChunkRun>>
-        requires tables { AreTables tables.now }
-        requires samples { IsForSamples tables.now.stbl.now.stsc.entries run }
-        requires first { run.entry.first_sample ≡ k }
-        requires has { k < run.end }
-        ensures chunk { IfOk result (λ c. IfSome c (λ c. IsChunkRun tables.now.stbl.now k c × (0 < c.left))) }
-        ensures none { IfOk result (λ c. IfNone c (located_at tables.now.stbl.now k ≡ Ok None)) }
-        ensures refused { IfErr result (λ e. located_at tables.now.stbl.now k ≡ Err (cause_of e)) }
-    {
-        check_usable(&run.entry)?;
-        let number = run.entry.first_chunk;
-        if number == 0 {
-            return Err(Error::InvalidData("chunks are numbered from 1"));
-        }
-        Ok(ChunkRun::of(tables, run, number, k))
-    }
-
-    /// What is left of the chunk of sample `k` from it on, by its entry of stsc, which is searched. None where there is
-    /// no such sample.
-    fn search(
-        tables: &Tables,
-        k: u32,
-        searched: &mut Readings,
-        size_reads: &mut Readings,
-    ) -> Result<Option<ChunkRun>>
-        requires tables { AreTables tables.now }
-        requires fresh_entries { searched.old ≡ 0 }
-        requires fresh_sizes { size_reads.old ≡ 0 }
-        ensures chunk { IfOk result (λ c. IfSome c (λ c. IsChunkRun tables.now.stbl.now k c × (0 < c.left))) }
-        ensures none { IfOk result (λ c. IfNone c (located_at tables.now.stbl.now k ≡ Ok None)) }
-        ensures refused { IfErr result (λ e. located_at tables.now.stbl.now k ≡ Err (cause_of e)) }
-        ensures counts { OnOk result (1 ≤ k) }
-    {
-        let run = entry_run_at(tables, k, searched)?;
-        let stbl = tables.stbl;
-        let Some(chunk) = chunk_by(stbl, &run.entry, run.end, k)? else {
-            return Ok(None);
-        };
-        let Some(sample) = chunk.located(stbl, &tables.index.size_sums, k, size_reads)? else {
-            return Ok(None);
-        };
-        Ok(Some(ChunkRun {
-            run,
-            number: chunk.number,
-            left: (chunk.end - u64::from(k)) as u32,
-            offset: sample.offset,
-        }))
-    }
-
-    /// What is left of the chunk of sample `k`, none of this one being left: the chunk after it, or the first chunk by
-    /// the entry of stsc after this one's, else the entry is searched. None where there is no such sample.
-    #[inline(always)]
-    fn after(
-        &self,
-        tables: &Tables,
-        k: u32,
-        searched: &mut Readings,
-        size_reads: &mut Readings,
-    ) -> Result<Option<ChunkRun>>
-        requires tables { AreTables tables.now }
-        requires chunk { IsChunkRun tables.now.stbl.now k self.now }
-        requires none { self.now.left ≡ 0 }
-        requires fresh_entries { searched.old ≡ 0 }
-        requires fresh_sizes { size_reads.old ≡ 0 }
-        ensures chunk { IfOk result (λ c. IfSome c (λ c. IsChunkRun tables.now.stbl.now k c × (0 < c.left))) }
-        ensures none { IfOk result (λ c. IfNone c (located_at tables.now.stbl.now k ≡ Ok None)) }
-        ensures refused { IfErr result (λ e. located_at tables.now.stbl.now k ≡ Err (cause_of e)) }
-    {
-        if u64::from(k) < self.run.end {
-            return self.next_chunk(tables, k);
-        }
-        match self.run.next_entry(tables.entries, k) {
-            Some(run) => ChunkRun::first_chunk(tables, run, k),
-            None => ChunkRun::search(tables, k, searched, size_reads),
-        }
-    }
-}
-
-/// Where sample `k` lies, and its size: the next sample of a walk that is in this chunk, or else moves to the sample's.
-#[inline(always)]
-pub fn located_in_order(
-    tables: &Tables,
-    k: u32,
-    chunk: &mut ChunkRun,
-    searched: &mut Readings,
-    size_reads: &mut Readings,
-) -> Result<Option<LocatedBytes>>
-    requires tables { AreTables tables.now }
-    requires chunk { IsChunkRun tables.now.stbl.now k chunk.old }
-    requires fresh_entries { searched.old ≡ 0 }
-    requires fresh_sizes { size_reads.old ≡ 0 }
-    ensures chunk { IfOk result (λ s. IfSome s (λ s. IsChunkRun tables.now.stbl.now (k + 1) chunk.new)) }
-    ensures located { Gives (λ s. option_map (λ s. (s.offset, s.size)) s) result (located_at tables.now.stbl.now k) }
-    ensures counts { IfOk result (λ s. IfSome s (λ s. 1 ≤ k)) }
-{
-    if chunk.left == 0 {
-        let Some(next) = chunk.after(tables, k, searched, size_reads)? else {
-            return Ok(None);
-        };
-        *chunk = next;
-    }
-    let Some(size) = tables.size_of(k) else {
-        return Ok(None);
-    };
-    let offset = chunk.take(size);
-    Ok(Some(LocatedBytes { offset, size }))
 }

@@ -2,15 +2,15 @@
 
 // The steps of a look-up are kept inline: docs/PERF.md, "Why these are calls".
 
-ghost use Rattle.std.specs.Prelude.{◌≡◌, ◌+◌, IfOk, IfSome};
+ghost use Rattle.std.specs.Prelude.{◌+◌, IfOk, IfSome};
 ghost use Rattle.mp4_codec.specs.Cause.{Gives};
 ghost use Rattle.mp4_lookup.specs.Costs.{AreFresh};
 ghost use Rattle.mp4_lookup.specs.Rule.{rule};
 ghost use Rattle.mp4_lookup.specs.Tables.{AreTables};
 ghost use Rattle.mp4_lookup.specs.Walk.{AreIn};
 
+use crate::chunk_run::{ChunkRun, located_in_order};
 use crate::counters::Counters;
-use crate::located::{ChunkRun, located_in_order};
 use crate::tables::Tables;
 use crate::timing::{
     OffsetRun, SyncGap, TimeRun, is_sync_in_order, rendering_offset_in_order, time_in_order,

@@ -1,6 +1,6 @@
 use Rattle.std.proofs.Common.{refl, sym, arith}
 use Rattle.mp4_lookup.proofs.ChunkRuns.{chunk_begins, no_chunk_begins}
-use Rattle.mp4_lookup.proofs.located.ChunkRun.of.Goals as goal
+use Rattle.mp4_lookup.proofs.chunk_run.ChunkRun.of.Goals as goal
 
 pub returns-in_default-clause-none : goal.returns-in_default-clause-none
 returns-in_default-clause-none c =

@@ -2,7 +2,7 @@ use Rattle.std.proofs.Common.{arith}
 use Rattle.std.proofs.lemmas.Result.{err_from_is_err_and}
 use Rattle.mp4_lookup.specs.Walk.{IsForSamples}
 use Rattle.mp4_lookup.proofs.Steps.{unusable}
-use Rattle.mp4_lookup.proofs.located.entry_run_at.Goals as goal
+use Rattle.mp4_lookup.proofs.chunk_run.entry_run_at.Goals as goal
 
 pub returns-in_err-check_usable-clause-refused : goal.returns-in_err-check_usable-clause-refused
 returns-in_err-check_usable-clause-refused c =

@@ -1,6 +1,6 @@
 use Rattle.std.proofs.Common.{◌≡◌, ◌+◌, arith, inr, rules}
 use Rattle.mp4_lookup.proofs.ChunkRuns.{wrong_chunk_begins}
-use Rattle.mp4_lookup.proofs.located.ChunkRun.next_chunk.Goals as goal
+use Rattle.mp4_lookup.proofs.chunk_run.ChunkRun.next_chunk.Goals as goal
 
 pub returns-in_default-clause-refused : goal.returns-in_default-clause-refused
 returns-in_default-clause-refused c =

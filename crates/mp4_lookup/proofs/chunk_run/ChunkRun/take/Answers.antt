@@ -1,6 +1,6 @@
 use Rattle.std.proofs.Common.{refl, arith}
 use Rattle.mp4_lookup.proofs.ChunkRuns.{chunk_taken}
-use Rattle.mp4_lookup.proofs.located.ChunkRun.take.Goals as goal
+use Rattle.mp4_lookup.proofs.chunk_run.ChunkRun.take.Goals as goal
 
 pub returns-in-Some-clause-rest : goal.returns-in-Some-clause-rest
 returns-in-Some-clause-rest c = λ t k first here there.

@@ -2,7 +2,7 @@ use Rattle.std.proofs.Common.{◌∙◌, refl, arith}
 use Rattle.std.proofs.lemmas.Result.{err_from_is_err_and}
 use Rattle.mp4_lookup.proofs.ChunkRuns.{chunk_from}
 use Rattle.mp4_lookup.proofs.Steps.{entry_of, located_by_entry, located_refused}
-use Rattle.mp4_lookup.proofs.located.ChunkRun.search.Goals as goal
+use Rattle.mp4_lookup.proofs.chunk_run.ChunkRun.search.Goals as goal
 
 pub returns-in_err-run-clause-refused : goal.returns-in_err-run-clause-refused
 returns-in_err-run-clause-refused c =

@@ -4,8 +4,8 @@ use Rattle.std.proofs.lemmas.List.{get_or-map, length-map}
 use Rattle.mp4_table.specs.declared.stsc.StscEntry.{StscEntry}
 use Rattle.mp4_lookup.proofs.Searches.{first_sample_found}
 use Rattle.mp4_lookup.proofs.Steps.{entry_run}
-use Rattle.mp4_lookup.proofs.located.EntryRun.of.Goals as goal
-use Rattle.mp4_lookup.proofs.located.EntryRun.of.Goals.{in-Some, in-None}
+use Rattle.mp4_lookup.proofs.chunk_run.EntryRun.of.Goals as goal
+use Rattle.mp4_lookup.proofs.chunk_run.EntryRun.of.Goals.{in-Some, in-None}
 
 no_entry : StscEntry
 no_entry = record { first_chunk = 0; samples_per_chunk = 0; sample_description_index = 0; first_sample = 0 }

@@ -2,7 +2,7 @@ use Rattle.std.proofs.Common.{arith, inl}
 use Rattle.std.proofs.lemmas.Result.{err_from_is_err_and}
 use Rattle.mp4_lookup.proofs.ChunkRuns.{wrong_chunk_begins}
 use Rattle.mp4_lookup.proofs.Steps.{begins_entry, located_refused, unusable}
-use Rattle.mp4_lookup.proofs.located.ChunkRun.first_chunk.Goals as goal
+use Rattle.mp4_lookup.proofs.chunk_run.ChunkRun.first_chunk.Goals as goal
 
 pub returns-in_err-check_usable-clause-refused : goal.returns-in_err-check_usable-clause-refused
 returns-in_err-check_usable-clause-refused c =
