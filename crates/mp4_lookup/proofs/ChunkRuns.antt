@@ -1,9 +1,10 @@
 -- What is left of a chunk, sample after sample.
-use Rattle.std.proofs.Common.{◌≡◌, ℕ, ◌+◌, ◌-◌, ◌^◌, ◌<◌, ◌≤◌, length, get_or, take, sum, Option, Some, None}
+use Rattle.std.proofs.Common.{◌≡◌, ℕ, ◌+◌, ◌-◌, ◌^◌, ◌<◌, ◌≤◌, length, get_or, take, sum, replicate, Option, Some, None}
 use Rattle.std.proofs.Common.{Bool, true, false, cond, Result, Ok, Err, refl, sym, ap, ◌∙◌, arith, ◌⊎◌, ⊎_elim}
 use Rattle.std.specs.Prelude.{min, nat_le, slice_get, slice_range}
-use Rattle.std.proofs.lemmas.Option.{slice_get_past}
-use Rattle.std.proofs.lemmas.Bool.{cases_lt, lt-leb}
+use Rattle.std.proofs.lemmas.Option.{slice_get-get_or, slice_get_past}
+use Rattle.std.proofs.lemmas.Bool.{cases_lt, lt-leb, lt-ltb}
+use Rattle.std.proofs.lemmas.List.{get_or-replicate, length-replicate}
 use Rattle.std.proofs.lemmas.List.Sums.{sum_by_more}
 use Rattle.mp4_codec.specs.Cause.{Cause, invalid_data, ◌>>=◌}
 use Rattle.mp4_table.specs.declared.stsz.StszBox.{StszBox}
@@ -29,6 +30,14 @@ some_is h = cc
 
 ok_is : {A : Type 0} {x y : A} (r s : Result A Cause) → r ≡ Ok x → s ≡ Ok y → r ≡ s → x ≡ y
 ok_is r s a b h = cc
+
+-- the size of sample k, where all samples have one size
+pub one_size : (z : StszBox) (k : ℕ) → 1 ≤ k → 0 < z.sample_size → slice_get (sizes z k) (k - 1) ≡ Some z.sample_size
+unfolding sizes
+one_size z k first some =
+    rw (lt-ltb 0 z.sample_size some)
+    (slice_get-get_or (replicate k z.sample_size) (k - 1) 0 (rw (length-replicate k z.sample_size) (omega (arith, first)))
+    ∙ ap Some (get_or-replicate k (k - 1) z.sample_size 0 (omega (arith, first))))
 
 -- a size that is there is within its list
 size_within : (z : StszBox) (n x : ℕ) → slice_get (sizes z n) (n - 1) ≡ Some x → n - 1 < length (sizes z n)

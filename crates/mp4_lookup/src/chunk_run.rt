@@ -3,18 +3,20 @@
 // The steps of a walk are kept inline: docs/PERF.md, "Why these are calls".
 
 ghost use Rattle.std.specs.Prelude.{◌≡◌, ℕ, ◌+◌, ◌-◌, ◌^◌, ◌<◌, ◌≤◌, map, length, slice_get};
-ghost use Rattle.std.specs.Prelude.{option_map, List, get_or, IfErr, IfOk, IfNone, IfSome, OnOk, Ok, Err, None, Some};
+ghost use Rattle.std.specs.Prelude.{option_map, List, get_or, IfErr, IfOk, IfNone, IfSome, IsTrue, OnOk};
+ghost use Rattle.std.specs.Prelude.{false, Ok, Err, None, Some};
 ghost use Rattle.mp4_codec.specs.Cause.{Gives, cause_of};
 ghost use Rattle.mp4_table.specs.Stsc.{HasFirstSamples};
 ghost use Rattle.mp4_search.specs.Search.{IsLastAtMost};
-ghost use Rattle.mp4_samples.specs.Tables.{sizes};
+ghost use Rattle.mp4_samples.specs.Tables.{sizes, tables_of};
 ghost use Rattle.mp4_lookup.specs.Rule.{entry_for, located_at};
-ghost use Rattle.mp4_lookup.specs.Tables.{AreTables};
+ghost use Rattle.mp4_lookup.specs.Tables.{AreTables, walked};
 ghost use Rattle.mp4_lookup.specs.Walk.{BeginsChunk, IsChunkRun, IsForSamples};
 ghost use Rattle.mp4_boxes.specs.declared.stbl.StblBox.{StblBox};
 
 use crate::located::{LocatedBytes, check_usable, chunk_by, entry_index};
 use crate::tables::Tables;
+use crate::track::Mp4Track;
 use mp4_codec::{Error, Result};
 use mp4_search::{ByGuess, Readings};
 use mp4_table::StscEntry;
@@ -89,16 +91,16 @@ impl EntryRun {
 
 /// The entry of stsc of sample `k`, which is searched: its chunks have samples.
 #[inline(always)]
-fn entry_run_at(tables: &Tables, k: u32, searched: &mut Readings) -> Result<EntryRun>
-    requires tables { AreTables tables.now }
-    requires fresh { searched.old ≡ 0 }
-    ensures samples { IfOk result (IsForSamples tables.now.stbl.now.stsc.entries) }
+fn entry_run_at(track: &Mp4Track, k: u32) -> Result<EntryRun>
+    ensures samples { IfOk result (IsForSamples (tables_of track.now.trak).stsc.entries) }
     ensures has { IfOk result (λ r. (r.entry.first_sample ≤ k) × (k < r.end) × (1 ≤ r.entry.samples_per_chunk)) }
     ensures counts { OnOk result (1 ≤ k) }
-    ensures refused { IfErr result (λ e. entry_for tables.now.stbl.now.stsc.entries k ≡ Err (cause_of e)) }
+    ensures refused { IfErr result (λ e. entry_for (tables_of track.now.trak).stsc.entries k ≡ Err (cause_of e)) }
 {
-    let index = entry_index::<ByGuess>(tables.entries, &tables.index.first_samples, k, searched)?;
-    let run = EntryRun::of(tables.entries, index);
+    let entries = track.trak.mdia.minf.stbl.stsc.entries.as_slice();
+    let mut readings = Readings::of(track);
+    let index = entry_index::<ByGuess>(entries, &track.index.first_samples, k, &mut readings)?;
+    let run = EntryRun::of(entries, index);
     check_usable(&run.entry)?;
     Ok(run)
 }
@@ -144,7 +146,10 @@ impl ChunkRun {
                 self.offset = next;
                 self.left -= 1;
             }
-            None => *self = ChunkRun::none(),
+            None => {
+                self.left = 0;
+                self.run.end = 0;
+            }
         }
         offset
     }
@@ -153,12 +158,12 @@ impl ChunkRun {
     #[inline(always)]
     fn of(tables: &Tables, run: EntryRun, number: u32, k: u32) -> Option<ChunkRun>
         requires tables { AreTables tables.now }
-        requires samples { IsForSamples tables.now.stbl.now.stsc.entries run }
+        requires samples { IsForSamples (walked tables.now).stsc.entries run }
         requires has { k < run.end }
         requires counts { 1 ≤ number }
         requires begins { BeginsChunk run.entry k number }
-        ensures chunk { IfSome result (λ c. IsChunkRun tables.now.stbl.now k c × (0 < c.left)) }
-        ensures none { IfNone result (located_at tables.now.stbl.now k ≡ Ok None) }
+        ensures chunk { IfSome result (λ c. IsChunkRun (walked tables.now) k c × (0 < c.left)) }
+        ensures none { IfNone result (located_at (walked tables.now) k ≡ Ok None) }
     {
         let Some(offset) = tables.chunk_offset(number) else {
             return None;
@@ -176,12 +181,12 @@ impl ChunkRun {
     #[inline(always)]
     fn next_chunk(&self, tables: &Tables, k: u32) -> Result<Option<ChunkRun>>
         requires tables { AreTables tables.now }
-        requires chunk { IsChunkRun tables.now.stbl.now k self.now }
+        requires chunk { IsChunkRun (walked tables.now) k self.now }
         requires none { self.now.left ≡ 0 }
         requires has { k < self.now.run.end }
-        ensures chunk { IfOk result (λ c. IfSome c (λ c. IsChunkRun tables.now.stbl.now k c × (0 < c.left))) }
-        ensures none { IfOk result (λ c. IfNone c (located_at tables.now.stbl.now k ≡ Ok None)) }
-        ensures refused { IfErr result (λ e. located_at tables.now.stbl.now k ≡ Err (cause_of e)) }
+        ensures chunk { IfOk result (λ c. IfSome c (λ c. IsChunkRun (walked tables.now) k c × (0 < c.left))) }
+        ensures none { IfOk result (λ c. IfNone c (located_at (walked tables.now) k ≡ Ok None)) }
+        ensures refused { IfErr result (λ e. located_at (walked tables.now) k ≡ Err (cause_of e)) }
     {
         let Some(number) = self.number.checked_add(1) else {
             return Err(Error::InvalidData("a chunk's number passes 32 bits"));
@@ -193,12 +198,12 @@ impl ChunkRun {
     #[inline(always)]
     fn first_chunk(tables: &Tables, run: EntryRun, k: u32) -> Result<Option<ChunkRun>>
         requires tables { AreTables tables.now }
-        requires samples { IsForSamples tables.now.stbl.now.stsc.entries run }
+        requires samples { IsForSamples (walked tables.now).stsc.entries run }
         requires first { run.entry.first_sample ≡ k }
         requires has { k < run.end }
-        ensures chunk { IfOk result (λ c. IfSome c (λ c. IsChunkRun tables.now.stbl.now k c × (0 < c.left))) }
-        ensures none { IfOk result (λ c. IfNone c (located_at tables.now.stbl.now k ≡ Ok None)) }
-        ensures refused { IfErr result (λ e. located_at tables.now.stbl.now k ≡ Err (cause_of e)) }
+        ensures chunk { IfOk result (λ c. IfSome c (λ c. IsChunkRun (walked tables.now) k c × (0 < c.left))) }
+        ensures none { IfOk result (λ c. IfNone c (located_at (walked tables.now) k ≡ Ok None)) }
+        ensures refused { IfErr result (λ e. located_at (walked tables.now) k ≡ Err (cause_of e)) }
     {
         check_usable(&run.entry)?;
         let number = run.entry.first_chunk;
@@ -210,26 +215,21 @@ impl ChunkRun {
 
     /// What is left of the chunk of sample `k` from it on, by its entry of stsc, which is searched. None where there is
     /// no such sample.
-    fn search(
-        tables: &Tables,
-        k: u32,
-        searched: &mut Readings,
-        size_reads: &mut Readings,
-    ) -> Result<Option<ChunkRun>>
-        requires tables { AreTables tables.now }
-        requires fresh_entries { searched.old ≡ 0 }
-        requires fresh_sizes { size_reads.old ≡ 0 }
-        ensures chunk { IfOk result (λ c. IfSome c (λ c. IsChunkRun tables.now.stbl.now k c × (0 < c.left))) }
-        ensures none { IfOk result (λ c. IfNone c (located_at tables.now.stbl.now k ≡ Ok None)) }
-        ensures refused { IfErr result (λ e. located_at tables.now.stbl.now k ≡ Err (cause_of e)) }
+    // Kept a call: docs/PERF.md, "Why these are calls".
+    #[inline(never)]
+    fn search(track: &Mp4Track, k: u32) -> Result<Option<ChunkRun>>
+        ensures chunk { IfOk result (λ c. IfSome c (λ c. IsChunkRun (tables_of track.now.trak) k c × (0 < c.left))) }
+        ensures none { IfOk result (λ c. IfNone c (located_at (tables_of track.now.trak) k ≡ Ok None)) }
+        ensures refused { IfErr result (λ e. located_at (tables_of track.now.trak) k ≡ Err (cause_of e)) }
         ensures counts { OnOk result (1 ≤ k) }
     {
-        let run = entry_run_at(tables, k, searched)?;
-        let stbl = tables.stbl;
+        let run = entry_run_at(track, k)?;
+        let stbl = &track.trak.mdia.minf.stbl;
         let Some(chunk) = chunk_by(stbl, &run.entry, run.end, k)? else {
             return Ok(None);
         };
-        let Some(sample) = chunk.located(stbl, &tables.index.size_sums, k, size_reads)? else {
+        let mut readings = Readings::of(track);
+        let Some(sample) = chunk.located(stbl, &track.index.size_sums, k, &mut readings)? else {
             return Ok(None);
         };
         Ok(Some(ChunkRun {
@@ -243,28 +243,41 @@ impl ChunkRun {
     /// What is left of the chunk of sample `k`, none of this one being left: the chunk after it, or the first chunk by
     /// the entry of stsc after this one's, else the entry is searched. None where there is no such sample.
     #[inline(always)]
-    fn after(
-        &self,
-        tables: &Tables,
-        k: u32,
-        searched: &mut Readings,
-        size_reads: &mut Readings,
-    ) -> Result<Option<ChunkRun>>
+    fn after(&self, tables: &Tables, k: u32) -> Result<Option<ChunkRun>>
         requires tables { AreTables tables.now }
-        requires chunk { IsChunkRun tables.now.stbl.now k self.now }
+        requires chunk { IsChunkRun (walked tables.now) k self.now }
         requires none { self.now.left ≡ 0 }
-        requires fresh_entries { searched.old ≡ 0 }
-        requires fresh_sizes { size_reads.old ≡ 0 }
-        ensures chunk { IfOk result (λ c. IfSome c (λ c. IsChunkRun tables.now.stbl.now k c × (0 < c.left))) }
-        ensures none { IfOk result (λ c. IfNone c (located_at tables.now.stbl.now k ≡ Ok None)) }
-        ensures refused { IfErr result (λ e. located_at tables.now.stbl.now k ≡ Err (cause_of e)) }
+        ensures chunk { IfOk result (λ c. IfSome c (λ c. IsChunkRun (walked tables.now) k c × (0 < c.left))) }
+        ensures none { IfOk result (λ c. IfNone c (located_at (walked tables.now) k ≡ Ok None)) }
+        ensures refused { IfErr result (λ e. located_at (walked tables.now) k ≡ Err (cause_of e)) }
     {
         if u64::from(k) < self.run.end {
             return self.next_chunk(tables, k);
         }
         match self.run.next_entry(tables.entries, k) {
             Some(run) => ChunkRun::first_chunk(tables, run, k),
-            None => ChunkRun::search(tables, k, searched, size_reads),
+            None => ChunkRun::search(tables.track, k),
+        }
+    }
+
+    /// Becomes what is left of the chunk of sample `k`, none of this one being left, and answers whether there is such
+    /// a sample.
+    #[inline(always)]
+    fn move_to(&mut self, tables: &Tables, k: u32) -> Result<bool>
+        requires tables { AreTables tables.now }
+        requires chunk { IsChunkRun (walked tables.now) k self.old }
+        requires none { self.old.left ≡ 0 }
+        ensures chunk { IfOk result (λ there. IsTrue there → IsChunkRun (walked tables.now) k self.new) }
+        ensures some { IfOk result (λ there. IsTrue there → 0 < self.new.left) }
+        ensures none { IfOk result (λ there. there ≡ false → located_at (walked tables.now) k ≡ Ok None) }
+        ensures refused { IfErr result (λ e. located_at (walked tables.now) k ≡ Err (cause_of e)) }
+    {
+        match self.after(tables, k)? {
+            None => Ok(false),
+            Some(next) => {
+                *self = next;
+                Ok(true)
+            }
         }
     }
 }
@@ -275,22 +288,15 @@ pub fn located_in_order(
     tables: &Tables,
     k: u32,
     chunk: &mut ChunkRun,
-    searched: &mut Readings,
-    size_reads: &mut Readings,
 ) -> Result<Option<LocatedBytes>>
     requires tables { AreTables tables.now }
-    requires chunk { IsChunkRun tables.now.stbl.now k chunk.old }
-    requires fresh_entries { searched.old ≡ 0 }
-    requires fresh_sizes { size_reads.old ≡ 0 }
-    ensures chunk { IfOk result (λ s. IfSome s (λ s. IsChunkRun tables.now.stbl.now (k + 1) chunk.new)) }
-    ensures located { Gives (λ s. option_map (λ s. (s.offset, s.size)) s) result (located_at tables.now.stbl.now k) }
+    requires chunk { IsChunkRun (walked tables.now) k chunk.old }
+    ensures chunk { IfOk result (λ s. IfSome s (λ s. IsChunkRun (walked tables.now) (k + 1) chunk.new)) }
+    ensures located { Gives (λ s. option_map (λ s. (s.offset, s.size)) s) result (located_at (walked tables.now) k) }
     ensures counts { IfOk result (λ s. IfSome s (λ s. 1 ≤ k)) }
 {
-    if chunk.left == 0 {
-        let Some(next) = chunk.after(tables, k, searched, size_reads)? else {
-            return Ok(None);
-        };
-        *chunk = next;
+    if chunk.left == 0 && !chunk.move_to(tables, k)? {
+        return Ok(None);
     }
     let Some(size) = tables.size_of(k) else {
         return Ok(None);

@@ -13,7 +13,6 @@ ghost use Rattle.mp4_lookup.specs.Tracks.{answer_at, is_of_movie};
 ghost use Rattle.mp4_lookup.specs.TrackRuns.{track_runs};
 ghost use Rattle.mp4_lookup.specs.Walk.{AreIn};
 
-use crate::counters::Counters;
 use crate::locate::run_sample_placed;
 use crate::position::Position;
 use crate::samples::Samples;
@@ -22,15 +21,16 @@ use crate::track::Mp4Track;
 use mp4_codec::Result;
 use mp4_fragments::RunPosition;
 use mp4_samples::Place;
+use mp4_search::Readings;
 
 impl Mp4Track {
     /// The samples from number `k` on, in their order; samples are numbered from 1.
+    #[inline(always)]
     pub fn samples_from(&self, k: u32) -> Samples<'_>
         ensures { samples_left result ≡ answers_from (2 ^ 32 - k) self.now k }
     {
-        let tables = Tables::of(&self.trak.mdia.minf.stbl, &self.index);
+        let tables = Tables::of(self);
         Samples {
-            track: self,
             tables,
             number: Some(k),
             position: Position::before(&tables, k),
@@ -39,6 +39,7 @@ impl Mp4Track {
     }
 
     /// All samples, in their order.
+    #[inline(always)]
     pub fn samples(&self) -> Samples<'_>
         ensures { samples_left result ≡ answers_from (2 ^ 32 - 1) self.now 1 }
     {
@@ -57,7 +58,7 @@ impl Mp4Track {
         run_position: &mut Option<RunPosition<'t>>,
     ) -> Result<Option<Place>>
         requires tables { AreTables tables.now }
-        requires of_track { tables.now.stbl.now ≡ tables_of self.now.trak }
+        requires of_track { tables.now.track.now ≡ self.now }
         requires here { IsTrue (is_of_movie self.now.trak self.now.trafs k)
             → AreIn (tables_of self.now.trak) k position.old }
         requires added { IfSome run_position.old (IsAmongRuns (track_runs self.now)) }
@@ -66,19 +67,15 @@ impl Mp4Track {
             → AreIn (tables_of self.now.trak) (k + 1) position.new)) }
         ensures added { IfSome run_position.new (IsAmongRuns (track_runs self.now)) }
     {
-        let mut counters = Counters::of(self);
         if self.is_of_movie(k) {
-            return position.place(tables, self.trak.tkhd.track_id, k, &mut counters);
+            return position.place(tables, k);
         }
         let number = k - self.trak.mdia.minf.stbl.sample_count() - 1;
         let trafs = self.trafs.as_slice();
-        let Some(run_sample) = self.runs.find_next(
-            trafs,
-            self.defaults,
-            number,
-            &mut counters.runs,
-            run_position,
-        )
+        let mut readings = Readings::of(self);
+        let Some(run_sample) = self
+            .runs
+            .find_next(trafs, self.defaults, number, &mut readings, run_position)
         else {
             return Ok(None);
         };
@@ -93,10 +90,12 @@ impl<'t> Iterator for Samples<'t> {
 
     ghost remaining = { item_count samples_left };
 
+    #[inline(always)]
     fn next(&mut self) -> Option<Result<Place>> {
         let number = self.number?;
         self.number = None;
-        match self.track.next_place(
+        let track = self.tables.track;
+        match track.next_place(
             number,
             &self.tables,
             &mut self.position,

@@ -4,13 +4,11 @@
 
 ghost use Rattle.std.specs.Prelude.{◌+◌, IfOk, IfSome};
 ghost use Rattle.mp4_codec.specs.Cause.{Gives};
-ghost use Rattle.mp4_lookup.specs.Costs.{AreFresh};
 ghost use Rattle.mp4_lookup.specs.Rule.{rule};
-ghost use Rattle.mp4_lookup.specs.Tables.{AreTables};
+ghost use Rattle.mp4_lookup.specs.Tables.{AreTables, walked};
 ghost use Rattle.mp4_lookup.specs.Walk.{AreIn};
 
 use crate::chunk_run::{ChunkRun, located_in_order};
-use crate::counters::Counters;
 use crate::tables::Tables;
 use crate::timing::{
     OffsetRun, SyncGap, TimeRun, is_sync_in_order, rendering_offset_in_order, time_in_order,
@@ -29,9 +27,10 @@ pub struct Position {
 
 impl Position {
     /// Before sample `k`.
+    #[inline(always)]
     pub fn before(tables: &Tables, k: u32) -> Self
         requires tables { AreTables tables.now }
-        ensures { AreIn tables.now.stbl.now k result }
+        ensures { AreIn (walked tables.now) k result }
     {
         Position {
             chunk: ChunkRun::none(),
@@ -46,43 +45,18 @@ impl Position {
     /// the first of the entry after it.
     #[inline(always)]
     #[tactic(auto, unfolding(crate::specs::Rule::rule))]
-    pub fn place(
-        &mut self,
-        tables: &Tables,
-        track_id: u32,
-        k: u32,
-        counters: &mut Counters,
-    ) -> Result<Option<Place>>
+    pub fn place(&mut self, tables: &Tables, k: u32) -> Result<Option<Place>>
         requires tables { AreTables tables.now }
-        requires fresh { AreFresh counters.old }
-        requires here { AreIn tables.now.stbl.now k self.old }
-        ensures rule { Gives (λ p. p) result (rule tables.now.stbl.now track_id k) }
-        ensures here { IfOk result (λ p. IfSome p (λ p. AreIn tables.now.stbl.now (k + 1) self.new)) }
+        requires here { AreIn (walked tables.now) k self.old }
+        ensures rule { Gives (λ p. p) result (rule (walked tables.now) tables.now.track.now.trak.tkhd.track_id k) }
+        ensures here { IfOk result (λ p. IfSome p (λ p. AreIn (walked tables.now) (k + 1) self.new)) }
     {
-        let Some(located) = located_in_order(
-            tables,
-            k,
-            &mut self.chunk,
-            &mut counters.stsc,
-            &mut counters.sizes,
-        )?
-        else {
+        let Some(located) = located_in_order(tables, k, &mut self.chunk)? else {
             return Ok(None);
         };
-        let (duration, start_time) = time_in_order(
-            tables,
-            track_id,
-            k,
-            &mut self.time,
-            &mut counters.stts,
-        )?;
-        let rendering_offset = rendering_offset_in_order(
-            tables,
-            k,
-            &mut self.rendering,
-            &mut counters.ctts,
-        );
-        let is_sync = is_sync_in_order(tables, k, &mut self.sync, &mut counters.stss);
+        let (duration, start_time) = time_in_order(tables, k, &mut self.time)?;
+        let rendering_offset = rendering_offset_in_order(tables, k, &mut self.rendering);
+        let is_sync = is_sync_in_order(tables, k, &mut self.sync);
         Ok(Some(Place {
             offset: located.offset,
             size: located.size,

@@ -1,18 +1,16 @@
 //! A walk over the samples of a track.
 
 ghost use Rattle.std.proofs.Props.{props};
-ghost use Rattle.std.specs.Prelude.{◌≡◌, IfSome, IsTrue};
+ghost use Rattle.std.specs.Prelude.{IfSome, IsTrue};
 ghost use Rattle.mp4_fragments.proofs.Props.{IsAmongRuns-prop};
 ghost use Rattle.mp4_fragments.specs.Cursor.{IsAmongRuns};
-ghost use Rattle.mp4_samples.specs.Tables.{tables_of};
-ghost use Rattle.mp4_lookup.specs.Tables.{AreTables};
+ghost use Rattle.mp4_lookup.specs.Tables.{AreTables, walked};
 ghost use Rattle.mp4_lookup.specs.TrackRuns.{track_runs};
 ghost use Rattle.mp4_lookup.specs.Tracks.{is_of_movie};
 ghost use Rattle.mp4_lookup.specs.Walk.{AreIn};
 
 use crate::position::Position;
 use crate::tables::Tables;
-use crate::track::Mp4Track;
 use mp4_fragments::RunPosition;
 
 /// Where the samples of a track lie and when they are decoded and shown, in their order: at each number, from one on,
@@ -24,8 +22,7 @@ use mp4_fragments::RunPosition;
 /// after number 2^32 - 1.
 #[derive(Drop)]
 pub struct Samples<'t> {
-    pub(crate) track: &'t Mp4Track,
-    /// The tables of the track.
+    /// The track, and its tables.
     pub(crate) tables: Tables<'t>,
     /// The number of the next sample; None after the last.
     pub(crate) number: Option<u32>,
@@ -34,10 +31,9 @@ pub struct Samples<'t> {
     /// Where the walk is in the runs of fragments, once it is there.
     pub(crate) run_position: Option<RunPosition<'t>>,
     ghost lists: { AreTables tables } by { Prim.hlevel props },
-    ghost of_track: { tables.stbl.now ≡ tables_of track.now.trak } by { Prim.hlevel props },
-    ghost here: { IfSome number (λ k. IsTrue (is_of_movie track.now.trak track.now.trafs k)
-        → AreIn (tables_of track.now.trak) k position) } by { Prim.hlevel props },
-    ghost added: { IfSome run_position (IsAmongRuns (track_runs track.now)) } by { Prim.hlevel (
+    ghost here: { IfSome number (λ k. IsTrue (is_of_movie tables.track.now.trak tables.track.now.trafs k)
+        → AreIn (walked tables) k position) } by { Prim.hlevel props },
+    ghost added: { IfSome run_position (IsAmongRuns (track_runs tables.track.now)) } by { Prim.hlevel (
       props,
       IsAmongRuns-prop,
     ) },

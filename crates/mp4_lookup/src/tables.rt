@@ -3,21 +3,33 @@
 // The steps of a walk are kept inline: docs/PERF.md, "Why these are calls".
 
 ghost use Rattle.std.specs.Prelude.{◌≡◌, ◌-◌, ◌≤◌, slice_get};
-ghost use Rattle.mp4_table.specs.Stsc.{HasFirstSamples};
-ghost use Rattle.mp4_lookup.specs.Index.{IsIndexOf};
-ghost use Rattle.mp4_lookup.specs.Tables.{AreTables};
 ghost use Rattle.mp4_samples.specs.Tables.{chunk_offsets, sizes};
+ghost use Rattle.mp4_lookup.specs.Tables.{AreTables, walked};
 
-use crate::index::{TrackIndex, numbers_of_stss, runs_of_ctts};
-use mp4_boxes::StblBox;
+use crate::index::{numbers_of_stss, runs_of_ctts};
+use crate::track::Mp4Track;
 use mp4_table::{CttsEntry, StscEntry, SttsEntry};
 
-/// The tables of a track and what is kept beside them; and the tables as slices, which a step of a walk then needn't
-/// look for.
+/// The number at an index, which counts from 0.
+#[inline(always)]
+fn number_at(numbers: &[u32], index: usize) -> Option<u32>
+    ensures { result ≡ slice_get numbers.now index }
+{
+    numbers.get(index).copied()
+}
+
+/// The same of numbers of 64 bits.
+#[inline(always)]
+fn long_number_at(numbers: &[u64], index: usize) -> Option<u64>
+    ensures { result ≡ slice_get numbers.now index }
+{
+    numbers.get(index).copied()
+}
+
+/// A track, and its tables as slices, which a step of a walk then needn't look for.
 #[derive(Clone, Copy)]
 pub struct Tables<'t> {
-    pub stbl: &'t StblBox,
-    pub index: &'t TrackIndex,
+    pub track: &'t Mp4Track,
     /// The entries of stsc.
     pub entries: &'t [StscEntry],
     /// Where the chunks begin, as stco says; none without it.
@@ -40,20 +52,19 @@ pub struct Tables<'t> {
 
 impl<'t> Tables<'t> {
     /// The tables of a track.
-    pub fn of(stbl: &'t StblBox, index: &'t TrackIndex) -> Self
-        requires firsts { HasFirstSamples stbl.now.stsc.entries }
-        requires index { IsIndexOf stbl.now index.now }
+    #[inline(always)]
+    pub fn of(track: &'t Mp4Track) -> Self
         ensures tables { AreTables result }
-        ensures stbl { result.stbl.now ≡ stbl.now }
+        ensures track { result.track.now ≡ track.now }
     {
+        let stbl = &track.trak.mdia.minf.stbl;
         let (stco, co64): (&[u32], &[u64]) = match (&stbl.stco, &stbl.co64) {
             (Some(stco), _) => (stco.entries.as_slice(), &[]),
             (None, Some(co64)) => (&[], co64.entries.as_slice()),
             (None, None) => (&[], &[]),
         };
         Tables {
-            stbl,
-            index,
+            track,
             entries: stbl.stsc.entries.as_slice(),
             stco,
             co64,
@@ -71,12 +82,12 @@ impl<'t> Tables<'t> {
     pub fn chunk_offset(&self, chunk: u32) -> Option<u64>
         requires tables { AreTables self.now }
         requires counts { 1 ≤ chunk }
-        ensures { result ≡ slice_get (chunk_offsets self.now.stbl.now) (chunk - 1) }
+        ensures { result ≡ slice_get (chunk_offsets (walked self.now)) (chunk - 1) }
     {
         let index = chunk as usize - 1;
-        match self.stco.get(index) {
-            Some(offset) => Some(u64::from(*offset)),
-            None => self.co64.get(index).copied(),
+        match number_at(self.stco, index) {
+            Some(offset) => Some(u64::from(offset)),
+            None => long_number_at(self.co64, index),
         }
     }
 
@@ -86,12 +97,12 @@ impl<'t> Tables<'t> {
     pub fn size_of(&self, k: u32) -> Option<u32>
         requires tables { AreTables self.now }
         requires first { 1 ≤ k }
-        ensures { result ≡ slice_get (sizes self.now.stbl.now.stsz k) (k - 1) }
+        ensures { result ≡ slice_get (sizes (walked self.now).stsz k) (k - 1) }
     {
         if self.sample_size > 0 {
             Some(self.sample_size)
         } else {
-            self.sample_sizes.get(k as usize - 1).copied()
+            number_at(self.sample_sizes, k as usize - 1)
         }
     }
 }

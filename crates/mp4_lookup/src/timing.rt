@@ -3,23 +3,25 @@
 // The steps of a look-up are kept inline: docs/PERF.md, "Why these are calls".
 
 ghost use Rattle.std.specs.Prelude.{◌≡◌, ℕ, ◌+◌, ◌-◌, ◌*◌, ◌^◌, ◌<◌, ◌≤◌, List, length, pos, get_or, slice_index};
-ghost use Rattle.std.specs.Prelude.{IfErr, IfOk, IfSome, IsTrue, OnOk};
+ghost use Rattle.std.specs.Prelude.{IfErr, IfNone, IfSome, IsTrue, OnOk};
 ghost use Rattle.std.specs.Prelude.{Ok, Err, ◌==◌, ◌↔◌, false};
 ghost use Rattle.std.specs.List.{All, list_any, sum_by};
 ghost use Rattle.std.specs.List.Sorted.{IsNonDecreasing, IsStrictlyIncreasing};
-ghost use Rattle.mp4_codec.specs.Cause.{Gives, cause_of};
+ghost use Rattle.mp4_codec.specs.Cause.{Gives, cause_of, entry_in_stbl_not_found};
+ghost use Rattle.mp4_codec.specs.declared.box_type.BoxType.TheVariants.{SttsBox as stts};
 ghost use Rattle.mp4_table.specs.Runs.{durations, rendering_offsets};
 ghost use Rattle.mp4_table.specs.Starts.{start_of};
 ghost use Rattle.mp4_search.specs.BitSet.{AreBitsOf};
 ghost use Rattle.mp4_search.specs.Sums.{CountsBefore};
 ghost use Rattle.mp4_lookup.specs.Sums.{TimesBefore};
-ghost use Rattle.mp4_lookup.specs.Tables.{AreTables};
-ghost use Rattle.mp4_samples.specs.Tables.{ctts_runs, is_sync_at, sync_numbers};
+ghost use Rattle.mp4_lookup.specs.Tables.{AreTables, walked};
+ghost use Rattle.mp4_samples.specs.Tables.{ctts_runs, is_sync_at, sync_numbers, tables_of};
 ghost use Rattle.mp4_lookup.specs.Rule.{time_at};
 ghost use Rattle.mp4_lookup.specs.Walk.{IsOffsetRun, IsSyncGap, IsTimeRun};
 
-use crate::index::TrackIndex;
+use crate::index::{TrackIndex, runs_of_ctts};
 use crate::tables::Tables;
+use crate::track::Mp4Track;
 use mp4_codec::{BoxType, Error, Result};
 use mp4_search::{ByGuess, Readings, Search, SearchedNumbers};
 use mp4_table::{CttsEntry, StssBox, SttsEntry};
@@ -107,32 +109,56 @@ impl TimeRun {
         })
     }
 
-    /// Becomes what is left of the run of sample `k`: the run after this one, else one that is searched.
-    #[inline(always)]
-    fn move_to(
-        &mut self,
-        runs: &[SttsEntry],
-        index: &TrackIndex,
-        track_id: u32,
-        k: u32,
-        readings: &mut Readings,
-    ) -> Result<()>
+    /// What is left of the run of sample `k`, which is searched.
+    // Kept a call: docs/PERF.md, "Why these are calls".
+    #[inline(never)]
+    fn search(track: &Mp4Track, k: u32) -> Option<TimeRun>
         requires first { 1 ≤ k }
-        requires sums { TimesBefore runs.now index.now.stts_counts index.now.stts_times.items }
-        requires fresh { readings.old ≡ 0 }
-        requires none { self.old.left ≡ 0 }
-        requires run { IsTimeRun runs.now k self.old }
-        ensures run { OnOk result (IsTimeRun runs.now k self.new) }
-        ensures some { OnOk result (0 < self.new.left) }
-        ensures refused { IfErr result (λ e. time_at runs.now track_id k ≡ Err (cause_of e)) }
+        ensures run { IfSome result (λ r. IsTimeRun (tables_of track.now.trak).stts.entries k r × (0 < r.left)) }
+        ensures none { IfNone result ((id : ℕ) → time_at (tables_of track.now.trak).stts.entries id k
+            ≡ Err (entry_in_stbl_not_found id stts k)) }
     {
-        if let Some(next) = self.next_run(runs, k) {
+        let runs = track.trak.mdia.minf.stbl.stts.entries.as_slice();
+        let index = &track.index;
+        let mut readings = Readings::of(track);
+        time_run_at::<ByGuess>(
+            runs,
+            &index.stts_counts,
+            &index.stts_times,
+            k,
+            &mut readings,
+        )
+    }
+
+    /// Becomes what is left of the run of sample `k`, none of this one being left: of the run after it, else of one
+    /// that is searched.
+    #[inline(always)]
+    fn move_to(&mut self, tables: &Tables, k: u32) -> Result<()>
+        requires tables { AreTables tables.now }
+        requires first { 1 ≤ k }
+        requires none { self.old.left ≡ 0 }
+        requires run { IsTimeRun (walked tables.now).stts.entries k self.old }
+        ensures run { OnOk result (IsTimeRun (walked tables.now).stts.entries k self.new) }
+        ensures some { OnOk result (0 < self.new.left) }
+        ensures refused { IfErr result
+            (λ e. time_at (walked tables.now).stts.entries tables.now.track.now.trak.tkhd.track_id k
+            ≡ Err (cause_of e)) }
+    {
+        if let Some(next) = self.next_run(tables.durations, k) {
             *self = next;
             return Ok(());
         }
-        let counts = &index.stts_counts;
-        *self = time_run_at::<ByGuess>(runs, counts, &index.stts_times, track_id, k, readings)?;
-        Ok(())
+        match TimeRun::search(tables.track, k) {
+            Some(found) => {
+                *self = found;
+                Ok(())
+            }
+            None => Err(Error::EntryInStblNotFound(
+                tables.track.trak.tkhd.track_id,
+                BoxType::SttsBox,
+                k,
+            )),
+        }
     }
 }
 
@@ -142,26 +168,25 @@ fn time_run_at<S: Search>(
     runs: &[SttsEntry],
     counts: &SearchedNumbers,
     times: &[u64],
-    track_id: u32,
     k: u32,
     readings: &mut Readings,
-) -> Result<TimeRun>
+) -> Option<TimeRun>
     requires first { 1 ≤ k }
     requires sums { TimesBefore runs.now counts.now times.now }
     requires fresh { readings.old ≡ 0 }
-    ensures run { IfOk result (λ r. IsTimeRun runs.now k r × (0 < r.left)) }
-    ensures refused { IfErr result (λ e. time_at runs.now track_id k ≡ Err (cause_of e)) }
+    ensures run { IfSome result (λ r. IsTimeRun runs.now k r × (0 < r.left)) }
+    ensures none { IfNone result ((id : ℕ) → time_at runs.now id k ≡ Err (entry_in_stbl_not_found id stts k)) }
     ensures counted { S.Counts counts.now (k - 1) readings.new }
 {
     let Some(found) = S::last_at_most(counts, k - 1, readings) else {
-        return Err(Error::EntryInStblNotFound(track_id, BoxType::SttsBox, k));
+        return None;
     };
     let run = runs[found.index];
     let earlier = k - 1 - found.number;
     if earlier >= run.sample_count {
-        return Err(Error::EntryInStblNotFound(track_id, BoxType::SttsBox, k));
+        return None;
     }
-    Ok(TimeRun {
+    Some(TimeRun {
         start: times[found.index] + u64::from(earlier) * u64::from(run.sample_delta),
         left: run.sample_count - earlier,
         delta: run.sample_delta,
@@ -185,29 +210,25 @@ pub fn time_at<S: Search>(
     ensures time { Gives (λ t. t) result (time_at runs.now track_id k) }
     ensures counted { S.Counts counts.now (k - 1) readings.new }
 {
-    let run = time_run_at::<S>(runs, counts, times, track_id, k, readings)?;
-    Ok((run.delta, run.start))
+    match time_run_at::<S>(runs, counts, times, k, readings) {
+        Some(run) => Ok((run.delta, run.start)),
+        None => Err(Error::EntryInStblNotFound(track_id, BoxType::SttsBox, k)),
+    }
 }
 
 /// Duration and start of sample `k`, the next of a walk that is in this run, or else moves to the run after it, or to
 /// one that it searches.
 #[inline(always)]
-pub fn time_in_order(
-    tables: &Tables,
-    track_id: u32,
-    k: u32,
-    run: &mut TimeRun,
-    readings: &mut Readings,
-) -> Result<(u32, u64)>
+pub fn time_in_order(tables: &Tables, k: u32, run: &mut TimeRun) -> Result<(u32, u64)>
     requires tables { AreTables tables.now }
     requires first { 1 ≤ k }
-    requires fresh { readings.old ≡ 0 }
-    requires run { IsTimeRun tables.now.stbl.now.stts.entries k run.old }
-    ensures run { OnOk result (IsTimeRun tables.now.stbl.now.stts.entries (k + 1) run.new) }
-    ensures time { Gives (λ t. t) result (time_at tables.now.stbl.now.stts.entries track_id k) }
+    requires run { IsTimeRun (walked tables.now).stts.entries k run.old }
+    ensures run { OnOk result (IsTimeRun (walked tables.now).stts.entries (k + 1) run.new) }
+    ensures time { Gives (λ t. t) result
+        (time_at (walked tables.now).stts.entries tables.now.track.now.trak.tkhd.track_id k) }
 {
     if run.left == 0 {
-        run.move_to(tables.durations, tables.index, track_id, k, readings)?;
+        run.move_to(tables, k)?;
     }
     Ok(run.take(k))
 }
@@ -284,6 +305,36 @@ impl OffsetRun {
             next: self.next + 1,
         })
     }
+
+    /// What is left of the run of sample `k`, which is searched.
+    // Kept a call: docs/PERF.md, "Why these are calls".
+    #[inline(never)]
+    fn search(track: &Mp4Track, k: u32) -> OffsetRun
+        requires first { 1 ≤ k }
+        ensures run { IsOffsetRun (ctts_runs (tables_of track.now.trak).ctts) k result }
+        ensures some { 0 < result.left }
+    {
+        let runs = runs_of_ctts(&track.trak.mdia.minf.stbl.ctts);
+        let mut readings = Readings::of(track);
+        offset_run_at::<ByGuess>(runs, &track.index.ctts_counts, k, &mut readings)
+    }
+
+    /// Becomes what is left of the run of sample `k`, none of this one being left: of the run after it, else of one
+    /// that is searched.
+    #[inline(always)]
+    fn move_to(&mut self, tables: &Tables, k: u32)
+        requires tables { AreTables tables.now }
+        requires first { 1 ≤ k }
+        requires none { self.old.left ≡ 0 }
+        requires run { IsOffsetRun (ctts_runs (walked tables.now).ctts) k self.old }
+        ensures run { IsOffsetRun (ctts_runs (walked tables.now).ctts) k self.new }
+        ensures some { 0 < self.new.left }
+    {
+        *self = match self.next_run(tables.rendering_offsets, k) {
+            Some(next) => next,
+            None => OffsetRun::search(tables.track, k),
+        };
+    }
 }
 
 /// What is left of the run of sample `k` from it on: the run is searched.
@@ -336,25 +387,15 @@ pub fn rendering_offset_at<S: Search>(
 /// The same of the next sample of a walk that is in this run, or else moves to the run after it, or to one that it
 /// searches.
 #[inline(always)]
-pub fn rendering_offset_in_order(
-    tables: &Tables,
-    k: u32,
-    run: &mut OffsetRun,
-    readings: &mut Readings,
-) -> i32
+pub fn rendering_offset_in_order(tables: &Tables, k: u32, run: &mut OffsetRun) -> i32
     requires tables { AreTables tables.now }
     requires first { 1 ≤ k }
-    requires fresh { readings.old ≡ 0 }
-    requires run { IsOffsetRun (ctts_runs tables.now.stbl.now.ctts) k run.old }
-    ensures run { IsOffsetRun (ctts_runs tables.now.stbl.now.ctts) (k + 1) run.new }
-    ensures value { result ≡ get_or (rendering_offsets (ctts_runs tables.now.stbl.now.ctts)) (k - 1) (pos 0) }
+    requires run { IsOffsetRun (ctts_runs (walked tables.now).ctts) k run.old }
+    ensures run { IsOffsetRun (ctts_runs (walked tables.now).ctts) (k + 1) run.new }
+    ensures value { result ≡ get_or (rendering_offsets (ctts_runs (walked tables.now).ctts)) (k - 1) (pos 0) }
 {
-    let runs = tables.rendering_offsets;
     if run.left == 0 {
-        *run = match run.next_run(runs, k) {
-            Some(next) => next,
-            None => offset_run_at::<ByGuess>(runs, &tables.index.ctts_counts, k, readings),
-        };
+        run.move_to(tables, k);
     }
     run.take()
 }
@@ -450,15 +491,16 @@ impl SyncGap {
     }
 
     /// The gap from sample `k` on, which is searched.
-    #[inline(always)]
-    fn search(numbers: &[u32], searched: &SearchedNumbers, k: u32, readings: &mut Readings) -> Self
+    // Kept a call: docs/PERF.md, "Why these are calls".
+    #[inline(never)]
+    fn search(numbers: &[u32], track: &Mp4Track, k: u32) -> Self
         requires rises { IsStrictlyIncreasing numbers.now }
-        requires same { searched.now ≡ numbers.now }
-        requires fresh { readings.old ≡ 0 }
+        requires same { track.now.index.sync_numbers ≡ numbers.now }
         ensures gap { IsSyncGap numbers.now k result }
         ensures has { k ≤ result.end }
     {
-        match ByGuess::last_at_most(searched, k, readings) {
+        let mut readings = Readings::of(track);
+        match ByGuess::last_at_most(&track.index.sync_numbers, k, &mut readings) {
             None => SyncGap::up_to(numbers, 0, k),
             Some(found) => {
                 if found.number == k {
@@ -470,29 +512,35 @@ impl SyncGap {
         }
     }
 
+    /// Becomes the gap of sample `k`, which is after this one: the gap after it, else one that is searched.
+    #[inline(always)]
+    fn move_to(&mut self, numbers: &[u32], track: &Mp4Track, k: u32)
+        requires rises { IsStrictlyIncreasing numbers.now }
+        requires same { track.now.index.sync_numbers ≡ numbers.now }
+        requires gap { IsSyncGap numbers.now k self.old }
+        requires after { self.old.end < k }
+        ensures gap { IsSyncGap numbers.now k self.new }
+        ensures has { k ≤ self.new.end }
+    {
+        *self = match self.next_gap(numbers, k) {
+            Some(next) => next,
+            None => SyncGap::search(numbers, track, k),
+        };
+    }
+
     /// Whether sample `k`, the next of a walk, is one of the numbers: the walk is in this gap, or else moves to the gap
     /// after it, or to one that it searches.
     #[inline(always)]
-    fn is_among(
-        &mut self,
-        numbers: &[u32],
-        searched: &SearchedNumbers,
-        k: u32,
-        readings: &mut Readings,
-    ) -> bool
+    fn is_among(&mut self, numbers: &[u32], track: &Mp4Track, k: u32) -> bool
         requires rises { IsStrictlyIncreasing numbers.now }
-        requires same { searched.now ≡ numbers.now }
+        requires same { track.now.index.sync_numbers ≡ numbers.now }
         requires first { 1 ≤ k }
-        requires fresh { readings.old ≡ 0 }
         requires gap { IsSyncGap numbers.now k self.old }
         ensures gap { IsSyncGap numbers.now (k + 1) self.new }
         ensures value { result ≡ list_any (λ n. n == k) numbers.now }
     {
         if u64::from(k) > self.end {
-            *self = match self.next_gap(numbers, k) {
-                Some(next) => next,
-                None => SyncGap::search(numbers, searched, k, readings),
-            };
+            self.move_to(numbers, track, k);
         }
         u64::from(k) == self.end
     }
@@ -501,21 +549,25 @@ impl SyncGap {
 /// Whether sample `k`, the next of a walk that is in this gap between sync samples, is a sync sample. Where the numbers
 /// of stss don't strictly rise, they aren't searched.
 #[inline(always)]
-pub fn is_sync_in_order(tables: &Tables, k: u32, gap: &mut SyncGap, readings: &mut Readings) -> bool
+pub fn is_sync_in_order(tables: &Tables, k: u32, gap: &mut SyncGap) -> bool
     requires tables { AreTables tables.now }
     requires first { 1 ≤ k }
-    requires fresh { readings.old ≡ 0 }
-    requires gap { IsSyncGap (sync_numbers tables.now.stbl.now.stss) k gap.old }
-    ensures gap { IsSyncGap (sync_numbers tables.now.stbl.now.stss) (k + 1) gap.new }
-    ensures value { result ≡ is_sync_at tables.now.stbl.now.stss k }
+    requires gap { IsSyncGap (sync_numbers (walked tables.now).stss) k gap.old }
+    ensures gap { IsSyncGap (sync_numbers (walked tables.now).stss) (k + 1) gap.new }
+    ensures value { result ≡ is_sync_at (walked tables.now).stss k }
 {
     if !tables.has_sync_numbers {
         return true;
     }
-    let index = tables.index;
-    if index.sync_rises {
-        gap.is_among(tables.sync_numbers, &index.sync_numbers, k, readings)
-    } else {
-        ByGuess::is_among(tables.sync_numbers, &index.sync_bits, k, readings)
+    let track = tables.track;
+    if track.index.sync_rises {
+        return gap.is_among(tables.sync_numbers, track, k);
     }
+    let mut readings = Readings::of(track);
+    ByGuess::is_among(
+        tables.sync_numbers,
+        &track.index.sync_bits,
+        k,
+        &mut readings,
+    )
 }

@@ -11,21 +11,21 @@ pub last_at_most-requires-clause-rises : goal.last_at_most-requires-clause-rises
 last_at_most-requires-clause-rises g c =
     counts_rise (λ (r : SttsEntry). r.sample_count) c.args.runs.now c.args.counts.now c.requires.sums.counts
 
-pub returns-in_default-clause-refused : goal.returns-in_default-clause-refused
-returns-in_default-clause-refused g c =
+pub returns-in_default-clause-none : goal.returns-in_default-clause-none
+returns-in_default-clause-none g c = λ id.
     let none = none_found (λ (r : SttsEntry). r.sample_count) c.args.runs.now c.args.counts.now (c.args.k - 1)
     c.requires.sums.counts (rw c.in_default.is at c.last_at_most.ensures.none) in
-    time_at_past c.args.runs.now c.args.track_id c.args.k 0 0 c.requires.first (omega (arith, none)) refl
+    time_at_past c.args.runs.now id c.args.k 0 0 c.requires.first (omega (arith, none)) refl
     (omega arith)
 
-pub returns-then-earlier-run-clause-refused : goal.returns-then-earlier-run-clause-refused
-returns-then-earlier-run-clause-refused g c =
+pub returns-then-earlier-run-clause-none : goal.returns-then-earlier-run-clause-none
+returns-then-earlier-run-clause-none g c = λ id.
     let d : SttsEntry = record { sample_count = 0; sample_delta = 0 } in
     let i = c.in-Some.found.index in
     let found = rw c.in-Some.is at c.last_at_most.ensures.found in
     let past = past_found (λ (r : SttsEntry). r.sample_count) c.args.runs.now c.args.counts.now (c.args.k - 1) i d
     c.requires.sums.counts (omega arith) found.0 (omega (arith, found.1, c.if-earlier-run.true)) in
-    time_at_past c.args.runs.now c.args.track_id c.args.k (i + 1) _ c.requires.first past.0 refl past.1
+    time_at_past c.args.runs.now id c.args.k (i + 1) _ c.requires.first past.0 refl past.1
 
 -- what comes before the run that was found is below 2 ^ 64, and so it was kept as it is
 pub returns-clause-run : goal.returns-clause-run

@@ -1,5 +1,6 @@
 use Rattle.std.proofs.Common.{◌∙◌, refl, arith}
 use Rattle.std.proofs.lemmas.Result.{err_from_is_err_and}
+use Rattle.mp4_samples.specs.Tables.{tables_of}
 use Rattle.mp4_lookup.proofs.ChunkRuns.{chunk_from}
 use Rattle.mp4_lookup.proofs.Steps.{entry_of, located_by_entry, located_refused}
 use Rattle.mp4_lookup.proofs.chunk_run.ChunkRun.search.Goals as goal
@@ -7,12 +8,12 @@ use Rattle.mp4_lookup.proofs.chunk_run.ChunkRun.search.Goals as goal
 pub returns-in_err-run-clause-refused : goal.returns-in_err-run-clause-refused
 returns-in_err-run-clause-refused c =
     let p = err_from_is_err_and c.from_residual.result c.from_residual.ensures.1 in
-    rw (p.1, p.2) (located_refused c.args.tables.now.stbl.now c.args.k _ c.in_err-run.ensures.refused)
+    rw (p.1, p.2) (located_refused (tables_of c.args.track.now.trak) c.args.k _ c.in_err-run.ensures.refused)
 
 pub returns-in_err-chunk-clause-refused : goal.returns-in_err-chunk-clause-refused
 returns-in_err-chunk-clause-refused c =
     let p = err_from_is_err_and c.from_residual-in_err-chunk.result c.from_residual-in_err-chunk.ensures.1 in
-    let t = c.args.tables.now.stbl.now in
+    let t = tables_of c.args.track.now.trak in
     let run = c.in_ok-run.run' in
     let has = c.in_ok-run.ensures.has in
     rw (p.1, p.2)
@@ -22,7 +23,7 @@ returns-in_err-chunk-clause-refused c =
 
 pub returns-in_default-clause-none : goal.returns-in_default-clause-none
 returns-in_default-clause-none c =
-    let t = c.args.tables.now.stbl.now in
+    let t = tables_of c.args.track.now.trak in
     let run = c.in_ok-run.run' in
     let has = c.in_ok-run.ensures.has in
     located_by_entry t run.entry c.args.k
@@ -32,7 +33,7 @@ returns-in_default-clause-none c =
 pub returns-in_err-sample-clause-refused : goal.returns-in_err-sample-clause-refused
 returns-in_err-sample-clause-refused c =
     let p = err_from_is_err_and c.from_residual-in_err-sample.result c.from_residual-in_err-sample.ensures.1 in
-    let t = c.args.tables.now.stbl.now in
+    let t = tables_of c.args.track.now.trak in
     let run = c.in_ok-run.run' in
     let has = c.in_ok-run.ensures.has in
     let inside = rw c.in-Some.is at c.in_ok-chunk.ensures.inside in
@@ -44,7 +45,7 @@ returns-in_err-sample-clause-refused c =
 
 pub returns-in_default-2-clause-none : goal.returns-in_default-2-clause-none
 returns-in_default-2-clause-none c =
-    let t = c.args.tables.now.stbl.now in
+    let t = tables_of c.args.track.now.trak in
     let run = c.in_ok-run.run' in
     let has = c.in_ok-run.ensures.has in
     let inside = rw c.in-Some.is at c.in_ok-chunk.ensures.inside in
@@ -55,7 +56,7 @@ returns-in_default-2-clause-none c =
 
 pub returns-clause-chunk : goal.returns-clause-chunk
 returns-clause-chunk c =
-    let t = c.args.tables.now.stbl.now in
+    let t = tables_of c.args.track.now.trak in
     let has = c.in_ok-run.ensures.has in
     let inside = rw c.in-Some.is at c.in_ok-chunk.ensures.inside in
     let samples = rw c.in-Some.is at c.in_ok-chunk.ensures.samples in

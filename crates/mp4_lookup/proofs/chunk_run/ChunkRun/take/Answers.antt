@@ -8,4 +8,9 @@ returns-in-Some-clause-rest c = λ t k first here there.
     (omega (arith, c.in-Some.ensures, c.from.ensures))
 
 pub returns-in-None-clause-rest : goal.returns-in-None-clause-rest
-returns-in-None-clause-rest c = λ t k first here there. c.none.ensures.chunk t _
+returns-in-None-clause-rest c = λ t k first here there. record {
+  entry = record { first = λ h. absurd (omega (arith, h)); last = λ n from to. absurd (omega (arith, to)) };
+  first = λ h. absurd (omega (arith, h));
+  samples = λ n from to. absurd (omega (arith, from, to));
+  after = λ more. absurd (omega (arith, more));
+}

@@ -1,9 +1,10 @@
 use Rattle.mp4_samples.specs.Tables.{sync_numbers}
+use Rattle.mp4_lookup.specs.Tables.{walked}
 use Rattle.mp4_lookup.proofs.position.Position.before.Goals as goal
 
 pub returns : goal.returns
 returns c =
-    let t = c.args.tables.now.stbl.now in
+    let t = walked c.args.tables.now in
     record {
       chunk = c.none.ensures.chunk t c.args.k;
       times = rw c.requires.tables.durations at c.before-2.ensures;

@@ -3,7 +3,6 @@ use Rattle.mp4_lookup.proofs.track.Mp4Track.samples_from.Goals as goal
 pub invariant_of-result : goal.invariant_of-result
 invariant_of-result c = record {
   lists = c.of-tables.ensures.tables;
-  of_track = c.of-tables.ensures.stbl;
-  here = λ _. rw c.of-tables.ensures.stbl at c.before-2.ensures;
+  here = λ _. c.before-2.ensures;
   added = tt;
 }
