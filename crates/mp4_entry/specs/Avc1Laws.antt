@@ -7,7 +7,8 @@ use Rattle.mp4_entry.specs.declared.avc1.AvcConfig.{AvcConfig}
 use Rattle.mp4_entry.specs.VisualLaws.{length-visual_entry_payload, visual_entry_again}
 use Rattle.mp4_entry.specs.Avcc.{avcc_of, avcc_payload, IsInRangeAvcC, IsWellFormedAvcC, avcc_refusal}
 use Rattle.mp4_entry.specs.AvccLaws.{avcc_again, length-avcc_of_sets}
-use Rattle.mp4_entry.specs.Avc1.{visual_of, avc1_of, avc1_payload, avc1_refusal, IsCanonicalAvc1, avc1_of_config, avc1_config_length}
+use Rattle.mp4_entry.specs.Avc1.{visual_of, avc1_of, avc1_payload, avc1_refusal, IsCanonicalAvc1}
+use Rattle.mp4_entry.specs.Avc1.{avc1_of_config, avc1_config_length}
 
 pub length-avc1_payload : (b : Avc1Box) → length (avc1_payload b) ≡ 86 + length (avcc_payload b.avcc)
 unfolding avc1_payload
