@@ -17,7 +17,7 @@ use Rattle.mp4_lookup.specs.declared.chunk_run.ChunkRun.{ChunkRun}
 use Rattle.mp4_lookup.specs.declared.chunk_run.EntryRun.{EntryRun}
 use Rattle.mp4_lookup.proofs.RuleLaws.{size_agrees, sizes_agree}
 use Rattle.mp4_lookup.proofs.Searches.{sum-slice_range}
-use Rattle.mp4_lookup.proofs.Steps.{begins_after, begins_past, begins_there, chunk_same, entry_of, located_by_entry}
+use Rattle.mp4_lookup.proofs.Steps.{begins_after, begins_past, begins_there, chunk_same, located_by_run}
 
 -- where something is there, it is enough that both say the same of it
 if_there_same : {A B : Type 0} (o : Option A) (f g : A → Result (Option B) Cause) → ((x : A) → o ≡ Some x → f x ≡ g x)
@@ -36,7 +36,8 @@ pub one_size : (z : StszBox) (k : ℕ) → 1 ≤ k → 0 < z.sample_size → sli
 unfolding sizes
 one_size z k first some =
     rw (lt-ltb 0 z.sample_size some)
-    (slice_get-get_or (replicate k z.sample_size) (k - 1) 0 (rw (length-replicate k z.sample_size) (omega (arith, first)))
+    (slice_get-get_or (replicate k z.sample_size) (k - 1) 0
+    (rw (length-replicate k z.sample_size) (omega (arith, first)))
     ∙ ap Some (get_or-replicate k (k - 1) z.sample_size 0 (omega (arith, first))))
 
 -- a size that is there is within its list
@@ -85,7 +86,8 @@ size_between z first k n counts reached later =
     let so_many : k - 1 - (first - 1) ≡ k - first = omega (arith, counts, reached) in
     let agree : slice_range (sizes z k) (first - 1) (k - 1) ≡ slice_range (sizes z n) (first - 1) (k - 1) =
     rw so_many
-    (sizes_agree z k n (first - 1) (k - first) (omega (arith, counts, reached)) (omega (arith, counts, reached, later))) in
+    (sizes_agree z k n (first - 1) (k - first) (omega (arith, counts, reached))
+    (omega (arith, counts, reached, later))) in
     let same : sum (slice_range (sizes z k) (first - 1) (k - 1)) ≡ sum (slice_range (sizes z n) (first - 1) (k - 1)) =
     ap sum agree in
     omega (
@@ -158,8 +160,8 @@ chunk_taken t k size c d first here there run number left offset =
     }
 
 -- a chunk that begins with sample k
-pub chunk_begins : (t : StblBox) (k number offset : ℕ) (c : ChunkRun) → IsForSamples t.stsc.entries c.run → k < c.run.end
-    → BeginsChunk c.run.entry k number → 1 ≤ number → number < 2 ^ 32
+pub chunk_begins : (t : StblBox) (k number offset : ℕ) (c : ChunkRun) → IsForSamples t.stsc.entries c.run
+    → k < c.run.end → BeginsChunk c.run.entry k number → 1 ≤ number → number < 2 ^ 32
     → slice_get (chunk_offsets t) (number - 1) ≡ Some offset → c.number ≡ number
     → c.left ≡ min c.run.entry.samples_per_chunk (c.run.end - k) → c.offset ≡ offset → IsChunkRun t k c
 chunk_begins t k number offset c at to b counts small there is left lies =
@@ -171,7 +173,7 @@ chunk_begins t k number offset c at to b counts small there is left lies =
       first = λ _. omega (arith, at.first (omega (arith, reached, to)), reached);
       samples = λ n from before.
           let inside : n < c.run.end = omega (arith, left, before, to) in
-          located_by_entry t e n (entry_of t.stsc.entries c.run n at (omega (arith, reached, from)) inside b.some)
+          located_by_run t c.run n at (omega (arith, reached, from)) inside b.some
           ∙ (rw lies (rw begins.1 at
           ((chunk_same t e k n number offset reached b.some begins.0 there (rw begins.1 from)
           (rw begins.1 (omega (arith, left, before)))).1)));
@@ -185,14 +187,14 @@ pub no_chunk_begins : (t : StblBox) (k number : ℕ) (r : EntryRun) → IsForSam
     → located_at t k ≡ Ok None
 no_chunk_begins t k number r at to b counts small none =
     let begins = begins_there r.entry k number b counts small in
-    located_by_entry t r.entry k (entry_of t.stsc.entries r k at (omega (arith, b.at)) to b.some)
+    located_by_run t r k at (omega (arith, b.at)) to b.some
     ∙ rw (begins.0, none) refl
 
 -- a chunk that would begin with sample k has no number of 32 bits
 pub wrong_chunk_begins : (t : StblBox) (k number : ℕ) (r : EntryRun) → IsForSamples t.stsc.entries r → k < r.end
     → BeginsChunk r.entry k number → (number ≡ 0) ⊎ (2 ^ 32 ≤ number) → located_at t k ≡ Err invalid_data
 wrong_chunk_begins t k number r at to b wrong =
-    located_by_entry t r.entry k (entry_of t.stsc.entries r k at (omega (arith, b.at)) to b.some)
+    located_by_run t r k at (omega (arith, b.at)) to b.some
     ∙ rw (begins_past r.entry k number b wrong) refl
 
 -- what is left of a chunk from sample k on, which lies there
@@ -209,7 +211,7 @@ chunk_from t k size chunk c at some samples inside after there number left = rec
   first = λ _. omega (arith, inside.0, inside.1);
   samples = λ n from before.
       let here = samples n (omega (arith, from, inside.1)) (omega (arith, before, left)) in
-      located_by_entry t c.run.entry n (entry_of t.stsc.entries c.run n at here.0 here.1 some) ∙ here.2
+      located_by_run t c.run n at here.0 here.1 some ∙ here.2
       ∙ located_later t chunk.offset chunk.first k n c.offset size inside.0 inside.1 from there;
   after = rw (left, number) after;
 }

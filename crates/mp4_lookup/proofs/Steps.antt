@@ -1,6 +1,7 @@
 -- Where a walk is in each table: which samples an entry, a chunk or a run is for.
 use Rattle.std.proofs.Common.{◌≡◌, ℕ, suc, ◌+◌, ◌-◌, ◌*◌, ◌/◌, ◌%◌, ◌^◌, ◌<◌, ◌≤◌, pos, List, length, get_or, take, map}
-use Rattle.std.proofs.Common.{Bool, true, false, cond, Option, Some, None, Result, Ok, Err, refl, sym, ap, ◌∙◌, arith, ◌⊎◌, ⊎_elim}
+use Rattle.std.proofs.Common.{Bool, true, false, cond, Option, Some, None, Result, Ok, Err, ◌⊎◌, ⊎_elim}
+use Rattle.std.proofs.Common.{refl, sym, ap, ◌∙◌, arith}
 use Rattle.std.specs.Prelude.{nat_le, ◌==◌, slice_get, slice_index, IfErr, IfOk, IfNone, IfSome}
 use Rattle.mp4_codec.specs.Cause.{Cause, invalid_data}
 use Rattle.mp4_codec.specs.declared.error.Error.{Error}
@@ -86,6 +87,11 @@ pub located_by_entry : (t : StblBox) (e : StscEntry) (k : ℕ) → entry_for t.s
     → located_at t k ≡ located_by t e k
 unfolding located_at
 located_by_entry t e k is = rw is refl
+
+-- the same by the entry that a walk is in
+pub located_by_run : (t : StblBox) (r : EntryRun) (k : ℕ) → IsForSamples t.stsc.entries r → r.entry.first_sample ≤ k
+    → k < r.end → 1 ≤ r.entry.samples_per_chunk → located_at t k ≡ located_by t r.entry k
+located_by_run t r k at from to some = located_by_entry t r.entry k (entry_of t.stsc.entries r k at from to some)
 
 -- an entry that has no samples in a chunk is refused
 pub unusable : (entries : List StscEntry) (k : ℕ) (e : StscEntry) → 1 ≤ k

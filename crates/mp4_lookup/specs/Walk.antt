@@ -47,12 +47,12 @@ pub record IsTimeRun (runs : List SttsEntry) (k : ℕ) (r : TimeRun) : Type 0 wh
   pub fits : r.start ≤ (k - 1) * (2 ^ 32 - 1)
   pub short : r.delta < 2 ^ 32
 
--- what is left of a run of ctts, or of the samples past all runs, and how much later than they are decoded they are shown
+-- what is left of a run of ctts, or of the samples past all runs, and how much later its samples are shown than decoded
 pub record IsOffsetRun (runs : List CttsEntry) (k : ℕ) (r : OffsetRun) : Type 0 where
   pub samples : (j : ℕ) → j < r.left → get_or (rendering_offsets runs) (k + j - 1) (pos 0) ≡ r.offset
   pub counted : r.next < length runs → k - 1 + r.left ≡ sum_by (λ r. r.sample_count) (take r.next runs)
 
--- samples from k on of which none but the last is one of the numbers of stss; those before the next are at most the last
+-- samples from k on, none of them but the last a number of stss; those before the next number are at most the last
 pub record IsSyncGap (numbers : List ℕ) (k : ℕ) (g : SyncGap) : Type 0 where
   pub samples : (n : ℕ) → 1 ≤ n → k ≤ n → n ≤ g.end → n < 2 ^ 32 → list_any (λ m. m == n) numbers ≡ (n == g.end)
   pub earlier : (i : ℕ) → i < g.next → i < length numbers → slice_index numbers i ≤ g.end

@@ -154,6 +154,21 @@ impl ChunkRun {
         offset
     }
 
+    /// Where sample `k` lies, the first that is left, and its size; one fewer is left then. None where stsz has no such
+    /// sample.
+    #[inline(always)]
+    fn take_sample(&mut self, tables: &Tables, k: u32) -> Option<LocatedBytes>
+        requires tables { AreTables tables.now }
+        requires chunk { IsChunkRun (walked tables.now) k self.old × (0 < self.old.left) }
+        ensures chunk { IfSome result (λ s. IsChunkRun (walked tables.now) (k + 1) self.new) }
+        ensures located { located_at (walked tables.now) k ≡ Ok (option_map (λ s. (s.offset, s.size)) result) }
+        ensures counts { IfSome result (λ s. 1 ≤ k) }
+    {
+        let size = tables.size_of(k)?;
+        let offset = self.take(size);
+        Some(LocatedBytes { offset, size })
+    }
+
     /// The chunk of a number, whose first sample is `k`, by this entry of stsc. None where there is no such chunk.
     #[inline(always)]
     fn of(tables: &Tables, run: EntryRun, number: u32, k: u32) -> Option<ChunkRun>
@@ -298,9 +313,5 @@ pub fn located_in_order(
     if chunk.left == 0 && !chunk.move_to(tables, k)? {
         return Ok(None);
     }
-    let Some(size) = tables.size_of(k) else {
-        return Ok(None);
-    };
-    let offset = chunk.take(size);
-    Ok(Some(LocatedBytes { offset, size }))
+    Ok(chunk.take_sample(tables, k))
 }

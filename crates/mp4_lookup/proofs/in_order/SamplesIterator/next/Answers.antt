@@ -28,7 +28,8 @@ pub returns-in-Err-clause-steps : goal.returns-in-Err-clause-steps
 returns-in-Err-clause-steps c =
     let s = c.args.self.now in
     ap (λ n. answers_left n s.tables.track.now) c.in_ok-number.was
-    ∙ refusal_left s.tables.track.now c.in_ok-number.number (omega arith) (cause_of c.in-Err.error) c.in-Err.ensures.rule
+    ∙ refusal_left s.tables.track.now c.in_ok-number.number (omega arith) (cause_of c.in-Err.error)
+    c.in-Err.ensures.rule
 
 pub returns-in-Err-clause-goes : goal.returns-in-Err-clause-goes
 returns-in-Err-clause-goes c = let shorter = ap length (returns-in-Err-clause-steps c) in search rules

@@ -13,7 +13,7 @@ returns c =
     let i = c.args.self.now.next in
     let fits : FitsSigned w32 (get_or runs i d).sample_offset = search rules in (
       offset_run runs k i (k - 1) d _ c.requires.first (omega arith)
-          (omega (arith, c.requires.run.counted (omega arith), c.requires.none)) (omega arith) (omega arith) (to_z-of_z w32 _ fits)
-          refl,
+          (omega (arith, c.requires.run.counted (omega arith), c.requires.none)) (omega arith) (omega arith)
+          (to_z-of_z w32 _ fits) refl,
       omega arith,
     )
