@@ -66,8 +66,8 @@ pub run_found : (runs : List SttsEntry) (samples ticks : List ℕ) (k i number :
     × (get_or ticks i 0 ≡ sum_by (λ r. r.sample_count * r.sample_delta) (take i runs))
     × (get_or ticks i 0 ≤ number * (2 ^ 32 - 1))
 run_found runs samples ticks k i number sums short at is =
-    let before = before_found (λ (r : SttsEntry). r.sample_count) runs samples (k - 1) i sums.counts (omega (arith, short))
-    at in
+    let inside : k - 1 < 2 ^ 32 - 1 = omega (arith, short) in
+    let before = before_found (λ (r : SttsEntry). r.sample_count) runs samples (k - 1) i sums.counts inside at in
     let most = ticks_before runs i sums.small in
     let begin : get_or ticks i 0 ≡ sum_by (λ r. r.sample_count * r.sample_delta) (take i runs) =
     omega (arith, sums.times.each i before.0, most, before.2, short) in (
