@@ -4,12 +4,10 @@ use crate::walk::{BrokenPlace, FoundBox, Step, Walk};
 use mp4_codec::{BoxType, Error, FourCC};
 use mp4_faults::{reads_child, refusal_of};
 use mp4_fields::{Field, Listing, fields_of, has_fields};
-use mp4_readable::{Code, Grouped, grouped_length, reason_text};
+use mp4_readable::{Code, Whole, reason_text};
 use mp4_source::{ByteSource, FileError};
 use serde::{Described, Serialize, Serializer};
 use std::alloc::{AllocError, Global};
-use std::fmt;
-use std::fmt::Write;
 
 /// How many values of a list are listed where not all are asked for.
 const FIRST_VALUES: usize = 8;
@@ -27,24 +25,17 @@ pub struct BoxReport {
     #[serde(rename = "type")]
     pub kind: Option<String>,
     /// Where its first byte is in the file, from 0.
-    pub place: u64,
-    /// Its bytes, its header included.
-    pub size: u64,
+    pub place: Whole,
+    /// Its bytes that are in the file, its header included.
+    pub size: Whole,
+    /// How many bytes it says that it has past the end of the file.
+    pub past_end: Whole,
     /// The bytes of its header.
     pub header_size: u64,
     /// Its fields, where they are known.
     pub fields: Option<BoxFields>,
     /// Why it is refused.
     pub refused: Option<String>,
-}
-
-/// The boxes of a file.
-#[derive(Debug, Drop, Serialize)]
-pub struct BoxesReport {
-    /// The bytes of the file.
-    pub file_size: u64,
-    /// The boxes in file order, those within a box after it.
-    pub boxes: Vec<BoxReport>,
 }
 
 /// Which boxes are listed, and how much of their lists.
@@ -98,7 +89,8 @@ fn leaf_looked_at(listing: Listing, name: BoxType, payload: &[u8]) -> mp4_codec:
     }
 }
 
-/// What is known of the payload of a box that was found. Only payloads of which something may be known are read.
+/// What is known of the payload of a box that was found. Only payloads of which something may be known are read. What
+/// the reading of the file doesn't look at isn't refused, whatever it holds.
 fn looked_at<S: ByteSource + Drop>(
     walk: &mut Walk<S>,
     listing: Listing,
@@ -106,9 +98,13 @@ fn looked_at<S: ByteSource + Drop>(
 ) -> Result<Looked, FileError> {
     if has_fields(found.name) {
         let payload = walk.payload_of(found)?;
-        return Ok(leaf_looked_at(listing, found.name, payload)?);
+        let Looked { fields, refusal } = leaf_looked_at(listing, found.name, payload)?;
+        return Ok(Looked {
+            fields,
+            refusal: if found.is_read { refusal } else { None },
+        });
     }
-    if found.is_opened || found.name == BoxType::MetaBox {
+    if found.is_read {
         let payload = walk.payload_of(found)?;
         return Ok(container_looked_at(listing.alloc, found.name, payload)?);
     }
@@ -118,15 +114,16 @@ fn looked_at<S: ByteSource + Drop>(
     })
 }
 
-/// What is said of a box.
+/// What is said of a box, for which the file is refused where it lacks another one for it.
 fn report_of_box<S: ByteSource + Drop>(
     walk: &mut Walk<S>,
     listing: Listing,
     found: FoundBox,
+    lack: Option<&Error>,
 ) -> Result<BoxReport, FileError> {
     let Looked { fields, refusal } = looked_at(walk, listing, &found)?;
     let alloc = listing.alloc;
-    let refused = match found.fault.as_ref().or(refusal.as_ref()) {
+    let refused = match found.fault.as_ref().or(refusal.as_ref()).or(lack) {
         Some(error) => Some(reason_text(alloc, error)?),
         None => None,
     };
@@ -134,8 +131,9 @@ fn report_of_box<S: ByteSource + Drop>(
     Ok(BoxReport {
         path: found.path,
         kind: Some(format!(in alloc; "{kind}")?),
-        place: found.place,
-        size: found.size,
+        place: Whole(found.place),
+        size: Whole(found.size),
+        past_end: Whole(found.past_end),
         header_size: found.header_size,
         fields: fields.map(BoxFields),
         refused,
@@ -144,57 +142,144 @@ fn report_of_box<S: ByteSource + Drop>(
 
 /// What is said of a place where no box begins.
 fn report_of_break(alloc: Global, broken: BrokenPlace) -> Result<BoxReport, AllocError> {
+    let refused = match &broken.fault {
+        Some(error) => Some(reason_text(alloc, error)?),
+        None => None,
+    };
     Ok(BoxReport {
-        refused: Some(reason_text(alloc, &broken.fault)?),
+        refused,
         path: broken.path,
         kind: None,
-        place: broken.place,
-        size: broken.size,
+        place: Whole(broken.place),
+        size: Whole(broken.size),
+        past_end: Whole(0),
         header_size: 0,
         fields: None,
     })
 }
 
-/// Adds what is said of the boxes that a walk comes to, up to its end.
-fn add_reports<S: ByteSource + Drop>(
-    walk: &mut Walk<S>,
-    listing: Listing,
-    boxes: &mut Vec<BoxReport>,
-) -> Result<(), FileError> {
-    for _ in 0..u64::MAX {
-        let report = match walk.next_step()? {
-            None => break,
-            Some(Step::Box(found)) => report_of_box(walk, listing, found)?,
-            Some(Step::Broken(broken)) => report_of_break(listing.alloc, broken)?,
-        };
-        boxes.push(report)?;
-    }
-    Ok(())
+/// The boxes that a file has to have, up to the one that a walk has come to.
+#[derive(Clone, Copy, Debug, Default)]
+struct NeededBoxes {
+    has_ftyp: bool,
+    has_moov: bool,
+    /// Whether the file is refused already, or what it lacks was said.
+    is_settled: bool,
 }
 
-/// The boxes of a source, also where it is no file that opens: a box that is refused is listed with its reason, and
-/// what follows it too.
+impl NeededBoxes {
+    /// Notes a step of the walk.
+    fn note(&mut self, step: &Step) {
+        match step {
+            Step::Broken(broken) => {
+                self.is_settled = self.is_settled || broken.fault.is_some();
+            }
+            Step::Box(found) => {
+                self.is_settled = self.is_settled || found.fault.is_some();
+                let is_own = found.depth == 1 && found.is_read;
+                self.has_ftyp = self.has_ftyp || is_own && found.name == BoxType::FtypBox;
+                self.has_moov = self.has_moov || is_own && found.name == BoxType::MoovBox;
+            }
+        }
+    }
+
+    /// Why a file is refused for its last box, which reaches to its end by a size of 0, and so isn't read: it lacks a box
+    /// of that type.
+    fn lack_by(&self, found: &FoundBox) -> Option<Error> {
+        let mut needed = *self;
+        let is_lacking = needed.missing() == Some(found.name);
+        if found.depth == 1 && found.is_open_end && is_lacking {
+            return Some(Error::InvalidData(
+                "a box to the end of the file, by a size of 0, isn't read",
+            ));
+        }
+        None
+    }
+
+    /// The box that a file lacks which ends here, the first time that it is asked for.
+    fn missing(&mut self) -> Option<BoxType> {
+        let is_settled = self.is_settled;
+        self.is_settled = true;
+        match (is_settled, self.has_ftyp, self.has_moov) {
+            (false, false, _) => Some(BoxType::FtypBox),
+            (false, true, false) => Some(BoxType::MoovBox),
+            _ => None,
+        }
+    }
+}
+
+/// The boxes of a source, one after the other in file order, those within a box after it: also where it is no file that
+/// opens. A box that is refused has its reason, and what follows it is listed too; where the file lacks a box that it
+/// has to have, that is said at its end.
 ///
-/// `Io` where the source refuses a read; else refused by `OutOfMemory` alone. Of payloads only those of boxes whose
-/// fields are listed are read.
-pub fn boxes_of<S: ByteSource + Drop>(
-    alloc: Global,
-    source: S,
-    request: BoxesRequest,
-) -> Result<BoxesReport, FileError> {
-    let listing = Listing {
-        alloc,
-        most: if request.all {
+/// What is in memory is one box. Of payloads only those of boxes are read whose fields are listed, or which hold boxes.
+#[derive(Drop)]
+pub struct Boxes<S: ByteSource> {
+    walk: Walk<S>,
+    listing: Listing,
+    needed: NeededBoxes,
+    depth: u32,
+}
+
+impl<S: ByteSource + Drop> Boxes<S> {
+    /// The boxes of a source that a request is for. Refused as [`Boxes::next_box`] is.
+    pub fn new(alloc: Global, source: S, request: BoxesRequest) -> Result<Self, FileError> {
+        let depth = request.depth.unwrap_or(u32::MAX);
+        let most = if request.all {
             usize::MAX
         } else {
             FIRST_VALUES
-        },
-    };
-    let mut walk = Walk::new(alloc, source, request.depth.unwrap_or(u32::MAX))?;
-    let file_size = walk.source_len()?;
-    let mut boxes = Vec::new(alloc);
-    add_reports(&mut walk, listing, &mut boxes)?;
-    Ok(BoxesReport { file_size, boxes })
+        };
+        Ok(Boxes {
+            walk: Walk::new(alloc, source, depth)?,
+            listing: Listing { alloc, most },
+            needed: NeededBoxes::default(),
+            depth,
+        })
+    }
+
+    /// The bytes of the source.
+    pub fn file_size(&self) -> u64 {
+        self.walk.source_size()
+    }
+
+    /// The depth of the deepest boxes that are listed; 1 is that of the file's own.
+    pub(crate) fn depth(&self) -> u32 {
+        self.depth
+    }
+
+    /// The next box; `None` after the last.
+    ///
+    /// `Io` where the source refuses a read; else refused by `OutOfMemory` alone.
+    pub fn next_box(&mut self) -> Result<Option<BoxReport>, FileError> {
+        let Some(step) = self.walk.next_step()? else {
+            return self.missing_box();
+        };
+        self.needed.note(&step);
+        let report = match step {
+            Step::Box(found) => {
+                let lack = self.needed.lack_by(&found);
+                report_of_box(&mut self.walk, self.listing, found, lack.as_ref())?
+            }
+            Step::Broken(broken) => report_of_break(self.listing.alloc, broken)?,
+        };
+        self.needed.is_settled = self.needed.is_settled || report.refused.is_some();
+        Ok(Some(report))
+    }
+
+    /// What is said at the end of a file that lacks a box.
+    fn missing_box(&mut self) -> Result<Option<BoxReport>, FileError> {
+        let Some(name) = self.needed.missing() else {
+            return Ok(None);
+        };
+        let broken = BrokenPlace {
+            path: String::new(self.listing.alloc),
+            place: self.file_size(),
+            size: 0,
+            fault: Some(Error::BoxNotFound(name)),
+        };
+        Ok(Some(report_of_break(self.listing.alloc, broken)?))
+    }
 }
 
 impl Described for BoxFields {}
@@ -207,83 +292,5 @@ impl Serialize for BoxFields {
             field.value.serialize(out)?;
         }
         out.end_map()
-    }
-}
-
-impl fmt::Display for BoxFields {
-    /// Writes a line for each field, indented.
-    fn fmt<W: fmt::Write>(&self, f: &mut fmt::Formatter<W>) -> fmt::Result {
-        for field in self.0.iter() {
-            let Field { name, value } = field;
-            writeln!(f, "    {name:<25} {value}")?;
-        }
-        Ok(())
-    }
-}
-
-/// The widths of the columns of a list of boxes.
-#[derive(Clone, Copy, Debug)]
-struct Widths {
-    path: usize,
-    place: usize,
-    size: usize,
-}
-
-/// The widths that hold all boxes.
-fn widths_of(boxes: &[BoxReport]) -> Widths {
-    let mut widths = Widths {
-        path: 3,
-        place: 5,
-        size: 5,
-    };
-    for report in boxes {
-        widths.path = widths.path.max(report.path.as_str().len());
-        widths.place = widths.place.max(grouped_length(report.place));
-        widths.size = widths.size.max(grouped_length(report.size));
-    }
-    widths
-}
-
-/// Writes the lines of a box.
-fn write_box<W: fmt::Write>(
-    f: &mut fmt::Formatter<W>,
-    widths: Widths,
-    report: &BoxReport,
-) -> fmt::Result {
-    let Widths {
-        path: path_width,
-        place: place_width,
-        size: size_width,
-    } = widths;
-    let path = &report.path;
-    let place = Grouped(report.place);
-    let size = Grouped(report.size);
-    writeln!(
-        f,
-        "{path:<path_width$}  {place:>place_width$}  {size:>size_width$}"
-    )?;
-    if let Some(refused) = &report.refused {
-        writeln!(f, "    REFUSED: {refused}")?;
-    }
-    if let Some(fields) = &report.fields {
-        write!(f, "{fields}")?;
-    }
-    Ok(())
-}
-
-impl fmt::Display for BoxesReport {
-    /// Writes a line for each box, and its fields below it.
-    fn fmt<W: fmt::Write>(&self, f: &mut fmt::Formatter<W>) -> fmt::Result {
-        let widths = widths_of(self.boxes.as_slice());
-        let Widths { path, place, size } = widths;
-        writeln!(
-            f,
-            "{:<path$}  {:>place$}  {:>size$}",
-            "box", "place", "bytes"
-        )?;
-        for report in self.boxes.iter() {
-            write_box(f, widths, report)?;
-        }
-        Ok(())
     }
 }

@@ -3,10 +3,10 @@
 #![tactic(auto)]
 
 mod boxes;
-mod entry_codes;
+mod listing;
 mod walk;
 mod why;
 
-pub use boxes::{BoxFields, BoxReport, BoxesReport, BoxesRequest, boxes_of};
-pub use entry_codes::entry_codes_of;
+pub use boxes::{BoxFields, BoxReport, Boxes, BoxesRequest};
+pub use listing::{BoxesError, write_boxes};
 pub use why::{WhyReport, why_of};

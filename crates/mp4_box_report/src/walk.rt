@@ -1,7 +1,8 @@
-//! A walk over the boxes of a source in file order, those within containers too, which goes on after a fault.
+//! A walk over the boxes of a source in file order, those within containers too, which goes on after a fault. What is a
+//! fault, and which boxes are opened, is as the reading of the file has it.
 
 use mp4_codec::{BoxHeader, BoxType, ByteCursor, Error, HEADER_SIZE, OPEN_END};
-use mp4_faults::{PathStep, bytes_before_children};
+use mp4_faults::{PathStep, bytes_before_children, looks_at_first_alone, reads_child, reads_items};
 use mp4_source::{ByteSource, FileError, Window, read_into};
 use std::alloc::{AllocError, Global};
 use std::collections::HashMap;
@@ -24,11 +25,15 @@ pub struct FoundBox {
     pub place: u64,
     /// Its bytes, its header included; up to the end of the source or of the box that it is in, where it passes that.
     pub size: u64,
+    /// How many bytes it says that it has past the end of the source.
+    pub past_end: u64,
     /// The bytes of its header: 8 or 16.
     pub header_size: u64,
-    /// Whether boxes in it come next.
-    pub is_opened: bool,
-    /// Why it can't be framed as it is.
+    /// Whether the reading of the file looks at it.
+    pub is_read: bool,
+    /// Whether it reaches to the end of what it is in, by a size of 0.
+    pub is_open_end: bool,
+    /// Whether the file is refused for how it is framed, and why.
     pub fault: Option<Error>,
 }
 
@@ -39,7 +44,8 @@ pub struct BrokenPlace {
     pub path: String,
     pub place: u64,
     pub size: u64,
-    pub fault: Error,
+    /// Why the file is refused for it; `None` where the reading of the file doesn't look there.
+    pub fault: Option<Error>,
 }
 
 /// What a walk comes to.
@@ -59,6 +65,10 @@ struct Level {
     end: u64,
     /// How many boxes of each type were found in it.
     counts: HashMap<u32, u32>,
+    /// Whether the reading of the file looks at the next box in it.
+    is_looked_at: bool,
+    /// Whether it looks at lists of items in it, `ilst`.
+    reads_items: bool,
 }
 
 /// A walk over the boxes of a source, in file order.
@@ -69,6 +79,8 @@ pub struct Walk<S: ByteSource> {
     place: u64,
     levels: Vec<Level>,
     most_depth: u32,
+    /// How many bytes the source has.
+    source_size: u64,
     room: Vec<u8>,
 }
 
@@ -89,7 +101,27 @@ impl Level {
             path,
             end,
             counts: HashMap::new(alloc),
+            is_looked_at: true,
+            reads_items: false,
         }
+    }
+
+    /// Whether the reading of the file looks at the next box, which is of this type: in the file itself at those that
+    /// it is made of, in a container at those that the container's reading looks at.
+    fn reads(&self, name: BoxType) -> bool {
+        match self.name {
+            None => is_read_in_file(name),
+            Some(_) if name == BoxType::IlstBox => self.reads_items,
+            Some(parent) => self.is_looked_at && reads_child(parent, name),
+        }
+    }
+
+    /// Notes that a box was found in it, after which the reading may look at no other.
+    fn note_box(&mut self) {
+        self.is_looked_at = match self.name {
+            Some(parent) => self.is_looked_at && !looks_at_first_alone(parent),
+            None => true,
+        };
     }
 
     /// The number of the next box of this type in it, from 1.
@@ -104,9 +136,12 @@ impl Level {
     }
 }
 
-/// Whether the boxes in a container are items of metadata.
-fn is_list_of_items(level: &Level) -> bool {
-    level.name == Some(BoxType::IlstBox)
+/// Whether the reading of a file looks at its own boxes of this type.
+fn is_read_in_file(name: BoxType) -> bool {
+    matches!(
+        name,
+        BoxType::FtypBox | BoxType::MoovBox | BoxType::MoofBox | BoxType::EmsgBox
+    )
 }
 
 /// How a box is framed that has so many bytes left in what it is in.
@@ -116,34 +151,70 @@ struct Frame {
     header_size: u64,
     /// All its bytes, or those that are left.
     size: u64,
+    past_end: u64,
+    /// Whether it says that it reaches to the end of what it is in.
+    is_open_end: bool,
     fault: Option<Error>,
 }
 
-/// How the box is framed whose header begins these bytes, of which so many are left in the source or, if it is a
-/// child, in the box that it is in.
-fn framed(head: &[u8], left: u64, is_child: bool) -> mp4_codec::Result<Frame> {
+/// Where a header is: in the source itself or in a container, and before how many bytes.
+#[derive(Clone, Copy)]
+struct Surroundings {
+    /// The bytes that are left in the source or in the container.
+    left: u64,
+    /// The bytes of the whole source.
+    source_size: u64,
+    is_child: bool,
+}
+
+/// Why the reading of a file refuses how its own box of this header is framed. A box that is skipped may pass the end.
+fn fault_in_file(header: &BoxHeader, size: u64, around: Surroundings) -> Option<Error> {
+    if header.size > around.source_size {
+        return Some(Error::InvalidData("a box is larger than the file"));
+    }
+    if size > around.left && is_read_in_file(header.name) {
+        return Some(Error::EndOfData);
+    }
+    None
+}
+
+/// Why the reading of a container refuses how a child of this header is framed.
+fn fault_in_container(header: &BoxHeader, size: u64, around: Surroundings) -> Option<Error> {
+    if header.size == OPEN_END {
+        return Some(Error::InvalidData("a child with an open end"));
+    }
+    if size > around.left {
+        return Some(Error::InvalidData("a child passes the end of its container"));
+    }
+    None
+}
+
+/// How the box is framed whose header begins these bytes.
+fn framed(head: &[u8], around: Surroundings) -> mp4_codec::Result<Frame> {
     let mut cursor = ByteCursor::new(head);
     let header = BoxHeader::read(&mut cursor)?;
     let header_size = cursor.position();
-    let size = header
+    let said = header
         .size
         .saturating_sub(HEADER_SIZE)
         .saturating_add(header_size);
-    let fault = match header.size {
-        OPEN_END if is_child => Some(Error::InvalidData("a child with an open end")),
-        OPEN_END => None,
-        _ if size <= left => None,
-        _ if is_child => Some(Error::InvalidData("a child passes the end of its container")),
-        _ => Some(Error::InvalidData("a box passes the end of the file")),
+    let fault = if around.is_child {
+        fault_in_container(&header, said, around)
+    } else {
+        fault_in_file(&header, said, around)
     };
+    let is_open_end = header.size == OPEN_END;
+    let size = if is_open_end { around.left } else { said };
     Ok(Frame {
         name: header.name,
         header_size,
-        size: if header.size == OPEN_END || size > left {
-            left
+        size: size.min(around.left),
+        past_end: if around.is_child {
+            0
         } else {
-            size
+            size.saturating_sub(around.left)
         },
+        is_open_end,
         fault,
     })
 }
@@ -161,13 +232,14 @@ impl<S: ByteSource + Drop> Walk<S> {
             place: 0,
             levels,
             most_depth,
+            source_size: end,
             room: Vec::new(alloc),
         })
     }
 
     /// How many bytes the source has.
-    pub fn source_len(&mut self) -> Result<u64, FileError> {
-        Ok(self.source.len()?)
+    pub fn source_size(&self) -> u64 {
+        self.source_size
     }
 
     /// So many bytes of the source from a place on.
@@ -202,7 +274,6 @@ impl<S: ByteSource + Drop> Walk<S> {
     /// at the end of the source.
     pub fn next_step(&mut self) -> Result<Option<Step>, FileError> {
         self.leave_containers();
-        let is_child = self.levels.len() > 1;
         let Some(level) = self.levels.last() else {
             return Ok(None);
         };
@@ -211,9 +282,14 @@ impl<S: ByteSource + Drop> Walk<S> {
         if left == 0 {
             return Ok(None);
         }
+        let around = Surroundings {
+            left,
+            source_size: self.source_size,
+            is_child: self.levels.len() > 1,
+        };
         let place = self.place;
         let head = self.bytes_at(place, left.min(MOST_HEADER) as usize)?;
-        match framed(head, left, is_child) {
+        match framed(head, around) {
             Ok(frame) => Ok(Some(Step::Box(self.enter(frame)?))),
             Err(fault) => Ok(Some(Step::Broken(self.break_off(end, fault)?))),
         }
@@ -223,20 +299,20 @@ impl<S: ByteSource + Drop> Walk<S> {
     fn break_off(&mut self, end: u64, fault: Error) -> Result<BrokenPlace, AllocError> {
         let place = self.place;
         self.place = end;
-        let path = match self.levels.last() {
-            Some(level) => level.path.clone()?,
-            None => String::new(self.alloc),
+        let (path, is_looked_at) = match self.levels.last() {
+            Some(level) => (level.path.clone()?, level.is_looked_at),
+            None => (String::new(self.alloc), true),
         };
         Ok(BrokenPlace {
             path,
             place,
             size: end.saturating_sub(place),
-            fault,
+            fault: if is_looked_at { Some(fault) } else { None },
         })
     }
 
-    /// Where the children of a box begin in its payload of so many bytes from a place on; `None` where it has none, or
-    /// where they would be too deep.
+    /// Where the children of a box that is read begin in its payload of so many bytes from a place on; `None` where its
+    /// reading looks at none, or where they would be too deep.
     fn children_of(
         &mut self,
         name: BoxType,
@@ -247,38 +323,74 @@ impl<S: ByteSource + Drop> Walk<S> {
         if depth >= u64::from(self.most_depth) {
             return Ok(None);
         }
-        let is_item = self.levels.last().is_some_and(is_list_of_items);
         let head = self.bytes_at(payload, size.min(HEAD) as usize)?;
-        let fields = match bytes_before_children(name, head) {
-            // An item of metadata that the library doesn't read has its value in the same form.
-            None if is_item => Some(0),
-            fields => fields,
-        };
-        Ok(fields.filter(|fields| *fields <= size))
+        Ok(bytes_before_children(name, head).filter(|fields| *fields <= size))
+    }
+
+    /// Whether the reading of the file looks at the box of this frame. One that reaches to the end of the file by a size
+    /// of 0 isn't read, whatever its type.
+    fn is_read(&self, frame: &Frame) -> bool {
+        match self.levels.last() {
+            Some(level) => level.reads(frame.name) && !frame.is_open_end,
+            None => false,
+        }
+    }
+
+    /// Whether the reading of a box of this type looks at lists of items in it.
+    fn looks_at_items(&mut self, name: BoxType, payload: u64, end: u64) -> Result<bool, FileError> {
+        if name != BoxType::MetaBox {
+            return Ok(false);
+        }
+        let alloc = self.alloc;
+        let bytes = self.bytes_at(payload, end.saturating_sub(payload) as usize)?;
+        Ok(reads_items(alloc, name, bytes)?)
+    }
+
+    /// Goes to the first child of a box of this type, which ends at a place. Its payload and its children begin at the
+    /// others.
+    fn open(
+        &mut self,
+        name: BoxType,
+        path: &str,
+        payload: u64,
+        children: u64,
+        end: u64,
+    ) -> Result<(), FileError> {
+        let path = String::from_str(self.alloc, path)?;
+        let mut level = Level::new(self.alloc, Some(name), path, end);
+        level.reads_items = self.looks_at_items(name, payload, end)?;
+        self.levels.push(level)?;
+        self.place = children;
+        Ok(())
     }
 
     /// The box of this frame; the walk is then at its first child, or after it.
     fn enter(&mut self, frame: Frame) -> Result<FoundBox, FileError> {
+        let is_read = self.is_read(&frame);
         let Frame {
             name,
             header_size,
             size,
+            past_end,
+            is_open_end,
             fault,
         } = frame;
         let place = self.place;
+        let end = place.saturating_add(size);
         let payload = place.saturating_add(header_size);
         let depth = self.levels.len() as u64;
-        let path = self.path_of_next(name)?;
-        let fields = self.children_of(name, payload, size.saturating_sub(header_size))?;
-        let is_opened = fields.is_some();
+        let (path, is_looked_at) = self.step_to(name)?;
+        let fields = if is_read {
+            self.children_of(name, payload, size.saturating_sub(header_size))?
+        } else {
+            None
+        };
         match fields {
             Some(fields) => {
-                let end = place.saturating_add(size);
-                let level = Level::new(self.alloc, Some(name), path.clone()?, end);
-                self.levels.push(level)?;
-                self.place = payload.saturating_add(fields);
+                let children = payload.saturating_add(fields);
+                self.open(name, path.as_str(), payload, children, end)?;
             }
-            None => self.place = place.saturating_add(size),
+            None => self.place = end,
         }
         Ok(FoundBox {
             name,
@@ -286,20 +398,25 @@ impl<S: ByteSource + Drop> Walk<S> {
             depth,
             place,
             size,
+            past_end,
             header_size,
-            is_opened,
-            fault,
+            is_read,
+            is_open_end,
+            fault: if is_looked_at { fault } else { None },
         })
     }
 
-    /// The path of the next box, of this type, in the container.
-    fn path_of_next(&mut self, name: BoxType) -> Result<String, AllocError> {
+    /// The path of the next box, of this type, in the container, and whether the reading of the container looks there.
+    fn step_to(&mut self, name: BoxType) -> Result<(String, bool), AllocError> {
         match self.levels.last_mut() {
             Some(level) => {
                 let number = level.next_number(name)?;
-                path_in(self.alloc, level.path.as_str(), name, number)
+                let is_looked_at = level.is_looked_at;
+                level.note_box();
+                let path = path_in(self.alloc, level.path.as_str(), name, number)?;
+                Ok((path, is_looked_at))
             }
-            None => Ok(String::new(self.alloc)),
+            None => Ok((String::new(self.alloc), true)),
         }
     }
 }

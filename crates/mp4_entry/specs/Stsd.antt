@@ -19,7 +19,7 @@ use Rattle.mp4_entry.specs.declared.sample_entry.SampleEntry.{SampleEntry}
 use Rattle.mp4_entry.specs.declared.sample_entry.SampleEntry.TheVariants.{AvcVideo as avc_video}
 use Rattle.mp4_entry.specs.declared.sample_entry.SampleEntry.TheVariants.{HevcVideo as hevc_video}
 use Rattle.mp4_entry.specs.declared.sample_entry.SampleEntry.TheVariants.{Vp9Video as vp9_video, AacSound as aac_sound}
-use Rattle.mp4_entry.specs.declared.sample_entry.SampleEntry.TheVariants.{Text as text, NoKnown as no_known}
+use Rattle.mp4_entry.specs.declared.sample_entry.SampleEntry.TheVariants.{Text as text, Other as other, NoKnown as no_known}
 use Rattle.mp4_entry.specs.Avc1.{avc1_of, avc1_early, avc1_payload, avc1_refusal, IsInRangeAvc1, IsWellFormedAvc1}
 use Rattle.mp4_entry.specs.Avc1.{avc1_of_config}
 use Rattle.mp4_entry.specs.Hev1.{hev1_of, hev1_early, hev1_payload, IsInRangeHev1, IsWellFormedHev1, hev1_of_config}
@@ -35,7 +35,7 @@ entry_of c =
     if is_of vp09 c then seen vp9_video (vp09_of c.1) else
     if is_of mp4a c then seen aac_sound (mp4a_of c.1) else
     if is_of tx3g c then seen text (tx3g_of c.1) else
-    Ok no_known
+    Ok (other c.0)
 
 -- the entry that begins a payload, if any
 abbrev pub entry_in : Option ChildBox → Result SampleEntry Cause
@@ -44,7 +44,16 @@ entry_in (Some c) = entry_of c
 
 abbrev pub no_entry : ℕ → ℕ → StsdBox
 no_entry version flags =
-    record { version = version; flags = flags; avc1 = None; hev1 = None; vp09 = None; mp4a = None; tx3g = None }
+    record {
+      version = version;
+      flags = flags;
+      avc1 = None;
+      hev1 = None;
+      vp09 = None;
+      mp4a = None;
+      tx3g = None;
+      other = None;
+    }
 
 -- the description that has this entry alone
 abbrev pub with_entry : ℕ → ℕ → SampleEntry → StsdBox
@@ -53,6 +62,7 @@ with_entry version flags (hevc_video e) = record (no_entry version flags) { hev1
 with_entry version flags (vp9_video e) = record (no_entry version flags) { vp09 = Some e }
 with_entry version flags (aac_sound e) = record (no_entry version flags) { mp4a = Some e }
 with_entry version flags (text e) = record (no_entry version flags) { tx3g = Some e }
+with_entry version flags (other t) = record (no_entry version flags) { other = Some t }
 with_entry version flags no_known = no_entry version flags
 
 -- the description that a payload holds: its first entry, after a count that is not looked at
@@ -113,6 +123,7 @@ borrowed_entry NoKnown = no_known
 
 -- how many entries are written
 abbrev pub entry_count : SampleEntry → ℕ
+entry_count (other t) = 0
 entry_count no_known = 0
 entry_count entry = 1
 
@@ -123,6 +134,7 @@ entry_bytes (hevc_video e) = box_bytes hev1 (hev1_payload e)
 entry_bytes (vp9_video e) = box_bytes vp09 (vp09_payload e)
 entry_bytes (aac_sound e) = box_bytes mp4a (mp4a_payload e)
 entry_bytes (text e) = box_bytes tx3g (tx3g_payload e)
+entry_bytes (other t) = []
 entry_bytes no_known = []
 
 -- why an entry is not written
@@ -132,6 +144,7 @@ entry_refusal (hevc_video e) = None
 entry_refusal (vp9_video e) = None
 entry_refusal (aac_sound e) = mp4a_refusal e
 entry_refusal (text e) = None
+entry_refusal (other t) = None
 entry_refusal no_known = None
 
 -- the payload that holds a description
@@ -151,13 +164,14 @@ pub record IsInRangeStsd (b : StsdBox) : Type 0 where
   pub mp4a : IfSome b.mp4a IsInRangeMp4a
   pub tx3g : IfSome b.tx3g IsInRangeTx3g
 
--- what the layout of an entry asks of it
+-- what the layout of an entry asks of it; one of another type isn't written
 abbrev pub IsWellFormedEntry : SampleEntry → Type 0
 IsWellFormedEntry (avc_video e) = IsWellFormedAvc1 e
 IsWellFormedEntry (hevc_video e) = IsWellFormedHev1 e
 IsWellFormedEntry (vp9_video e) = IsWellFormedVp09 e
 IsWellFormedEntry (aac_sound e) = IsWellFormedMp4a e
 IsWellFormedEntry (text e) = IsWellFormedTx3g e
+IsWellFormedEntry (other t) = ⊥
 IsWellFormedEntry no_known = Unit {0}
 
 -- flags have 24 bits, the entry is well-formed, and it is the only one

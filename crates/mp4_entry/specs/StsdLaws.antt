@@ -29,7 +29,7 @@ use Rattle.mp4_entry.specs.declared.sample_entry.SampleEntry.{SampleEntry}
 use Rattle.mp4_entry.specs.declared.sample_entry.SampleEntry.TheVariants.{AvcVideo as avc_video}
 use Rattle.mp4_entry.specs.declared.sample_entry.SampleEntry.TheVariants.{HevcVideo as hevc_video}
 use Rattle.mp4_entry.specs.declared.sample_entry.SampleEntry.TheVariants.{Vp9Video as vp9_video, AacSound as aac_sound}
-use Rattle.mp4_entry.specs.declared.sample_entry.SampleEntry.TheVariants.{Text as text, NoKnown as no_known}
+use Rattle.mp4_entry.specs.declared.sample_entry.SampleEntry.TheVariants.{Text as text, Other as other, NoKnown as no_known}
 use Rattle.mp4_entry.specs.Stsd.{entry_of, entry_in, stsd_of, present_or}
 use Rattle.mp4_entry.specs.Stsd.{first_entry, entry_count, entry_bytes, entry_refusal, stsd_payload, stsd_refusal}
 use Rattle.mp4_entry.specs.Stsd.{IsInRangeStsd, IsWellFormedEntry, IsCanonicalStsd}
@@ -45,6 +45,7 @@ IsInRangeEntry (hevc_video e) = IsInRangeHev1 e
 IsInRangeEntry (vp9_video e) = IsInRangeVp09 e
 IsInRangeEntry (aac_sound e) = IsInRangeMp4a e
 IsInRangeEntry (text e) = IsInRangeTx3g e
+IsInRangeEntry (other t) = Unit {0}
 IsInRangeEntry no_known = Unit {0}
 
 present_in_range : {A : Type 0} (o : Option A) (InRange : A → Type 0) (entry : A → SampleEntry) (later : SampleEntry)
@@ -104,10 +105,12 @@ entry_again (aac_sound e) =
 entry_again (text e) =
     box_again tx3g tx3g_of text IsInRangeTx3g IsWellFormedTx3g tx3g_payload no_refusal
     (λ bytes. refl) (record { named = refl; code = lit< tt }) tx3g_again e
+entry_again (other t) = λ in_range well_formed sound small. absurd well_formed
 entry_again no_known =
     λ in_range well_formed sound small. record { first = None; rest = []; next = refl; is = refl }
 
 few : (entry : SampleEntry) → entry_count entry < 256 ^ 4
+few (other t) = lit< tt
 few no_known = lit< tt
 few entry = lit< tt
 

@@ -17,8 +17,8 @@ use crate::vp09::Vp09Box;
 use mp4_codec::{BoxType, Child, Mp4Box, Put, ReadBox, Result, WriteBox};
 use std::alloc::Global;
 
-/// A sample entry; an entry of another type is as none. The crate doesn't export it: it is public so that definitions
-/// of the crates above can speak of it, as of how samples are coded.
+/// A sample entry; of an entry of another type only that is known. The crate doesn't export it: it is public so that
+/// definitions of the crates above can speak of it, as of how samples are coded.
 #[derive(Drop)]
 pub enum SampleEntry {
     AvcVideo(Avc1Box),
@@ -26,6 +26,9 @@ pub enum SampleEntry {
     Vp9Video(Vp09Box),
     AacSound(Mp4aBox),
     Text(Tx3gBox),
+    /// An entry of another type.
+    Other(BoxType),
+    /// No entry.
     NoKnown,
 }
 
@@ -65,11 +68,11 @@ impl SampleEntry {
         if code == u32::from(BoxType::Tx3gBox) {
             return Ok(Self::Text(ReadBox::read_payload(alloc, child.payload)?));
         }
-        Ok(Self::NoKnown)
+        Ok(Self::Other(child.name))
     }
 }
 
-/// A borrowed sample entry.
+/// A borrowed sample entry that is written.
 #[derive(Clone, Copy)]
 pub(crate) enum EntryRef<'a> {
     AvcVideo(&'a Avc1Box),

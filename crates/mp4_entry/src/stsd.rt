@@ -1,6 +1,7 @@
 //! The sample description.
 
 ghost use Rattle.mp4_codec.specs.ExactTest.{by_law, by_test, field_tests};
+ghost use Rattle.mp4_codec.specs.contracts.box_type.BoxTypeExactEq.TheImpl.Laws.{lawful as box_type_laws};
 ghost use Rattle.mp4_entry.specs.contracts.avc1.Avc1BoxExactEq.TheImpl.Laws.{lawful as avc1_laws};
 ghost use Rattle.mp4_entry.specs.contracts.hev1.Hev1BoxExactEq.TheImpl.Laws.{lawful as hev1_laws};
 ghost use Rattle.mp4_entry.specs.contracts.vp09.Vp09BoxExactEq.TheImpl.Laws.{lawful as vp09_laws};
@@ -32,9 +33,9 @@ use std::alloc::Global;
 ///
 /// Any version is read and written. Of what is read the first entry alone is looked at, whatever the count says. Where
 /// fewer than 8 bytes are left there is none; else a box has to begin there and to lie within the payload, or it is
-/// `InvalidData`. An entry of another type than the five is skipped, and so is what follows the first. Of what is
-/// written the first that is there counts, in the order of the fields, with a count of 1, or 0 where none is there; its
-/// refusal is that of the box.
+/// `InvalidData`. Of an entry of another type than the five that type alone is kept, and what follows the first is
+/// skipped. Of what is written the first of the five that is there counts, in the order of the fields, with a count of
+/// 1, or 0 where none is there; its refusal is that of the box.
 #[derive(Debug, PartialEq, Eq, Drop)]
 pub struct StsdBox {
     pub version: u8,
@@ -50,6 +51,8 @@ pub struct StsdBox {
     pub mp4a: Option<Mp4aBox>,
     /// Timed text.
     pub tx3g: Option<Tx3gBox>,
+    /// The type of an entry that isn't read. It isn't written.
+    pub other: Option<BoxType>,
 }
 
 impl ExactEq for StsdBox {
@@ -60,6 +63,7 @@ impl ExactEq for StsdBox {
       by_law vp09_laws.exact,
       by_law mp4a_laws.exact,
       by_law tx3g_laws.exact,
+      by_law box_type_laws.exact,
     )) };
 }
 
@@ -99,6 +103,7 @@ impl StsdBox {
             vp09: None,
             mp4a: None,
             tx3g: None,
+            other: None,
         }
     }
 
@@ -113,6 +118,7 @@ impl StsdBox {
             SampleEntry::Vp9Video(entry) => description.vp09 = Some(entry),
             SampleEntry::AacSound(entry) => description.mp4a = Some(entry),
             SampleEntry::Text(entry) => description.tx3g = Some(entry),
+            SampleEntry::Other(name) => description.other = Some(name),
             SampleEntry::NoKnown => {}
         }
         description
@@ -162,6 +168,7 @@ impl TryClone for StsdBox {
             vp09,
             mp4a,
             tx3g,
+            other: self.other,
         })
     }
 }

@@ -1,26 +1,22 @@
 -- Byte streams of units that are written one after the other.
-use Rattle.std.proofs.Common.{◌≡◌, ℕ, ◌+◌, ◌<◌, Bool, true, false, not, List, [], ◌∷◌, ◌++◌, refl, sym, ◌∙◌, ap}
-use Rattle.std.proofs.Common.{append_assoc, map, length, take, get_or}
-use Rattle.std.specs.Prelude.{◌&&◌, ◌||◌, ◌==◌, if◌then◌else◌}
+use Rattle.std.proofs.Common.{◌≡◌, ℕ, ◌+◌, ◌<◌, ◌≤◌, Bool, true, false, List, [], ◌∷◌, ◌++◌, refl, sym, ◌∙◌, ap}
+use Rattle.std.proofs.Common.{append_assoc, map, length, take, get_or, not, arith}
+use Rattle.std.specs.Prelude.{◌&&◌, nat_le, nat_lt, if◌then◌else◌}
+use Rattle.std.specs.List.{filter}
+use Rattle.std.proofs.lemmas.Bool.{leb-true, ltb-true}
+use Rattle.std.proofs.lemmas.List.Elements.{filter-append}
 use Rattle.std.proofs.lemmas.List.{append-nil, take_more, map-append}
-use Rattle.std.proofs.Math.Dec.{eqb-suc-zero}
 use Rattle.mp4_entry.specs.declared.avcc.NalUnit.{NalUnit}
 use Rattle.mp4_codec.specs.Bytes.{Appends}
 use Rattle.mp4_extract.specs.declared.coding.VideoCoding.{VideoCoding}
-use Rattle.mp4_extract.specs.NalUnits.{is_parameter_set, is_random_access}
-use Rattle.mp4_extract.specs.ByteStream.{coded_unit, byte_stream, with_sets}
-use Rattle.mp4_extract.specs.ByteStream.{next_units, wants_sets_after}
+use Rattle.mp4_extract.specs.NalUnits.{kinds_before, kinds_below}
+use Rattle.mp4_extract.specs.ByteStream.{coded_unit, byte_stream, is_between, is_none, kinds_after, next_units}
+use Rattle.mp4_extract.specs.ByteStream.{sets_between, units_if, with_sets}
 
--- whether there is no unit
-abbrev pub is_none : List (List ℕ) → Bool
-is_none [] = true
-is_none (u ∷ us) = false
-
--- whether parameter sets still have to come after these units
-unfoldable pub wants_sets : VideoCoding → List (List ℕ) → Bool
-wants_sets coding [] = true
-wants_sets coding (u ∷ us) =
-    if is_random_access coding u then false else if is_parameter_set coding u then false else wants_sets coding us
+-- how many kinds of parameter sets are there after these units, when so many were before them
+unfoldable pub kinds_of : VideoCoding → ℕ → List (List ℕ) → ℕ
+kinds_of coding kinds [] = kinds
+kinds_of coding kinds (u ∷ us) = kinds_of coding (kinds_after coding kinds u) us
 
 pub none-append : (xs ys : List (List ℕ)) → is_none (xs ++ ys) ≡ (is_none xs && is_none ys)
 none-append [] ys = refl
@@ -38,51 +34,43 @@ stream-append coding false (x ∷ xs) ys =
     rw (stream-append coding false xs ys, append_assoc) refl
 
 module _ (coding : VideoCoding) (sets : List (List ℕ)) (u : List ℕ) where
-  sets_first : (r p : Bool)
-      → (if r then sets ++ u ∷ [] else if p then u ∷ [] else u ∷ []) ≡ (if r then sets ++ u ∷ [] else u ∷ [])
-  sets_first true p = refl
-  sets_first false true = refl
-  sets_first false false = refl
-
-  sets_next : (x : List ℕ) (xs more units : List (List ℕ)) (wants r p : Bool)
-      → more ≡ units ++ next_units coding sets wants u
-      → (if r then sets ++ x ∷ (xs ++ u ∷ []) else if p then x ∷ (xs ++ u ∷ []) else x ∷ more)
-      ≡ (if r then sets ++ x ∷ xs else if p then x ∷ xs else x ∷ units)
-      ++ next_units coding sets (if r then false else if p then false else wants) u
-  sets_next x xs more units wants true p e = sym (append_assoc sets (x ∷ xs) (u ∷ []))
-  sets_next x xs more units wants false true e = refl
-  sets_next x xs more units wants false false e = ap (λ (ys : List (List ℕ)). x ∷ ys) e
-
   -- the units after one more
-  pub sets-snoc : (units : List (List ℕ))
-      → with_sets coding sets (units ++ u ∷ [])
-      ≡ with_sets coding sets units ++ next_units coding sets (wants_sets coding units) u
-  unfolding with_sets wants_sets
-  sets-snoc [] = sets_first (is_random_access coding u) (is_parameter_set coding u)
-  sets-snoc (x ∷ xs) =
-      sets_next x xs (with_sets coding sets (xs ++ u ∷ [])) (with_sets coding sets xs) (wants_sets coding xs)
-      (is_random_access coding x) (is_parameter_set coding x) (sets-snoc xs)
+  pub sets-snoc : (kinds : ℕ) (units : List (List ℕ))
+      → with_sets coding sets kinds (units ++ u ∷ [])
+      ≡ with_sets coding sets kinds units ++ next_units coding sets (kinds_of coding kinds units) u
+  unfolding with_sets kinds_of
+  sets-snoc kinds [] = refl
+  sets-snoc kinds (x ∷ xs) =
+      let before = sets_between coding kinds (kinds_before coding x) sets in
+      let after = kinds_after coding kinds x in
+      rw (sets-snoc after xs) (sym (append_assoc before (x ∷ with_sets coding sets after xs)
+      (next_units coding sets (kinds_of coding after xs) u)))
 
-  wants_first : (r p : Bool) → (if r then false else if p then false else true) ≡ not (r || p)
-  wants_first true p = refl
-  wants_first false true = refl
-  wants_first false false = refl
+  -- the kinds that are there after one more
+  pub kinds-snoc : (kinds : ℕ) (units : List (List ℕ))
+      → kinds_of coding kinds (units ++ u ∷ []) ≡ kinds_after coding (kinds_of coding kinds units) u
+  unfolding kinds_of
+  kinds-snoc kinds [] = refl
+  kinds-snoc kinds (x ∷ xs) = kinds-snoc (kinds_after coding kinds x) xs
 
-  wants_next : (more wants r p : Bool) → more ≡ wants_sets_after coding wants u
-      → (if r then false else if p then false else more)
-      ≡ wants_sets_after coding (if r then false else if p then false else wants) u
-  wants_next more wants true p e = refl
-  wants_next more wants false true e = refl
-  wants_next more wants false false e = e
+and_false : (a b : Bool) → (a ≡ true → b ≡ true → ⊥) → (a && b) ≡ false
+and_false true true f = absurd (f refl refl)
+and_false true false f = refl
+and_false false b f = refl
 
-  -- whether sets are wanted after one more
-  pub wants-snoc : (units : List (List ℕ))
-      → wants_sets coding (units ++ u ∷ []) ≡ wants_sets_after coding (wants_sets coding units) u
-  unfolding wants_sets
-  wants-snoc [] = wants_first (is_random_access coding u) (is_parameter_set coding u)
-  wants-snoc (x ∷ xs) =
-      wants_next (wants_sets coding (xs ++ u ∷ [])) (wants_sets coding xs)
-      (is_random_access coding x) (is_parameter_set coding x) (wants-snoc xs)
+-- no kind is from a number on and before one that isn't greater
+not_between : (from end n : ℕ) → end ≤ from → (nat_le from n && nat_lt n end) ≡ false
+not_between from end n le = and_false (nat_le from n) (nat_lt n end) (λ a b.
+    let x : from ≤ n = leb-true from n a in
+    let y : n < end = ltb-true n end b in
+    omega arith)
+
+pub none_between : (coding : VideoCoding) (from end : ℕ) (sets : List (List ℕ)) → end ≤ from
+    → sets_between coding from end sets ≡ []
+unfolding sets_between
+none_between coding from end [] le = refl
+none_between coding from end (x ∷ xs) le =
+    rw (not_between from end (kinds_below coding x) le) (none_between coding from end xs le)
 
 -- one unit
 pub stream-one : (coding : VideoCoding) (is_first : Bool) (u : List ℕ)
@@ -119,20 +107,28 @@ pub bytes-take_more : (units : List NalUnit) (i : ℕ) (x : NalUnit) → i < len
 bytes-take_more units i x lt is =
     rw (take_more units i x lt, ← is, map-append (λ (u : NalUnit). u.bytes) (take i units) (x ∷ [])) refl
 
-and_none : (b : Bool) (xs : List (List ℕ)) (u : List ℕ) → (b && is_none (xs ++ u ∷ [])) ≡ false
-and_none true [] u = refl
-and_none false [] u = refl
-and_none true (x ∷ xs) u = refl
-and_none false (x ∷ xs) u = refl
+-- the parameter sets of these kinds among one more
+pub between-more : (coding : VideoCoding) (from end : ℕ) (units : List NalUnit) (i : ℕ) (x : NalUnit) (is_wanted : Bool)
+    → i < length units → x ≡ get_or units i x → is_wanted ≡ is_between coding from end x.bytes
+    → sets_between coding from end (bytes_of (take (i + 1) units))
+    ≡ sets_between coding from end (bytes_of (take i units)) ++ units_if is_wanted x.bytes
+unfolding sets_between
+between-more coding from end units i x true lt is e =
+    rw (bytes-take_more units i x lt is, filter-append, ← e) refl
+between-more coding from end units i x false lt is e =
+    rw (bytes-take_more units i x lt is, filter-append, ← e) refl
 
-pub none_after : (b : Bool) (units : List NalUnit) (i : ℕ) (x : NalUnit) → i < length units → x ≡ get_or units i x
-    → false ≡ (b && is_none (bytes_of (take (i + 1) units)))
-none_after b units i x lt is =
-    rw (bytes-take_more units i x lt is) (sym (and_none b (bytes_of (take i units)) x.bytes))
-
-pub none-length : (units : List NalUnit) → is_none (bytes_of units) ≡ (length units == 0)
-none-length [] = refl
-none-length (x ∷ xs) = sym (eqb-suc-zero (length xs))
+-- no unit was put before one that may be put
+pub none-if : (b is_wanted : Bool) (xs : List (List ℕ)) (u : List ℕ)
+    → ((b && is_none xs) && not is_wanted) ≡ (b && is_none (xs ++ units_if is_wanted u))
+none-if true true [] u = refl
+none-if true false [] u = refl
+none-if false true [] u = refl
+none-if false false [] u = refl
+none-if true true (x ∷ xs) u = refl
+none-if true false (x ∷ xs) u = refl
+none-if false true (x ∷ xs) u = refl
+none-if false false (x ∷ xs) u = refl
 
 pub and-true : (b : Bool) → b ≡ (b && true)
 and-true true = refl

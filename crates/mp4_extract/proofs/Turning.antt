@@ -1,8 +1,8 @@
 -- A sample of video that is turned into a byte stream, one unit after the other.
 use Rattle.std.proofs.Common.{◌≡◌, ℕ, ◌+◌, ◌≤◌, Bool, true, false, List, [], ◌∷◌, ◌++◌, refl, sym, ◌∙◌, ap}
 use Rattle.std.proofs.Common.{Result, Ok, Err, length, take, drop, cond, arith, nat_eq}
-use Rattle.std.specs.Prelude.{nat_lt, ◌&&◌, if◌then◌else◌}
-use Rattle.mp4_extract.specs.NalUnits.{is_random_access}
+use Rattle.std.specs.Prelude.{nat_lt, ◌&&◌}
+use Rattle.mp4_extract.specs.NalUnits.{kinds_before}
 use Rattle.std.specs.List.{filter}
 use Rattle.std.proofs.lemmas.Bool.{eqb-true}
 use Rattle.std.proofs.lemmas.List.{append-nil, length-drop, nil_from_length}
@@ -12,20 +12,20 @@ use Rattle.mp4_codec.specs.Cause.{Cause, invalid_data, ◌>>=◌}
 use Rattle.mp4_codec.specs.FieldLaws.{number-has_length}
 use Rattle.mp4_extract.specs.declared.annex_b.AnnexB.{AnnexB}
 use Rattle.mp4_extract.specs.ByteStream.{unit_at, HoldUnits, IsStreamOf, byte_stream, with_sets, sets_of, stream_of}
-use Rattle.mp4_extract.specs.ByteStream.{has_bytes, length_size, next_units, wants_sets_after}
-use Rattle.mp4_extract.proofs.Streams.{is_none, wants_sets, sets-snoc, wants-snoc, stream-more}
+use Rattle.mp4_extract.specs.ByteStream.{has_bytes, is_none, kinds_after, length_size, next_units, sets_between}
+use Rattle.mp4_extract.proofs.Streams.{kinds_of, sets-snoc, kinds-snoc, stream-more}
 
 -- the units that are written for these of a sample
 abbrev pub written_units : AnnexB → List (List ℕ) → List (List ℕ)
-written_units stream units = with_sets stream.coding (sets_of stream) (filter has_bytes units)
+written_units stream units = with_sets stream.coding (sets_of stream) 0 (filter has_bytes units)
 
 -- so far is a sample turned
-pub record IsTurned (stream : AnnexB) (sample rest old new : List ℕ) (is_first wants : Bool) : Type 0 where
+pub record IsTurned (stream : AnnexB) (sample rest old new : List ℕ) (is_first : Bool) (kinds : ℕ) : Type 0 where
   pub units : List (List ℕ)
   pub held : HoldUnits (length_size stream) units sample rest
   pub written : Appends old new (byte_stream stream.coding true (written_units stream units))
   pub first_is : is_first ≡ (true && is_none (written_units stream units))
-  pub wants_is : wants ≡ wants_sets stream.coding (filter has_bytes units)
+  pub kinds_is : kinds ≡ kinds_of stream.coding 0 (filter has_bytes units)
 
 -- a unit more
 pub held-snoc : (n : ℕ) (units : List (List ℕ)) (bytes rest u next : List ℕ) → HoldUnits n units bytes rest
@@ -67,30 +67,23 @@ none_before [] [] u = refl
 none_before [] (y ∷ ys) u = refl
 none_before (x ∷ xs) ys u = refl
 
--- something is written after a unit
-none_with : (xs : List (List ℕ)) (wants is_random : Bool) (sets : List (List ℕ)) (u : List ℕ)
-    → is_none (xs ++ (if wants && is_random then sets ++ u ∷ [] else u ∷ [])) ≡ false
-none_with xs true true sets u = none_before xs sets u
-none_with xs true false sets u = none_before xs [] u
-none_with xs false is_random sets u = none_before xs [] u
-
 -- nothing is left
 pub nil_when : (bytes : List ℕ) → nat_eq (length bytes) 0 ≡ true → bytes ≡ []
 nil_when bytes e = nil_from_length bytes (eqb-true (length bytes) 0 e)
 
 module _ (stream : AnnexB) (sample old : List ℕ) where
-  pub begun : IsTurned stream sample sample old old true true
-  unfolding with_sets byte_stream wants_sets
+  pub begun : IsTurned stream sample sample old old true 0
+  unfolding with_sets byte_stream kinds_of
   begun = record {
     units = [];
     held = refl;
     written = record { is = sym (append-nil old) };
     first_is = refl;
-    wants_is = refl;
+    kinds_is = refl;
   }
 
-  module _ (rest new u next : List ℕ) (is_first wants : Bool)
-      (so_far : IsTurned stream sample rest old new is_first wants)
+  module _ (rest new u next : List ℕ) (is_first : Bool) (kinds : ℕ)
+      (so_far : IsTurned stream sample rest old new is_first kinds)
       (read : unit_at (length_size stream) rest ≡ Ok (u, next)) where
     kept_empty : has_bytes u ≡ false → filter has_bytes (so_far.units ++ u ∷ []) ≡ filter has_bytes so_far.units
     kept_empty e =
@@ -102,43 +95,43 @@ module _ (stream : AnnexB) (sample old : List ℕ) where
     kept_one e = filter-append has_bytes so_far.units (u ∷ []) ∙ rw e refl
 
     -- a unit without a byte
-    pub passed : has_bytes u ≡ false → IsTurned stream sample next old new is_first wants
+    pub passed : has_bytes u ≡ false → IsTurned stream sample next old new is_first kinds
     passed e = record {
       units = so_far.units ++ u ∷ [];
       held = held-snoc (length_size stream) so_far.units sample rest u next so_far.held read;
       written = rw (kept_empty e) so_far.written;
       first_is = rw (kept_empty e) so_far.first_is;
-      wants_is = rw (kept_empty e) so_far.wants_is;
+      kinds_is = rw (kept_empty e) so_far.kinds_is;
     }
 
     sets_more : has_bytes u ≡ true
         → written_units stream (so_far.units ++ u ∷ [])
-        ≡ written_units stream so_far.units ++ next_units stream.coding (sets_of stream) wants u
+        ≡ written_units stream so_far.units ++ next_units stream.coding (sets_of stream) kinds u
     sets_more e =
-        rw (kept_one e, so_far.wants_is) (sets-snoc stream.coding (sets_of stream) u (filter has_bytes so_far.units))
+        rw (kept_one e, so_far.kinds_is) (sets-snoc stream.coding (sets_of stream) u 0 (filter has_bytes so_far.units))
 
     -- a unit that is written
     pub put : has_bytes u ≡ true → (after : List ℕ)
-        → Appends new after (byte_stream stream.coding is_first (next_units stream.coding (sets_of stream) wants u))
-        → IsTurned stream sample next old after false (wants_sets_after stream.coding wants u)
+        → Appends new after (byte_stream stream.coding is_first (next_units stream.coding (sets_of stream) kinds u))
+        → IsTurned stream sample next old after false (kinds_after stream.coding kinds u)
     put e after more = record {
       units = so_far.units ++ u ∷ [];
       held = held-snoc (length_size stream) so_far.units sample rest u next so_far.held read;
       written = rw (sets_more e) (stream-more stream.coding true (written_units stream so_far.units)
-          (next_units stream.coding (sets_of stream) wants u) old new after so_far.written
+          (next_units stream.coding (sets_of stream) kinds u) old new after so_far.written
           (rw (← so_far.first_is) more));
-      first_is = rw (sets_more e) (sym (none_with (written_units stream so_far.units) wants
-          (is_random_access stream.coding u) (sets_of stream) u));
-      wants_is = rw (kept_one e, so_far.wants_is) (sym (wants-snoc stream.coding (sets_of stream) u
+      first_is = rw (sets_more e) (sym (none_before (written_units stream so_far.units)
+          (sets_between stream.coding kinds (kinds_before stream.coding u) (sets_of stream)) u));
+      kinds_is = rw (kept_one e, so_far.kinds_is) (sym (kinds-snoc stream.coding (sets_of stream) u 0
           (filter has_bytes so_far.units)));
     }
 
 -- all units were read
-pub finished : (stream : AnnexB) (sample rest old new : List ℕ) (is_first wants : Bool)
-    → IsTurned stream sample rest old new is_first wants → rest ≡ []
+pub finished : (stream : AnnexB) (sample rest old new : List ℕ) (is_first : Bool) (kinds : ℕ)
+    → IsTurned stream sample rest old new is_first kinds → rest ≡ []
     → (bytes : List ℕ) × (IsStreamOf stream sample bytes) × (new ≡ old ++ bytes)
 unfolding stream_of
-finished stream sample rest old new is_first wants so_far e = (
+finished stream sample rest old new is_first kinds so_far e = (
   stream_of stream so_far.units,
   (so_far.units, rw e at so_far.held, refl),
   so_far.written.is,

@@ -1,7 +1,7 @@
 -- Samples of video as a byte stream: ISO/IEC 14496-15, 5.3.4.2 and 8.3.4.2 say how a sample holds its units, and
 -- Annex B of ISO/IEC 14496-10 and of 23008-2 how a byte stream does.
 use Rattle.std.specs.Prelude.{◌≡◌, ℕ, ◌<◌, ◌==◌, Bool, true, false, not, ◌&&◌, if◌then◌else◌, List, [], ◌∷◌, ◌++◌}
-use Rattle.std.specs.Prelude.{◌+◌, ◌%◌, ◌||◌, length, map, Ok, Err}
+use Rattle.std.specs.Prelude.{◌+◌, ◌%◌, nat_le, nat_lt, length, map, Ok, Err}
 use Rattle.std.specs.List.{filter}
 use Rattle.mp4_codec.specs.Bytes.{Reader, number_at, bytes_at}
 use Rattle.mp4_codec.specs.declared.error.Error.{Error}
@@ -9,7 +9,7 @@ use Rattle.mp4_codec.specs.Cause.{invalid_data, cause_of, ◌>>=◌}
 use Rattle.mp4_entry.specs.declared.avcc.NalUnit.{NalUnit}
 use Rattle.mp4_extract.specs.declared.coding.VideoCoding.{VideoCoding}
 use Rattle.mp4_extract.specs.declared.annex_b.AnnexB.{AnnexB}
-use Rattle.mp4_extract.specs.NalUnits.{is_parameter_set, is_random_access, needs_zero_byte}
+use Rattle.mp4_extract.specs.NalUnits.{kinds_before, kinds_below, kinds_with, needs_zero_byte}
 
 -- the next unit of a sample: its length, a number of n bytes, and as many bytes
 unfoldable pub unit_at : ℕ → Reader (List ℕ)
@@ -46,21 +46,39 @@ unfoldable pub byte_stream : VideoCoding → Bool → List (List ℕ) → List �
 byte_stream coding is_first [] = []
 byte_stream coding is_first (u ∷ us) = coded_unit coding is_first u ++ byte_stream coding false us
 
--- Units with these parameter sets before the first at which decoding can begin, unless a parameter set is before it.
-unfoldable pub with_sets : VideoCoding → List (List ℕ) → List (List ℕ) → List (List ℕ)
-with_sets coding sets [] = []
-with_sets coding sets (u ∷ us) =
-    if is_random_access coding u then sets ++ u ∷ us else
-    if is_parameter_set coding u then u ∷ us else
-    u ∷ with_sets coding sets us
+-- whether there is no unit
+abbrev pub is_none : List (List ℕ) → Bool
+is_none [] = true
+is_none (u ∷ us) = false
 
--- whether parameter sets still have to come before the next unit at which decoding can begin, when this one was written
-abbrev pub wants_sets_after : VideoCoding → Bool → List ℕ → Bool
-wants_sets_after coding wants unit = wants && not (is_random_access coding unit || is_parameter_set coding unit)
+-- a unit, or none
+abbrev pub units_if : Bool → List ℕ → List (List ℕ)
+units_if true unit = unit ∷ []
+units_if false unit = []
 
--- what is written for a unit: the parameter sets before it, where they are wanted and it is such a unit
-abbrev pub next_units : VideoCoding → List (List ℕ) → Bool → List ℕ → List (List ℕ)
-next_units coding sets wants unit = if wants && is_random_access coding unit then sets ++ unit ∷ [] else unit ∷ []
+-- a parameter set is of one of the kinds from a number on and before another
+abbrev pub is_between : VideoCoding → ℕ → ℕ → List ℕ → Bool
+is_between coding from end unit = nat_le from (kinds_below coding unit) && nat_lt (kinds_below coding unit) end
+
+-- the parameter sets of these kinds
+unfoldable pub sets_between : VideoCoding → ℕ → ℕ → List (List ℕ) → List (List ℕ)
+sets_between coding from end sets = filter (is_between coding from end) sets
+
+-- how many kinds of parameter sets are there after a unit, when so many were before it
+abbrev pub kinds_after : VideoCoding → ℕ → List ℕ → ℕ
+kinds_after coding kinds unit = if nat_lt kinds (kinds_with coding unit) then kinds_with coding unit else kinds
+
+-- what is written for a unit: before it the parameter sets that it needs of the kinds that aren't there
+abbrev pub next_units : VideoCoding → List (List ℕ) → ℕ → List ℕ → List (List ℕ)
+next_units coding sets kinds unit = sets_between coding kinds (kinds_before coding unit) sets ++ unit ∷ []
+
+-- Units with the parameter sets that a decoder lacks which begins with them, where so many kinds are there: before the
+-- first unit at which decoding can begin, those of each kind of which none is before it; and before a parameter set,
+-- those of each kind that it refers to, as a picture parameter set to one of sequences.
+unfoldable pub with_sets : VideoCoding → List (List ℕ) → ℕ → List (List ℕ) → List (List ℕ)
+with_sets coding sets kinds [] = []
+with_sets coding sets kinds (u ∷ us) =
+    sets_between coding kinds (kinds_before coding u) sets ++ u ∷ with_sets coding sets (kinds_after coding kinds u) us
 
 -- how many bytes the length before each unit has
 abbrev pub length_size : AnnexB → ℕ
@@ -77,7 +95,7 @@ sets_of stream = map (λ (u : NalUnit). u.bytes) stream.parameter_sets
 -- the byte stream of a sample with these units; those without a byte are left out
 unfoldable pub stream_of : AnnexB → List (List ℕ) → List ℕ
 stream_of stream units =
-    byte_stream stream.coding true (with_sets stream.coding (sets_of stream) (filter has_bytes units))
+    byte_stream stream.coding true (with_sets stream.coding (sets_of stream) 0 (filter has_bytes units))
 
 -- these bytes are the byte stream of a sample
 abbrev pub IsStreamOf : AnnexB → List ℕ → List ℕ → Type 0

@@ -1,20 +1,25 @@
 -- The samples of a track, one after the other.
-use Rattle.std.specs.Prelude.{◌≡◌, ◌⊎◌, ⊤, ℕ, zero, suc, ◌+◌, ◌^◌, ◌≤◌, Bool, true, false, IsTrue}
+use Rattle.std.specs.Prelude.{◌≡◌, ◌⊎◌, ⊤, ℕ, zero, suc, ◌+◌, ◌^◌, ◌≤◌, Bool, true, false, IsTrue, not}
+use Rattle.std.specs.Prelude.{◌==◌, ◌&&◌, ◌||◌, nat_le}
 use Rattle.std.specs.Prelude.{List, [], ◌++◌, Option, Some, None, Result, Ok, Err}
 use Rattle.std.specs.HashMap.{HashMap}
 use Rattle.std.specs.Io.KnownBytes.{Appends}
 use Rattle.mp4_codec.specs.Cause.{Cause, cause_of}
 use Rattle.mp4_codec.specs.declared.error.Error.{Error}
 use Rattle.mp4_codec.specs.declared.error.Error.TheVariants.{TrakNotFound}
+use Rattle.mp4_moof.specs.declared.mvex.MvexBox.{MvexBox}
 use Rattle.mp4_lookup.specs.declared.track.Mp4Track.{Mp4Track}
 use Rattle.mp4_samples.specs.Samples.{TimedSample}
 use Rattle.mp4_media.specs.MovieTracks.{at_id}
-use Rattle.mp4_media.specs.Reading.{sample_in}
+use Rattle.mp4_media.specs.Reading.{sample_count_in, sample_in}
+use Rattle.mp4_extract.specs.declared.descriptions.OtherSample.{OtherSample}
 use Rattle.mp4_extract.specs.declared.error.ExtractError.{ExtractError}
-use Rattle.mp4_extract.specs.declared.error.ExtractError.TheVariants.{OutOfMemory, Track, WrongFormat, Sample}
-use Rattle.mp4_extract.specs.declared.error.ExtractError.TheVariants.{Read, Write}
+use Rattle.mp4_extract.specs.declared.error.ExtractError.TheVariants.{OutOfMemory, Track, WrongFormat, NoSuchSample}
+use Rattle.mp4_extract.specs.declared.error.ExtractError.TheVariants.{OtherDescription, Sample, Read, Write}
 use Rattle.mp4_extract.specs.declared.form.SampleForm.{SampleForm}
 use Rattle.mp4_extract.specs.declared.format.SampleFormat.{SampleFormat}
+use Rattle.mp4_extract.specs.Descriptions.{other_for}
+use Rattle.mp4_extract.specs.Errors.{of_track}
 use Rattle.mp4_extract.specs.Forms.{IsFormOf, IsInForm, RefusesSample, RefusesTrack}
 
 -- the answer of a lookup of a sample
@@ -59,25 +64,33 @@ RefusesAnswer form answer e =
 -- for this error is a sample with number k, whose bytes were read, refused
 abbrev pub RefusesStored : SampleForm → List ℕ → ℕ → ExtractError → Type 0
 RefusesStored form sample k OutOfMemory = ⊤
-RefusesStored form sample k (Sample number e) = (number ≡ k) × (RefusesSample form sample e)
+RefusesStored form sample k (Sample number place e) = (number ≡ k) × (RefusesSample form sample e)
 RefusesStored form sample k (Write number e) = number ≡ k
 RefusesStored form sample k (Read number e) = ⊥
 RefusesStored form sample k (Track e) = ⊥
 RefusesStored form sample k (WrongFormat id format) = ⊥
+RefusesStored form sample k (NoSuchSample id number count) = ⊥
+RefusesStored form sample k (OtherDescription number description format) = ⊥
 
 -- for this error is the sample with number k refused
 abbrev pub RefusesNumber : SampleForm → Answer → ℕ → Bool → ExtractError → Type 0
 RefusesNumber form answer k can_refuse OutOfMemory = ⊤
-RefusesNumber form answer k can_refuse (Sample number e) = (number ≡ k) × (RefusesAnswer form answer e)
+RefusesNumber form answer k can_refuse (Sample number place e) = (number ≡ k) × (RefusesAnswer form answer e)
 RefusesNumber form answer k can_refuse (Read number e) = (number ≡ k) × (IsTrue can_refuse)
 RefusesNumber form answer k can_refuse (Write number e) = number ≡ k
 RefusesNumber form answer k can_refuse (Track e) = ⊥
 RefusesNumber form answer k can_refuse (WrongFormat id format) = ⊥
+RefusesNumber form answer k can_refuse (NoSuchSample id number count) = ⊥
+RefusesNumber form answer k can_refuse (OtherDescription number description format) = ⊥
 
 -- for this error is one of the samples from a number on refused
 abbrev pub RefusesOneFrom : SampleForm → (ℕ → Answer) → ℕ → Bool → ExtractError → Type 0
 RefusesOneFrom form samples from can_refuse e =
     (k : ℕ) × (from ≤ k) × (RefusesNumber form (samples k) k can_refuse e)
+
+-- whether number k is that of one of so many samples; where there are none, they would begin with number 1
+abbrev pub has_number : ℕ → ℕ → Bool
+has_number count k = nat_le 1 k && (nat_le k count || (count == 0 && k == 1))
 
 module _ {S : Type 0} where
   -- this is the form of the samples of the track with this id in a format
@@ -98,9 +111,40 @@ module _ {S : Type 0} where
       ((e ≡ Track (TrakNotFound id)) × (at_id tracks id ≡ None))
       ⊎ ((t : Mp4Track) × (at_id tracks id ≡ Some t) × (RefusesTrack t.trak format e))
 
+  -- the track with this id has no sample that the format refuses for its description
+  abbrev pub AreDescribed : SampleFormat → HashMap ℕ Mp4Track S → ℕ → Option MvexBox → Type 0
+  AreDescribed format tracks id mvex =
+      (t : Mp4Track) × (at_id tracks id ≡ Some t) × (other_for format t.trak t.trafs mvex ≡ None)
+
+  -- for this error is the track with this id refused: a sample, the first such, has another description than the first
+  abbrev pub RefusesDescription : SampleFormat → HashMap ℕ Mp4Track S → ℕ → Option MvexBox → ExtractError → Type 0
+  RefusesDescription format tracks id mvex e =
+      (t : Mp4Track) × (at_id tracks id ≡ Some t) × (o : OtherSample)
+      × (other_for format t.trak t.trafs mvex ≡ Some o) × (e ≡ OtherDescription o.number o.description format)
+
+  -- for this error are the samples of the track with this id not gone over from number k on: they are too many to be
+  -- counted, or none has that number
+  abbrev pub RefusesFirst : HashMap ℕ Mp4Track S → ℕ → ℕ → ExtractError → Type 0
+  RefusesFirst tracks id k e =
+      ((c : Error) × (e ≡ of_track c) × (sample_count_in tracks id ≡ Err (cause_of c)))
+      ⊎ ((count : ℕ) × (e ≡ NoSuchSample id k count) × (sample_count_in tracks id ≡ Ok count)
+      × (has_number count k ≡ false))
+
+  -- the samples of the track with this id can be gone over from number k on, of which there are some or none
+  abbrev pub BeginsAt : HashMap ℕ Mp4Track S → ℕ → ℕ → Bool → Type 0
+  BeginsAt tracks id k has_samples =
+      (count : ℕ) × (sample_count_in tracks id ≡ Ok count) × (has_number count k ≡ true)
+      × (has_samples ≡ not (count == 0))
+
+  -- the track with this id has no samples
+  abbrev pub HasNone : HashMap ℕ Mp4Track S → ℕ → Type 0
+  HasNone tracks id = sample_count_in tracks id ≡ Ok 0
+
   -- for this error is the track refused, or one of its samples from a number on
-  abbrev pub RefusesExtraction : SampleFormat → List ℕ → HashMap ℕ Mp4Track S → ℕ → ℕ → Bool → ExtractError → Type 0
-  RefusesExtraction format source tracks id from can_refuse e =
-      (RefusesTrackIn tracks id format e)
+  abbrev pub RefusesExtraction : SampleFormat → List ℕ → HashMap ℕ Mp4Track S → Option MvexBox → ℕ → ℕ → Bool
+      → ExtractError → Type 0
+  RefusesExtraction format source tracks mvex id from can_refuse e =
+      (RefusesTrackIn tracks id format e) ⊎ (RefusesDescription format tracks id mvex e)
+      ⊎ (RefusesFirst tracks id from e)
       ⊎ ((form : SampleForm) × (IsFormIn tracks id format form)
       × (RefusesOneFrom form (sample_in source tracks id) from can_refuse e))

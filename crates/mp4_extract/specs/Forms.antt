@@ -11,8 +11,8 @@ use Rattle.mp4_samples.specs.Tables.{tables_of}
 use Rattle.mp4_extract.specs.declared.adts.AdtsConfig.{AdtsConfig}
 use Rattle.mp4_extract.specs.declared.annex_b.AnnexB.{AnnexB}
 use Rattle.mp4_extract.specs.declared.error.ExtractError.{ExtractError}
-use Rattle.mp4_extract.specs.declared.error.ExtractError.TheVariants.{OutOfMemory, Track, WrongFormat, Sample}
-use Rattle.mp4_extract.specs.declared.error.ExtractError.TheVariants.{Read, Write}
+use Rattle.mp4_extract.specs.declared.error.ExtractError.TheVariants.{OutOfMemory, Track, WrongFormat, NoSuchSample}
+use Rattle.mp4_extract.specs.declared.error.ExtractError.TheVariants.{OtherDescription, Sample, Read, Write}
 use Rattle.mp4_extract.specs.declared.form.SampleForm.{SampleForm}
 use Rattle.mp4_extract.specs.declared.form.SampleForm.TheVariants.{AsStored, AnnexB as StreamForm, Adts as FrameForm}
 use Rattle.mp4_extract.specs.declared.format.SampleFormat.{SampleFormat}
@@ -63,7 +63,9 @@ abbrev pub RefusesTrack : TrakBox → SampleFormat → ExtractError → Type 0
 RefusesTrack trak format OutOfMemory = ⊤
 RefusesTrack trak format (Track e) = track_stream trak ≡ Err (cause_of e)
 RefusesTrack trak format (WrongFormat id refused) = (refused ≡ format) × HasNoForm trak format
-RefusesTrack trak format (Sample k e) = ⊥
+RefusesTrack trak format (NoSuchSample id k count) = ⊥
+RefusesTrack trak format (OtherDescription k description other) = ⊥
+RefusesTrack trak format (Sample k place e) = ⊥
 RefusesTrack trak format (Read k e) = ⊥
 RefusesTrack trak format (Write k e) = ⊥
 

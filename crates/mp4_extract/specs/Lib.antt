@@ -5,5 +5,7 @@ pub mod Adts
 pub mod Forms
 pub mod Errors
 pub mod Texts
+pub mod Edits
+pub mod Descriptions
 pub mod Extracting
 pub mod Subtitles

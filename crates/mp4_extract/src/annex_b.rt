@@ -1,16 +1,17 @@
 //! Samples of video as a byte stream (ISO/IEC 14496-10 and 23008-2, Annex B).
 
-ghost use Rattle.std.specs.Prelude.{◌≡◌, ◌⊎◌, ◌==◌, ◌&&◌, [], ◌∷◌, ◌++◌, ℕ, List, false, length, IfErr, OnOk};
+ghost use Rattle.std.specs.Prelude.{◌≡◌, ◌⊎◌, ◌&&◌, ◌++◌, ℕ, List, false, not, IfErr, IfOk, OnOk};
 ghost use Rattle.mp4_codec.specs.Bytes.{Appends, number_at};
 ghost use Rattle.mp4_codec.specs.Cause.{Reads};
 ghost use Rattle.mp4_codec.specs.declared.error.Error.TheVariants.{OutOfMemory};
 ghost use Rattle.mp4_extract.specs.ByteStream.{IsStreamOf, RefusesStream, byte_stream, coded_unit, length_size};
-ghost use Rattle.mp4_extract.specs.ByteStream.{next_units, sets_of, start_code, unit_at, wants_sets_after};
-ghost use Rattle.mp4_extract.specs.NalUnits.{is_random_access};
+ghost use Rattle.mp4_extract.specs.ByteStream.{is_between, is_none, kinds_after, next_units, sets_between, sets_of};
+ghost use Rattle.mp4_extract.specs.ByteStream.{start_code, unit_at, units_if};
 
 use crate::coding::VideoCoding;
-use mp4_codec::{Field, Fields, Items, Put, Result, put_bytes};
+use mp4_codec::{Error, Field, Fields, Items, Put, Result, put_bytes};
 use mp4_entry::NalUnit;
+use std::alloc::AllocError;
 
 /// How samples of video become a byte stream.
 #[derive(Debug, Drop)]
@@ -26,8 +27,9 @@ pub struct AnnexB {
 struct Progress {
     /// Whether no unit was written yet.
     is_first: bool,
-    /// Whether neither a parameter set nor a unit of random access was written yet.
-    wants_sets: bool,
+    /// How many kinds of parameter sets need not be added any more: those of video, of sequences and of pictures, 3 in
+    /// all.
+    kinds: u8,
 }
 
 /// Adds the start code of a unit.
@@ -99,65 +101,85 @@ impl AnnexB {
         put_bytes(out, unit)
     }
 
-    /// Adds the parameter sets.
-    fn put_parameter_sets(&self, is_first: bool, out: &mut Vec<u8>) -> Put
-        ensures { OnOk result (Appends out.old.items out.new.items
-            (byte_stream self.now.coding is_first (sets_of self.now))) }
+    /// Whether a parameter set is of one of the kinds from a number on and before another.
+    fn is_between(&self, from: u8, end: u8, unit: &[u8]) -> bool
+        ensures { result ≡ is_between self.now.coding from end unit.now }
+    {
+        let kind = self.coding.kinds_below(unit);
+        from <= kind && kind < end
+    }
+
+    /// Adds a unit where it is wanted. The answer is whether the unit after it is the first of its sample, where this
+    /// one may be.
+    fn put_if(
+        &self,
+        is_wanted: bool,
+        is_first: bool,
+        unit: &[u8],
+        out: &mut Vec<u8>,
+    ) -> std::result::Result<bool, AllocError>
+        ensures units { OnOk result (Appends out.old.items out.new.items
+            (byte_stream self.now.coding is_first (units_if is_wanted unit.now))) }
+        ensures first { IfOk result (λ first. first ≡ (is_first && not is_wanted)) }
+    {
+        if is_wanted {
+            self.put_unit(is_first, unit, out)?;
+            return Ok(false);
+        }
+        Ok(is_first)
+    }
+
+    /// Adds the parameter sets of the kinds from a number on and before another. The answer is whether the unit after
+    /// them is the first of its sample, where they would be.
+    fn put_sets(
+        &self,
+        is_first: bool,
+        from: u8,
+        end: u8,
+        out: &mut Vec<u8>,
+    ) -> std::result::Result<bool, AllocError>
+        ensures sets { OnOk result (Appends out.old.items out.new.items (byte_stream self.now.coding is_first
+            (sets_between self.now.coding from end (sets_of self.now)))) }
+        ensures first { IfOk result (λ first.
+            first ≡ (is_first && is_none (sets_between self.now.coding from end (sets_of self.now)))) }
     {
         let mut is_first = is_first;
         for set in self.parameter_sets.as_slice() {
-            self.put_unit(is_first, set.bytes.as_slice(), out)?;
-            is_first = false;
+            let unit = set.bytes.as_slice();
+            let is_wanted = self.is_between(from, end, unit);
+            is_first = self.put_if(is_wanted, is_first, unit, out)?;
         }
-        Ok(())
+        Ok(is_first)
     }
 
-    /// Adds the parameter sets and a unit.
-    fn put_with_sets(&self, is_first: bool, unit: &[u8], out: &mut Vec<u8>) -> Put
-        ensures { OnOk result (Appends out.old.items out.new.items
-            (byte_stream self.now.coding is_first (sets_of self.now ++ unit.now ∷ []))) }
-    {
-        self.put_parameter_sets(is_first, out)?;
-        self.put_unit(self.is_first_after_sets(is_first), unit, out)?;
-        Ok(())
-    }
-
-    /// Whether the unit after the parameter sets is the first of its sample, where they would be.
-    fn is_first_after_sets(&self, is_first: bool) -> bool
-        ensures { result ≡ (is_first && (length self.now.parameter_sets == 0)) }
-    {
-        is_first && self.parameter_sets.is_empty()
-    }
-
-    /// Whether the parameter sets belong before a unit, where they are wanted or not.
-    fn gets_sets(&self, wants_sets: bool, unit: &[u8]) -> bool
-        ensures { result ≡ (wants_sets && is_random_access self.now.coding unit.now) }
-    {
-        wants_sets && self.coding.is_random_access(unit)
-    }
-
-    /// Adds a unit, after the parameter sets where they belong before it.
+    /// Adds a unit, and before it the parameter sets that it needs of the kinds that aren't there.
     fn put_next(&self, progress: Progress, unit: &[u8], out: &mut Vec<u8>) -> Put
         ensures { OnOk result (Appends out.old.items out.new.items (byte_stream self.now.coding progress.is_first
-            (next_units self.now.coding (sets_of self.now) progress.wants_sets unit.now))) }
+            (next_units self.now.coding (sets_of self.now) progress.kinds unit.now))) }
     {
-        if self.gets_sets(progress.wants_sets, unit) {
-            self.put_with_sets(progress.is_first, unit, out)
-        } else {
+        let needed = self.coding.kinds_before(unit);
+        if needed <= progress.kinds {
             self.put_unit(progress.is_first, unit, out)?;
-            Ok(())
+            return Ok(());
         }
+        let is_first = self.put_sets(progress.is_first, progress.kinds, needed, out)?;
+        self.put_unit(is_first, unit, out)?;
+        Ok(())
     }
 
     /// How far a sample is written after a unit more.
     fn progress_after(&self, progress: Progress, unit: &[u8]) -> Progress
         ensures first { result.is_first ≡ false }
-        ensures sets { result.wants_sets ≡ wants_sets_after self.now.coding progress.wants_sets unit.now }
+        ensures kinds { result.kinds ≡ kinds_after self.now.coding progress.kinds unit.now }
     {
-        let is_decided = self.coding.is_random_access(unit) || self.coding.is_parameter_set(unit);
+        let kinds = self.coding.kinds_with(unit);
         Progress {
             is_first: false,
-            wants_sets: progress.wants_sets && !is_decided,
+            kinds: if progress.kinds < kinds {
+                kinds
+            } else {
+                progress.kinds
+            },
         }
     }
 
@@ -172,10 +194,12 @@ impl AnnexB {
         let mut fields = Fields::new(sample);
         let mut progress = Progress {
             is_first: true,
-            wants_sets: true,
+            kinds: 0,
         };
         while !fields.is_empty() {
-            let unit = self.next_unit(&mut fields)?;
+            let Ok(unit) = self.next_unit(&mut fields) else {
+                return Err(Error::InvalidData("the length of a unit passes its end"));
+            };
             if !unit.is_empty() {
                 self.put_next(progress, unit, out)?;
                 progress = self.progress_after(progress, unit);

@@ -1,13 +1,15 @@
 //! Samples of a track, written one after the other.
 
-ghost use Rattle.std.specs.Prelude.{◌≡◌, ◌<◌, ◌+◌, ◌≤◌, ℕ, List, IfErr, IfOk, IfSome, OnOk};
+ghost use Rattle.std.specs.Prelude.{◌≡◌, ◌⊎◌, ◌<◌, ◌+◌, ◌≤◌, ℕ, List, IfErr, IfOk, IfSome, OnOk};
 ghost use Rattle.std.specs.Io.KnownBytes.{Appends};
 ghost use Rattle.mp4_media.specs.Reading.{sample_in};
 ghost use Rattle.mp4_extract.specs.Extracting.{AreExtracted, AreWritten, IsFormIn, IsPastEnd, IsWritten};
 ghost use Rattle.mp4_extract.specs.Extracting.{RefusesExtraction, RefusesNumber, RefusesOneFrom, RefusesStored};
-ghost use Rattle.mp4_extract.specs.Extracting.{RefusesTrackIn};
+ghost use Rattle.mp4_extract.specs.Extracting.{AreDescribed, BeginsAt, HasNone, RefusesDescription, RefusesFirst};
+ghost use Rattle.mp4_extract.specs.Extracting.{RefusesTrackIn, has_number};
 ghost use Rattle.mp4_extract.specs.Forms.{IsInForm};
 
+use crate::descriptions::check_descriptions;
 use crate::error::ExtractError;
 use crate::form::SampleForm;
 use crate::format::SampleFormat;
@@ -41,11 +43,32 @@ impl Drop for SampleWriter {
     }
 }
 
+/// Whether a number is that of one of so many samples; where there are none, they would begin with number 1.
+fn has_number(count: u32, k: u32) -> bool
+    ensures { result ≡ has_number count k }
+{
+    1 <= k && (k <= count || (count == 0 && k == 1))
+}
+
+/// Where a sample of a track lies, where its tables say it.
+pub(crate) fn place_of<S: ByteSource + Drop>(
+    file: &Mp4File<S>,
+    track_id: u32,
+    k: u32,
+) -> Option<u64> {
+    let track = file.tracks().get(&track_id)?;
+    match track.locate(k) {
+        Ok(Some(place)) => Some(place.offset),
+        _ => None,
+    }
+}
+
 impl SampleWriter {
     /// A writer of the samples of the track with this id in this format.
     ///
     /// `Track(TrakNotFound)` where there is no such track, `WrongFormat` where it isn't coded as the format says,
-    /// `Track(InvalidData)` where the parameter sets of HEVC pass the end of their box.
+    /// `Track(InvalidData)` where the parameter sets of HEVC pass the end of their box, then `OtherDescription` where
+    /// the format takes what it needs of the first sample description, and a sample has another.
     pub fn new<S: ByteSource + Drop>(
         alloc: Global,
         file: &Mp4File<S>,
@@ -54,18 +77,45 @@ impl SampleWriter {
     ) -> Result<Self, ExtractError>
         ensures track_id { IfOk result (λ w. w.track_id ≡ track_id) }
         ensures form { IfOk result (λ w. IsFormIn file.now.movie.tracks track_id format w.form) }
-        ensures refused { IfErr result (λ e. RefusesTrackIn file.now.movie.tracks track_id format e) }
+        ensures described { OnOk result (AreDescribed format file.now.movie.tracks track_id file.now.movie.moov.mvex) }
+        ensures refused { IfErr result (λ e. (RefusesTrackIn file.now.movie.tracks track_id format e)
+            ⊎ (RefusesDescription format file.now.movie.tracks track_id file.now.movie.moov.mvex e)) }
     {
         let Some(track) = file.tracks().get(&track_id) else {
             return Err(ExtractError::Track(Error::TrakNotFound(track_id)));
         };
         let form = SampleForm::new(alloc, track, format)?;
+        check_descriptions(format, &track.trak, track.trafs.as_slice(), &file.moov.mvex)?;
         Ok(SampleWriter {
             track_id,
             form,
             stored: Vec::new(alloc),
             turned: Vec::new(alloc),
         })
+    }
+
+    /// Whether the track has samples, which can be gone over from number `from` on.
+    ///
+    /// `NoSuchSample` where none has this number, as number 0 and those past the last; but where there are no samples,
+    /// they would begin with number 1. `Track(TooLarge(Value))` where they are more than 32 bits count.
+    pub fn begins_at<S: ByteSource + Drop>(
+        &self,
+        file: &Mp4File<S>,
+        from: u32,
+    ) -> Result<bool, ExtractError>
+        ensures begins { IfOk result (BeginsAt file.now.movie.tracks self.now.track_id from) }
+        ensures refused { IfErr result (RefusesFirst file.now.movie.tracks self.now.track_id from) }
+    {
+        match file.sample_count(self.track_id) {
+            Ok(count) => {
+                if has_number(count, from) {
+                    Ok(count != 0)
+                } else {
+                    Err(ExtractError::NoSuchSample(self.track_id, from, count))
+                }
+            }
+            Err(error) => Err(ExtractError::of_track(error)),
+        }
     }
 
     /// Writes sample `k` of the track; samples are numbered from 1. It answers whether there is such a sample: where
@@ -95,16 +145,19 @@ impl SampleWriter {
     {
         match file.read_sample_into(self.track_id, k, &mut self.stored) {
             Ok(None) => Ok(false),
-            Ok(Some(_)) => {
-                self.put_stored(k, out)?;
+            Ok(Some(place)) => {
+                self.put_stored(k, place.offset, out)?;
                 Ok(true)
             }
-            Err(error) => Err(ExtractError::of_read(k, error)),
+            Err(error) => {
+                let place = place_of(&*file, self.track_id, k);
+                Err(ExtractError::of_read(k, place, error))
+            }
         }
     }
 
-    /// Writes the sample that was read, whose number is `k`.
-    fn put_stored<W: Write>(&mut self, k: u32, out: &mut W) -> Result<(), ExtractError>
+    /// Writes the sample that was read, whose number is `k`, and which lies at this place.
+    fn put_stored<W: Write>(&mut self, k: u32, place: u64, out: &mut W) -> Result<(), ExtractError>
         ensures written { OnOk result ((bytes : List ℕ) × (IsInForm self.old.form self.old.stored.items bytes)
             × (Appends (W.contents out.old) (W.contents out.new) bytes)) }
         ensures refused { IfErr result (λ e. RefusesStored self.old.form self.old.stored.items k e) }
@@ -116,7 +169,7 @@ impl SampleWriter {
                 Ok(()) => Ok(()),
                 Err(refused) => Err(ExtractError::Write(k, refused)),
             },
-            Err(error) => Err(ExtractError::of_sample(k, error)),
+            Err(error) => Err(ExtractError::of_sample(k, Some(place), error)),
         }
     }
 
@@ -160,10 +213,11 @@ impl SampleWriter {
 }
 
 /// Writes the samples of the track with this id from number `from` on, one after the other: `count` of them, or as many
-/// as there are, so that a `count` of 2^32 - 1 is all. Samples are numbered from 1. It answers how many were written.
+/// as there are, so that a `count` of 2^32 - 1 is all. Samples are numbered from 1. It answers how many were written:
+/// none of a track without samples.
 ///
-/// The errors are those of [`SampleWriter::new`], before which nothing is written, and of
-/// [`SampleWriter::write_samples`].
+/// The errors are those of [`SampleWriter::new`] and then of [`SampleWriter::begins_at`], before which nothing is
+/// written, and of [`SampleWriter::write_samples`].
 pub fn extract<S: ByteSource + Drop, W: Write>(
     alloc: Global,
     file: &mut Mp4File<S>,
@@ -176,15 +230,21 @@ pub fn extract<S: ByteSource + Drop, W: Write>(
     ensures count { IfOk result (λ n. n ≤ count) }
     ensures written { IfOk result (λ n. IfSome (S.contents file.old.source) (λ source.
         AreExtracted format source file.old.movie.tracks track_id from (W.contents out.old) (W.contents out.new) n)) }
-    ensures end { IfOk result (λ n. n < count → IfSome (S.contents file.old.source) (λ source.
-        IsPastEnd (sample_in source file.old.movie.tracks track_id) (from + n))) }
+    ensures end { IfOk result (λ n. n < count → (HasNone file.old.movie.tracks track_id)
+        ⊎ (IfSome (S.contents file.old.source) (λ source.
+        IsPastEnd (sample_in source file.old.movie.tracks track_id) (from + n)))) }
     ensures refused { IfErr result (λ e. IfSome (S.contents file.old.source) (λ source.
-        RefusesExtraction format source file.old.movie.tracks track_id from (S.can_refuse file.old.source) e)) }
+        RefusesExtraction format source file.old.movie.tracks file.old.movie.moov.mvex track_id from
+        (S.can_refuse file.old.source) e)) }
     ensures movie { file.new.movie ≡ file.old.movie }
     ensures contents { S.contents file.new.source ≡ S.contents file.old.source }
     ensures can_refuse { S.can_refuse file.new.source ≡ S.can_refuse file.old.source }
 {
     let mut writer = SampleWriter::new(alloc, file, track_id, format)?;
+    let has_samples = writer.begins_at(&*file, from)?;
+    if !has_samples {
+        return Ok(0);
+    }
     let written = writer.write_samples(file, from, count, out)?;
     Ok(written)
 }

@@ -18,8 +18,10 @@ fn text_bytes(sample: &[u8]) -> Result<&[u8]>
 {
     let mut fields = Fields::new(sample);
     let length = fields.u16()?;
-    let bytes = fields.bytes(usize::from(length))?;
-    Ok(bytes)
+    match fields.bytes(usize::from(length)) {
+        Ok(bytes) => Ok(bytes),
+        Err(_) => Err(Error::InvalidData("the text passes its end")),
+    }
 }
 
 /// Whether a text begins with the byte order mark of UTF-16, the high byte first.
@@ -48,11 +50,11 @@ fn utf16_text(alloc: Global, bytes: &[u8]) -> Result<String>
     let mut fields = Fields::new(bytes);
     let units = read_units(alloc, &mut fields, bytes.len() / 2)?;
     if !fields.is_empty() {
-        return Err(Error::InvalidData("a text in UTF-16 of an odd length"));
+        return Err(Error::InvalidData("the text in UTF-16 has an odd length"));
     }
     match String::from_utf16(alloc, units.as_slice())? {
         Ok(text) => Ok(text),
-        Err(_) => Err(Error::InvalidData("a text in UTF-16")),
+        Err(_) => Err(Error::InvalidData("the text isn't UTF-16")),
     }
 }
 
@@ -65,7 +67,7 @@ fn utf8_text(alloc: Global, bytes: &[u8]) -> Result<String>
             let owned = String::from_str(alloc, text)?;
             Ok(owned)
         }
-        Err(_) => Err(Error::InvalidData("a text in UTF-8")),
+        Err(_) => Err(Error::InvalidData("the text isn't UTF-8")),
     }
 }
 

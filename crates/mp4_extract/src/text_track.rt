@@ -1,11 +1,13 @@
 //! The subtitles of a track of text.
 
-ghost use Rattle.std.specs.Prelude.{◌≡◌, [], ℕ, IfOk, IfSome, OnOk};
-ghost use Rattle.mp4_media.specs.Reading.{sample_in, sample_there};
-ghost use Rattle.mp4_extract.specs.Subtitles.{AreAllSubtitles, IsSubtitleAt, IsSubtitleOf, IsTimescaleOf};
-ghost use Rattle.mp4_extract.specs.Subtitles.{and_subtitle};
+ghost use Rattle.std.specs.Prelude.{◌≡◌, ◌⊎◌, ◌+◌, ◌≤◌, Ok, Some, None, IfErr, IfNone, IfOk, IfSome};
+ghost use Rattle.mp4_media.specs.Reading.{sample_count_in, sample_in, sample_there};
+ghost use Rattle.mp4_extract.specs.Subtitles.{IsShiftOf, IsSubtitleAt, IsSubtitleOf, IsTimescaleOf, RefusesSubtitle};
+ghost use Rattle.mp4_extract.specs.Subtitles.{has_time_left};
 
+use crate::edits::{SubtitleTimes, TextShift, shift_of};
 use crate::error::ExtractError;
+use crate::samples::place_of;
 use crate::text::text_of;
 use crate::times::milliseconds;
 use mp4_media::{BoxType, ByteSource, Error, Mp4File, Result, SamplePlace};
@@ -20,26 +22,40 @@ pub struct Subtitle {
     pub from: u64,
     /// When it ends to be shown, in milliseconds.
     pub to: u64,
+    /// Whether it is shown at all: it has a text, and the edits of its track don't leave it out.
+    pub is_shown: bool,
     pub text: String,
 }
 
-/// The subtitle of a sample.
+/// Whether a part of a sample is left that begins so many ticks before what is shown of its track.
+fn has_time_left(early: u64, duration: u32) -> bool
+    ensures { result ≡ has_time_left early duration }
+{
+    early == 0 || early < u64::from(duration)
+}
+
+/// The subtitle of a sample, whose times are shifted so.
 fn subtitle_of(
     alloc: Global,
     number: u32,
     place: &SamplePlace,
     timescale: u32,
+    shift: TextShift,
     sample: &[u8],
 ) -> Result<Subtitle>
-    ensures { IfOk result (λ t. IsSubtitleOf timescale number (sample_there sample.now place.now) t) }
+    ensures { IfOk result (λ t. IsSubtitleOf shift timescale number (sample_there sample.now place.now) t) }
 {
-    let from = milliseconds(place.start_time, timescale)?;
-    let lasts = milliseconds(u64::from(place.duration), timescale)?;
+    let early = shift.skipped.saturating_sub(place.start_time);
+    let start = milliseconds(place.start_time.saturating_sub(shift.skipped), timescale)?;
+    let lasts = milliseconds(u64::from(place.duration).saturating_sub(early), timescale)?;
     let text = text_of(alloc, sample)?;
+    let from = shift.delay.saturating_add(start);
+    let is_shown = !text.is_empty() && has_time_left(early, place.duration);
     Ok(Subtitle {
         number,
         from,
         to: from.saturating_add(lasts),
+        is_shown,
         text,
     })
 }
@@ -57,108 +73,178 @@ fn text_timescale<S: ByteSource + Drop>(file: &Mp4File<S>, track_id: u32) -> Res
     Ok(track.timescale())
 }
 
-/// The subtitle of the sample with this number, read through a buffer; none where there is no such sample.
-fn read_subtitle<S: ByteSource + Drop>(
-    alloc: Global,
-    file: &mut Mp4File<S>,
+/// How the times of a track are shifted.
+fn text_shift<S: ByteSource + Drop>(
+    file: &Mp4File<S>,
     track_id: u32,
-    number: u32,
-    timescale: u32,
-    buffer: &mut Vec<u8>,
-) -> std::result::Result<Option<Subtitle>, ExtractError>
-    ensures subtitle { IfOk result (λ t. IfSome (S.contents file.old.source) (λ source.
-        IsSubtitleAt timescale number (sample_in source file.old.movie.tracks track_id number) t)) }
-    ensures movie { file.new.movie ≡ file.old.movie }
-    ensures contents { S.contents file.new.source ≡ S.contents file.old.source }
+    times: SubtitleTimes,
+) -> Result<TextShift>
+    ensures { IfOk result (λ shift. IsShiftOf times file.now.movie.tracks track_id file.now.movie.moov shift) }
 {
-    match file.read_sample_into(track_id, number, buffer) {
-        Ok(None) => Ok(None),
-        Ok(Some(place)) => {
-            match subtitle_of(alloc, number, &place, timescale, buffer.as_slice()) {
-                Ok(subtitle) => Ok(Some(subtitle)),
-                Err(error) => Err(ExtractError::of_sample(number, error)),
+    let Some(track) = file.tracks().get(&track_id) else {
+        return Err(Error::TrakNotFound(track_id));
+    };
+    let shift = shift_of(times, &track.trak, file.timescale())?;
+    Ok(shift)
+}
+
+/// The subtitles of a track of text, read one after the other: the memory of one sample and of one text.
+#[derive(Debug)]
+pub struct SubtitleReader {
+    track_id: u32,
+    /// Ticks in a second of the track.
+    timescale: u32,
+    shift: TextShift,
+    /// How many samples were read.
+    read: u32,
+    /// How many samples there are.
+    count: u32,
+    /// The sample as it lies in the file.
+    stored: Vec<u8>,
+}
+
+/// Taken apart here, and not at each end of each function that owns one.
+impl Drop for SubtitleReader {
+    fn drop(self) {
+        let SubtitleReader {
+            track_id: _,
+            timescale: _,
+            shift: _,
+            read: _,
+            count: _,
+            stored,
+        } = self;
+        drop(stored);
+    }
+}
+
+/// A reader before the first sample of a track.
+fn reader_of<S: ByteSource + Drop>(
+    alloc: Global,
+    file: &Mp4File<S>,
+    track_id: u32,
+    times: SubtitleTimes,
+) -> Result<SubtitleReader>
+    ensures track_id { IfOk result (λ r. r.track_id ≡ track_id) }
+    ensures timescale { IfOk result (λ r. IsTimescaleOf file.now.movie.tracks track_id r.timescale) }
+    ensures shift { IfOk result (λ r. IsShiftOf times file.now.movie.tracks track_id file.now.movie.moov r.shift) }
+    ensures read { IfOk result (λ r. r.read ≡ 0) }
+    ensures count { IfOk result (λ r. sample_count_in file.now.movie.tracks track_id ≡ Ok r.count) }
+{
+    let timescale = text_timescale(file, track_id)?;
+    let shift = text_shift(file, track_id, times)?;
+    let count = file.sample_count(track_id)?;
+    Ok(SubtitleReader {
+        track_id,
+        timescale,
+        shift,
+        read: 0,
+        count,
+        stored: Vec::new(alloc),
+    })
+}
+
+impl SubtitleReader {
+    /// A reader of the subtitles of the track of text with this id, with these times.
+    ///
+    /// `Track` of `TrakNotFound` where there is no such track, of `BoxInStblNotFound` where it isn't coded as `tx3g`,
+    /// of `ZeroTimescale` where times are shifted and the movie has 0 ticks in a second, and of `TooLarge(Value)`
+    /// where they are shifted by more than 64 bits of milliseconds, or the samples are more than 32 bits count.
+    pub fn new<S: ByteSource + Drop>(
+        alloc: Global,
+        file: &Mp4File<S>,
+        track_id: u32,
+        times: SubtitleTimes,
+    ) -> std::result::Result<Self, ExtractError>
+        ensures track_id { IfOk result (λ r. r.track_id ≡ track_id) }
+        ensures timescale { IfOk result (λ r. IsTimescaleOf file.now.movie.tracks track_id r.timescale) }
+        ensures shift { IfOk result (λ r. IsShiftOf times file.now.movie.tracks track_id file.now.movie.moov r.shift) }
+        ensures read { IfOk result (λ r. r.read ≡ 0) }
+        ensures count { IfOk result (λ r. sample_count_in file.now.movie.tracks track_id ≡ Ok r.count) }
+    {
+        match reader_of(alloc, file, track_id, times) {
+            Ok(reader) => Ok(reader),
+            Err(error) => Err(ExtractError::of_track(error)),
+        }
+    }
+
+    /// The subtitle of the sample with this number; none where there is no such sample.
+    fn subtitle_at<S: ByteSource + Drop>(
+        &mut self,
+        file: &mut Mp4File<S>,
+        number: u32,
+    ) -> std::result::Result<Option<Subtitle>, ExtractError>
+        ensures subtitle { IfOk result (λ t. IfSome (S.contents file.old.source) (λ source.
+            IsSubtitleAt self.old.shift self.old.timescale number
+            (sample_in source file.old.movie.tracks self.old.track_id number) t)) }
+        ensures refused { IfErr result (λ e. IfSome (S.contents file.old.source) (λ source.
+            RefusesSubtitle number (sample_in source file.old.movie.tracks self.old.track_id number)
+            (S.can_refuse file.old.source) e)) }
+        ensures track_id { self.new.track_id ≡ self.old.track_id }
+        ensures timescale { self.new.timescale ≡ self.old.timescale }
+        ensures shift { self.new.shift ≡ self.old.shift }
+        ensures read { self.new.read ≡ self.old.read }
+        ensures count { self.new.count ≡ self.old.count }
+        ensures movie { file.new.movie ≡ file.old.movie }
+        ensures contents { S.contents file.new.source ≡ S.contents file.old.source }
+        ensures can_refuse { S.can_refuse file.new.source ≡ S.can_refuse file.old.source }
+    {
+        match file.read_sample_into(self.track_id, number, &mut self.stored) {
+            Ok(None) => Ok(None),
+            Ok(Some(place)) => {
+                let alloc = *self.stored.allocator();
+                let sample = self.stored.as_slice();
+                match subtitle_of(alloc, number, &place, self.timescale, self.shift, sample) {
+                    Ok(subtitle) => Ok(Some(subtitle)),
+                    Err(error) => Err(ExtractError::of_sample(number, Some(place.offset), error)),
+                }
+            }
+            Err(error) => {
+                let place = place_of(&*file, self.track_id, number);
+                Err(ExtractError::of_read(number, place, error))
             }
         }
-        Err(error) => Err(ExtractError::of_read(number, error)),
     }
-}
 
-/// Adds a subtitle to a list, unless it has no text.
-fn add_subtitle(
-    subtitle: Subtitle,
-    list: &mut Vec<Subtitle>,
-) -> std::result::Result<(), ExtractError>
-    ensures { OnOk result (list.new.items ≡ and_subtitle list.old.items subtitle) }
-{
-    if !subtitle.text.is_empty() {
-        list.push(subtitle)?;
-    }
-    Ok(())
-}
-
-/// Adds the subtitles of a track with so many ticks in a second to a list of none; samples are read through a buffer.
-fn add_subtitles<S: ByteSource + Drop>(
-    alloc: Global,
-    file: &mut Mp4File<S>,
-    track_id: u32,
-    timescale: u32,
-    buffer: &mut Vec<u8>,
-    list: &mut Vec<Subtitle>,
-) -> std::result::Result<(), ExtractError>
-    requires { list.old.items ≡ [] }
-    ensures subtitles { OnOk result (IfSome (S.contents file.old.source) (λ source.
-        AreAllSubtitles timescale (sample_in source file.old.movie.tracks track_id) list.new.items)) }
-    ensures movie { file.new.movie ≡ file.old.movie }
-    ensures contents { S.contents file.new.source ≡ S.contents file.old.source }
-{
-    for before in 0..u32::MAX {
-        let found = read_subtitle(alloc, file, track_id, before + 1, timescale, buffer)?;
-        match found {
-            Some(subtitle) => add_subtitle(subtitle, list)?,
-            None => return Ok(()),
+    /// The subtitle of the next sample, or why it has none; nothing after the last sample. After an error it goes on
+    /// with the sample after that one.
+    ///
+    /// A subtitle is shown from the start of its sample, and for as long as that lasts, each in whole milliseconds,
+    /// rounded to the nearest. What the first edit leaves out of the media's start isn't shown, and what is shown
+    /// begins later by the time for which it is empty (ISO/IEC 14496-12, 8.6.6).
+    ///
+    /// `Sample` where the file's tables refuse the sample, where it doesn't lie whole in the file, where its text
+    /// passes its end or isn't encoded as it should be; `Read` where the source refuses.
+    pub fn next<S: ByteSource + Drop>(
+        &mut self,
+        file: &mut Mp4File<S>,
+    ) -> Option<std::result::Result<Subtitle, ExtractError>>
+        ensures subtitle { IfSome result (λ answer. IfOk answer (λ t. IfSome (S.contents file.old.source) (λ source.
+            IsSubtitleAt self.old.shift self.old.timescale (self.old.read + 1)
+            (sample_in source file.old.movie.tracks self.old.track_id (self.old.read + 1)) (Some t)))) }
+        ensures refused { IfSome result (λ answer. IfErr answer (λ e. IfSome (S.contents file.old.source) (λ source.
+            RefusesSubtitle (self.old.read + 1)
+            (sample_in source file.old.movie.tracks self.old.track_id (self.old.read + 1))
+            (S.can_refuse file.old.source) e))) }
+        ensures read { IfSome result (λ _. self.new.read ≡ self.old.read + 1) }
+        ensures end { IfNone result ((self.old.count ≤ self.old.read) ⊎ (IfSome (S.contents file.old.source)
+            (λ source. sample_in source file.old.movie.tracks self.old.track_id (self.old.read + 1) ≡ Ok None))) }
+        ensures track_id { self.new.track_id ≡ self.old.track_id }
+        ensures timescale { self.new.timescale ≡ self.old.timescale }
+        ensures shift { self.new.shift ≡ self.old.shift }
+        ensures count { self.new.count ≡ self.old.count }
+        ensures movie { file.new.movie ≡ file.old.movie }
+        ensures contents { S.contents file.new.source ≡ S.contents file.old.source }
+        ensures can_refuse { S.can_refuse file.new.source ≡ S.can_refuse file.old.source }
+    {
+        if self.read >= self.count {
+            return None;
         }
-    }
-    Ok(())
-}
-
-/// The subtitles of a track with so many ticks in a second.
-fn read_subtitles<S: ByteSource + Drop>(
-    alloc: Global,
-    file: &mut Mp4File<S>,
-    track_id: u32,
-    timescale: u32,
-) -> std::result::Result<Vec<Subtitle>, ExtractError>
-    ensures subtitles { IfOk result (λ list. IfSome (S.contents file.old.source) (λ source.
-        AreAllSubtitles timescale (sample_in source file.old.movie.tracks track_id) list.items)) }
-    ensures movie { file.new.movie ≡ file.old.movie }
-    ensures contents { S.contents file.new.source ≡ S.contents file.old.source }
-{
-    let mut buffer = Vec::new(alloc);
-    let mut list = Vec::new(alloc);
-    add_subtitles(alloc, file, track_id, timescale, &mut buffer, &mut list)?;
-    Ok(list)
-}
-
-/// The subtitles of the track of text with this id, in the order of their samples. A sample without text is a gap, and
-/// no subtitle. Each is shown from the start of its sample, and for as long as that lasts, each in whole milliseconds,
-/// rounded to the nearest.
-///
-/// `Track` of `TrakNotFound` where there is no such track, and of `BoxInStblNotFound` where it isn't coded as `tx3g`.
-/// `Sample` where the file's tables refuse a sample, where it doesn't lie whole in the file, where a text passes its
-/// end or isn't encoded as it should be; `Read` where the source refuses.
-pub fn subtitles<S: ByteSource + Drop>(
-    alloc: Global,
-    file: &mut Mp4File<S>,
-    track_id: u32,
-) -> std::result::Result<Vec<Subtitle>, ExtractError>
-    ensures subtitles { IfOk result (λ list. IfSome (S.contents file.old.source) (λ source.
-        (timescale : ℕ) × (IsTimescaleOf file.old.movie.tracks track_id timescale)
-        × (AreAllSubtitles timescale (sample_in source file.old.movie.tracks track_id) list.items))) }
-    ensures movie { file.new.movie ≡ file.old.movie }
-    ensures contents { S.contents file.new.source ≡ S.contents file.old.source }
-{
-    match text_timescale(file, track_id) {
-        Ok(timescale) => read_subtitles(alloc, file, track_id, timescale),
-        Err(error) => Err(ExtractError::of_track(error)),
+        self.read += 1;
+        match self.subtitle_at(file, self.read) {
+            Ok(Some(subtitle)) => Some(Ok(subtitle)),
+            Ok(None) => None,
+            Err(error) => Some(Err(error)),
+        }
     }
 }

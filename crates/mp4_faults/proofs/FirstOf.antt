@@ -48,11 +48,11 @@ known-is : (traks : List TrakBox) (id : ℕ) → known_in traks id ≡ is_some (
 known-is traks id = any-is-last (λ (t : TrakBox). t.tkhd.track_id == id) traks
 
 module _ (k l : ℕ → Bool) (same : (id : ℕ) → k id ≡ l id) where
-  same-unknown : (trafs : List TrafBox) → all_refusal (unknown_id k) trafs ≡ all_refusal (unknown_id l) trafs
+  pub same-unknown : (trafs : List TrafBox) → all_refusal (unknown_id k) trafs ≡ all_refusal (unknown_id l) trafs
   same-unknown [] = refl
   same-unknown (t ∷ ts) = rw (same t.tfhd.track_id, same-unknown ts) refl
 
-  same-unknowns : (moofs : List MoofBox) → unknown_ids k moofs ≡ unknown_ids l moofs
+  pub same-unknowns : (moofs : List MoofBox) → unknown_ids k moofs ≡ unknown_ids l moofs
   same-unknowns [] = refl
   same-unknowns (m ∷ ms) = rw (same-unknown m.trafs, same-unknowns ms) refl
 

@@ -118,7 +118,7 @@ module _ (size : ℕ) (bytes : List ℕ) (start end : ℕ) (boxes : List NamedBo
 
   at-last : (wrong : IdFault) (id : IdPlace) → TellsIds m seen.moofs (Some wrong) → IsPlaceOf boxes wrong id
       → (error : Error) → cause_of error ≡ cause_of_id wrong → (f : FaultPlace)
-      → IsWrongId bytes id f × (f.error ≡ error) → IsFaultOfFile bytes boxes end f
+      → IsWrongId bytes id f × (f.error ≡ error) → IsFaultOfFile size bytes boxes end f
   at-last wrong id tells place error cause f says =
       wrong_id t (sym is.ftyp ∙ has_ftyp) m one-moov
       (ap (id_fault m) (sym is.moofs) ∙ tells.0 ∙ ap Some (sym cause ∙ ap cause_of (sym says.1))) wrong
@@ -140,7 +140,7 @@ module _ (size : ℕ) (bytes : List ℕ) (start end : ℕ) (boxes : List NamedBo
         (ap (λ (x : IdPlace). x.number) e) (ap (λ (x : IdPlace). x.header) e)
 
     pub track-fault : (f : FaultPlace) (error : Error) → cause_of error ≡ invalid_data
-        → IsWrongId bytes id f × (f.error ≡ error) → IsFaultOfFile bytes boxes end f
+        → IsWrongId bytes id f × (f.error ≡ error) → IsFaultOfFile size bytes boxes end f
     track-fault f error cause says = at-last (Track i) id tells (
       track.0,
       track.1,
@@ -167,7 +167,7 @@ module _ (size : ℕ) (bytes : List ℕ) (start end : ℕ) (boxes : List NamedBo
         (ap (λ (x : IdPlace). x.number) e) (ap (λ (x : IdPlace). x.header) e)
 
     pub traf-fault : (f : FaultPlace) (error : Error) → cause_of error ≡ trak_not_found unknown
-        → IsWrongId bytes id f × (f.error ≡ error) → IsFaultOfFile bytes boxes end f
+        → IsWrongId bytes id f × (f.error ≡ error) → IsFaultOfFile size bytes boxes end f
     traf-fault f error cause says =
         at-last (Fragment i j unknown) id tells
         (piece.0, piece.1, e ∙ ap (λ (p : ℕ). traf-id i p j) traf-place) error cause f says

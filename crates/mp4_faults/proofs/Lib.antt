@@ -8,4 +8,6 @@ pub mod Owners
 pub mod Searching
 pub mod FirstOf
 pub mod Places
+pub mod KnownIds
 pub mod IdPlaces
+pub mod Lacking

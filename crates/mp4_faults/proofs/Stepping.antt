@@ -14,7 +14,6 @@ use Rattle.mp4_codec.specs.FramingLaws.{why_no_head}
 use Rattle.mp4_media.specs.FileBoxes.{BoxContent, Skipped, meaning_of}
 use Rattle.mp4_media.specs.FileGrammar.{between, Begins, read, skipped, past_the_bytes, meaningless, past_64_bits}
 use Rattle.mp4_media.specs.FileGrammar.{nothing, larger, IsFault, rest, no_header}
-use Rattle.mp4_media.specs.FileGrammar.{EndsFile, open_end}
 use Rattle.mp4_faults.specs.declared.fault_place.FaultPlace.{FaultPlace}
 use Rattle.mp4_faults.specs.declared.top_level.Payload.{Payload}
 use Rattle.mp4_faults.specs.declared.top_level.SeenBoxes.{SeenBoxes}
@@ -24,7 +23,7 @@ use Rattle.mp4_faults.specs.Inner.{InnerBox, end_of}
 use Rattle.mp4_faults.specs.Innermost.{IsInnermost, step_after}
 use Rattle.mp4_faults.specs.TopLevel.{IsTopBox, IsNamedBox, IsFaultAt, IsInside, RefusesContent, Means, IsRead, IsBegun}
 use Rattle.mp4_faults.specs.TopLevel.{IsIn, outermost, refused, no_room, no_box, GivesNext, TellsNext, SaysNext}
-use Rattle.mp4_faults.specs.TopLevel.{TellsInside}
+use Rattle.mp4_faults.specs.TopLevel.{TellsInside, IsOpenBox}
 use Rattle.mp4_faults.specs.TopLevel.{SaysWhose, IsUnread}
 use Rattle.mp4_source.specs.Answers.{RefusesRead}
 use Rattle.mp4_source.specs.declared.file_error.FileError.{FileError}
@@ -155,10 +154,14 @@ module _ (size : ℕ) (bytes : List ℕ) (place : ℕ) where
   }
 
   pub ends-open : (h : BoxHeader) (from : ℕ) → place + 8 ≤ size → header_at (here bytes place) ≡ Ok (h, here bytes from)
-      → h.size ≡ 0 → EndsFile size bytes place
-  ends-open h from room e zero =
-      open_end room h.name from
-      (e ∙ ap (λ (n : ℕ). Ok (record { name = h.name; size = n }, here bytes from)) zero)
+      → h.size ≡ 0 → IsOpenBox size bytes place h.name
+  ends-open h from room e zero = record {
+    room = room;
+    said = h.name;
+    from = from;
+    head = e ∙ ap (λ (n : ℕ). Ok (record { name = h.name; size = n }, here bytes from)) zero;
+    named = refl;
+  }
 
 -- what a refused read says of the answer that it is of
 pub unread-of : {Y : Type 0} (can_refuse : Bool) (refusal u : FileError) (answer : Result Y Cause)

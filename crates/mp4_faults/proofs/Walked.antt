@@ -118,11 +118,12 @@ module _ (size : ℕ) (bytes : List ℕ) (start : ℕ) where
       }))
 
   at-end : (boxes : List NamedBox) (end : ℕ) → AreNamedBoxes size bytes start boxes end → EndsFile size bytes end
-      → (f : FaultPlace) → IsFaultOfFile bytes boxes end f → IsFaultyFile size (here bytes start) (cause_of f.error)
-  at-end boxes end are ends f (no_ftyp none e path at) =
+      → (f : FaultPlace) → IsFaultOfFile size bytes boxes end f
+      → IsFaultyFile size (here bytes start) (cause_of f.error)
+  at-end boxes end are ends f (no_ftyp none e lacks) =
       without_ftyp (boxes_of boxes) end (unnamed size bytes start end boxes are) ends
       (none-last (ftyps_in (boxes_of boxes)) none) e
-  at-end boxes end are ends f (no_moov t some none e path at) =
+  at-end boxes end are ends f (no_moov t some none e lacks) =
       without_moov (boxes_of boxes) end (unnamed size bytes start end boxes are) ends
       (some-last (ftyps_in (boxes_of boxes)) t some) (none-last (moovs_in (boxes_of boxes)) none) e
   at-end boxes end are ends f (wrong_id t some m is_m e wrong first id at there) =
@@ -149,7 +150,7 @@ module _ (size : ℕ) (bytes : List ℕ) (start : ℕ) where
       (first, first-refuses f first)
 
   pub says-end : (boxes : List NamedBox) (end : ℕ) → AreNamedBoxes size bytes start boxes end → EndsFile size bytes end
-      → (can_refuse : Bool) (r : Result (Option FaultPlace) FileError) → SaysAtEnd bytes boxes end can_refuse r
+      → (can_refuse : Bool) (r : Result (Option FaultPlace) FileError) → SaysAtEnd size bytes boxes end can_refuse r
       → SaysFirst size bytes start can_refuse r
   says-end boxes end are ends can_refuse (Ok None) whole = opens boxes end are ends whole
   says-end boxes end are ends can_refuse (Ok (Some f)) fault =

@@ -1,5 +1,6 @@
 -- The boxes that the reading of a box looks at (ISO/IEC 14496-12, 4.2 and the section of each container).
-use Rattle.std.specs.Prelude.{ℕ, List, [], ◌∷◌, Option, Some, None, Result, Ok, Err, Bool, ◌==◌, if◌then◌else◌}
+use Rattle.std.specs.Prelude.{◌≡◌, ℕ, List, [], ◌∷◌, drop, Option, Some, None, Result, Ok, Err, Bool, false, ◌==◌}
+use Rattle.std.specs.Prelude.{if◌then◌else◌}
 use Rattle.std.specs.List.{list_any}
 use Rattle.mp4_codec.specs.declared.box_type.BoxType.{BoxType}
 use Rattle.mp4_codec.specs.declared.box_type.BoxType.TheVariants.{MoovBox, MvhdBox, TrakBox, MvexBox, MetaBox}
@@ -12,10 +13,15 @@ use Rattle.mp4_codec.specs.declared.box_type.BoxType.TheVariants.{Tx3gBox, AvcCB
 use Rattle.mp4_codec.specs.declared.box_type.BoxType.TheVariants.{MehdBox, TrexBox, MoofBox, MfhdBox, TrafBox}
 use Rattle.mp4_codec.specs.declared.box_type.BoxType.TheVariants.{TfhdBox, TfdtBox, TrunBox, IlstBox, NameBox, DayBox}
 use Rattle.mp4_codec.specs.declared.box_type.BoxType.TheVariants.{CovrBox, DescBox, DataBox}
+use Rattle.mp4_codec.specs.declared.error.Error.{Error}
+use Rattle.mp4_codec.specs.declared.error.Error.TheVariants.{OutOfMemory}
 use Rattle.mp4_codec.specs.BoxType.{code_of}
 use Rattle.mp4_codec.specs.Bytes.{bytes_at, number_at}
 use Rattle.mp4_codec.specs.Cause.{Cause, ◌>>=◌}
-use Rattle.mp4_meta.specs.Meta.{names_hdlr}
+use Rattle.mp4_codec.specs.Children.{children, gathered, fault_in, last_of}
+use Rattle.mp4_leaf.specs.declared.hdlr.HdlrBox.{HdlrBox as Handler}
+use Rattle.mp4_leaf.specs.Hdlr.{hdlr_of}
+use Rattle.mp4_meta.specs.Meta.{names_hdlr, is_mdir}
 
 -- whether a type is one of these, by their codes
 abbrev pub is_one_of : BoxType → List BoxType → Bool
@@ -107,3 +113,32 @@ before_children DayBox payload = Some 0
 before_children CovrBox payload = Some 0
 before_children DescBox payload = Some 0
 before_children other payload = None
+
+-- whether the handler that was found among the children of metadata says that its items are read
+abbrev pub is_of_items : Result (Option Handler) Cause → Bool
+is_of_items (Ok (Some handler)) = is_mdir handler
+is_of_items (Ok None) = false
+is_of_items (Err c) = false
+
+-- the last handler among children; each is read, and a broken tail is refused
+abbrev pub handler_in : List ℕ → Result (Option Handler) Cause
+handler_in body = gathered (fault_in HdlrBox hdlr_of) (last_of HdlrBox hdlr_of) (children body)
+
+abbrev pub has_items : Option ℕ → List ℕ → Bool
+has_items (Some start) payload = is_of_items (handler_in (drop start payload))
+has_items None payload = false
+
+-- Whether the lists of items in a box of this type and payload are looked at: in metadata they are where its children
+-- are boxes and its handlers have no fault, and the last of these is of type mdir (8.11.1).
+unfoldable pub reads_items : BoxType → List ℕ → Bool
+reads_items MetaBox payload = has_items (before_metadata payload) payload
+reads_items other payload = false
+
+-- whether the reading of a box of this type, whose items are looked at or not, looks at its children of this type
+abbrev pub reads_with : BoxType → Bool → BoxType → Bool
+reads_with parent items child = if is_one_of child (IlstBox ∷ []) then items else reads parent child
+
+-- What a call says of whether items are looked at; or memory ran out.
+abbrev pub TellsItems : Bool → Result Bool Error → Type 0
+TellsItems items (Ok told) = told ≡ items
+TellsItems items (Err e) = e ≡ OutOfMemory

@@ -1,6 +1,10 @@
 -- The first wrong id of a movie and its fragments (ISO/IEC 14496-12, 8.3.2 and 8.8.7).
-use Rattle.std.specs.Prelude.{◌≡◌, ◌<◌, ℕ, ◌^◌, Bool, List, ◌∷◌, ◌++◌, length, Option, Some, None, ◌==◌}
+use Rattle.std.specs.Prelude.{◌≡◌, ◌<◌, ℕ, ◌^◌, nat_eq, Bool, List, ◌∷◌, ◌++◌, length, Option, Some, None, ◌==◌}
+use Rattle.std.specs.Prelude.{Result, Ok, Err}
 use Rattle.std.specs.List.{list_any}
+use Rattle.std.specs.HashSet.{HashSet, contains}
+use Rattle.mp4_codec.specs.declared.error.Error.{Error}
+use Rattle.mp4_codec.specs.declared.error.Error.TheVariants.{OutOfMemory}
 use Rattle.mp4_codec.specs.Cause.{Cause, invalid_data, trak_not_found}
 use Rattle.mp4_codec.specs.Boxes.{all_refusal}
 use Rattle.mp4_boxes.specs.declared.moov.MoovBox.{MoovBox}
@@ -24,6 +28,11 @@ pub record IsFirstIn {A : Type 0} (refusal : A → Option Cause) (xs : List A) (
 -- whether one of these tracks has an id
 abbrev pub known_in : List TrakBox → ℕ → Bool
 known_in traks id = list_any (λ (t : TrakBox). t.tkhd.track_id == id) traks
+
+module _ {S : Type 0} where
+  -- whether an id is in a set of ids
+  abbrev pub has_id : HashSet ℕ S → ℕ → Bool
+  has_id ids id = contains nat_eq ids id
 
 -- why the track fragments of a movie fragment are refused
 abbrev pub moof_refusal : (ℕ → Bool) → MoofBox → Option Cause
@@ -71,3 +80,8 @@ abbrev pub TellsIds : MoovBox → List MoofBox → Option IdFault → Type 0
 TellsIds moov moofs None = id_fault moov moofs ≡ None
 TellsIds moov moofs (Some wrong) =
     (id_fault moov moofs ≡ Some (cause_of_id wrong)) × IsFirstId moov moofs wrong
+
+-- the same of a call that may run out of memory
+abbrev pub AnswersIds : MoovBox → List MoofBox → Result (Option IdFault) Error → Type 0
+AnswersIds moov moofs (Ok told) = TellsIds moov moofs told
+AnswersIds moov moofs (Err e) = e ≡ OutOfMemory

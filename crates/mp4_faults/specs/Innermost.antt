@@ -1,6 +1,6 @@
 -- The innermost box that is at fault where a box is refused: from each box on to the first of its children that is
 -- refused for the same cause.
-use Rattle.std.specs.Prelude.{◌≡◌, ℕ, ◌+◌, List, [], ◌∷◌, ◌++◌, Option, Some, None, Result, Ok, Err, true, ◌==◌}
+use Rattle.std.specs.Prelude.{◌≡◌, ℕ, ◌+◌, List, [], ◌∷◌, ◌++◌, Option, Some, None, Result, Ok, Err, Bool, true, ◌==◌}
 use Rattle.std.specs.Prelude.{count_by}
 use Rattle.std.specs.Prelude.{if◌then◌else◌, map}
 use Rattle.std.specs.List.{AllByRecursion}
@@ -14,7 +14,7 @@ use Rattle.mp4_codec.specs.Cause.{Cause, cause_of}
 use Rattle.mp4_faults.specs.declared.fault_place.PathStep.{PathStep}
 use Rattle.mp4_faults.specs.declared.innermost.RefusedChild.{RefusedChild}
 use Rattle.mp4_faults.specs.declared.child.PlacedBox.{PlacedBox}
-use Rattle.mp4_faults.specs.Containers.{reads, first_alone, before_children}
+use Rattle.mp4_faults.specs.Containers.{reads_with, reads_items, first_alone, before_children}
 use Rattle.mp4_faults.specs.Inner.{InnerBox, inner, outward, box_within, AreWithin}
 use Rattle.mp4_faults.specs.Refusal.{payload_fault}
 
@@ -39,9 +39,13 @@ names_of boxes = map (λ (b : InnerBox). b.name) boxes
 abbrev pub step_after : BoxType → List BoxType → PathStep
 step_after name before = record { name = name; number = count_of name before + 1 }
 
--- why a child is refused in a container of this type, if it is one that is looked at
-abbrev pub child_fault : BoxType → InnerBox → Option Cause
-child_fault parent b = if reads parent b.name then payload_fault b.name b.payload else None
+-- why a child is refused in a container of this type, whose items are looked at or not, if the child is looked at
+abbrev pub fault_with : BoxType → Bool → InnerBox → Option Cause
+fault_with parent items b = if reads_with parent items b.name then payload_fault b.name b.payload else None
+
+-- why a child is refused in a container of this type and payload
+abbrev pub child_fault : BoxType → List ℕ → InnerBox → Option Cause
+child_fault parent payload b = fault_with parent (reads_items parent payload) b
 
 -- The children of a container up to a place, of which none is refused: where only the first is looked at, there is
 -- none before the place.
@@ -49,7 +53,7 @@ pub record Passes (parent : BoxType) (payload : List ℕ) (before : List InnerBo
   pub start : ℕ
   pub starts : before_children parent payload ≡ Some start
   pub are : AreWithin payload start before place
-  pub faultless : AllByRecursion (λ b. child_fault parent b ≡ None) before
+  pub faultless : AllByRecursion (λ b. child_fault parent payload b ≡ None) before
   pub alone : first_alone parent ≡ true → before ≡ []
 
 -- this is the first child of a container that is refused, for this cause, with the step to it
@@ -59,7 +63,7 @@ pub record IsFirstRefused (parent : BoxType) (payload : List ℕ) (step : PathSt
   pub place : ℕ
   pub passes : Passes parent payload before place
   pub is : box_within payload place ≡ Some b
-  pub refused : child_fault parent b ≡ Some c
+  pub refused : child_fault parent payload b ≡ Some c
   pub step_is : step ≡ step_after b.name (names_of before)
 
 -- no child of a container is refused
@@ -68,7 +72,7 @@ pub data NoneRefused (parent : BoxType) (payload : List ℕ) : Type 0 where
   childless : before_children parent payload ≡ None → NoneRefused parent payload
   -- the only child that is looked at isn't refused
   sole : (place : ℕ) (b : InnerBox) → Passes parent payload [] place → first_alone parent ≡ true
-      → box_within payload place ≡ Some b → child_fault parent b ≡ None → NoneRefused parent payload
+      → box_within payload place ≡ Some b → child_fault parent payload b ≡ None → NoneRefused parent payload
   -- none is up to the place where no more child begins
   all : (before : List InnerBox) (place : ℕ) → Passes parent payload before place → box_within payload place ≡ None
       → NoneRefused parent payload

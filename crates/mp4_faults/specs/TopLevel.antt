@@ -7,6 +7,7 @@ use Rattle.mp4_codec.specs.declared.box_type.BoxType.TheVariants.{FtypBox, MoovB
 use Rattle.mp4_codec.specs.declared.header.BoxHeader.{BoxHeader}
 use Rattle.mp4_codec.specs.declared.error.Error.{Error}
 use Rattle.mp4_codec.specs.declared.error.Error.TheVariants.{OutOfMemory}
+use Rattle.mp4_codec.specs.BoxType.{code_of}
 use Rattle.mp4_codec.specs.Cause.{Cause, cause_of}
 use Rattle.mp4_codec.specs.Children.{last}
 use Rattle.mp4_codec.specs.Cursor.{header_at, here}
@@ -16,7 +17,7 @@ use Rattle.mp4_source.specs.declared.file_error.FileError.TheVariants.{Mp4, Io}
 use Rattle.mp4_media.specs.FileBoxes.{FileBox, ftyp_from, moov_from, moof_from, ftyps_in, moovs_in, moofs_in, later}
 use Rattle.mp4_media.specs.FileBoxes.{moof_place_from, moof_places_in}
 use Rattle.mp4_media.specs.FileBoxes.{and_one, BoxContent, meaning_of}
-use Rattle.mp4_media.specs.FileGrammar.{between, Begins, IsFileBox, IsFault, EndsFile}
+use Rattle.mp4_media.specs.FileGrammar.{between, Begins, IsFileBox, IsFault}
 use Rattle.mp4_faults.specs.declared.fault_place.PathStep.{PathStep}
 use Rattle.mp4_faults.specs.declared.fault_place.FaultPlace.{FaultPlace}
 use Rattle.mp4_faults.specs.declared.top_level.SeenBoxes.{SeenBoxes}
@@ -115,11 +116,26 @@ pub record Sees (old new : SeenBoxes) (b : NamedBox) : Type 0 where
   pub moofs : new.moofs ≡ and_one old.moofs (moof_from b.1.content)
   pub moof_places : new.moof_places ≡ and_one old.moof_places (moof_place_from b.1)
 
+-- A box of this type begins at a place of a file of `size` bytes, and its end is open: it goes on to the end of the
+-- file, and isn't read.
+pub record IsOpenBox (size : ℕ) (bytes : List ℕ) (place : ℕ) (name : BoxType) : Type 0 where
+  pub room : place + 8 ≤ size
+  pub said : BoxType
+  pub from : ℕ
+  pub head : header_at (here bytes place) ≡ Ok (record { name = said; size = 0 }, here bytes from)
+  pub named : code_of said ≡ code_of name
+
+-- the boxes of a file end at a place: where one of this type has an open end, or where the file has no more bytes
+abbrev pub EndsAt : ℕ → List ℕ → ℕ → Option BoxType → Type 0
+EndsAt size bytes place (Some name) = IsOpenBox size bytes place name
+EndsAt size bytes place None = size ≤ place
+
 -- What a call says of a place of a file, with what was seen before it and after it, and the place after it.
 abbrev pub SaysNext : ℕ → List ℕ → ℕ → SeenBoxes → SeenBoxes → ℕ → NextBox → Type 0
 SaysNext size bytes place old new after Faultless =
     (b : NamedBox) × IsNamedBox size bytes place after b × Sees old new b
-SaysNext size bytes place old new after End = EndsFile size bytes place × (after ≡ place) × (new ≡ old)
+SaysNext size bytes place old new after (End open_type) =
+    EndsAt size bytes place open_type × (after ≡ place) × (new ≡ old)
 SaysNext size bytes place old new after (Faulty f) = IsFaultAt size bytes place old.names f
 
 -- a call that gives what is next, or memory ran out

@@ -2,9 +2,15 @@
 
 ghost use Rattle.std.specs.Prelude.{◌≡◌, [], ◌∷◌};
 ghost use Rattle.mp4_faults.specs.Containers.{is_one_of, reads, read_by_table, read_by_other, first_alone};
-ghost use Rattle.mp4_faults.specs.Containers.{before_children, before_metadata, before_sound};
+ghost use Rattle.mp4_faults.specs.Containers.{before_children, before_metadata, before_sound, has_items, reads_items};
+ghost use Rattle.mp4_faults.specs.Containers.{reads_with, TellsItems};
 
-use mp4_codec::{BoxType, Fields};
+use mp4_codec::{BoxType, ByteCursor, Error, Fields, Result, last_child};
+use mp4_leaf::HdlrBox;
+use std::alloc::Global;
+
+/// The handler type of iTunes metadata, `mdir`.
+const MDIR: u32 = 0x6d646972;
 
 /// The bytes of the fields of a picture's sample entry, which come before its children (ISO/IEC 14496-12, 12.1.3).
 const VISUAL_FIELDS: u64 = 78;
@@ -27,7 +33,8 @@ fn is_one_of(name: BoxType, types: &[BoxType]) -> bool
     types.iter().any(|t| u32::from(*t) == u32::from(name))
 }
 
-/// Whether the reading of a box of type `parent` looks at its children of type `child`; all others are skipped.
+/// Whether the reading of a box of type `parent` looks at its children of type `child`; all others are skipped. Lists
+/// of items, `ilst`, are looked at in metadata of handler `mdir` alone: of a payload, `reads_items` says so.
 #[tactic(auto, unfolding(crate::specs::Containers::read_by))]
 pub fn reads_child(parent: BoxType, child: BoxType) -> bool
     ensures { result ≡ reads parent child }
@@ -197,4 +204,45 @@ pub fn bytes_before_children(name: BoxType, payload: &[u8]) -> Option<u64>
         BoxType::NameBox | BoxType::DayBox | BoxType::CovrBox | BoxType::DescBox => Some(0),
         _ => None,
     }
+}
+
+/// Whether the lists of items in metadata with this payload are looked at.
+fn metadata_reads_items(alloc: Global, payload: &[u8]) -> Result<bool>
+    ensures { TellsItems (has_items (before_metadata payload.now) payload.now) result }
+{
+    let Some(start) = bytes_before_metadata(payload) else {
+        return Ok(false);
+    };
+    let mut cursor = ByteCursor::new(payload);
+    cursor.set_position(start);
+    match last_child::<HdlrBox>(alloc, cursor.rest()) {
+        Ok(Some(handler)) => Ok(u32::from(handler.handler_type) == MDIR),
+        Ok(None) => Ok(false),
+        Err(Error::OutOfMemory) => Err(Error::OutOfMemory),
+        Err(_) => Ok(false),
+    }
+}
+
+/// Whether the reading of a box of this type and payload looks at lists of items, `ilst`, in it: that of metadata does
+/// where its children are boxes and its handlers have no fault, and the last of these is of type `mdir`. `Err` is
+/// `OutOfMemory` alone.
+#[tactic(auto, unfolding(crate::specs::Containers::reads_items))]
+pub fn reads_items(alloc: Global, name: BoxType, payload: &[u8]) -> Result<bool>
+    ensures { TellsItems (reads_items name payload.now) result }
+{
+    match name {
+        BoxType::MetaBox => metadata_reads_items(alloc, payload),
+        _ => Ok(false),
+    }
+}
+
+/// Whether the reading of a box of type `parent`, which looks at lists of items in it or not, looks at its children of
+/// type `child`.
+pub(crate) fn reads_child_with(parent: BoxType, items: bool, child: BoxType) -> bool
+    ensures { result ≡ reads_with parent items child }
+{
+    if is_one_of(child, &[BoxType::IlstBox]) {
+        return items;
+    }
+    reads_child(parent, child)
 }

@@ -81,7 +81,8 @@ impl fmt::Display for BoxPath<'_> {
 #[derive(Debug, Drop)]
 pub struct FaultPlace {
     /// The boxes that the fault is in, from the file's own down to the innermost. There is none where the fault is of
-    /// the file itself: a box that has to be there is missing, or no header of a box is at the place.
+    /// the file itself: a box that has to be there is missing, or no header of a box is at the place. Where the file
+    /// ends at a box of the missing type with an open end, which isn't read, the fault is in that box.
     pub path: Items<PathStep>,
     /// The place of the first byte of the innermost box, or where no header of a box is, or where the file ends that
     /// lacks a box. It counts from the first byte of the source.

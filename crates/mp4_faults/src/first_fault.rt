@@ -5,15 +5,16 @@ ghost use Rattle.std.specs.List.{slice_get};
 ghost use Rattle.mp4_codec.specs.declared.box_type.BoxType.TheVariants.{MoovBox, TrakBox, TkhdBox, MoofBox, TrafBox};
 ghost use Rattle.mp4_codec.specs.declared.box_type.BoxType.TheVariants.{TfhdBox};
 ghost use Rattle.mp4_source.specs.Answers.{IsLength};
-ghost use Rattle.mp4_faults.specs.FirstFault.{SaysAtEnd, SaysFirst};
+ghost use Rattle.mp4_faults.specs.FirstFault.{TellsLacking, SaysAtEnd, SaysFirst, is_open_of};
 ghost use Rattle.mp4_faults.specs.Innermost.{count_of};
-ghost use Rattle.mp4_faults.specs.TopLevel.{AreNamedBoxes, IsSeen, NamedBox};
+ghost use Rattle.mp4_faults.specs.TopLevel.{AreNamedBoxes, EndsAt, IsSeen, NamedBox};
 
 use crate::fault_place::{FaultPlace, PathStep};
 use crate::ids::{IdFault, id_fault};
+use crate::innermost::step_to;
 use crate::top_level::{NextBox, SeenBoxes, next_box};
 use crate::wrong_id::{IdPlace, wrong_id};
-use mp4_codec::{BoxType, Error, Items};
+use mp4_codec::{BoxType, Error, Items, Result};
 use mp4_source::{ByteSource, FileError, SourceCursor, Window};
 use std::alloc::Global;
 
@@ -72,35 +73,65 @@ fn fragment_place(seen: &SeenBoxes, moof: usize, traf: usize) -> IdPlace
     }
 }
 
-/// The fault of a file that lacks a box, and ends at this place.
-fn missing(alloc: Global, place: u64, name: BoxType) -> FaultPlace
-    ensures { result ≡ record { path = []; place = place; error = Error.BoxNotFound name } }
-{
-    FaultPlace {
-        path: Items::new(alloc),
-        place,
-        error: Error::BoxNotFound(name),
+/// Where a file ends.
+#[derive(Clone, Copy)]
+struct FileEnd {
+    /// The place after its last byte.
+    size: u64,
+    /// The place after its last box that was seen.
+    place: u64,
+    /// The type of the box that begins there and has an open end, if there is one.
+    open_type: Option<BoxType>,
+}
+
+impl FileEnd {
+    /// Whether the file ends at a box of this type with an open end.
+    fn is_open_of(&self, name: BoxType) -> bool
+        ensures { result ≡ is_open_of self.now.open_type name }
+    {
+        match self.open_type {
+            Some(other) => u32::from(other) == u32::from(name),
+            None => false,
+        }
     }
 }
 
-/// The fault of a file none of whose boxes has one, and which ends where the cursor is.
+/// The fault of a file that lacks a box of this type. Where the file ends at such a box with an open end, which isn't
+/// read, it is that of the box; else it is the file's own, and where the file ends.
+fn lacking(alloc: Global, seen: &SeenBoxes, end: FileEnd, name: BoxType) -> Result<FaultPlace>
+    ensures { TellsLacking seen.now.names end name result }
+{
+    let error = Error::BoxNotFound(name);
+    let mut path = Items::new(alloc);
+    if !end.is_open_of(name) {
+        let place = end.size;
+        return Ok(FaultPlace { path, place, error });
+    }
+    path.push(step_to(name, seen.names.as_slice()))?;
+    let place = end.place;
+    Ok(FaultPlace { path, place, error })
+}
+
+/// The fault of a file none of whose boxes has one, and which ends so.
 fn fault_at_end<S: ByteSource + Drop>(
     alloc: Global,
     reader: &mut SourceCursor<S>,
     seen: &SeenBoxes,
-) -> Result<Option<FaultPlace>, FileError>
+    end: FileEnd,
+) -> std::result::Result<Option<FaultPlace>, FileError>
     requires { IsLength (S.contents reader.old.source) reader.old.len }
-    ensures { IfSome (S.contents reader.old.source) (λ bytes. (size start : ℕ) (boxes : List NamedBox)
-        → AreNamedBoxes size bytes start boxes reader.old.position → IsSeen seen.now boxes
-        → SaysAtEnd bytes boxes reader.old.position (S.can_refuse reader.old.source) result) }
+    ensures { IfSome (S.contents reader.old.source) (λ bytes. (start : ℕ) (boxes : List NamedBox)
+        → AreNamedBoxes end.size bytes start boxes end.place → EndsAt end.size bytes end.place end.open_type
+        → IsSeen seen.now boxes
+        → SaysAtEnd end.size bytes boxes end.place (S.can_refuse reader.old.source) result) }
 {
     let Some(_) = &seen.ftyp else {
-        return Ok(Some(missing(alloc, reader.position(), BoxType::FtypBox)));
+        return Ok(Some(lacking(alloc, seen, end, BoxType::FtypBox)?));
     };
     let Some(moov) = &seen.moov else {
-        return Ok(Some(missing(alloc, reader.position(), BoxType::MoovBox)));
+        return Ok(Some(lacking(alloc, seen, end, BoxType::MoovBox)?));
     };
-    match id_fault(moov, seen.moofs.as_slice()) {
+    match id_fault(alloc, moov, seen.moofs.as_slice())? {
         None => Ok(None),
         Some(IdFault::Track(index)) => {
             let error = Error::InvalidData("a track id of 0");
@@ -119,7 +150,7 @@ fn fault_from<S: ByteSource + Drop>(
     reader: &mut SourceCursor<S>,
     seen: &mut SeenBoxes,
     size: u64,
-) -> Result<Option<FaultPlace>, FileError>
+) -> std::result::Result<Option<FaultPlace>, FileError>
     requires len { IsLength (S.contents reader.old.source) reader.old.len }
     requires none { IsSeen seen.old [] }
     ensures { IfSome (S.contents reader.old.source) (λ bytes.
@@ -128,7 +159,19 @@ fn fault_from<S: ByteSource + Drop>(
     loop {
         match next_box(alloc, reader, seen, size)? {
             NextBox::Faultless => {}
-            NextBox::End => return fault_at_end(alloc, reader, seen),
+            NextBox::End(open_type) => {
+                let place = reader.position();
+                return fault_at_end(
+                    alloc,
+                    reader,
+                    seen,
+                    FileEnd {
+                        size,
+                        place,
+                        open_type,
+                    },
+                );
+            }
             NextBox::Faulty(fault) => return Ok(Some(fault)),
         }
     }
@@ -138,13 +181,15 @@ fn fault_from<S: ByteSource + Drop>(
 /// the source's first byte: its first fault, with the path to it and its place; `None` for a file that opens. What
 /// opens, and by which error it is refused else, is as [`mp4_media::Mp4File::open`] answers with the same arguments.
 ///
+/// Its time follows the bytes of the file: each track and each track fragment is looked at once.
+///
 /// Refused by `OutOfMemory`, or by `Io` where the source refuses a read.
 pub fn first_fault_of<S: ByteSource + Drop>(
     alloc: Global,
     source: S,
     start: u64,
     size: u64,
-) -> Result<Option<FaultPlace>, FileError>
+) -> std::result::Result<Option<FaultPlace>, FileError>
     ensures { IfSome (S.contents source) (λ bytes. SaysFirst size bytes start (S.can_refuse source) result) }
 {
     let window = Window::new(alloc, source)?;

@@ -1,10 +1,13 @@
 //! The ids of tracks and of their fragments (ISO/IEC 14496-12, 8.3.2 and 8.8.7).
 
-ghost use Rattle.std.specs.Prelude.{◌≡◌, ◌<◌, ◌^◌, IfSome};
-ghost use Rattle.mp4_faults.specs.Ids.{FindsZero, FindsUnknown, FindsUnknownIn, IsFew, TellsIds, known_in};
+ghost use Rattle.std.specs.Prelude.{◌≡◌, ◌<◌, ◌^◌, ℕ, IfOk, IfSome};
+ghost use Rattle.mp4_faults.specs.Ids.{FindsZero, FindsUnknown, FindsUnknownIn, IsFew, AnswersIds, known_in, has_id};
 
 use mp4_boxes::{MoovBox, TrakBox};
+use mp4_codec::Result;
 use mp4_moof::{MoofBox, TrafBox};
+use std::alloc::{AllocError, Global};
+use std::collections::HashSet;
 
 /// A wrong id.
 #[derive(Drop)]
@@ -15,11 +18,22 @@ pub(crate) enum IdFault {
     Fragment(usize, usize, u32),
 }
 
-/// Whether a track has this id.
-fn is_known(traks: &[TrakBox], id: u32) -> bool
-    ensures { result ≡ known_in traks.now id }
+/// The ids of these tracks.
+fn ids_of(alloc: Global, traks: &[TrakBox]) -> std::result::Result<HashSet<u32>, AllocError>
+    ensures { IfOk result (λ ids. (id : ℕ) → has_id ids id ≡ known_in traks.now id) }
 {
-    traks.iter().any(|t| t.tkhd.track_id == id)
+    let mut ids = HashSet::new(alloc);
+    for trak in traks {
+        ids.insert(trak.tkhd.track_id)?;
+    }
+    Ok(ids)
+}
+
+/// Whether this id is one of these.
+fn is_known(ids: &HashSet<u32>, id: u32) -> bool
+    ensures { result ≡ has_id ids.now id }
+{
+    ids.contains(&id)
 }
 
 /// The index of the first track whose id is 0.
@@ -35,41 +49,45 @@ fn zero_id(traks: &[TrakBox]) -> Option<usize>
     None
 }
 
-/// The index of the first track fragment of a track that isn't there, and that track's id.
-fn unknown_traf(traks: &[TrakBox], trafs: &[TrafBox]) -> Option<(usize, u32)>
-    ensures first { FindsUnknown (known_in traks.now) trafs.now result }
+/// The index of the first track fragment whose track's id is none of these, and that id.
+fn unknown_traf(ids: &HashSet<u32>, trafs: &[TrafBox]) -> Option<(usize, u32)>
+    ensures first { FindsUnknown (has_id ids.now) trafs.now result }
     ensures few { IfSome result (λ x. x.0 < 2 ^ 63) }
 {
     for (index, traf) in trafs.iter().enumerate() {
-        if !is_known(traks, traf.tfhd.track_id) {
+        if !is_known(ids, traf.tfhd.track_id) {
             return Some((index, traf.tfhd.track_id));
         }
     }
     None
 }
 
-/// The first track fragment of a track that isn't there, in file order: the index of its movie fragment, its own
-/// index in that, and the track's id.
-fn unknown_id(traks: &[TrakBox], moofs: &[MoofBox]) -> Option<(usize, usize, u32)>
-    ensures first { FindsUnknownIn (known_in traks.now) moofs.now result }
+/// The first track fragment, in file order, whose track's id is none of these: the index of its movie fragment, its
+/// own index in that, and that id.
+fn unknown_id(ids: &HashSet<u32>, moofs: &[MoofBox]) -> Option<(usize, usize, u32)>
+    ensures first { FindsUnknownIn (has_id ids.now) moofs.now result }
     ensures few { IfSome result (λ x. (x.0 < 2 ^ 63) × (x.1 < 2 ^ 63)) }
 {
     for (index, moof) in moofs.iter().enumerate() {
-        if let Some((traf, id)) = unknown_traf(traks, moof.trafs.as_slice()) {
+        if let Some((traf, id)) = unknown_traf(ids, moof.trafs.as_slice()) {
             return Some((index, traf, id));
         }
     }
     None
 }
 
-/// The first wrong id of a movie and its fragments: those of the tracks come first.
-pub(crate) fn id_fault(moov: &MoovBox, moofs: &[MoofBox]) -> Option<IdFault>
-    ensures first { TellsIds moov.now moofs.now result }
-    ensures few { IfSome result IsFew }
+/// The first wrong id of a movie and its fragments: those of the tracks come first. Each track and each track fragment
+/// is looked at once.
+pub(crate) fn id_fault(alloc: Global, moov: &MoovBox, moofs: &[MoofBox]) -> Result<Option<IdFault>>
+    ensures first { AnswersIds moov.now moofs.now result }
+    ensures few { IfOk result (λ told. IfSome told IsFew) }
 {
     if let Some(index) = zero_id(moov.traks.as_slice()) {
-        return Some(IdFault::Track(index));
+        return Ok(Some(IdFault::Track(index)));
     }
-    let (moof, traf, id) = unknown_id(moov.traks.as_slice(), moofs)?;
-    Some(IdFault::Fragment(moof, traf, id))
+    let ids = ids_of(alloc, moov.traks.as_slice())?;
+    match unknown_id(&ids, moofs) {
+        Some((moof, traf, id)) => Ok(Some(IdFault::Fragment(moof, traf, id))),
+        None => Ok(None),
+    }
 }

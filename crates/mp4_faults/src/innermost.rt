@@ -4,12 +4,14 @@ ghost use Rattle.std.specs.Prelude.{◌≡◌, ◌↔◌, ◌++◌, ◌+◌, ◌
 ghost use Rattle.mp4_codec.specs.Cause.{cause_of};
 ghost use Rattle.mp4_faults.specs.declared.fault_place.PathStep.{PathStep};
 ghost use Rattle.mp4_faults.specs.Inner.{inner, end_of};
-ghost use Rattle.mp4_faults.specs.Innermost.{step_after, child_fault, FindsRefused, FindsFaulty, FindsInnermost};
+ghost use Rattle.mp4_faults.specs.Innermost.{step_after, fault_with, FindsRefused, FindsFaulty, FindsInnermost};
 ghost use Rattle.mp4_faults.specs.Innermost.{IsLack};
 ghost use Rattle.mp4_faults.specs.Refusal.{TellsFault};
 
 use crate::child::{PlacedBox, child_at};
-use crate::containers::{bytes_before_children, looks_at_first_alone, reads_child};
+use crate::containers::{
+    bytes_before_children, looks_at_first_alone, reads_child_with, reads_items,
+};
 use crate::fault_place::PathStep;
 use crate::refusal::refusal_of;
 use mp4_codec::{BoxType, Error, Items, Result, is_equal};
@@ -98,11 +100,16 @@ fn is_same_cause(first: &Error, second: &Error) -> bool
     }
 }
 
-/// Why a child is refused that a container of this type looks at.
-fn child_refusal(alloc: Global, parent: BoxType, child: &PlacedBox) -> Result<Option<Error>>
-    ensures { TellsFault result (child_fault parent (inner child.now)) }
+/// Why a child is refused that a container of this type looks at, which looks at lists of items in it or not.
+fn child_refusal(
+    alloc: Global,
+    parent: BoxType,
+    items: bool,
+    child: &PlacedBox,
+) -> Result<Option<Error>>
+    ensures { TellsFault result (fault_with parent items (inner child.now)) }
 {
-    if !reads_child(parent, child.name) {
+    if !reads_child_with(parent, items, child.name) {
         return Ok(None);
     }
     refusal_of(alloc, child.name, child.payload)
@@ -126,10 +133,11 @@ fn first_refused<'a>(alloc: Global, parent: &PlacedBox<'a>) -> Result<Option<Ref
     let Some(start) = bytes_before_children(parent.name, parent.payload) else {
         return Ok(None);
     };
+    let items = reads_items(alloc, parent.name, parent.payload)?;
     let mut place = start;
     let mut before = Items::new(alloc);
     while let Some(child) = child_at(parent.payload, place) {
-        if let Some(error) = child_refusal(alloc, parent.name, &child)? {
+        if let Some(error) = child_refusal(alloc, parent.name, items, &child)? {
             let step = step_to(child.name, before.as_slice());
             return Ok(Some(RefusedChild { step, child, error }));
         }

@@ -14,7 +14,7 @@ mod top_level;
 mod wrong_id;
 
 pub use box_fault::first_fault_in;
-pub use containers::{bytes_before_children, looks_at_first_alone, reads_child};
+pub use containers::{bytes_before_children, looks_at_first_alone, reads_child, reads_items};
 pub use fault_place::{BoxPath, FaultPlace, PathStep};
 pub use first_fault::first_fault_of;
 pub use refusal::refusal_of;

@@ -80,8 +80,8 @@ impl SeenBoxes {
 pub(crate) enum NextBox {
     /// A box without fault.
     Faultless,
-    /// Nothing: the file ends.
-    End,
+    /// The end of the file, or a box with an open end, which isn't read, of this type.
+    End(Option<BoxType>),
     Faulty(FaultPlace),
 }
 
@@ -313,7 +313,7 @@ pub(crate) fn next_box<S: ByteSource + Drop>(
 {
     let place = reader.position();
     if place >= size {
-        return Ok(NextBox::End);
+        return Ok(NextBox::End(None));
     }
     if size - place < HEADER_SIZE {
         return Ok(fault_of_file(alloc, place, Error::EndOfData));
@@ -324,7 +324,7 @@ pub(crate) fn next_box<S: ByteSource + Drop>(
     };
     if header.size == OPEN_END {
         reader.set_position(place);
-        return Ok(NextBox::End);
+        return Ok(NextBox::End(Some(header.name)));
     }
     if header.size > size {
         let error = Error::InvalidData("a box is larger than the file");

@@ -2,7 +2,7 @@
 
 use crate::leaf::LeafFields;
 use crate::list::FieldList;
-use crate::value::TableRow;
+use crate::value::{Cells, TableRow};
 use mp4_leaf::{
     ElstBox, ElstEntry, FtypBox, HdlrBox, Matrix, MdhdBox, MvhdBox, SmhdBox, TkhdBox, VmhdBox,
 };
@@ -62,8 +62,8 @@ impl LeafFields for TkhdBox {
             .header_times(self.creation_time, self.modification_time)
             .number("track_id", self.track_id)
             .number("duration", self.duration)
-            .number("layer", self.layer)
-            .number("alternate_group", self.alternate_group)
+            .signed("layer", i64::from(signed(self.layer)))
+            .signed("alternate_group", i64::from(signed(self.alternate_group)))
             .fixed_8("volume", self.volume)
             .all_fixed("matrix", &numbers_of(self.matrix))
             .fixed_16("width", self.width)
@@ -110,14 +110,33 @@ impl LeafFields for SmhdBox {
     }
 }
 
-impl TableRow for ElstEntry {
-    const NAMES: &'static [&'static str] = &["segment_duration", "media_time", "media_rate"];
+/// The signed number of 16 bits that these bits are.
+fn signed(bits: u16) -> i16 {
+    i16::from_be_bytes(bits.to_be_bytes())
+}
 
-    fn cells(&self) -> [i128; 3] {
+/// The signed number that a media time is: of 32 bits in version 0, else of 64 (ISO/IEC 14496-12, 8.6.6).
+fn signed_time(media_time: u64, version: u8) -> i128 {
+    match (version, u32::try_from(media_time)) {
+        (0, Ok(bits)) => i128::from(i32::from_be_bytes(bits.to_be_bytes())),
+        _ => i128::from(i64::from_be_bytes(media_time.to_be_bytes())),
+    }
+}
+
+impl TableRow for ElstEntry {
+    const NAMES: &'static [&'static str] = &[
+        "segment_duration",
+        "media_time",
+        "media_rate",
+        "media_rate_fraction",
+    ];
+
+    fn cells(&self, version: u8) -> Cells {
         [
             i128::from(self.segment_duration),
-            i128::from(self.media_time),
-            i128::from(self.media_rate),
+            signed_time(self.media_time, version),
+            i128::from(signed(self.media_rate)),
+            i128::from(signed(self.media_rate_fraction)),
         ]
     }
 }
@@ -126,6 +145,6 @@ impl LeafFields for ElstBox {
     fn fields(&self, fields: FieldList) -> FieldList {
         fields
             .version_and_flags(self.version, self.flags)
-            .rows("entries", self.entries.as_slice())
+            .rows("entries", self.version, self.entries.as_slice())
     }
 }

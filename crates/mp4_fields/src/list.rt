@@ -1,6 +1,6 @@
 //! Lists of fields, as they are put together.
 
-use crate::value::{Field, List, Table, TableRow, Value};
+use crate::value::{Cells, Field, List, Table, TableRow, Value};
 use mp4_codec::{FixedPointU8, FixedPointU16, FourCC};
 use std::alloc::{AllocError, Global};
 
@@ -44,11 +44,15 @@ fn first_numbers<N: Copy + Into<u64> + Drop>(
     })
 }
 
-/// The first of a list of rows.
-fn first_rows<R: TableRow>(listing: Listing, values: &[R]) -> Result<List<[i128; 3]>, AllocError> {
+/// The first of a list of rows of a box of this version.
+fn first_rows<R: TableRow>(
+    listing: Listing,
+    version: u8,
+    values: &[R],
+) -> Result<List<Cells>, AllocError> {
     let mut first = Vec::new(listing.alloc);
     for value in values.iter().take(listing.most) {
-        first.push(value.cells())?;
+        first.push(value.cells(version))?;
     }
     Ok(List {
         count: values.len() as u64,
@@ -91,6 +95,10 @@ impl FieldList {
 
     pub fn number<N: Into<u64> + Drop>(self, name: &'static str, value: N) -> Self {
         self.add(name, Ok(Value::Number(value.into())))
+    }
+
+    pub fn signed(self, name: &'static str, value: i64) -> Self {
+        self.add(name, Ok(Value::Signed(value)))
     }
 
     pub fn fixed(self, name: &'static str, value: f64) -> Self {
@@ -143,7 +151,7 @@ impl FieldList {
     /// A signed number that may be missing.
     pub fn optional_signed(self, name: &'static str, value: Option<i32>) -> Self {
         match value {
-            Some(value) => self.add(name, Ok(Value::Signed(i64::from(value)))),
+            Some(value) => self.signed(name, i64::from(value)),
             None => self.add(name, Ok(Value::Missing)),
         }
     }
@@ -186,9 +194,9 @@ impl FieldList {
         self.add(name, list.map(Value::AllFixed))
     }
 
-    /// The first rows of a table.
-    pub fn rows<R: TableRow>(self, name: &'static str, values: &[R]) -> Self {
-        let rows = first_rows(self.listing, values);
+    /// The first rows of a table, in a box of this version.
+    pub fn rows<R: TableRow>(self, name: &'static str, version: u8, values: &[R]) -> Self {
+        let rows = first_rows(self.listing, version, values);
         let table = rows.map(|rows| Value::Table(Table {
             names: R::NAMES,
             rows,

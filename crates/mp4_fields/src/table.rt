@@ -2,7 +2,7 @@
 
 use crate::leaf::LeafFields;
 use crate::list::FieldList;
-use crate::value::TableRow;
+use crate::value::{Cells, TableRow};
 use mp4_table::{
     Co64Box, CttsBox, CttsEntry, StcoBox, StscBox, StscEntry, StssBox, StszBox, SttsBox, SttsEntry,
 };
@@ -10,10 +10,11 @@ use mp4_table::{
 impl TableRow for SttsEntry {
     const NAMES: &'static [&'static str] = &["sample_count", "sample_delta"];
 
-    fn cells(&self) -> [i128; 3] {
+    fn cells(&self, _version: u8) -> Cells {
         [
             i128::from(self.sample_count),
             i128::from(self.sample_delta),
+            0,
             0,
         ]
     }
@@ -22,10 +23,11 @@ impl TableRow for SttsEntry {
 impl TableRow for CttsEntry {
     const NAMES: &'static [&'static str] = &["sample_count", "sample_offset"];
 
-    fn cells(&self) -> [i128; 3] {
+    fn cells(&self, _version: u8) -> Cells {
         [
             i128::from(self.sample_count),
             i128::from(self.sample_offset),
+            0,
             0,
         ]
     }
@@ -38,11 +40,12 @@ impl TableRow for StscEntry {
         "sample_description_index",
     ];
 
-    fn cells(&self) -> [i128; 3] {
+    fn cells(&self, _version: u8) -> Cells {
         [
             i128::from(self.first_chunk),
             i128::from(self.samples_per_chunk),
             i128::from(self.sample_description_index),
+            0,
         ]
     }
 }
@@ -51,7 +54,7 @@ impl LeafFields for SttsBox {
     fn fields(&self, fields: FieldList) -> FieldList {
         fields
             .version_and_flags(self.version, self.flags)
-            .rows("entries", self.entries.as_slice())
+            .rows("entries", self.version, self.entries.as_slice())
     }
 }
 
@@ -59,7 +62,7 @@ impl LeafFields for CttsBox {
     fn fields(&self, fields: FieldList) -> FieldList {
         fields
             .version_and_flags(self.version, self.flags)
-            .rows("entries", self.entries.as_slice())
+            .rows("entries", self.version, self.entries.as_slice())
     }
 }
 
@@ -67,7 +70,7 @@ impl LeafFields for StscBox {
     fn fields(&self, fields: FieldList) -> FieldList {
         fields
             .version_and_flags(self.version, self.flags)
-            .rows("entries", self.entries.as_slice())
+            .rows("entries", self.version, self.entries.as_slice())
     }
 }
 

@@ -1,10 +1,13 @@
 //! What a field of a box holds, and how it is printed.
 
 use mp4_codec::FourCC;
-use mp4_readable::{Code, Date, Grouped};
+use mp4_readable::{Code, Date, Grouped, Whole};
 use serde::{Described, Serialize, Serializer};
 use std::alloc::{AllocError, Global};
 use std::fmt;
+
+/// The least number that each program reads from JSON as it is: -2^53.
+const LEAST_EXACT: i64 = -9_007_199_254_740_992;
 
 /// A list of a box, of which the first values are kept.
 #[derive(Debug, Drop)]
@@ -14,11 +17,14 @@ pub struct List<T> {
     pub first: Vec<T>,
 }
 
+/// The values of a row, those of the columns that there are first.
+pub type Cells = [i128; 4];
+
 /// A table: the names of its columns, and its first rows.
 #[derive(Debug, Drop)]
 pub struct Table {
     pub names: &'static [&'static str],
-    pub rows: List<[i128; 3]>,
+    pub rows: List<Cells>,
 }
 
 /// What a field holds.
@@ -52,11 +58,11 @@ pub struct Field {
 
 /// A row of a table of a box.
 pub trait TableRow {
-    /// The names of its columns, up to three.
+    /// The names of its columns, up to four.
     const NAMES: &'static [&'static str];
 
-    /// Its values, in that order.
-    fn cells(&self) -> [i128; 3];
+    /// Its values in that order, in a box of this version.
+    fn cells(&self, version: u8) -> Cells;
 }
 
 /// What follows the first values of a list where there are more.
@@ -112,11 +118,7 @@ fn write_all_fixed<W: fmt::Write>(f: &mut fmt::Formatter<W>, numbers: &[f64]) ->
     Ok(())
 }
 
-fn write_row<W: fmt::Write>(
-    f: &mut fmt::Formatter<W>,
-    names: &[&str],
-    row: &[i128; 3],
-) -> fmt::Result {
+fn write_row<W: fmt::Write>(f: &mut fmt::Formatter<W>, names: &[&str], row: &Cells) -> fmt::Result {
     for (name, cell) in names.iter().zip(row.iter()) {
         let width = name.len();
         f.write_str("  ")?;
@@ -184,12 +186,35 @@ fn send_list<T: Serialize, S: Serializer>(list: &List<T>, out: &mut S) -> Result
     out.end_map()
 }
 
+/// Sends a number, which is a text past 2^53 and below -2^53.
+fn send_cell<S: Serializer>(cell: i128, out: &mut S) -> Result<(), S::Error> {
+    match (u64::try_from(cell), i64::try_from(cell)) {
+        (Ok(number), _) => Whole(number).serialize(out),
+        (Err(_), Ok(number)) if number >= LEAST_EXACT => out.i64(number),
+        _ => out.collect_str(&cell),
+    }
+}
+
+/// Sends a list of numbers as an object: how many there are, and the first of them.
+fn send_numbers<S: Serializer>(list: &List<u64>, out: &mut S) -> Result<(), S::Error> {
+    out.begin_map(Some(2))?;
+    out.key("count")?;
+    list.count.serialize(out)?;
+    out.key("first")?;
+    out.begin_seq(None)?;
+    for number in list.first.iter() {
+        Whole(*number).serialize(out)?;
+    }
+    out.end_seq()?;
+    out.end_map()
+}
+
 /// Sends a row as an object, by the names of its columns.
-fn send_row<S: Serializer>(names: &[&str], row: &[i128; 3], out: &mut S) -> Result<(), S::Error> {
+fn send_row<S: Serializer>(names: &[&str], row: &Cells, out: &mut S) -> Result<(), S::Error> {
     out.begin_map(None)?;
     for (name, cell) in names.iter().zip(row.iter()) {
         out.key(name)?;
-        cell.serialize(out)?;
+        send_cell(*cell, out)?;
     }
     out.end_map()
 }
@@ -226,16 +251,16 @@ impl Serialize for Value {
     fn serialize<S: Serializer>(&self, out: &mut S) -> Result<(), S::Error> {
         match self {
             Value::Missing => out.unit(),
-            Value::Number(number) => number.serialize(out),
-            Value::Signed(number) => number.serialize(out),
+            Value::Number(number) => Whole(*number).serialize(out),
+            Value::Signed(number) => send_cell(i128::from(*number), out),
             Value::Fixed(number) => number.serialize(out),
             Value::Flags(flags) => flags.serialize(out),
-            Value::Time(seconds) => seconds.serialize(out),
+            Value::Time(seconds) => Whole(*seconds).serialize(out),
             Value::Code(code) => out.collect_str(&Code(*code)),
             Value::Text(text) => text.serialize(out),
             Value::Bytes(list) => send_list(list, out),
             Value::Codes(list) => send_codes(list, out),
-            Value::Numbers(list) => send_list(list, out),
+            Value::Numbers(list) => send_numbers(list, out),
             Value::AllFixed(numbers) => numbers.serialize(out),
             Value::Table(table) => send_rows(table, out),
         }

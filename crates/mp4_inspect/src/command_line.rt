@@ -1,11 +1,14 @@
 //! The command line.
 
 use crate::commands::{Kind, command};
-use crate::question::{ExtractRequest, MovieQuestion, Question, Request, Target};
+use crate::extract::TextLayout;
+use crate::files::USUAL_LIMIT;
+use crate::question::{ExtractRequest, MovieQuestion, Question, Request, SubtitlesRequest, Target};
 use clap::{ArgMatches, Error};
 use mp4_box_report::BoxesRequest;
-use mp4_extract::SampleFormat;
-use mp4_report::{First, SamplesRequest, milliseconds_in};
+use mp4_extract::{SampleFormat, SubtitleTimes};
+use mp4_readable::DecimalTime;
+use mp4_report::{First, SamplesRequest};
 use std::alloc::{AllocError, Global};
 use std::fmt;
 use std::fmt::Write;
@@ -15,8 +18,8 @@ use std::fmt::Write;
 pub enum Unclear {
     /// clap's message, which is that of `--help` too.
     Message(Error),
-    /// `--at` has no number of seconds.
-    Seconds,
+    /// `--at` has no time.
+    Time,
     /// There is no command.
     NoCommand,
 }
@@ -37,7 +40,11 @@ impl fmt::Display for Unclear {
     fn fmt<W: fmt::Write>(&self, f: &mut fmt::Formatter<W>) -> fmt::Result {
         match self {
             Unclear::Message(error) => write!(f, "{error}"),
-            Unclear::Seconds => f.write_str("error: --at takes a number of seconds, as 12.5\n"),
+            Unclear::Time => {
+                f.write_str(
+                    "error: --at takes seconds, as 12.5, or a time as it is shown, as 0:00:12.5\n",
+                )
+            }
             Unclear::NoCommand => f.write_str("error: a command is required\n"),
         }
     }
@@ -48,29 +55,34 @@ impl Unclear {
     pub fn is_mistake(&self) -> bool {
         match self {
             Unclear::Message(error) => error.use_stderr(),
-            Unclear::Seconds | Unclear::NoCommand => true,
+            Unclear::Time | Unclear::NoCommand => true,
         }
     }
 }
 
 /// Where the samples that are asked for begin.
-fn first_in(arguments: &ArgMatches<'_>) -> Result<First, Unclear> {
+fn first_in<'a>(arguments: &ArgMatches<'a>) -> Result<First<'a>, Unclear> {
     match arguments.get_str("at") {
-        Some(seconds) => match milliseconds_in(seconds) {
-            Some(milliseconds) => Ok(First::Milliseconds(milliseconds)),
-            None => Err(Unclear::Seconds),
+        Some(time) => match DecimalTime::parse(time) {
+            Some(time) => Ok(First::Time(time)),
+            None => Err(Unclear::Time),
         },
         None => Ok(First::Number(arguments.get_one::<u32>("from").unwrap_or(1))),
     }
 }
 
 /// The samples that are asked for.
-fn samples_in(arguments: &ArgMatches<'_>) -> Result<SamplesRequest, Unclear> {
+fn samples_in<'a>(arguments: &ArgMatches<'a>) -> Result<SamplesRequest<'a>, Unclear> {
     Ok(SamplesRequest {
         track_id: arguments.get_one::<u32>("track").unwrap_or(0),
         first: first_in(arguments)?,
         count: arguments.get_one::<u32>("count").unwrap_or(u32::MAX),
     })
+}
+
+/// How many bytes are read of a file that is no regular one.
+fn limit_in(arguments: &ArgMatches<'_>) -> u64 {
+    arguments.get_one::<u64>("limit").unwrap_or(USUAL_LIMIT)
 }
 
 /// The format that samples are written in.
@@ -99,6 +111,18 @@ fn extract_in<'a>(arguments: &ArgMatches<'a>) -> ExtractRequest<'a> {
     }
 }
 
+/// How texts are printed.
+fn layout_in(arguments: &ArgMatches<'_>) -> TextLayout {
+    TextLayout {
+        srt: arguments.get_flag("srt"),
+        times: if arguments.get_flag("decode-times") {
+            SubtitleTimes::Decoded
+        } else {
+            SubtitleTimes::Shown
+        },
+    }
+}
+
 /// What a command of this kind asks. Each argument that is required was given.
 fn question_in<'a>(kind: Kind, arguments: &ArgMatches<'a>) -> Result<Question<'a>, Unclear> {
     let json = arguments.get_flag("json");
@@ -117,14 +141,14 @@ fn question_in<'a>(kind: Kind, arguments: &ArgMatches<'a>) -> Result<Question<'a
             json,
         }),
         Kind::Extract => Question::Movie(MovieQuestion::Extract(extract_in(arguments))),
-        Kind::Subtitles => Question::Movie(MovieQuestion::Subtitles {
+        Kind::Subtitles => Question::Movie(MovieQuestion::Subtitles(SubtitlesRequest {
             track: arguments.get_one::<u32>("track").unwrap_or(0),
-            srt: arguments.get_flag("srt"),
-        }),
-        Kind::Metadata => Question::Movie(MovieQuestion::Metadata {
+            layout: layout_in(arguments),
+        })),
+        Kind::Metadata => Question::Metadata {
             cover: arguments.get_str("cover"),
             json,
-        }),
+        },
     };
     Ok(question)
 }
@@ -142,6 +166,7 @@ pub fn request_in<'a>(alloc: Global, words: &'a [String]) -> Result<Request<'a>,
     };
     Ok(Request {
         file: arguments.get_str("file").unwrap_or(""),
+        limit: limit_in(arguments),
         question: question_in(kind, arguments)?,
     })
 }

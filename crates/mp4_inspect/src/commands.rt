@@ -16,11 +16,13 @@ enum Argument {
     TextOption(&'static str, &'static str, &'static str),
     /// An option with a number.
     NumberOption(&'static str, &'static str),
+    /// An option with a number of 64 bits.
+    SizeOption(&'static str, &'static str),
     /// An option without a value.
     Flag(&'static str, &'static str),
 }
 
-const FILE: Argument = Argument::Word("file", "FILE", "The MP4 file");
+const FILE: Argument = Argument::Word("file", "FILE", "The MP4 file; - is standard input");
 
 const TRACK: Argument = Argument::Number("track", "TRACK", "The track's id, as `tracks` shows it");
 
@@ -29,39 +31,46 @@ const FROM: Argument = Argument::NumberOption(
     "Begin with the sample of this number, from 1",
 );
 
+const LIMIT: Argument = Argument::SizeOption(
+    "limit",
+    "Of a file that is no regular one, as a pipe, read at most so many bytes",
+);
+
 const JSON: Argument = Argument::Flag("json", "Print one JSON document");
 
-static BOXES: [Argument; 4] = [
+static BOXES: [Argument; 5] = [
     FILE,
     Argument::NumberOption("depth", "List boxes to this depth; 1 is the file's own"),
     Argument::Flag("all", "Print lists whole"),
     JSON,
+    LIMIT,
 ];
 
-static TRACKS: [Argument; 2] = [FILE, JSON];
+static TRACKS: [Argument; 3] = [FILE, JSON, LIMIT];
 
-static WHY: [Argument; 1] = [FILE];
+static WHY: [Argument; 2] = [FILE, LIMIT];
 
-static SAMPLES: [Argument; 6] = [
+static SAMPLES: [Argument; 7] = [
     FILE,
     TRACK,
     FROM,
     Argument::NumberOption("count", "List at most so many"),
     Argument::TextOption(
         "at",
-        "SECONDS",
-        "Begin with the sample that is decoded at this time, as 12.5",
+        "TIME",
+        "Begin with the sample that is decoded at this time, as 12.5 or 0:00:12.5",
     ),
     JSON,
+    LIMIT,
 ];
 
-static EXTRACT: [Argument; 8] = [
+static EXTRACT: [Argument; 9] = [
     FILE,
     TRACK,
     Argument::WordUnless(
         "out",
         "OUT",
-        "The file that the samples are written to, one after the other",
+        "The file that the samples are written to, one after the other; - is standard output",
         "each",
     ),
     FROM,
@@ -76,14 +85,29 @@ static EXTRACT: [Argument; 8] = [
         "Write H.264 and H.265 with start codes and parameter sets",
     ),
     Argument::Flag("adts", "Write AAC with ADTS headers"),
+    LIMIT,
 ];
 
-static SUBTITLES: [Argument; 3] = [FILE, TRACK, Argument::Flag("srt", "Print SubRip text")];
-
-static METADATA: [Argument; 3] = [
+static SUBTITLES: [Argument; 5] = [
     FILE,
-    Argument::TextOption("cover", "OUT", "Write the picture to this file"),
+    TRACK,
+    Argument::Flag("srt", "Print SubRip text"),
+    Argument::Flag(
+        "decode-times",
+        "Print when texts are decoded, whatever the track's edits are",
+    ),
+    LIMIT,
+];
+
+static METADATA: [Argument; 4] = [
+    FILE,
+    Argument::TextOption(
+        "cover",
+        "OUT",
+        "Write the picture to this file; - is standard output",
+    ),
     JSON,
+    LIMIT,
 ];
 
 /// An argument with a value.
@@ -121,6 +145,11 @@ impl Argument {
                 with_value(alloc, id, "N", help)
                     .long(id)
                     .value_parser(clap::value_parser!(u32)),
+            ),
+            Argument::SizeOption(id, help) => Ok(
+                with_value(alloc, id, "N", help)
+                    .long(id)
+                    .value_parser(clap::value_parser!(u64)),
             ),
             Argument::Flag(id, help) => Ok(
                 Arg::new(alloc, id)

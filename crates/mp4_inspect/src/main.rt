@@ -7,54 +7,52 @@ mod commands;
 mod extract;
 mod faults;
 mod files;
+mod new_file;
 mod progress;
 mod question;
 mod run;
 
-use crate::answer::FAULT;
+use crate::answer::{FAULT, Host, SUCCESS};
 use crate::run::{WRONG_ARGUMENTS, run_words};
-use std::alloc::AllocError;
-use std::env;
-use std::io::{ErrorKind, IsTerminal};
+use std::io::{BufWriter, ErrorKind, IsTerminal, Write};
 use std::process::ExitCode;
+use std::{env, io};
 
-/// A run with the words of the command line, the program's name first. All of them have to be UTF-8.
-fn run_process(rt: &HostRuntime, out: &mut Vec<u8>, err: &mut Vec<u8>) -> Result<u8, AllocError> {
-    match env::args(rt) {
-        Ok(args) => {
-            let words: Vec<String> = args.collect(rt.alloc())?;
-            let is_terminal = rt.stderr().is_terminal();
-            run_words(rt, rt.alloc(), is_terminal, words.as_slice(), out, err)
-        }
-        Err(error) if error.kind() == ErrorKind::OutOfMemory => Err(AllocError),
-        Err(_) => {
-            err.extend_from_slice(b"error: an argument isn't UTF-8\n")?;
-            Ok(WRONG_ARGUMENTS)
-        }
-    }
+/// A run with the words of the command line, the program's name first.
+fn run_process(rt: &HostRuntime) -> io::Result<u8> {
+    let words: Vec<String> = env::args(rt)?.collect(rt.alloc())?;
+    let mut out = BufWriter::new(rt.alloc(), rt.stdout())?;
+    let host = Host {
+        rt,
+        alloc: rt.alloc(),
+        is_terminal: rt.stderr().is_terminal(),
+    };
+    run_words(
+        &host,
+        words.as_slice(),
+        &mut rt.stdin(),
+        &mut out,
+        &mut rt.stderr(),
+    )
 }
 
-/// Prints what a run wrote, first the errors, and answers the status. A closed pipe is no error.
-fn print(rt: &HostRuntime, status: u8, out: &[u8], err: &[u8]) -> u8 {
-    let _ = rt.stderr().write_all(err);
-    match rt.stdout().write_all(out) {
-        Ok(()) => status,
-        Err(error) if error.kind() == ErrorKind::BrokenPipe => status,
-        Err(error) => {
-            let _ = eprintln!(rt; "mp4_inspect: standard output: cannot write: {error}");
-            FAULT
+/// Says why there was no run, or why it ended, and answers the status. A closed pipe is no error.
+fn print_error(rt: &HostRuntime, error: &io::Error) -> u8 {
+    let (said, status) = match error.kind() {
+        ErrorKind::BrokenPipe => return SUCCESS,
+        ErrorKind::OutOfMemory => ("mp4_inspect: out of memory", FAULT),
+        ErrorKind::InvalidData | ErrorKind::InvalidInput => {
+            ("error: an argument isn't UTF-8", WRONG_ARGUMENTS)
         }
-    }
+        _ => ("mp4_inspect: standard output: cannot write", FAULT),
+    };
+    let _ = eprintln!(rt; "{said}");
+    status
 }
 
 fn main(rt: HostRuntime) -> ExitCode {
-    let mut out = Vec::new(rt.alloc());
-    let mut err = Vec::new(rt.alloc());
-    match run_process(&rt, &mut out, &mut err) {
-        Ok(status) => ExitCode::from(print(&rt, status, out.as_slice(), err.as_slice())),
-        Err(AllocError) => {
-            let _ = rt.stderr().write_all(b"mp4_inspect: out of memory\n");
-            ExitCode::FAILURE
-        }
+    match run_process(&rt) {
+        Ok(status) => ExitCode::from(status),
+        Err(error) => ExitCode::from(print_error(&rt, &error)),
     }
 }

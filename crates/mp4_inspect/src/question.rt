@@ -1,5 +1,8 @@
 //! What is asked of files.
 
+use crate::extract::TextLayout;
+use crate::faults::Subject;
+use crate::files::STANDARD_STREAM;
 use mp4_box_report::BoxesRequest;
 use mp4_extract::SampleFormat;
 use mp4_report::SamplesRequest;
@@ -25,17 +28,25 @@ pub struct ExtractRequest<'a> {
     pub format: SampleFormat,
 }
 
+/// The track whose texts are printed, and how.
+#[derive(Clone, Copy)]
+pub struct SubtitlesRequest {
+    pub track: u32,
+    pub layout: TextLayout,
+}
+
 /// What is asked of a movie.
 #[derive(Clone, Copy)]
 pub enum MovieQuestion<'a> {
     /// The samples of a track: as many as are asked for, from a number or a time on.
-    Samples { samples: SamplesRequest, json: bool },
+    Samples {
+        samples: SamplesRequest<'a>,
+        json: bool,
+    },
     /// Samples of a track are written to a file, or to one file each.
     Extract(ExtractRequest<'a>),
     /// The texts of a track with their times.
-    Subtitles { track: u32, srt: bool },
-    /// The metadata; the picture is written to a file of this name.
-    Metadata { cover: Option<&'a str>, json: bool },
+    Subtitles(SubtitlesRequest),
 }
 
 /// What is asked of a file.
@@ -47,6 +58,8 @@ pub enum Question<'a> {
     Why,
     /// The tracks.
     Tracks { json: bool },
+    /// The metadata; the picture is written to a file of this name.
+    Metadata { cover: Option<&'a str>, json: bool },
     /// What is asked of the movie that it is.
     Movie(MovieQuestion<'a>),
 }
@@ -55,6 +68,8 @@ pub enum Question<'a> {
 #[derive(Clone, Copy)]
 pub struct Request<'a> {
     pub file: &'a str,
+    /// How many bytes are read of a file that is no regular one.
+    pub limit: u64,
     pub question: Question<'a>,
 }
 
@@ -66,16 +81,33 @@ impl<'a> Request<'a> {
                 Target::File(name) => Some(name),
                 Target::Folder(name) => Some(name),
             },
-            Question::Movie(MovieQuestion::Metadata { cover, .. }) => cover,
+            Question::Metadata { cover, .. } => cover,
             _ => None,
         }
     }
 
-    /// The name of the file that is at fault: that which is written, or else that which is read.
-    pub fn at_fault(&self, is_write: bool) -> &'a str {
-        if is_write {
-            return self.written().unwrap_or(self.file);
+    /// The name of the one file that is written, if one is and it isn't standard output.
+    pub fn written_file(&self) -> Option<&'a str> {
+        match self.question {
+            Question::Movie(
+                MovieQuestion::Extract(
+                    ExtractRequest {
+                        target: Target::Folder(_),
+                        ..
+                    },
+                ),
+            ) => None,
+            _ => self.written().filter(|name| *name != STANDARD_STREAM),
         }
-        self.file
+    }
+
+    /// The name of what a fault is about.
+    pub fn name_of(&self, subject: Subject) -> &'a str {
+        match subject {
+            Subject::StandardOutput => "standard output",
+            Subject::Written => self.written().unwrap_or(self.file),
+            Subject::Read if self.file == STANDARD_STREAM => "standard input",
+            Subject::Read => self.file,
+        }
     }
 }

@@ -1,7 +1,8 @@
 //! Each format once.
 
 use crate::movie::{SOUND, TEXT, VIDEO, movie};
-use mp4_extract::{SampleFormat, Subtitle, extract, subtitles, write_lines, write_srt};
+use crate::texts::written_texts;
+use mp4_extract::{SampleFormat, SubtitleTimes, extract};
 use mp4_media::Mp4File;
 use std::test::Fail;
 
@@ -39,23 +40,16 @@ fn sound_has_a_header_of_adts(rt: HostRuntime) -> Result<(), Fail> {
     Ok(())
 }
 
-/// The subtitles of the movie.
-fn subtitle_list(rt: &HostRuntime) -> Result<Vec<Subtitle>, Fail> {
-    let bytes = movie(rt.alloc())?;
-    let mut file = Mp4File::open(rt.alloc(), bytes.as_slice(), 0, bytes.len() as u64)?;
-    Ok(subtitles(rt.alloc(), &mut file, TEXT)?)
-}
-
 #[test]
 fn texts_are_laid_out_as_srt_and_as_lines(rt: HostRuntime) -> Result<(), Fail> {
-    let list = subtitle_list(&rt)?;
-    let mut out = Vec::new(rt.alloc());
-    write_srt(list.as_slice(), &mut out)?;
-    write_lines(list.as_slice(), &mut out)?;
-    let wanted = "1\n00:00:00,000 --> 00:00:01,500\nhi\n\n\
-        2\n00:00:03,000 --> 00:00:04,500\nö\n\n\
-        00:00:00.000 - 00:00:01.500 hi\n\
+    let bytes = movie(rt.alloc())?;
+    let texts = written_texts(rt.alloc(), bytes.as_slice(), TEXT, SubtitleTimes::Shown)?;
+    let srt = "1\n00:00:00,000 --> 00:00:01,500\nhi\n\n\
+        2\n00:00:03,000 --> 00:00:04,500\nö\n\n";
+    let lines = "00:00:00.000 - 00:00:01.500 hi\n\
         00:00:03.000 - 00:00:04.500 ö\n";
-    assert_eq!(rt; out.as_slice(), wanted.as_bytes());
+    assert_eq!(rt; texts.srt.as_slice(), srt.as_bytes());
+    assert_eq!(rt; texts.lines.as_slice(), lines.as_bytes());
+    assert_eq!(rt; texts.refused.len(), 0);
     Ok(())
 }

@@ -2,12 +2,12 @@
 
 use crate::movie::{TEXT, movie};
 use crate::refused::Refused;
-use mp4_box_report::{BoxesRequest, boxes_of, entry_codes_of, why_of};
-use mp4_extract::{SampleFormat, extract, subtitles, write_srt};
+use crate::texts::written_texts;
+use mp4_box_report::{BoxesRequest, why_of, write_boxes};
+use mp4_extract::{SampleFormat, SubtitleTimes, extract};
 use mp4_media::Mp4File;
 use mp4_plain_movies::movie_bytes::{EMPTY_MOVIE, FULL_MOVIE};
-use mp4_readable::json_text;
-use mp4_report::{First, SamplesRequest, metadata_of, samples_of, tracks_of};
+use mp4_report::{First, SamplesRequest, metadata_of, tags_of, tracks_of, write_samples};
 use std::alloc::{AllocError, Global};
 use std::fmt::Display;
 
@@ -18,6 +18,7 @@ pub enum Job {
     BoxesAsJson,
     Tracks,
     Samples,
+    SamplesAsJson,
     Metadata,
     Why,
     /// The first two samples of a track in a format.
@@ -57,32 +58,32 @@ fn boxes(alloc: Global, bytes: &[u8], json: bool) -> Result<Vec<u8>, Refused> {
         depth: None,
         all: false,
     };
-    let report = boxes_of(alloc, bytes, request)?;
-    if json {
-        return Ok(json_text(alloc, &report)?);
-    }
-    text_of(alloc, &report)
+    let mut out = Vec::new(alloc);
+    write_boxes(alloc, bytes, request, json, &mut out)?;
+    Ok(out)
 }
 
 fn tracks(alloc: Global, bytes: &[u8]) -> Result<Vec<u8>, Refused> {
-    let codes = entry_codes_of(alloc, bytes)?;
     let file = opened(alloc, bytes)?;
-    text_of(alloc, &tracks_of(alloc, &*file, &codes)?)
+    text_of(alloc, &tracks_of(alloc, &*file, file.source_len())?)
 }
 
-fn samples(alloc: Global, bytes: &[u8]) -> Result<Vec<u8>, Refused> {
+fn samples(alloc: Global, bytes: &[u8], json: bool) -> Result<Vec<u8>, Refused> {
     let file = opened(alloc, bytes)?;
     let request = SamplesRequest {
         track_id: 1,
         first: First::Number(1),
         count: u32::MAX,
     };
-    text_of(alloc, &samples_of(alloc, &*file, request)?)
+    let mut out = Vec::new(alloc);
+    write_samples(alloc, &*file, file.source_len(), request, json, &mut out)?;
+    Ok(out)
 }
 
 fn metadata(alloc: Global, bytes: &[u8]) -> Result<Vec<u8>, Refused> {
+    let tags = tags_of(alloc, bytes)?;
     let file = opened(alloc, bytes)?;
-    text_of(alloc, &metadata_of(alloc, &*file)?)
+    text_of(alloc, &metadata_of(alloc, &*file, tags)?)
 }
 
 /// Why the file doesn't open that lacks its last byte.
@@ -107,11 +108,8 @@ fn extracted(
 }
 
 fn subtitle_text(alloc: Global, bytes: &[u8]) -> Result<Vec<u8>, Refused> {
-    let mut out = Vec::with_capacity(alloc, SINK_SIZE)?;
-    let mut file = opened(alloc, bytes)?;
-    let list = subtitles(alloc, &mut file, TEXT)?;
-    write_srt(list.as_slice(), &mut out)?;
-    Ok(out)
+    let texts = written_texts(alloc, bytes, TEXT, SubtitleTimes::Shown)?;
+    Ok(texts.srt)
 }
 
 /// What a job makes of its file.
@@ -120,7 +118,8 @@ pub fn done(alloc: Global, job: Job, bytes: &[u8]) -> Result<Vec<u8>, Refused> {
         Job::Boxes => boxes(alloc, bytes, false),
         Job::BoxesAsJson => boxes(alloc, bytes, true),
         Job::Tracks => tracks(alloc, bytes),
-        Job::Samples => samples(alloc, bytes),
+        Job::Samples => samples(alloc, bytes, false),
+        Job::SamplesAsJson => samples(alloc, bytes, true),
         Job::Metadata => metadata(alloc, bytes),
         Job::Why => why(alloc, bytes),
         Job::Extracting(track_id, format) => extracted(alloc, bytes, track_id, format),

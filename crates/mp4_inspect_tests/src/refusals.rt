@@ -59,7 +59,12 @@ fn a_sink_that_refuses_is_told_with_the_sample(rt: HostRuntime) -> Result<(), Fa
 #[test]
 fn a_length_that_leaves_its_sample_is_told_with_the_sample(rt: HostRuntime) -> Result<(), Fail> {
     let answer = said(&rt, VIDEO, SampleFormat::AnnexB, 1000)?;
-    assert!(rt; matches!(answer, Err(ExtractError::Sample(3, Error::InvalidData(_)))));
+    assert!(rt;
+        matches!(
+            answer,
+            Err(ExtractError::Sample(3, Some(_), Error::InvalidData(_)))
+        )
+    );
     Ok(())
 }
 

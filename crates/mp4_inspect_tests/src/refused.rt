@@ -1,9 +1,12 @@
 //! Why a job isn't done.
 
+use mp4_box_report::BoxesError;
 use mp4_extract::ExtractError;
 use mp4_media::{Error, FileError};
+use mp4_report::PrintError;
 use std::alloc::{AllocError, AllocFailed};
 use std::io;
+use std::io::ErrorKind;
 
 /// Why a job isn't done.
 #[derive(Clone, Copy, Debug, PartialEq, Eq)]
@@ -41,6 +44,15 @@ impl From<ExtractError> for Refused {
     }
 }
 
+impl From<PrintError> for Refused {
+    fn from(error: PrintError) -> Refused {
+        match error {
+            PrintError::Movie(error) => Refused::from(error),
+            PrintError::Write(error) => Refused::from(error),
+        }
+    }
+}
+
 impl From<AllocError> for Refused {
     fn from(_error: AllocError) -> Refused {
         Refused::Memory
@@ -53,16 +65,21 @@ impl<T: Drop> From<AllocFailed<T>> for Refused {
     }
 }
 
-/// A report has no JSON only where memory runs out.
-impl From<serde_json::Error> for Refused {
-    fn from(_error: serde_json::Error) -> Refused {
-        Refused::Memory
+/// No sink of these jobs refuses, but JSON may have no memory.
+impl From<io::Error> for Refused {
+    fn from(error: io::Error) -> Refused {
+        if error.kind() == ErrorKind::OutOfMemory {
+            return Refused::Memory;
+        }
+        Refused::Otherwise
     }
 }
 
-/// No sink of these jobs refuses.
-impl From<io::Error> for Refused {
-    fn from(_error: io::Error) -> Refused {
-        Refused::Otherwise
+impl From<BoxesError> for Refused {
+    fn from(error: BoxesError) -> Refused {
+        match error {
+            BoxesError::Read(error) => Refused::from(error),
+            BoxesError::Write(error) => Refused::from(error),
+        }
     }
 }

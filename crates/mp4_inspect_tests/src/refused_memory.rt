@@ -59,6 +59,8 @@ fn a_refused_report_of_a_movie_is_made_again(rt: HostRuntime) {
     check(&rt, is_done(&rt, Job::Tracks, tracks));
     let samples = b"3     54      2  0:00:01.000  0:00:01.000  0.500  sync\n";
     check(&rt, is_done(&rt, Job::Samples, samples));
+    let json = b"\"in_file\": true\n    }\n  ],\n  \"refused\": null\n}\n";
+    check(&rt, is_done(&rt, Job::SamplesAsJson, json));
     let metadata = b"title    \xef\xbf\xbdA\nyear     2024\n";
     check(&rt, is_done(&rt, Job::Metadata, metadata));
 }

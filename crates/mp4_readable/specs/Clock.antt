@@ -1,10 +1,15 @@
 -- What a clock shows.
-use Rattle.std.specs.Prelude.{◌≡◌, ◌<◌, ℕ, ◌+◌, ◌*◌}
+use Rattle.std.specs.Prelude.{◌≡◌, ◌<◌, ℕ, ◌+◌, ◌-◌, ◌*◌, ◌/◌}
 use Rattle.mp4_readable.specs.declared.clock.Reading.{Reading}
 
--- a clock shows this of a time in milliseconds: parts that add up to it, and a minute or more is in the parts above
-pub record IsReading (r : Reading) (milliseconds : ℕ) : Type 0 where
-  pub sum : ((r.hours * 60 + r.minutes) * 60 + r.seconds) * 1000 + r.thousandths ≡ milliseconds
+-- a clock shows this of a time in parts of a second, of which a second has so many: hours, minutes, seconds
+-- and parts that add up to it, and a minute or more is in the hours and minutes above
+pub record IsReading (r : Reading) (time second : ℕ) : Type 0 where
+  pub sum : ((r.hours * 60 + r.minutes) * 60 + r.seconds) * second + r.parts ≡ time
   pub minutes : r.minutes < 60
   pub seconds : r.seconds < 60
-  pub thousandths : r.thousandths < 1000
+  pub parts : r.parts < second
+
+-- so many ticks in parts of a second, of which a second has so many, rounded up
+abbrev pub parts_up : ℕ → ℕ → ℕ → ℕ
+parts_up ticks timescale second = (ticks * second + (timescale - 1)) / timescale

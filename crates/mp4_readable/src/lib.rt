@@ -4,15 +4,19 @@
 mod clock;
 mod code;
 mod date;
+mod decimal_time;
 mod grouped;
 mod json;
+mod json_writer;
 mod reason;
 mod thousandths;
 
-pub use clock::Clock;
+pub use clock::{Clock, TickClock, TickSeconds, shown_ticks_come_back, tick_decimals};
 pub use code::{Code, Visible};
 pub use date::Date;
+pub use decimal_time::DecimalTime;
 pub use grouped::{Grouped, grouped_length};
-pub use json::json_text;
+pub use json::{JsonDocument, Whole, json_text};
+pub use json_writer::JsonWriter;
 pub use reason::{Reason, reason_text};
 pub use thousandths::Thousandths;

@@ -1,5 +1,6 @@
 //! Numbers of thousandths, as decimal fractions.
 
+use crate::json::Whole;
 use serde::{Described, Serialize, Serializer};
 use std::fmt;
 use std::fmt::Write;
@@ -23,7 +24,7 @@ impl Serialize for Thousandths {
     fn serialize<S: Serializer>(&self, out: &mut S) -> Result<(), S::Error> {
         match u32::try_from(self.0) {
             Ok(thousandths) => out.f64(f64::from(thousandths) / 1000.0),
-            Err(_) => out.u64(self.0 / 1000),
+            Err(_) => Whole(self.0 / 1000).serialize(out),
         }
     }
 }

@@ -14,3 +14,10 @@ rate_of number ticks timescale = if ticks == 0 then None else within_64_bits (nu
 unfoldable pub thousandths_rate_of : ℕ → ℕ → ℕ → Option ℕ
 thousandths_rate_of number ticks timescale =
     if ticks == 0 then None else within_64_bits ((number * 2000 * timescale + ticks) / (2 * ticks))
+
+-- how many milliseconds each of so many times lasts that are so many ticks together, to the nearest, and
+-- halves up: none is known where there are none, or without ticks in a second
+unfoldable pub milliseconds_each : ℕ → ℕ → ℕ → Option ℕ
+milliseconds_each ticks times timescale =
+    if times * timescale == 0 then None else
+    within_64_bits ((ticks * 2000 + times * timescale) / (2 * (times * timescale)))

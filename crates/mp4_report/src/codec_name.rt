@@ -34,7 +34,7 @@ pub enum CodecName {
     Avc1([u8; 3]),
     /// ISO/IEC 14496-15, Annex E.
     Hev1(HevcName),
-    /// The type of MPEG-4 sound.
+    /// The type of MPEG-4 sound; 0 where it isn't said.
     Mpeg4Audio(u8),
     /// Another object type in an entry `mp4a`.
     OtherAudio(u8),
@@ -103,7 +103,8 @@ fn name_of_mp4a(entry: &Mp4aBox) -> CodecName {
     }
 }
 
-/// The name of the codec of a track, by its sample entry; `None` where that is none that the library reads.
+/// The name of the codec of a track, by its sample entry, or the type of an entry that the library doesn't
+/// read; `None` where there is none.
 pub(crate) fn codec_name_of(stsd: &StsdBox) -> Option<CodecName> {
     if let Some(entry) = &stsd.avc1 {
         return Some(name_of_avc1(entry));
@@ -117,8 +118,11 @@ pub(crate) fn codec_name_of(stsd: &StsdBox) -> Option<CodecName> {
     if let Some(entry) = &stsd.mp4a {
         return Some(name_of_mp4a(entry));
     }
-    match &stsd.tx3g {
-        Some(_) => Some(CodecName::Entry(FourCC::from(*b"tx3g"))),
+    if stsd.tx3g.is_some() {
+        return Some(CodecName::Entry(FourCC::from(*b"tx3g")));
+    }
+    match stsd.other {
+        Some(other) => Some(CodecName::Entry(FourCC::from(other))),
         None => None,
     }
 }
@@ -163,6 +167,7 @@ impl fmt::Display for CodecName {
                 write!(f, "avc1.{profile:02x}{constraints:02x}{level:02x}")
             }
             CodecName::Hev1(name) => write!(f, "{name}"),
+            CodecName::Mpeg4Audio(0) => f.write_str("mp4a.40"),
             CodecName::Mpeg4Audio(kind) => write!(f, "mp4a.40.{kind}"),
             CodecName::OtherAudio(object) => write!(f, "mp4a.{object:02x}"),
             CodecName::Vp09([profile, level, depth]) => {

@@ -1,5 +1,6 @@
-//! What a file says of the work that it holds: title, year, summary and picture.
+//! What a file says of the work that it holds: title, year, summary, picture, and all else.
 
+use crate::tags::Tag;
 use mp4_codec::Result;
 use mp4_media::Movie;
 use mp4_meta::{IlstBox, Metadata};
@@ -25,6 +26,8 @@ pub struct MetadataReport {
     pub year: Option<u32>,
     pub summary: Option<String>,
     pub cover: Option<CoverReport>,
+    /// All that is said in words and numbers, in file order.
+    pub tags: Vec<Tag>,
 }
 
 /// What kind of picture begins with these bytes.
@@ -51,8 +54,8 @@ fn owned(alloc: Global, text: Option<CowStr<'_, Global>>) -> Result<Option<Strin
     }
 }
 
-/// What these items say.
-fn report_of(alloc: Global, items: &IlstBox) -> Result<MetadataReport> {
+/// What these items say, and these tags.
+fn report_of(alloc: Global, items: &IlstBox, tags: Vec<Tag>) -> Result<MetadataReport> {
     let title = owned(alloc, items.title()?)?;
     let summary = owned(alloc, items.summary()?)?;
     Ok(MetadataReport {
@@ -63,20 +66,30 @@ fn report_of(alloc: Global, items: &IlstBox) -> Result<MetadataReport> {
             format: format_of(picture),
             bytes: picture.len() as u64,
         }),
+        tags,
     })
 }
 
-/// What a movie says of its work. Refused by `OutOfMemory` alone.
-pub fn metadata_of(alloc: Global, movie: &Movie) -> Result<MetadataReport> {
+/// What a movie says of its work, whose tags are these, as [`crate::tags_of`] finds them. Refused by `OutOfMemory` alone.
+pub fn metadata_of(alloc: Global, movie: &Movie, tags: Vec<Tag>) -> Result<MetadataReport> {
     match movie.metadata() {
-        Some(items) => report_of(alloc, items),
+        Some(items) => report_of(alloc, items, tags),
         None => Ok(MetadataReport {
             title: None,
             year: None,
             summary: None,
             cover: None,
+            tags,
         }),
     }
+}
+
+/// Writes the line of a text. No control character of its name or of itself reaches a terminal.
+fn write_line<W: fmt::Write>(f: &mut fmt::Formatter<W>, name: &str, text: &str) -> fmt::Result {
+    f.write(Visible(name))?;
+    f.write_repeated(" ", 8usize.saturating_sub(name.len()))?;
+    let text = Visible(text);
+    writeln!(f, " {text}")
 }
 
 /// Writes the line of a text, if it is there.
@@ -86,17 +99,43 @@ fn write_text<W: fmt::Write>(
     text: &Option<String>,
 ) -> fmt::Result {
     match text {
-        Some(text) => {
-            let text = Visible(text.as_str());
-            writeln!(f, "{name:<8} {text}")
-        }
+        Some(text) => write_line(f, name, text.as_str()),
         None => Ok(()),
+    }
+}
+
+/// Whether a tag says the same as a text that is there.
+fn says(tag: &Tag, key: &str, text: &Option<String>) -> bool {
+    match text {
+        Some(text) => tag.key.as_str() == key && tag.value.as_str() == text.as_str(),
+        None => false,
+    }
+}
+
+impl MetadataReport {
+    /// Whether nothing is said.
+    fn is_empty(&self) -> bool {
+        let has_text = self.title.is_some() || self.summary.is_some();
+        let has_other = self.year.is_some() || self.cover.is_some();
+        !has_text && !has_other && self.tags.is_empty()
+    }
+
+    /// Whether a tag is on the screen already, as the title, the year or the summary.
+    fn is_shown(&self, tag: &Tag) -> bool {
+        let is_year = match self.year {
+            Some(year) => tag.key.as_str() == "date" && tag.value.parse::<u32>() == Ok(year),
+            None => false,
+        };
+        is_year || says(tag, "title", &self.title) || says(tag, "description", &self.summary)
     }
 }
 
 impl fmt::Display for MetadataReport {
     /// Writes a line for each thing that is known, or that there is none.
     fn fmt<W: fmt::Write>(&self, f: &mut fmt::Formatter<W>) -> fmt::Result {
+        if self.is_empty() {
+            return f.write_str("no metadata\n");
+        }
         write_text(f, "title", &self.title)?;
         if let Some(year) = self.year {
             writeln!(f, "year     {year}")?;
@@ -106,12 +145,10 @@ impl fmt::Display for MetadataReport {
             let bytes = Grouped(bytes);
             writeln!(f, "cover    {format}, {bytes} bytes")?;
         }
-        if self.title.is_none()
-            && self.year.is_none()
-            && self.summary.is_none()
-            && self.cover.is_none()
-        {
-            f.write_str("no metadata\n")?;
+        for tag in self.tags.iter() {
+            if !self.is_shown(tag) {
+                write_line(f, tag.key.as_str(), tag.value.as_str())?;
+            }
         }
         Ok(())
     }

@@ -1,30 +1,31 @@
 //! The samples of a track: where they lie, and when they are decoded and shown.
 
-use crate::milliseconds::{milliseconds_of, ticks_at};
+use crate::past_end::is_in_file;
+use crate::spans::{Span, Spans};
 use mp4_codec::{Error, Result};
-use mp4_lookup::Mp4Track;
-use mp4_media::Movie;
-use mp4_readable::{Clock, Grouped, Thousandths, grouped_length, reason_text};
+use mp4_media::{Movie, Mp4Track, Samples};
+use mp4_readable::{
+    DecimalTime, Grouped, TickClock, TickSeconds, Whole, grouped_length, tick_decimals,
+};
 use mp4_samples::Place;
 use serde::Serialize;
-use std::alloc::{AllocError, Global};
 use std::fmt;
 use std::fmt::Write;
 
 /// Where a list of samples begins.
 #[derive(Clone, Copy, Debug, PartialEq, Eq)]
-pub enum First {
+pub enum First<'a> {
     /// At the sample of this number, from 1.
     Number(u32),
-    /// At the last sample that is decoded at or before this time, in milliseconds.
-    Milliseconds(u64),
+    /// At the last sample that is decoded at or before this time, or at the first of all.
+    Time(DecimalTime<'a>),
 }
 
 /// Which samples of a file are listed.
 #[derive(Clone, Copy, Debug, PartialEq, Eq)]
-pub struct SamplesRequest {
+pub struct SamplesRequest<'a> {
     pub track_id: u32,
-    pub first: First,
+    pub first: First<'a>,
     /// How many are listed at most.
     pub count: u32,
 }
@@ -35,194 +36,244 @@ pub struct SampleReport {
     /// From 1.
     pub number: u32,
     /// Where its first byte is in the file.
-    pub place: u64,
+    pub place: Whole,
     pub size: u32,
-    pub decode_time: u64,
+    pub decode_time: Whole,
     pub duration: u32,
     /// How much later than it is decoded it is shown.
     pub rendering_offset: i32,
     pub is_sync: bool,
+    /// Whether all its bytes lie before the end of the file.
+    pub in_file: bool,
 }
 
-/// Samples of a track in their order.
-#[derive(Debug, Drop, Serialize)]
-pub struct SamplesReport {
-    pub track: u32,
-    /// Ticks in a second.
-    pub timescale: u32,
-    pub samples: Vec<SampleReport>,
-    /// Why the sample after the last that is listed can't be found, where that is so.
-    pub refused: Option<String>,
+/// Whether a track has no samples: its tables are empty, and it has no fragments.
+fn is_empty(track: &Mp4Track) -> bool {
+    let stbl = &track.trak.mdia.minf.stbl;
+    track.trafs.is_empty() && stbl.sample_count() == 0 && stbl.stsc.entries.is_empty()
 }
 
 /// The number of the first sample that is listed: 1 where no sample is decoded so early.
 fn first_number(track: &Mp4Track, first: First) -> u32 {
     match first {
         First::Number(number) => number.max(1),
-        First::Milliseconds(milliseconds) => {
-            let ticks = ticks_at(milliseconds, track.timescale());
-            track.sample_at(ticks).unwrap_or(1)
-        }
+        First::Time(time) => track.sample_at(time.ticks(track.timescale())).unwrap_or(1),
     }
 }
 
-fn report_of(number: u32, place: Place) -> SampleReport {
+/// A sample of a file of so many bytes.
+fn report_of(number: u32, place: Place, file_size: u64) -> SampleReport {
     SampleReport {
         number,
-        place: place.offset,
+        place: Whole(place.offset),
         size: place.size,
-        decode_time: place.start_time,
+        decode_time: Whole(place.start_time),
         duration: place.duration,
         rendering_offset: place.rendering_offset,
         is_sync: place.is_sync,
+        in_file: is_in_file(place.offset, place.size, file_size),
     }
 }
 
-/// Adds the samples from a number on, at most so many, and answers why the next isn't there where it is refused.
-fn add_samples(
-    track: &Mp4Track,
+/// The samples that are asked for, in their order: each is found when it is its turn.
+#[derive(Drop)]
+pub struct SampleRows<'m> {
+    track: &'m Mp4Track,
+    file_size: u64,
+    /// The samples from the next on.
+    samples: Samples<'m>,
+    /// The number of the next.
     number: u32,
-    count: u32,
-    samples: &mut Vec<SampleReport>,
-) -> std::result::Result<Option<Error>, AllocError> {
-    let mut number = number;
-    let mut left = count;
-    for place in track.samples_from(number) {
-        if left == 0 {
-            break;
-        }
-        match place {
-            Ok(place) => samples.push(report_of(number, place))?,
-            Err(error) => return Ok(Some(error)),
-        }
-        left -= 1;
-        number = number.saturating_add(1);
+    /// How many are listed at most.
+    left: u32,
+    refused: Option<Error>,
+}
+
+impl<'m> SampleRows<'m> {
+    /// Before the first sample that is asked for of a movie whose file has so many bytes. `TrakNotFound`
+    /// where there is no such track.
+    pub fn new(movie: &'m Movie, file_size: u64, request: SamplesRequest) -> Result<Self> {
+        let SamplesRequest {
+            track_id,
+            first,
+            count,
+        } = request;
+        let track = movie
+            .tracks()
+            .get(&track_id)
+            .ok_or(Error::TrakNotFound(track_id))?;
+        let number = first_number(track, first);
+        Ok(SampleRows {
+            track,
+            file_size,
+            samples: track.samples_from(number),
+            number,
+            left: if is_empty(track) { 0 } else { count },
+            refused: None,
+        })
     }
-    Ok(None)
+
+    /// Ticks in a second.
+    pub fn timescale(&self) -> u32 {
+        self.track.timescale()
+    }
+
+    /// How many samples may still come: as many as were asked for and not yet found.
+    pub fn left(&self) -> u32 {
+        self.left
+    }
+
+    /// The next sample; `None` after the last that is asked for, after the last of the track, and where one
+    /// is refused.
+    pub fn next_row(&mut self) -> Option<SampleReport> {
+        self.left = self.left.checked_sub(1)?;
+        match self.samples.next()? {
+            Ok(place) => {
+                let row = report_of(self.number, place, self.file_size);
+                self.number = self.number.saturating_add(1);
+                Some(row)
+            }
+            Err(error) => {
+                self.refused = Some(error);
+                self.left = 0;
+                None
+            }
+        }
+    }
+
+    /// Why the sample after the last that was found can't be, where that is so.
+    pub fn refused(&self) -> Option<&Error> {
+        self.refused.as_ref()
+    }
+
+    /// The columns that hold the samples to come. It looks at each chunk and each run, but at each sample
+    /// only where the file lists what these have.
+    pub fn columns(&self) -> SampleColumns {
+        let mut spans = Spans::new(self.track, self.number, &[]);
+        let mut columns = SampleColumns::of_headings(self.timescale());
+        let mut left = self.left;
+        for _ in 0..self.left {
+            let Some(Ok(span)) = spans.next_span() else {
+                break;
+            };
+            let count = span.count.min(left);
+            columns.widen(Span { count, ..span });
+            left -= count;
+            if left == 0 {
+                break;
+            }
+        }
+        columns
+    }
 }
 
-/// The samples of a track of a movie, at most so many, from the first that is asked for on.
+/// The columns of a list of samples: how wide those are whose numbers may be long, and the timescale of the
+/// times.
 ///
-/// `TrakNotFound` where there is no such track; else refused by `OutOfMemory` alone.
-pub fn samples_of(alloc: Global, movie: &Movie, request: SamplesRequest) -> Result<SamplesReport> {
-    let SamplesRequest {
-        track_id,
-        first,
-        count,
-    } = request;
-    let track = movie
-        .tracks()
-        .get(&track_id)
-        .ok_or(Error::TrakNotFound(track_id))?;
-    let mut samples = Vec::new(alloc);
-    let number = first_number(track, first);
-    let refused = match add_samples(track, number, count, &mut samples)? {
-        Some(error) => Some(reason_text(alloc, &error)?),
-        None => None,
-    };
-    Ok(SamplesReport {
-        track: track_id,
-        timescale: track.timescale(),
-        samples,
-        refused,
-    })
-}
-
-/// The widths of the columns whose numbers may be long.
-#[derive(Clone, Copy, Debug)]
-struct Widths {
+/// They are shown as the line of headings.
+#[derive(Clone, Copy, Debug, PartialEq, Eq)]
+pub struct SampleColumns {
     number: usize,
     place: usize,
     size: usize,
-}
-
-/// The widths that hold all samples.
-fn widths_of(samples: &[SampleReport]) -> Widths {
-    let mut widths = Widths {
-        number: 6,
-        place: 5,
-        size: 5,
-    };
-    for sample in samples {
-        widths.number = widths.number.max(grouped_length(u64::from(sample.number)));
-        widths.place = widths.place.max(grouped_length(sample.place));
-        widths.size = widths.size.max(grouped_length(u64::from(sample.size)));
-    }
-    widths
-}
-
-/// A time in ticks as it is shown, or why it isn't.
-#[derive(Clone, Copy, Debug)]
-struct Time {
-    ticks: i128,
     timescale: u32,
 }
 
-impl fmt::Display for Time {
-    /// Writes hours, minutes, seconds and thousandths, after a minus where it is before 0.
-    fn fmt<W: fmt::Write>(&self, f: &mut fmt::Formatter<W>) -> fmt::Result {
-        let ticks = u64::try_from(self.ticks.unsigned_abs()).unwrap_or(u64::MAX);
-        let Some(milliseconds) = milliseconds_of(ticks, self.timescale) else {
-            return f.write_str("-");
-        };
-        if self.ticks < 0 {
-            f.write_str("-")?;
+impl SampleColumns {
+    /// As wide as the headings.
+    fn of_headings(timescale: u32) -> Self {
+        SampleColumns {
+            number: 6,
+            place: 5,
+            size: 5,
+            timescale,
         }
-        f.write(Clock(milliseconds))
+    }
+
+    /// Makes them as wide as samples want them, of which there is one at least.
+    fn widen(&mut self, span: Span) {
+        let number = u64::from(span.last_number());
+        let place = span.place_after(span.count.saturating_sub(1));
+        self.number = self.number.max(grouped_length(number));
+        self.place = self.place.max(grouped_length(place));
+        self.size = self.size.max(grouped_length(u64::from(span.first.size)));
+    }
+
+    /// The line of a sample.
+    pub fn line(self, sample: SampleReport) -> SampleLine {
+        SampleLine {
+            columns: self,
+            sample,
+        }
     }
 }
 
-/// Writes the line of a sample.
-fn write_sample<W: fmt::Write>(
-    f: &mut fmt::Formatter<W>,
-    widths: Widths,
-    timescale: u32,
-    sample: &SampleReport,
-) -> fmt::Result {
-    let Widths {
-        number: number_width,
-        place: place_width,
-        size: size_width,
-    } = widths;
-    let number = Grouped(u64::from(sample.number));
-    let place = Grouped(sample.place);
-    let size = Grouped(u64::from(sample.size));
-    write!(
-        f,
-        "{number:>number_width$}  {place:>place_width$}  {size:>size_width$}"
-    )?;
-    let ticks = i128::from(sample.decode_time);
-    let decoded = Time { ticks, timescale };
-    let shown = Time {
-        ticks: ticks + i128::from(sample.rendering_offset),
-        timescale,
-    };
-    let lasts = Thousandths(milliseconds_of(u64::from(sample.duration), timescale).unwrap_or(0));
-    let sync = if sample.is_sync { "  sync" } else { "" };
-    writeln!(f, "  {decoded}  {shown}  {lasts}{sync}")
-}
-
-impl fmt::Display for SamplesReport {
-    /// Writes a line for each sample below the headings, and why there are no more where one is refused.
+impl fmt::Display for SampleColumns {
+    /// Writes the headings.
     fn fmt<W: fmt::Write>(&self, f: &mut fmt::Formatter<W>) -> fmt::Result {
-        let widths = widths_of(self.samples.as_slice());
-        let Widths {
+        let SampleColumns {
             number,
             place,
             size,
-        } = widths;
+            timescale,
+        } = *self;
+        // Before the decimals are `0:00:00.`.
+        let time = tick_decimals(timescale).saturating_add(8);
         write!(
             f,
-            "{:>number$}  {:>place$}  {:>size$}",
-            "sample", "place", "bytes"
+            "{:>number$}  {:>place$}  {:>size$}  {:<time$}  {:<time$}  lasts",
+            "sample", "place", "bytes", "decoded", "shown"
+        )
+    }
+}
+
+/// The line of a sample in a list.
+#[derive(Clone, Copy, Debug, PartialEq, Eq)]
+pub struct SampleLine {
+    columns: SampleColumns,
+    sample: SampleReport,
+}
+
+impl SampleLine {
+    /// Writes when the sample is decoded and shown, and how long it lasts.
+    fn write_times<W: fmt::Write>(&self, f: &mut fmt::Formatter<W>) -> fmt::Result {
+        let timescale = self.columns.timescale;
+        let ticks = i128::from(self.sample.decode_time.0);
+        let decoded = TickClock { ticks, timescale };
+        let shown = TickClock {
+            ticks: ticks + i128::from(self.sample.rendering_offset),
+            timescale,
+        };
+        let lasts = TickSeconds {
+            ticks: u64::from(self.sample.duration),
+            timescale,
+        };
+        write!(f, "  {decoded}  {shown}  {lasts}")
+    }
+}
+
+impl fmt::Display for SampleLine {
+    fn fmt<W: fmt::Write>(&self, f: &mut fmt::Formatter<W>) -> fmt::Result {
+        let SampleColumns {
+            number: number_width,
+            place: place_width,
+            size: size_width,
+            timescale: _,
+        } = self.columns;
+        let number = Grouped(u64::from(self.sample.number));
+        let place = Grouped(self.sample.place.0);
+        let size = Grouped(u64::from(self.sample.size));
+        write!(
+            f,
+            "{number:>number_width$}  {place:>place_width$}  {size:>size_width$}"
         )?;
-        f.write_str("  decoded      shown        lasts\n")?;
-        for sample in self.samples.iter() {
-            write_sample(f, widths, self.timescale, sample)?;
+        self.write_times(f)?;
+        if self.sample.is_sync {
+            f.write_str("  sync")?;
         }
-        match &self.refused {
-            Some(reason) => writeln!(f, "the next sample is refused: {reason}"),
-            None => Ok(()),
+        if !self.sample.in_file {
+            f.write_str("  past the end")?;
         }
+        Ok(())
     }
 }

@@ -1,17 +1,26 @@
 //! What a sample entry says of sound.
 
 use crate::codec_name::MPEG4_AUDIO;
-use mp4_entry::{ChannelConfig, Mp4aBox, SampleFreqIndex};
+use mp4_entry::{ChannelConfig, DecoderSpecificDescriptor, Mp4aBox, SampleFreqIndex};
 use mp4_readable::Grouped;
 use serde::Serialize;
 use std::fmt;
 use std::fmt::Write;
 
+/// The type of sound whose upper half of frequencies is replicated from the lower (ISO/IEC 14496-3, 1.5.1.2):
+/// SBR.
+const SPECTRAL_BAND_REPLICATION: u8 = 5;
+
+/// The type of the same sound, whose two channels are made of one: PS.
+const PARAMETRIC_STEREO: u8 = 29;
+
 /// What is known of the sound of a track.
 #[derive(Clone, Copy, Debug, PartialEq, Eq, Serialize)]
 pub struct Sound {
-    /// Samples of sound in a second.
+    /// Samples of sound in a second, as they are played.
     pub sampling_frequency: u32,
+    /// Those that are encoded, where a decoder makes more of them: half as many.
+    pub core_frequency: Option<u32>,
     pub channels: u16,
 }
 
@@ -39,32 +48,59 @@ fn frequency_by_index(index: u8) -> Option<u32> {
     }
 }
 
+/// How many channels sound of a type has that a decoder is started with so many of.
+fn channels_of_type(profile: u8, channels: u16) -> u16 {
+    if profile == PARAMETRIC_STEREO && channels == 1 {
+        2
+    } else {
+        channels
+    }
+}
+
 impl Sound {
     /// The sound that the entry itself says.
     fn of_entry(entry: &Mp4aBox) -> Self {
         Sound {
             sampling_frequency: u32::from(entry.samplerate.value()),
+            core_frequency: None,
             channels: entry.channelcount,
         }
     }
 
-    /// The sound of an entry: as its `esds` says, where that is of MPEG-4 audio, or else as the entry itself does.
+    /// The sound that a decoder is started with; what that doesn't say is as the entry says.
+    fn of_decoder(decoder: DecoderSpecificDescriptor, said: Sound) -> Self {
+        let profile = decoder.profile;
+        let channels = channels_by_number(decoder.chan_conf).unwrap_or(said.channels);
+        let channels = channels_of_type(profile, channels);
+        let Some(frequency) = frequency_by_index(decoder.freq_index) else {
+            return Sound { channels, ..said };
+        };
+        if profile == SPECTRAL_BAND_REPLICATION || profile == PARAMETRIC_STEREO {
+            return Sound {
+                sampling_frequency: frequency.saturating_mul(2),
+                core_frequency: Some(frequency),
+                channels,
+            };
+        }
+        Sound {
+            sampling_frequency: frequency,
+            core_frequency: None,
+            channels,
+        }
+    }
+
+    /// The sound of an entry: as its `esds` says, where that is of MPEG-4 audio and says a type of sound, or
+    /// else as the entry itself does.
     pub fn of(entry: &Mp4aBox) -> Self {
         let said = Sound::of_entry(entry);
         let Some(esds) = &entry.esds else {
             return said;
         };
         let config = esds.es_desc.dec_config;
-        if config.object_type_indication != MPEG4_AUDIO {
+        if config.object_type_indication != MPEG4_AUDIO || config.dec_specific.profile == 0 {
             return said;
         }
-        let decoder = config.dec_specific;
-        Sound {
-            sampling_frequency: frequency_by_index(decoder.freq_index).unwrap_or(
-                said.sampling_frequency,
-            ),
-            channels: channels_by_number(decoder.chan_conf).unwrap_or(said.channels),
-        }
+        Sound::of_decoder(config.dec_specific, said)
     }
 }
 
@@ -73,6 +109,12 @@ impl fmt::Display for Sound {
         let frequency = Grouped(u64::from(self.sampling_frequency));
         let channels = self.channels;
         let noun = if channels == 1 { "channel" } else { "channels" };
-        write!(f, "{frequency} Hz, {channels} {noun}")
+        match self.core_frequency {
+            Some(core) => {
+                let core = Grouped(u64::from(core));
+                write!(f, "{frequency} Hz of {core} Hz encoded, {channels} {noun}")
+            }
+            None => write!(f, "{frequency} Hz, {channels} {noun}"),
+        }
     }
 }

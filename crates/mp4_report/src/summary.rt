@@ -1,7 +1,10 @@
-//! What the samples of a track are together, by one walk over them.
+//! What the samples of a track are together, by the runs of its tables and fragments.
 
-use mp4_lookup::Mp4Track;
-use mp4_samples::Place;
+use crate::past_end::PastEnd;
+use crate::rate::milliseconds_each;
+use crate::spans::{Span, Spans};
+use mp4_media::Mp4Track;
+use std::alloc::{AllocError, Global};
 
 /// What the samples of a track are together: those up to the first that is refused.
 #[derive(Clone, Copy, Debug, Default, PartialEq, Eq)]
@@ -11,51 +14,94 @@ pub struct SampleSummary {
     pub bytes: u64,
     pub sync: u64,
     /// When the first sync sample is decoded, in ticks.
-    first_sync: u64,
+    pub first_sync: u64,
     /// When the last sync sample is decoded, in ticks.
-    last_sync: u64,
+    pub last_sync: u64,
     /// The most ticks from a sync sample to the next.
     pub longest: u64,
+    /// Those that lie past the end of the file.
+    pub past_end: Option<PastEnd>,
 }
 
 impl SampleSummary {
-    /// Counts a sync sample that is decoded at this time.
-    fn add_sync(&mut self, time: u64) {
+    /// Counts sync samples, each of which is decoded when the one before it has lasted.
+    fn add_sync(&mut self, span: Span) {
         if self.sync == 0 {
-            self.first_sync = time;
+            self.first_sync = span.first.start_time;
         } else {
-            self.longest = self.longest.max(time.saturating_sub(self.last_sync));
+            let gap = span.first.start_time.saturating_sub(self.last_sync);
+            self.longest = self.longest.max(gap);
         }
-        self.last_sync = time;
-        self.sync = self.sync.saturating_add(1);
+        if span.count > 1 {
+            self.longest = self.longest.max(u64::from(span.first.duration));
+        }
+        self.last_sync = span.last_time();
+        self.sync = self.sync.saturating_add(u64::from(span.count));
     }
 
-    /// Counts a sample.
-    fn add(&mut self, place: Place) {
-        self.count = self.count.saturating_add(1);
-        self.bytes = self.bytes.saturating_add(u64::from(place.size));
-        if place.is_sync {
-            self.add_sync(place.start_time);
+    /// Counts samples of a file of so many bytes.
+    fn add(&mut self, span: Span, file_size: u64) {
+        let count = u64::from(span.count);
+        self.count = self.count.saturating_add(count);
+        self.bytes = self
+            .bytes
+            .saturating_add(count.saturating_mul(u64::from(span.first.size)));
+        if span.first.is_sync {
+            self.add_sync(span);
         }
+        self.past_end = PastEnd::with_span(self.past_end, span, file_size);
     }
 
-    /// The ticks from a sync sample to the next on average, rounded down; `None` where there are fewer than two.
-    pub fn mean(&self) -> Option<u64> {
-        if self.sync < 2 {
+    /// How many times a sync sample follows another.
+    fn gaps(&self) -> u64 {
+        self.sync.saturating_sub(1)
+    }
+
+    /// The milliseconds from a sync sample to the next on average, to the nearest; `None` where there are
+    /// fewer than two.
+    pub fn mean_ms(&self, timescale: u32) -> Option<u64> {
+        let ticks = self.last_sync.saturating_sub(self.first_sync);
+        milliseconds_each(ticks, self.gaps(), timescale)
+    }
+
+    /// The most milliseconds from a sync sample to the next, to the nearest; `None` where there are fewer
+    /// than two.
+    pub fn longest_ms(&self, timescale: u32) -> Option<u64> {
+        if self.gaps() == 0 {
             return None;
         }
-        Some(self.last_sync.saturating_sub(self.first_sync) / (self.sync - 1))
+        milliseconds_each(self.longest, 1, timescale)
     }
 }
 
-/// What the samples of a track are together.
-pub fn summary_of(track: &Mp4Track) -> SampleSummary {
-    let mut summary = SampleSummary::default();
-    for place in track.samples() {
-        match place {
-            Ok(place) => summary.add(place),
-            Err(_) => break,
+/// The numbers of stss where all samples of the movie box have one size, in their order; else none.
+fn sync_numbers_of(alloc: Global, track: &Mp4Track) -> Result<Vec<u32>, AllocError> {
+    let stbl = &track.trak.mdia.minf.stbl;
+    match &stbl.stss {
+        Some(stss) if stbl.stsz.sample_size > 0 => {
+            let mut numbers = Vec::from_slice(alloc, stss.entries.as_slice())?;
+            numbers.sort()?;
+            Ok(numbers)
         }
+        _ => Ok(Vec::new(alloc)),
     }
-    summary
+}
+
+/// What the samples of a track are together, in a file of so many bytes. It looks at each chunk and each run,
+/// but at each sample only where the file lists what these have.
+pub fn summary_of(
+    alloc: Global,
+    track: &Mp4Track,
+    file_size: u64,
+) -> Result<SampleSummary, AllocError> {
+    let sync_numbers = sync_numbers_of(alloc, track)?;
+    let mut spans = Spans::new(track, 1, sync_numbers.as_slice());
+    let mut summary = SampleSummary::default();
+    for _ in 0..u32::MAX {
+        let Some(Ok(span)) = spans.next_span() else {
+            break;
+        };
+        summary.add(span, file_size);
+    }
+    Ok(summary)
 }

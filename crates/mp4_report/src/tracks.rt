@@ -1,7 +1,9 @@
 //! What the tracks of a file are.
 
 use crate::codec_name::{CodecName, codec_name_of};
+use crate::language::language_of;
 use crate::milliseconds::milliseconds_of;
+use crate::past_end::{PastEnd, track_ids};
 use crate::rate::{rate_of, thousandths_rate_of};
 use crate::sound::Sound;
 use crate::summary::{SampleSummary, summary_of};
@@ -9,10 +11,9 @@ use mp4_codec::FourCC;
 use mp4_entry::StsdBox;
 use mp4_lookup::Mp4Track;
 use mp4_media::Movie;
-use mp4_readable::{Clock, Code, Grouped, Thousandths, Visible};
+use mp4_readable::{Clock, Code, Grouped, Thousandths, Whole};
 use serde::{Described, Serialize, Serializer};
 use std::alloc::{AllocError, Global};
-use std::collections::HashMap;
 use std::fmt;
 use std::fmt::Write;
 
@@ -50,23 +51,25 @@ pub struct TrackReport {
     /// What is known of its sound, where it has an entry `mp4a`.
     pub sound: Option<Sound>,
     /// The bits of all samples in a second of the duration.
-    pub bit_rate: Option<u64>,
-    /// ISO 639-2/T.
-    pub language: String,
+    pub bit_rate: Option<Whole>,
+    /// ISO 639-2/T; `None` where it isn't known.
+    pub language: Option<String>,
     /// Ticks in a second.
     pub timescale: u32,
-    pub duration_ms: Option<u64>,
+    pub duration_ms: Option<Whole>,
     /// How many samples there are, up to the first that is refused.
-    pub samples: u64,
-    pub sync_samples: u64,
-    /// The longest time from a sync sample to the next.
-    pub sync_longest_ms: Option<u64>,
-    /// The mean time from a sync sample to the next.
-    pub sync_mean_ms: Option<u64>,
+    pub samples: Whole,
+    pub sync_samples: Whole,
+    /// The longest time from a sync sample to the next, to the nearest millisecond.
+    pub sync_longest_ms: Option<Whole>,
+    /// The mean time from a sync sample to the next, to the nearest millisecond.
+    pub sync_mean_ms: Option<Whole>,
     /// How many entries its edit list has.
-    pub edits: u64,
+    pub edits: Whole,
     /// How many track fragments it has.
-    pub fragments: u64,
+    pub fragments: Whole,
+    /// Its samples that lie past the end of the file.
+    pub past_end: Option<PastEnd>,
 }
 
 /// The tracks of a file, by rising id.
@@ -125,11 +128,11 @@ fn ticks_of(track: &Mp4Track) -> Option<u64> {
     }
 }
 
-/// The name of the codec of a track.
-fn codec_of(stsd: &StsdBox, codes: &HashMap<u32, FourCC>, track_id: u32) -> Option<CodecName> {
-    match codec_name_of(stsd) {
-        Some(name) => Some(name),
-        None => codes.get(&track_id).copied().map(CodecName::Entry),
+/// The language of a track.
+fn language_text(alloc: Global, track: &Mp4Track) -> Result<Option<String>, AllocError> {
+    match language_of(track.language()) {
+        Some(language) => Ok(Some(String::from_str(alloc, language)?)),
+        None => Ok(None),
     }
 }
 
@@ -149,7 +152,6 @@ fn report_of(
     id: u32,
     track: &Mp4Track,
     summary: SampleSummary,
-    codes: &HashMap<u32, FourCC>,
 ) -> Result<TrackReport, AllocError> {
     let kind = kind_of(track);
     let is_video = kind == TrackKind::Video;
@@ -157,11 +159,11 @@ fn report_of(
     let ticks = ticks_of(track);
     let stsd = &track.trak.mdia.minf.stbl.stsd;
     let spread = ticks.unwrap_or(0);
-    let language = String::from_str(alloc, track.language())?;
+    let language = language_text(alloc, track)?;
     Ok(TrackReport {
         id,
         kind,
-        codec: codec_of(stsd, codes, id),
+        codec: codec_name_of(stsd),
         pictures: if is_video {
             Some(pictures_of(track, stsd))
         } else {
@@ -173,44 +175,29 @@ fn report_of(
             None
         },
         sound: stsd.mp4a.as_ref().map(Sound::of),
-        bit_rate: rate_of(summary.bytes.saturating_mul(8), spread, timescale),
+        bit_rate: rate_of(summary.bytes.saturating_mul(8), spread, timescale).map(Whole),
         language,
         timescale,
-        duration_ms: ticks.and_then(|ticks| milliseconds_of(ticks, timescale)),
-        samples: summary.count,
-        sync_samples: summary.sync,
-        sync_longest_ms: summary
-            .mean()
-            .and(milliseconds_of(summary.longest, timescale)),
-        sync_mean_ms: summary
-            .mean()
-            .and_then(|ticks| milliseconds_of(ticks, timescale)),
-        edits: edits_of(track),
-        fragments: track.trafs.len() as u64,
+        duration_ms: ticks
+            .and_then(|ticks| milliseconds_of(ticks, timescale))
+            .map(Whole),
+        samples: Whole(summary.count),
+        sync_samples: Whole(summary.sync),
+        sync_longest_ms: summary.longest_ms(timescale).map(Whole),
+        sync_mean_ms: summary.mean_ms(timescale).map(Whole),
+        edits: Whole(edits_of(track)),
+        fragments: Whole(track.trafs.len() as u64),
+        past_end: summary.past_end,
     })
 }
 
-/// The ids of a movie's tracks, rising.
-fn track_ids(alloc: Global, movie: &Movie) -> Result<Vec<u32>, AllocError> {
-    let mut ids = Vec::new(alloc);
-    for id in movie.tracks().keys() {
-        ids.push(*id)?;
-    }
-    ids.sort()?;
-    Ok(ids)
-}
-
-/// What the tracks of a movie are; `codes` has the types of their sample entries, by their ids, for tracks whose entry
-/// the library doesn't read.
-pub fn tracks_of(
-    alloc: Global,
-    movie: &Movie,
-    codes: &HashMap<u32, FourCC>,
-) -> Result<TracksReport, AllocError> {
+/// What the tracks of a movie are, whose file has so many bytes.
+pub fn tracks_of(alloc: Global, movie: &Movie, file_size: u64) -> Result<TracksReport, AllocError> {
     let mut tracks = Vec::new(alloc);
     for id in track_ids(alloc, movie)?.iter() {
         if let Some(track) = movie.tracks().get(id) {
-            tracks.push(report_of(alloc, *id, track, summary_of(track), codes)?)?;
+            let summary = summary_of(alloc, track, file_size)?;
+            tracks.push(report_of(alloc, *id, track, summary)?)?;
         }
     }
     Ok(TracksReport { tracks })
@@ -239,10 +226,10 @@ impl Serialize for TrackKind {
 fn write_number<W: fmt::Write>(
     f: &mut fmt::Formatter<W>,
     name: &str,
-    number: u64,
+    number: Whole,
     unit: &str,
 ) -> fmt::Result {
-    let number = Grouped(number);
+    let number = Grouped(number.0);
     writeln!(f, "  {name:<13} {number}{unit}")
 }
 
@@ -263,14 +250,14 @@ fn write_sync_samples<W: fmt::Write>(
     f: &mut fmt::Formatter<W>,
     track: &TrackReport,
 ) -> fmt::Result {
-    if track.sync_samples == track.samples && track.samples > 0 {
+    if track.sync_samples == track.samples && track.samples.0 > 0 {
         return f.write_str("  sync samples  all\n");
     }
-    let count = Grouped(track.sync_samples);
+    let count = Grouped(track.sync_samples.0);
     write!(f, "  sync samples  {count}")?;
     if let (Some(longest), Some(mean)) = (track.sync_longest_ms, track.sync_mean_ms) {
-        let longest = Clock(longest);
-        let mean = Clock(mean);
+        let longest = Clock(longest.0);
+        let mean = Clock(mean.0);
         write!(f, ", at most {longest} apart, {mean} on average")?;
     }
     f.write_str("\n")
@@ -279,7 +266,7 @@ fn write_sync_samples<W: fmt::Write>(
 /// Writes the lines of what lasts: the bits in a second, and the duration.
 fn write_duration<W: fmt::Write>(f: &mut fmt::Formatter<W>, track: &TrackReport) -> fmt::Result {
     if let Some(milliseconds) = track.duration_ms {
-        let duration = Clock(milliseconds);
+        let duration = Clock(milliseconds.0);
         writeln!(f, "  duration      {duration}")?;
     }
     if let Some(bits) = track.bit_rate {
@@ -301,13 +288,20 @@ impl fmt::Display for TrackReport {
         if let Some(sound) = self.sound {
             writeln!(f, "  sound         {sound}")?;
         }
-        let language = Visible(self.language.as_str());
+        let language = match &self.language {
+            Some(language) => language.as_str(),
+            None => "not known",
+        };
         writeln!(f, "  language      {language}")?;
         write_duration(f, self)?;
         write_number(f, "samples", self.samples, "")?;
         write_sync_samples(f, self)?;
         write_number(f, "edits", self.edits, "")?;
-        write_number(f, "fragments", self.fragments, "")
+        write_number(f, "fragments", self.fragments, "")?;
+        match self.past_end {
+            Some(past_end) => writeln!(f, "  past the end  {past_end}"),
+            None => Ok(()),
+        }
     }
 }
 

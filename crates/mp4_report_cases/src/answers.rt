@@ -1,12 +1,17 @@
 //! What the reports of a file answer to questions.
 
-use mp4_box_report::{BoxesRequest, boxes_of, entry_codes_of, why_of};
-use mp4_media::{Error, FileError, Mp4File};
-use mp4_readable::{Grouped, json_text};
-use mp4_report::{First, SamplesRequest, metadata_of, milliseconds_in, samples_of, tracks_of};
+use mp4_box_report::{BoxesError, BoxesRequest, why_of, write_boxes};
+use mp4_media::{Error, FileError, Mp4File, Mp4Track};
+use mp4_readable::{DecimalTime, Grouped, TickClock, json_text};
+use mp4_report::{
+    First, PrintError, SamplesRequest, metadata_of, tags_of, tracks_of, tracks_past_end,
+    write_samples,
+};
 use serde::Serialize;
 use std::alloc::Global;
-use std::fmt::Display;
+use std::fmt::{Display, Write};
+use std::io;
+use std::io::ErrorKind;
 
 /// What a call answers that looks at a file.
 type Answer = Result<String, FileError>;
@@ -33,22 +38,41 @@ fn opened(alloc: Global, bytes: &[u8]) -> Result<Mp4File<&[u8]>, FileError> {
 }
 
 fn boxes(alloc: Global, bytes: &[u8], depth: Option<u32>, all: bool, form: &str) -> Answer {
-    printed(
-        alloc,
-        &boxes_of(alloc, bytes, BoxesRequest { depth, all })?,
-        form,
-    )
+    let request = BoxesRequest { depth, all };
+    let mut out = Vec::new(alloc);
+    match write_boxes(alloc, bytes, request, form == "json", &mut out) {
+        Ok(()) => Ok(String::from_utf8_lossy(alloc, out.as_slice())?),
+        Err(BoxesError::Read(error)) => Err(error),
+        Err(BoxesError::Write(error)) => Err(of_printing(error)),
+    }
 }
 
 fn tracks(alloc: Global, bytes: &[u8], form: &str) -> Answer {
-    let codes = entry_codes_of(alloc, bytes)?;
     let movie = opened(alloc, bytes)?;
-    printed(alloc, &tracks_of(alloc, &*movie, &codes)?, form)
+    let report = tracks_of(alloc, &*movie, movie.source_len())?;
+    printed(alloc, &report, form)
 }
 
 fn metadata(alloc: Global, bytes: &[u8], form: &str) -> Answer {
+    let tags = tags_of(alloc, bytes)?;
     let movie = opened(alloc, bytes)?;
-    printed(alloc, &metadata_of(alloc, &*movie)?, form)
+    printed(alloc, &metadata_of(alloc, &*movie, tags)?, form)
+}
+
+/// Why a list isn't written whole: where it had no memory, that is why.
+fn of_printing(error: io::Error) -> FileError {
+    if error.kind() == ErrorKind::OutOfMemory {
+        return FileError::from(Error::OutOfMemory);
+    }
+    FileError::Io(error)
+}
+
+/// An error of a list that is written.
+fn print_error(error: PrintError) -> FileError {
+    match error {
+        PrintError::Movie(error) => FileError::from(error),
+        PrintError::Write(error) => of_printing(error),
+    }
 }
 
 fn samples(
@@ -65,7 +89,25 @@ fn samples(
         first,
         count,
     };
-    printed(alloc, &samples_of(alloc, &*movie, request)?, form)
+    let file_size = movie.source_len();
+    let mut out = Vec::new(alloc);
+    match write_samples(alloc, &*movie, file_size, request, form == "json", &mut out) {
+        Ok(()) => Ok(String::from_utf8_lossy(alloc, out.as_slice())?),
+        Err(error) => Err(print_error(error)),
+    }
+}
+
+/// A line for each track that has samples past the end of the file; `none` where none has.
+fn past_end(alloc: Global, bytes: &[u8]) -> Answer {
+    let movie = opened(alloc, bytes)?;
+    let mut lines = String::new(alloc);
+    for track in tracks_past_end(alloc, &*movie, movie.source_len())?.iter() {
+        writeln!(lines, "{track}")?;
+    }
+    if lines.is_empty() {
+        lines.push_str("none")?;
+    }
+    Ok(lines)
 }
 
 fn why(alloc: Global, bytes: &[u8]) -> Answer {
@@ -77,13 +119,78 @@ fn why(alloc: Global, bytes: &[u8]) -> Answer {
 
 /// The samples from a time on, as many as a word says.
 fn samples_at(alloc: Global, bytes: &[u8], track: &str, seconds: &str, count: &str) -> Answer {
-    match milliseconds_in(seconds) {
+    match DecimalTime::parse(seconds) {
+        Some(time) => samples(
+            alloc,
+            bytes,
+            track,
+            First::Time(time),
+            number(count),
+            "text",
+        ),
+        None => Ok(String::from_str(alloc, "no time")?),
+    }
+}
+
+/// A time in ticks, as a clock shows it.
+fn clock(alloc: Global, ticks: &str, timescale: &str) -> Answer {
+    let clock = TickClock {
+        ticks: i128::from(ticks.parse::<i64>().unwrap_or(0)),
+        timescale: number(timescale),
+    };
+    Ok(format!(in alloc; "{clock}")?)
+}
+
+/// The last tick at or before a time.
+fn ticks(alloc: Global, time: &str, timescale: &str) -> Answer {
+    match DecimalTime::parse(time) {
         Some(time) => {
-            let first = First::Milliseconds(time);
-            samples(alloc, bytes, track, first, number(count), "text")
+            let ticks = time.ticks(number(timescale));
+            Ok(format!(in alloc; "{ticks}")?)
         }
         None => Ok(String::from_str(alloc, "no time")?),
     }
+}
+
+/// The tick that is read of the time that is shown of another.
+fn tick_shown(alloc: Global, tick: u64, timescale: u32) -> Result<Option<u64>, FileError> {
+    let clock = TickClock {
+        ticks: i128::from(tick),
+        timescale,
+    };
+    let text = format!(in alloc; "{clock}")?;
+    Ok(DecimalTime::parse(text.as_str()).map(|time| time.ticks(timescale)))
+}
+
+/// How many samples of a track there are, of the first thousand, up to one that isn't found by the time that is shown
+/// of it: that is found too early, or by another tick.
+fn found_in(alloc: Global, track: &Mp4Track) -> Result<u32, FileError> {
+    let timescale = track.timescale();
+    let mut found = 0u32;
+    for place in track.samples() {
+        let Ok(place) = place else {
+            break;
+        };
+        if found == 1000 {
+            break;
+        }
+        let tick = tick_shown(alloc, place.start_time, timescale)?;
+        if tick != Some(place.start_time) || track.sample_at(place.start_time) <= Some(found) {
+            break;
+        }
+        found = found.saturating_add(1);
+    }
+    Ok(found)
+}
+
+/// How many samples of all tracks are found by the times that are shown of them, a thousand of each track at most.
+fn found(alloc: Global, bytes: &[u8]) -> Answer {
+    let movie = opened(alloc, bytes)?;
+    let mut count = 0u32;
+    for track in movie.tracks().values() {
+        count = count.saturating_add(found_in(alloc, track)?);
+    }
+    Ok(format!(in alloc; "{count} samples")?)
 }
 
 /// What the file of these bytes answers to the words of a question; `None` where they are no question.
@@ -98,6 +205,10 @@ fn answer_of_words(alloc: Global, bytes: &[u8], words: &[&str]) -> Option<Answer
         ["metadata"] => Some(metadata(alloc, bytes, "text")),
         ["metadata", "json"] => Some(metadata(alloc, bytes, "json")),
         ["why"] => Some(why(alloc, bytes)),
+        ["past", "the", "end"] => Some(past_end(alloc, bytes)),
+        ["found", "by", "their", "times"] => Some(found(alloc, bytes)),
+        ["clock", ticks, "of", timescale] => Some(clock(alloc, ticks, timescale)),
+        ["ticks", "of", time, "of", timescale] => Some(ticks(alloc, time, timescale)),
         ["samples", track] => {
             Some(samples(alloc, bytes, track, First::Number(1), u32::MAX, "text"))
         }

@@ -35,7 +35,8 @@ impl ExactEq for Mp4Sample {
 /// Times are in ticks of the track's timescale.
 #[derive(Debug, Clone, Copy, PartialEq, Eq)]
 pub struct SampleRef<'a> {
-    /// Where its first byte is, counted from the file's first byte.
+    /// Where its first byte is, counted from the first byte of the bytes or the source that the file is read from,
+    /// also where the file begins later in them.
     pub offset: u64,
     /// When it is decoded: when the samples before it have lasted, counted from the last `tfdt` at or before it of a
     /// track fragment with samples, where there is one (ISO/IEC 14496-12, 8.6.1.2 and 8.8.12).
@@ -65,7 +66,8 @@ pub fn is_equal_sample(first: &SampleRef, second: &SampleRef) -> bool
 /// Times are in ticks of the track's timescale.
 #[derive(Debug, Clone, Copy, PartialEq, Eq)]
 pub struct Place {
-    /// Where its first byte is, counted from the file's first byte.
+    /// Where its first byte is, counted from the first byte of the bytes or the source that the file is read from,
+    /// also where the file begins later in them.
     pub offset: u64,
     /// When it is decoded: when the samples before it have lasted, counted from the last `tfdt` at or before it of a
     /// track fragment with samples, where there is one (ISO/IEC 14496-12, 8.6.1.2 and 8.8.12).
@@ -89,7 +91,8 @@ impl ExactEq for Place {
 /// Times are in ticks of the track's timescale.
 #[derive(Debug, Clone, Copy, PartialEq, Eq)]
 pub struct SamplePlace {
-    /// Where its first byte is, counted from the file's first byte.
+    /// Where its first byte is, counted from the first byte of the bytes or the source that the file is read from,
+    /// also where the file begins later in them.
     pub offset: u64,
     /// How many bytes it has.
     pub size: u32,

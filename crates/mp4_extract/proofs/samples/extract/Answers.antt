@@ -1,7 +1,14 @@
-use Rattle.std.proofs.Common.{inl, inr}
+use Rattle.std.proofs.Common.{◌⊎◌, inl, inr, rules}
 use Rattle.std.proofs.lemmas.Result.{err_from_is_err_and}
+use Rattle.mp4_media.specs.Reading.{sample_count_in, sample_in}
 use Rattle.mp4_media.proofs.FoundBoxes.{all_known, of_known}
+use Rattle.mp4_extract.proofs.Joined.{none_counted, nothing_written}
 use Rattle.mp4_extract.proofs.samples.extract.Goals as goal
+
+-- one of two facts more
+or_more : {A B C : Type 0} → A ⊎ B → A ⊎ (B ⊎ C)
+or_more (inl a) = inl a
+or_more (inr b) = inr (inl b)
 
 pub returns-clause-written : goal.returns-clause-written
 returns-clause-written g c =
@@ -9,15 +16,39 @@ returns-clause-written g c =
     (rw c.in_ok-writer.ensures.track_id at c.in_ok-written.ensures.written)
     (λ source written. (c.in_ok-writer.writer.form, c.in_ok-writer.ensures.form, written))
 
+pub returns-clause-end : goal.returns-clause-end
+returns-clause-end g c = λ less. inr (rw c.in_ok-writer.ensures.track_id at (c.in_ok-written.ensures.end less))
+
+pub returns-then-not-has_samples-clause-written : goal.returns-then-not-has_samples-clause-written
+returns-then-not-has_samples-clause-written g c =
+    let tracks = c.args.file.now.movie.tracks in
+    of_known (g.S.ByteSource.contents c.args.file.now.source) _ _
+    (nothing_written (g.S.ByteSource.contents c.args.file.now.source) c.in_ok-writer.writer.form
+    (λ source. sample_in source tracks c.args.track_id) c.args.from (g.W.Write.contents c.args.out.now))
+    (λ source written. (c.in_ok-writer.writer.form, c.in_ok-writer.ensures.form, written))
+
+pub returns-then-not-has_samples-clause-end : goal.returns-then-not-has_samples-clause-end
+returns-then-not-has_samples-clause-end g c = λ less.
+    let begins = rw c.in_ok-writer.ensures.track_id at c.in_ok-has_samples.ensures.begins in
+    inl (none_counted (sample_count_in c.args.file.now.movie.tracks c.args.track_id) begins.0 _ begins.1 begins.3
+    (search rules))
+
 pub returns-in_err-writer-clause-refused : goal.returns-in_err-writer-clause-refused
 returns-in_err-writer-clause-refused g c =
     let p = err_from_is_err_and c.from_residual.result c.from_residual.ensures.1 in
     rw (p.1, p.2) (all_known (g.S.ByteSource.contents c.args.file.now.source) _
-    (λ source. inl c.in_err-writer.ensures.refused))
+    (λ source. or_more c.in_err-writer.ensures.refused))
+
+pub returns-in_err-has_samples-clause-refused : goal.returns-in_err-has_samples-clause-refused
+returns-in_err-has_samples-clause-refused g c =
+    let residual = c.from_residual-in_err-has_samples in
+    let p = err_from_is_err_and residual.result residual.ensures.1 in
+    rw (p.1, p.2) (all_known (g.S.ByteSource.contents c.args.file.now.source) _
+    (λ source. inr (inr (inl (rw c.in_ok-writer.ensures.track_id at c.in_err-has_samples.ensures.refused)))))
 
 pub returns-in_err-written-clause-refused : goal.returns-in_err-written-clause-refused
 returns-in_err-written-clause-refused g c =
     let p = err_from_is_err_and c.from_residual-in_err-written.result c.from_residual-in_err-written.ensures.1 in
     rw (p.1, p.2) (of_known (g.S.ByteSource.contents c.args.file.now.source) _ _
     (rw c.in_ok-writer.ensures.track_id at c.in_err-written.ensures.refused)
-    (λ source refused. inr (c.in_ok-writer.writer.form, c.in_ok-writer.ensures.form, refused)))
+    (λ source refused. inr (inr (inr (c.in_ok-writer.writer.form, c.in_ok-writer.ensures.form, refused)))))

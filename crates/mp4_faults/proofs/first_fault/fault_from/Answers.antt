@@ -1,10 +1,11 @@
 use Rattle.std.proofs.Common.{◌∙◌, refl}
 use Rattle.mp4_media.proofs.FoundBoxes.{all_known, of_known_by}
+use Rattle.mp4_faults.proofs.Lacking.{ends-file}
 use Rattle.mp4_faults.proofs.Walked.{of_three, walk-starts, walk-takes, says-fault, says-end}
 use Rattle.mp4_faults.proofs.first_fault.fault_from.Goals as goal
 
-pub loop-reader-init : goal.loop-reader-init
-loop-reader-init g c =
+pub loop-open_type-init : goal.loop-open_type-init
+loop-open_type-init g c =
     let reader = c.args.reader.now in
     record {
       walked = all_known (g.S.ByteSource.contents reader.source) _
@@ -14,10 +15,10 @@ loop-reader-init g c =
       same_len = refl;
     }
 
-pub loop-reader-preserved : goal.loop-reader-preserved
-loop-reader-preserved g c =
+pub loop-open_type-preserved : goal.loop-open_type-preserved
+loop-open_type-preserved g c =
     let reader = c.args.reader.now in
-    let l = c.loop-reader in
+    let l = c.loop-open_type in
     let next = rw (c.in-Faultless.is, l.invariant.contents) at c.in_ok-next_box.ensures.answer in
     record {
       walked = of_known_by (g.S.ByteSource.contents reader.source) _ _ _ l.invariant.walked next
@@ -31,7 +32,7 @@ loop-reader-preserved g c =
 pub returns-in-Faulty : goal.returns-in-Faulty
 returns-in-Faulty g c =
     let reader = c.args.reader.now in
-    let l = c.loop-reader in
+    let l = c.loop-open_type in
     let next = rw (c.in-Faulty.is, l.invariant.contents) at c.in_ok-next_box.ensures.answer in
     of_known_by (g.S.ByteSource.contents reader.source) _ _ _ l.invariant.walked next
     (λ bytes w fault. says-fault c.args.size bytes reader.position l.seen l.reader.position w c.in-Faulty.fault fault
@@ -40,15 +41,18 @@ returns-in-Faulty g c =
 pub returns-in-End : goal.returns-in-End
 returns-in-End g c =
     let reader = c.args.reader.now in
-    let l = c.loop-reader in
+    let l = c.loop-open_type in
     let next = rw (c.in-End.is, l.invariant.contents) at c.in_ok-next_box.ensures.answer in
     let end = rw (
       c.in_ok-next_box.ensures.contents,
       l.invariant.contents,
       c.in_ok-next_box.ensures.can_refuse,
       l.invariant.can_refuse,
+      c.position-place.ensures,
     ) at c.fault_at_end.ensures in
     of_three (g.S.ByteSource.contents reader.source) _ _ _ _ l.invariant.walked next end
-    (λ bytes w a told. says-end c.args.size bytes reader.position w.boxes l.reader.position w.are a.0
-    (g.S.ByteSource.can_refuse reader.source) c.fault_at_end.result
-    (rw (a.1, a.2) at told c.args.size reader.position w.boxes w.are w.is))
+    (λ bytes w a told.
+    let at = rw (a.1, a.2) at told reader.position w.boxes in
+    says-end c.args.size bytes reader.position w.boxes l.reader.position w.are
+    (ends-file c.args.size bytes l.reader.position c.in-End.open_type a.0) (g.S.ByteSource.can_refuse reader.source)
+    c.fault_at_end.result (at w.are a.0 w.is))

@@ -14,7 +14,7 @@ returns-then-looks_at_first_alone-clause-answer c =
     let parent = c.args.parent.now in
     ends_at_first parent.name parent.payload.now c.loop-child.place c.loop-child.before
     (inner c.in-Some-child_at.child) c.loop-child.invariant (sym c.in-Some-child_at.ensures.value)
-    (sym (rw c.in_default-2.is at c.in_ok-error.ensures))
+    (sym (rw (c.in_default-2.is, c.in_ok-items.ensures) at c.in_ok-error.ensures))
     (sym c.looks_at_first_alone.ensures ∙ c.if-looks_at_first_alone.true)
 
 pub loop-child-preserved : goal.loop-child-preserved
@@ -22,7 +22,7 @@ loop-child-preserved c =
     let parent = c.args.parent.now in
     rw c.end-place.ensures (goes_on parent.name parent.payload.now c.loop-child.place c.loop-child.before
     c.push.new.self (inner c.in-Some-child_at.child) c.loop-child.invariant (sym c.in-Some-child_at.ensures.value)
-    (sym (rw c.in_default-2.is at c.in_ok-error.ensures))
+    (sym (rw (c.in_default-2.is, c.in_ok-items.ensures) at c.in_ok-error.ensures))
     (sym c.looks_at_first_alone.ensures ∙ c.if-looks_at_first_alone.false) c.in_ok-push.ensures.ok)
 
 pub returns-clause-answer : goal.returns-clause-answer

@@ -8,32 +8,32 @@ loop-fields-init c = rw c.new-fields.ensures (begun c.args.self.now c.args.sampl
 
 pub loop-fields-smaller-then-not-is_empty : goal.loop-fields-smaller-then-not-is_empty
 loop-fields-smaller-then-not-is_empty c =
-    let moves = unit-moves (length_size c.args.self.now) c.loop-fields.fields c.in_ok-unit.unit.now
-    c.next_unit.new.fields c.in_ok-unit.ensures in
+    let moves = unit-moves (length_size c.args.self.now) c.loop-fields.fields c.in-Ok.unit.now
+    c.next_unit.new.fields c.in-Ok.ensures in
     omega arith
 
 pub loop-fields-smaller : goal.loop-fields-smaller
 loop-fields-smaller c =
-    let moves = unit-moves (length_size c.args.self.now) c.loop-fields.fields c.in_ok-unit.unit.now
-    c.next_unit.new.fields c.in_ok-unit.ensures in
+    let moves = unit-moves (length_size c.args.self.now) c.loop-fields.fields c.in-Ok.unit.now
+    c.next_unit.new.fields c.in-Ok.ensures in
     omega arith
 
 pub loop-fields-preserved-then-not-is_empty : goal.loop-fields-preserved-then-not-is_empty
 loop-fields-preserved-then-not-is_empty c =
-    rw (c.progress_after-progress.ensures.first, c.progress_after-progress.ensures.sets)
+    rw (c.progress_after-progress.ensures.first, c.progress_after-progress.ensures.kinds)
     (put c.args.self.now c.args.sample.now c.args.out.now.items c.loop-fields.fields c.loop-fields.out.items
-    c.in_ok-unit.unit.now c.next_unit.new.fields c.loop-fields.progress.is_first c.loop-fields.progress.wants_sets
-    c.loop-fields.invariant c.in_ok-unit.ensures (ap not (sym c.is_empty-in-loop-fields.ensures) ∙ search rules)
+    c.in-Ok.unit.now c.next_unit.new.fields c.loop-fields.progress.is_first c.loop-fields.progress.kinds
+    c.loop-fields.invariant c.in-Ok.ensures (ap not (sym c.is_empty-in-loop-fields.ensures) ∙ search rules)
     c.put_next.new.out.items c.in_ok-put_next.ensures)
 
 pub loop-fields-preserved : goal.loop-fields-preserved
 loop-fields-preserved c =
     passed c.args.self.now c.args.sample.now c.args.out.now.items c.loop-fields.fields c.loop-fields.out.items
-    c.in_ok-unit.unit.now c.next_unit.new.fields c.loop-fields.progress.is_first c.loop-fields.progress.wants_sets
-    c.loop-fields.invariant c.in_ok-unit.ensures (ap not (sym c.is_empty-in-loop-fields.ensures) ∙ search rules)
+    c.in-Ok.unit.now c.next_unit.new.fields c.loop-fields.progress.is_first c.loop-fields.progress.kinds
+    c.loop-fields.invariant c.in-Ok.ensures (ap not (sym c.is_empty-in-loop-fields.ensures) ∙ search rules)
 
 pub returns-clause-stream : goal.returns-clause-stream
 returns-clause-stream c =
     finished c.args.self.now c.args.sample.now c.loop-fields.fields c.args.out.now.items c.loop-fields.out.items
-    c.loop-fields.progress.is_first c.loop-fields.progress.wants_sets c.loop-fields.invariant
+    c.loop-fields.progress.is_first c.loop-fields.progress.kinds c.loop-fields.invariant
     (nil_when c.loop-fields.fields (search rules))

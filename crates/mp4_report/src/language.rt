@@ -1,0 +1,67 @@
+//! The language of a track.
+
+ghost use Rattle.std.specs.Prelude.{◌<◌};
+
+/// The smallest character of a language in a media header, which stands for 0.
+const ZERO: u8 = 0x60;
+
+/// The character whose bits are all set.
+const UNSET: u8 = 0x7f;
+
+/// The languages of Macintosh from code 0 on, as their ISO 639-2/T codes (QuickTime File Format, "Language
+/// Code Values").
+const FIRST_LANGUAGES: [&str; 95] = [
+    "eng", "fra", "deu", "ita", "nld", "swe", "spa", "dan", "por", "nor", "heb", "jpn", "ara",
+    "fin", "ell", "isl", "mlt", "tur", "hrv", "zho", "urd", "hin", "tha", "kor", "lit", "pol",
+    "hun", "est", "lav", "smi", "fao", "fas", "rus", "zho", "nld", "gle", "sqi", "ron", "ces",
+    "slk", "slv", "yid", "srp", "mkd", "bul", "ukr", "bel", "uzb", "kaz", "aze", "aze", "hye",
+    "kat", "ron", "kir", "tgk", "tuk", "mon", "mon", "pus", "kur", "kas", "snd", "bod", "nep",
+    "san", "mar", "ben", "asm", "guj", "pan", "ori", "mal", "kan", "tam", "tel", "sin", "mya",
+    "khm", "lao", "vie", "ind", "tgl", "msa", "msa", "amh", "tir", "orm", "som", "swa", "kin",
+    "run", "nya", "mlg", "epo",
+];
+
+/// The first code of the other languages.
+const LATER: usize = 128;
+
+/// The languages of Macintosh from code 128 on.
+const LATER_LANGUAGES: [&str; 23] = [
+    "cym", "eus", "cat", "lat", "que", "grn", "aym", "tat", "uig", "dzo", "jav", "sun", "glg",
+    "afr", "bre", "iku", "gla", "glv", "gle", "ton", "ell", "kal", "aze",
+];
+
+/// The language of a code of Macintosh.
+fn macintosh_language(code: usize) -> Option<&'static str> {
+    match code.checked_sub(LATER) {
+        None => FIRST_LANGUAGES.get(code).copied(),
+        Some(later) => LATER_LANGUAGES.get(later).copied(),
+    }
+}
+
+/// The number that a character of a language stands for.
+fn number_of(character: u8) -> usize
+    ensures { result < 256 }
+{
+    usize::from(character.saturating_sub(ZERO))
+}
+
+/// The ISO 639-2/T code of the language that a media header says by three characters of five bits each. Where
+/// the first is 0, they are a code of Macintosh; where all bits are set, no language is said, as `und` says;
+/// and the language isn't known where they aren't three letters (QuickTime File Format, "Language Code
+/// Values").
+pub(crate) fn language_of(characters: &str) -> Option<&str> {
+    let [first, second, third] = characters.as_bytes() else {
+        return None;
+    };
+    let (first, second, third) = (*first, *second, *third);
+    if first == ZERO {
+        return macintosh_language(number_of(second) * 32 + number_of(third));
+    }
+    if first == UNSET && second == UNSET && third == UNSET {
+        return Some("und");
+    }
+    if first.is_ascii_lowercase() && second.is_ascii_lowercase() && third.is_ascii_lowercase() {
+        return Some(characters);
+    }
+    None
+}
