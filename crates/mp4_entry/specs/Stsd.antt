@@ -19,7 +19,8 @@ use Rattle.mp4_entry.specs.declared.sample_entry.SampleEntry.{SampleEntry}
 use Rattle.mp4_entry.specs.declared.sample_entry.SampleEntry.TheVariants.{AvcVideo as avc_video}
 use Rattle.mp4_entry.specs.declared.sample_entry.SampleEntry.TheVariants.{HevcVideo as hevc_video}
 use Rattle.mp4_entry.specs.declared.sample_entry.SampleEntry.TheVariants.{Vp9Video as vp9_video, AacSound as aac_sound}
-use Rattle.mp4_entry.specs.declared.sample_entry.SampleEntry.TheVariants.{Text as text, Other as other, NoKnown as no_known}
+use Rattle.mp4_entry.specs.declared.sample_entry.SampleEntry.TheVariants.{Text as text, Other as other}
+use Rattle.mp4_entry.specs.declared.sample_entry.SampleEntry.TheVariants.{NoKnown as no_known}
 use Rattle.mp4_entry.specs.Avc1.{avc1_of, avc1_early, avc1_payload, avc1_refusal, IsInRangeAvc1, IsWellFormedAvc1}
 use Rattle.mp4_entry.specs.Avc1.{avc1_of_config}
 use Rattle.mp4_entry.specs.Hev1.{hev1_of, hev1_early, hev1_payload, IsInRangeHev1, IsWellFormedHev1, hev1_of_config}

@@ -29,7 +29,8 @@ use Rattle.mp4_entry.specs.declared.sample_entry.SampleEntry.{SampleEntry}
 use Rattle.mp4_entry.specs.declared.sample_entry.SampleEntry.TheVariants.{AvcVideo as avc_video}
 use Rattle.mp4_entry.specs.declared.sample_entry.SampleEntry.TheVariants.{HevcVideo as hevc_video}
 use Rattle.mp4_entry.specs.declared.sample_entry.SampleEntry.TheVariants.{Vp9Video as vp9_video, AacSound as aac_sound}
-use Rattle.mp4_entry.specs.declared.sample_entry.SampleEntry.TheVariants.{Text as text, Other as other, NoKnown as no_known}
+use Rattle.mp4_entry.specs.declared.sample_entry.SampleEntry.TheVariants.{Text as text, Other as other}
+use Rattle.mp4_entry.specs.declared.sample_entry.SampleEntry.TheVariants.{NoKnown as no_known}
 use Rattle.mp4_entry.specs.Stsd.{entry_of, entry_in, stsd_of, present_or}
 use Rattle.mp4_entry.specs.Stsd.{first_entry, entry_count, entry_bytes, entry_refusal, stsd_payload, stsd_refusal}
 use Rattle.mp4_entry.specs.Stsd.{IsInRangeStsd, IsWellFormedEntry, IsCanonicalStsd}
