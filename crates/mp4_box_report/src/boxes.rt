@@ -1,8 +1,9 @@
 //! The boxes of a file, with their places, their sizes and their fields.
 
 use crate::walk::{BrokenPlace, FoundBox, Step, Walk};
+use crate::wave::refused_in_wave;
 use mp4_codec::{BoxType, Error, FourCC};
-use mp4_faults::{reads_child, refusal_of};
+use mp4_faults::{first_fault_in, reads_child, refusal_of};
 use mp4_fields::{Field, Listing, fields_of, has_fields};
 use mp4_readable::{Code, Whole, reason_text};
 use mp4_source::{ByteSource, FileError};
@@ -74,6 +75,16 @@ fn container_looked_at(alloc: Global, name: BoxType, payload: &[u8]) -> mp4_code
     })
 }
 
+/// Whether a box of this type and payload is refused for a box in it, which says so itself. Refused by `OutOfMemory`
+/// alone.
+fn is_refused_within(alloc: Global, name: BoxType, payload: &[u8]) -> mp4_codec::Result<bool> {
+    if name == BoxType::Mp4aBox && refused_in_wave(alloc, payload)?.is_some() {
+        return Ok(true);
+    }
+    let fault = first_fault_in(alloc, name, payload)?;
+    Ok(fault.is_some_and(|fault| !fault.path.is_empty()))
+}
+
 /// What is known of the payload of a box whose fields are listed. Refused by `OutOfMemory` alone.
 fn leaf_looked_at(listing: Listing, name: BoxType, payload: &[u8]) -> mp4_codec::Result<Looked> {
     match fields_of(listing, name, payload) {
@@ -82,10 +93,13 @@ fn leaf_looked_at(listing: Listing, name: BoxType, payload: &[u8]) -> mp4_codec:
             refusal: None,
         }),
         Err(Error::OutOfMemory) => Err(Error::OutOfMemory),
-        Err(error) => Ok(Looked {
-            fields: None,
-            refusal: Some(error),
-        }),
+        Err(error) => {
+            let is_within = is_refused_within(listing.alloc, name, payload)?;
+            Ok(Looked {
+                fields: None,
+                refusal: if is_within { None } else { Some(error) },
+            })
+        }
     }
 }
 
@@ -183,8 +197,8 @@ impl NeededBoxes {
         }
     }
 
-    /// Why a file is refused for its last box, which reaches to its end by a size of 0, and so isn't read: it lacks a box
-    /// of that type.
+    /// Why a file is refused for its last box, which reaches to its end by a size of 0, and so isn't read: it lacks a
+    /// box of that type.
     fn lack_by(&self, found: &FoundBox) -> Option<Error> {
         let mut needed = *self;
         let is_lacking = needed.missing() == Some(found.name);

@@ -4,7 +4,9 @@
 
 mod boxes;
 mod listing;
+mod said;
 mod walk;
+mod wave;
 mod why;
 
 pub use boxes::{BoxFields, BoxReport, Boxes, BoxesRequest};

@@ -1,6 +1,7 @@
 //! A walk over the boxes of a source in file order, those within containers too, which goes on after a fault. What is a
 //! fault, and which boxes are opened, is as the reading of the file has it.
 
+use crate::wave::{EsdsInWave, esds_in_wave};
 use mp4_codec::{BoxHeader, BoxType, ByteCursor, Error, HEADER_SIZE, OPEN_END};
 use mp4_faults::{PathStep, bytes_before_children, looks_at_first_alone, reads_child, reads_items};
 use mp4_source::{ByteSource, FileError, Window, read_into};
@@ -69,6 +70,16 @@ struct Level {
     is_looked_at: bool,
     /// Whether it looks at lists of items in it, `ilst`.
     reads_items: bool,
+    /// What it looks at in the `wave` of a sample entry of sound, where that is the container or the container is in
+    /// it.
+    in_wave: Option<PlacesInWave>,
+}
+
+/// Where a `wave` begins in the source, and the `esds` in it that is looked at.
+#[derive(Clone, Copy, Debug)]
+struct PlacesInWave {
+    wave: u64,
+    esds: u64,
 }
 
 /// A walk over the boxes of a source, in file order.
@@ -82,6 +93,16 @@ pub struct Walk<S: ByteSource> {
     /// How many bytes the source has.
     source_size: u64,
     room: Vec<u8>,
+}
+
+impl PlacesInWave {
+    /// Those in a sample entry whose payload begins there.
+    fn of(found: EsdsInWave, payload: u64) -> Self {
+        PlacesInWave {
+            wave: payload.saturating_add(found.wave as u64),
+            esds: payload.saturating_add(found.esds as u64),
+        }
+    }
 }
 
 /// The path of the box of this type and number in a container.
@@ -103,16 +124,23 @@ impl Level {
             counts: HashMap::new(alloc),
             is_looked_at: true,
             reads_items: false,
+            in_wave: None,
         }
     }
 
-    /// Whether the reading of the file looks at the next box, which is of this type: in the file itself at those that
-    /// it is made of, in a container at those that the container's reading looks at.
-    fn reads(&self, name: BoxType) -> bool {
-        match self.name {
-            None => is_read_in_file(name),
-            Some(_) if name == BoxType::IlstBox => self.reads_items,
-            Some(parent) => self.is_looked_at && reads_child(parent, name),
+    /// Whether the reading of the file looks at the next box, which is of this type and begins there: in the file
+    /// itself at those that it is made of, in a container at those that the container's reading looks at.
+    fn reads(&self, name: BoxType, place: u64) -> bool {
+        match (self.name, name) {
+            (None, _) => is_read_in_file(name),
+            (Some(_), BoxType::IlstBox) => self.reads_items,
+            (Some(BoxType::Mp4aBox), BoxType::WaveBox) => {
+                self.in_wave.is_some_and(|found| found.wave == place)
+            }
+            (Some(BoxType::WaveBox), BoxType::EsdsBox) => {
+                self.in_wave.is_some_and(|found| found.esds == place)
+            }
+            (Some(parent), _) => self.is_looked_at && reads_child(parent, name),
         }
     }
 
@@ -323,15 +351,18 @@ impl<S: ByteSource + Drop> Walk<S> {
         if depth >= u64::from(self.most_depth) {
             return Ok(None);
         }
+        if name == BoxType::WaveBox {
+            return Ok(Some(0));
+        }
         let head = self.bytes_at(payload, size.min(HEAD) as usize)?;
         Ok(bytes_before_children(name, head).filter(|fields| *fields <= size))
     }
 
-    /// Whether the reading of the file looks at the box of this frame. One that reaches to the end of the file by a size
-    /// of 0 isn't read, whatever its type.
+    /// Whether the reading of the file looks at the box of this frame. One that reaches to the end of the file by a
+    /// size of 0 isn't read, whatever its type.
     fn is_read(&self, frame: &Frame) -> bool {
         match self.levels.last() {
-            Some(level) => level.reads(frame.name) && !frame.is_open_end,
+            Some(level) => level.reads(frame.name, self.place) && !frame.is_open_end,
             None => false,
         }
     }
@@ -344,6 +375,26 @@ impl<S: ByteSource + Drop> Walk<S> {
         let alloc = self.alloc;
         let bytes = self.bytes_at(payload, end.saturating_sub(payload) as usize)?;
         Ok(reads_items(alloc, name, bytes)?)
+    }
+
+    /// What the reading of a box of this type looks at in a `wave`: in that of a sample entry of sound, where no `esds`
+    /// is beside it; the `wave` itself is in such an entry.
+    fn looked_at_in_wave(
+        &mut self,
+        name: BoxType,
+        payload: u64,
+        end: u64,
+    ) -> Result<Option<PlacesInWave>, FileError> {
+        match name {
+            BoxType::WaveBox => Ok(self.levels.last().and_then(|level| level.in_wave)),
+            BoxType::Mp4aBox => {
+                let alloc = self.alloc;
+                let bytes = self.bytes_at(payload, end.saturating_sub(payload) as usize)?;
+                let found = esds_in_wave(alloc, bytes)?;
+                Ok(found.map(|found| PlacesInWave::of(found, payload)))
+            }
+            _ => Ok(None),
+        }
     }
 
     /// Goes to the first child of a box of this type, which ends at a place. Its payload and its children begin at the
@@ -359,6 +410,7 @@ impl<S: ByteSource + Drop> Walk<S> {
         let path = String::from_str(self.alloc, path)?;
         let mut level = Level::new(self.alloc, Some(name), path, end);
         level.reads_items = self.looks_at_items(name, payload, end)?;
+        level.in_wave = self.looked_at_in_wave(name, payload, end)?;
         self.levels.push(level)?;
         self.place = children;
         Ok(())

@@ -1,14 +1,12 @@
 //! Why a file doesn't open, in one sentence.
 
 mod beginning;
-mod misfit;
-mod said;
-mod wave;
+pub(crate) mod misfit;
 
+use crate::said::{number_at, said_by};
+use crate::wave::lead_into_wave;
 use crate::why::beginning::{Beginning, beginning_of};
 use crate::why::misfit::{Misfit, misfit_in};
-use crate::why::said::{number_at, said_by};
-use crate::why::wave::lead_into_wave;
 use mp4_codec::{BoxType, Error};
 use mp4_faults::{FaultPlace, first_fault_of};
 use mp4_readable::{Grouped, Reason};

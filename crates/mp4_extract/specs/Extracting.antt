@@ -83,6 +83,17 @@ RefusesNumber form answer k can_refuse (WrongFormat id format) = ⊥
 RefusesNumber form answer k can_refuse (NoSuchSample id number count) = ⊥
 RefusesNumber form answer k can_refuse (OtherDescription number description format) = ⊥
 
+-- the sink refused the samples from this number on
+abbrev pub IsWriteOf : ℕ → ExtractError → Type 0
+IsWriteOf k (Write number e) = number ≡ k
+IsWriteOf k OutOfMemory = ⊥
+IsWriteOf k (Sample number place e) = ⊥
+IsWriteOf k (Read number e) = ⊥
+IsWriteOf k (Track e) = ⊥
+IsWriteOf k (WrongFormat id format) = ⊥
+IsWriteOf k (NoSuchSample id number count) = ⊥
+IsWriteOf k (OtherDescription number description format) = ⊥
+
 -- for this error is one of the samples from a number on refused
 abbrev pub RefusesOneFrom : SampleForm → (ℕ → Answer) → ℕ → Bool → ExtractError → Type 0
 RefusesOneFrom form samples from can_refuse e =

@@ -7,5 +7,6 @@ pub mod Errors
 pub mod Texts
 pub mod Edits
 pub mod Descriptions
+pub mod Neighbours
 pub mod Extracting
 pub mod Subtitles

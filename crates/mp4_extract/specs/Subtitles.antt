@@ -1,19 +1,25 @@
 -- The subtitles of a track of text.
-use Rattle.std.specs.Prelude.{◌≡◌, ◌⊎◌, ⊤, ℕ, ◌+◌, ◌-◌, ◌^◌, min, ◌==◌, ◌&&◌, ◌||◌, not, nat_lt, Bool, IsTrue}
-use Rattle.std.specs.Prelude.{string_bytes, length, Option, Some, None, Ok, Err}
+use Rattle.std.specs.Prelude.{◌≡◌, ◌⊎◌, ⊤, ℕ, zero, suc, ◌+◌, ◌-◌, ◌^◌, min, ◌==◌, ◌&&◌, ◌||◌, not, nat_lt}
+use Rattle.std.specs.Prelude.{Bool, IsTrue, if◌then◌else◌, string_bytes, length, List, [], ◌∷◌, ◌++◌}
+use Rattle.std.specs.Prelude.{Option, Some, None, Result, Ok, Err, is_none}
 use Rattle.std.specs.HashMap.{HashMap}
-use Rattle.mp4_codec.specs.Cause.{cause_of}
+use Rattle.mp4_codec.specs.Cause.{Cause, cause_of, box_in_stbl_not_found, ◌>>=◌}
+use Rattle.mp4_codec.specs.declared.box_type.BoxType.TheVariants.{Tx3gBox}
+use Rattle.mp4_codec.specs.declared.error.Error.{Error}
 use Rattle.mp4_boxes.specs.declared.moov.MoovBox.{MoovBox}
 use Rattle.mp4_lookup.specs.declared.track.Mp4Track.{Mp4Track}
 use Rattle.mp4_samples.specs.Samples.{TimedSample}
-use Rattle.mp4_media.specs.MovieTracks.{at_id}
+use Rattle.mp4_samples.specs.Tables.{tables_of}
+use Rattle.mp4_media.specs.Reading.{needed_track, sample_count_in, sample_in}
 use Rattle.mp4_extract.specs.declared.edits.SubtitleTimes.{SubtitleTimes}
 use Rattle.mp4_extract.specs.declared.edits.TextShift.{TextShift}
 use Rattle.mp4_extract.specs.declared.error.ExtractError.{ExtractError}
 use Rattle.mp4_extract.specs.declared.error.ExtractError.TheVariants.{OutOfMemory, Track, WrongFormat, NoSuchSample}
 use Rattle.mp4_extract.specs.declared.error.ExtractError.TheVariants.{OtherDescription, Sample, Read, Write}
 use Rattle.mp4_extract.specs.declared.text_track.Subtitle.{Subtitle}
+use Rattle.mp4_extract.specs.declared.text_track.SubtitleReader.{SubtitleReader}
 use Rattle.mp4_extract.specs.Edits.{edit_list_of, shift_of}
+use Rattle.mp4_extract.specs.Errors.{of_track}
 use Rattle.mp4_extract.specs.Extracting.{Answer}
 use Rattle.mp4_extract.specs.Texts.{IsTextOf, milliseconds_of}
 
@@ -54,14 +60,76 @@ RefusesSubtitle k answer can_refuse (WrongFormat id format) = ⊥
 RefusesSubtitle k answer can_refuse (NoSuchSample id number count) = ⊥
 RefusesSubtitle k answer can_refuse (OtherDescription number description format) = ⊥
 
+-- subtitles, and one more where that is shown
+abbrev pub and_shown : List Subtitle → Subtitle → List Subtitle
+and_shown list t = if t.is_shown then list ++ t ∷ [] else list
+
+-- how the texts of a track are read: the ticks in a second of its times, how these are moved, and how many samples
+-- it has
+pub record TextReading : Type 0 where
+  pub timescale : ℕ
+  pub shift : TextShift
+  pub count : ℕ
+
+abbrev pub reading_of : SubtitleReader → TextReading
+reading_of r = record { timescale = r.timescale; shift = r.shift; count = r.count }
+
+-- these are the subtitles that are shown of the first n samples, in their order
+abbrev pub AreSubtitles : TextReading → (ℕ → Answer) → ℕ → List Subtitle → Type 0
+AreSubtitles reading samples zero list = list ≡ []
+AreSubtitles reading samples (suc n) list =
+    (before : List Subtitle) × (last : Subtitle) × (AreSubtitles reading samples n before)
+    × (IsSubtitleAt reading.shift reading.timescale (n + 1) (samples (n + 1)) (Some last))
+    × (list ≡ and_shown before last)
+
+-- these are the subtitles that are shown of all samples
+abbrev pub AreAllSubtitles : TextReading → (ℕ → Answer) → List Subtitle → Type 0
+AreAllSubtitles reading samples list =
+    (n : ℕ) × (AreSubtitles reading samples n list)
+    × ((n ≡ reading.count) ⊎ (samples (n + 1) ≡ Ok None))
+
+-- for this error are the texts of a track not read, where they would be read so
+abbrev pub RefusesReading : Result TextReading Cause → ExtractError → Type 0
+RefusesReading answer e = (c : Error) × (e ≡ of_track c) × (answer ≡ Err (cause_of c))
+
+-- the texts of a track are read so, or refused
+abbrev pub IsReadingOf : Result TextReading Cause → Result SubtitleReader ExtractError → Type 0
+IsReadingOf answer (Ok r) = answer ≡ Ok (reading_of r)
+IsReadingOf answer (Err e) = RefusesReading answer e
+
+-- the ticks in a second of a track with this id, which has to be one of text
+unfoldable pub text_timescale : ℕ → Mp4Track → Result ℕ Cause
+text_timescale id t =
+    if is_none (tables_of t.trak).stsd.tx3g then Err (box_in_stbl_not_found id Tx3gBox) else
+    Ok t.trak.mdia.mdhd.timescale
+
 module _ {S : Type 0} where
-  -- the ticks in a second of the track with this id
-  abbrev pub IsTimescaleOf : HashMap ℕ Mp4Track S → ℕ → ℕ → Type 0
-  IsTimescaleOf tracks id timescale =
-      (t : Mp4Track) × (at_id tracks id ≡ Some t) × (timescale ≡ t.trak.mdia.mdhd.timescale)
+  -- the ticks in a second of the track of text with this id
+  unfoldable pub timescale_in : HashMap ℕ Mp4Track S → ℕ → Result ℕ Cause
+  timescale_in tracks id = needed_track tracks id >>= text_timescale id
 
   -- how the texts of the track with this id are moved
-  abbrev pub IsShiftOf : SubtitleTimes → HashMap ℕ Mp4Track S → ℕ → MoovBox → TextShift → Type 0
-  IsShiftOf times tracks id moov shift =
-      (t : Mp4Track) × (at_id tracks id ≡ Some t)
-      × (shift_of times (edit_list_of t.trak) moov.mvhd.timescale ≡ Ok shift)
+  unfoldable pub shift_in : SubtitleTimes → HashMap ℕ Mp4Track S → ℕ → MoovBox → Result TextShift Cause
+  shift_in times tracks id moov =
+      needed_track tracks id >>= λ t. shift_of times (edit_list_of t.trak) moov.mvhd.timescale
+
+  -- how the texts of the track with this id are read
+  unfoldable pub text_reading : SubtitleTimes → HashMap ℕ Mp4Track S → ℕ → MoovBox → Result TextReading Cause
+  text_reading times tracks id moov = do
+    timescale ← timescale_in tracks id
+    shift ← shift_in times tracks id moov
+    count ← sample_count_in tracks id
+    Ok (record { timescale = timescale; shift = shift; count = count })
+
+  -- these are the subtitles that are shown of the track with this id
+  abbrev pub AreSubtitlesOf : SubtitleTimes → List ℕ → HashMap ℕ Mp4Track S → ℕ → MoovBox → List Subtitle → Type 0
+  AreSubtitlesOf times source tracks id moov list =
+      (reading : TextReading) × (text_reading times tracks id moov ≡ Ok reading)
+      × (AreAllSubtitles reading (sample_in source tracks id) list)
+
+  -- for this error are the subtitles of the track with this id refused: the track is, or one of its samples
+  abbrev pub RefusesSubtitles : SubtitleTimes → List ℕ → HashMap ℕ Mp4Track S → ℕ → MoovBox → Bool → ExtractError
+      → Type 0
+  RefusesSubtitles times source tracks id moov can_refuse e =
+      (e ≡ OutOfMemory) ⊎ (RefusesReading (text_reading times tracks id moov) e)
+      ⊎ ((k : ℕ) × (RefusesSubtitle k (sample_in source tracks id k) can_refuse e))

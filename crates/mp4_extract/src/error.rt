@@ -62,7 +62,8 @@ pub enum ExtractError {
     /// The source refused to read the sample with this number.
     #[error("sample {} can't be read: {}", Number(*.0), .1)]
     Read(u32, io::Error),
-    /// The sink refused the sample with this number, and may hold a part of it.
+    /// The sink refused the sample with this number, or those from it on that are written together, and may hold a part
+    /// of them.
     #[error("sample {} can't be written: {}", Number(*.0), .1)]
     Write(u32, io::Error),
 }

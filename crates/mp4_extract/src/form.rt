@@ -1,9 +1,10 @@
 //! What becomes of the samples of a track.
 
-ghost use Rattle.std.specs.Prelude.{◌≡◌, ◌⊎◌, option_map, IfErr, IfOk};
+ghost use Rattle.std.specs.Prelude.{◌≡◌, ◌⊎◌, option_map, IfErr, IfOk, IsTrue};
 ghost use Rattle.mp4_codec.specs.Cause.{Answers};
 ghost use Rattle.mp4_codec.specs.declared.error.Error.TheVariants.{OutOfMemory};
 ghost use Rattle.mp4_extract.specs.Adts.{numbers_of};
+ghost use Rattle.mp4_extract.specs.declared.form.SampleForm.TheVariants.{AsStored};
 ghost use Rattle.mp4_extract.specs.Forms.{IsFormOf, IsInForm, RefusesSample, RefusesTrack, track_adts, track_stream};
 
 use crate::adts::AdtsConfig;
@@ -89,6 +90,13 @@ impl SampleForm {
                 None => Err(ExtractError::WrongFormat(track.track_id(), format)),
             },
         }
+    }
+
+    /// Whether samples in this form are as they lie in the file.
+    pub(crate) fn is_as_stored(&self) -> bool
+        ensures { IsTrue result → self.now ≡ AsStored }
+    {
+        matches!(self, SampleForm::AsStored)
     }
 
     /// A sample in this form: the sample itself, or what the room then holds.

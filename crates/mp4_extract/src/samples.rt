@@ -1,9 +1,9 @@
 //! Samples of a track, written one after the other.
 
-ghost use Rattle.std.specs.Prelude.{◌≡◌, ◌⊎◌, ◌<◌, ◌+◌, ◌≤◌, ℕ, List, IfErr, IfOk, IfSome, OnOk};
+ghost use Rattle.std.specs.Prelude.{◌≡◌, ◌⊎◌, ◌<◌, ◌+◌, ◌≤◌, ℕ, List, Ok, None, IfErr, IfOk, IfSome, OnOk};
 ghost use Rattle.std.specs.Io.KnownBytes.{Appends};
 ghost use Rattle.mp4_media.specs.Reading.{sample_in};
-ghost use Rattle.mp4_extract.specs.Extracting.{AreExtracted, AreWritten, IsFormIn, IsPastEnd, IsWritten};
+ghost use Rattle.mp4_extract.specs.Extracting.{AreExtracted, AreWritten, IsFormIn, IsPastEnd, IsWriteOf, IsWritten};
 ghost use Rattle.mp4_extract.specs.Extracting.{RefusesExtraction, RefusesNumber, RefusesOneFrom, RefusesStored};
 ghost use Rattle.mp4_extract.specs.Extracting.{AreDescribed, BeginsAt, HasNone, RefusesDescription, RefusesFirst};
 ghost use Rattle.mp4_extract.specs.Extracting.{RefusesTrackIn, has_number};
@@ -13,6 +13,7 @@ use crate::descriptions::check_descriptions;
 use crate::error::ExtractError;
 use crate::form::SampleForm;
 use crate::format::SampleFormat;
+use crate::neighbours::neighbours_in;
 use mp4_media::{ByteSource, Error, Mp4File};
 use std::alloc::Global;
 use std::io::Write;
@@ -173,10 +174,86 @@ impl SampleWriter {
         }
     }
 
+    /// Writes the samples from number `k` on, `most` at most, that lie one after the other in the file, where samples
+    /// are written as they are stored. It answers how many they were: 0 where they aren't written so, or aren't read,
+    /// and then nothing is written.
+    ///
+    /// `Write` with number `k` alone. A sample of sound may have two bytes: one read and one write are those of
+    /// thousands.
+    fn write_neighbours<S: ByteSource + Drop, W: Write>(
+        &mut self,
+        file: &mut Mp4File<S>,
+        k: u32,
+        most: u32,
+        out: &mut W,
+    ) -> Result<u32, ExtractError>
+        requires { 1 ≤ most }
+        ensures count { IfOk result (λ n. n ≤ most) }
+        ensures written { IfOk result (λ n. IfSome (S.contents file.old.source) (λ source.
+            AreWritten self.old.form (sample_in source file.old.movie.tracks self.old.track_id) k
+            (W.contents out.old) (W.contents out.new) n)) }
+        ensures refused { IfErr result (IsWriteOf k) }
+        ensures track_id { self.new.track_id ≡ self.old.track_id }
+        ensures form { self.new.form ≡ self.old.form }
+        ensures movie { file.new.movie ≡ file.old.movie }
+        ensures contents { S.contents file.new.source ≡ S.contents file.old.source }
+        ensures can_refuse { S.can_refuse file.new.source ≡ S.can_refuse file.old.source }
+    {
+        if !self.form.is_as_stored() {
+            return Ok(0);
+        }
+        let Some(neighbours) = neighbours_in(&*file, self.track_id, k, most) else {
+            return Ok(0);
+        };
+        match file.read_place_into(neighbours.place(), &mut self.stored) {
+            Ok(()) => match out.write_all(self.stored.as_slice()) {
+                Ok(()) => Ok(neighbours.count),
+                Err(refused) => Err(ExtractError::Write(k, refused)),
+            },
+            Err(_) => Ok(0),
+        }
+    }
+
+    /// Writes the sample with number `k`, and others after it that are read together with it, `most` at most. It
+    /// answers how many they were: 0 where there is no such sample.
+    ///
+    /// The errors are those of [`SampleWriter::write_sample`] for number `k`.
+    fn write_next<S: ByteSource + Drop, W: Write>(
+        &mut self,
+        file: &mut Mp4File<S>,
+        k: u32,
+        most: u32,
+        out: &mut W,
+    ) -> Result<u32, ExtractError>
+        requires { 1 ≤ most }
+        ensures count { IfOk result (λ n. n ≤ most) }
+        ensures written { IfOk result (λ n. IfSome (S.contents file.old.source) (λ source.
+            AreWritten self.old.form (sample_in source file.old.movie.tracks self.old.track_id) k
+            (W.contents out.old) (W.contents out.new) n)) }
+        ensures end { IfOk result (λ n. n ≡ 0 → IfSome (S.contents file.old.source) (λ source.
+            sample_in source file.old.movie.tracks self.old.track_id k ≡ Ok None)) }
+        ensures refused { IfErr result (λ e. IfSome (S.contents file.old.source) (λ source.
+            RefusesNumber self.old.form (sample_in source file.old.movie.tracks self.old.track_id k) k
+            (S.can_refuse file.old.source) e)) }
+        ensures track_id { self.new.track_id ≡ self.old.track_id }
+        ensures form { self.new.form ≡ self.old.form }
+        ensures movie { file.new.movie ≡ file.old.movie }
+        ensures contents { S.contents file.new.source ≡ S.contents file.old.source }
+        ensures can_refuse { S.can_refuse file.new.source ≡ S.can_refuse file.old.source }
+    {
+        let neighbours = self.write_neighbours(file, k, most, out)?;
+        if neighbours > 0 {
+            return Ok(neighbours);
+        }
+        let found = self.write_sample(file, k, out)?;
+        Ok(u32::from(found))
+    }
+
     /// Writes the samples from number `from` on, one after the other: `count` of them, or as many as there are. It
     /// answers how many were written.
     ///
     /// The errors are those of [`SampleWriter::write_sample`]; the samples before the one that is refused are written.
+    /// Where the sink refuses samples that are written together, `Write` has the number of the first of them.
     pub fn write_samples<S: ByteSource + Drop, W: Write>(
         &mut self,
         file: &mut Mp4File<S>,
@@ -199,14 +276,16 @@ impl SampleWriter {
         ensures contents { S.contents file.new.source ≡ S.contents file.old.source }
         ensures can_refuse { S.can_refuse file.new.source ≡ S.can_refuse file.old.source }
     {
-        for written in 0..count {
+        let mut written = 0;
+        while written < count {
             let Some(k) = from.checked_add(written) else {
                 return Ok(written);
             };
-            let found = self.write_sample(file, k, out)?;
-            if !found {
+            let more = self.write_next(file, k, count - written, out)?;
+            if more == 0 {
                 return Ok(written);
             }
+            written += more;
         }
         Ok(count)
     }

@@ -1,9 +1,12 @@
 //! The subtitles of a track of text.
 
-ghost use Rattle.std.specs.Prelude.{◌≡◌, ◌⊎◌, ◌+◌, ◌≤◌, Ok, Some, None, IfErr, IfNone, IfOk, IfSome};
-ghost use Rattle.mp4_media.specs.Reading.{sample_count_in, sample_in, sample_there};
-ghost use Rattle.mp4_extract.specs.Subtitles.{IsShiftOf, IsSubtitleAt, IsSubtitleOf, IsTimescaleOf, RefusesSubtitle};
-ghost use Rattle.mp4_extract.specs.Subtitles.{has_time_left};
+ghost use Rattle.std.specs.Prelude.{◌≡◌, ◌⊎◌, ◌+◌, ◌<◌, ◌≤◌, Ok, Some, None, IfErr, IfNone, IfOk, IfSome, OnOk};
+ghost use Rattle.mp4_codec.specs.Cause.{Gives};
+ghost use Rattle.mp4_media.specs.Reading.{sample_in, sample_there};
+ghost use Rattle.mp4_extract.specs.Subtitles.{AreSubtitlesOf, IsReadingOf, IsSubtitleAt, IsSubtitleOf, RefusesSubtitle};
+ghost use Rattle.mp4_extract.specs.Subtitles.{RefusesSubtitles, and_shown, has_time_left, reading_of, shift_in};
+ghost use Rattle.mp4_extract.specs.Subtitles.{text_reading, timescale_in};
+ghost use Rattle.mp4_extract.specs.declared.error.ExtractError.TheVariants.{OutOfMemory};
 
 use crate::edits::{SubtitleTimes, TextShift, shift_of};
 use crate::error::ExtractError;
@@ -61,8 +64,9 @@ fn subtitle_of(
 }
 
 /// The ticks in a second of a track of text.
+#[tactic(auto, unfolding(crate::specs::Subtitles::timescale_in, crate::specs::Subtitles::text_timescale))]
 fn text_timescale<S: ByteSource + Drop>(file: &Mp4File<S>, track_id: u32) -> Result<u32>
-    ensures { IfOk result (λ n. IsTimescaleOf file.now.movie.tracks track_id n) }
+    ensures { Gives (λ n. n) result (timescale_in file.now.movie.tracks track_id) }
 {
     let Some(track) = file.tracks().get(&track_id) else {
         return Err(Error::TrakNotFound(track_id));
@@ -74,12 +78,14 @@ fn text_timescale<S: ByteSource + Drop>(file: &Mp4File<S>, track_id: u32) -> Res
 }
 
 /// How the times of a track are shifted.
+#[tactic(auto, unfolding(crate::specs::Subtitles::shift_in))]
 fn text_shift<S: ByteSource + Drop>(
     file: &Mp4File<S>,
     track_id: u32,
     times: SubtitleTimes,
 ) -> Result<TextShift>
-    ensures { IfOk result (λ shift. IsShiftOf times file.now.movie.tracks track_id file.now.movie.moov shift) }
+    ensures { Gives (λ shift. shift) result
+        (shift_in times file.now.movie.tracks track_id file.now.movie.moov) }
 {
     let Some(track) = file.tracks().get(&track_id) else {
         return Err(Error::TrakNotFound(track_id));
@@ -119,6 +125,7 @@ impl Drop for SubtitleReader {
 }
 
 /// A reader before the first sample of a track.
+#[tactic(auto, unfolding(crate::specs::Subtitles::text_reading))]
 fn reader_of<S: ByteSource + Drop>(
     alloc: Global,
     file: &Mp4File<S>,
@@ -126,10 +133,9 @@ fn reader_of<S: ByteSource + Drop>(
     times: SubtitleTimes,
 ) -> Result<SubtitleReader>
     ensures track_id { IfOk result (λ r. r.track_id ≡ track_id) }
-    ensures timescale { IfOk result (λ r. IsTimescaleOf file.now.movie.tracks track_id r.timescale) }
-    ensures shift { IfOk result (λ r. IsShiftOf times file.now.movie.tracks track_id file.now.movie.moov r.shift) }
     ensures read { IfOk result (λ r. r.read ≡ 0) }
-    ensures count { IfOk result (λ r. sample_count_in file.now.movie.tracks track_id ≡ Ok r.count) }
+    ensures reading { Gives reading_of result
+        (text_reading times file.now.movie.tracks track_id file.now.movie.moov) }
 {
     let timescale = text_timescale(file, track_id)?;
     let shift = text_shift(file, track_id, times)?;
@@ -157,10 +163,8 @@ impl SubtitleReader {
         times: SubtitleTimes,
     ) -> std::result::Result<Self, ExtractError>
         ensures track_id { IfOk result (λ r. r.track_id ≡ track_id) }
-        ensures timescale { IfOk result (λ r. IsTimescaleOf file.now.movie.tracks track_id r.timescale) }
-        ensures shift { IfOk result (λ r. IsShiftOf times file.now.movie.tracks track_id file.now.movie.moov r.shift) }
         ensures read { IfOk result (λ r. r.read ≡ 0) }
-        ensures count { IfOk result (λ r. sample_count_in file.now.movie.tracks track_id ≡ Ok r.count) }
+        ensures reading { IsReadingOf (text_reading times file.now.movie.tracks track_id file.now.movie.moov) result }
     {
         match reader_of(alloc, file, track_id, times) {
             Ok(reader) => Ok(reader),
@@ -227,6 +231,7 @@ impl SubtitleReader {
             (sample_in source file.old.movie.tracks self.old.track_id (self.old.read + 1))
             (S.can_refuse file.old.source) e))) }
         ensures read { IfSome result (λ _. self.new.read ≡ self.old.read + 1) }
+        ensures more { IfSome result (λ _. self.old.read < self.old.count) }
         ensures end { IfNone result ((self.old.count ≤ self.old.read) ⊎ (IfSome (S.contents file.old.source)
             (λ source. sample_in source file.old.movie.tracks self.old.track_id (self.old.read + 1) ≡ Ok None))) }
         ensures track_id { self.new.track_id ≡ self.old.track_id }
@@ -247,4 +252,43 @@ impl SubtitleReader {
             Err(error) => Some(Err(error)),
         }
     }
+}
+
+/// Adds a subtitle to a list, where it is shown.
+fn add_shown(subtitle: Subtitle, list: &mut Vec<Subtitle>) -> std::result::Result<(), ExtractError>
+    ensures added { OnOk result (list.new.items ≡ and_shown list.old.items subtitle) }
+    ensures refused { IfErr result (λ e. e ≡ OutOfMemory) }
+{
+    if subtitle.is_shown {
+        list.push(subtitle)?;
+    }
+    Ok(())
+}
+
+/// The subtitles that are shown of the track of text with this id, in the order of their samples, with these times.
+///
+/// The errors are those of [`SubtitleReader::new`], and then that of the first sample that [`SubtitleReader::next`]
+/// refuses.
+pub fn subtitles<S: ByteSource + Drop>(
+    alloc: Global,
+    file: &mut Mp4File<S>,
+    track_id: u32,
+    times: SubtitleTimes,
+) -> std::result::Result<Vec<Subtitle>, ExtractError>
+    ensures subtitles { IfOk result (λ list. IfSome (S.contents file.old.source) (λ source.
+        AreSubtitlesOf times source file.old.movie.tracks track_id file.old.movie.moov list.items)) }
+    ensures refused { IfErr result (λ e. IfSome (S.contents file.old.source) (λ source.
+        RefusesSubtitles times source file.old.movie.tracks track_id file.old.movie.moov
+        (S.can_refuse file.old.source) e)) }
+    ensures movie { file.new.movie ≡ file.old.movie }
+    ensures contents { S.contents file.new.source ≡ S.contents file.old.source }
+    ensures can_refuse { S.can_refuse file.new.source ≡ S.can_refuse file.old.source }
+{
+    let mut reader = SubtitleReader::new(alloc, file, track_id, times)?;
+    let mut list = Vec::new(alloc);
+    while let Some(answer) = reader.next(file) {
+        let subtitle = answer?;
+        add_shown(subtitle, &mut list)?;
+    }
+    Ok(list)
 }

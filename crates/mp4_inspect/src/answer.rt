@@ -278,8 +278,8 @@ fn answer_of_stream<R: Files + Clock + Eprint, I: Read, O: Write, E: Write>(
     answer_or_fault(host, bytes.as_slice(), request, out, err)
 }
 
-/// What a request asks of its file, or of standard input. What isn't a regular file is read whole, as a pipe. The answer
-/// is the status.
+/// What a request asks of its file, or of standard input. What isn't a regular file is read whole, as a pipe. The
+/// answer is the status.
 ///
 /// `SameFile` where the file that is written is the one that is read; nothing is read then.
 pub fn answer_of_file<R: Files + Clock + Eprint, I: Read, O: Write, E: Write>(

@@ -161,8 +161,8 @@ fn write_subtitle<W: Write>(
     written.map_err(Fault::of_printing)
 }
 
-/// Prints the texts of a track one after the other to `out`, and to `err` a line for each sample of the file of this name
-/// that is refused, up to [`MOST_REFUSED`] of them. The answer is whether any was.
+/// Prints the texts of a track one after the other to `out`, and to `err` a line for each sample of the file of this
+/// name that is refused, up to [`MOST_REFUSED`] of them. The answer is whether any was.
 pub fn print_subtitles<S: ByteSource + Drop, W: Write, E: Write>(
     alloc: Global,
     movie: &mut Mp4File<S>,

@@ -162,8 +162,8 @@ pub(crate) struct EqualSamples<'t> {
 }
 
 impl<'t> EqualSamples<'t> {
-    /// Before all samples of a track. Samples of the movie box with these numbers, which rise, are told from
-    /// others.
+    /// Before all samples of a track. Samples of the movie box with these numbers, which rise, are kept apart
+    /// from others.
     pub(crate) fn new(track: &'t Mp4Track, sync_numbers: &'t [u32]) -> Self {
         let stbl = &track.trak.mdia.minf.stbl;
         EqualSamples {

@@ -70,7 +70,8 @@ fn report_of(alloc: Global, items: &IlstBox, tags: Vec<Tag>) -> Result<MetadataR
     })
 }
 
-/// What a movie says of its work, whose tags are these, as [`crate::tags_of`] finds them. Refused by `OutOfMemory` alone.
+/// What a movie says of its work, whose tags are these, as [`crate::tags_of`] finds them. Refused by `OutOfMemory`
+/// alone.
 pub fn metadata_of(alloc: Global, movie: &Movie, tags: Vec<Tag>) -> Result<MetadataReport> {
     match movie.metadata() {
         Some(items) => report_of(alloc, items, tags),

@@ -66,7 +66,7 @@ pub(crate) struct Spans<'t> {
 
 impl<'t> Spans<'t> {
     /// Before the sample of a number, from 1. Where the samples of the movie box have one size, those with
-    /// these numbers, which rise, are told from others.
+    /// these numbers, which rise, are kept apart from others.
     pub(crate) fn new(track: &'t Mp4Track, number: u32, sync_numbers: &'t [u32]) -> Self {
         Spans {
             track,

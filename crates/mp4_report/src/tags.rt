@@ -205,8 +205,8 @@ impl Found {
         self.add_items(looking, list, Some(keys.as_slice()))
     }
 
-    /// Adds the texts of a box of user data, each with its length and its language in two bytes before it (QuickTime file
-    /// format, "User data text strings and language codes").
+    /// Adds the texts of a box of user data, each with its length and its language in two bytes before it (QuickTime
+    /// file format, "User data text strings and language codes").
     fn add_texts<S: ByteSource>(
         &mut self,
         looking: &mut Looking<S>,
@@ -275,8 +275,8 @@ impl Found {
     }
 }
 
-/// What the last movie box of a file says of its work, in file order, by the boxes' bytes as they stand; what has no such
-/// form is passed over. A value of more than 1 MiB is cut there.
+/// What the last movie box of a file says of its work, in file order, by the boxes' bytes as they stand; what has no
+/// such form is passed over. A value of more than 1 MiB is cut there.
 ///
 /// `Io` where the source refuses a read; else refused by `OutOfMemory` alone.
 pub fn tags_of<S: ByteSource + Drop>(alloc: Global, source: S) -> Result<Vec<Tag>, FileError> {

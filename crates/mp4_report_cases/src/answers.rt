@@ -1,7 +1,9 @@
 //! What the reports of a file answer to questions.
 
+use crate::extracted::{Asked, extracted, format_of, texts};
 use mp4_box_report::{BoxesError, BoxesRequest, why_of, write_boxes};
-use mp4_media::{Error, FileError, Mp4File, Mp4Track};
+use mp4_extract::SubtitleTimes;
+use mp4_media::{Error, FileError, Mp4File};
 use mp4_readable::{DecimalTime, Grouped, TickClock, json_text};
 use mp4_report::{
     First, PrintError, SamplesRequest, metadata_of, tags_of, tracks_of, tracks_past_end,
@@ -14,7 +16,7 @@ use std::io;
 use std::io::ErrorKind;
 
 /// What a call answers that looks at a file.
-type Answer = Result<String, FileError>;
+pub type Answer = Result<String, FileError>;
 
 /// A report as a text or as JSON.
 fn printed<T: Display + Serialize>(alloc: Global, report: &T, form: &str) -> Answer {
@@ -28,12 +30,12 @@ fn printed<T: Display + Serialize>(alloc: Global, report: &T, form: &str) -> Ans
 }
 
 /// The number of a word; 0 where it is none.
-fn number(word: &str) -> u32 {
+pub fn number(word: &str) -> u32 {
     word.parse::<u32>().unwrap_or(0)
 }
 
 /// The movie of these bytes.
-fn opened(alloc: Global, bytes: &[u8]) -> Result<Mp4File<&[u8]>, FileError> {
+pub fn opened(alloc: Global, bytes: &[u8]) -> Result<Mp4File<&[u8]>, FileError> {
     Mp4File::open(alloc, bytes, 0, bytes.len() as u64)
 }
 
@@ -60,7 +62,7 @@ fn metadata(alloc: Global, bytes: &[u8], form: &str) -> Answer {
 }
 
 /// Why a list isn't written whole: where it had no memory, that is why.
-fn of_printing(error: io::Error) -> FileError {
+pub fn of_printing(error: io::Error) -> FileError {
     if error.kind() == ErrorKind::OutOfMemory {
         return FileError::from(Error::OutOfMemory);
     }
@@ -152,45 +154,34 @@ fn ticks(alloc: Global, time: &str, timescale: &str) -> Answer {
     }
 }
 
-/// The tick that is read of the time that is shown of another.
-fn tick_shown(alloc: Global, tick: u64, timescale: u32) -> Result<Option<u64>, FileError> {
-    let clock = TickClock {
-        ticks: i128::from(tick),
-        timescale,
-    };
-    let text = format!(in alloc; "{clock}")?;
-    Ok(DecimalTime::parse(text.as_str()).map(|time| time.ticks(timescale)))
-}
-
-/// How many samples of a track there are, of the first thousand, up to one that isn't found by the time that is shown
-/// of it: that is found too early, or by another tick.
-fn found_in(alloc: Global, track: &Mp4Track) -> Result<u32, FileError> {
-    let timescale = track.timescale();
-    let mut found = 0u32;
-    for place in track.samples() {
-        let Ok(place) = place else {
-            break;
-        };
-        if found == 1000 {
-            break;
+/// What is extracted of a track, in words; `None` where the words are no question for that.
+fn extracted_by_words(alloc: Global, bytes: &[u8], words: &[&str]) -> Option<Answer> {
+    match words {
+        ["extract", format, track] => {
+            let asked = Asked {
+                track: *track,
+                from: 1,
+                count: u32::MAX,
+            };
+            Some(extracted(alloc, bytes, asked, format_of(*format)))
         }
-        let tick = tick_shown(alloc, place.start_time, timescale)?;
-        if tick != Some(place.start_time) || track.sample_at(place.start_time) <= Some(found) {
-            break;
+        ["extract", format, track, "from", from, "count", count] => {
+            let asked = Asked {
+                track: *track,
+                from: number(*from),
+                count: number(*count),
+            };
+            Some(extracted(alloc, bytes, asked, format_of(*format)))
         }
-        found = found.saturating_add(1);
+        ["subtitles", track] => Some(texts(alloc, bytes, *track, false, SubtitleTimes::Shown)),
+        ["subtitles", track, "srt"] => {
+            Some(texts(alloc, bytes, *track, true, SubtitleTimes::Shown))
+        }
+        ["subtitles", track, "decoded"] => {
+            Some(texts(alloc, bytes, *track, false, SubtitleTimes::Decoded))
+        }
+        _ => None,
     }
-    Ok(found)
-}
-
-/// How many samples of all tracks are found by the times that are shown of them, a thousand of each track at most.
-fn found(alloc: Global, bytes: &[u8]) -> Answer {
-    let movie = opened(alloc, bytes)?;
-    let mut count = 0u32;
-    for track in movie.tracks().values() {
-        count = count.saturating_add(found_in(alloc, track)?);
-    }
-    Ok(format!(in alloc; "{count} samples")?)
 }
 
 /// What the file of these bytes answers to the words of a question; `None` where they are no question.
@@ -206,7 +197,6 @@ fn answer_of_words(alloc: Global, bytes: &[u8], words: &[&str]) -> Option<Answer
         ["metadata", "json"] => Some(metadata(alloc, bytes, "json")),
         ["why"] => Some(why(alloc, bytes)),
         ["past", "the", "end"] => Some(past_end(alloc, bytes)),
-        ["found", "by", "their", "times"] => Some(found(alloc, bytes)),
         ["clock", ticks, "of", timescale] => Some(clock(alloc, ticks, timescale)),
         ["ticks", "of", time, "of", timescale] => Some(ticks(alloc, time, timescale)),
         ["samples", track] => {
@@ -222,7 +212,7 @@ fn answer_of_words(alloc: Global, bytes: &[u8], words: &[&str]) -> Option<Answer
         ["samples", track, "at", seconds, "count", count] => {
             Some(samples_at(alloc, bytes, track, seconds, count))
         }
-        _ => None,
+        _ => extracted_by_words(alloc, bytes, words),
     }
 }
 

@@ -3,7 +3,9 @@
 #![tactic(auto)]
 
 mod answers;
+mod extracted;
 mod suite;
+mod times;
 
 use crate::suite::Suite;
 use std::alloc::Global;

@@ -1,10 +1,11 @@
 //! Cases, and whether their questions are answered as they expect.
 
 use crate::answers::{answer, grouped};
+use crate::times::found_in;
 use mp4_cases::changes::{Query, changed, cut, query_of};
 use mp4_cases::encoded::{Names, encoded};
 use mp4_cases::items::{items, words};
-use mp4_media::Result;
+use mp4_media::{Error, Result};
 use std::alloc::Global;
 use std::collections::BTreeMap;
 use std::fmt;
@@ -21,6 +22,8 @@ pub struct Suite {
     bytes: Vec<u8>,
     questions: u32,
     cases: u32,
+    /// The samples that were found by the times that are shown of them.
+    found: u32,
     /// What doesn't agree.
     faults: String,
 }
@@ -31,7 +34,12 @@ impl fmt::Display for Suite {
         let questions = self.questions;
         let cases = self.cases;
         if self.agrees() {
-            return writeln!(f, "{questions} answers of {cases} cases agree");
+            let found = self.found;
+            return writeln!(
+                f,
+                "{questions} answers of {cases} cases agree\n\
+                 {found} samples are found by the times that are shown of them"
+            );
         }
         writeln!(
             f,
@@ -48,6 +56,7 @@ impl Suite {
             bytes: Vec::new(alloc),
             questions: 0,
             cases: 0,
+            found: 0,
             faults: String::new(alloc),
         }
     }
@@ -103,6 +112,22 @@ impl Suite {
         }
     }
 
+    /// Looks for the samples of the file by the times that are shown of them.
+    fn look_for_samples(&mut self, alloc: Global) -> Result<()> {
+        match found_in(alloc, self.bytes.as_slice()) {
+            Ok(found) if found.found == found.asked => {
+                self.found = self.found.saturating_add(found.found);
+                Ok(())
+            }
+            Ok(_) => self.fault(
+                "samples by the times that are shown of them",
+                "all",
+                "not all",
+            ),
+            Err(_) => Err(Error::OutOfMemory),
+        }
+    }
+
     /// Gives a name to the bytes that words encode.
     fn name(&mut self, alloc: Global, name: &str, words: &str) -> Result<()> {
         match encoded(alloc, &self.names, words)? {
@@ -125,7 +150,7 @@ impl Suite {
         match encoded(alloc, &self.names, rest)? {
             Some(bytes) if word == "file" => {
                 self.bytes = bytes;
-                Ok(())
+                self.look_for_samples(alloc)
             }
             _ => self.fault(item, "an item", "(none)"),
         }

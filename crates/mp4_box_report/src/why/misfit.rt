@@ -1,6 +1,6 @@
 //! The box that doesn't fit into the box that it is in.
 
-use crate::why::said::{LARGE_HEADER_SIZE, Said, said_by};
+use crate::said::{LARGE_HEADER_SIZE, Said, said_by};
 use mp4_codec::{BoxType, HEADER_SIZE, OPEN_END};
 use mp4_faults::{PathStep, bytes_before_children};
 use mp4_readable::Grouped;

@@ -1,7 +1,7 @@
 //! The `esds` that is at fault in the `wave` of a sample entry of sound, as QuickTime writes it.
 
+use crate::said::{LARGE_HEADER_SIZE, said_by};
 use crate::why::misfit::number_after;
-use crate::why::said::{LARGE_HEADER_SIZE, said_by};
 use mp4_codec::{BoxType, HEADER_SIZE};
 use mp4_faults::{FaultPlace, PathStep, bytes_before_children, refusal_of};
 use mp4_source::{ByteSource, FileError, read_into};
@@ -90,12 +90,23 @@ fn esds_in(alloc: Global, wave: &[u8]) -> Result<Option<(PathStep, Part)>, Alloc
     }
 }
 
-/// The steps from a sample entry to the `esds` in its `wave` that is refused, and the place of that in the entry's
-/// payload.
-fn refused_in(
+/// The `wave` in a sample entry of sound and the `esds` in it that are looked at: the steps to them, where they begin
+/// in the entry's payload, and where the payload of the `esds` is there.
+#[derive(Clone, Copy)]
+pub(crate) struct EsdsInWave {
+    to_wave: PathStep,
+    to_esds: PathStep,
+    pub wave: usize,
+    pub esds: usize,
+    from: usize,
+    end: usize,
+}
+
+/// What the reading of a sample entry of sound with this payload looks at in its `wave`, if it looks there.
+pub(crate) fn esds_in_wave(
     alloc: Global,
     payload: &[u8],
-) -> mp4_codec::Result<Option<(PathStep, PathStep, usize)>> {
+) -> Result<Option<EsdsInWave>, AllocError> {
     let Some((to_wave, wave)) = wave_in(alloc, payload)? else {
         return Ok(None);
     };
@@ -103,9 +114,27 @@ fn refused_in(
     let Some((to_esds, esds)) = esds_in(alloc, inside)? else {
         return Ok(None);
     };
-    let bytes = inside.get(esds.from..esds.end).unwrap_or(&[]);
+    Ok(Some(EsdsInWave {
+        to_wave,
+        to_esds,
+        wave: wave.place,
+        esds: wave.from.saturating_add(esds.place),
+        from: wave.from.saturating_add(esds.from),
+        end: wave.from.saturating_add(esds.end),
+    }))
+}
+
+/// The `esds` in the `wave` of a sample entry of sound with this payload, where it is refused.
+pub(crate) fn refused_in_wave(
+    alloc: Global,
+    payload: &[u8],
+) -> mp4_codec::Result<Option<EsdsInWave>> {
+    let Some(found) = esds_in_wave(alloc, payload)? else {
+        return Ok(None);
+    };
+    let bytes = payload.get(found.from..found.end).unwrap_or(&[]);
     match refusal_of(alloc, BoxType::EsdsBox, bytes)? {
-        Some(_) => Ok(Some((to_wave, to_esds, wave.from.saturating_add(esds.place)))),
+        Some(_) => Ok(Some(found)),
         None => Ok(None),
     }
 }
@@ -128,11 +157,11 @@ pub(crate) fn lead_into_wave<S: ByteSource>(
     let from = fault.place.saturating_add(said.header_size);
     let size = said.size.min(left).saturating_sub(said.header_size);
     read_into(source, from, size as usize, &mut bytes)?;
-    let Some((to_wave, to_esds, place)) = refused_in(alloc, bytes.as_slice())? else {
+    let Some(found) = refused_in_wave(alloc, bytes.as_slice())? else {
         return Ok(());
     };
-    fault.path.push(to_wave)?;
-    fault.path.push(to_esds)?;
-    fault.place = from.saturating_add(place as u64);
+    fault.path.push(found.to_wave)?;
+    fault.path.push(found.to_esds)?;
+    fault.place = from.saturating_add(found.esds as u64);
     Ok(())
 }
