@@ -1,5 +1,5 @@
 -- What becomes of the samples of a track in a format.
-use Rattle.std.specs.Prelude.{◌==◌, if◌then◌else◌, ◌≡◌, ⊤, ℕ, List, Option, Some, None, Result, Ok, Err}
+use Rattle.std.specs.Prelude.{◌==◌, if◌then◌else◌, ◌≡◌, ℕ, List, Option, Some, None, Result, Ok, Err}
 use Rattle.mp4_codec.specs.declared.error.Error.{Error}
 use Rattle.mp4_codec.specs.Cause.{Cause, cause_of, seen}
 use Rattle.mp4_entry.specs.declared.avc1.Avc1Box.{Avc1Box}
@@ -58,11 +58,12 @@ HasNoForm trak Stored = ⊥
 HasNoForm trak Stream = track_stream trak ≡ Ok None
 HasNoForm trak Frames = track_adts trak ≡ None
 
--- for this error is a track refused
+-- for this error is a track refused; as its samples are stored it never is
 abbrev pub RefusesTrack : TrakBox → SampleFormat → ExtractError → Type 0
-RefusesTrack trak format OutOfMemory = ⊤
-RefusesTrack trak format (Track e) = track_stream trak ≡ Err (cause_of e)
-RefusesTrack trak format (WrongFormat id refused) = (refused ≡ format) × HasNoForm trak format
+RefusesTrack trak format OutOfMemory = format ≡ Stream
+RefusesTrack trak format (Track e) = (format ≡ Stream) × (track_stream trak ≡ Err (cause_of e))
+RefusesTrack trak format (WrongFormat id refused) =
+    (id ≡ trak.tkhd.track_id) × (refused ≡ format) × HasNoForm trak format
 RefusesTrack trak format (NoSuchSample id k count) = ⊥
 RefusesTrack trak format (OtherDescription k description other) = ⊥
 RefusesTrack trak format (Sample k place e) = ⊥

@@ -246,7 +246,7 @@ impl SampleWriter {
             return Ok(neighbours);
         }
         let found = self.write_sample(file, k, out)?;
-        Ok(u32::from(found))
+        if found { Ok(1) } else { Ok(0) }
     }
 
     /// Writes the samples from number `from` on, one after the other: `count` of them, or as many as there are. It

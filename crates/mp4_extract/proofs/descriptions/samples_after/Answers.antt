@@ -1,4 +1,4 @@
-use Rattle.std.proofs.Common.{◌≡◌, ◌+◌, ◌∙◌, ℕ, drop, sym, ap, List}
+use Rattle.std.proofs.Common.{◌+◌, ◌∙◌, ℕ, drop, sym, ap, List}
 use Rattle.std.proofs.lemmas.List.{drop_more}
 use Rattle.mp4_frag.specs.declared.trun.TrunBox.{TrunBox}
 use Rattle.mp4_extract.specs.Descriptions.{samples_after}

@@ -1,4 +1,3 @@
-use Rattle.std.proofs.Common.{rules}
 use Rattle.mp4_codec.specs.PutLaws.{nothing_added}
 use Rattle.mp4_extract.specs.ByteStream.{byte_stream}
 use Rattle.mp4_extract.proofs.Streams.{stream-one}

@@ -1,35 +1,35 @@
-use Rattle.std.proofs.Common.{arith, ◌≡◌, ◌+◌, true, ◌∙◌, rules}
+use Rattle.std.proofs.Common.{arith, ◌≡◌, ◌+◌, ◌∙◌, rules}
 use Rattle.mp4_media.specs.Reading.{sample_in}
 use Rattle.mp4_media.proofs.FoundBoxes.{of_known}
 use Rattle.std.proofs.lemmas.Result.{err_from_is_err_and}
-use Rattle.mp4_extract.proofs.Joined.{sample_added}
+use Rattle.mp4_extract.proofs.Joined.{samples_added}
 use Rattle.mp4_extract.proofs.samples.SampleWriter.write_samples.Goals as goal
 
 pub loop-written-preserved : goal.loop-written-preserved
 loop-written-preserved g c =
     let inv = c.loop-written.invariant in
-    let now = c.in_ok-found.ensures in
+    let now = c.in_ok-more.ensures in
     let old = c.args.self.now in
     let tracks = c.args.file.now.movie.tracks in
-    let there : c.in_ok-found.found ≡ true = search rules in
     let number : c.in-Some.k ≡ c.args.from + c.loop-written.written = search rules in (
       now.track_id ∙ inv.0,
       now.form ∙ inv.1,
       now.movie ∙ inv.2,
       now.contents ∙ inv.3,
       now.can_refuse ∙ inv.4,
-      sample_added (g.S.ByteSource.contents c.args.file.now.source) old.form
+      samples_added (g.S.ByteSource.contents c.args.file.now.source) old.form
           (λ source. sample_in source tracks old.track_id) c.args.from c.loop-written.written c.in-Some.k
-          (g.W.Write.contents c.args.out.now) (g.W.Write.contents c.loop-written.out)
-          (g.W.Write.contents c.write_sample.new.out) c.in_ok-found.found there number inv.5
+          c.in_ok-more.more (g.W.Write.contents c.args.out.now) (g.W.Write.contents c.loop-written.out)
+          (g.W.Write.contents c.write_next.new.out) number inv.5
           (rw (inv.0, inv.1, inv.2, inv.3) at now.written),
+      omega (arith, now.count, inv.6),
     )
 
-pub returns-in_err-found-clause-refused : goal.returns-in_err-found-clause-refused
-returns-in_err-found-clause-refused g c =
+pub returns-in_err-more-clause-refused : goal.returns-in_err-more-clause-refused
+returns-in_err-more-clause-refused g c =
     let inv = c.loop-written.invariant in
     let p = err_from_is_err_and c.from_residual.result c.from_residual.ensures.1 in
     let number : c.in-Some.k ≡ c.args.from + c.loop-written.written = search rules in
     rw (p.1, p.2) (of_known (g.S.ByteSource.contents c.args.file.now.source) _ _
-    (rw (inv.0, inv.1, inv.2, inv.3, inv.4) at c.in_err-found.ensures.refused)
+    (rw (inv.0, inv.1, inv.2, inv.3, inv.4) at c.in_err-more.ensures.refused)
     (λ source refused. (c.in-Some.k, omega arith, refused)))

@@ -1,4 +1,4 @@
-use Rattle.std.proofs.Common.{◌≡◌}
+use Rattle.std.proofs.Common.{◌≡◌, ◌-◌, ◌≤◌}
 use Rattle.std.specs.Prelude.{IfSome}
 use Rattle.mp4_media.specs.Reading.{sample_in}
 use Rattle.mp4_extract.specs.Extracting.{AreWritten}
@@ -12,3 +12,7 @@ invariant-loop-written g l =
     × (IfSome (g.S.ByteSource.contents l.fn.file.source) (λ source.
     AreWritten l.fn.self.form (sample_in source l.fn.file.movie.tracks l.fn.self.track_id) l.from
     (g.W.Write.contents l.fn.out) (g.W.Write.contents l.out) l.written))
+    × (l.written ≤ l.count)
+
+abbrev pub decreases-loop-written : goal.decreases-loop-written
+decreases-loop-written g l = l.count - l.written
