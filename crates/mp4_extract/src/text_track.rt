@@ -232,6 +232,7 @@ impl SubtitleReader {
             (S.can_refuse file.old.source) e))) }
         ensures read { IfSome result (λ _. self.new.read ≡ self.old.read + 1) }
         ensures more { IfSome result (λ _. self.old.read < self.old.count) }
+        ensures ended { IfNone result (self.new.read ≡ self.old.read) }
         ensures end { IfNone result ((self.old.count ≤ self.old.read) ⊎ (IfSome (S.contents file.old.source)
             (λ source. sample_in source file.old.movie.tracks self.old.track_id (self.old.read + 1) ≡ Ok None))) }
         ensures track_id { self.new.track_id ≡ self.old.track_id }
@@ -245,11 +246,17 @@ impl SubtitleReader {
         if self.read >= self.count {
             return None;
         }
-        self.read += 1;
-        match self.subtitle_at(file, self.read) {
-            Ok(Some(subtitle)) => Some(Ok(subtitle)),
+        let number = self.read + 1;
+        match self.subtitle_at(file, number) {
             Ok(None) => None,
-            Err(error) => Some(Err(error)),
+            Ok(Some(subtitle)) => {
+                self.read = number;
+                Some(Ok(subtitle))
+            }
+            Err(error) => {
+                self.read = number;
+                Some(Err(error))
+            }
         }
     }
 }
