@@ -2,9 +2,8 @@
 
 use crate::movie::{TEXT, movie};
 use crate::refused::Refused;
-use crate::texts::written_texts;
 use mp4_box_report::{BoxesRequest, why_of, write_boxes};
-use mp4_extract::{SampleFormat, SubtitleTimes, extract};
+use mp4_extract::{SampleFormat, SubtitleTimes, extract, subtitles, write_srt};
 use mp4_media::Mp4File;
 use mp4_plain_movies::movie_bytes::{EMPTY_MOVIE, FULL_MOVIE};
 use mp4_report::{First, SamplesRequest, metadata_of, tags_of, tracks_of, write_samples};
@@ -108,8 +107,15 @@ fn extracted(
 }
 
 fn subtitle_text(alloc: Global, bytes: &[u8]) -> Result<Vec<u8>, Refused> {
-    let texts = written_texts(alloc, bytes, TEXT, SubtitleTimes::Shown)?;
-    Ok(texts.srt)
+    let mut out = Vec::with_capacity(alloc, SINK_SIZE)?;
+    let mut file = opened(alloc, bytes)?;
+    let list = subtitles(alloc, &mut file, TEXT, SubtitleTimes::Shown)?;
+    let mut shown = 0u64;
+    for subtitle in list.iter() {
+        shown = shown.saturating_add(1);
+        write_srt(shown, subtitle, &mut out)?;
+    }
+    Ok(out)
 }
 
 /// What a job makes of its file.

@@ -19,5 +19,3 @@ mod refused;
 mod refused_memory;
 #[cfg(test)]
 mod summaries;
-#[cfg(test)]
-mod texts;
