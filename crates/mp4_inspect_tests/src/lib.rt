@@ -1,6 +1,6 @@
-//! What no text of a case says of the crates that `mp4_inspect` depends on: what is answered where a sink refuses, that
-//! each report and each format is made again after memory was refused, and that the samples of a track are summed up and
-//! found by their times as a plain walk over them finds.
+//! What no text of a case says of the crates that `mp4_inspect` depends on: what is answered where a sink refuses,
+//! that each report and each format is made again after memory was refused, and that the samples of a track are summed
+//! up and found by their times as a plain walk over them finds.
 #![tactic(auto)]
 
 #[cfg(test)]
