@@ -1,6 +1,5 @@
 //! What no case of `mp4_vectors` can say of boxes: values that no bytes give, writes that are refused, what boxes are
-//! made with, lists that copies share, random boxes, tables of a million entries, and that each call of the libraries
-//! up to `mp4_boxes` succeeds with ample memory. What a contract says isn't tested again.
+//! made with, lists that copies share, and tables of a million entries. What a contract says isn't tested again.
 #![tactic(auto)]
 
 #[cfg(test)]
@@ -13,10 +12,6 @@ mod large_tables;
 mod laws;
 #[cfg(test)]
 mod parts;
-#[cfg(test)]
-mod random_boxes;
-#[cfg(test)]
-mod refused_memory;
 #[cfg(test)]
 mod refused_writes;
 #[cfg(test)]

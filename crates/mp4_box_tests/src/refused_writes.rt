@@ -10,7 +10,7 @@ use mp4_leaf::{DataBox, DataType, ElstBox, ElstEntry, HdlrBox, MdhdBox, MvhdBox,
 use mp4_plain_movies::encoded::{
     also, hex, is_invalid, is_past_its_field, is_unrepresentable, writes,
 };
-use mp4_table::{Co64Box, StcoBox, StscBox, StscEntry, StszBox};
+use mp4_table::{StscBox, StscEntry, StszBox};
 use std::alloc::Global;
 
 /// The first number that has no room in 32 bits.
@@ -321,29 +321,6 @@ fn sizes_are_refused(
     is_invalid_of_size(alloc, &table, size)
 }
 
-/// Whether an offset is refused as invalid data in a table of 32 bits.
-fn offset_is_refused(alloc: Global, offset: u64) -> Result<bool> {
-    let mut table = Co64Box::default(alloc)?;
-    table.entries.push(1)?;
-    table.entries.push(offset)?;
-    Ok(matches!(StcoBox::try_from(alloc, &table), Err(Error::InvalidData(_))))
-}
-
-/// Whether two offsets of 64 bits are written in 32, with version and flags.
-fn is_narrowed(alloc: Global) -> Result<bool> {
-    let mut table = Co64Box::default(alloc)?;
-    table.version = 1;
-    table.flags = 2;
-    table.entries.push(1)?;
-    table.entries.push(0xffff_ffff)?;
-    let narrow = StcoBox::try_from(alloc, &table)?;
-    writes(
-        alloc,
-        &narrow,
-        "00000018 7374636f 01000002 00000002 00000001 ffffffff",
-    )
-}
-
 #[test]
 fn a_table_that_cannot_be_written_is_refused(rt: HostRuntime) {
     let alloc = rt.alloc();
@@ -360,10 +337,6 @@ fn a_table_that_cannot_be_written_is_refused(rt: HostRuntime) {
             sizes_are_refused(alloc, sample_size, count, listed, size),
         );
     }
-    for offset in [PAST, PAST + 1, u64::MAX] {
-        check(&rt, offset, offset_is_refused(alloc, offset));
-    }
-    check(&rt, "narrow", is_narrowed(alloc));
 }
 
 /// Why a header of this size isn't written, if a buffer of one byte is then as it was before.

@@ -1,10 +1,11 @@
 //! What the default value of a type of box answers.
 
-use crate::boxes::AnyBox;
+use crate::boxes::{AnyBox, write_again};
 use crate::encoded::write_digits;
 use crate::kinds::kind_named;
+use crate::refusals::refusal;
 use mp4_boxes::{EdtsBox, MdiaBox, MinfBox, MoovBox, StblBox, TrakBox};
-use mp4_codec::{BoxType, HEADER_SIZE, ReadBox, Result};
+use mp4_codec::{BoxType, Error, HEADER_SIZE, ReadBox, Result};
 use mp4_entry::{
     Avc1Box, AvcCBox, EsdsBox, Hev1Box, HvcCBox, Mp4aBox, StsdBox, Tx3gBox, Vp09Box, VpccBox,
 };
@@ -30,6 +31,7 @@ fn add_read_back<B: ReadBox + PartialEq>(
     let payload = bytes.get(HEADER_SIZE as usize..).unwrap_or(&[]);
     match B::read_payload(alloc, payload) {
         Ok(again) if again != *value => text.push_str(", read back as another")?,
+        Err(Error::OutOfMemory) => return Err(Error::OutOfMemory),
         _ => {},
     }
     Ok(())
@@ -53,11 +55,11 @@ fn compared<B: AnyBox>(alloc: Global, value: &B, bytes: &[u8]) -> Result<String>
 /// refusal changes the buffer.
 fn written<B: AnyBox>(alloc: Global, value: &B) -> Result<String> {
     let mut out = vec![in alloc; 7u8]?;
-    let written = value.write_box(&mut out);
+    let written = write_again(value, &mut out);
     let bytes = out.get(1..).unwrap_or(&[]);
     let mut text = match &written {
         Ok(_) => compared(alloc, value, bytes)?,
-        Err(error) => format!(in alloc; "refused: {error}")?,
+        Err(error) => refusal(alloc, error)?,
     };
     let count = written.unwrap_or(0);
     if bytes.len() as u64 != count {

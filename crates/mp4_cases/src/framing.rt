@@ -1,19 +1,28 @@
 //! What headers of boxes and the children of payloads answer.
 
 use crate::encoded::digits;
-use mp4_codec::{BoxHeader, ByteCursor, Child, Children, FourCC, Result, all_children};
+use crate::refusals::refusal;
+use mp4_codec::{BoxHeader, ByteCursor, Child, Children, Error, FourCC, Result, all_children};
 use mp4_frag::MfhdBox;
 use std::alloc::Global;
 use std::fmt::Write;
 
+/// Writes a header at the end of a buffer, and once more where memory is refused, which leaves the buffer as it was.
+fn write_again(header: &BoxHeader, out: &mut Vec<u8>) -> Result<u64> {
+    match header.write(out) {
+        Err(Error::OutOfMemory) => header.write(out),
+        answer => answer,
+    }
+}
+
 /// What a header is written as, after a byte that is there before; and whether the buffer is another after a refusal.
 fn written(alloc: Global, header: &BoxHeader) -> Result<String> {
     let mut out = vec![in alloc; 7u8]?;
-    let written = header.write(&mut out);
+    let written = write_again(header, &mut out);
     let mut text = match &written {
         Ok(8) => digits(alloc, out.get(1..).unwrap_or(&[]))?,
         Ok(count) => format!(in alloc; "{count} bytes")?,
-        Err(error) => format!(in alloc; "refused: {error}")?,
+        Err(error) => refusal(alloc, error)?,
     };
     if written.is_err() && out.len() != 1 {
         text.push_str(", a part is written")?;
@@ -64,7 +73,7 @@ fn listed_children(alloc: Global, payload: &[u8]) -> Result<String> {
     let mut text = String::new(alloc);
     match add_children(alloc, &mut text, payload) {
         Ok(()) => text.push_str("closed")?,
-        Err(error) => write!(text, "refused: {error}")?,
+        Err(error) => text.push_str(refusal(alloc, &error)?.as_str())?,
     }
     Ok(text)
 }

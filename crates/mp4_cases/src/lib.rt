@@ -20,3 +20,4 @@ pub mod kinds;
 pub mod languages;
 pub mod media;
 pub mod metadata;
+pub mod refusals;

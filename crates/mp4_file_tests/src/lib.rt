@@ -1,6 +1,5 @@
 //! What the contracts of `mp4_media` don't say of files: that they are opened and read alike whatever their bytes are
-//! read from, how often a source is asked, sources that refuse a call or change their length, and that each call
-//! succeeds with ample memory.
+//! read from, how often a source is asked, and sources that refuse a call or change their length.
 #![tactic(auto)]
 
 #[cfg(test)]
@@ -17,8 +16,6 @@ mod cuts;
 mod every_source;
 #[cfg(test)]
 mod movies;
-#[cfg(test)]
-mod refused_memory;
 #[cfg(test)]
 mod refused_reads;
 #[cfg(test)]

@@ -1,14 +1,11 @@
 //! What is said of the samples of a track, compared with a plain walk over them.
 
-use crate::movie::movie;
 use crate::plain_summary::walked_summary;
 use crate::random_files::random_file;
-use crate::refused::Refused;
-use mp4_media::{Mp4File, Mp4Track};
+use mp4_media::{FileError, Mp4File, Mp4Track};
 use mp4_readable::{DecimalTime, TickClock};
 use mp4_report::summary_of;
 use std::alloc::{AllocError, Global};
-use std::test::Fail;
 
 /// Whether the samples of a track are together what a plain walk finds, in files of any size: also in such as
 /// end within them.
@@ -50,9 +47,10 @@ fn are_found(alloc: Global, track: &Mp4Track) -> Result<bool, AllocError> {
     Ok(all)
 }
 
-/// Whether what is said of each track of a file is so.
-fn all_is_so(alloc: Global, bytes: &[u8]) -> Result<bool, Refused> {
-    let file = Mp4File::open(alloc, bytes, 0, bytes.len() as u64)?;
+/// Whether what is said of each track of the file of a seed is so.
+fn is_so(alloc: Global, seed: u64) -> Result<bool, FileError> {
+    let bytes = random_file(alloc, seed)?;
+    let file = Mp4File::open(alloc, bytes.as_slice(), 0, bytes.len() as u64)?;
     let mut all = true;
     for track in file.tracks().values() {
         all = all && is_summed_up(alloc, track, file.source_len())? && are_found(alloc, track)?;
@@ -60,24 +58,9 @@ fn all_is_so(alloc: Global, bytes: &[u8]) -> Result<bool, Refused> {
     Ok(all)
 }
 
-/// Whether what is said of the file of a seed is so.
-fn is_so(alloc: Global, seed: u64) -> Result<bool, Refused> {
-    let bytes = random_file(alloc, seed)?;
-    all_is_so(alloc, bytes.as_slice())
-}
-
 #[test]
 fn samples_of_four_hundred_random_files_are_summed_up_and_found_by_their_times(rt: HostRuntime) {
     for seed in 0..400u64 {
         assert!(rt; matches!(is_so(rt.alloc(), seed), Ok(true)), "seed {seed}");
     }
-}
-
-#[test]
-fn samples_of_a_written_movie_are_summed_up_and_found_by_their_times(
-    rt: HostRuntime,
-) -> Result<(), Fail> {
-    let bytes = movie(rt.alloc())?;
-    assert!(rt; matches!(all_is_so(rt.alloc(), bytes.as_slice()), Ok(true)));
-    Ok(())
 }

@@ -3,7 +3,7 @@
 use mp4_codec::{ExactEq, is_equal};
 
 /// Whether two values are unequal, and each is equal to itself.
-pub fn are_apart<T: ExactEq>(one: &T, other: &T) -> bool {
+fn are_apart<T: ExactEq>(one: &T, other: &T) -> bool {
     let is_itself = is_equal(one, one) && is_equal(other, other);
     is_itself && *one != *other && !is_equal(other, one)
 }

@@ -8,7 +8,6 @@ pub mod encoded;
 pub mod equality;
 pub mod listed_calls;
 pub mod movie_bytes;
-pub mod nested;
 pub mod plain_bytes;
 pub mod plain_entries;
 pub mod plain_movie;

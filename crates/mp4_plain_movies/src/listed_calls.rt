@@ -43,7 +43,7 @@ pub fn add_media(track_type: TrackType, media: Media) -> Call {
 }
 
 /// Media of each kind.
-pub fn five_media() -> [Media<'static>; 5] {
+fn five_media() -> [Media<'static>; 5] {
     [
         Media::Avc(SMALL, &SEQUENCE, &PICTURE_SET),
         Media::Hevc(SMALL),
@@ -54,7 +54,7 @@ pub fn five_media() -> [Media<'static>; 5] {
 }
 
 /// A track of each kind of media.
-pub fn five_tracks() -> [Call<'static>; 5] {
+fn five_tracks() -> [Call<'static>; 5] {
     let [avc, hevc, vp9, aac, _] = five_media();
     [
         add_media(TrackType::Video, avc),

@@ -2,12 +2,26 @@
 
 use crate::encoded::hex;
 use crate::movie_bytes::EMPTY_MOVIE;
-use crate::nested::{DINF, HDLR, MDHD, STSD, TKHD};
 use crate::plain_bytes::{
     begin_box, end_box, put, put_chunks, put_durations, put_near_offsets, put_offsets,
     put_rendering_offsets, put_sizes, put_sync_samples,
 };
 use std::alloc::{AllocError, Global};
+
+/// The boxes of the text track beside its tables, in texts that encode them.
+const TKHD: &str = "0000005c 746b6864 00000001 00000000 00000000 00000001 00000000 000005dc \
+    0000000000000000 0000 0000 0100 0000 00010000 00000000 00000000 00000000 00010000 00000000 00000000 \
+    00000000 40000000 00000000 00000000 ";
+
+const MDHD: &str = "00000020 6d646864 00000000 00000000 00000000 000003e8 000005dc 55c4 0000 ";
+
+const HDLR: &str = "00000021 68646c72 00000000 00000000 7362746c 000000000000000000000000 00 ";
+
+const DINF: &str =
+    "00000024 64696e66 0000001c 64726566 00000000 00000001 0000000c 75726c20 00000001 ";
+
+const STSD: &str = "0000003e 73747364 00000000 00000001 0000002e 74783367 000000000000 0001 \
+    00000000 01ff 000000ff 0000000000000000 00000000 00010010 ffffffff ";
 
 /// Where each chunk begins.
 #[derive(Clone, Copy)]

@@ -1,5 +1,5 @@
-//! What the contracts of `mp4_source` don't say: how often a source is asked, files that give less than is asked or
-//! change their length, and that each call succeeds with ample memory. And a caller that any source serves.
+//! What the contracts of `mp4_source` don't say: how often a source is asked, and files that give less than is asked
+//! or change their length. And a caller that any source serves.
 #![tactic(auto)]
 
 #[cfg(test)]
@@ -7,8 +7,6 @@ mod asserts;
 pub mod caller;
 #[cfg(test)]
 mod files;
-#[cfg(test)]
-mod refused_memory;
 #[cfg(test)]
 mod slices;
 #[cfg(test)]

@@ -1,6 +1,6 @@
 //! What no case of `mp4_vectors` can say of movies: random calls of the writer beside a plain model, what it wrote when
-//! it is read back, random tables and files beside plain ones, a million samples, and that each call of the libraries
-//! above `mp4_boxes` succeeds with ample memory. What a contract says isn't tested again.
+//! it is read back, random tables and files beside plain ones, and a million samples. What a contract says isn't tested
+//! again.
 #![tactic(auto)]
 
 #[cfg(test)]
@@ -39,10 +39,6 @@ mod random_movies;
 mod random_tracks;
 #[cfg(test)]
 mod read_back;
-#[cfg(test)]
-mod reader_files;
-#[cfg(test)]
-mod refused_memory;
 #[cfg(test)]
 mod round_trip;
 #[cfg(test)]

@@ -70,24 +70,6 @@ pub fn movie_of<'a>(
     Ok(movie)
 }
 
-/// The bytes that the model makes of these calls, without an end.
-pub fn standing(alloc: Global, beginning: &Beginning, calls: &[Call]) -> Result<Vec<u8>> {
-    let movie = movie_of(alloc, &[], beginning, calls)?;
-    Ok(movie.bytes)
-}
-
-/// The bytes that the model makes of these calls and an end.
-pub fn modelled(
-    alloc: Global,
-    buffer: &[u8],
-    beginning: &Beginning,
-    calls: &[Call],
-) -> Result<Vec<u8>> {
-    let mut movie = movie_of(alloc, buffer, beginning, calls)?;
-    let _ = movie.make(&Call::WriteEnd)?;
-    Ok(movie.bytes)
-}
-
 /// The place after bytes that are looked for from a place on.
 fn end_of(bytes: &[u8], from: usize, piece: &[u8]) -> Option<usize> {
     for start in from..bytes.len() {

@@ -1,6 +1,6 @@
 //! What a file answers of the samples of its tracks.
 
-use crate::sought::{SoughtFile, is_read_alike};
+use crate::sought::{SoughtFile, is_read_alike, is_read_into_alike, read_again};
 use crate::tracks::shown;
 use mp4_media::{
     Comparisons, Error, Mp4Reader, Mp4Sample, Result, SamplePlace, SampleRef, Samples, read_mp4,
@@ -18,6 +18,8 @@ pub struct OpenedFile<'a> {
     pub movie: Mp4Reader<'a>,
     /// The same file, read as one on a disk is.
     pub sought: SoughtFile<'a>,
+    /// What its samples are read into.
+    pub buffer: Vec<u8>,
 }
 
 /// Writes bytes: a text where all are letters or digits, else two digits for each.
@@ -173,6 +175,14 @@ fn is_equal(copied: &Mp4Sample, borrowed: &SampleRef) -> bool {
         && copied.bytes.as_slice() == borrowed.bytes
 }
 
+/// A copy of sample `k` of a track, which is made once more where memory is refused.
+fn copied_again(movie: &mut Mp4Reader, id: u32, k: u32) -> Result<Option<Mp4Sample>> {
+    match movie.read_sample(id, k) {
+        Err(Error::OutOfMemory) => movie.read_sample(id, k),
+        answer => answer,
+    }
+}
+
 /// Whether a sample is copied as it is borrowed.
 fn is_copied(copied: &Result<Option<Mp4Sample>>, borrowed: &Result<Option<SampleRef>>) -> bool {
     match (copied, borrowed) {
@@ -203,10 +213,12 @@ fn write_sample(
     if !is_in_order(&file.movie, id, k, &located) || !is_read_in_order(&file.movie, id, k, &read) {
         text.push_str(", in order as another")?;
     }
-    if !is_copied(&file.movie.read_sample(id, k), &read) {
+    if !is_copied(&copied_again(&mut file.movie, id, k), &read) {
         text.push_str(", copied as another")?;
     }
-    if !is_read_alike(&file.sought.read_sample(id, k), &read) {
+    if !is_read_alike(&read_again(&mut file.sought, id, k), &read)
+        || !is_read_into_alike(&mut file.sought, id, k, &mut file.buffer, &read)
+    {
         text.push_str(", sought as another")?;
     }
     Ok(())

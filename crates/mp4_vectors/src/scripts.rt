@@ -2,7 +2,7 @@
 
 use crate::files::answer_of_file;
 use mp4_cases::encoded::{byte, digits};
-use mp4_media::Result;
+use mp4_media::{Error, Result};
 use mp4_script::{ScriptFault, info_text, run_script, samples_text, show_text};
 use std::alloc::{AllocError, Global};
 
@@ -77,9 +77,14 @@ fn answer_of_movie(alloc: Global, movie: &[u8], question: &str) -> Result<Option
     }
 }
 
-/// Why a script makes no movie.
+/// Why a script makes no movie. Where memory ran out that is no answer.
 fn refusal(alloc: Global, fault: &ScriptFault) -> Result<Option<String>> {
-    Ok(Some(format!(in alloc; "refused: {fault}")?))
+    match fault {
+        ScriptFault::Refused(_, Error::OutOfMemory) | ScriptFault::End(Error::OutOfMemory) => {
+            Err(Error::OutOfMemory)
+        },
+        fault => Ok(Some(format!(in alloc; "refused: {fault}")?)),
+    }
 }
 
 /// What a script answers to a question: the lines that show its movie, or what its movie answers.

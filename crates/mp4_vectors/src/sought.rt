@@ -1,6 +1,8 @@
 //! Files as they are read from a disk: by what reads and seeks.
 
-use mp4_media::{FileError, Mp4File, Mp4Reader, Mp4Sample, Result, SampleRef, SeekSource};
+use mp4_media::{
+    Error, FileError, Mp4File, Mp4Reader, Mp4Sample, Result, SamplePlace, SampleRef, SeekSource,
+};
 use std::alloc::Global;
 use std::io::Cursor;
 
@@ -10,14 +12,65 @@ pub type Source<'a> = SeekSource<Cursor<&'a [u8]>>;
 /// An opened file whose samples are read where they lie.
 pub type SoughtFile<'a> = Mp4File<Source<'a>>;
 
+/// Where sample `k` of a track is, whose bytes are read into a buffer, once more where memory is refused.
+fn read_into_again(
+    file: &mut SoughtFile,
+    id: u32,
+    k: u32,
+    buffer: &mut Vec<u8>,
+) -> std::result::Result<Option<SamplePlace>, FileError> {
+    match file.read_sample_into(id, k, buffer) {
+        Err(FileError::Mp4(Error::OutOfMemory)) => file.read_sample_into(id, k, buffer),
+        answer => answer,
+    }
+}
+
+/// Whether sample `k` of a track is read into a buffer as it is borrowed.
+pub fn is_read_into_alike(
+    file: &mut SoughtFile,
+    id: u32,
+    k: u32,
+    buffer: &mut Vec<u8>,
+    borrowed: &Result<Option<SampleRef>>,
+) -> bool {
+    match (read_into_again(file, id, k, buffer), borrowed) {
+        (Ok(Some(place)), Ok(Some(sample))) => {
+            place.offset == sample.offset && buffer.as_slice() == sample.bytes
+        },
+        (Ok(None), Ok(None)) => true,
+        (Err(FileError::Mp4(one)), Err(other)) => one == *other,
+        _ => false,
+    }
+}
+
 /// These bytes, to be read as a file is.
 pub fn source_of(bytes: &[u8]) -> Source<'_> {
     SeekSource::new(Cursor::new(bytes))
 }
 
 /// The file of all these bytes.
-pub fn open_sought(alloc: Global, bytes: &[u8]) -> std::result::Result<SoughtFile<'_>, FileError> {
+fn opened(alloc: Global, bytes: &[u8]) -> std::result::Result<SoughtFile<'_>, FileError> {
     Mp4File::open(alloc, source_of(bytes), 0, bytes.len() as u64)
+}
+
+/// The file of all these bytes, which is opened once more where memory is refused.
+pub fn open_sought(alloc: Global, bytes: &[u8]) -> std::result::Result<SoughtFile<'_>, FileError> {
+    match opened(alloc, bytes) {
+        Err(FileError::Mp4(Error::OutOfMemory)) => opened(alloc, bytes),
+        answer => answer,
+    }
+}
+
+/// Sample `k` of a track, which is read once more where memory is refused: that leaves the file as it was.
+pub fn read_again(
+    file: &mut SoughtFile,
+    id: u32,
+    k: u32,
+) -> std::result::Result<Option<Mp4Sample>, FileError> {
+    match file.read_sample(id, k) {
+        Err(FileError::Mp4(Error::OutOfMemory)) => file.read_sample(id, k),
+        answer => answer,
+    }
 }
 
 /// Whether two movies have the same boxes, the same size and as many tracks.

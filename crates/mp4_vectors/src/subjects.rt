@@ -2,6 +2,7 @@
 
 use crate::files::answer_of_file;
 use crate::mdat::answer_of_mdat;
+use crate::reports::answer_of_report;
 use crate::scripts::{answer_of_script, script_of};
 use crate::writers::answer_of_writer;
 use mp4_cases::codecs::answer_of_codec;
@@ -14,11 +15,12 @@ use mp4_cases::fixed_point::{answer_of_i8, answer_of_u8, answer_of_u16};
 use mp4_cases::framing::{answer_of_children, answer_of_header};
 use mp4_cases::kinds::answer_of_box;
 use mp4_cases::languages::answer_of_language;
-use mp4_media::{Error, Result};
+use mp4_cases::refusals::refusal;
+use mp4_media::Result;
 use std::alloc::Global;
 
 /// What is asked.
-#[derive(Clone, Copy, Drop)]
+#[derive(Clone, Copy, Debug, Drop)]
 pub enum Subject {
     Box,
     Children,
@@ -34,6 +36,7 @@ pub enum Subject {
     Header,
     Language,
     Mdat,
+    Report,
     Script,
     Writer,
 }
@@ -53,6 +56,7 @@ pub fn subject_of(word: &str) -> Option<Subject> {
         "i8.8" => Some(Subject::FixedI8),
         "language" => Some(Subject::Language),
         "mdat" => Some(Subject::Mdat),
+        "report" => Some(Subject::Report),
         "script" => Some(Subject::Script),
         "u8.8" => Some(Subject::FixedU8),
         "u16.16" => Some(Subject::FixedU16),
@@ -100,6 +104,7 @@ fn answer_of_subject(
         Subject::Header => answer_of_header(alloc, bytes, question),
         Subject::Language => answer_of_language(alloc, bytes, question),
         Subject::Mdat => answer_of_mdat(alloc, words, question),
+        Subject::Report => answer_of_report(alloc, bytes, question),
         Subject::Script => answer_of_script(alloc, bytes, question),
         Subject::Writer => answer_of_writer(alloc, words, question),
     }
@@ -115,8 +120,7 @@ pub fn answer(
     question: &str,
 ) -> Result<Option<String>> {
     match answer_of_subject(alloc, subject, words, bytes, question) {
-        Err(Error::OutOfMemory) => Err(Error::OutOfMemory),
-        Err(error) => Ok(Some(format!(in alloc; "refused: {error}")?)),
+        Err(error) => Ok(Some(refusal(alloc, &error)?)),
         answer => answer,
     }
 }

@@ -3,7 +3,8 @@
 use crate::calls::call_of;
 use crate::files::answer_of_file;
 use mp4_cases::encoded::{digits, encoded_word};
-use mp4_media::{FourCC, Items, Mp4Config, Mp4Writer, Result, WriterCall};
+use mp4_cases::refusals::refusal;
+use mp4_media::{Error, FourCC, Items, Mp4Config, Mp4Writer, Result, WriterCall};
 use std::alloc::Global;
 
 /// What came of the calls of a writer.
@@ -109,20 +110,29 @@ fn calls_of(alloc: Global, texts: &[&str]) -> Result<Option<Vec<WriterCall>>> {
 }
 
 /// What a call was answered.
-fn reply_of(alloc: Global, reply: Option<&Result<()>>) -> Result<String> {
-    let text = match reply {
-        Some(Ok(())) => String::from_str(alloc, "ok"),
-        Some(Err(error)) => format!(in alloc; "refused: {error}"),
-        None => Ok(String::new(alloc)),
-    };
-    Ok(text?)
+fn reply_of(alloc: Global, reply: &Result<()>) -> Result<String> {
+    match reply {
+        Ok(()) => Ok(String::from_str(alloc, "ok")?),
+        Err(error) => refusal(alloc, error),
+    }
+}
+
+/// Makes a call, and makes it once more where memory is refused: that leaves the writer as it was.
+fn perform_again(writer: &mut Mp4Writer, call: &WriterCall) -> Result<()> {
+    match writer.perform(call) {
+        Err(Error::OutOfMemory) => writer.perform(call),
+        answer => answer,
+    }
 }
 
 /// What comes of calls.
 fn run(alloc: Global, writer: Mp4Writer, calls: &[WriterCall]) -> Result<Outcome> {
     let mut writer = writer;
-    let replies = writer.run(calls)?;
-    let reply = reply_of(alloc, replies.last())?;
+    let mut reply = Ok(());
+    for call in calls {
+        reply = perform_again(&mut writer, call);
+    }
+    let reply = reply_of(alloc, &reply)?;
     Ok(Outcome {
         reply,
         bytes: writer.into_writer(),

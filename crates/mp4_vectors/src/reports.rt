@@ -1,7 +1,9 @@
-//! What the reports of a file answer to questions.
+//! What the reports of a file answer.
 
-use crate::extracted::{Asked, extracted, format_of, texts};
+use crate::extracted::{Asked, extracted, extracted_into, format_of, texts};
+use crate::files::number;
 use mp4_box_report::{BoxesError, BoxesRequest, why_of, write_boxes};
+use mp4_cases::refusals::refusal;
 use mp4_extract::SubtitleTimes;
 use mp4_media::{Error, FileError, Mp4File};
 use mp4_readable::{DecimalTime, Grouped, TickClock, json_text};
@@ -27,11 +29,6 @@ fn printed<T: Display + Serialize>(alloc: Global, report: &T, form: &str) -> Ans
         return Err(FileError::from(Error::OutOfMemory));
     };
     Ok(String::from_utf8_lossy(alloc, bytes.as_slice())?)
-}
-
-/// The number of a word; 0 where it is none.
-pub fn number(word: &str) -> u32 {
-    word.parse::<u32>().unwrap_or(0)
 }
 
 /// The movie of these bytes.
@@ -134,6 +131,12 @@ fn samples_at(alloc: Global, bytes: &[u8], track: &str, seconds: &str, count: &s
     }
 }
 
+/// A number with its groups, as reports show it.
+fn grouped(alloc: Global, word: &str) -> Answer {
+    let number = Grouped(word.parse::<u64>().unwrap_or(0));
+    Ok(format!(in alloc; "{number}")?)
+}
+
 /// A time in ticks, as a clock shows it.
 fn clock(alloc: Global, ticks: &str, timescale: &str) -> Answer {
     let clock = TickClock {
@@ -173,6 +176,10 @@ fn extracted_by_words(alloc: Global, bytes: &[u8], words: &[&str]) -> Option<Ans
             };
             Some(extracted(alloc, bytes, asked, format_of(*format)))
         }
+        ["extract", format, track, "into", room, "bytes"] => {
+            let room = number(*room) as usize;
+            Some(extracted_into(alloc, bytes, number(*track), format_of(*format), room))
+        }
         ["subtitles", track] => Some(texts(alloc, bytes, *track, false, SubtitleTimes::Shown)),
         ["subtitles", track, "srt"] => {
             Some(texts(alloc, bytes, *track, true, SubtitleTimes::Shown))
@@ -197,6 +204,7 @@ fn answer_of_words(alloc: Global, bytes: &[u8], words: &[&str]) -> Option<Answer
         ["metadata", "json"] => Some(metadata(alloc, bytes, "json")),
         ["why"] => Some(why(alloc, bytes)),
         ["past", "the", "end"] => Some(past_end(alloc, bytes)),
+        ["grouped", number] => Some(grouped(alloc, number)),
         ["clock", ticks, "of", timescale] => Some(clock(alloc, ticks, timescale)),
         ["ticks", "of", time, "of", timescale] => Some(ticks(alloc, time, timescale)),
         ["samples", track] => {
@@ -216,22 +224,18 @@ fn answer_of_words(alloc: Global, bytes: &[u8], words: &[&str]) -> Option<Answer
     }
 }
 
-/// What the file of these bytes answers to a question, or why it refuses it; `None` where that is no question.
-pub fn answer(alloc: Global, bytes: &[u8], question: &str) -> mp4_media::Result<Option<String>> {
+/// What the reports of the file of these bytes answer to a question, or why it is refused; `None` where that is no
+/// question.
+pub fn answer_of_report(
+    alloc: Global,
+    bytes: &[u8],
+    question: &str,
+) -> mp4_media::Result<Option<String>> {
     let words: Vec<&str> = question.split(' ').collect(alloc)?;
     match answer_of_words(alloc, bytes, words.as_slice()) {
         None => Ok(None),
         Some(Ok(answer)) => Ok(Some(answer)),
-        Some(Err(FileError::Mp4(Error::OutOfMemory))) => Err(Error::OutOfMemory),
+        Some(Err(FileError::Mp4(error))) => Ok(Some(refusal(alloc, &error)?)),
         Some(Err(error)) => Ok(Some(format!(in alloc; "refused: {error}")?)),
     }
-}
-
-/// A number with its groups, as reports show it.
-pub fn grouped(alloc: Global, word: &str) -> mp4_media::Result<Option<String>> {
-    let Ok(number) = word.parse::<u64>() else {
-        return Ok(None);
-    };
-    let number = Grouped(number);
-    Ok(Some(format!(in alloc; "{number}")?))
 }

@@ -1,6 +1,7 @@
 //! What is extracted of a track of a file.
 
-use crate::answers::{Answer, number, of_printing, opened};
+use crate::files::number;
+use crate::reports::{Answer, of_printing, opened};
 use mp4_extract::{
     ExtractError, SampleFormat, Subtitle, SubtitleReader, SubtitleTimes, extract, write_line,
     write_srt,
@@ -8,7 +9,8 @@ use mp4_extract::{
 use mp4_media::{Error, FileError};
 use std::alloc::Global;
 use std::fmt::Write as _;
-use std::io::Write;
+use std::io;
+use std::io::{ErrorKind, Write};
 
 /// The samples that are asked for: those of a track from a number on, at most so many.
 #[derive(Clone, Copy)]
@@ -27,11 +29,56 @@ pub fn format_of(word: &str) -> SampleFormat {
     }
 }
 
+/// Whether samples aren't extracted since memory ran out, here or for the sink.
+fn lacks_memory(error: &ExtractError) -> bool {
+    match error {
+        ExtractError::OutOfMemory => true,
+        ExtractError::Write(_, error) => error.kind() == ErrorKind::OutOfMemory,
+        _ => false,
+    }
+}
+
 /// Why samples aren't extracted, in words.
 fn refusal(alloc: Global, error: ExtractError) -> Answer {
-    match error {
-        ExtractError::OutOfMemory => Err(FileError::from(Error::OutOfMemory)),
-        error => Ok(format!(in alloc; "refused: {error}")?),
+    if lacks_memory(&error) {
+        return Err(FileError::from(Error::OutOfMemory));
+    }
+    Ok(format!(in alloc; "refused: {error}")?)
+}
+
+/// A sink that holds so many more bytes at most.
+#[derive(Drop)]
+struct FullSink {
+    room: usize,
+}
+
+impl Write for FullSink {
+    fn write(&mut self, buf: &[u8]) -> io::Result<usize> {
+        if buf.len() > self.room {
+            return Err(io::Error::from(ErrorKind::StorageFull));
+        }
+        self.room -= buf.len();
+        Ok(buf.len())
+    }
+
+    fn flush(&mut self) -> io::Result<()> {
+        Ok(())
+    }
+}
+
+/// How many samples are written into a sink of so many bytes, or why one isn't.
+pub fn extracted_into(
+    alloc: Global,
+    bytes: &[u8],
+    id: u32,
+    format: SampleFormat,
+    room: usize,
+) -> Answer {
+    let mut movie = opened(alloc, bytes)?;
+    let mut sink = FullSink { room };
+    match extract(alloc, &mut movie, id, 1, u32::MAX, format, &mut sink) {
+        Ok(written) => Ok(format!(in alloc; "{written} samples")?),
+        Err(error) => refusal(alloc, error),
     }
 }
 

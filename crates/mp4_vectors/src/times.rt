@@ -1,6 +1,6 @@
 //! Samples that are looked for by the times that are shown of them.
 
-use crate::answers::opened;
+use crate::reports::opened;
 use mp4_media::{FileError, Mp4Track};
 use mp4_readable::{DecimalTime, TickClock};
 use std::alloc::Global;
