@@ -14,6 +14,7 @@
  *   `filled` how many were filled in. Ask with room 0 to know how many there are.
  * - What is filled in must not overlap what the call reads, nor what another thread reads or writes. Otherwise any
  *   number of threads may call at once, also on one file.
+ * - A call takes about 36 KB of stack.
  * - Not from a signal handler, and not in a forked child of a process with threads: the library calls malloc and free.
  * - Tracks have ids; samples are numbered from 1. Times and durations are in ticks: those of a track in ticks of its
  *   timescale, that of a movie in ticks of the movie's.
@@ -168,7 +169,9 @@ typedef struct mp4_new_track {
     uint32_t picture_set_size;         /* avc1: bytes, at most 65535 */
     uint32_t timescale;                /* ticks in a second, of the track's times; not 0 */
     uint32_t bits_per_second;          /* mp4a */
-    uint8_t  sample_entry[4];          /* avc1, hev1, vp09, mp4a or tx3g */
+    uint8_t  sample_entry[4];          /* avc1, hev1, vp09, mp4a or tx3g; hev1 is written without parameter sets, which
+                                          have to be in the samples, so a track that has them in its hvcC is not to be
+                                          copied; a sample of tx3g begins with the length of its text in two bytes */
     uint8_t  language[4];              /* three characters of U+0060 to U+007F; a zero first is und */
     uint16_t width;                    /* avc1, hev1 and vp09: pixels */
     uint16_t height;                   /* avc1, hev1 and vp09: pixels */
@@ -327,6 +330,9 @@ static inline mp4_answer mp4_tracks(const void *file, size_t size, mp4_track *tr
  * is how many samples the track has. After a refusal, filled says how many samples before it were filled in; the next
  * one is what was refused.
  *
+ * Ask for the samples of a file that isn't yours in blocks: a few hundred bytes may say that a track has 2^32 - 1,
+ * which are 172 GB of rows.
+ *
  * MP4_TRAK_NOT_FOUND where there is no such track; MP4_TOO_LARGE where it has more than 2^32 - 1 samples. */
 static inline mp4_answer mp4_samples(const void *file, size_t size, uint32_t track_id, uint32_t first,
                                      mp4_sample *samples, size_t room) {
@@ -416,6 +422,19 @@ static inline mp4_answer mp4_error_text(const mp4_answer *answer, uint8_t *bytes
     uint64_t spare[1] = {0};
     if (!answer || MP4_IS_NULL_(bytes, room)) return mp4_null_pointer_();
     return mp4_c_error_text(answer, MP4_POINTER_(uint8_t, bytes, spare), room);
+}
+
+/* What a code says in words, without what an answer names beside it: text that ends with a zero and lives as long as
+ * the program. */
+static inline const char *mp4_strerror(uint32_t code) {
+    static const char *const words[] = {
+        "no error", "end of data", "out of memory", "invalid data", "a box is not found",
+        "neither of two boxes is found", "a track is not found", "a box of a track is not found",
+        "a box of a track fragment is not found", "a box of a sample table is not found",
+        "an entry of a sample table is not found", "an entry of a track run is not found",
+        "a version of a box is not supported", "writer ended", "timescale is zero", "too large", "unrepresentable",
+        "no such metadata", "unknown choice", "null pointer"};
+    return code < sizeof words / sizeof *words ? words[code] : "an answer of another version";
 }
 
 #undef MP4_POINTER_

@@ -9,17 +9,20 @@ and needs nothing but Python 3.8.
             for sample in movie.samples(track.id):
                 print(sample.number, sample.offset, sample.size, movie.read(sample)[:4])
 
-    lines = [maqelsun.NewSample(1, b"first", 1000), maqelsun.NewSample(1, b"second", 1000)]
+    lines = [maqelsun.NewSample.text(1, "first", 1000), maqelsun.NewSample.text(1, "second", 1000)]
     file = maqelsun.write([maqelsun.NewTrack("tx3g")], lines)
 
-The shared object ``libmaqelsun.so`` is looked for where MAQELSUN_LIBRARY says, else beside this
-file, else where ``./callers build`` of the repository leaves it.
+The shared object ``libmaqelsun.so`` is looked for at the first call: where MAQELSUN_LIBRARY says,
+else beside this file, else where ``./callers build`` of the repository leaves it.
 """
 
 import ctypes
+import enum
+import functools
 import mmap
 import os
 import struct
+import threading
 from dataclasses import dataclass
 from typing import (
     Callable,
@@ -34,7 +37,10 @@ from typing import (
     Union,
 )
 
-__all__ = ["Error", "Metadata", "Movie", "NewSample", "NewTrack", "Sample", "Track", "write"]
+__all__ = [
+    "Code", "Error", "Limit", "Metadata", "Movie", "NewSample", "NewTrack", "OutOfMemory", "Sample",
+    "Track", "write",
+]
 
 # What has bytes at one place.
 BytesLike = Union[bytes, bytearray, memoryview, mmap.mmap]
@@ -106,8 +112,9 @@ if _SAMPLE_ROW.size != ctypes.sizeof(_Sample):
     raise ImportError("the layout of mp4_sample isn't that of mp4.h on this machine")
 
 
+@functools.lru_cache(maxsize=None)
 def _library() -> ctypes.CDLL:
-    """The shared object, with what its functions take and answer."""
+    """The shared object, with what its functions take and answer; loaded once."""
     here = os.path.dirname(os.path.abspath(__file__))
     name = "libmaqelsun.so"
     built = os.path.join(here, "..", "..", "crates", "mp4_c", "out")
@@ -118,6 +125,7 @@ def _library() -> ctypes.CDLL:
             f"there is no {name} beside {os.path.basename(__file__)}: build it by ./callers build "
             "at the top of the repository of Maqelsun, or let MAQELSUN_LIBRARY name it"
         )
+    # While a function of it runs, other threads of Python do too.
     library = ctypes.CDLL(chosen)
     pointer, size = ctypes.c_void_p, ctypes.c_size_t
     file, room = (pointer, size), (pointer, size)
@@ -139,48 +147,124 @@ def _library() -> ctypes.CDLL:
     return library
 
 
-_mp4 = _library()
-_NOT_PRESENT = 17
+class Code(enum.IntEnum):
+    """Why a call was refused, as ``enum mp4_code`` of mp4.h says it."""
+
+    END_OF_DATA = 1
+    """The bytes end before what has to be read."""
+    OUT_OF_MEMORY = 2
+    """A request for memory was refused."""
+    INVALID_DATA = 3
+    """The bytes, or the numbers asked for, mean nothing."""
+    BOX_NOT_FOUND = 4
+    """A required box is missing: ``box_type``."""
+    BOX2_NOT_FOUND = 5
+    """Neither of two boxes is there: ``box_type``, ``second_box_type``."""
+    TRAK_NOT_FOUND = 6
+    """There is no such track: ``track_id``."""
+    BOX_IN_TRAK_NOT_FOUND = 7
+    """A track lacks a box: ``track_id``, ``box_type``."""
+    BOX_IN_TRAF_NOT_FOUND = 8
+    """A fragment of a track lacks a box: ``track_id``, ``box_type``."""
+    BOX_IN_STBL_NOT_FOUND = 9
+    """A track's sample table lacks a box: ``track_id``, ``box_type``."""
+    ENTRY_IN_STBL_NOT_FOUND = 10
+    """A box of the sample table lacks an entry: ``track_id``, ``box_type``, ``number``."""
+    ENTRY_IN_TRUN_NOT_FOUND = 11
+    """A run of a fragment lacks an entry: ``track_id``, ``box_type``, ``number``."""
+    UNSUPPORTED_BOX_VERSION = 12
+    """A box is of a version that isn't read: ``box_type``, ``number``."""
+    ENDED = 13
+    """The writer has written its last byte; no call of this module answers it."""
+    ZERO_TIMESCALE = 14
+    """A quotient by a timescale of 0 was asked for."""
+    TOO_LARGE = 15
+    """Something passes its limit: ``limit``."""
+    UNREPRESENTABLE = 16
+    """A value has no encoding in its field."""
+    NOT_PRESENT = 17
+    """The file has no such metadata."""
+    UNKNOWN_CHOICE = 18
+    """A number that isn't one of a list of choices."""
+    NULL_POINTER = 19
+    """A pointer to nothing; no call of this module answers it."""
+
+
+class Limit(enum.IntEnum):
+    """What passes its limit, as ``enum mp4_limit`` of mp4.h says it."""
+
+    NONE = 0
+    """Nothing does."""
+    SAMPLE_BYTES = 1
+    """The bytes of one sample: at most 2**32 - 1."""
+    SAMPLE_COUNT = 2
+    """The samples of one track: at most 2**32 - 1."""
+    TRACK_DURATION = 3
+    """A track's duration in ticks of the movie: at most 2**64 - 1."""
+    TRACK_COUNT = 4
+    """The tracks of a movie: at most 2**32 - 1."""
+    BOX_SIZE = 5
+    """The bytes of a box that is written: at most 2**32 - 1."""
+    VALUE = 6
+    """A number that has to fit its field or its answer."""
 
 
 class Error(Exception):
     """Why a call was refused. Its text is that of the program ``mp4_tool``.
 
-    ``code`` is one of ``enum mp4_code`` of mp4.h; ``box_type``, ``second_box_type``, ``track_id``,
-    ``number`` and ``limit`` are what the refusal names, or empty and 0. After a refused
-    :func:`write`, ``part`` says what was refused, "movie", "track", "sample" or "end", and
-    ``index`` which one, from 0 on.
+    ``code`` says why; ``box_type``, ``second_box_type``, ``track_id``, ``number`` and ``limit`` are
+    what the refusal names, or empty and 0. After a refused :func:`write`, ``part`` says what was
+    refused, "movie", "track", "sample" or "end", and ``index`` which one, from 0 on. It can be
+    pickled and copied, so a process of a pool may raise it.
     """
 
     def __init__(self, answer: "_Answer"):
         super().__init__(_text_of(answer))
-        self.code: int = answer.code
+        self._answer = bytes(answer)
+        self.code = Code(answer.code)
         self.box_type = bytes(answer.box_type).rstrip(b"\0")
         self.second_box_type = bytes(answer.second_box_type).rstrip(b"\0")
         self.track_id: int = answer.track_id
         self.number: int = answer.number
-        self.limit: int = answer.limit
+        self.limit = Limit(answer.limit)
         self.part: Optional[str] = {1: "movie", 2: "track", 3: "sample", 4: "end"}.get(answer.part)
         self.index: int = answer.index
+
+    def __reduce__(self) -> Tuple[Callable[[bytes], "Error"], Tuple[bytes]]:
+        return _error_of, (self._answer,)
+
+
+class OutOfMemory(Error, MemoryError):
+    """A request for memory was refused: an :class:`Error`, and a MemoryError as Python's own."""
 
 
 def _text_of(answer: "_Answer") -> str:
     """What an answer says in words."""
     text = (_u8 * 80)()
-    filled = _mp4.mp4_c_error_text(ctypes.byref(answer), text, len(text)).filled
+    filled = _library().mp4_c_error_text(ctypes.byref(answer), text, len(text)).filled
     return bytes(text[:filled]).decode("ascii")
+
+
+def _refusal(answer: "_Answer") -> Error:
+    """The error of an answer that is a refusal."""
+    return OutOfMemory(answer) if answer.code == Code.OUT_OF_MEMORY else Error(answer)
+
+
+def _error_of(answer: bytes) -> Error:
+    """The error of the bytes of an answer."""
+    return _refusal(_Answer.from_buffer_copy(answer))
 
 
 def _accepted(answer: "_Answer") -> "_Answer":
     """The answer, unless it is a refusal."""
     if answer.code:
-        raise Error(answer)
+        raise _refusal(answer)
     return answer
 
 
 def _end_of_data() -> Error:
     """The refusal of a sample that isn't whole in its file."""
-    return Error(_Answer(code=1))
+    return Error(_Answer(code=Code.END_OF_DATA))
 
 
 class _Buffer(ctypes.Structure):
@@ -285,8 +369,8 @@ class Metadata:
 
 
 def _code_text(code: "ctypes.Array[ctypes.c_uint8]") -> str:
-    """A code of four bytes as text: a full stop for each that doesn't print."""
-    return "".join(chr(byte) if 32 <= byte <= 126 else "." for byte in code)
+    """A code of four bytes as text, a character for each, so that no two codes are one text."""
+    return bytes(code).decode("latin-1")
 
 
 def _track_of(row: "_Track") -> Track:
@@ -357,8 +441,8 @@ class Movie:
 
     What the file says of its movie and its tracks is read once. Every other call to the library
     opens the file anew, in a time that grows with its boxes, but not with the bytes of its samples;
-    so read many samples by :meth:`samples`, and not one by one. Threads may share a movie, until
-    one closes it.
+    so read many samples by :meth:`samples`, and not one by one. Threads may share a movie; closing
+    it waits for their calls to end, and what they ask for after that is a ValueError.
 
     A mapped file must not be cut while it is open: what is read past its new end ends the process.
     """
@@ -370,7 +454,8 @@ class Movie:
     timescale: int
     """Ticks in a second, of the movie's duration; it may be 0."""
     major_brand: str
-    """The specification that the file follows first of all."""
+    """The specification that the file follows first of all: four characters of Latin-1, one for
+    each of its bytes."""
     minor_version: int
     """The version of the major brand."""
     is_fragmented: bool
@@ -381,6 +466,8 @@ class Movie:
     def __init__(self, source: Union[str, "os.PathLike[str]", BytesLike]):
         """Opens the file of this name, or these bytes; :class:`Error` if they are no MP4 file."""
         self._mapped: Optional[mmap.mmap] = None
+        self._calls = 0
+        self._no_call = threading.Condition()
         if isinstance(source, (str, os.PathLike)):
             source = self._map(source)
         self._source = source
@@ -412,19 +499,36 @@ class Movie:
         rows = _all_rows(_Track, facts.track_count, lambda *room: self._ask("tracks", *room))
         self.tracks = [_track_of(row) for row in rows]
 
+    def _begin_call(self) -> None:
+        """Holds the file, so that no other thread lets it go before the call ends."""
+        with self._no_call:
+            if self._source is None:
+                raise ValueError("the movie is closed")
+            self._calls += 1
+
+    def _end_call(self) -> None:
+        with self._no_call:
+            self._calls -= 1
+            if self._calls == 0:
+                self._no_call.notify_all()
+
     def _ask(self, name: str, *words: object) -> "_Answer":
         """The library's answer to a question about the file."""
-        if self._source is None:
-            raise ValueError("the movie is closed")
-        function = getattr(_mp4, "mp4_c_" + name)
-        return function(self._bytes.address, self._bytes.size, *words)
+        function = getattr(_library(), "mp4_c_" + name)
+        self._begin_call()
+        try:
+            return function(self._bytes.address, self._bytes.size, *words)
+        finally:
+            self._end_call()
 
     def close(self) -> None:
-        """Lets the file go."""
-        self._bytes.release()
-        self._source = None
-        if self._mapped is not None:
-            self._mapped.close()
+        """Lets the file go, once no thread is in a call."""
+        with self._no_call:
+            self._source = None
+            self._no_call.wait_for(lambda: self._calls == 0)
+            self._bytes.release()
+            if self._mapped is not None:
+                self._mapped.close()
 
     def __enter__(self) -> "Movie":
         return self
@@ -443,7 +547,8 @@ class Movie:
         for track in self.tracks:
             if track.id == track_id:
                 return track
-        raise Error(_Answer(code=6, track_id=_in_range("track_id", track_id, 32)))
+        absent = _in_range("track_id", track_id, 32)
+        raise Error(_Answer(code=Code.TRAK_NOT_FOUND, track_id=absent))
 
     def samples(self, track_id: int, first: int = 1) -> Iterator[Sample]:
         """The samples of a track, in order, from a number on.
@@ -454,7 +559,7 @@ class Movie:
         """
         count = self.track(track_id).sample_count
         if count is None:
-            raise Error(_Answer(code=15, limit=6))
+            raise Error(_Answer(code=Code.TOO_LARGE, limit=Limit.VALUE))
         return self._blocks(track_id, max(first, 0), count)
 
     def _blocks(self, track_id: int, first: int, count: int) -> Iterator[Sample]:
@@ -489,11 +594,13 @@ class Movie:
 
     def read(self, sample: Sample) -> bytes:
         """The bytes of a sample."""
-        if self._source is None:
-            raise ValueError("the movie is closed")
-        if sample.size < 0 or not 0 <= sample.offset <= self._bytes.size - sample.size:
-            raise _end_of_data()
-        return ctypes.string_at(self._bytes.address + sample.offset, sample.size)
+        self._begin_call()
+        try:
+            if sample.size < 0 or not 0 <= sample.offset <= self._bytes.size - sample.size:
+                raise _end_of_data()
+            return ctypes.string_at(self._bytes.address + sample.offset, sample.size)
+        finally:
+            self._end_call()
 
     def sample_at(self, track_id: int, time: int) -> Optional[int]:
         """The number of the last sample that is decoded at or before a time in ticks."""
@@ -534,7 +641,7 @@ class Movie:
         try:
             return self._item("metadata", key)
         except Error as refused:
-            if refused.code != _NOT_PRESENT:
+            if refused.code != Code.NOT_PRESENT:
                 raise
             return None
 
@@ -544,7 +651,8 @@ class NewTrack:
     """What a track is added with. The first has id 1, and each next one the id after it."""
 
     sample_entry: str
-    """How its samples are coded: avc1, hev1, vp09, mp4a or tx3g."""
+    """How its samples are coded: avc1, hev1, vp09, mp4a or tx3g. A track of hev1 is written without
+    the parameter sets that a decoder of HEVC is begun with: they have to be in its samples."""
     timescale: int = 1000
     """Ticks in a second, of the track's times; not 0."""
     language: str = "und"
@@ -572,9 +680,18 @@ class NewSample(NamedTuple):
 
     track_id: int
     data: bytes
+    """Its bytes, which are taken when the sample is. Those of a text of tx3g begin with how many
+    there are, in two bytes: :meth:`text`."""
     duration: int
     rendering_offset: int = 0
     is_sync: bool = True
+
+    @classmethod
+    def text(cls, track_id: int, text: str, duration: int) -> "NewSample":
+        """A text of a track of tx3g; an empty one is a gap (3GPP TS 26.245, 5.17)."""
+        encoded = text.encode("utf-8")
+        size = _in_range("the size of a text in UTF-8", len(encoded), 16)
+        return cls(track_id, struct.pack(">H", size) + encoded, duration)
 
 
 class _Data:
@@ -585,16 +702,17 @@ class _Data:
         self.size = 0
 
     def add(self, part: bytes) -> Tuple[int, int]:
-        """Adds a part, and answers where it begins and how many bytes it has."""
-        start, size = self.size, memoryview(part).nbytes
-        self.parts.append(part)
-        self.size += size
-        return start, size
+        """Adds a part, and answers where it begins and how many bytes it has. They are taken now:
+        what is changed in it later isn't written."""
+        start, taken = self.size, part if isinstance(part, bytes) else bytes(memoryview(part))
+        self.parts.append(taken)
+        self.size += len(taken)
+        return start, len(taken)
 
 
-def _four(text: str) -> "ctypes.Array[ctypes.c_uint8]":
-    """A code of four bytes."""
-    code = text.encode("latin-1")
+def _four(text: Union[str, bytes]) -> "ctypes.Array[ctypes.c_uint8]":
+    """A code of four bytes, which are given or are characters of Latin-1."""
+    code = text.encode("latin-1") if isinstance(text, str) else bytes(text)
     if len(code) != 4:
         raise ValueError(f"{text!r} isn't a code of four characters")
     return _code(*code)
@@ -604,7 +722,7 @@ def _track_row(track: NewTrack, index: int, data: _Data) -> "_NewTrack":
     """The row of a track, whose parameter sets are added to the data."""
     language = track.language.encode("ascii", "replace")
     if len(language) != 3 or language[0] == 0:
-        raise Error(_Answer(code=16, part=2, index=index))
+        raise Error(_Answer(code=Code.UNREPRESENTABLE, part=2, index=index))
     row = _NewTrack(sample_entry=_four(track.sample_entry), language=_code(*language, 0))
     for name in ("sequence_set", "picture_set"):
         place, size = data.add(getattr(track, name))
@@ -634,9 +752,9 @@ def write(
     tracks: Sequence[NewTrack],
     samples: Iterable[NewSample],
     *,
-    major_brand: str = "isom",
+    major_brand: Union[str, bytes] = "isom",
     minor_version: int = 512,
-    compatible_brands: Sequence[str] = ("isom", "iso2", "avc1", "mp41"),
+    compatible_brands: Sequence[Union[str, bytes]] = ("isom", "iso2", "avc1", "mp41"),
     timescale: int = 1000,
 ) -> bytes:
     """The bytes of a movie of these tracks and samples, in this order. ``timescale`` is that of the
@@ -661,4 +779,4 @@ def write(
     parts = (ctypes.byref(movie), brands, len(compatible_brands), new_tracks, len(tracks))
     parts += (new_samples, count, whole.address, whole.size)
     likely = 1024 + 4 * len(compatible_brands) + 1024 * len(tracks) + 40 * count + whole.size
-    return _all_bytes(likely, lambda *room: _mp4.mp4_c_write(*parts, *room))
+    return _all_bytes(likely, lambda *room: _library().mp4_c_write(*parts, *room))

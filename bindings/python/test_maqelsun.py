@@ -1,14 +1,19 @@
 """Tests of the module: movies that are written and read."""
 
+import copy
 import mmap
 import os
+import pickle
 import struct
+import subprocess
+import sys
 import tempfile
 import threading
 import unittest
+from concurrent.futures import ProcessPoolExecutor
 
 import maqelsun
-from maqelsun import Error, Movie, NewSample, NewTrack, write
+from maqelsun import Code, Error, Limit, Movie, NewSample, NewTrack, OutOfMemory, write
 
 
 def numbers(count, **movie):
@@ -70,16 +75,17 @@ class Reading(unittest.TestCase):
         self.assertEqual(movie.sequence_parameter_set(1), b"\x67\x64\0\x1f\xac")
         self.assertEqual(movie.picture_parameter_set(1), b"\x68")
         refused = self.refused("trak[5].stbl.avc1 not found", movie.picture_parameter_set, 5)
-        self.assertEqual((refused.code, refused.track_id, refused.box_type), (9, 5, b"avc1"))
+        self.assertEqual(refused.code, Code.BOX_IN_STBL_NOT_FOUND)
+        self.assertEqual((refused.track_id, refused.box_type), (5, b"avc1"))
         (sample,) = movie.samples(5)
         self.assertEqual(movie.read(sample), b"text")
         self.assertEqual(sample[2:3] + sample[4:], (0, 4, 500, -2, False))
 
     def test_a_movie_says_what_it_was_begun_with(self):
-        brands = {"major_brand": "mp42", "compatible_brands": ["mp42", "\xa9nam"]}
+        brands = {"major_brand": b"mp42", "compatible_brands": ["mp42", b"\xa9nam"]}
         movie = Movie(write([], [], minor_version=7, timescale=9, **brands))
         self.assertEqual((movie.major_brand, movie.minor_version), ("mp42", 7))
-        self.assertEqual(movie.compatible_brands, ["mp42", ".nam"])
+        self.assertEqual(movie.compatible_brands, ["mp42", "\xa9nam"])
         self.assertEqual((movie.timescale, movie.duration, movie.tracks), (9, 0, []))
         self.assertFalse(movie.is_fragmented)
 
@@ -195,6 +201,61 @@ class Reading(unittest.TestCase):
             thread.join()
         self.assertEqual(counts, [3000] * 8)
 
+    def test_a_movie_is_closed_while_threads_are_in_calls(self):
+        for _ in range(20):
+            movie = Movie(bytearray(numbers(5000)))
+            ends = []
+
+            def walk():
+                try:
+                    while True:
+                        for sample in movie.samples(1):
+                            movie.read(sample)
+                except ValueError as closed:
+                    ends.append(str(closed))
+
+            threads = [threading.Thread(target=walk) for _ in range(4)]
+            for thread in threads:
+                thread.start()
+            movie.close()
+            for thread in threads:
+                thread.join()
+            self.assertEqual(ends, ["the movie is closed"] * 4)
+
+    def test_an_error_is_pickled_and_copied(self):
+        error = self.refused("trak[2] not found", Movie(numbers(1)).sample, 2, 1)
+        for other in [pickle.loads(pickle.dumps(error)), copy.copy(error), copy.deepcopy(error)]:
+            self.assertIs(type(other), Error)
+            self.assertEqual(str(other), "trak[2] not found")
+            self.assertEqual((other.code, other.track_id), (Code.TRAK_NOT_FOUND, 2))
+
+    def test_an_error_leaves_a_process_of_a_pool(self):
+        with ProcessPoolExecutor(1) as pool:
+            self.refused("ftyp not found", pool.submit(len_of_movie, b"").result)
+            self.assertEqual(pool.submit(len_of_movie, numbers(3)).result(), 3)
+
+    def test_a_limit_has_a_name(self):
+        error = maqelsun._refusal(maqelsun._Answer(code=15, limit=6))
+        self.assertEqual((error.code, error.limit), (Code.TOO_LARGE, Limit.VALUE))
+
+    def test_refused_memory_is_a_memory_error(self):
+        error = maqelsun._refusal(maqelsun._Answer(code=2))
+        self.assertIsInstance(error, MemoryError)
+        self.assertIsInstance(pickle.loads(pickle.dumps(error)), OutOfMemory)
+        self.assertEqual((str(error), error.code), ("out of memory", Code.OUT_OF_MEMORY))
+
+    def test_the_page_is_shown_without_a_library(self):
+        folder = os.path.dirname(os.path.abspath(maqelsun.__file__))
+        environment = dict(os.environ, MAQELSUN_LIBRARY=os.path.join(folder, "none.so"))
+        command = [sys.executable, "-m", "pydoc", "maqelsun"]
+        page = subprocess.run(command, cwd=folder, env=environment, stdout=subprocess.PIPE)
+        self.assertIn(b"class Movie", page.stdout)
+
+
+def len_of_movie(file):
+    """How many samples the first track of a file has: what a process of a pool is asked."""
+    return Movie(file).tracks[0].sample_count
+
 
 class Writing(unittest.TestCase):
     """Movies that are written, and what refuses them."""
@@ -231,6 +292,26 @@ class Writing(unittest.TestCase):
         self.assertEqual([movie.read(sample) for sample in movie.samples(1)], [b"abcd"] * 3)
         with self.assertRaises(TypeError):
             write([NewTrack("tx3g")], [NewSample(1, "text", 1)])
+
+    def test_bytes_are_taken_when_a_sample_is(self):
+        room = bytearray(2)
+
+        def filled_again():
+            for number in range(4):
+                room[:] = b"%02d" % number
+                yield NewSample(1, room, 1)
+
+        movie = Movie(write([NewTrack("tx3g")], filled_again()))
+        read = [movie.read(sample) for sample in movie.samples(1)]
+        self.assertEqual(read, [b"00", b"01", b"02", b"03"])
+
+    def test_a_text_begins_with_its_size(self):
+        samples = [NewSample.text(1, "\xf6", 1000), NewSample.text(1, "", 500)]
+        movie = Movie(write([NewTrack("tx3g")], samples))
+        read = [(movie.read(sample), sample.is_sync) for sample in movie.samples(1)]
+        self.assertEqual(read, [(b"\0\2\xc3\xb6", True), (b"\0\0", True)])
+        with self.assertRaises(OverflowError):
+            NewSample.text(1, "x" * 2**16, 1)
 
     def test_numbers_are_not_cut(self):
         for words in [{"timescale": 2**32}, {"timescale": -1}, {"minor_version": 2**32}]:

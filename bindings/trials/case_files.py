@@ -1,7 +1,7 @@
 """Writes the files that the cases of crates/mp4_vectors are about: case_files.py DATA OUT.
 
-docs/VECTORS.md says how bytes are written in cases. Each subject `file` becomes a file of its own,
-without the changes that questions make to it, up to a size.
+docs/VECTORS.md says how bytes are written in cases. Each subject `file` or `report` becomes a file
+of its own, without the changes that questions make to it, up to a size.
 """
 
 import itertools
@@ -53,14 +53,14 @@ def bytes_of(words, names):
 
 
 def files_in(text):
-    """The bytes of each subject `file`."""
+    """The bytes of each subject `file` or `report`."""
     names = {}
     for item in items_of(text):
         kind, *words = item.split()
         try:
             if kind == "let":
                 names[words[0]] = bytes_of(words[2:], names)
-            elif kind == "file" and " = " not in item:
+            elif kind in ("file", "report") and " = " not in item:
                 yield bytes_of(words, names)
         except (OverflowError, KeyError):
             continue

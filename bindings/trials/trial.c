@@ -2,6 +2,8 @@
  *
  *   trial list             the samples of each file that a line of standard input names
  *   trial faults           why each of these files doesn't open, or an empty line
+ *   trial facts            all that each of these files says of its movie, its tracks and its work, and the samples that
+ *                          are found at the edges of times and numbers
  *   trial write OUT        makes the movie of a script from standard input
  *   trial large FILE       the samples of a file; on standard error the microseconds and the KiB of the file that it took
  */
@@ -114,6 +116,132 @@ static void list_file(file from) {
     mp4_track *tracks = room_for(movie.track_count, sizeof *tracks);
     answer = mp4_tracks(from.bytes, from.size, tracks, movie.track_count);
     for (uint64_t k = 0; k < answer.filled; k++) list_track(from, &tracks[k]);
+    free(tracks);
+}
+
+/* Bytes in digits; a full stop for none. */
+static void print_digits(const uint8_t *bytes, uint64_t size) {
+    printf(" ");
+    if (size == 0) printf(".");
+    for (uint64_t k = 0; k < size; k++) printf("%02x", bytes[k]);
+}
+
+/* A number that the file may not say: then it is 0, and a dash is printed. */
+static void print_marked(uint8_t mark, uint64_t number) {
+    if (mark > 1 || (!mark && number != 0)) printf(" (wrong mark)");
+    else if (mark) printf(" %llu", (unsigned long long)number);
+    else printf(" -");
+}
+
+static void print_track(const mp4_track *track) {
+    printf("track %u", track->id);
+    print_digits(track->handler, 4);
+    if (track->has_sample_entry) print_digits(track->sample_entry, 4);
+    else printf(" -");
+    print_digits(track->language, 3);
+    printf(" %u %llu %u %u", track->timescale, (unsigned long long)track->duration, track->width, track->height);
+    print_marked(track->has_sample_count, track->sample_count);
+    print_marked(track->has_frames_per_second, track->frames_per_second);
+    print_marked(track->has_bits_per_second, track->bits_per_second);
+    print_marked(track->has_audio_profile, track->audio_profile);
+    print_marked(track->has_frequency_index, track->frequency_index);
+    print_marked(track->has_channels, track->channels);
+    print_marked(track->has_video_profile, track->video_profile);
+    print_marked(track->has_video_profile, track->video_compatibility);
+    print_marked(track->has_video_profile, track->video_level);
+    printf("\n");
+}
+
+/* A call that gives bytes: they have to be the same in each room that is large enough, and none in a smaller one. */
+typedef mp4_answer (*bytes_call)(file from, uint32_t id, uint32_t which, uint8_t *bytes, size_t room);
+
+static mp4_answer set_call(file from, uint32_t id, uint32_t which, uint8_t *bytes, size_t room) {
+    return mp4_parameter_set(from.bytes, from.size, id, which, bytes, room);
+}
+
+static mp4_answer metadata_call(file from, uint32_t id, uint32_t which, uint8_t *bytes, size_t room) {
+    (void)id;
+    return mp4_metadata(from.bytes, from.size, which, bytes, room);
+}
+
+static void print_bytes(file from, bytes_call call, const char *name, uint32_t id, uint32_t which) {
+    mp4_answer answer = call(from, id, which, NULL, 0);
+    printf("%s %u", name, which);
+    if (answer.code != MP4_OK) {
+        printf(" ");
+        print_text(answer);
+        return;
+    }
+    uint8_t *bytes = room_for(answer.count + 1, 1);
+    if (answer.count > 0 && call(from, id, which, bytes, answer.count - 1).filled != 0) printf(" (filled too much)");
+    if (bytes[0] != 0) printf(" (changed)");
+    uint64_t exact = call(from, id, which, bytes, answer.count).filled;
+    uint64_t in_more = call(from, id, which, bytes, answer.count + 1).filled;
+    if (exact != answer.count || in_more != exact) printf(" (not filled)");
+    print_digits(bytes, exact);
+    printf("\n");
+    free(bytes);
+}
+
+static void print_number(const char *name, uint64_t key, mp4_answer answer, uint32_t number) {
+    printf("%s %llu ", name, (unsigned long long)key);
+    if (answer.code != MP4_OK) print_text(answer);
+    else if (number) printf("%u\n", number);
+    else printf("-\n");
+}
+
+/* The samples that are found at the edges of a track's times and numbers, and beside them. */
+static void print_found(file from, const mp4_track *track) {
+    uint64_t times[] = {0, 1, track->duration ? track->duration - 1 : 0, track->duration, UINT64_MAX};
+    uint32_t last = track->has_sample_count ? track->sample_count : 0;
+    uint32_t numbers[] = {0, 1, 2, last, last + 1, UINT32_MAX};
+    uint32_t number;
+    for (size_t k = 0; k < sizeof times / sizeof *times; k++) {
+        number = 0;
+        mp4_answer answer = mp4_sample_at(from.bytes, from.size, track->id, times[k], &number);
+        print_number("at", times[k], answer, number);
+    }
+    for (size_t k = 0; k < sizeof numbers / sizeof *numbers; k++) {
+        number = 0;
+        mp4_answer answer = mp4_sync_sample_at_or_before(from.bytes, from.size, track->id, numbers[k], &number);
+        print_number("sync", numbers[k], answer, number);
+    }
+}
+
+static void print_brands(file from, uint64_t count) {
+    mp4_brand *brands = room_for(count, sizeof *brands);
+    mp4_answer answer = mp4_brands(from.bytes, from.size, brands, count);
+    printf("brands");
+    if (answer.filled != count || mp4_brands(from.bytes, from.size, brands, count / 2).filled != count / 2) {
+        printf(" (not filled)");
+    }
+    for (uint64_t k = 0; k < count; k++) print_digits(brands[k].code, 4);
+    printf("\n");
+    free(brands);
+}
+
+/* All that a file says. */
+static void print_facts(file from) {
+    mp4_movie movie;
+    mp4_answer answer = mp4_open(from.bytes, from.size, &movie);
+    if (answer.code != MP4_OK) {
+        print_text(answer);
+        return;
+    }
+    printf("movie %llu %llu %u %u %u", (unsigned long long)movie.size, (unsigned long long)movie.duration,
+           movie.timescale, movie.minor_version, movie.is_fragmented);
+    print_digits(movie.major_brand, 4);
+    printf("\n");
+    print_brands(from, movie.brand_count);
+    for (uint32_t key = MP4_TITLE; key <= MP4_SUMMARY; key++) print_bytes(from, metadata_call, "metadata", 0, key);
+    mp4_track *tracks = room_for(movie.track_count, sizeof *tracks);
+    answer = mp4_tracks(from.bytes, from.size, tracks, movie.track_count);
+    for (uint64_t k = 0; k < answer.filled; k++) {
+        print_track(&tracks[k]);
+        print_bytes(from, set_call, "set", tracks[k].id, MP4_SEQUENCE_SET);
+        print_bytes(from, set_call, "set", tracks[k].id, MP4_PICTURE_SET);
+        print_found(from, &tracks[k]);
+    }
     free(tracks);
 }
 
@@ -268,12 +396,14 @@ int main(int count, char **words) {
         each_file(list_file);
     } else if (count == 2 && strcmp(command, "faults") == 0) {
         each_file(print_fault);
+    } else if (count == 2 && strcmp(command, "facts") == 0) {
+        each_file(print_facts);
     } else if (count == 3 && strcmp(command, "write") == 0) {
         write_movie(words[2]);
     } else if (count == 3 && strcmp(command, "large") == 0) {
         list_large(words[2]);
     } else {
-        give_up("list | faults | write OUT | large FILE");
+        give_up("list | faults | facts | write OUT | large FILE");
     }
     return 0;
 }

@@ -44,6 +44,71 @@ def fault_lines(source):
     return [""]
 
 
+def digits(value):
+    """Bytes in digits; a full stop for none."""
+    return value.hex() or "."
+
+
+def marked(value):
+    """A value that the file may not say."""
+    return "-" if value is None else value
+
+
+def answered(call, shown, *words):
+    """What a call answered."""
+    try:
+        return shown(call(*words))
+    except maqelsun.Error as refused:
+        return refused
+
+
+def track_lines(movie, track):
+    """What a file says of a track, as trial.c prints it."""
+    entry = track.sample_entry and digits(track.sample_entry.encode("latin-1"))
+    words = [
+        track.id, digits(track.handler.encode("latin-1")), marked(entry),
+        digits(track.language.encode()), track.timescale, track.duration, track.width, track.height,
+        *map(marked, (
+            track.sample_count, track.frames_per_second, track.bits_per_second, track.audio_profile,
+            track.frequency_index, track.channels, *(track.video_profile or (None, None, None)),
+        )),
+    ]
+    yield " ".join(["track", *map(str, words)])
+    yield f"set 1 {answered(movie.sequence_parameter_set, digits, track.id)}"
+    yield f"set 2 {answered(movie.picture_parameter_set, digits, track.id)}"
+    for time_in_ticks in [0, 1, max(track.duration - 1, 0), track.duration, 2**64 - 1]:
+        yield f"at {time_in_ticks} {answered(movie.sample_at, marked, track.id, time_in_ticks)}"
+    last = track.sample_count or 0
+    for number in [0, 1, 2, last, (last + 1) % 2**32, 2**32 - 1]:
+        found = answered(movie.sync_sample_at_or_before, marked, track.id, number)
+        yield f"sync {number} {found}"
+
+
+def fact_lines(source):
+    """All that a file says, as trial.c prints it."""
+    try:
+        movie = maqelsun.Movie(source)
+    except maqelsun.Error as refused:
+        yield str(refused)
+        return
+    with movie:
+        major = digits(movie.major_brand.encode("latin-1"))
+        yield (
+            f"movie {movie.size} {movie.duration} {movie.timescale} {movie.minor_version} "
+            f"{int(movie.is_fragmented)} {major}"
+        )
+        brands = [digits(brand.encode("latin-1")) for brand in movie.compatible_brands]
+        yield " ".join(["brands", *brands])
+        metadata = movie.metadata
+        year = None if metadata.year is None else str(metadata.year)
+        items = [metadata.title, year, metadata.poster, metadata.summary]
+        for key, item in enumerate(items, 1):
+            value = item.encode() if isinstance(item, str) else item
+            yield f"metadata {key} {'not present' if value is None else digits(value)}"
+        for track in movie.tracks:
+            yield from track_lines(movie, track)
+
+
 def each_file(lines_of):
     """Prints the lines of each file that a line of standard input names, after its name."""
     for name in sys.stdin.read().splitlines():
@@ -127,6 +192,7 @@ def main():
     commands = {
         "list": lambda: each_file(file_lines),
         "faults": lambda: each_file(fault_lines),
+        "facts": lambda: each_file(fact_lines),
         "write": write_movie,
         "large": list_large,
         "threads": list_by_threads,

@@ -56,6 +56,117 @@ fn fault_line(file: &[u8]) -> String {
     Movie::open(file).err().map_or("\n".to_owned(), |refused| format!("{refused}\n"))
 }
 
+/// Bytes in digits; a full stop for none.
+fn digits(bytes: &[u8]) -> String {
+    match bytes {
+        [] => ".".to_owned(),
+        bytes => bytes.iter().map(|byte| format!("{byte:02x}")).collect(),
+    }
+}
+
+/// A value that the file may not say.
+fn marked<T: ToString>(value: Option<T>) -> String {
+    value.map_or("-".to_owned(), |value| value.to_string())
+}
+
+/// What a file says of a track, as trial.c prints it.
+fn track_facts(track: &Track) -> String {
+    let entry = track.sample_entry().map(|code| digits(&code.value));
+    let video = track.video_profile();
+    let words = [
+        track.id().to_string(),
+        digits(&track.handler().value),
+        marked(entry),
+        digits(track.language().as_bytes()),
+        track.timescale().to_string(),
+        track.duration_in_ticks().to_string(),
+        track.width().to_string(),
+        track.height().to_string(),
+        marked(track.sample_count()),
+        marked(track.frame_rate()),
+        marked(track.bitrate()),
+        marked(track.audio_profile()),
+        marked(track.sample_freq_index()),
+        marked(track.channel_config()),
+        marked(video.map(|video| video.profile)),
+        marked(video.map(|video| video.compatibility)),
+        marked(video.map(|video| video.level)),
+    ];
+    format!("track {}\n", words.join(" "))
+}
+
+/// What a call answered, after a word and what was asked.
+fn answer_line<T>(
+    name: &str,
+    key: u64,
+    answer: maqelsun::Result<T>,
+    shown: fn(T) -> String,
+) -> String {
+    let text = answer.map_or_else(|refused| refused.to_string(), shown);
+    format!("{name} {key} {text}\n")
+}
+
+/// The parameter sets of a track, and the samples that are found at the edges of its times and
+/// numbers.
+fn found_lines(movie: &Movie, track: &Track) -> String {
+    let (id, duration) = (track.id(), track.duration_in_ticks());
+    let last = track.sample_count().unwrap_or(0);
+    let bytes = |bytes: Vec<u8>| digits(&bytes);
+    let mut lines = answer_line("set", 1, movie.sequence_parameter_set(id), bytes);
+    lines += &answer_line("set", 2, movie.picture_parameter_set(id), bytes);
+    for time in [0, 1, duration.saturating_sub(1), duration, u64::MAX] {
+        lines += &answer_line("at", time, movie.sample_at(id, time), marked);
+    }
+    for number in [0, 1, 2, last, last.wrapping_add(1), u32::MAX] {
+        let sync = movie.sync_sample_at_or_before(id, number);
+        lines += &answer_line("sync", number.into(), sync, marked);
+    }
+    lines
+}
+
+/// The metadata of a file, an item of it a line. What isn't there is said in the words of the
+/// library.
+fn metadata_lines(movie: &Movie) -> maqelsun::Result<String> {
+    let metadata = movie.metadata()?;
+    let items = [
+        metadata.title.map(String::into_bytes),
+        metadata.year.map(|year| year.to_string().into_bytes()),
+        metadata.poster,
+        metadata.summary.map(String::into_bytes),
+    ];
+    let line = |(key, item): (u32, Option<Vec<u8>>)| {
+        let shown = item.map_or("not present".to_owned(), |bytes| digits(&bytes));
+        format!("metadata {key} {shown}\n")
+    };
+    Ok((1..).zip(items).map(line).collect())
+}
+
+/// All that a file says, as trial.c prints it.
+fn facts_of(movie: &Movie) -> maqelsun::Result<String> {
+    let mut lines = format!(
+        "movie {} {} {} {} {} {}\nbrands",
+        movie.size(),
+        movie.duration_in_ticks(),
+        movie.timescale(),
+        movie.minor_version(),
+        u8::from(movie.is_fragmented()),
+        digits(&movie.major_brand().value)
+    );
+    for brand in movie.compatible_brands()? {
+        lines = lines + " " + &digits(&brand.value);
+    }
+    lines = lines + "\n" + &metadata_lines(movie)?;
+    for track in movie.tracks() {
+        lines = lines + &track_facts(track) + &found_lines(movie, track);
+    }
+    Ok(lines)
+}
+
+fn facts(file: &[u8]) -> String {
+    let lines = Movie::open(file).and_then(|movie| facts_of(&movie));
+    lines.unwrap_or_else(|refused| format!("{refused}\n"))
+}
+
 /// Prints the lines of each file that a line of standard input names, after its name.
 fn each_file(lines_of: fn(&[u8]) -> String) -> Outcome<()> {
     for name in io::stdin().lines() {
@@ -220,10 +331,11 @@ fn run() -> Outcome<()> {
     match words[..] {
         ["list"] => each_file(file_lines),
         ["faults"] => each_file(fault_line),
+        ["facts"] => each_file(facts),
         ["write", out] => write_movie(out),
         ["large", file] => list_large(file),
         ["threads", file] => list_by_threads(file),
-        _ => Err("list | faults | write OUT | large FILE | threads FILE".into()),
+        _ => Err("list | faults | facts | write OUT | large FILE | threads FILE".into()),
     }
 }
 

@@ -1,4 +1,5 @@
-//! Copies a track of a file to a movie of its own: `copy_track FILE TRACK OUT`.
+//! Copies a track of a file to a movie of its own: `copy_track FILE TRACK OUT`. A track of HEVC isn't
+//! copied: what its decoder is begun with can't be given to a writer.
 
 use maqelsun::{
     AacConfig, AvcConfig, MediaConfig, MediaType, Movie, MovieConfig, PictureSize, Track,
@@ -17,7 +18,7 @@ fn media_of(movie: &Movie, track: &Track) -> Result<MediaConfig, Box<dyn Error>>
             seq_param_set: movie.sequence_parameter_set(track.id())?,
             pic_param_set: movie.picture_parameter_set(track.id())?,
         }),
-        MediaType::H265 => MediaConfig::Hevc(size),
+        MediaType::H265 => return Err("HEVC would be copied without its parameter sets".into()),
         MediaType::VP9 => MediaConfig::Vp9(size),
         MediaType::AAC => MediaConfig::Aac(AacConfig {
             bitrate: track.bitrate().unwrap_or(0),

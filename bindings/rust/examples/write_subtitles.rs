@@ -1,7 +1,7 @@
 //! Makes a movie of the subtitles that standard input has in the form SubRip (.srt):
 //! `write_subtitles OUT`.
 
-use maqelsun::{MovieConfig, Sample, TrackConfig, Writer};
+use maqelsun::{MovieConfig, TrackConfig, Writer};
 use std::error::Error;
 use std::{env, fs, io};
 
@@ -31,30 +31,19 @@ fn subtitle_of(block: &str) -> Option<Subtitle> {
     Some(Subtitle { from: milliseconds(from)?, to: milliseconds(to)?, text })
 }
 
-/// A sample of timed text: the length of the text in two bytes, and the text.
-fn timed_text(text: &str) -> Result<Vec<u8>, Box<dyn Error>> {
-    let length = u16::try_from(text.len())?;
-    Ok([&length.to_be_bytes(), text.as_bytes()].concat())
-}
-
 /// The bytes of a movie of these subtitles; what is between two of them is an empty text.
 fn movie_of(subtitles: &[Subtitle]) -> Result<Vec<u8>, Box<dyn Error>> {
     let mut writer = Writer::new(&MovieConfig::default());
     let track = writer.add_track(&TrackConfig::text())?;
     let mut end = 0;
-    let mut show = |text: &str, duration: u32| -> Result<(), Box<dyn Error>> {
-        let bytes = timed_text(text)?;
-        let sample = Sample { duration, is_sync: true, bytes: &bytes, ..Sample::default() };
-        Ok(writer.write_sample(track, &sample)?)
-    };
     for Subtitle { from, to, text } in subtitles {
         if *from < end || to < from {
             return Err(format!("'{text}' is shown before the one in front of it ends").into());
         }
         if *from > end {
-            show("", from - end)?;
+            writer.write_text(track, "", from - end)?;
         }
-        show(text, to - from)?;
+        writer.write_text(track, text, to - from)?;
         end = *to;
     }
     Ok(writer.finish()?)

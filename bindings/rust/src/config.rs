@@ -43,13 +43,14 @@ pub struct TrackConfig {
 pub enum MediaConfig {
     /// AVC video, `avc1`.
     Avc(AvcConfig),
-    /// HEVC video, `hev1`.
+    /// HEVC video, `hev1`, which is written without parameter sets: they have to be in the samples,
+    /// so a track of a file that has them in its hvcC alone isn't to be copied.
     Hevc(PictureSize),
     /// VP9 video, `vp09`.
     Vp9(PictureSize),
     /// AAC sound, `mp4a`.
     Aac(AacConfig),
-    /// Timed text, `tx3g`.
+    /// Timed text, `tx3g`; [`Writer::write_text`](crate::Writer::write_text) writes its samples.
     Text,
 }
 

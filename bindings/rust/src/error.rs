@@ -1,7 +1,7 @@
 //! Why a call is refused.
 
 use crate::layout::Answer;
-use crate::FourCC;
+use crate::{FourCC, Writer};
 use std::collections::TryReserveError;
 use std::fmt;
 
@@ -68,6 +68,79 @@ pub enum Error {
     Unrepresentable,
     /// The library answered with a code that this crate doesn't know: it is newer.
     Unknown(u32),
+}
+
+/// What of a movie [`finish`](Writer::finish) was refused at.
+#[derive(Clone, Copy, Debug, PartialEq, Eq, Hash)]
+#[non_exhaustive]
+pub enum Part {
+    /// The movie and its brands.
+    Movie,
+    /// The track at this index of those that were added, from 0 on.
+    Track(u64),
+    /// The sample at this index of those that were written, of all tracks, from 0 on.
+    Sample(u64),
+    /// The end of the movie, after all tracks and samples were accepted.
+    End,
+}
+
+impl Part {
+    /// What an answer of a writer was refused at.
+    pub(crate) fn of(answer: &Answer) -> Self {
+        match answer.part {
+            2 => Part::Track(answer.index),
+            3 => Part::Sample(answer.index),
+            4 => Part::End,
+            _ => Part::Movie,
+        }
+    }
+}
+
+/// Why a movie isn't finished, and at what. It holds the writer as it was.
+///
+/// `?` makes an [`Error`] of it, where that is what a function answers.
+#[derive(Clone, Debug)]
+pub struct FinishError {
+    /// Why.
+    pub error: Error,
+    /// At what.
+    pub part: Part,
+    writer: Box<Writer>,
+}
+
+impl FinishError {
+    pub(crate) fn new(error: Error, part: Part, writer: Writer) -> Self {
+        FinishError { error, part, writer: Box::new(writer) }
+    }
+
+    /// The writer, with all that was added to it.
+    pub fn into_writer(self) -> Writer {
+        *self.writer
+    }
+}
+
+impl From<FinishError> for Error {
+    fn from(refused: FinishError) -> Self {
+        refused.error
+    }
+}
+
+impl fmt::Display for FinishError {
+    fn fmt(&self, f: &mut fmt::Formatter) -> fmt::Result {
+        let error = self.error;
+        match self.part {
+            Part::Movie => write!(f, "the movie: {error}"),
+            Part::Track(index) => write!(f, "the track at {index}: {error}"),
+            Part::Sample(index) => write!(f, "the sample at {index}: {error}"),
+            Part::End => write!(f, "the end: {error}"),
+        }
+    }
+}
+
+impl std::error::Error for FinishError {
+    fn source(&self) -> Option<&(dyn std::error::Error + 'static)> {
+        Some(&self.error)
+    }
 }
 
 /// The code of metadata that a file doesn't have.

@@ -8,12 +8,12 @@
 //!
 //! ```
 //! # fn main() -> Result<(), Box<dyn std::error::Error>> {
-//! use maqelsun::{Movie, MovieConfig, Sample, TrackConfig, Writer};
+//! use maqelsun::{Movie, MovieConfig, TrackConfig, Writer};
 //!
 //! let mut writer = Writer::new(&MovieConfig::default());
 //! let id = writer.add_track(&TrackConfig::text())?;
-//! writer.write_sample(id, &Sample { duration: 500, bytes: b"abc", ..Sample::default() })?;
-//! writer.write_sample(id, &Sample { duration: 500, bytes: b"def", ..Sample::default() })?;
+//! writer.write_text(id, "first", 500)?;
+//! writer.write_text(id, "second", 500)?;
 //! let file: Vec<u8> = writer.finish()?;
 //!
 //! let movie = Movie::open(&file)?;
@@ -38,7 +38,7 @@ mod track;
 mod writer;
 
 pub use config::{AacConfig, AvcConfig, MediaConfig, MovieConfig, PictureSize, TrackConfig};
-pub use error::{Error, Limit, Result};
+pub use error::{Error, FinishError, Limit, Part, Result};
 pub use four_cc::FourCC;
 pub use movie::{Metadata, Movie};
 pub use samples::{Sample, Samples};

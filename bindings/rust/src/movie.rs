@@ -19,17 +19,17 @@ use std::time::Duration;
 ///
 /// ```
 /// # fn main() -> Result<(), maqelsun::Error> {
-/// use maqelsun::{Movie, MovieConfig, Sample, TrackConfig, Writer};
+/// use maqelsun::{Movie, MovieConfig, TrackConfig, Writer};
 ///
 /// let mut writer = Writer::new(&MovieConfig::default());
 /// let id = writer.add_track(&TrackConfig::text())?;
-/// writer.write_sample(id, &Sample { duration: 500, bytes: b"abc", ..Sample::default() })?;
+/// writer.write_text(id, "first", 500)?;
 /// let file = writer.finish()?;
 ///
 /// let movie = Movie::open(&file)?;
 /// assert_eq!(movie.tracks().len(), 1);
 /// for sample in movie.samples(id)? {
-///     assert_eq!(sample?.bytes, b"abc");
+///     assert_eq!(sample?.bytes, b"\0\x05first");
 /// }
 /// # Ok(())
 /// # }

@@ -8,16 +8,17 @@ use std::iter::FusedIterator;
 
 /// A sample, with its bytes, which are borrowed from the file. Times are in ticks of its track.
 ///
-/// A sample that is read can be written as it is. For a new one only what isn't usual has to be
-/// said:
+/// A sample that is read can be written as it is. A new one is a sample of no bytes and no
+/// duration, from which decoding can't begin, with what is said of it; a text of a track of text
+/// begins with its length, as [`Writer::write_text`](crate::Writer::write_text) writes it.
 ///
 /// ```
 /// use maqelsun::Sample;
 ///
-/// let sample = Sample { duration: 500, is_sync: true, bytes: b"abc", ..Sample::default() };
+/// let sample = Sample { duration: 500, is_sync: true, bytes: b"\0\x03abc", ..Sample::default() };
 /// assert_eq!(sample.rendering_offset, 0);
 /// ```
-#[derive(Clone, Copy, Debug, Default, PartialEq, Eq, Hash)]
+#[derive(Clone, Copy, Default, PartialEq, Eq, Hash)]
 pub struct Sample<'a> {
     /// The place of its first byte in the file. A writer doesn't look at it.
     pub offset: u64,
@@ -31,6 +32,20 @@ pub struct Sample<'a> {
     pub is_sync: bool,
     /// What it holds.
     pub bytes: &'a [u8],
+}
+
+/// How many bytes it has, and not which.
+impl fmt::Debug for Sample<'_> {
+    fn fmt(&self, f: &mut fmt::Formatter) -> fmt::Result {
+        f.debug_struct("Sample")
+            .field("offset", &self.offset)
+            .field("start_time", &self.start_time)
+            .field("duration", &self.duration)
+            .field("rendering_offset", &self.rendering_offset)
+            .field("is_sync", &self.is_sync)
+            .field("bytes", &format_args!("{} bytes", self.bytes.len()))
+            .finish()
+    }
 }
 
 impl<'a> Sample<'a> {

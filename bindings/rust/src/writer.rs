@@ -1,11 +1,13 @@
 //! Movies that are written.
 
 use crate::config::{MediaConfig, MovieConfig, TrackConfig};
+use crate::error::{FinishError, Part};
 use crate::ffi;
 use crate::layout::{BrandRow, NewMovieRow, NewTrackRow, Parts, SampleRow};
 use crate::movie::all_rows;
 use crate::samples::Sample;
 use crate::{Error, Limit, Result};
+use std::cell::Cell;
 use std::fmt;
 
 /// Collects the tracks and the samples of a movie, and writes it.
@@ -14,13 +16,12 @@ use std::fmt;
 ///
 /// ```
 /// # fn main() -> Result<(), maqelsun::Error> {
-/// use maqelsun::{MovieConfig, Sample, TrackConfig, Writer};
+/// use maqelsun::{MovieConfig, TrackConfig, Writer};
 ///
 /// let mut writer = Writer::new(&MovieConfig::default());
 /// let track = writer.add_track(&TrackConfig::text())?;
 /// for line in ["first", "second"] {
-///     let bytes = line.as_bytes();
-///     writer.write_sample(track, &Sample { duration: 1000, bytes, ..Sample::default() })?;
+///     writer.write_text(track, line, 1000)?;
 /// }
 /// let file: Vec<u8> = writer.finish()?;
 /// assert_eq!(maqelsun::Movie::open(&file)?.sample_count(track)?, 2);
@@ -176,11 +177,23 @@ impl Writer {
         Ok(())
     }
 
+    /// Writes a text of a track of text, from which decoding can begin: its length in two bytes,
+    /// and the text in UTF-8. An empty one is a gap (3GPP TS 26.245, 5.17).
+    ///
+    /// Refused as [`Writer::write_sample`] is, and by [`Error::Unrepresentable`] past 65,535 bytes.
+    pub fn write_text(&mut self, track_id: u32, text: &str, duration: u32) -> Result<()> {
+        let size = u16::try_from(text.len()).map_err(|_| Error::Unrepresentable)?;
+        let bytes = [&size.to_be_bytes(), text.as_bytes()].concat();
+        let sample = Sample { duration, is_sync: true, bytes: &bytes, ..Sample::default() };
+        self.write_sample(track_id, &sample)
+    }
+
     /// The bytes of the movie.
     ///
     /// [`Error::TooLarge`] past one of the limits [`Limit::SampleCount`], [`Limit::TrackDuration`]
-    /// and [`Limit::BoxSize`].
-    pub fn finish(self) -> Result<Vec<u8>> {
+    /// and [`Limit::BoxSize`]. The refusal names the track or the sample, and gives the writer
+    /// back.
+    pub fn finish(self) -> std::result::Result<Vec<u8>, FinishError> {
         let parts = Parts {
             movie: &self.movie,
             brands: &self.brands,
@@ -188,7 +201,13 @@ impl Writer {
             samples: &self.samples,
             data: &self.data,
         };
-        all_rows(self.likely_size(), |file| ffi::write(parts, file))
+        let part = Cell::new(Part::Movie);
+        let written = all_rows(self.likely_size(), |file| {
+            let answer = ffi::write(parts, file);
+            part.set(Part::of(&answer));
+            answer
+        });
+        written.map_err(|error| FinishError::new(error, part.get(), self))
     }
 
     /// So much room that most movies fit.

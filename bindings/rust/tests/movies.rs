@@ -1,8 +1,8 @@
 //! Movies that are written and read.
 
 use maqelsun::{
-    AacConfig, AvcConfig, Error, FourCC, MediaConfig, MediaType, Metadata, Movie, MovieConfig,
-    PictureSize, Sample, TrackConfig, TrackType, Writer,
+    AacConfig, AvcConfig, Error, FourCC, Limit, MediaConfig, MediaType, Metadata, Movie,
+    MovieConfig, Part, PictureSize, Sample, TrackConfig, TrackType, Writer,
 };
 use std::thread;
 use std::time::Duration;
@@ -265,6 +265,45 @@ fn a_movie_with_a_chunk_for_each_sample_is_written() {
     }
     let file = writer.finish().unwrap();
     assert_eq!(Movie::open(&file).unwrap().samples(id).unwrap().count(), 3000);
+}
+
+#[test]
+fn a_text_begins_with_its_length() {
+    let mut writer = Writer::new(&MovieConfig::default());
+    let id = writer.add_track(&TrackConfig::text()).unwrap();
+    assert_eq!(writer.write_text(id, "\u{f6}", 1000), Ok(()));
+    assert_eq!(writer.write_text(id, "", 500), Ok(()));
+    assert_eq!(writer.write_text(id, &"x".repeat(65_536), 500), Err(Error::Unrepresentable));
+    assert_eq!(writer.write_text(2, "x", 500), Err(Error::TrakNotFound(2)));
+    let file = writer.finish().unwrap();
+    let movie = Movie::open(&file).unwrap();
+    let samples: Vec<_> = movie.samples(id).unwrap().map(Result::unwrap).collect();
+    let bytes: Vec<_> = samples.iter().map(|sample| sample.bytes).collect();
+    assert_eq!(bytes, [b"\0\x02\xc3\xb6".as_slice(), b"\0\0"]);
+    assert!(samples.iter().all(|sample| sample.is_sync));
+}
+
+#[test]
+fn a_refused_end_names_its_part_and_gives_the_writer_back() {
+    let mut writer = Writer::new(&MovieConfig { timescale: u32::MAX, ..MovieConfig::default() });
+    let id = writer.add_track(&TrackConfig { timescale: 1, ..TrackConfig::text() }).unwrap();
+    for _ in 0..2 {
+        let sample = Sample { duration: u32::MAX, ..Sample::default() };
+        writer.write_sample(id, &sample).unwrap();
+    }
+    let refused = writer.finish().unwrap_err();
+    assert_eq!(refused.error, Error::TooLarge(Limit::TrackDuration));
+    assert_eq!(refused.part, Part::Sample(1));
+    assert_eq!(refused.to_string(), "the sample at 1: too large: track duration");
+    let again = refused.into_writer().finish().unwrap_err();
+    assert_eq!(Error::from(again), Error::TooLarge(Limit::TrackDuration));
+}
+
+#[test]
+fn the_bytes_of_a_sample_are_not_printed() {
+    let sample = Sample { bytes: b"abc", ..Sample::default() };
+    let text = format!("{sample:?}");
+    assert!(text.ends_with("is_sync: false, bytes: 3 bytes }"), "{text}");
 }
 
 #[test]

@@ -20,13 +20,3 @@ pub fn assert_that(rt: &impl Abort, case: impl Display + Drop, statement: bool) 
 pub fn assert_equal<T: PartialEq + Debug + Drop>(rt: &impl Abort, value: T, expected: T) {
     assert_eq!(rt; value, expected);
 }
-
-/// Ends the test and prints which case it is and both values, unless they are equal.
-pub fn assert_equal_at<T: PartialEq + Debug + Drop>(
-    rt: &impl Abort,
-    case: impl Display + Drop,
-    value: T,
-    expected: T,
-) {
-    assert_eq!(rt; value, expected, "case {case}");
-}

@@ -1,7 +1,7 @@
 //! How the tests assert. A crate of tests has these functions of its own: no library may end the process.
 
 use mp4_codec::Result;
-use std::fmt::{Debug, Display};
+use std::fmt::Display;
 use std::process::Abort;
 
 /// Ends the test and prints which case it is, unless the answer is `Ok(true)`. A case has a name of its own in
@@ -9,16 +9,6 @@ use std::process::Abort;
 /// far slower to prove.
 pub fn check(rt: &impl Abort, case: impl Display + Drop, answer: Result<bool>) {
     assert!(rt; matches!(answer, Ok(true)), "case {case}");
-}
-
-/// Ends the test and prints which case it is, unless the statement holds.
-pub fn assert_that(rt: &impl Abort, case: impl Display + Drop, statement: bool) {
-    assert!(rt; statement, "case {case}");
-}
-
-/// Ends the test and prints both values, unless they are equal.
-pub fn assert_equal<T: PartialEq + Debug + Drop>(rt: &impl Abort, value: T, expected: T) {
-    assert_eq!(rt; value, expected);
 }
 
 /// Ends the test and prints how many there are of these, unless they are so many.

@@ -257,8 +257,10 @@ fn are_listed(alloc: Global, file: &[u8], shown: &mut Shown) -> bool {
 fn boxes_are_listed(alloc: Global, seed: u64, shown: &mut Shown) -> Result<bool> {
     let mut random = Random::new(seed);
     let mut file = PlainFile::new(alloc);
-    let _ = put_boxes(alloc, &mut file, &mut random)?;
-    Ok(are_listed(alloc, &file.bytes, shown))
+    match put_boxes(alloc, &mut file, &mut random) {
+        Ok(_) => Ok(are_listed(alloc, &file.bytes, shown)),
+        Err(_) => Err(Error::OutOfMemory),
+    }
 }
 
 /// Files that are refused when they are opened, and ids without a track: these refusals come before any line.
