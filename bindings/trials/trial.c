@@ -4,6 +4,7 @@
  *   trial faults           why each of these files doesn't open, or an empty line
  *   trial facts            all that each of these files says of its movie, its tracks and its work, and the samples that
  *                          are found at the edges of times and numbers
+ *   trial nulls            nothing where NULL is refused in place of each pointer to what is there, and by each call
  *   trial write OUT        makes the movie of a script from standard input
  *   trial large FILE       the samples of a file; on standard error the microseconds and the KiB of the file that it took
  */
@@ -133,6 +134,13 @@ static void print_marked(uint8_t mark, uint64_t number) {
     else printf(" -");
 }
 
+/* So many ticks in whole seconds, and the nanoseconds after them; a dash without ticks in a second. */
+static void print_time(uint64_t ticks, uint32_t timescale) {
+    if (timescale == 0) printf(" -");
+    else printf(" %llu %llu", (unsigned long long)(ticks / timescale),
+                (unsigned long long)(ticks % timescale * 1000000000 / timescale));
+}
+
 static void print_track(const mp4_track *track) {
     printf("track %u", track->id);
     print_digits(track->handler, 4);
@@ -149,6 +157,7 @@ static void print_track(const mp4_track *track) {
     print_marked(track->has_video_profile, track->video_profile);
     print_marked(track->has_video_profile, track->video_compatibility);
     print_marked(track->has_video_profile, track->video_level);
+    print_time(track->duration, track->timescale);
     printf("\n");
 }
 
@@ -231,6 +240,7 @@ static void print_facts(file from) {
     printf("movie %llu %llu %u %u %u", (unsigned long long)movie.size, (unsigned long long)movie.duration,
            movie.timescale, movie.minor_version, movie.is_fragmented);
     print_digits(movie.major_brand, 4);
+    print_time(movie.duration, movie.timescale);
     printf("\n");
     print_brands(from, movie.brand_count);
     for (uint32_t key = MP4_TITLE; key <= MP4_SUMMARY; key++) print_bytes(from, metadata_call, "metadata", 0, key);
@@ -364,6 +374,54 @@ static void write_movie(const char *name) {
     free(data.rows);
 }
 
+static void is_refused(const char *call, mp4_answer answer) {
+    if (answer.code != MP4_NULL_POINTER) printf("%s takes NULL\n", call);
+}
+
+static void is_answered(const char *call, mp4_answer answer) {
+    if (answer.code == MP4_NULL_POINTER) printf("%s refuses NULL for nothing\n", call);
+}
+
+/* Gives NULL for each pointer to what is there, which is refused, and for each array of no elements, which isn't. */
+static void give_null(void) {
+    static const mp4_new_movie movie = {1000, 0, {'i', 's', 'o', 'm'}};
+    static const uint8_t byte = 0;
+    mp4_answer answer = {0, 0, 0, 0, 0, 0, 0, 0, {0}, {0}, 0};
+    mp4_movie facts;
+    uint32_t number;
+    is_refused("mp4_open", mp4_open(NULL, 1, &facts));
+    is_refused("mp4_open", mp4_open(&byte, 1, NULL));
+    is_answered("mp4_open", mp4_open(NULL, 0, &facts));
+    is_refused("mp4_brands", mp4_brands(NULL, 1, NULL, 0));
+    is_refused("mp4_brands", mp4_brands(&byte, 1, NULL, 1));
+    is_answered("mp4_brands", mp4_brands(NULL, 0, NULL, 0));
+    is_refused("mp4_tracks", mp4_tracks(NULL, 1, NULL, 0));
+    is_refused("mp4_tracks", mp4_tracks(&byte, 1, NULL, 1));
+    is_answered("mp4_tracks", mp4_tracks(NULL, 0, NULL, 0));
+    is_refused("mp4_samples", mp4_samples(NULL, 1, 1, 1, NULL, 0));
+    is_refused("mp4_samples", mp4_samples(&byte, 1, 1, 1, NULL, 1));
+    is_answered("mp4_samples", mp4_samples(NULL, 0, 1, 1, NULL, 0));
+    is_refused("mp4_sample_at", mp4_sample_at(NULL, 1, 1, 0, &number));
+    is_refused("mp4_sample_at", mp4_sample_at(&byte, 1, 1, 0, NULL));
+    is_refused("mp4_sync_sample_at_or_before", mp4_sync_sample_at_or_before(NULL, 1, 1, 1, &number));
+    is_refused("mp4_sync_sample_at_or_before", mp4_sync_sample_at_or_before(&byte, 1, 1, 1, NULL));
+    is_refused("mp4_metadata", mp4_metadata(NULL, 1, MP4_TITLE, NULL, 0));
+    is_refused("mp4_metadata", mp4_metadata(&byte, 1, MP4_TITLE, NULL, 1));
+    is_answered("mp4_metadata", mp4_metadata(NULL, 0, MP4_TITLE, NULL, 0));
+    is_refused("mp4_parameter_set", mp4_parameter_set(NULL, 1, 1, MP4_PICTURE_SET, NULL, 0));
+    is_refused("mp4_parameter_set", mp4_parameter_set(&byte, 1, 1, MP4_PICTURE_SET, NULL, 1));
+    is_refused("mp4_write", mp4_write(NULL, NULL, 0, NULL, 0, NULL, 0, NULL, 0, NULL, 0));
+    is_refused("mp4_write", mp4_write(&movie, NULL, 1, NULL, 0, NULL, 0, NULL, 0, NULL, 0));
+    is_refused("mp4_write", mp4_write(&movie, NULL, 0, NULL, 1, NULL, 0, NULL, 0, NULL, 0));
+    is_refused("mp4_write", mp4_write(&movie, NULL, 0, NULL, 0, NULL, 1, NULL, 0, NULL, 0));
+    is_refused("mp4_write", mp4_write(&movie, NULL, 0, NULL, 0, NULL, 0, NULL, 1, NULL, 0));
+    is_refused("mp4_write", mp4_write(&movie, NULL, 0, NULL, 0, NULL, 0, NULL, 0, NULL, 1));
+    is_answered("mp4_write", mp4_write(&movie, NULL, 0, NULL, 0, NULL, 0, NULL, 0, NULL, 0));
+    is_refused("mp4_error_text", mp4_error_text(NULL, NULL, 0));
+    is_refused("mp4_error_text", mp4_error_text(&answer, NULL, 1));
+    if (mp4_sample_bytes(NULL, 1, NULL) || mp4_sample_bytes(&byte, 1, NULL)) printf("mp4_sample_bytes takes NULL\n");
+}
+
 static uint64_t microseconds(void) {
     struct timespec now;
     clock_gettime(CLOCK_MONOTONIC, &now);
@@ -398,12 +456,14 @@ int main(int count, char **words) {
         each_file(print_fault);
     } else if (count == 2 && strcmp(command, "facts") == 0) {
         each_file(print_facts);
+    } else if (count == 2 && strcmp(command, "nulls") == 0) {
+        give_null();
     } else if (count == 3 && strcmp(command, "write") == 0) {
         write_movie(words[2]);
     } else if (count == 3 && strcmp(command, "large") == 0) {
         list_large(words[2]);
     } else {
-        give_up("list | faults | facts | write OUT | large FILE");
+        give_up("list | faults | facts | nulls | write OUT | large FILE");
     }
     return 0;
 }

@@ -54,6 +54,14 @@ def marked(value):
     return "-" if value is None else value
 
 
+def seconds(ticks, timescale):
+    """So many ticks in whole seconds, and the nanoseconds after them; a dash without ticks in a
+    second."""
+    if timescale == 0:
+        return "-"
+    return f"{ticks // timescale} {ticks % timescale * 10**9 // timescale}"
+
+
 def answered(call, shown, *words):
     """What a call answered."""
     try:
@@ -72,6 +80,7 @@ def track_lines(movie, track):
             track.sample_count, track.frames_per_second, track.bits_per_second, track.audio_profile,
             track.frequency_index, track.channels, *(track.video_profile or (None, None, None)),
         )),
+        seconds(track.duration, track.timescale),
     ]
     yield " ".join(["track", *map(str, words)])
     yield f"set 1 {answered(movie.sequence_parameter_set, digits, track.id)}"
@@ -95,7 +104,7 @@ def fact_lines(source):
         major = digits(movie.major_brand.encode("latin-1"))
         yield (
             f"movie {movie.size} {movie.duration} {movie.timescale} {movie.minor_version} "
-            f"{int(movie.is_fragmented)} {major}"
+            f"{int(movie.is_fragmented)} {major} {seconds(movie.duration, movie.timescale)}"
         )
         brands = [digits(brand.encode("latin-1")) for brand in movie.compatible_brands]
         yield " ".join(["brands", *brands])

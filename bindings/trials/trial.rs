@@ -7,7 +7,7 @@ use maqelsun::{
 use std::error::Error;
 use std::fmt::Write as _;
 use std::io::Read;
-use std::time::Instant;
+use std::time::{Duration, Instant};
 use std::{env, fs, io, process, thread};
 
 type Outcome<T> = Result<T, Box<dyn Error>>;
@@ -69,6 +69,11 @@ fn marked<T: ToString>(value: Option<T>) -> String {
     value.map_or("-".to_owned(), |value| value.to_string())
 }
 
+/// A time in whole seconds, and the nanoseconds after them; a dash without ticks in a second.
+fn seconds(time: maqelsun::Result<Duration>) -> String {
+    time.map_or("-".to_owned(), |time| format!("{} {}", time.as_secs(), time.subsec_nanos()))
+}
+
 /// What a file says of a track, as trial.c prints it.
 fn track_facts(track: &Track) -> String {
     let entry = track.sample_entry().map(|code| digits(&code.value));
@@ -91,6 +96,7 @@ fn track_facts(track: &Track) -> String {
         marked(video.map(|video| video.profile)),
         marked(video.map(|video| video.compatibility)),
         marked(video.map(|video| video.level)),
+        seconds(track.duration()),
     ];
     format!("track {}\n", words.join(" "))
 }
@@ -144,13 +150,14 @@ fn metadata_lines(movie: &Movie) -> maqelsun::Result<String> {
 /// All that a file says, as trial.c prints it.
 fn facts_of(movie: &Movie) -> maqelsun::Result<String> {
     let mut lines = format!(
-        "movie {} {} {} {} {} {}\nbrands",
+        "movie {} {} {} {} {} {} {}\nbrands",
         movie.size(),
         movie.duration_in_ticks(),
         movie.timescale(),
         movie.minor_version(),
         u8::from(movie.is_fragmented()),
-        digits(&movie.major_brand().value)
+        digits(&movie.major_brand().value),
+        seconds(movie.duration())
     );
     for brand in movie.compatible_brands()? {
         lines = lines + " " + &digits(&brand.value);

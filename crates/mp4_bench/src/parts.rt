@@ -1,8 +1,8 @@
 //! The boxes of a track that are the same in each file but for a number or two.
 
 use mp4_plain_movies::encoded::hex;
-use mp4_plain_movies::nested::{DINF, HDLR, MDHD, TKHD};
 use mp4_plain_movies::plain_bytes::put_over;
+use mp4_plain_movies::plain_tables::{DINF, HDLR, MDHD, TKHD};
 use std::alloc::{AllocError, Global};
 
 /// Where the id is in a track header.
