@@ -3,6 +3,7 @@
 use crate::layout::TrackRow;
 use crate::movie::duration_of;
 use crate::{FourCC, Result};
+use std::fmt;
 use std::time::Duration;
 
 /// The kind of a track, by its handler.
@@ -40,6 +41,42 @@ pub struct AvcProfile {
     pub compatibility: u8,
     /// Ten times the level.
     pub level: u8,
+}
+
+impl fmt::Display for TrackType {
+    fn fmt(&self, f: &mut fmt::Formatter) -> fmt::Result {
+        f.write_str(match self {
+            TrackType::Video => "Video",
+            TrackType::Audio => "Audio",
+            TrackType::Subtitle => "Subtitle",
+        })
+    }
+}
+
+impl fmt::Display for MediaType {
+    fn fmt(&self, f: &mut fmt::Formatter) -> fmt::Result {
+        f.write_str(match self {
+            MediaType::H264 => "h264",
+            MediaType::H265 => "h265",
+            MediaType::VP9 => "vp9",
+            MediaType::AAC => "aac",
+            MediaType::TTXT => "ttxt",
+        })
+    }
+}
+
+/// The name of the profile (ISO/IEC 14496-10, Annex A), or its number where it has no name here.
+impl fmt::Display for AvcProfile {
+    fn fmt(&self, f: &mut fmt::Formatter) -> fmt::Result {
+        match (self.profile, self.compatibility & 0x40) {
+            (66, 0x40) => f.write_str("Constrained Baseline"),
+            (66, _) => f.write_str("Baseline"),
+            (77, _) => f.write_str("Main"),
+            (88, _) => f.write_str("Extended"),
+            (100, _) => f.write_str("High"),
+            (profile, _) => write!(f, "profile {profile}"),
+        }
+    }
 }
 
 /// What a file says of a track. What it may not say is an [`Option`].

@@ -300,6 +300,21 @@ fn a_refused_end_names_its_part_and_gives_the_writer_back() {
 }
 
 #[test]
+fn kinds_and_profiles_have_names() {
+    let mut writer = Writer::new(&MovieConfig::default());
+    five_kinds().iter().for_each(|config| assert!(writer.add_track(config).is_ok()));
+    let file = writer.finish().unwrap();
+    let movie = Movie::open(&file).unwrap();
+    let kinds: Vec<String> =
+        movie.tracks().iter().map(|track| track.track_type().unwrap().to_string()).collect();
+    assert_eq!(kinds, ["Video", "Video", "Video", "Audio", "Subtitle"]);
+    let media: Vec<String> =
+        movie.tracks().iter().map(|track| track.media_type().unwrap().to_string()).collect();
+    assert_eq!(media, ["h264", "h265", "vp9", "aac", "ttxt"]);
+    assert_eq!(movie.track(1).unwrap().video_profile().unwrap().to_string(), "High");
+}
+
+#[test]
 fn the_bytes_of_a_sample_are_not_printed() {
     let sample = Sample { bytes: b"abc", ..Sample::default() };
     let text = format!("{sample:?}");
