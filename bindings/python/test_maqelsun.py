@@ -11,6 +11,7 @@ import tempfile
 import threading
 import unittest
 from concurrent.futures import ProcessPoolExecutor
+from unittest import mock
 
 import maqelsun
 from maqelsun import Code, Error, Limit, Movie, NewSample, NewTrack, OutOfMemory, write
@@ -221,6 +222,32 @@ class Reading(unittest.TestCase):
             for thread in threads:
                 thread.join()
             self.assertEqual(ends, ["the movie is closed"] * 4)
+
+    def test_closing_waits_for_a_call(self):
+        movie = Movie(numbers(3))
+        begun, may_end = threading.Event(), threading.Event()
+
+        class Slow:
+            """A library whose only call lasts until it may end."""
+
+            def mp4_c_sample_at(self, *_):
+                begun.set()
+                may_end.wait(60)
+                return maqelsun._Answer()
+
+        with mock.patch.object(maqelsun, "_library", Slow):
+            caller = threading.Thread(target=movie.sample_at, args=(1, 0))
+            caller.start()
+            begun.wait(60)
+            closer = threading.Thread(target=movie.close)
+            closer.start()
+            closer.join(0.2)
+            self.assertTrue(closer.is_alive())
+            may_end.set()
+            caller.join()
+            closer.join()
+        with self.assertRaises(ValueError):
+            movie.sample_at(1, 0)
 
     def test_an_error_is_pickled_and_copied(self):
         error = self.refused("trak[2] not found", Movie(numbers(1)).sample, 2, 1)
