@@ -1,5 +1,5 @@
-//! What no text of a case says of the crates that `mp4_inspect` depends on: that the samples of random tracks are summed
-//! up and found by their times as a plain walk over them finds.
+//! What no text of a case says of the crates that `mp4_inspect` depends on: that the samples of random tracks are
+//! summed up and found by their times as a plain walk over them finds.
 #![tactic(auto)]
 
 #[cfg(test)]
