@@ -19,8 +19,8 @@ pub struct PlainMovie<'a> {
     pub has_ended: bool,
 }
 
-/// By hand, so that a function that owns a movie takes it apart by a call, and not in place where each `?` ends it: that
-/// is far cheaper to prove.
+/// By hand, so that a function that owns a movie takes it apart by a call, and not in place where each `?` ends it:
+/// that is far cheaper to prove.
 impl<'a> Drop for PlainMovie<'a> {
     fn drop(self) {
         let PlainMovie {
