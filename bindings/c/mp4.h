@@ -27,6 +27,11 @@
 #include <stddef.h>
 #include <stdint.h>
 
+/* The version of this header: its three numbers, times 10000, 100 and 1. mp4_version() says that of the library that is
+ * linked. */
+#define MP4_VERSION 100
+#define MP4_VERSION_TEXT "0.1.0"
+
 #ifdef __cplusplus
 extern "C" {
 #endif
@@ -97,13 +102,16 @@ typedef struct mp4_answer {
 typedef struct mp4_movie {
     uint64_t size;                     /* bytes, to the end of the last box */
     uint64_t duration;                 /* of the movie header, in ticks of the movie */
+    uint64_t creation_time;            /* of the movie header, in seconds since the beginning of 1904, UTC */
+    uint64_t modification_time;        /* of the movie header, likewise */
     uint64_t track_count;
     uint64_t brand_count;              /* how many compatible brands there are */
     uint32_t timescale;                /* ticks in a second; it may be 0 */
     uint32_t minor_version;            /* of the major brand */
     uint8_t  major_brand[4];           /* the specification that the file follows first of all */
     uint8_t  is_fragmented;            /* 1 where the file has movie fragments, else 0 */
-    uint8_t  reserved[3];
+    uint8_t  header_version;           /* of the movie header: 1 where its times have 64 bits, else 0 */
+    uint8_t  reserved[2];
 } mp4_movie;
 
 /* A specification that a file follows, as isom. */
@@ -205,16 +213,19 @@ MP4_AT_(mp4_answer, number, 40);
 MP4_AT_(mp4_answer, box_type, 44);
 MP4_AT_(mp4_answer, second_box_type, 48);
 MP4_AT_(mp4_answer, reserved, 52);
-MP4_SIZE_(mp4_movie, 48);
+MP4_SIZE_(mp4_movie, 64);
 MP4_AT_(mp4_movie, size, 0);
 MP4_AT_(mp4_movie, duration, 8);
-MP4_AT_(mp4_movie, track_count, 16);
-MP4_AT_(mp4_movie, brand_count, 24);
-MP4_AT_(mp4_movie, timescale, 32);
-MP4_AT_(mp4_movie, minor_version, 36);
-MP4_AT_(mp4_movie, major_brand, 40);
-MP4_AT_(mp4_movie, is_fragmented, 44);
-MP4_AT_(mp4_movie, reserved, 45);
+MP4_AT_(mp4_movie, creation_time, 16);
+MP4_AT_(mp4_movie, modification_time, 24);
+MP4_AT_(mp4_movie, track_count, 32);
+MP4_AT_(mp4_movie, brand_count, 40);
+MP4_AT_(mp4_movie, timescale, 48);
+MP4_AT_(mp4_movie, minor_version, 52);
+MP4_AT_(mp4_movie, major_brand, 56);
+MP4_AT_(mp4_movie, is_fragmented, 60);
+MP4_AT_(mp4_movie, header_version, 61);
+MP4_AT_(mp4_movie, reserved, 62);
 MP4_SIZE_(mp4_brand, 4);
 MP4_SIZE_(mp4_track, 64);
 MP4_AT_(mp4_track, duration, 0);
@@ -280,6 +291,7 @@ MP4_AT_(mp4_new_track, reserved, 47);
 
 /* What the library exports. Here no pointer may be NULL, also not that of an array of no elements, and each is aligned
  * for its type. In C call the functions below in place of these; another language calls these. */
+uint32_t mp4_c_version(void);
 mp4_answer mp4_c_open(const uint8_t *file, size_t size, mp4_movie *movie);
 mp4_answer mp4_c_brands(const uint8_t *file, size_t size, mp4_brand *brands, size_t room);
 mp4_answer mp4_c_tracks(const uint8_t *file, size_t size, mp4_track *tracks, size_t room);
@@ -288,6 +300,9 @@ mp4_answer mp4_c_samples(const uint8_t *file, size_t size, uint32_t track_id, ui
 mp4_answer mp4_c_sample_at(const uint8_t *file, size_t size, uint32_t track_id, uint64_t time, uint32_t *number);
 mp4_answer mp4_c_sync_sample_at_or_before(const uint8_t *file, size_t size, uint32_t track_id, uint32_t number,
                                           uint32_t *sync_number);
+mp4_answer mp4_c_row_at(const mp4_sample *samples, size_t count, uint64_t time, uint64_t *number);
+mp4_answer mp4_c_sync_row_at_or_before(const mp4_sample *samples, size_t count, uint64_t number,
+                                       uint64_t *sync_number);
 mp4_answer mp4_c_metadata(const uint8_t *file, size_t size, uint32_t key, uint8_t *bytes, size_t room);
 mp4_answer mp4_c_parameter_set(const uint8_t *file, size_t size, uint32_t track_id, uint32_t kind, uint8_t *bytes,
                                size_t room);
@@ -303,6 +318,12 @@ mp4_answer mp4_c_error_text(const mp4_answer *answer, uint8_t *bytes, size_t roo
 static inline mp4_answer mp4_null_pointer_(void) {
     mp4_answer answer = {0, 0, 0, MP4_NULL_POINTER, 0, 0, 0, 0, {0, 0, 0, 0}, {0, 0, 0, 0}, 0};
     return answer;
+}
+
+/* The version of the library. Where it isn't MP4_VERSION, the archive isn't the one of this header, and what its structs
+ * are is not known. */
+static inline uint32_t mp4_version(void) {
+    return mp4_c_version();
 }
 
 /* What the file says of its movie. count is the number of its tracks. After a refusal the movie is as it was. */
@@ -368,6 +389,26 @@ static inline mp4_answer mp4_sync_sample_at_or_before(const void *file, size_t s
     if (MP4_IS_NULL_(file, size) || !sync_number) return mp4_null_pointer_();
     return mp4_c_sync_sample_at_or_before(MP4_POINTER_(const uint8_t, file, spare), size, track_id, number,
                                           sync_number);
+}
+
+/* The number of the last of a track's samples that is decoded at or before a time in ticks of the track; 0 where there
+ * is none. The samples are rows that mp4_samples filled in, the first of number 1, and no file is opened: a binary
+ * search. Where all samples of the track are there and their start times rise, as they do without fragments and nearly
+ * always with them, it is the number that mp4_sample_at gives; where they don't rise it is some number up to count. */
+static inline mp4_answer mp4_row_at(const mp4_sample *samples, size_t count, uint64_t time, uint64_t *number) {
+    uint64_t spare[1] = {0};
+    if (MP4_IS_NULL_(samples, count) || !number) return mp4_null_pointer_();
+    return mp4_c_row_at(MP4_POINTER_(const mp4_sample, samples, spare), count, time, number);
+}
+
+/* The number of the last of a track's samples up to this one from which decoding can begin, as
+ * mp4_sync_sample_at_or_before gives it; 0 where there is none. The samples are rows that mp4_samples filled in, the
+ * first of number 1, and no file is opened: they are looked at one by one, from this one on backwards. */
+static inline mp4_answer mp4_sync_row_at_or_before(const mp4_sample *samples, size_t count, uint64_t number,
+                                                   uint64_t *sync_number) {
+    uint64_t spare[1] = {0};
+    if (MP4_IS_NULL_(samples, count) || !sync_number) return mp4_null_pointer_();
+    return mp4_c_sync_row_at_or_before(MP4_POINTER_(const mp4_sample, samples, spare), count, number, sync_number);
 }
 
 /* The metadata at a key of enum mp4_metadata_key, if all of it fits: the title and the summary in UTF-8, the year as

@@ -8,6 +8,9 @@ and needs nothing but Python 3.8.
         for track in movie.tracks:
             for sample in movie.samples(track.id):
                 print(sample.number, sample.offset, sample.size, movie.read(sample)[:4])
+        print(movie.samples(1)[-1], len(movie.samples(1)))
+
+    sizes = numpy.asarray(movie.table(1))["size"]
 
     lines = [maqelsun.NewSample.text(1, "first", 1000), maqelsun.NewSample.text(1, "second", 1000)]
     file = maqelsun.write([maqelsun.NewTrack("tx3g")], lines)
@@ -19,7 +22,9 @@ else beside this file, else where ``./callers build`` of the repository leaves i
 import ctypes
 import enum
 import functools
+import itertools
 import mmap
+import operator
 import os
 import struct
 import threading
@@ -35,12 +40,15 @@ from typing import (
     Sequence,
     Tuple,
     Union,
+    overload,
 )
 
 __all__ = [
     "Code", "Error", "Limit", "Metadata", "Movie", "NewSample", "NewTrack", "OutOfMemory", "Sample",
-    "Track", "write",
+    "Samples", "Track", "write",
 ]
+
+__version__ = "0.1.0"
 
 # What has bytes at one place.
 BytesLike = Union[bytes, bytearray, memoryview, mmap.mmap]
@@ -68,10 +76,11 @@ _Answer = _struct(
     ("box_type", _code, 44), ("second_box_type", _code, 48), ("reserved", _u32, 52),
 )
 _Movie = _struct(
-    "mp4_movie", 48,
-    ("size", _u64, 0), ("duration", _u64, 8), ("track_count", _u64, 16), ("brand_count", _u64, 24),
-    ("timescale", _u32, 32), ("minor_version", _u32, 36), ("major_brand", _code, 40),
-    ("is_fragmented", _u8, 44), ("reserved", _u8 * 3, 45),
+    "mp4_movie", 64,
+    ("size", _u64, 0), ("duration", _u64, 8), ("creation_time", _u64, 16),
+    ("modification_time", _u64, 24), ("track_count", _u64, 32), ("brand_count", _u64, 40),
+    ("timescale", _u32, 48), ("minor_version", _u32, 52), ("major_brand", _code, 56),
+    ("is_fragmented", _u8, 60), ("header_version", _u8, 61), ("reserved", _u8 * 2, 62),
 )
 _Brand = _struct("mp4_brand", 4, ("code", _code, 0))
 _Track = _struct(
@@ -107,9 +116,13 @@ _NewTrack = _struct(
 
 # An mp4_sample, packed and unpacked many at a time: offset, start_time, track_id, size, duration,
 # rendering_offset and is_sync.
-_SAMPLE_ROW = struct.Struct("=QQIIIiB7x")
+_SAMPLE_ROW = struct.Struct("=QQIIIi?7x")
 if _SAMPLE_ROW.size != ctypes.sizeof(_Sample):
     raise ImportError("the layout of mp4_sample isn't that of mp4.h on this machine")
+
+
+# What the library of this version answers to `mp4_c_version`.
+_VERSION = sum(int(part) * weight for part, weight in zip(__version__.split("."), (10000, 100, 1)))
 
 
 @functools.lru_cache(maxsize=None)
@@ -129,6 +142,8 @@ def _library() -> ctypes.CDLL:
     library = ctypes.CDLL(chosen)
     pointer, size = ctypes.c_void_p, ctypes.c_size_t
     file, room = (pointer, size), (pointer, size)
+    if getattr(library, "mp4_c_version", lambda: None)() != _VERSION:
+        raise ImportError(f"{chosen} isn't of version {__version__}, as this module is")
     functions: Dict[str, Tuple[type, ...]] = {
         "open": (*file, pointer),
         "brands": (*file, *room),
@@ -136,6 +151,8 @@ def _library() -> ctypes.CDLL:
         "samples": (*file, _u32, _u32, *room),
         "sample_at": (*file, _u32, _u64, pointer),
         "sync_sample_at_or_before": (*file, _u32, _u32, pointer),
+        "row_at": (*room, _u64, pointer),
+        "sync_row_at_or_before": (*room, _u64, pointer),
         "metadata": (*file, _u32, *room),
         "parameter_set": (*file, _u32, _u32, *room),
         "write": (pointer, pointer, size, pointer, size, pointer, size, *file, *room),
@@ -357,6 +374,18 @@ class Track:
     video_profile: Optional[Tuple[int, int, int]]
     """Of AVC video: the profile, its constraint flags, and ten times the level."""
 
+    def seconds(self, ticks: int) -> float:
+        """How long so many ticks of the track last: of a sample's ``start_time``, its time from the
+        beginning. :class:`Error` where the timescale is 0."""
+        return _seconds(ticks, self.timescale)
+
+
+def _seconds(ticks: int, timescale: int) -> float:
+    """So many ticks in seconds."""
+    if timescale == 0:
+        raise Error(_Answer(code=Code.ZERO_TIMESCALE))
+    return ticks / timescale
+
 
 @dataclass(frozen=True)
 class Metadata:
@@ -429,20 +458,146 @@ def _in_range(name: str, value: int, bits: int) -> int:
     return value
 
 
-# How many rows of samples are asked for first, how many times as many next, and the most: 40 MB of
-# them, or as many as take the room of a larger file.
+# How many rows of samples are asked for first, and how many times as many next, up to a part of a
+# track's: each time the file is opened anew. At most 168 MB of them are.
 _FIRST_ROWS = 1024
 _GROWTH = 16
-_MOST_ROWS = 1 << 20
+_PARTS = 16
+_LARGE_BLOCK = 1 << 18
+_MOST_ROWS = 1 << 22
+
+
+class _Rows:
+    """The rows of a track's samples, up to the first that is refused."""
+
+    def __init__(self, movie: "Movie", track_id: int, count: int):
+        ask, room = movie._ask, max(_FIRST_ROWS, movie._bytes.size // _SAMPLE_ROW.size)
+        blocks = []
+        self.count = 0
+        self.refusal: Optional[Error] = None
+        while self.count < count:
+            block = (_Sample * min(count - self.count, room, _MOST_ROWS))()
+            answer = ask("samples", track_id, self.count + 1, block, len(block))
+            blocks.append((block, answer.filled))
+            self.count += answer.filled
+            if answer.code or answer.filled < len(block):
+                self.refusal = _refusal(answer) if answer.code else None
+                break
+            room *= _GROWTH
+        if isinstance(self.refusal, OutOfMemory):
+            raise self.refusal
+        self.rows = _joined(blocks)
+        self.are_all = self.count == count
+        self.bytes = memoryview(self.rows).cast("B")[: self.count * _SAMPLE_ROW.size]
+        self.rise = self.are_all and self._all_rise() and self._last_in_time(ask, track_id) == count
+
+    def _all_rise(self) -> bool:
+        starts = self.bytes.cast("Q")[1 :: _SAMPLE_ROW.size // 8]
+        return all(map(operator.le, starts, starts[1:]))
+
+    @staticmethod
+    def _last_in_time(ask: Callable[..., "_Answer"], track_id: int) -> int:
+        """The number of the last sample that has a time; 0 where there is none."""
+        number = _u32()
+        _accepted(ask("sample_at", track_id, 2**64 - 1, ctypes.byref(number)))
+        return number.value
+
+    def found(self, name: str, key: int) -> Optional[int]:
+        """The number of the row that a call of the library finds among these."""
+        number = _u64()
+        function = getattr(_library(), "mp4_c_" + name)
+        _accepted(function(self.rows, self.count, key, ctypes.byref(number)))
+        return number.value or None
+
+
+def _joined(blocks: List[Tuple["ctypes.Array", int]]) -> "ctypes.Array":
+    """The first rows of each block, one after the other; there is at least one row, so that they
+    have a place."""
+    if len(blocks) == 1:
+        return blocks[0][0]
+    rows = (_Sample * max(sum(filled for _, filled in blocks), 1))()
+    place, whole = 0, memoryview(rows).cast("B")
+    for block, filled in blocks:
+        end = place + filled * _SAMPLE_ROW.size
+        whole[place:end] = memoryview(block).cast("B")[: end - place]
+        place = end
+    return rows
+
+
+class Samples(Sequence[Sample]):
+    """The samples of a track, in order, as :meth:`Movie.samples` gives them.
+
+    It may be gone through any number of times. An index counts from 0, so that of all samples the
+    one with number 1 is at 0; a slice is a list. The first index makes the table of
+    :meth:`Movie.table`, and from then on each sample is found at once; going through them doesn't.
+    """
+
+    def __init__(self, movie: "Movie", track: Track, first: int):
+        if track.sample_count is None:
+            raise Error(_Answer(code=Code.TOO_LARGE, limit=Limit.VALUE))
+        self._movie = movie
+        self._track = track
+        self._first = max(first, 0)
+        self._last: int = track.sample_count
+
+    def __len__(self) -> int:
+        """How many there are, as the file says."""
+        return max(self._last - self._first + 1, 0)
+
+    def __iter__(self) -> Iterator[Sample]:
+        """Ends after the last sample. The first that can't be found, or isn't whole in the file,
+        raises :class:`Error`. The library is asked for them in blocks: for 1,024 first, and then
+        for more and more."""
+        return itertools.chain.from_iterable(self._blocks())
+
+    def _blocks(self) -> Iterator[Iterable[Sample]]:
+        movie, first = self._movie, self._first
+        most = min(max(self._last // _PARTS, _LARGE_BLOCK), _MOST_ROWS)
+        room = _FIRST_ROWS
+        while first <= self._last:
+            room = min(room, self._last - first + 1)
+            rows = (_Sample * room)()
+            answer = movie._ask("samples", self._track.id, first, rows, room)
+            yield movie._samples_in(memoryview(rows).cast("B"), answer.filled, first)
+            _accepted(answer)
+            if answer.filled < room:
+                return
+            first += room
+            room = min(room * _GROWTH, most)
+
+    @overload
+    def __getitem__(self, index: int) -> Sample: ...
+
+    @overload
+    def __getitem__(self, index: slice) -> List[Sample]: ...
+
+    def __getitem__(self, index: Union[int, slice]) -> Union[Sample, List[Sample]]:
+        numbers = range(self._first, self._last + 1)[index]
+        if isinstance(numbers, range):
+            return [self._at(number) for number in numbers]
+        return self._at(numbers)
+
+    def _at(self, number: int) -> Sample:
+        found = self._movie.sample(self._track.id, number)
+        if found is None:
+            raise IndexError(f"the track has no sample {number}")
+        return found
+
+    def __repr__(self) -> str:
+        return f"<{len(self)} samples of track {self._track.id}>"
 
 
 class Movie:
     """A movie that is opened: a file, which is mapped into memory, or bytes.
 
-    What the file says of its movie and its tracks is read once. Every other call to the library
-    opens the file anew, in a time that grows with its boxes, but not with the bytes of its samples;
-    so read many samples by :meth:`samples`, and not one by one. Threads may share a movie; closing
-    it waits for their calls to end, and what they ask for after that is a ValueError.
+    What the file says of its movie and its tracks is read once. The places of a track's samples are
+    read when one is first asked for by its number, its time or its index, in one pass over the
+    track's tables, and kept: 40 bytes for each. From then on each is found at once. Of a track that
+    says that it has more than four million samples, or more than one for four bytes of the file,
+    they are kept where :meth:`table` is called, and else each such call opens the file anew.
+
+    Threads may share a movie; closing it waits for their calls to end, and what they ask for after
+    that is a ValueError.
 
     A mapped file must not be cut while it is open: what is read past its new end ends the process.
     """
@@ -453,6 +608,12 @@ class Movie:
     """In ticks of the movie, as its header says."""
     timescale: int
     """Ticks in a second, of the movie's duration; it may be 0."""
+    creation_time: int
+    """When the movie was made, in seconds since the beginning of 1904, UTC; 0 says nothing."""
+    modification_time: int
+    """When it was last changed, likewise."""
+    header_version: int
+    """Of the movie header: 1 where its times have 64 bits, else 0."""
     major_brand: str
     """The specification that the file follows first of all: four characters of Latin-1, one for
     each of its bytes."""
@@ -468,6 +629,7 @@ class Movie:
         self._mapped: Optional[mmap.mmap] = None
         self._calls = 0
         self._no_call = threading.Condition()
+        self._tables: Dict[int, _Rows] = {}
         if isinstance(source, (str, os.PathLike)):
             source = self._map(source)
         self._source = source
@@ -492,12 +654,16 @@ class Movie:
         self.size = facts.size
         self.duration = facts.duration
         self.timescale = facts.timescale
+        self.creation_time = facts.creation_time
+        self.modification_time = facts.modification_time
+        self.header_version = facts.header_version
         self.major_brand = _code_text(facts.major_brand)
         self.minor_version = facts.minor_version
         self.is_fragmented = facts.is_fragmented != 0
         self._brand_count = facts.brand_count
         rows = _all_rows(_Track, facts.track_count, lambda *room: self._ask("tracks", *room))
         self.tracks = [_track_of(row) for row in rows]
+        self._by_id = {track.id: track for track in self.tracks}
 
     def _begin_call(self) -> None:
         """Holds the file, so that no other thread lets it go before the call ends."""
@@ -530,6 +696,15 @@ class Movie:
             if self._mapped is not None:
                 self._mapped.close()
 
+    def seconds(self, ticks: int) -> float:
+        """How long so many ticks of the movie last, as its ``duration`` has. :class:`Error` where
+        the timescale is 0."""
+        return _seconds(ticks, self.timescale)
+
+    def __repr__(self) -> str:
+        kinds = ", ".join(track.sample_entry or track.handler for track in self.tracks)
+        return f"<Movie of {self.size} bytes: {kinds or 'no tracks'}>"
+
     def __enter__(self) -> "Movie":
         return self
 
@@ -544,53 +719,79 @@ class Movie:
 
     def track(self, track_id: int) -> Track:
         """The track with this id; :class:`Error` without one."""
-        for track in self.tracks:
-            if track.id == track_id:
-                return track
+        track = self._by_id.get(track_id)
+        if track is not None:
+            return track
         absent = _in_range("track_id", track_id, 32)
         raise Error(_Answer(code=Code.TRAK_NOT_FOUND, track_id=absent))
 
-    def samples(self, track_id: int, first: int = 1) -> Iterator[Sample]:
-        """The samples of a track, in order, from a number on.
+    def samples(self, track_id: int, first: int = 1) -> Samples:
+        """The samples of a track, in order, from a number on: a sequence of which the length is
+        known. Going through it raises :class:`Error` at the first that can't be found, or isn't
+        whole in the file."""
+        return Samples(self, self.track(track_id), first)
 
-        It ends after the last sample. The first that can't be found, or isn't whole in the file,
-        raises :class:`Error`. The library is asked for them in blocks: for 1,024 first, and then
-        for more and more.
-        """
-        count = self.track(track_id).sample_count
-        if count is None:
-            raise Error(_Answer(code=Code.TOO_LARGE, limit=Limit.VALUE))
-        return self._blocks(track_id, max(first, 0), count)
-
-    def _blocks(self, track_id: int, first: int, count: int) -> Iterator[Sample]:
-        most = max(_MOST_ROWS, self._bytes.size // _SAMPLE_ROW.size)
-        room = _FIRST_ROWS
-        while first <= count:
-            room = min(room, count - first + 1)
-            rows = (_Sample * room)()
-            answer = self._ask("samples", track_id, first, rows, room)
-            yield from self._samples_in(rows, answer.filled, first)
-            _accepted(answer)
-            if answer.filled < room:
-                return
-            first += room
-            room = min(room * _GROWTH, most)
-
-    def _samples_in(self, rows: "ctypes.Array", filled: int, first: int) -> Iterator[Sample]:
+    def _samples_in(self, rows: memoryview, filled: int, first: int) -> Iterable[Sample]:
         """The first ``filled`` samples of a block that begins with number ``first``."""
-        size = self._bytes.size
-        whole = memoryview(rows).cast("B")[: filled * _SAMPLE_ROW.size]
-        for number, row in enumerate(_SAMPLE_ROW.iter_unpack(whole), first):
-            if row[0] + row[3] > size:
-                raise _end_of_data()
-            yield Sample(number, *row[:6], row[6] != 0)
+        rows = rows[: filled * _SAMPLE_ROW.size]
+        unpacked = map(operator.concat, zip(itertools.count(first)), _SAMPLE_ROW.iter_unpack(rows))
+        samples = map(tuple.__new__, itertools.repeat(Sample), unpacked)
+        places, sizes = rows.cast("Q")[::5], rows.cast("I")[5::10]
+        # Where this holds, none is looked at by itself.
+        if max(places, default=0) + max(sizes, default=0) <= self._bytes.size:
+            return samples
+        return map(self._whole, samples)
+
+    def _whole(self, sample: Sample) -> Sample:
+        """The sample, if its bytes are in the file."""
+        if sample.offset + sample.size > self._bytes.size:
+            raise _end_of_data()
+        return sample
+
+    def _rows(self, track: Track) -> _Rows:
+        """The rows of a track's samples, which are read the first time."""
+        rows = self._tables.get(track.id)
+        if rows is None:
+            if track.sample_count is None:
+                raise Error(_Answer(code=Code.TOO_LARGE, limit=Limit.VALUE))
+            rows = self._tables[track.id] = _Rows(self, track.id, track.sample_count)
+        return rows
+
+    def _few_rows(self, track: Track) -> Optional[_Rows]:
+        """The same, but of a track that says that it has so many samples that they aren't kept
+        unasked."""
+        if self._source is None:
+            raise ValueError("the movie is closed")
+        few = min(self._bytes.size // 4, _MOST_ROWS)
+        if track.id in self._tables or (track.sample_count is not None and track.sample_count <= few):
+            return self._rows(track)
+        return None
+
+    def table(self, track_id: int) -> memoryview:
+        """The places, the sizes and the times of all samples of a track, as one buffer of rows with
+        named fields, which numpy.asarray takes as it is: offset, start_time, track_id, size,
+        duration, rendering_offset, is_sync and reserved. It is made the first time, takes 40 bytes
+        for each sample, and stays when the movie is closed.
+
+        :class:`Error` where a sample can't be found. A few hundred bytes may say that a track has
+        2**32 - 1 samples: of a file that isn't yours, look at ``sample_count`` before.
+        """
+        rows = self._rows(self.track(track_id))
+        if rows.refusal is not None:
+            raise rows.refusal
+        return memoryview(rows.rows)[: rows.count]
 
     def sample(self, track_id: int, number: int) -> Optional[Sample]:
         """One sample, by its number from 1 on; None past the last."""
+        track = self.track(track_id)
+        rows = self._few_rows(track)
+        if rows is not None and 0 < number <= rows.count:
+            row = _SAMPLE_ROW.unpack_from(rows.bytes, (number - 1) * _SAMPLE_ROW.size)
+            return self._whole(Sample(number, *row))
+        found = (_Sample * 1)()
         first = _in_range("number", number, 32)
-        rows = (_Sample * 1)()
-        answer = _accepted(self._ask("samples", self.track(track_id).id, first, rows, 1))
-        return next(self._samples_in(rows, answer.filled, number), None)
+        answer = _accepted(self._ask("samples", track.id, first, found, 1))
+        return next(iter(self._samples_in(memoryview(found).cast("B"), answer.filled, number)), None)
 
     def read(self, sample: Sample) -> bytes:
         """The bytes of a sample."""
@@ -604,14 +805,22 @@ class Movie:
 
     def sample_at(self, track_id: int, time: int) -> Optional[int]:
         """The number of the last sample that is decoded at or before a time in ticks."""
-        number, time = _u32(), _in_range("time", time, 64)
-        _accepted(self._ask("sample_at", self.track(track_id).id, time, ctypes.byref(number)))
+        track, time = self.track(track_id), _in_range("time", time, 64)
+        rows = self._few_rows(track)
+        if rows is not None and rows.rise:
+            return rows.found("row_at", time)
+        number = _u32()
+        _accepted(self._ask("sample_at", track.id, time, ctypes.byref(number)))
         return number.value or None
 
     def sync_sample_at_or_before(self, track_id: int, number: int) -> Optional[int]:
         """The number of the last sample up to this one from which decoding can begin."""
-        found, words = _u32(), (self.track(track_id).id, _in_range("number", number, 32))
-        _accepted(self._ask("sync_sample_at_or_before", *words, ctypes.byref(found)))
+        track, number = self.track(track_id), _in_range("number", number, 32)
+        rows = self._few_rows(track)
+        if rows is not None and rows.are_all:
+            return rows.found("sync_row_at_or_before", number)
+        found = _u32()
+        _accepted(self._ask("sync_sample_at_or_before", track.id, number, ctypes.byref(found)))
         return found.value or None
 
     def sequence_parameter_set(self, track_id: int) -> bytes:

@@ -117,6 +117,74 @@ class Reading(unittest.TestCase):
         with self.assertRaises(OverflowError):
             movie.sample(1, 2**32 + 1)
 
+    def test_samples_are_a_sequence(self):
+        movie = Movie(numbers(2000))
+        samples = movie.samples(1)
+        self.assertEqual((len(samples), repr(samples)), (2000, "<2000 samples of track 1>"))
+        self.assertEqual(movie.read(samples[0]), b"1")
+        self.assertEqual(samples[-1], movie.sample(1, 2000))
+        self.assertEqual([sample.number for sample in samples[5:12:3]], [6, 9, 12])
+        self.assertEqual(samples[1990:], list(samples)[1990:])
+        self.assertEqual(list(samples), list(samples))
+        later = movie.samples(1, 1999)
+        self.assertEqual((len(later), later[1].number, list(reversed(later))[0]), (2, 2000, later[1]))
+        self.assertEqual(len(movie.samples(1, 2001)), 0)
+        for index in [2000, -2001]:
+            with self.assertRaises(IndexError):
+                samples[index]
+
+    def test_a_table_has_named_fields(self):
+        movie = Movie(numbers(300))
+        table = movie.table(1)
+        self.assertEqual((len(table), table.itemsize), (300, 40))
+        names = ["offset", "start_time", "track_id", "size", "duration", "rendering_offset", "is_sync"]
+        places = [table.format.index(f":{name}:") for name in names]
+        self.assertEqual(places, sorted(places))
+        rows = struct.iter_unpack("=QQIIIiB7x", table.cast("B"))
+        expected = [tuple(map(int, sample[1:])) for sample in movie.samples(1)]
+        self.assertEqual(list(rows), expected)
+
+    def test_a_table_of_a_refused_sample_is_refused(self):
+        file = bytearray(numbers(12))
+        file[file.rindex(b"stsc") + 19] = 0  # the samples of each chunk
+        movie = Movie(file)
+        self.refused("invalid data", list, movie.samples(1))
+        self.refused("invalid data", movie.table, 1)
+        self.assertEqual(movie.sample_at(1, 0), 1)
+
+    def test_a_table_ends_where_the_samples_do(self):
+        file = bytearray(numbers(12))
+        file[file.rindex(b"stsc") + 19] = 5  # the samples of each chunk, of which there is one
+        movie = Movie(file)
+        self.assertEqual((len(list(movie.samples(1))), len(movie.table(1))), (5, 5))
+        self.assertEqual((movie.sample(1, 5).number, movie.sample(1, 6)), (5, None))
+        self.assertEqual(movie.sync_sample_at_or_before(1, 9), 9)
+
+    def test_ticks_are_seconds(self):
+        movie = Movie(numbers(6, timescale=600))
+        self.assertEqual((movie.seconds(900), movie.track(1).seconds(1500)), (1.5, 1.5))
+        still = Movie(numbers(1, timescale=0))
+        self.refused("timescale is zero", still.seconds, 1)
+
+    def test_the_header_says_when_a_movie_was_made(self):
+        file = bytearray(numbers(1))
+        header = file.index(b"mvhd") + 4
+        file[header + 4 : header + 12] = struct.pack(">II", 3_000_000_000, 7)
+        movie = Movie(file)
+        found = (movie.creation_time, movie.modification_time, movie.header_version)
+        self.assertEqual(found, (3_000_000_000, 7, 0))
+
+    def test_an_opened_movie_says_what_it_is(self):
+        file = numbers(1)
+        self.assertEqual(repr(Movie(file)), f"<Movie of {len(file)} bytes: tx3g>")
+
+    def test_a_library_of_another_version_is_not_used(self):
+        with mock.patch.object(maqelsun, "_VERSION", 1):
+            maqelsun._library.cache_clear()
+            with self.assertRaises(ImportError):
+                maqelsun._library()
+        maqelsun._library.cache_clear()
+
     def test_samples_are_found_by_their_times(self):
         movie = Movie(numbers(6))  # they last 1, 2, 0, 1, 2 and 0 ticks
         self.assertEqual([movie.sample_at(1, time) for time in range(7)], [1, 2, 2, 4, 5, 5, 6])
@@ -130,10 +198,13 @@ class Reading(unittest.TestCase):
         file = bytearray(numbers(12))  # whose sizes aren't all the same, so that they are listed
         file[file.rindex(b"stsz") + 20] = 0x7F  # the high byte of the size of the second sample
         movie = Movie(file)
-        samples = movie.samples(1)
+        samples = iter(movie.samples(1))
         first = next(samples)
         self.assertEqual(movie.read(first), b"1")
         self.refused("end of data", next, samples)
+        self.refused("end of data", movie.sample, 1, 2)
+        self.assertEqual(movie.samples(1)[0], first)
+        self.refused("end of data", movie.samples(1).__getitem__, 1)
         for place in [{"offset": len(file)}, {"offset": -1}, {"size": -1}, {"size": 2**40}]:
             self.refused("end of data", movie.read, first._replace(**place))
 
@@ -176,11 +247,15 @@ class Reading(unittest.TestCase):
             with Movie(name) as movie:
                 sample = movie.sample(1, 3)
                 self.assertEqual(movie.read(sample), b"3")
-                samples = movie.samples(1)
+                samples, table = movie.samples(1), movie.table(1)
             with self.assertRaises(ValueError):
                 movie.read(sample)
             with self.assertRaises(ValueError):
-                next(samples)
+                next(iter(samples))
+            for ask in [movie.sample, movie.sample_at, movie.sync_sample_at_or_before]:
+                with self.assertRaises(ValueError):
+                    ask(1, 1)
+            self.assertEqual(len(table), 3)
             movie.close()
             with open(name, "wb"):
                 pass
@@ -230,13 +305,13 @@ class Reading(unittest.TestCase):
         class Slow:
             """A library whose only call lasts until it may end."""
 
-            def mp4_c_sample_at(self, *_):
+            def mp4_c_parameter_set(self, *_):
                 begun.set()
                 may_end.wait(60)
                 return maqelsun._Answer()
 
         with mock.patch.object(maqelsun, "_library", Slow):
-            caller = threading.Thread(target=movie.sample_at, args=(1, 0))
+            caller = threading.Thread(target=movie.picture_parameter_set, args=(1,))
             caller.start()
             begun.wait(60)
             closer = threading.Thread(target=movie.close)

@@ -199,6 +199,50 @@ static void print_number(const char *name, uint64_t key, mp4_answer answer, uint
     else printf("-\n");
 }
 
+/* Prints a mark where what is found in rows isn't what is found in the file. */
+static void compare_found(const char *name, mp4_answer in_rows, uint64_t row, uint32_t number) {
+    if (in_rows.code != MP4_OK || in_rows.filled != (row != 0) || row != number) {
+        printf("(%s is row %llu, and number %u)\n", name, (unsigned long long)row, number);
+    }
+}
+
+/* The rows of a track, and whether they say of each time and each number what the file says: all samples that have a
+ * time are there, and their times rise. */
+static int has_rows(file from, const mp4_track *track, mp4_sample **rows) {
+    uint64_t count = track->has_sample_count && track->sample_count <= 200000 ? track->sample_count : 0;
+    *rows = room_for(count, sizeof **rows);
+    mp4_answer answer = mp4_samples(from.bytes, from.size, track->id, 1, *rows, count);
+    uint32_t last = 0;
+    mp4_sample_at(from.bytes, from.size, track->id, UINT64_MAX, &last);
+    int all = answer.code == MP4_OK && answer.filled == count && answer.count == count && last == count;
+    for (uint64_t k = 1; all && k < count; k++) all = (*rows)[k - 1].start_time <= (*rows)[k].start_time;
+    return all;
+}
+
+/* Prints a mark where a track's rows say something else than its file, at and beside the time of each row. */
+static void compare_rows(file from, const mp4_track *track) {
+    mp4_sample *rows;
+    if (has_rows(from, track, &rows)) {
+        uint64_t count = track->sample_count, row;
+        for (uint64_t k = 0; k < count; k += 1 + count / 50) {
+            uint64_t start = rows[k].start_time;
+            uint32_t number = 0;
+            mp4_answer answer;
+            for (uint64_t time = start - (start != 0); time <= start + 1; time++) {
+                number = 0;
+                mp4_sample_at(from.bytes, from.size, track->id, time, &number);
+                answer = mp4_row_at(rows, count, time, &row);
+                compare_found("the sample", answer, row, number);
+            }
+            number = 0;
+            mp4_sync_sample_at_or_before(from.bytes, from.size, track->id, (uint32_t)k, &number);
+            answer = mp4_sync_row_at_or_before(rows, count, k, &row);
+            compare_found("the sync sample", answer, row, number);
+        }
+    }
+    free(rows);
+}
+
 /* The samples that are found at the edges of a track's times and numbers, and beside them. */
 static void print_found(file from, const mp4_track *track) {
     uint64_t times[] = {0, 1, track->duration ? track->duration - 1 : 0, track->duration, UINT64_MAX};
@@ -215,6 +259,7 @@ static void print_found(file from, const mp4_track *track) {
         mp4_answer answer = mp4_sync_sample_at_or_before(from.bytes, from.size, track->id, numbers[k], &number);
         print_number("sync", numbers[k], answer, number);
     }
+    compare_rows(from, track);
 }
 
 static void print_brands(file from, uint64_t count) {
@@ -237,8 +282,9 @@ static void print_facts(file from) {
         print_text(answer);
         return;
     }
-    printf("movie %llu %llu %u %u %u", (unsigned long long)movie.size, (unsigned long long)movie.duration,
-           movie.timescale, movie.minor_version, movie.is_fragmented);
+    printf("movie %llu %llu %llu %llu %u", (unsigned long long)movie.size, (unsigned long long)movie.duration,
+           (unsigned long long)movie.creation_time, (unsigned long long)movie.modification_time, movie.header_version);
+    printf(" %u %u %u", movie.timescale, movie.minor_version, movie.is_fragmented);
     print_digits(movie.major_brand, 4);
     print_time(movie.duration, movie.timescale);
     printf("\n");
@@ -389,6 +435,7 @@ static void give_null(void) {
     mp4_answer answer = {0, 0, 0, 0, 0, 0, 0, 0, {0}, {0}, 0};
     mp4_movie facts;
     uint32_t number;
+    uint64_t row;
     is_refused("mp4_open", mp4_open(NULL, 1, &facts));
     is_refused("mp4_open", mp4_open(&byte, 1, NULL));
     is_answered("mp4_open", mp4_open(NULL, 0, &facts));
@@ -417,6 +464,12 @@ static void give_null(void) {
     is_refused("mp4_write", mp4_write(&movie, NULL, 0, NULL, 0, NULL, 0, NULL, 1, NULL, 0));
     is_refused("mp4_write", mp4_write(&movie, NULL, 0, NULL, 0, NULL, 0, NULL, 0, NULL, 1));
     is_answered("mp4_write", mp4_write(&movie, NULL, 0, NULL, 0, NULL, 0, NULL, 0, NULL, 0));
+    is_refused("mp4_row_at", mp4_row_at(NULL, 1, 0, &row));
+    is_refused("mp4_row_at", mp4_row_at(NULL, 0, 0, NULL));
+    is_answered("mp4_row_at", mp4_row_at(NULL, 0, 0, &row));
+    is_refused("mp4_sync_row_at_or_before", mp4_sync_row_at_or_before(NULL, 1, 1, &row));
+    is_refused("mp4_sync_row_at_or_before", mp4_sync_row_at_or_before(NULL, 0, 1, NULL));
+    is_answered("mp4_sync_row_at_or_before", mp4_sync_row_at_or_before(NULL, 0, 1, &row));
     is_refused("mp4_error_text", mp4_error_text(NULL, NULL, 0));
     is_refused("mp4_error_text", mp4_error_text(&answer, NULL, 1));
     if (mp4_sample_bytes(NULL, 1, NULL) || mp4_sample_bytes(&byte, 1, NULL)) printf("mp4_sample_bytes takes NULL\n");

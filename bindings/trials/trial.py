@@ -103,7 +103,8 @@ def fact_lines(source):
     with movie:
         major = digits(movie.major_brand.encode("latin-1"))
         yield (
-            f"movie {movie.size} {movie.duration} {movie.timescale} {movie.minor_version} "
+            f"movie {movie.size} {movie.duration} {movie.creation_time} {movie.modification_time} "
+            f"{movie.header_version} {movie.timescale} {movie.minor_version} "
             f"{int(movie.is_fragmented)} {major} {seconds(movie.duration, movie.timescale)}"
         )
         brands = [digits(brand.encode("latin-1")) for brand in movie.compatible_brands]

@@ -1,8 +1,8 @@
 //! What ./callers asks of the library from Rust: trial.c says what each command does.
 
 use maqelsun::{
-    AacConfig, AvcConfig, MediaConfig, Movie, MovieConfig, PictureSize, Sample, Track, TrackConfig,
-    Writer,
+    AacConfig, AudioObjectType, AvcConfig, ChannelConfig, MediaConfig, Movie, MovieConfig,
+    PictureSize, Sample, SampleFreqIndex, Track, TrackConfig, Writer,
 };
 use std::error::Error;
 use std::fmt::Write as _;
@@ -13,7 +13,7 @@ use std::{env, fs, io, process, thread};
 type Outcome<T> = Result<T, Box<dyn Error>>;
 
 /// The samples of a track, a line each, as `mp4_tool samples` prints them.
-fn track_lines(movie: &Movie, track: &Track) -> String {
+fn track_lines(movie: &Movie<&[u8]>, track: &Track) -> String {
     let mut lines = format!("track {}\n", track.id());
     let samples = match movie.samples(track.id()) {
         Ok(samples) => samples,
@@ -88,11 +88,11 @@ fn track_facts(track: &Track) -> String {
         track.width().to_string(),
         track.height().to_string(),
         marked(track.sample_count()),
-        marked(track.frame_rate()),
+        marked(track.frame_rate().map(|rate| rate as u64)),
         marked(track.bitrate()),
-        marked(track.audio_profile()),
-        marked(track.sample_freq_index()),
-        marked(track.channel_config()),
+        marked(track.audio_profile().map(AudioObjectType::number)),
+        marked(track.sample_freq_index().map(SampleFreqIndex::number)),
+        marked(track.channel_config().map(ChannelConfig::number)),
         marked(video.map(|video| video.profile)),
         marked(video.map(|video| video.compatibility)),
         marked(video.map(|video| video.level)),
@@ -114,7 +114,7 @@ fn answer_line<T>(
 
 /// The parameter sets of a track, and the samples that are found at the edges of its times and
 /// numbers.
-fn found_lines(movie: &Movie, track: &Track) -> String {
+fn found_lines(movie: &Movie<&[u8]>, track: &Track) -> String {
     let (id, duration) = (track.id(), track.duration_in_ticks());
     let last = track.sample_count().unwrap_or(0);
     let bytes = |bytes: Vec<u8>| digits(&bytes);
@@ -132,7 +132,7 @@ fn found_lines(movie: &Movie, track: &Track) -> String {
 
 /// The metadata of a file, an item of it a line. What isn't there is said in the words of the
 /// library.
-fn metadata_lines(movie: &Movie) -> maqelsun::Result<String> {
+fn metadata_lines(movie: &Movie<&[u8]>) -> maqelsun::Result<String> {
     let metadata = movie.metadata()?;
     let items = [
         metadata.title.map(String::into_bytes),
@@ -148,11 +148,14 @@ fn metadata_lines(movie: &Movie) -> maqelsun::Result<String> {
 }
 
 /// All that a file says, as trial.c prints it.
-fn facts_of(movie: &Movie) -> maqelsun::Result<String> {
+fn facts_of(movie: &Movie<&[u8]>) -> maqelsun::Result<String> {
     let mut lines = format!(
-        "movie {} {} {} {} {} {} {}\nbrands",
+        "movie {} {} {} {} {} {} {} {} {} {}\nbrands",
         movie.size(),
         movie.duration_in_ticks(),
+        movie.creation_time(),
+        movie.modification_time(),
+        movie.header_version(),
         movie.timescale(),
         movie.minor_version(),
         u8::from(movie.is_fragmented()),
@@ -206,9 +209,9 @@ fn track_of(line: &str) -> Outcome<TrackConfig> {
         "vp9" => MediaConfig::Vp9(size()?),
         "aac" => MediaConfig::Aac(AacConfig {
             bitrate: words[3].parse()?,
-            profile: words[4].parse()?,
-            freq_index: words[5].parse()?,
-            chan_conf: words[6].parse()?,
+            profile: words[4].parse::<u8>()?.try_into()?,
+            freq_index: words[5].parse::<u8>()?.try_into()?,
+            chan_conf: words[6].parse::<u8>()?.try_into()?,
         }),
         _ => MediaConfig::Text,
     };
@@ -268,7 +271,7 @@ fn list_large(name: &str) -> Outcome<()> {
 /// The samples of a file, by eight threads at once over one movie: they have to find the same.
 fn list_by_threads(name: &str) -> Outcome<()> {
     let file = fs::read(name)?;
-    let movie = Movie::open(&file)?;
+    let movie = Movie::open(&file[..])?;
     let lines =
         || -> String { movie.tracks().iter().map(|track| track_lines(&movie, track)).collect() };
     let found: Vec<String> = thread::scope(|scope| {

@@ -7,7 +7,7 @@ use std::{env, fs};
 fn main() -> Result<(), Box<dyn Error>> {
     let name = env::args_os().nth(1).ok_or("usage: list_samples FILE")?;
     let file = fs::read(name)?;
-    let movie = Movie::open(&file)?;
+    let movie = Movie::open(file)?;
     for track in movie.tracks() {
         println!("track {} ({})", track.id(), track.handler());
         for sample in movie.samples(track.id())? {

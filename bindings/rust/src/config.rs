@@ -1,6 +1,6 @@
 //! What movies and tracks are begun with.
 
-use crate::FourCC;
+use crate::{AudioObjectType, ChannelConfig, FourCC, SampleFreqIndex};
 
 /// What a movie is begun with.
 #[derive(Clone, Debug, PartialEq, Eq, Hash)]
@@ -76,23 +76,28 @@ pub struct PictureSize {
     pub height: u16,
 }
 
-/// AAC sound, by the numbers of ISO/IEC 14496-3.
+/// AAC sound (ISO/IEC 14496-3).
 #[derive(Clone, Copy, Debug, PartialEq, Eq, Hash)]
 pub struct AacConfig {
     /// Bits in a second.
     pub bitrate: u32,
-    /// The audio object type, 1 to 30: 2 is AAC LC.
-    pub profile: u8,
-    /// The index of the sampling frequency: 0 is 96000 Hz, 3 is 48000, 4 is 44100, .. 12 is 7350.
-    pub freq_index: u8,
-    /// The channels: 1 is mono, 2 stereo, .. 7 is 7.1.
-    pub chan_conf: u8,
+    /// The audio object type, by a number of at most 30: others aren't written.
+    pub profile: AudioObjectType,
+    /// The sampling frequency.
+    pub freq_index: SampleFreqIndex,
+    /// The channels.
+    pub chan_conf: ChannelConfig,
 }
 
 /// AAC LC, 48000 Hz, stereo.
 impl Default for AacConfig {
     fn default() -> Self {
-        AacConfig { bitrate: 0, profile: 2, freq_index: 3, chan_conf: 2 }
+        AacConfig {
+            bitrate: 0,
+            profile: AudioObjectType::AacLowComplexity,
+            freq_index: SampleFreqIndex::Freq48000,
+            chan_conf: ChannelConfig::Stereo,
+        }
     }
 }
 

@@ -3,7 +3,7 @@
 use crate::layout::Answer;
 use crate::{FourCC, Writer};
 use std::collections::TryReserveError;
-use std::fmt;
+use std::{fmt, io};
 
 /// What this crate's calls answer.
 pub type Result<T> = std::result::Result<T, Error>;
@@ -66,6 +66,8 @@ pub enum Error {
     TooLarge(Limit),
     /// A value has no encoding in its field.
     Unrepresentable,
+    /// A file couldn't be read or written. No call of the library answers it.
+    IoError(io::ErrorKind),
     /// The library answered with a code that this crate doesn't know: it is newer.
     Unknown(u32),
 }
@@ -202,6 +204,13 @@ impl From<TryReserveError> for Error {
     }
 }
 
+/// By its kind.
+impl From<io::Error> for Error {
+    fn from(error: io::Error) -> Self {
+        Error::IoError(error.kind())
+    }
+}
+
 impl fmt::Display for Limit {
     fn fmt(&self, f: &mut fmt::Formatter) -> fmt::Result {
         f.write_str(match self {
@@ -240,6 +249,7 @@ impl fmt::Display for Error {
             Error::ZeroTimescale => f.write_str("timescale is zero"),
             Error::TooLarge(limit) => write!(f, "too large: {limit}"),
             Error::Unrepresentable => f.write_str("unrepresentable"),
+            Error::IoError(kind) => write!(f, "{kind}"),
             Error::Unknown(code) => write!(f, "an answer of another version, code {code}"),
         }
     }

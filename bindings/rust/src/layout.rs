@@ -39,16 +39,19 @@ layouts! {
     }
 
     /// What a file says of its movie.
-    MovieRow: 48 {
+    MovieRow: 64 {
         size: u64 = 0,
         duration: u64 = 8,
-        track_count: u64 = 16,
-        brand_count: u64 = 24,
-        timescale: u32 = 32,
-        minor_version: u32 = 36,
-        major_brand: [u8; 4] = 40,
-        is_fragmented: u8 = 44,
-        reserved: [u8; 3] = 45,
+        creation_time: u64 = 16,
+        modification_time: u64 = 24,
+        track_count: u64 = 32,
+        brand_count: u64 = 40,
+        timescale: u32 = 48,
+        minor_version: u32 = 52,
+        major_brand: [u8; 4] = 56,
+        is_fragmented: u8 = 60,
+        header_version: u8 = 61,
+        reserved: [u8; 2] = 62,
     }
 
     /// A specification that a file follows.

@@ -16,7 +16,7 @@
 //! writer.write_text(id, "second", 500)?;
 //! let file: Vec<u8> = writer.finish()?;
 //!
-//! let movie = Movie::open(&file)?;
+//! let movie = Movie::open(file)?;
 //! for track in movie.tracks() {
 //!     for sample in movie.samples(track.id())? {
 //!         let sample = sample?;
@@ -33,15 +33,19 @@ mod ffi;
 mod four_cc;
 mod layout;
 mod movie;
+mod sample_list;
 mod samples;
+mod sound;
 mod track;
 mod writer;
 
 pub use config::{AacConfig, AvcConfig, MediaConfig, MovieConfig, PictureSize, TrackConfig};
 pub use error::{Error, FinishError, Limit, Part, Result};
 pub use four_cc::FourCC;
-pub use movie::{Metadata, Movie};
+pub use movie::{read_mp4, Metadata, Movie};
+pub use sample_list::{SampleList, SampleListIter};
 pub use samples::{Sample, Samples};
+pub use sound::{AudioObjectType, ChannelConfig, SampleFreqIndex};
 pub use track::{AvcProfile, MediaType, Track, TrackType};
 pub use writer::Writer;
 

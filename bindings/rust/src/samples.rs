@@ -76,22 +76,24 @@ const FIRST_ROWS: usize = 1024;
 /// How many times as many are asked for next.
 const GROWTH: usize = 16;
 
-/// The most rows that are asked for at once, but of a file that has so many bytes for each: 40 MB
-/// of them.
-const MOST_ROWS: usize = 1 << 20;
+/// How many are asked for at most, where the track has no more than a few million: 10 MB of them.
+const LARGE_BLOCK: usize = 1 << 18;
 
-/// How many bytes a file has for each row that is asked for at once, past [`MOST_ROWS`]: as many as
-/// a row has.
-const BYTES_A_ROW: usize = 40;
+/// The most rows that are asked for at once: 168 MB of them.
+const MOST_ROWS: usize = 1 << 22;
+
+/// Which part of a track's samples is asked for at once, where they are more than a few: so many
+/// times at most the file is opened anew.
+const PARTS: usize = 16;
 
 /// The samples of a track in order, as [`Movie::samples`](crate::Movie::samples) gives them. It
 /// ends after the last sample, and after the first that is refused.
 ///
 /// The library is asked for their places in blocks, since each call opens the file anew: for 1,024
-/// first, so that the first samples come soon, and then for more and more, up to a million or, of a
-/// larger file, as many as take the room of the file. So all samples together take a time that
-/// grows with their number and with the file's boxes, and the blocks take no more memory than 40 MB
-/// or the file.
+/// first, so that the first samples come soon, and then for more and more, up to a sixteenth of the
+/// track's, or to 262,144 of a short track. So all samples together take a time that grows with
+/// their number and with the file's boxes, and a block takes 168 MB at most.
+/// A [`SampleList`](crate::SampleList) knows its length and finds each at once.
 #[derive(Clone)]
 pub struct Samples<'a> {
     file: &'a [u8],
@@ -141,8 +143,8 @@ impl<'a> Samples<'a> {
         if filled == room && self.refusal.is_none() {
             self.next = u32::try_from(u64::from(first) + filled).ok();
         }
-        let most = MOST_ROWS.max(self.file.len() / BYTES_A_ROW);
-        self.room = self.room.saturating_mul(GROWTH).min(most);
+        let part = (self.last as usize / PARTS).clamp(LARGE_BLOCK, MOST_ROWS);
+        self.room = self.room.saturating_mul(GROWTH).min(part);
     }
 
     /// Gives nothing any more.

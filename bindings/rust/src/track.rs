@@ -2,7 +2,7 @@
 
 use crate::layout::TrackRow;
 use crate::movie::duration_of;
-use crate::{FourCC, Result};
+use crate::{AudioObjectType, ChannelConfig, FourCC, Result, SampleFreqIndex};
 use std::fmt;
 use std::time::Duration;
 
@@ -91,10 +91,6 @@ fn marked<T>(mark: u8, value: T) -> Option<T> {
     (mark != 0).then_some(value)
 }
 
-/// The hertz of the frequency indexes from 0 on.
-const FREQUENCIES: [u32; 13] =
-    [96000, 88200, 64000, 48000, 44100, 32000, 24000, 22050, 16000, 12000, 11025, 8000, 7350];
-
 impl Track {
     /// What a row of the library says.
     pub(crate) fn new(row: TrackRow) -> Self {
@@ -152,7 +148,7 @@ impl Track {
     /// How long the track lasts, as its media header says, rounded down to a nanosecond.
     /// [`ZeroTimescale`](crate::Error::ZeroTimescale) where the timescale is 0.
     pub fn duration(&self) -> Result<Duration> {
-        duration_of(self.row.duration, self.row.timescale)
+        self.time_of(self.row.duration)
     }
 
     /// The language: three letters of ISO 639-2/T.
@@ -175,9 +171,9 @@ impl Track {
         self.row.height
     }
 
-    /// Samples in a second, rounded down.
-    pub fn frame_rate(&self) -> Option<u64> {
-        marked(self.row.has_frames_per_second, self.row.frames_per_second)
+    /// Samples in a second, rounded down to a whole number.
+    pub fn frame_rate(&self) -> Option<f64> {
+        marked(self.row.has_frames_per_second, self.row.frames_per_second as f64)
     }
 
     /// Bits in a second: the average that the sample entry says, or that of the samples.
@@ -195,23 +191,30 @@ impl Track {
         marked(self.row.has_video_profile, profile)
     }
 
-    /// Of AAC sound, its audio object type (ISO/IEC 14496-3): 2 is AAC LC.
-    pub fn audio_profile(&self) -> Option<u8> {
-        marked(self.row.has_audio_profile, self.row.audio_profile)
+    /// Of AAC sound, its audio object type, which says how it is coded.
+    pub fn audio_profile(&self) -> Option<AudioObjectType> {
+        marked(self.row.has_audio_profile, self.row.audio_profile)?.try_into().ok()
     }
 
-    /// Of AAC sound, the index of its sampling frequency: 0 to 12.
-    pub fn sample_freq_index(&self) -> Option<u8> {
-        marked(self.row.has_frequency_index, self.row.frequency_index)
+    /// Of AAC sound, its sampling frequency.
+    pub fn sample_freq_index(&self) -> Option<SampleFreqIndex> {
+        marked(self.row.has_frequency_index, self.row.frequency_index)?.try_into().ok()
     }
 
     /// Of AAC sound, its sampling frequency in hertz.
     pub fn sampling_frequency(&self) -> Option<u32> {
-        FREQUENCIES.get(usize::from(self.sample_freq_index()?)).copied()
+        self.sample_freq_index().map(SampleFreqIndex::freq)
     }
 
-    /// Of AAC sound, its channels: 1 is mono, 2 stereo, .. 7 is 7.1.
-    pub fn channel_config(&self) -> Option<u8> {
-        marked(self.row.has_channels, self.row.channels)
+    /// Of AAC sound, its channels.
+    pub fn channel_config(&self) -> Option<ChannelConfig> {
+        marked(self.row.has_channels, self.row.channels)?.try_into().ok()
+    }
+
+    /// How long so many ticks of the track last, rounded down to a nanosecond: of a sample's
+    /// `start_time`, its time from the beginning.
+    /// [`ZeroTimescale`](crate::Error::ZeroTimescale) where the timescale is 0.
+    pub fn time_of(&self, ticks: u64) -> Result<Duration> {
+        duration_of(ticks, self.row.timescale)
     }
 }

@@ -9,10 +9,12 @@ use crate::samples::Sample;
 use crate::{Error, Limit, Result};
 use std::cell::Cell;
 use std::fmt;
+use std::io::Write;
 
 /// Collects the tracks and the samples of a movie, and writes it.
 ///
 /// All bytes are in memory: those of the samples, and in [`Writer::finish`] those of the movie.
+/// [`Writer::finish_to`] writes them to a file or another [`Write`].
 ///
 /// ```
 /// # fn main() -> Result<(), maqelsun::Error> {
@@ -97,9 +99,9 @@ fn row_of(config: &TrackConfig, data: &mut Vec<u8>) -> Result<NewTrackRow> {
         }
         MediaConfig::Aac(aac) => {
             row.bits_per_second = aac.bitrate;
-            row.audio_profile = aac.profile;
-            row.frequency_index = aac.freq_index;
-            row.channels = aac.chan_conf;
+            row.audio_profile = aac.profile.number();
+            row.frequency_index = aac.freq_index.number();
+            row.channels = aac.chan_conf.number();
         }
         MediaConfig::Hevc(_) | MediaConfig::Vp9(_) | MediaConfig::Text => {}
     }
@@ -126,9 +128,8 @@ impl Writer {
     /// Adds a track without samples, and answers its id: the first has 1, and each next one the id
     /// after it.
     ///
-    /// [`Error::ZeroTimescale`], [`Error::Unrepresentable`] for a language or a parameter set that
-    /// has no encoding, and [`Error::InvalidData`] for numbers of AAC sound that mean nothing.
-    /// After a refusal the track isn't added.
+    /// [`Error::ZeroTimescale`], and [`Error::Unrepresentable`] for a language, a parameter set or a
+    /// type of sound that has no encoding. After a refusal the track isn't added.
     pub fn add_track(&mut self, config: &TrackConfig) -> Result<u32> {
         let id = u32::try_from(self.tracks.len() + 1);
         let id = id.map_err(|_| Error::TooLarge(Limit::TrackCount))?;
@@ -194,6 +195,11 @@ impl Writer {
     /// and [`Limit::BoxSize`]. The refusal names the track or the sample, and gives the writer
     /// back.
     pub fn finish(self) -> std::result::Result<Vec<u8>, FinishError> {
+        self.bytes().map_err(|(error, part)| FinishError::new(error, part, self))
+    }
+
+    /// The bytes of the movie, or why there are none, and of which part.
+    fn bytes(&self) -> std::result::Result<Vec<u8>, (Error, Part)> {
         let parts = Parts {
             movie: &self.movie,
             brands: &self.brands,
@@ -207,7 +213,21 @@ impl Writer {
             part.set(Part::of(&answer));
             answer
         });
-        written.map_err(|error| FinishError::new(error, part.get(), self))
+        written.map_err(|error| (error, part.get()))
+    }
+
+    /// Writes the bytes of the movie to a file, or to another [`Write`], of which they are the
+    /// next bytes.
+    ///
+    /// Refused as [`Writer::finish`] is, and by [`Error::IoError`] where they can't be written; then
+    /// some of them may be.
+    pub fn finish_to(self, out: &mut impl Write) -> std::result::Result<(), FinishError> {
+        let file = self.bytes();
+        let written = file.and_then(|file| {
+            let written = out.write_all(&file).and_then(|()| out.flush());
+            written.map_err(|error| (error.into(), Part::End))
+        });
+        written.map_err(|(error, part)| FinishError::new(error, part, self))
     }
 
     /// So much room that most movies fit.

@@ -1,11 +1,14 @@
 //! Movies that are written and read.
 
 use maqelsun::{
-    AacConfig, AvcConfig, Error, FourCC, Limit, MediaConfig, MediaType, Metadata, Movie,
-    MovieConfig, Part, PictureSize, Sample, TrackConfig, TrackType, Writer,
+    read_mp4, AacConfig, AudioObjectType, AvcConfig, ChannelConfig, Error, FourCC, Limit,
+    MediaConfig, MediaType, Metadata, Movie, MovieConfig, Part, PictureSize, Sample, TrackConfig,
+    TrackType, Writer,
 };
-use std::thread;
+use std::io::ErrorKind;
+use std::sync::Arc;
 use std::time::Duration;
+use std::{fs, io, thread};
 
 /// A movie of one text track with this many samples; each has the digits of its number.
 fn numbers(count: u32) -> Vec<u8> {
@@ -78,7 +81,9 @@ fn each_kind_of_track_is_read_as_it_was_written() {
     assert_eq!(kinds, [H264, H265, VP9, AAC, TTXT]);
     assert_eq!(movie.track(4).unwrap().track_type(), Some(TrackType::Audio));
     assert_eq!(movie.track(4).unwrap().sampling_frequency(), Some(48000));
-    assert_eq!(movie.track(4).unwrap().channel_config(), Some(2));
+    assert_eq!(movie.track(4).unwrap().channel_config(), Some(ChannelConfig::Stereo));
+    let profile = movie.track(4).unwrap().audio_profile();
+    assert_eq!(profile, Some(AudioObjectType::AacLowComplexity));
     assert_eq!(movie.track(4).unwrap().bitrate(), Some(128_000));
     assert_eq!(movie.track(1).unwrap().width(), 1920);
     assert_eq!(movie.track(1).unwrap().video_profile().unwrap().profile, 0x64);
@@ -228,8 +233,9 @@ fn a_refused_track_is_not_added() {
         let config = TrackConfig { language: language.to_owned(), ..TrackConfig::text() };
         assert_eq!(writer.add_track(&config), Err(Error::Unrepresentable), "{language}");
     }
-    let silent = TrackConfig::from(AacConfig { freq_index: 13, ..AacConfig::default() });
-    assert_eq!(writer.add_track(&silent), Err(Error::InvalidData));
+    let profile = AudioObjectType::Layer3; // past the numbers that are written in five bits
+    let compressed = TrackConfig::from(AacConfig { profile, ..AacConfig::default() });
+    assert_eq!(writer.add_track(&compressed), Err(Error::Unrepresentable));
     let short = TrackConfig::from(AvcConfig::default());
     assert_eq!(writer.add_track(&short), Err(Error::Unrepresentable));
     let german = TrackConfig { language: "deu".to_owned(), ..TrackConfig::text() };
@@ -330,4 +336,112 @@ fn threads_share_a_movie() {
             scope.spawn(|| assert_eq!(movie.samples(1).unwrap().flatten().count(), 3000));
         }
     });
+}
+
+#[test]
+fn a_movie_may_own_its_bytes() {
+    fn opened() -> Movie {
+        Movie::open(numbers(3)).unwrap()
+    }
+    let movie = opened();
+    assert_eq!(movie.samples(1).unwrap().count(), 3);
+    assert_eq!(movie.into_file(), numbers(3));
+    let shared: Arc<[u8]> = numbers(3).into();
+    let movies = [Movie::open(shared.clone()).unwrap(), Movie::open(shared).unwrap()];
+    assert!(movies.iter().all(|movie| movie.read_sample(1, 3).unwrap().unwrap().bytes == b"3"));
+    let movie = read_mp4(&numbers(2)[..]).unwrap();
+    assert_eq!(movie.sample_count(1), Ok(2));
+    let absent = read_mp4(Absent).err();
+    assert_eq!(absent, Some(Error::IoError(ErrorKind::NotFound)));
+}
+
+/// A file that can't be read and can't be written.
+struct Absent;
+
+impl io::Read for Absent {
+    fn read(&mut self, _: &mut [u8]) -> io::Result<usize> {
+        Err(ErrorKind::NotFound.into())
+    }
+}
+
+impl io::Write for Absent {
+    fn write(&mut self, _: &[u8]) -> io::Result<usize> {
+        Err(ErrorKind::NotFound.into())
+    }
+
+    fn flush(&mut self) -> io::Result<()> {
+        Ok(())
+    }
+}
+
+#[test]
+fn a_movie_is_written_to_any_sink() {
+    let writer = || {
+        let mut writer = Writer::new(&MovieConfig::default());
+        let id = writer.add_track(&TrackConfig::text()).unwrap();
+        writer.write_text(id, "text", 1000).unwrap();
+        writer
+    };
+    let mut bytes = b"before".to_vec();
+    writer().finish_to(&mut bytes).unwrap();
+    let file = writer().finish().unwrap();
+    assert_eq!(bytes[6..], file);
+    let refused = writer().finish_to(&mut Absent).unwrap_err();
+    assert_eq!((refused.error, refused.part), (Error::IoError(ErrorKind::NotFound), Part::End));
+    assert_eq!(refused.into_writer().finish().unwrap(), file);
+    assert_eq!(
+        fs::read("/none/such").map_err(Error::from),
+        Err(Error::IoError(ErrorKind::NotFound))
+    );
+}
+
+#[test]
+fn a_list_finds_each_sample_at_once() {
+    let file = numbers(20_000);
+    let movie = Movie::open(&file).unwrap();
+    let list = movie.sample_list(1).unwrap();
+    assert_eq!((list.len(), list.iter().len(), list.refusal()), (20_000, 20_000, None));
+    assert_eq!(list.get(19_999).unwrap().unwrap().bytes, b"20000");
+    assert!(list.get(20_000).is_none() && !list.is_empty());
+    assert_eq!(list.iter().nth(4_999).unwrap().unwrap().bytes, b"5000");
+    assert_eq!(list.iter().next_back().unwrap().unwrap().bytes, b"20000");
+    assert!(list.into_iter().eq(movie.samples(1).unwrap()));
+    assert_eq!(format!("{list:?}"), "SampleList { len: 20000, .. }");
+}
+
+#[test]
+fn a_list_ends_before_a_refused_sample() {
+    let mut file = numbers(12);
+    let table = file.windows(4).rposition(|kind| kind == b"stsc").unwrap();
+    file[table + 19] = 0; // the samples of each chunk
+    let movie = Movie::open(&file).unwrap();
+    let list = movie.sample_list(1).unwrap();
+    assert_eq!((list.len(), list.refusal()), (0, Some(Error::InvalidData)));
+    assert_eq!(movie.read_sample(1, 1), Err(Error::InvalidData));
+    assert_eq!(movie.sample_at(1, 0), Ok(Some(1)));
+    assert_eq!(movie.sync_sample_at_or_before(1, 5), Ok(Some(5)));
+}
+
+#[test]
+fn a_list_ends_where_the_samples_do() {
+    let mut file = numbers(12);
+    let table = file.windows(4).rposition(|kind| kind == b"stsc").unwrap();
+    file[table + 19] = 5; // the samples of each chunk, of which there is one
+    let movie = Movie::open(&file).unwrap();
+    let list = movie.sample_list(1).unwrap();
+    assert_eq!((list.len(), list.refusal()), (5, None));
+    assert_eq!(movie.read_sample(1, 6), Ok(None));
+    assert_eq!(movie.sync_sample_at_or_before(1, 9), Ok(Some(9)));
+}
+
+#[test]
+fn the_header_says_when_a_movie_was_made() {
+    let mut file = numbers(1);
+    let header = file.windows(4).position(|kind| kind == b"mvhd").unwrap() + 4;
+    file[header + 4..header + 8].copy_from_slice(&3_000_000_000u32.to_be_bytes());
+    file[header + 8..header + 12].copy_from_slice(&7u32.to_be_bytes());
+    let movie = Movie::open(file).unwrap();
+    assert_eq!((movie.creation_time(), movie.modification_time()), (3_000_000_000, 7));
+    assert_eq!(movie.header_version(), 0);
+    assert_eq!(movie.track(1).unwrap().time_of(1500), Ok(Duration::from_millis(1500)));
 }

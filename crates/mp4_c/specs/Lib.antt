@@ -5,6 +5,7 @@ pub mod Movie
 pub mod Tracks
 pub mod TrackRows
 pub mod Samples
+pub mod Rows
 pub mod ByTime
 pub mod ParameterSets
 pub mod Metadata

@@ -15,13 +15,16 @@ abbrev pub info_of : Mp4Reader → MovieInfo
 info_of m = record {
   size = m.movie.size;
   duration = m.movie.moov.mvhd.duration;
+  creation_time = m.movie.moov.mvhd.creation_time;
+  modification_time = m.movie.moov.mvhd.modification_time;
   track_count = hash_map_len m.movie.tracks;
   brand_count = length m.movie.ftyp.compatible_brands;
   timescale = m.movie.moov.mvhd.timescale;
   minor_version = m.movie.ftyp.minor_version;
   major_brand = m.movie.ftyp.major_brand.value;
   is_fragmented = if nat_lt 0 (length m.movie.moofs) then 1 else 0;
-  reserved = replicate 3 0;
+  header_version = m.movie.moov.mvhd.version;
+  reserved = replicate 2 0;
 }
 
 -- a call has filled in what an opened file says of its movie

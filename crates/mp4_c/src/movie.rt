@@ -20,6 +20,10 @@ pub struct MovieInfo {
     pub size: u64,
     /// In ticks of the movie: the duration of its header.
     pub duration: u64,
+    /// Seconds since the beginning of 1904, UTC, as its header says.
+    pub creation_time: u64,
+    /// Likewise, when it was last changed.
+    pub modification_time: u64,
     /// How many tracks there are.
     pub track_count: u64,
     /// How many compatible brands there are.
@@ -32,12 +36,14 @@ pub struct MovieInfo {
     pub major_brand: [u8; 4],
     /// 1 where the file has movie fragments, else 0.
     pub is_fragmented: u8,
+    /// The version of the movie header.
+    pub header_version: u8,
     /// Zeros.
-    pub reserved: [u8; 3],
+    pub reserved: [u8; 2],
 }
 
 /// The size that the header says.
-const _: () = prove!(size_of::<MovieInfo>() == 48);
+const _: () = prove!(size_of::<MovieInfo>() == 64);
 
 /// What an opened file says of its movie.
 fn movie_info(movie: &Mp4Reader) -> MovieInfo
@@ -46,13 +52,16 @@ fn movie_info(movie: &Mp4Reader) -> MovieInfo
     MovieInfo {
         size: movie.size(),
         duration: movie.moov.mvhd.duration,
+        creation_time: movie.moov.mvhd.creation_time,
+        modification_time: movie.moov.mvhd.modification_time,
         track_count: movie.tracks().len() as u64,
         brand_count: movie.compatible_brands().len() as u64,
         timescale: movie.timescale(),
         minor_version: movie.minor_version(),
         major_brand: movie.major_brand().value,
         is_fragmented: u8::from(movie.is_fragmented()),
-        reserved: [0; 3],
+        header_version: movie.moov.mvhd.version,
+        reserved: [0; 2],
     }
 }
 
