@@ -734,10 +734,12 @@ class Movie:
     def _samples_in(self, rows: memoryview, filled: int, first: int) -> Iterable[Sample]:
         """The first ``filled`` samples of a block that begins with number ``first``."""
         rows = rows[: filled * _SAMPLE_ROW.size]
-        unpacked = map(operator.concat, zip(itertools.count(first)), _SAMPLE_ROW.iter_unpack(rows))
-        samples = map(tuple.__new__, itertools.repeat(Sample), unpacked)
-        places, sizes = rows.cast("Q")[::5], rows.cast("I")[5::10]
-        # Where this holds, none is looked at by itself.
+        places, starts = (rows.cast("Q")[field::5] for field in range(2))
+        tracks, sizes, durations = (rows.cast("I")[field::10] for field in range(4, 7))
+        offsets, marks = rows.cast("i")[7::10], map(bool, rows[32::40])
+        # Columns, and no look at a sample by itself where this holds: half of the time.
+        fields = zip(itertools.count(first), places, starts, tracks, sizes, durations, offsets, marks)
+        samples = map(tuple.__new__, itertools.repeat(Sample), fields)
         if max(places, default=0) + max(sizes, default=0) <= self._bytes.size:
             return samples
         return map(self._whole, samples)

@@ -16,7 +16,6 @@ def samples():
         yield maqelsun.NewSample(1, bytes(size), 512, offset, number % 250 == 0)
 
 
-sets = {"sequence_set": bytes.fromhex("6764001facd9405005bb"), "picture_set": bytes.fromhex("68ebe3cb22c0")}
-film = maqelsun.write([maqelsun.NewTrack("avc1", 12800, width=640, height=360, **sets)], samples())
+film = maqelsun.write([maqelsun.NewTrack("vp09", 12800, width=640, height=360)], samples())
 with open(sys.argv[1], "wb") as out:
     out.write(film)

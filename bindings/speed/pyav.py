@@ -6,7 +6,9 @@ import sys
 import time
 
 import av
+import av.logging
 
+av.logging.set_level(av.logging.PANIC)
 film, SAMPLES = sys.argv[1], 1_000_000
 
 
