@@ -1,7 +1,7 @@
 """Makes the page of a program, or the completion of its words, of what the program says of itself.
 
-manual.py man VERSION PROGRAM            the page, for man
-manual.py completion VERSION PROGRAM     the words that bash completes
+manual.py man VERSION PROGRAM DOCUMENT    the page, for man; of a program without --help, its document
+manual.py completion VERSION PROGRAM      the words that bash completes
 """
 
 import os
@@ -11,13 +11,20 @@ import sys
 
 
 def said(program, *words):
-    """What the program says of its words."""
-    ran = subprocess.run([program, *words], check=True, capture_output=True, text=True)
-    return ran.stdout
+    """What the program says of its words; nothing where it has no --help."""
+    ran = subprocess.run([program, *words, "--help"], capture_output=True, text=True)
+    return ran.stdout if ran.returncode == 0 else ""
+
+
+def usage_of(program):
+    """How a program without --help is called."""
+    return subprocess.run([program], capture_output=True, text=True).stderr.strip()
 
 
 def commands_of(text):
-    """The names of the commands that a help lists."""
+    """The names of the commands that a help or a usage lists."""
+    if text.startswith("usage:"):
+        return re.findall(r"(?:^usage: \w+|\|) (\w+)", text)
     listed = re.search(r"^Commands:\n((?:  .*\n|\n)+)", text, re.MULTILINE)
     names = re.findall(r"^  (\w[\w-]*)", listed[1], re.MULTILINE) if listed else []
     return [name for name in names if name != "help"]
@@ -29,14 +36,23 @@ def escaped(line):
     return "\\&" + line if line.startswith((".", "'")) else line
 
 
-def page(program, version):
+def shown(lines):
+    """Lines of text as they are."""
+    return [".nf", *map(escaped, lines), ".fi"]
+
+
+def page(program, version, document):
     name = os.path.basename(program)
-    help_text = said(program, "--help")
-    first, *rest = help_text.splitlines()
-    lines = [f'.TH {name.upper()} 1 "" "maqelsun {version}"', ".SH NAME", f"{name} \\- {escaped(first)}"]
-    lines += [".SH DESCRIPTION", ".nf", *map(escaped, rest), ".fi"]
+    help_text = said(program)
+    with open(document, encoding="utf-8") as source:
+        first, *rest = help_text.splitlines() or source.read().lstrip("# ").splitlines()
+    does = first.removeprefix(f"{name}: ")
+    lines = [f'.TH {name.upper()} 1 "" "maqelsun {version}"', ".SH NAME", f"{name} \\- {escaped(does)}"]
+    if not help_text:
+        lines += [".SH SYNOPSIS", *shown([usage_of(program).removeprefix("usage: ")])]
+    lines += [".SH DESCRIPTION", *shown(rest)]
     for command in commands_of(help_text):
-        lines += [f".SH {command.upper()}", ".nf", *map(escaped, said(program, command, "--help").splitlines()), ".fi"]
+        lines += [f".SH {command.upper()}", *shown(said(program, command).splitlines())]
     return "\n".join(lines) + "\n"
 
 
@@ -46,17 +62,15 @@ def options_of(text):
 
 def completion(program):
     name = os.path.basename(program)
-    help_text = said(program, "--help")
+    help_text = said(program) or usage_of(program)
     commands = commands_of(help_text)
-    cases = [
-        f"    {command}) words='{' '.join(options_of(said(program, command, '--help')))}' ;;" for command in commands
-    ]
+    cases = [f"    {command}) words='{' '.join(options_of(said(program, command)))}' ;;" for command in commands]
     words = " ".join([*commands, *options_of(help_text)])
     return "\n".join([
         f"# The words of {name}, for bash.",
         f"_{name}() {{",
         "  local words current=${COMP_WORDS[COMP_CWORD]}",
-        f"  if [ \"$COMP_CWORD\" = 1 ]; then",
+        '  if [ "$COMP_CWORD" = 1 ]; then',
         f"    COMPREPLY=($(compgen -W '{words}' -- \"$current\"))",
         "    return",
         "  fi",
@@ -71,8 +85,8 @@ def completion(program):
 
 
 def main():
-    kind, version, program = sys.argv[1:]
-    print(page(program, version) if kind == "man" else completion(program), end="")
+    kind, version, program, *document = sys.argv[1:]
+    print(page(program, version, *document) if kind == "man" else completion(program), end="")
 
 
 main()

@@ -541,7 +541,10 @@ class Samples(Sequence[Sample]):
         self._last: int = track.sample_count
 
     def __len__(self) -> int:
-        """How many there are, as the file says."""
+        """How many there are, as the file says. A TypeError where that is more than it has bytes,
+        so that nobody makes room for them; they can be gone through all the same."""
+        if self._last > self._movie._bytes.size:
+            raise TypeError(f"the file says that track {self._track.id} has {self._last} samples")
         return max(self._last - self._first + 1, 0)
 
     def __iter__(self) -> Iterator[Sample]:
@@ -584,7 +587,7 @@ class Samples(Sequence[Sample]):
         return found
 
     def __repr__(self) -> str:
-        return f"<{len(self)} samples of track {self._track.id}>"
+        return f"<samples {self._first} to {self._last} of track {self._track.id}>"
 
 
 class Movie:

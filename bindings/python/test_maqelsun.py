@@ -120,7 +120,7 @@ class Reading(unittest.TestCase):
     def test_samples_are_a_sequence(self):
         movie = Movie(numbers(2000))
         samples = movie.samples(1)
-        self.assertEqual((len(samples), repr(samples)), (2000, "<2000 samples of track 1>"))
+        self.assertEqual((len(samples), repr(samples)), (2000, "<samples 1 to 2000 of track 1>"))
         self.assertEqual(movie.read(samples[0]), b"1")
         self.assertEqual(samples[-1], movie.sample(1, 2000))
         self.assertEqual([sample.number for sample in samples[5:12:3]], [6, 9, 12])
@@ -159,6 +159,16 @@ class Reading(unittest.TestCase):
         self.assertEqual((len(list(movie.samples(1))), len(movie.table(1))), (5, 5))
         self.assertEqual((movie.sample(1, 5).number, movie.sample(1, 6)), (5, None))
         self.assertEqual(movie.sync_sample_at_or_before(1, 9), 9)
+
+    def test_a_track_of_more_samples_than_bytes_has_no_length(self):
+        file = bytearray(write([NewTrack("tx3g")], [NewSample(1, b"same", 1)] * 3))
+        count = file.rindex(b"stsz") + 12
+        file[count : count + 4] = struct.pack(">I", 2**32 - 1)
+        samples = Movie(file).samples(1)
+        self.assertEqual(samples[0].size, 4)
+        with self.assertRaises(TypeError):
+            len(samples)
+        self.assertLessEqual(len(list(samples)), 3)
 
     def test_ticks_are_seconds(self):
         movie = Movie(numbers(6, timescale=600))

@@ -245,7 +245,8 @@ static void compare_rows(file from, const mp4_track *track) {
 
 /* The samples that are found at the edges of a track's times and numbers, and beside them. */
 static void print_found(file from, const mp4_track *track) {
-    uint64_t times[] = {0, 1, track->duration ? track->duration - 1 : 0, track->duration, UINT64_MAX};
+    uint64_t times[] = {0, 1, 2, 3, 5, 10, 20, 50, 100, 200, 500, 1000, 2000, 5000, 10000, 20000, 50000, 100000,
+                        track->duration ? track->duration - 1 : 0, track->duration, UINT64_MAX};
     uint32_t last = track->has_sample_count ? track->sample_count : 0;
     uint32_t numbers[] = {0, 1, 2, last, last + 1, UINT32_MAX};
     uint32_t number;

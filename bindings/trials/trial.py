@@ -85,7 +85,8 @@ def track_lines(movie, track):
     yield " ".join(["track", *map(str, words)])
     yield f"set 1 {answered(movie.sequence_parameter_set, digits, track.id)}"
     yield f"set 2 {answered(movie.picture_parameter_set, digits, track.id)}"
-    for time_in_ticks in [0, 1, max(track.duration - 1, 0), track.duration, 2**64 - 1]:
+    few = [0, 1, 2, 3, 5, 10, 20, 50, 100, 200, 500, 1000, 2000, 5000, 10000, 20000, 50000, 100000]
+    for time_in_ticks in [*few, max(track.duration - 1, 0), track.duration, 2**64 - 1]:
         yield f"at {time_in_ticks} {answered(movie.sample_at, marked, track.id, time_in_ticks)}"
     last = track.sample_count or 0
     for number in [0, 1, 2, last, (last + 1) % 2**32, 2**32 - 1]:

@@ -120,7 +120,10 @@ fn found_lines(movie: &Movie<&[u8]>, track: &Track) -> String {
     let bytes = |bytes: Vec<u8>| digits(&bytes);
     let mut lines = answer_line("set", 1, movie.sequence_parameter_set(id), bytes);
     lines += &answer_line("set", 2, movie.picture_parameter_set(id), bytes);
-    for time in [0, 1, duration.saturating_sub(1), duration, u64::MAX] {
+    let few = [
+        0, 1, 2, 3, 5, 10, 20, 50, 100, 200, 500, 1000, 2000, 5000, 10000, 20000, 50000, 100_000,
+    ];
+    for time in few.into_iter().chain([duration.saturating_sub(1), duration, u64::MAX]) {
         lines += &answer_line("at", time, movie.sample_at(id, time), marked);
     }
     for number in [0, 1, 2, last, last.wrapping_add(1), u32::MAX] {
