@@ -11,12 +11,12 @@ use Rattle.std.proofs.lemmas.List.Sums.{sum_by-cons, sum_by_more}
 use Rattle.std.proofs.lemmas.Option.{same_Some, slice_get-get_or, slice_get_past}
 use Rattle.std.proofs.lemmas.Int.Digits.{length-digits_of-le}
 use Rattle.mp4_search.specs.Digits.{digits}
-use Rattle.mp4_search.specs.Partition.{ArePartedAt, IsLastWith, IsParted}
+use Rattle.mp4_search.specs.Partition.{ArePartedAt, IsLastWith, IsParted, asked_in}
 use Rattle.mp4_search.proofs.SumLaws.{sums_rise}
 use Rattle.mp4_fragments.specs.Numbers.{plus, sum_of_first}
 use Rattle.mp4_fragments.specs.RunSamples.{PlacedRun, all_run_samples, at_run_sample, run_sample_of, run_count}
 use Rattle.mp4_fragments.specs.ByTime.{AreEarliest, AreKept, begin_of, decoded_by}
-use Rattle.mp4_fragments.specs.ByTime.{earlier, first_decoded, run_sample_by, run_sample_time}
+use Rattle.mp4_fragments.specs.ByTime.{earlier, first_decoded, in_run_by, run_sample_by, run_sample_time, runs_by}
 use Rattle.mp4_frag.specs.declared.trun.TrunBox.{TrunBox}
 use Rattle.mp4_fragments.specs.Index.{Find, Indexes, placed_at}
 use Rattle.mp4_fragments.specs.declared.defaults.SampleDefaults.{SampleDefaults}
@@ -395,10 +395,6 @@ pub digits_32 : (n : ℕ) → n < 2 ^ 32 → digits n ≤ 32
 unfolding digits
 digits_32 n h = length-digits_of-le 2 32 n (omega arith) h
 
--- whether the earliest of run i and of those after it begins at or before a time
-abbrev runs_by : List ℕ → ℕ → ℕ → Bool
-runs_by times time i = nat_le (slice_index times (length times - 1 - i)) time
-
 pub runs_parted : (begins : ℕ → Option ℕ) (times : List ℕ) (time : ℕ) → AreEarliest begins 0 times
     → IsParted (runs_by times time) (length times)
 runs_parted begins times time s = record {
@@ -606,3 +602,35 @@ answer_early find es (d ∷ runs) index end time c i before run_samples entry ti
     let mine = parted (get_or all i d) (placed_by find es all index i entry d s e1 is found.0) in
     last_early all end time c before run_samples d times earliest at some small
     (rw (← e) (counted ∙ found.3)) (rw (← e) mine)
+
+-- two counts of those that have something are the same
+pub parted_once : (has : ℕ → Bool) (n a b : ℕ) → ArePartedAt has n a → ArePartedAt has n b → a ≡ b
+parted_once has n a b s t =
+    ⊎_elim
+    (λ (less : a < b).
+    absurd (true≢false (sym (t.first a less) ∙ s.others a (omega arith) (omega (arith, less, t.within)))))
+    (λ (most : b ≤ a). ⊎_elim
+    (λ (more : b < a).
+    absurd (true≢false (sym (s.first b more) ∙ t.others b (omega arith) (omega (arith, more, s.within)))))
+    (λ (least : a ≤ b). omega (arith, most, least))
+    (cases_lt b a))
+    (cases_lt a b)
+
+-- what is counted in the run that was found is counted in the last run that begins so early
+pub counted_early : (find : Find) (es : List RunEntry) (runs : List PlacedRun) (index : RunIndex)
+    (end time c i before old new : ℕ) (entry : RunEntry) (times : List ℕ) → Indexes find runs index
+    → es ≡ index.entries → entry ≡ get_or es i entry → AreEarliest (begin_of runs end) 0 times
+    → ArePartedAt (runs_by times time) (length times) c → 1 ≤ c → i ≡ c - 1 → end < 2 ^ 32
+    → before ≡ slice_index index.counts i
+    → ((p : PlacedRun) → placed_at find entry ≡ Some p
+    → new ≡ old + asked_in (in_run_by p time) (min (end - before) (run_count p)))
+    → (r : ℕ) (p : PlacedRun) → ArePartedAt (runs_by times time) (length times) (r + 1) → slice_get runs r ≡ Some p
+    → new ≡ old + asked_in (in_run_by p time) (min (end - sum_by run_count (take r runs)) (run_count p))
+counted_early find es runs index end time c i before old new entry times s e1 is earliest at some e limit counted_before
+    counted r p last there =
+    let found = run_found find runs index end time c i times s earliest at some e limit in
+    let one = parted_once (runs_by times time) (length times) (r + 1) c last at in
+    let here : i ≡ r = omega (arith, one, e) in
+    let own : get_or runs i p ≡ p = same_Some _ _ (sym (slice_get-get_or runs i p found.0) ∙ rw here there) in
+    let known : before ≡ sum_by run_count (take r runs) = rw (← here) (counted_before ∙ found.3) in
+    rw (← known) (counted p (rw own at (placed_by find es runs index i entry p s e1 is found.0)))

@@ -3,7 +3,9 @@ use Rattle.std.specs.Prelude.{◌≡◌, ℕ, ◌+◌, ◌-◌, ◌<◌, ◌≤�
 use Rattle.std.specs.Prelude.{slice_get, slice_index, Option, Some, None, MatchOption, if◌then◌else◌}
 use Rattle.std.specs.List.{sum_by}
 use Rattle.std.specs.Option.{option_and_then}
-use Rattle.mp4_fragments.specs.RunSamples.{PlacedRun, all_run_samples, run_count}
+use Rattle.mp4_search.specs.Digits.{digits}
+use Rattle.mp4_search.specs.Partition.{ArePartedAt, asked_in}
+use Rattle.mp4_fragments.specs.RunSamples.{PlacedRun, all_run_samples, at_run_sample, run_count}
 
 -- whether something is decoded at or before a time; what has no time is not
 abbrev pub decoded_by : ℕ → Option ℕ → Bool
@@ -37,6 +39,24 @@ pub record AreEarliest (begins : ℕ → Option ℕ) (from : ℕ) (times : List 
   pub own : (q : ℕ) → q < length times → ((0 < q) × (slice_index times q ≡ slice_index times (q - 1)) → ⊥)
       → begins (from + length times - 1 - q) ≡ Some (slice_index times q)
   pub fall : (p q : ℕ) → p ≤ q → q < length times → slice_index times q ≤ slice_index times p
+
+-- the earliest of run i and of those after it begins at or before a time, by the times that are kept of runs
+abbrev pub runs_by : List ℕ → ℕ → ℕ → Bool
+runs_by times time i = nat_le (slice_index times (length times - 1 - i)) time
+
+-- sample j of a run is decoded at or before a time
+abbrev pub in_run_by : PlacedRun → ℕ → ℕ → Bool
+in_run_by p time j = decoded_by time (at_run_sample p.run p.defaults p.at j).time
+
+-- So many times are compared for the last sample that is decoded at or before a time, of those whose numbers are below an
+-- end: those of a search by halves among the times that are kept of runs; and where a run begins so early, those of one
+-- among the samples of the last such run, and one reading more, of how many samples come before it.
+pub record IsCountByTime (runs : List PlacedRun) (times : List ℕ) (end time n : ℕ) : Type 0 where
+  pub none : ArePartedAt (runs_by times time) (length times) 0 → n ≡ asked_in (runs_by times time) (length times)
+  pub some : (r : ℕ) (p : PlacedRun) → ArePartedAt (runs_by times time) (length times) (r + 1)
+      → slice_get runs r ≡ Some p → n ≡ asked_in (runs_by times time) (length times) + 1
+      + asked_in (in_run_by p time) (min (end - sum_by run_count (take r runs)) (run_count p))
+  pub few : n ≤ digits (length runs) + 33
 
 -- the earlier of two times, of which either may be unknown
 abbrev pub earlier : Option ℕ → Option ℕ → Option ℕ

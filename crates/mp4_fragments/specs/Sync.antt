@@ -1,5 +1,5 @@
 -- Which samples of a track's runs are sync samples (ISO/IEC 14496-12, 8.6.2 and 8.8.3.1).
-use Rattle.std.specs.Prelude.{◌≡◌, ℕ, ◌<◌, ◌≤◌, ◌⊎◌, Bool, true, false, List, length, slice_get, slice_index}
+use Rattle.std.specs.Prelude.{◌≡◌, ℕ, ◌<◌, ◌≤◌, ◌⊎◌, Bool, true, false, List, length, nat_le, slice_get, slice_index}
 use Rattle.std.specs.Prelude.{Option, Some, None, IfSome}
 use Rattle.std.specs.Option.{unwrap_or}
 use Rattle.mp4_fragments.specs.RunSamples.{PlacedRun, all_run_samples}
@@ -26,6 +26,10 @@ pub record AreSpans (has : ℕ → Bool) (end : ℕ) (firsts lasts : List ℕ) :
   pub firsts_rise : (i j : ℕ) → i ≤ j → j < length firsts → slice_index firsts i ≤ slice_index firsts j
   pub lasts_rise : (i j : ℕ) → i ≤ j → j < length firsts → slice_index lasts i ≤ slice_index lasts j
   pub before : (i : ℕ) → i < length firsts → slice_index lasts i < end
+
+-- span i of these begins at or before a number
+abbrev pub spans_by : List ℕ → ℕ → ℕ → Bool
+spans_by firsts number i = nat_le (slice_index firsts i) number
 
 -- the spans of the samples that came so far, of which the last may still be open
 pub record AreBuilt (has : ℕ → Bool) (b : SpanBuilder) : Type 0 where

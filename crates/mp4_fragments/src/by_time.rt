@@ -1,13 +1,13 @@
 //! A sample of a track's fragments by the time at which it is decoded.
 
 ghost use Rattle.std.proofs.Props.{props};
-ghost use Rattle.std.specs.Prelude.{◌≡◌, ℕ, ◌+◌, ◌-◌, ◌^◌, ◌<◌, ◌≤◌, Some, length, min, nat_le, slice_index};
-ghost use Rattle.mp4_fragments.specs.ByTime.{AreEarliest, begin_of, decoded_by, run_sample_by};
+ghost use Rattle.std.specs.Prelude.{◌≡◌, ℕ, ◌+◌, ◌-◌, ◌^◌, ◌<◌, ◌≤◌, Some, length, min};
+ghost use Rattle.mp4_fragments.specs.ByTime.{AreEarliest, IsCountByTime, begin_of, decoded_by, in_run_by, run_sample_by};
+ghost use Rattle.mp4_fragments.specs.ByTime.{runs_by};
 ghost use Rattle.mp4_fragments.specs.Checkpoints.{AreCheckpoints};
 ghost use Rattle.mp4_fragments.specs.Index.{Indexes, IsRight, placed_at, run_at, runs_of};
 ghost use Rattle.mp4_fragments.specs.RunSamples.{PlacedRun, at_run_sample, run_count};
-ghost use Rattle.mp4_search.specs.Digits.{digits};
-ghost use Rattle.mp4_search.specs.Partition.{AnswersLast, ArePartedAt};
+ghost use Rattle.mp4_search.specs.Partition.{AnswersLast, ArePartedAt, asked_in};
 
 use crate::defaults::SampleDefaults;
 use crate::index::{RunEntry, RunIndex};
@@ -29,7 +29,7 @@ struct RunsBy<'t> {
 impl<'t> Parted for RunsBy<'t> {
     ghost len = { λ r. length r.latest_first.now };
 
-    ghost has = { λ r i. nat_le (slice_index r.latest_first.now (length r.latest_first.now - 1 - i)) r.time };
+    ghost has = { λ r i. runs_by r.latest_first.now r.time i };
 
     fn has(&self, index: usize) -> bool {
         self.latest_first[self.latest_first.len() - 1 - index] <= self.time
@@ -74,7 +74,9 @@ fn run_samples_by(
     requires right { IsRight (run_at trafs.now track) entry.now }
     requires room { readings.old < 2 ^ 31 }
     ensures point { (p : PlacedRun) → placed_at (run_at trafs.now track) entry.now ≡ Some p
-        → ArePartedAt (λ j. decoded_by time (at_run_sample p.run p.defaults p.at j).time) (min n (run_count p)) result }
+        → ArePartedAt (in_run_by p time) (min n (run_count p)) result }
+    ensures counted { (p : PlacedRun) → placed_at (run_at trafs.now track) entry.now ≡ Some p
+        → readings.new ≡ readings.old + asked_in (in_run_by p time) (min n (run_count p)) }
     ensures few { readings.new ≤ readings.old + 32 }
 {
     let Some((run, defaults)) = run_of(trafs, track, entry.traf, entry.run) else {
@@ -108,7 +110,8 @@ impl RunIndex {
         requires times { AreEarliest (begin_of (runs_of trafs.now track self.now) end) 0 times.now.latest_first.items }
         requires fresh { readings.old ≡ 0 }
         ensures number { AnswersLast (run_sample_by (runs_of trafs.now track self.now) time) end result }
-        ensures few { readings.new ≤ digits (length (runs_of trafs.now track self.now)) + 33 }
+        ensures counted { IsCountByTime (runs_of trafs.now track self.now) times.now.latest_first.items end time
+            readings.new }
     {
         let runs = RunsBy {
             latest_first: times.latest_first.as_slice(),

@@ -6,9 +6,9 @@ ghost use Rattle.std.specs.Prelude.{slice_index};
 ghost use Rattle.std.specs.Prelude.{IfOk, IfSome, OnOk};
 ghost use Rattle.mp4_fragments.specs.Index.{Indexes, placed_at, run_at, runs_of};
 ghost use Rattle.mp4_fragments.specs.RunSamples.{PlacedRun, all_run_samples, is_sync_in, run_count};
-ghost use Rattle.mp4_fragments.specs.Sync.{AreBuilt, AreSpans, sync_at};
+ghost use Rattle.mp4_fragments.specs.Sync.{AreBuilt, AreSpans, spans_by, sync_at};
 ghost use Rattle.mp4_search.specs.Digits.{digits};
-ghost use Rattle.mp4_search.specs.Partition.{AnswersLast};
+ghost use Rattle.mp4_search.specs.Partition.{AnswersLast, asked_in};
 
 use crate::defaults::SampleDefaults;
 use crate::index::{RunEntry, RunIndex};
@@ -225,7 +225,7 @@ struct SpansBefore<'t> {
 impl<'t> Parted for SpansBefore<'t> {
     ghost len = { λ s. length s.firsts.now };
 
-    ghost has = { λ s i. nat_le (slice_index s.firsts.now i) s.number };
+    ghost has = { λ s i. spans_by s.firsts.now s.number i };
 
     fn has(&self, index: usize) -> bool {
         self.firsts[index] <= self.number
@@ -239,6 +239,8 @@ impl SyncSpans {
         requires fresh { readings.old ≡ 0 }
         ensures number { (has : ℕ → Bool) (end : ℕ) → AreSpans has end self.now.firsts.items self.now.lasts.items
             → number < end → AnswersLast has (number + 1) result }
+        ensures counted { readings.new ≡ asked_in (spans_by self.now.firsts.items number)
+            (length self.now.firsts.items) }
         ensures few { readings.new ≤ digits (length self.now.firsts.items) }
     {
         let spans = SpansBefore {

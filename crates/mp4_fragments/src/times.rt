@@ -63,12 +63,13 @@ fn keep_begin(
 }
 
 /// How many runs begin with a sample whose number is below `end`, or have none and are before such a run.
-fn runs_below(trafs: &[TrafBox], track: SampleDefaults, index: &RunIndex, end: u32) -> usize
-    requires { Indexes (run_at trafs.now track) (runs_of trafs.now track index.now) index.now }
-    ensures within { result ≤ length index.now.entries }
-    ensures below { (r : ℕ) → r < result → sum_by run_count (take r (runs_of trafs.now track index.now)) < end }
-    ensures past { (r : ℕ) → result ≤ r → r < length index.now.entries
-        → end ≤ sum_by run_count (take r (runs_of trafs.now track index.now)) }
+fn runs_below(trafs: &[TrafBox], track: SampleDefaults, index: &mut RunIndex, end: u32) -> usize
+    requires { Indexes (run_at trafs.now track) (runs_of trafs.now track index.old) index.old }
+    ensures within { result ≤ length index.old.entries }
+    ensures below { (r : ℕ) → r < result → sum_by run_count (take r (runs_of trafs.now track index.old)) < end }
+    ensures past { (r : ℕ) → result ≤ r → r < length index.old.entries
+        → end ≤ sum_by run_count (take r (runs_of trafs.now track index.old)) }
+    ensures kept { index.new ≡ index.old }
 {
     match end.checked_sub(1) {
         None => 0,
@@ -82,12 +83,13 @@ pub(crate) fn times_of(
     alloc: Global,
     trafs: &[TrafBox],
     track: SampleDefaults,
-    index: &RunIndex,
+    index: &mut RunIndex,
     end: u32,
 ) -> Result<RunTimes, AllocError>
-    requires { Indexes (run_at trafs.now track) (runs_of trafs.now track index.now) index.now }
-    ensures { IfOk result (λ times.
-        AreEarliest (begin_of (runs_of trafs.now track index.now) end) 0 times.latest_first.items) }
+    requires { Indexes (run_at trafs.now track) (runs_of trafs.now track index.old) index.old }
+    ensures earliest { IfOk result (λ times.
+        AreEarliest (begin_of (runs_of trafs.now track index.old) end) 0 times.latest_first.items) }
+    ensures kept { index.new ≡ index.old }
 {
     let runs = runs_below(trafs, track, index, end);
     let entries = index.entries.as_slice();

@@ -1,75 +1,72 @@
--- A search by halves, a comparison at a time.
-use Rattle.std.proofs.Common.{◌≡◌, ℕ, zero, suc, ◌+◌, ◌-◌, ◌/◌, ◌<◌, ◌≤◌, List, slice_index, arith}
-use Rattle.std.proofs.lemmas.Bool.{lt-ltb, le-ltb, le-leb, lt-leb}
-use Rattle.mp4_search.specs.Search.{comparisons_between}
+-- A search by halves, a step at a time.
+use Rattle.std.proofs.Common.{◌≡◌, ℕ, zero, suc, ◌+◌, ◌-◌, ◌/◌, ◌<◌, ◌≤◌, Bool, true, false, arith}
+use Rattle.std.proofs.lemmas.Bool.{lt-ltb, le-ltb}
+use Rattle.mp4_search.specs.Partition.{asked_between, asked_in}
 
--- after so many comparisons, what is left between two places makes the others of all, in steps that are enough
-pub record AreLeft (numbers : List ℕ) (key low high compared all : ℕ) : Type 0 where
+-- after so many indexes that were asked for, what is left between two places makes the others of all, in steps that are
+-- enough
+pub record AreLeft (has : ℕ → Bool) (low high asked all : ℕ) : Type 0 where
   pub steps : ℕ
   pub enough : high - low ≤ steps
-  pub left : compared + comparisons_between steps numbers key low high ≡ all
+  pub left : asked + asked_between steps has low high ≡ all
 
--- what is left of some numbers, after so many comparisons
-pub these_left : (numbers : List ℕ) (key low high compared : ℕ)
-    → AreLeft numbers key low high compared (compared + comparisons_between (high - low) numbers key low high)
-these_left numbers key low high compared =
-    record { steps = high - low; enough = omega arith; left = omega arith }
+-- what is left between two places, after so many that were asked for
+pub these_left : (has : ℕ → Bool) (low high asked : ℕ)
+    → AreLeft has low high asked (asked + asked_between (high - low) has low high)
+these_left has low high asked = record { steps = high - low; enough = omega arith; left = omega arith }
 
--- one comparison more: what is left is after the number in the middle
-pub after : (numbers : List ℕ) (key low high middle compared all : ℕ)
-    → AreLeft numbers key low high compared all → low < high
-    → middle ≡ low + (high - low) / 2 → slice_index numbers middle ≤ key
-    → AreLeft numbers key (middle + 1) high (compared + 1) all
-unfolding comparisons_between
-after numbers key low high middle compared all a h half at_most = rw half (step a.steps a.enough a.left)
+-- all of the first n are left
+pub all_left : (has : ℕ → Bool) (n asked : ℕ) → AreLeft has 0 n asked (asked + asked_in has n)
+unfolding asked_in
+all_left has n asked = record { steps = n; enough = omega arith; left = omega arith }
+
+-- one more was asked for: what is left is after the middle
+pub after : (has : ℕ → Bool) (low high middle asked all : ℕ) → AreLeft has low high asked all → low < high
+    → middle ≡ low + (high - low) / 2 → has middle ≡ true → AreLeft has (middle + 1) high (asked + 1) all
+unfolding asked_between
+after has low high middle asked all a h half one = rw half (step a.steps a.enough a.left)
   where
-    small : slice_index numbers (low + (high - low) / 2) ≤ key
-    small = rw half at at_most
+    here : has (low + (high - low) / 2) ≡ true
+    here = rw half at one
 
-    step : (n : ℕ) → high - low ≤ n
-        → compared + comparisons_between n numbers key low high ≡ all
-        → AreLeft numbers key (low + (high - low) / 2 + 1) high (compared + 1) all
+    step : (n : ℕ) → high - low ≤ n → asked + asked_between n has low high ≡ all
+        → AreLeft has (low + (high - low) / 2 + 1) high (asked + 1) all
     step zero enough left = absurd (omega (arith, h, enough))
     step (suc n) enough left = record {
       steps = n;
       enough = omega (arith, enough);
-      left = let e = rw (lt-ltb low high h, le-leb _ key small) at left in omega (arith, e);
+      left = let e = rw (lt-ltb low high h, here) at left in omega (arith, e);
     }
 
--- one comparison more: what is left is before the number in the middle
-pub before : (numbers : List ℕ) (key low high middle compared all : ℕ)
-    → AreLeft numbers key low high compared all → low < high
-    → middle ≡ low + (high - low) / 2 → key < slice_index numbers middle
-    → AreLeft numbers key low middle (compared + 1) all
-unfolding comparisons_between
-before numbers key low high middle compared all a h half above = rw half (step a.steps a.enough a.left)
+-- one more was asked for: what is left is before the middle
+pub before : (has : ℕ → Bool) (low high middle asked all : ℕ) → AreLeft has low high asked all → low < high
+    → middle ≡ low + (high - low) / 2 → has middle ≡ false → AreLeft has low middle (asked + 1) all
+unfolding asked_between
+before has low high middle asked all a h half none = rw half (step a.steps a.enough a.left)
   where
-    large : key < slice_index numbers (low + (high - low) / 2)
-    large = rw half at above
+    here : has (low + (high - low) / 2) ≡ false
+    here = rw half at none
 
-    step : (n : ℕ) → high - low ≤ n
-        → compared + comparisons_between n numbers key low high ≡ all
-        → AreLeft numbers key low (low + (high - low) / 2) (compared + 1) all
+    step : (n : ℕ) → high - low ≤ n → asked + asked_between n has low high ≡ all
+        → AreLeft has low (low + (high - low) / 2) (asked + 1) all
     step zero enough left = absurd (omega (arith, h, enough))
     step (suc n) enough left = record {
       steps = n;
       enough = omega (arith, enough);
-      left = let e = rw (lt-ltb low high h, lt-leb _ key large) at left in omega (arith, e);
+      left = let e = rw (lt-ltb low high h, here) at left in omega (arith, e);
     }
 
 -- nothing is left
-pub none_left : (numbers : List ℕ) (key low high compared all : ℕ) → AreLeft numbers key low high compared all
-    → high ≤ low → compared ≡ all
-unfolding comparisons_between
-none_left numbers key low high compared all a h = step a.steps a.left
+pub none_left : (has : ℕ → Bool) (low high asked all : ℕ) → AreLeft has low high asked all → high ≤ low → asked ≡ all
+unfolding asked_between
+none_left has low high asked all a h = step a.steps a.left
   where
-    step : (n : ℕ) → compared + comparisons_between n numbers key low high ≡ all → compared ≡ all
+    step : (n : ℕ) → asked + asked_between n has low high ≡ all → asked ≡ all
     step zero left = omega (arith, left)
     step (suc n) left = let e = rw (le-ltb low high h) at left in omega (arith, e)
 
--- where there are numbers, one is compared
-pub some_compared : (numbers : List ℕ) (key low high n : ℕ) → low < high → 1 ≤ n
-    → 1 ≤ comparisons_between n numbers key low high
-unfolding comparisons_between
-some_compared numbers key low high zero h one = absurd (omega (arith, one))
-some_compared numbers key low high (suc n) h one = rw (lt-ltb low high h) (omega arith)
+-- where there are some, one is asked for
+pub some_asked : (has : ℕ → Bool) (low high n : ℕ) → low < high → 1 ≤ n → 1 ≤ asked_between n has low high
+unfolding asked_between
+some_asked has low high zero h one = absurd (omega (arith, one))
+some_asked has low high (suc n) h one = rw (lt-ltb low high h) (omega arith)

@@ -1,6 +1,6 @@
 pub mod BitSet
 pub mod Digits
-pub mod Search
 pub mod Partition
+pub mod Search
 pub mod Sums
 pub mod CountLaws

@@ -1,7 +1,8 @@
 -- Search in numbers that rise.
-use Rattle.std.specs.Prelude.{◌≡◌, ℕ, zero, suc, ◌+◌, ◌-◌, ◌/◌, ◌<◌, ◌≤◌, nat_lt, nat_le, List, length, slice_index}
+use Rattle.std.specs.Prelude.{◌≡◌, ℕ, ◌+◌, ◌-◌, ◌<◌, ◌≤◌, nat_lt, nat_le, Bool, List, length, slice_index}
 use Rattle.std.specs.Prelude.{if◌then◌else◌, Option, MatchOption, ◌⊎◌}
 use Rattle.mp4_search.specs.Digits.{digits}
+use Rattle.mp4_search.specs.Partition.{asked_between}
 
 -- the number at i is the last that is at most the key
 pub record IsLastAtMost (numbers : List ℕ) (key i : ℕ) : Type 0 where
@@ -23,18 +24,13 @@ pub record IsFew (comparisons n : ℕ) : Type 0 where
   pub most : comparisons ≤ digits n
   pub some : 0 < n → 1 ≤ comparisons
 
--- How many numbers a search by halves compares with the key, of those from `low` up to but without `high`: the one in
--- their middle, and then those after it, where it is at most the key, else those before it. The steps are as many as
--- there are numbers, which is more than enough.
-unfoldable pub comparisons_between : ℕ → List ℕ → ℕ → ℕ → ℕ → ℕ
-comparisons_between zero numbers key low high = 0
-comparisons_between (suc n) numbers key low high =
-    if nat_lt low high then (
-    let middle = low + (high - low) / 2 in
-    1 + (if nat_le (slice_index numbers middle) key
-    then comparisons_between n numbers key (middle + 1) high
-    else comparisons_between n numbers key low middle))
-    else 0
+-- the number at an index is at most the key
+abbrev pub at_most : List ℕ → ℕ → ℕ → Bool
+at_most numbers key i = nat_le (slice_index numbers i) key
+
+-- how many numbers a search by halves compares with the key, of those from `low` up to but without `high`
+abbrev pub comparisons_between : ℕ → List ℕ → ℕ → ℕ → ℕ → ℕ
+comparisons_between steps numbers key low high = asked_between steps (at_most numbers key) low high
 
 -- how many numbers such a search in all of them compares with the key
 unfoldable pub comparisons_in : List ℕ → ℕ → ℕ

@@ -2,7 +2,7 @@
 
 ghost use Rattle.std.specs.Prelude.{◌≡◌, ℕ, Bool, ◌+◌, ◌^◌, ◌<◌, ◌≤◌};
 ghost use Rattle.mp4_search.specs.Digits.{digits};
-ghost use Rattle.mp4_search.specs.Partition.{ArePartedAt, IsParted};
+ghost use Rattle.mp4_search.specs.Partition.{ArePartedAt, IsParted, asked_in};
 
 use crate::counted::Readings;
 
@@ -29,8 +29,8 @@ pub fn partition_point<P: Parted>(values: &P, n: usize, readings: &mut Readings)
     requires small { n < 2 ^ 63 }
     requires room { readings.old < 2 ^ 31 }
     ensures point { ArePartedAt (P.has values.now) n result }
+    ensures counted { readings.new ≡ readings.old + asked_in (P.has values.now) n }
     ensures few { readings.new ≤ readings.old + digits n }
-    ensures some { 0 < n → readings.old < readings.new }
 {
     let mut low = 0;
     let mut high = n;

@@ -192,13 +192,14 @@ pub(crate) fn last_at_most(numbers: &SearchedNumbers, key: u32) -> (Option<Searc
 }
 
 impl SearchedNumbers {
-    /// How many numbers are at most `key`. No comparison is counted: it is for what is made once, when a file is
-    /// opened.
-    pub fn count_at_most(&self, key: u32) -> usize
-        requires { IsNonDecreasing self.now }
-        ensures within { result ≤ length self.now }
-        ensures first { (i : ℕ) → i < result → slice_index self.now i ≤ key }
-        ensures others { (i : ℕ) → result ≤ i → i < length self.now → key < slice_index self.now i }
+    /// How many numbers are at most `key`. No comparison is counted: it is for what is made of the numbers before they
+    /// are looked up in. So it takes them alone, which no step of a look-up has.
+    pub fn count_at_most(&mut self, key: u32) -> usize
+        requires { IsNonDecreasing self.old }
+        ensures within { result ≤ length self.old }
+        ensures first { (i : ℕ) → i < result → slice_index self.old i ≤ key }
+        ensures others { (i : ℕ) → result ≤ i → i < length self.old → key < slice_index self.old i }
+        ensures kept { self.new ≡ self.old }
     {
         let all = Between {
             low: 0,

@@ -25,5 +25,15 @@ returns-clause-point c = λ p there.
     c.in-Some.ensures there in
     rw (is, ← c.min-n.ensures) c.partition_point.ensures.point
 
+pub returns-in_default-clause-counted : goal.returns-in_default-clause-counted
+returns-in_default-clause-counted c = λ p there.
+    absurd (placed_nowhere (run_at c.args.trafs.now c.args.track) c.args.entry.now p c.in_default.ensures there)
+
+pub returns-clause-counted : goal.returns-clause-counted
+returns-clause-counted c = λ p there.
+    let is = placed_is (run_at c.args.trafs.now c.args.track) c.args.entry.now c.in-Some.run'.now c.in-Some.defaults p
+    c.in-Some.ensures there in
+    rw (is, ← c.min-n.ensures) c.partition_point.ensures.counted
+
 pub returns-clause-few : goal.returns-clause-few
 returns-clause-few c = omega (arith, c.partition_point.ensures.few, digits_32 c.min-n.result (omega arith))

@@ -1,6 +1,7 @@
-use Rattle.std.proofs.Common.{◌≡◌, ◌-◌, ◌+◌, arith}
+use Rattle.std.proofs.Common.{◌≡◌, ◌-◌, ◌+◌, ◌∙◌, ap, arith}
 use Rattle.mp4_fragments.specs.ByTime.{begin_of}
 use Rattle.mp4_fragments.specs.Index.{run_at, runs_of}
+use Rattle.mp4_fragments.specs.declared.index.RunIndex.{RunIndex}
 use Rattle.mp4_fragments.proofs.Decoding.{begin_kept, begins_none, none_kept}
 use Rattle.mp4_fragments.proofs.times.times_of.Goals as goal
 
@@ -19,14 +20,16 @@ loop-from_last-preserved c =
     let runs = runs_of c.args.trafs.now c.args.track index in
     let below = c.runs_below-runs in
     let at = below.result - 1 - c.loop-from_last.from_last in
+    let entries : c.as_slice-entries.result.now ≡ index.entries =
+    c.as_slice-entries.ensures ∙ ap (λ (x : RunIndex). x.entries) below.ensures.kept in
     let before : at + 1 ≡ below.result - c.loop-from_last.from_last = omega arith in
     let after : at ≡ below.result - (c.loop-from_last.from_last + 1) = omega arith in
     rw (← after) (c.in_ok-earliest.ensures (begin_of runs c.args.end) at (rw before c.loop-from_last.invariant)
     (begin_kept (run_at c.args.trafs.now c.args.track) c.as_slice-entries.result.now runs index c.args.end at
-    c.index-entries-runs.result c.begin_of-begin.result c.requires c.as_slice-entries.ensures c.index-entries-runs.is
+    c.index-entries-runs.result c.begin_of-begin.result c.requires entries c.index-entries-runs.is
     (omega (arith, below.ensures.within)) (below.ensures.below at (omega arith)) c.begin_of-begin.ensures))
 
-pub returns : goal.returns
-returns c =
+pub returns-clause-earliest : goal.returns-clause-earliest
+returns-clause-earliest c =
     let none : c.runs_below-runs.result - c.loop-from_last.from_last ≡ 0 = omega arith in
     (rw none at c.loop-from_last.invariant).kept

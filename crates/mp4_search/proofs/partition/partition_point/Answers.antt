@@ -1,6 +1,7 @@
 use Rattle.std.proofs.Common.{◌≡◌, ℕ, Bool, ◌+◌, ◌-◌, ◌/◌, ◌≤◌, ◌<◌, true, false, sym, ◌∙◌, arith}
 use Rattle.std.proofs.lemmas.Bool.{false_from_ne_true, true≢false}
 use Rattle.mp4_search.specs.Partition.{IsParted}
+use Rattle.mp4_search.proofs.Comparisons.{all_left, after, before, none_left}
 use Rattle.mp4_search.proofs.Digits.{digits_grow, digits_half, digits_64}
 use Rattle.mp4_search.proofs.partition.partition_point.Goals as goal
 
@@ -15,6 +16,10 @@ after_lack : (has : ℕ → Bool) (n i j : ℕ) (answer : Bool) → IsParted has
 after_lack has n i j answer parted h k e lacks =
     false_from_ne_true (has j) (λ one. true≢false (sym (parted.earlier i j h k one) ∙ sym e ∙ lacks))
 
+-- what an answer is, that is what it says of its index
+told : (answer own value : Bool) → answer ≡ own → answer ≡ value → own ≡ value
+told answer own value same is = sym same ∙ is
+
 pub loop-low-init : goal.loop-low-init
 loop-low-init g c = record {
   ordered = omega arith;
@@ -22,8 +27,7 @@ loop-low-init g c = record {
   first = λ i h. absurd (omega (arith, h));
   others = λ i h k. absurd (omega (arith, h, k));
   paid = omega (arith, digits_grow (c.args.n - 0) c.args.n (omega arith));
-  started = omega arith;
-  some = λ h. absurd (omega (arith, h));
+  left = all_left (g.P.Parted.has c.args.values.now) c.args.n c.args.readings.now;
 }
 
 pub overflow_add-middle : goal.overflow_add-middle
@@ -44,6 +48,7 @@ pub loop-low-preserved-then-has : goal.loop-low-preserved-then-has
 loop-low-preserved-then-has g c =
     let l = c.loop-low in
     let middle = (l.low + l.high) / 2 in
+    let more : c.add_one.new.self ≡ l.readings + 1 = omega (arith, c.add_one.ensures) in
     let left = digits_half (l.high - (middle + 1)) (l.high - l.low) (omega arith) (omega arith) in
     record {
       ordered = omega arith;
@@ -52,14 +57,15 @@ loop-low-preserved-then-has g c =
           (omega arith) (omega (arith, l.invariant.within)) c.has.ensures c.if-has.true;
       others = l.invariant.others;
       paid = omega (arith, left, l.invariant.paid, c.add_one.ensures);
-      started = omega (arith, c.add_one.ensures, l.invariant.started);
-      some = λ h. omega (arith, c.add_one.ensures, l.invariant.started);
+      left = rw more (after (g.P.Parted.has c.args.values.now) l.low l.high middle l.readings _
+          l.invariant.left (omega arith) (omega arith) (told _ _ _ c.has.ensures c.if-has.true));
     }
 
 pub loop-low-preserved : goal.loop-low-preserved
 loop-low-preserved g c =
     let l = c.loop-low in
     let middle = (l.low + l.high) / 2 in
+    let more : c.add_one.new.self ≡ l.readings + 1 = omega (arith, c.add_one.ensures) in
     let left = digits_half (middle - l.low) (l.high - l.low) (omega arith) (omega arith) in
     record {
       ordered = omega arith;
@@ -68,8 +74,8 @@ loop-low-preserved g c =
       others = λ i h k. after_lack (g.P.Parted.has c.args.values.now) c.args.n middle i c.has.result
           c.requires.parted (omega (arith, h)) k c.has.ensures c.if-has.false;
       paid = omega (arith, left, l.invariant.paid, c.add_one.ensures);
-      started = omega (arith, c.add_one.ensures, l.invariant.started);
-      some = λ h. omega (arith, c.add_one.ensures, l.invariant.started);
+      left = rw more (before (g.P.Parted.has c.args.values.now) l.low l.high middle l.readings _
+          l.invariant.left (omega arith) (omega arith) (told _ _ _ c.has.ensures c.if-has.false));
     }
 
 pub returns-clause-point : goal.returns-clause-point
@@ -84,5 +90,7 @@ returns-clause-point g c =
 pub returns-clause-few : goal.returns-clause-few
 returns-clause-few g c = omega (arith, c.loop-low.invariant.paid)
 
-pub returns-clause-some : goal.returns-clause-some
-returns-clause-some g c = λ h. c.loop-low.invariant.some (omega (arith, h))
+pub returns-clause-counted : goal.returns-clause-counted
+returns-clause-counted g c =
+    let l = c.loop-low in
+    none_left (g.P.Parted.has c.args.values.now) l.low l.high l.readings _ l.invariant.left (omega arith)

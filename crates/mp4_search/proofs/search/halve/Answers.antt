@@ -1,4 +1,6 @@
 use Rattle.std.proofs.Common.{◌≡◌, ◌+◌, ◌-◌, ◌/◌, arith}
+use Rattle.std.proofs.lemmas.Bool.{le-leb, lt-leb}
+use Rattle.mp4_search.specs.Search.{at_most}
 use Rattle.mp4_search.proofs.Comparisons.{these_left, after, before, none_left}
 use Rattle.mp4_search.proofs.Digits.{digits_half, digits_64}
 use Rattle.mp4_search.proofs.search.halve.Goals as goal
@@ -32,8 +34,9 @@ loop-low-preserved-then-number-key c =
         above = l.invariant.between.above;
       };
       paid = omega (arith, paid, l.invariant.paid);
-      left = rw c.read-number.ensures.counted (after c.args.numbers.now c.args.key l.low l.high middle l.readings _
-          l.invariant.left (omega arith) (omega arith) (omega (arith, c.read-number.ensures.number)));
+      left = rw c.read-number.ensures.counted (after (at_most c.args.numbers.now c.args.key) l.low l.high middle
+          l.readings _ l.invariant.left (omega arith) (omega arith)
+          (le-leb _ c.args.key (omega (arith, c.read-number.ensures.number))));
     }
 
 pub loop-low-preserved : goal.loop-low-preserved
@@ -49,8 +52,9 @@ loop-low-preserved c =
         above = λ j h k. omega (arith, c.read-number.ensures.number, c.requires.rises middle j 0 h k);
       };
       paid = omega (arith, paid, l.invariant.paid);
-      left = rw c.read-number.ensures.counted (before c.args.numbers.now c.args.key l.low l.high middle l.readings _
-          l.invariant.left (omega arith) (omega arith) (omega (arith, c.read-number.ensures.number)));
+      left = rw c.read-number.ensures.counted (before (at_most c.args.numbers.now c.args.key) l.low l.high middle
+          l.readings _ l.invariant.left (omega arith) (omega arith)
+          (lt-leb _ c.args.key (omega (arith, c.read-number.ensures.number))));
     }
 
 pub loop-low-init : goal.loop-low-init
@@ -59,10 +63,10 @@ loop-low-init c =
     record {
       between = c.requires.between;
       paid = omega arith;
-      left = these_left c.args.numbers.now c.args.key between.low between.high c.args.readings.now;
+      left = these_left (at_most c.args.numbers.now c.args.key) between.low between.high c.args.readings.now;
     }
 
 pub returns-clause-counted : goal.returns-clause-counted
 returns-clause-counted c =
     let l = c.loop-low in
-    none_left c.args.numbers.now c.args.key l.low l.high l.readings _ l.invariant.left (omega arith)
+    none_left (at_most c.args.numbers.now c.args.key) l.low l.high l.readings _ l.invariant.left (omega arith)

@@ -1,5 +1,6 @@
 use Rattle.std.proofs.Common.{◌-◌, length, arith}
-use Rattle.mp4_search.proofs.Comparisons.{some_compared}
+use Rattle.mp4_search.proofs.Comparisons.{some_asked}
+use Rattle.mp4_search.specs.Search.{at_most}
 use Rattle.mp4_search.proofs.Digits.{digits_grow}
 use Rattle.mp4_search.proofs.search.last_at_most.Goals as goal
 
@@ -10,7 +11,7 @@ returns-clause-few c =
     record {
       most = omega (arith, c.halve-low.ensures.few, c.new-readings.ensures, halves);
       some = λ some.
-          let one = some_compared c.args.numbers.now c.args.key 0 end (end - 0)
+          let one = some_asked (at_most c.args.numbers.now c.args.key) 0 end (end - 0)
           (omega (arith, some, c.end.ensures.value)) (omega (arith, some, c.end.ensures.value)) in
           omega (arith, c.halve-low.ensures.counted, one);
     }
