@@ -1,5 +1,5 @@
 -- What a lookup counts, by each way of searching.
-use Rattle.std.proofs.Common.{◌≡◌, ℕ, ◌-◌, ◌<◌, ◌≤◌, Bool, true, false, List, length, refl, subst, ap}
+use Rattle.std.proofs.Common.{◌≡◌, ℕ, ◌-◌, ◌<◌, ◌≤◌, Bool, true, false, List, [], length, refl, subst, ap, sym}
 use Rattle.std.proofs.Common.{◌∙◌, arith, Result, Ok, Err, Some, None}
 use Rattle.std.specs.Prelude.{IsTrue, IfOk, IfSome, Option, if◌then◌else◌, nat_lt, ◌*◌}
 use Rattle.std.proofs.lemmas.List.{length-map}
@@ -11,13 +11,14 @@ use Rattle.mp4_samples.specs.Tables.{tables_of}
 use Rattle.mp4_samples.specs.declared.sample.Comparisons.{Comparisons}
 use Rattle.mp4_samples.specs.declared.sample.SamplePlace.{SamplePlace}
 use Rattle.mp4_search.specs.BitSet.{looks_at_bit}
+use Rattle.mp4_search.specs.CountLaws.{nothing_by_halves}
 use Rattle.mp4_search.specs.Search.{IsCountByGuess, IsCountByHalves, IsFew, IsFewByGuess, comparisons_in}
 use Rattle.mp4_search.specs.declared.bit_set.BitSet.{BitSet}
 use Rattle.mp4_table.specs.declared.stsc.StscEntry.{StscEntry}
 use Rattle.mp4_boxes.specs.Stbl.{sample_count}
 use Rattle.mp4_lookup.specs.Costs.{AreCounts, AreFew, AreFewByGuess, AreFewForRunSample, AreFewForRunSampleByGuess}
 use Rattle.mp4_lookup.specs.Costs.{AreRunSampleCounts, AreTrackCounts, comparisons_at, comparisons_in_runs}
-use Rattle.mp4_lookup.specs.Costs.{comparisons_of}
+use Rattle.mp4_lookup.specs.Costs.{comparisons_of, sync_comparisons}
 use Rattle.mp4_lookup.specs.Index.{IsIndexOf}
 use Rattle.mp4_lookup.specs.Tracks.{is_of_movie}
 use Rattle.mp4_lookup.specs.declared.index.TrackIndex.{TrackIndex}
@@ -44,6 +45,15 @@ sync_counted : (rises : Bool) (numbers : List ℕ) (k n : ℕ) → (IsTrue rises
     → (rises ≡ false → n ≡ 0) → n ≡ (if rises then comparisons_in numbers k else 0)
 sync_counted true numbers k n searched none = (searched refl).searched
 sync_counted false numbers k n searched none = none refl
+
+none_in : (rises : Bool) (numbers : List ℕ) (k : ℕ) → numbers ≡ []
+    → (if rises then comparisons_in numbers k else 0) ≡ 0
+none_in true numbers k e = rw e (sym (nothing_by_halves k).searched)
+none_in false numbers k e = refl
+
+-- where stss has no numbers, none is compared
+pub none_compared : (index : TrackIndex) (k : ℕ) → index.sync_numbers ≡ [] → sync_comparisons index k ≡ 0
+none_compared index k e = none_in index.sync_rises index.sync_numbers k e
 
 counted_at : (index : TrackIndex) (k : ℕ) (c : Comparisons) → AreCounts IsCountByHalves (λ bits n. 0) index k c
     → c ≡ comparisons_at index k

@@ -1,12 +1,15 @@
 -- What a lookup counts, and how few numbers it compares and reads.
-use Rattle.std.specs.Prelude.{◌≡◌, ℕ, ◌+◌, ◌-◌, ◌<◌, ◌≤◌, false, List, length, IsTrue, if◌then◌else◌}
+use Rattle.std.specs.Prelude.{◌≡◌, ℕ, ◌+◌, ◌-◌, ◌^◌, ◌<◌, ◌≤◌, Bool, true, false, List, length, min, nat_le}
+use Rattle.std.specs.Prelude.{slice_index, IsTrue, if◌then◌else◌}
 use Rattle.std.specs.Prelude.{IfOk, IfSome, Option, Result}
 use Rattle.std.specs.List.Sorted.{IsStrictlyIncreasing}
 use Rattle.mp4_codec.specs.declared.error.Error.{Error}
 use Rattle.mp4_boxes.specs.declared.stbl.StblBox.{StblBox}
 use Rattle.mp4_boxes.specs.Stbl.{sample_count}
 use Rattle.mp4_fragments.specs.declared.index.RunIndex.{RunIndex}
+use Rattle.mp4_fragments.specs.ByTime.{IsCountByTime, run_sample_by}
 use Rattle.mp4_fragments.specs.RunSamples.{PlacedRun}
+use Rattle.mp4_fragments.specs.Sync.{spans_by, sync_at}
 use Rattle.mp4_lookup.specs.declared.counters.Counters.{Counters}
 use Rattle.mp4_lookup.specs.declared.index.TrackIndex.{TrackIndex}
 use Rattle.mp4_samples.specs.declared.sample.Comparisons.{Comparisons}
@@ -14,7 +17,9 @@ use Rattle.mp4_samples.specs.declared.sample.SamplePlace.{SamplePlace}
 use Rattle.mp4_lookup.specs.declared.track.Mp4Track.{Mp4Track}
 use Rattle.mp4_samples.specs.Tables.{ctts_runs, sync_numbers, tables_of}
 use Rattle.mp4_lookup.specs.Tracks.{is_of_movie}
+use Rattle.mp4_lookup.specs.TrackRuns.{track_runs}
 use Rattle.mp4_search.specs.Digits.{digits}
+use Rattle.mp4_search.specs.Partition.{ArePartedAt, asked_in}
 use Rattle.mp4_search.specs.BitSet.{looks_at_bit}
 use Rattle.mp4_search.specs.Search.{IsCountByGuess, IsFew, IsFewByGuess, comparisons_in}
 use Rattle.mp4_search.specs.declared.bit_set.BitSet.{BitSet}
@@ -94,6 +99,48 @@ unfoldable pub comparisons_of : Mp4Track → ℕ → Comparisons
 comparisons_of t k =
     if is_of_movie t.trak t.trafs k then comparisons_at t.index k else
     comparisons_in_runs t.runs (k - sample_count (tables_of t.trak) - 1)
+
+-- tick i of those that are before the runs of stts is at most a time
+abbrev pub times_by : List ℕ → ℕ → ℕ → Bool
+times_by times time i = nat_le (slice_index times i) time
+
+-- So many times are compared for the last sample of the movie box that is decoded at or before a time: those of a search
+-- by halves among the ticks before each run of stts, and where a run begins so early, one reading more, of how many
+-- samples come before it.
+pub record IsCountInTable (times : List ℕ) (time n : ℕ) : Type 0 where
+  pub none : ArePartedAt (times_by times time) (length times) 0 → n ≡ asked_in (times_by times time) (length times)
+  pub some : (r : ℕ) → ArePartedAt (times_by times time) (length times) (r + 1)
+      → n ≡ asked_in (times_by times time) (length times) + 1
+  pub few : n ≤ digits (length times) + 1
+
+-- So many times are compared for the last sample of a track that is decoded at or before a time: those of its fragments,
+-- and where none of them is decoded so early, those of the movie box. The count stops at 2^32 - 1.
+pub record IsCountByTrackTime (t : Mp4Track) (time n : ℕ) : Type 0 where
+  pub added : ℕ
+  pub in_runs : IsCountByTime (track_runs t) t.seek.times.latest_first.items
+      (2 ^ 32 - 1 - sample_count (tables_of t.trak)) time added
+  pub found : (j : ℕ) → j < 2 ^ 32 - 1 - sample_count (tables_of t.trak)
+      → run_sample_by (track_runs t) time j ≡ true → n ≡ added
+  pub before : ((j : ℕ) → j < 2 ^ 32 - 1 - sample_count (tables_of t.trak)
+      → run_sample_by (track_runs t) time j ≡ false)
+      → (tables : ℕ) × (IsCountInTable t.index.stts_times.items time tables) × (n ≡ min (2 ^ 32 - 1) (added + tables))
+
+-- how many numbers are compared for the last sync sample up to sample k among those that fragments add: those of a
+-- search by halves among the first samples of the spans of sync samples
+abbrev pub comparisons_in_spans : Mp4Track → ℕ → ℕ
+comparisons_in_spans t k =
+    if nat_le k (sample_count (tables_of t.trak)) then 0 else
+    asked_in (spans_by t.seek.sync.firsts.items (k - sample_count (tables_of t.trak) - 1))
+    (length t.seek.sync.firsts.items)
+
+-- So many numbers are compared for the last sync sample of a track up to sample k: those of its fragments, and where no
+-- sample of them is one, those of stss. The count stops at 2^32 - 1.
+pub record IsCountBySync (t : Mp4Track) (k n : ℕ) : Type 0 where
+  pub found : (j : ℕ) → sample_count (tables_of t.trak) + 1 + j ≤ k → sync_at (track_runs t) j ≡ true
+      → n ≡ comparisons_in_spans t k
+  pub before : ((j : ℕ) → sample_count (tables_of t.trak) + 1 + j ≤ k → sync_at (track_runs t) j ≡ false)
+      → n ≡ min (2 ^ 32 - 1)
+      (comparisons_in_spans t k + sync_comparisons t.index (min k (sample_count (tables_of t.trak))))
 
 -- In each table at most as many comparisons as the number of its entries has binary digits, in stss where it strictly
 -- rises, and none there where it doesn't; no run of a fragment is looked at.

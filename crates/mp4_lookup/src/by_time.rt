@@ -1,14 +1,15 @@
 //! The samples of a track by the time at which they are decoded, and the sync samples at or before a sample: what a
 //! player asks that goes to a time (ISO/IEC 14496-12, 8.6.1.2, 8.6.2, 8.8.3.1 and 8.8.12).
 
-ghost use Rattle.std.specs.Prelude.{◌≡◌, ℕ, ◌+◌, ◌-◌, ◌^◌, ◌<◌, ◌≤◌, false, get_or, length, option_map};
+ghost use Rattle.std.specs.Prelude.{◌≡◌, ℕ, ◌+◌, ◌-◌, ◌^◌, ◌<◌, ◌≤◌, true, false, get_or, length, option_map};
 ghost use Rattle.std.specs.Prelude.{IfNone, IfSome};
 ghost use Rattle.mp4_boxes.specs.Stbl.{sample_count};
-ghost use Rattle.mp4_fragments.specs.ByTime.{run_sample_by};
+ghost use Rattle.mp4_fragments.specs.ByTime.{IsCountByTime, run_sample_by};
 ghost use Rattle.mp4_fragments.specs.RunSamples.{all_run_samples};
 ghost use Rattle.mp4_fragments.specs.Sync.{sync_at};
 ghost use Rattle.mp4_lookup.specs.ByTime.{decode_time, duration_of, is_sync_sample, last_number, sample_by};
 ghost use Rattle.mp4_lookup.specs.ByTime.{end_time, time_in, time_range};
+ghost use Rattle.mp4_lookup.specs.Costs.{IsCountBySync, IsCountByTrackTime, comparisons_in_spans};
 ghost use Rattle.mp4_lookup.specs.TrackRuns.{track_runs};
 ghost use Rattle.mp4_samples.specs.Tables.{sync_numbers, tables_of};
 ghost use Rattle.mp4_search.specs.Digits.{digits};
@@ -69,6 +70,7 @@ impl Mp4Track {
     pub fn find_sample_at(&self, time: u64) -> FoundNumber
         ensures number { AnswersLast (sample_by (tables_of self.now.trak) (track_runs self.now) time)
             (2 ^ 32) result.number }
+        ensures counted { IsCountByTrackTime self.now time result.comparisons }
         ensures comparisons { result.comparisons ≤ digits (length (track_runs self.now))
             + digits (length (tables_of self.now.trak).stts.entries) + 34 }
     {
@@ -96,7 +98,10 @@ impl Mp4Track {
             (IsLastWith (sample_by (tables_of self.now.trak) (track_runs self.now) time) (2 ^ 32)) }
         ensures none { IfNone result ((n : ℕ) → n < 2 ^ 32 - 1 - sample_count (tables_of self.now.trak)
             → run_sample_by (track_runs self.now) time n ≡ false) }
-        ensures few { readings.new ≤ digits (length (track_runs self.now)) + 33 }
+        ensures early { IfSome result (λ _. (j : ℕ) × (j < 2 ^ 32 - 1 - sample_count (tables_of self.now.trak))
+            × (run_sample_by (track_runs self.now) time j ≡ true)) }
+        ensures counted { IsCountByTime (track_runs self.now) self.now.seek.times.latest_first.items
+            (2 ^ 32 - 1 - sample_count (tables_of self.now.trak)) time readings.new }
     {
         let count = self.trak.mdia.minf.stbl.sample_count();
         let trafs = self.trafs.as_slice();
@@ -126,6 +131,7 @@ impl Mp4Track {
     pub fn find_sync_sample_at_or_before(&self, k: u32) -> FoundNumber
         ensures number { AnswersLast (is_sync_sample (tables_of self.now.trak) (track_runs self.now))
             (k + 1) result.number }
+        ensures counted { IsCountBySync self.now k result.comparisons }
         ensures comparisons { result.comparisons ≤ digits (length (all_run_samples (track_runs self.now)))
             + digits (length (sync_numbers (tables_of self.now.trak).stss)) }
     {
@@ -153,6 +159,9 @@ impl Mp4Track {
             (IsLastWith (is_sync_sample (tables_of self.now.trak) (track_runs self.now)) (k + 1)) }
         ensures none { IfNone result ((n : ℕ) → sample_count (tables_of self.now.trak) + 1 + n ≤ k
             → sync_at (track_runs self.now) n ≡ false) }
+        ensures sync { IfSome result (λ _. (j : ℕ) × (sample_count (tables_of self.now.trak) + 1 + j ≤ k)
+            × (sync_at (track_runs self.now) j ≡ true)) }
+        ensures counted { readings.new ≡ comparisons_in_spans self.now k }
         ensures few { readings.new ≤ digits (length (all_run_samples (track_runs self.now))) }
     {
         let count = self.trak.mdia.minf.stbl.sample_count();

@@ -1,14 +1,16 @@
 //! What a seeker asks of the tables of a track: a sample by its time, and the sync sample at or before one
 //! (ISO/IEC 14496-12, 8.6.1.2 and 8.6.2).
 
-ghost use Rattle.std.specs.Prelude.{◌≡◌, ◌+◌, ◌-◌, ◌*◌, ◌<◌, ◌≤◌, ◌↔◌, length, nat_le, slice_index, IsTrue};
+ghost use Rattle.std.specs.Prelude.{◌≡◌, ◌+◌, ◌-◌, ◌*◌, ◌<◌, ◌≤◌, ◌↔◌, length, IsTrue};
 ghost use Rattle.std.specs.List.Sorted.{IsStrictlyIncreasing};
 ghost use Rattle.mp4_fragments.specs.ByTime.{decoded_by};
 ghost use Rattle.mp4_lookup.specs.ByTime.{is_number_of, is_sync_in_table, larger_upto, time_in};
+ghost use Rattle.mp4_lookup.specs.Costs.{IsCountInTable, sync_comparisons, times_by};
 ghost use Rattle.mp4_lookup.specs.Sums.{TimesBefore};
 ghost use Rattle.mp4_samples.specs.Tables.{sync_numbers};
 ghost use Rattle.mp4_search.specs.Digits.{digits};
 ghost use Rattle.mp4_search.specs.Partition.{AnswersLast};
+ghost use Rattle.mp4_search.specs.Search.{IsCountByHalves};
 ghost use Rattle.mp4_table.specs.Runs.{durations};
 
 use crate::index::TrackIndex;
@@ -25,7 +27,7 @@ struct TimesBy<'t> {
 impl<'t> Parted for TimesBy<'t> {
     ghost len = { λ t. length t.times.now };
 
-    ghost has = { λ t i. nat_le (slice_index t.times.now i) t.time };
+    ghost has = { λ t i. times_by t.times.now t.time i };
 
     fn has(&self, index: usize) -> bool {
         self.times[index] <= self.time
@@ -60,7 +62,7 @@ pub fn last_by_time(
     requires sums { TimesBefore runs.now index.now.stts_counts index.now.stts_times.items }
     requires fresh { readings.old ≡ 0 }
     ensures number { AnswersLast (λ k. decoded_by time (time_in (durations runs.now) k)) (count + 1) result }
-    ensures few { readings.new ≤ digits (length runs.now) + 1 }
+    ensures counted { IsCountInTable index.now.stts_times.items time readings.new }
 {
     let times = TimesBy {
         times: index.stts_times.as_slice(),
@@ -108,7 +110,7 @@ fn last_upto(numbers: &SearchedNumbers, k: u32, readings: &mut Readings) -> Opti
     requires rises { IsStrictlyIncreasing numbers.now }
     requires fresh { readings.old ≡ 0 }
     ensures number { AnswersLast (is_number_of numbers.now) (k + 1) result }
-    ensures few { readings.new ≤ digits (length numbers.now) }
+    ensures counted { IsCountByHalves numbers.now k readings.new }
 {
     let Some(found) = ByHalves::last_at_most(numbers, k, readings) else {
         return None;
@@ -131,6 +133,7 @@ pub fn last_sync_upto(
     requires sync { index.now.sync_numbers ≡ sync_numbers stss.now }
     requires fresh { readings.old ≡ 0 }
     ensures number { AnswersLast (is_sync_in_table stss.now) (k + 1) result }
+    ensures counted { readings.new ≡ sync_comparisons index.now k }
     ensures few { readings.new ≤ digits (length (sync_numbers stss.now)) }
 {
     match stss {

@@ -93,8 +93,8 @@ fn indexes_of(
     let count = stbl.sample_count();
     let index = index_of(alloc, stbl)?;
     let end = end_after(stbl.stts.entries.as_slice(), count);
-    let runs = index_of_runs(alloc, trafs, base_data_offsets, defaults, end)?;
-    let seek = seek_index_of(alloc, trafs, defaults, &runs, u32::MAX - count)?;
+    let mut runs = index_of_runs(alloc, trafs, base_data_offsets, defaults, end)?;
+    let seek = seek_index_of(alloc, trafs, defaults, &mut runs, u32::MAX - count)?;
     Ok(TrackIndexes { index, runs, seek })
 }
 

@@ -1,4 +1,6 @@
 use Rattle.std.proofs.Common.{◌≡◌, ◌+◌, ◌-◌, ◌^◌, length, min, ◌∙◌, arith}
+use Rattle.mp4_fragments.proofs.Decoding.{parted_once}
+use Rattle.mp4_lookup.specs.Costs.{IsCountInTable, times_by}
 use Rattle.mp4_search.proofs.Digits.{digits_64}
 use Rattle.mp4_table.specs.Runs.{durations}
 use Rattle.mp4_lookup.proofs.Seeking.{early_samples, last_sample_by, no_runs_by, no_sample_by, times_parted}
@@ -57,3 +59,55 @@ returns-clause-number c =
     ≡ c.min-number.result = omega (arith, c.saturating_add.ensures, c.min-number.ensures) in
     last_sample_by (durations c.args.runs.now) c.args.count c.args.time c.min-number.result (rw is at found)
     (omega (arith, c.if-number-eq0.false))
+
+pub returns-in_default-clause-counted : goal.returns-in_default-clause-counted
+returns-in_default-clause-counted c =
+    let times = c.as_slice.result.now in
+    let counted : IsCountInTable times c.args.time c.partition_point-begun.new.readings = record {
+      none = λ _. omega (arith, c.requires.fresh, c.partition_point-begun.ensures.counted);
+      some = λ r at. absurd (omega (
+        arith,
+        parted_once (times_by times c.args.time) (length times) _ _ c.partition_point-begun.ensures.point at,
+        c.in_default.ensures,
+      ));
+      few = omega (arith, c.requires.fresh, c.partition_point-begun.ensures.few);
+    } in
+    rw c.as_slice.ensures.value at counted
+
+pub returns-then-number-eq0-clause-counted : goal.returns-then-number-eq0-clause-counted
+returns-then-number-eq0-clause-counted c =
+    let times = c.as_slice.result.now in
+    let counted : IsCountInTable times c.args.time c.read-before.new.readings = record {
+      none = λ at. absurd (omega (
+        arith,
+        parted_once (times_by times c.args.time) (length times) _ _ c.partition_point-begun.ensures.point at,
+        c.in-Some.ensures.0,
+      ));
+      some = λ _ _. omega (
+        arith,
+        c.requires.fresh,
+        c.partition_point-begun.ensures.counted,
+        c.read-before.ensures.counted,
+      );
+      few = omega (arith, c.requires.fresh, c.partition_point-begun.ensures.few, c.read-before.ensures.counted);
+    } in
+    rw c.as_slice.ensures.value at counted
+
+pub returns-clause-counted : goal.returns-clause-counted
+returns-clause-counted c =
+    let times = c.as_slice.result.now in
+    let counted : IsCountInTable times c.args.time c.read-before.new.readings = record {
+      none = λ at. absurd (omega (
+        arith,
+        parted_once (times_by times c.args.time) (length times) _ _ c.partition_point-begun.ensures.point at,
+        c.in-Some.ensures.0,
+      ));
+      some = λ _ _. omega (
+        arith,
+        c.requires.fresh,
+        c.partition_point-begun.ensures.counted,
+        c.read-before.ensures.counted,
+      );
+      few = omega (arith, c.requires.fresh, c.partition_point-begun.ensures.few, c.read-before.ensures.counted);
+    } in
+    rw c.as_slice.ensures.value at counted

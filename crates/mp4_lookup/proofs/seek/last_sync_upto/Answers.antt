@@ -1,6 +1,7 @@
-use Rattle.std.proofs.Common.{◌≡◌, ◌∙◌, ap, Option, arith}
+use Rattle.std.proofs.Common.{◌≡◌, ◌∙◌, [], ap, sym, Option, arith}
 use Rattle.mp4_table.specs.declared.stss.StssBox.{StssBox}
 use Rattle.mp4_samples.specs.Tables.{sync_numbers}
+use Rattle.mp4_lookup.proofs.Counts.{none_compared}
 use Rattle.mp4_lookup.proofs.Syncs.{last_in_table, last_of_all, none_of_none}
 use Rattle.mp4_lookup.proofs.seek.last_sync_upto.Goals as goal
 
@@ -22,3 +23,15 @@ pub returns-else-index-clause-number : goal.returns-else-index-clause-number
 returns-else-index-clause-number c =
     rw c.in-Some.is (last_in_table c.in-Some.stss c.args.k c.largest_upto.result
     (rw c.as_slice.ensures at c.largest_upto.ensures))
+
+pub returns-then-k-eq0-clause-counted : goal.returns-then-k-eq0-clause-counted
+returns-then-k-eq0-clause-counted c =
+    let numbers : c.args.index.now.sync_numbers ≡ [] =
+    c.requires.sync ∙ ap (λ (s : Option StssBox). sync_numbers s) c.in-None.is in
+    c.requires.fresh ∙ sym (none_compared c.args.index.now c.args.k numbers)
+
+pub returns-else-k-eq0-clause-counted : goal.returns-else-k-eq0-clause-counted
+returns-else-k-eq0-clause-counted c =
+    let numbers : c.args.index.now.sync_numbers ≡ [] =
+    c.requires.sync ∙ ap (λ (s : Option StssBox). sync_numbers s) c.in-None.is in
+    c.requires.fresh ∙ sym (none_compared c.args.index.now c.args.k numbers)

@@ -19,4 +19,4 @@ returns-clause-seek c =
     let end = 2 ^ 32 - 1 - c.sample_count-count.result in
     rw (c.end_after-end.ensures, c.as_slice.ensures, c.sample_count-count.ensures)
     at (subst (λ runs. IsSeekIndex runs end c.in_ok-seek.seek)
-    (indexed_runs trafs defaults _ c.in_ok-runs.runs c.in_ok-runs.ensures) c.in_ok-seek.ensures)
+    (indexed_runs trafs defaults _ c.in_ok-runs.runs c.in_ok-runs.ensures) c.in_ok-seek.ensures.made)

@@ -51,3 +51,14 @@ returns-in-Some-clause-few c =
       c.last_upto.ensures.few,
       digits_grow (length t.seek.sync.firsts.items) (length (all_run_samples (track_runs t))) t.sought.few,
     )
+
+pub returns-in-Some-clause-sync : goal.returns-in-Some-clause-sync
+returns-in-Some-clause-sync c =
+    let t = c.args.self.now in
+    let count = sample_count t.trak.mdia.minf.stbl in
+    let last = c.in-Some.ensures.number (sync_at (track_runs t)) (2 ^ 32 - 1 - count) t.sought.sync
+    (omega (arith, c.sample_count-count.ensures, c.if-k-count.false)) in (
+      c.in-Some.number,
+      omega (arith, last.within, c.sample_count-count.ensures, c.if-k-count.false),
+      last.own,
+    )
