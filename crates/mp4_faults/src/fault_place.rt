@@ -1,6 +1,8 @@
 //! The place of a fault.
 
-use mp4_codec::{BoxType, DebugItem, Error, FourCC, Items};
+ghost use Rattle.mp4_codec.specs.ExactTest.{by_test, field_tests};
+
+use mp4_codec::{BoxType, DebugItem, Error, ExactEq, FourCC, Items};
 use std::fmt;
 use std::fmt::Write;
 
@@ -11,6 +13,10 @@ pub struct PathStep {
     pub name: BoxType,
     /// Which of the boxes of this type it is in what contains it, from 1.
     pub number: u64,
+}
+
+impl ExactEq for PathStep {
+    ghost exact = { by_test (Prim.hlevel field_tests) };
 }
 
 impl DebugItem for PathStep {}

@@ -1,6 +1,7 @@
 //! The samples of a track by the time at which they are decoded, and the sync samples at or before a sample: what a
 //! player asks that goes to a time (ISO/IEC 14496-12, 8.6.1.2, 8.6.2, 8.8.3.1 and 8.8.12).
 
+ghost use Rattle.mp4_codec.specs.ExactTest.{by_test, field_tests};
 ghost use Rattle.std.specs.Prelude.{◌≡◌, ℕ, ◌+◌, ◌-◌, ◌^◌, ◌<◌, ◌≤◌, true, false, get_or, length, option_map};
 ghost use Rattle.std.specs.Prelude.{IfNone, IfSome};
 ghost use Rattle.mp4_boxes.specs.Stbl.{sample_count};
@@ -19,6 +20,7 @@ ghost use Rattle.mp4_table.specs.Runs.{durations};
 use crate::seek::{last_by_time, last_sync_upto};
 use crate::timing::time_at;
 use crate::track::Mp4Track;
+use mp4_codec::ExactEq;
 use mp4_fragments::RunSample;
 use mp4_search::{ByGuess, Readings};
 
@@ -31,6 +33,10 @@ pub struct FoundNumber {
     pub comparisons: u32,
 }
 
+impl ExactEq for FoundNumber {
+    ghost exact = { by_test (Prim.hlevel field_tests) };
+}
+
 /// When a track begins and ends, in ticks of its timescale.
 #[derive(Clone, Copy, Debug, PartialEq, Eq)]
 pub struct TimeRange {
@@ -38,6 +44,10 @@ pub struct TimeRange {
     pub start: u64,
     /// When the last sample has lasted.
     pub end: u64,
+}
+
+impl ExactEq for TimeRange {
+    ghost exact = { by_test (Prim.hlevel field_tests) };
 }
 
 /// When a sample of a fragment is decoded, if that is known, and how long it lasts.

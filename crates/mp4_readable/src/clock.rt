@@ -1,8 +1,10 @@
 //! Times of a file, as a clock shows them.
 
+ghost use Rattle.mp4_codec.specs.ExactTest.{by_test, field_tests};
 ghost use Rattle.std.specs.Prelude.{◌≡◌, ℕ, ◌*◌, ◌/◌, ◌^◌, ◌<◌, ◌≤◌};
 ghost use Rattle.mp4_readable.specs.Clock.{IsReading, parts_up};
 
+use mp4_codec::ExactEq;
 use std::fmt;
 use std::fmt::Write;
 
@@ -52,6 +54,10 @@ fn write_reading<W: fmt::Write>(
 /// A time in milliseconds as hours, minutes, seconds and thousandths: `0:01:02.345`.
 #[derive(Clone, Copy, Debug, PartialEq, Eq)]
 pub struct Clock(pub u64);
+
+impl ExactEq for Clock {
+    ghost exact = { by_test (Prim.hlevel field_tests) };
+}
 
 impl fmt::Display for Clock {
     fn fmt<W: fmt::Write>(&self, f: &mut fmt::Formatter<W>) -> fmt::Result {
@@ -126,6 +132,10 @@ pub struct TickClock {
     pub timescale: u32,
 }
 
+impl ExactEq for TickClock {
+    ghost exact = { by_test (Prim.hlevel field_tests) };
+}
+
 impl fmt::Display for TickClock {
     fn fmt<W: fmt::Write>(&self, f: &mut fmt::Formatter<W>) -> fmt::Result {
         let timescale = self.timescale;
@@ -156,6 +166,10 @@ pub struct TickSeconds {
     pub ticks: u64,
     /// Ticks in a second. Where it is 0, the time isn't known, and `-` is shown.
     pub timescale: u32,
+}
+
+impl ExactEq for TickSeconds {
+    ghost exact = { by_test (Prim.hlevel field_tests) };
 }
 
 impl fmt::Display for TickSeconds {

@@ -1,6 +1,8 @@
 //! Codes and texts of a file that a terminal is safe from.
 
-use mp4_codec::FourCC;
+ghost use Rattle.mp4_codec.specs.ExactTest.{by_test, field_tests};
+
+use mp4_codec::{ExactEq, FourCC};
 use std::fmt;
 use std::fmt::Write;
 
@@ -8,6 +10,10 @@ use std::fmt::Write;
 /// stop.
 #[derive(Clone, Copy, Debug, PartialEq, Eq)]
 pub struct Code(pub FourCC);
+
+impl ExactEq for Code {
+    ghost exact = { by_test (Prim.hlevel field_tests) };
+}
 
 impl fmt::Display for Code {
     fn fmt<W: fmt::Write>(&self, f: &mut fmt::Formatter<W>) -> fmt::Result {

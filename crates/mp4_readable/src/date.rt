@@ -1,5 +1,8 @@
 //! Times of boxes, as dates.
 
+ghost use Rattle.mp4_codec.specs.ExactTest.{by_test, field_tests};
+
+use mp4_codec::ExactEq;
 use std::fmt;
 use std::fmt::Write;
 
@@ -39,6 +42,10 @@ fn day_of(days: u64) -> Day {
 /// UTC. 0 is shown as `not set`.
 #[derive(Clone, Copy, Debug, PartialEq, Eq)]
 pub struct Date(pub u64);
+
+impl ExactEq for Date {
+    ghost exact = { by_test (Prim.hlevel field_tests) };
+}
 
 impl fmt::Display for Date {
     fn fmt<W: fmt::Write>(&self, f: &mut fmt::Formatter<W>) -> fmt::Result {

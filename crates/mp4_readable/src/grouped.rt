@@ -1,8 +1,10 @@
 //! Numbers with a comma before each three digits.
 
-ghost use Rattle.std.specs.Prelude.{◌≡◌, ◌<◌, ◌≤◌, All};
-ghost use Rattle.mp4_readable.specs.Groups.{number_of_groups};
+ghost use Rattle.mp4_codec.specs.ExactTest.{by_test, field_tests};
+ghost use Rattle.std.specs.Prelude.{◌≡◌, ◌<◌, All};
+ghost use Rattle.mp4_readable.specs.Groups.{IsFirstWritten, IsGroupedLength, digits_in_group, number_of_groups};
 
+use mp4_codec::ExactEq;
 use std::fmt;
 use std::fmt::Write;
 
@@ -30,7 +32,7 @@ fn groups_of(number: u64) -> [u64; 7]
 
 /// How many decimal digits a number below 1000 has.
 fn digits_of(number: u64) -> usize
-    ensures { result ≤ 3 }
+    ensures { result ≡ digits_in_group number }
 {
     match number {
         0..=9 => 1,
@@ -41,14 +43,19 @@ fn digits_of(number: u64) -> usize
 
 /// The index of the first group that is written: the highest that isn't 0, or the last.
 fn first_group(groups: &[u64; 7]) -> usize
-    ensures { result ≤ 6 }
+    ensures { IsFirstWritten groups.now result }
 {
-    let zeros = groups.iter().take_while(|group| **group == 0).count();
-    zeros.min(6)
+    let mut first = 0;
+    while first < 6 && groups[first] == 0 {
+        first += 1;
+    }
+    first
 }
 
 /// How many characters [`Grouped`] writes of a number.
-pub fn grouped_length(number: u64) -> usize {
+pub fn grouped_length(number: u64) -> usize
+    ensures { IsGroupedLength number result }
+{
     let groups = groups_of(number);
     let first = first_group(&groups);
     digits_of(groups[first]) + 4 * (6 - first)
@@ -57,6 +64,10 @@ pub fn grouped_length(number: u64) -> usize {
 /// A number with a comma before each three digits, as `1,234,567`. A width that is asked for is filled in front.
 #[derive(Clone, Copy, Debug, PartialEq, Eq)]
 pub struct Grouped(pub u64);
+
+impl ExactEq for Grouped {
+    ghost exact = { by_test (Prim.hlevel field_tests) };
+}
 
 impl fmt::Display for Grouped {
     fn fmt<W: fmt::Write>(&self, f: &mut fmt::Formatter<W>) -> fmt::Result {

@@ -1,6 +1,9 @@
 //! Numbers of thousandths, as decimal fractions.
 
+ghost use Rattle.mp4_codec.specs.ExactTest.{by_test, field_tests};
+
 use crate::json::Whole;
+use mp4_codec::ExactEq;
 use serde::{Described, Serialize, Serializer};
 use std::fmt;
 use std::fmt::Write;
@@ -8,6 +11,10 @@ use std::fmt::Write;
 /// A number of thousandths as a decimal fraction of three digits: `29.970`.
 #[derive(Clone, Copy, Debug, PartialEq, Eq)]
 pub struct Thousandths(pub u64);
+
+impl ExactEq for Thousandths {
+    ghost exact = { by_test (Prim.hlevel field_tests) };
+}
 
 impl fmt::Display for Thousandths {
     fn fmt<W: fmt::Write>(&self, f: &mut fmt::Formatter<W>) -> fmt::Result {

@@ -101,6 +101,18 @@ pub fn sync_sample(alloc: Global, movie: &Mp4Reader, id: u32, k: u32) -> Result<
     )
 }
 
+/// How many times are compared for the last sample that is decoded at or before a time.
+pub fn comparisons_by_time(alloc: Global, movie: &Mp4Reader, id: u32, time: u64) -> Result<String> {
+    let found = track_of(movie, id)?.find_sample_at(time);
+    Ok(format!(in alloc; "{}", found.comparisons)?)
+}
+
+/// How many numbers are compared for the last sync sample up to a number.
+pub fn comparisons_by_sync(alloc: Global, movie: &Mp4Reader, id: u32, k: u32) -> Result<String> {
+    let found = track_of(movie, id)?.find_sync_sample_at_or_before(k);
+    Ok(format!(in alloc; "{}", found.comparisons)?)
+}
+
 /// When a track begins and ends.
 pub fn time_range(alloc: Global, movie: &Mp4Reader, id: u32) -> Result<String> {
     match track_of(movie, id)?.time_range() {

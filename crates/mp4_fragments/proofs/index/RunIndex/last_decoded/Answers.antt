@@ -184,12 +184,12 @@ returns-clause-counted c =
             c.read-before.ensures.counted,
           );
       few = omega (
-          arith,
-          c.requires.fresh,
-          many,
-          c.partition_point-count.ensures.few,
-          c.read-before.ensures.counted,
-          c.run_samples_by-run_samples.ensures.few,
+        arith,
+        c.requires.fresh,
+        many,
+        c.partition_point-count.ensures.few,
+        c.read-before.ensures.counted,
+        c.run_samples_by-run_samples.ensures.few,
       );
     } in
     rw c.as_slice.ensures.value at counted

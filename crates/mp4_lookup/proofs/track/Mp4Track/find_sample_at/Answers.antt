@@ -27,8 +27,8 @@ returns-clause-counted c = record {
   in_runs = rw c.count-2.ensures c.in_default.ensures.counted;
   found = λ j h e. absurd (true≢false (sym e ∙ c.in_default.ensures.none j h));
   before = λ none. (
-      c.count-3.result,
-      rw c.count-3.ensures c.last_by_time-number.ensures.counted,
-      omega (arith, c.saturating_add.ensures),
+    c.count-3.result,
+    rw c.count-3.ensures c.last_by_time-number.ensures.counted,
+    omega (arith, c.saturating_add.ensures),
   );
 }
