@@ -1,2 +1,3 @@
 pub mod CodecNames
 pub mod Rates
+pub mod Sounds

@@ -1,5 +1,7 @@
 //! The samples of a track: where they lie, and when they are decoded and shown.
 
+ghost use Rattle.std.specs.Prelude.{◌≡◌};
+
 use crate::past_end::is_in_file;
 use crate::spans::{Span, Spans};
 use mp4_codec::{Error, Result};
@@ -119,7 +121,9 @@ impl<'m> SampleRows<'m> {
     }
 
     /// How many samples may still come: as many as were asked for and not yet found.
-    pub fn left(&self) -> u32 {
+    pub fn left(&self) -> u32
+        ensures { result ≡ self.now.left }
+    {
         self.left
     }
 

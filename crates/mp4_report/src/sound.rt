@@ -1,5 +1,8 @@
 //! What a sample entry says of sound.
 
+ghost use Rattle.std.specs.Prelude.{◌≡◌};
+ghost use Rattle.mp4_report.specs.Sounds.{AreChannelsOf, AreHertzOf, channel_count, channels_of_type};
+
 use crate::codec_name::MPEG4_AUDIO;
 use mp4_entry::{ChannelConfig, DecoderSpecificDescriptor, Mp4aBox, SampleFreqIndex};
 use mp4_readable::Grouped;
@@ -25,7 +28,10 @@ pub struct Sound {
 }
 
 /// How many channels an arrangement of them has (ISO/IEC 14496-3, 1.6.3.5).
-fn channels_of(config: ChannelConfig) -> u16 {
+#[tactic(auto, unfolding(crate::specs::Sounds::channel_count))]
+fn channels_of(config: ChannelConfig) -> u16
+    ensures { result ≡ channel_count config }
+{
     match config {
         ChannelConfig::SevenOne => 8,
         other => u16::from(other.number()),
@@ -33,7 +39,9 @@ fn channels_of(config: ChannelConfig) -> u16 {
 }
 
 /// The channels that the number of an arrangement says, if it is that of one.
-fn channels_by_number(number: u8) -> Option<u16> {
+fn channels_by_number(number: u8) -> Option<u16>
+    ensures { AreChannelsOf number result }
+{
     match ChannelConfig::try_from(number) {
         Ok(config) => Some(channels_of(config)),
         Err(_) => None,
@@ -41,7 +49,9 @@ fn channels_by_number(number: u8) -> Option<u16> {
 }
 
 /// The frequency that an index says, if it is that of one.
-fn frequency_by_index(index: u8) -> Option<u32> {
+fn frequency_by_index(index: u8) -> Option<u32>
+    ensures { AreHertzOf index result }
+{
     match SampleFreqIndex::try_from(index) {
         Ok(index) => Some(index.freq()),
         Err(_) => None,
@@ -49,7 +59,10 @@ fn frequency_by_index(index: u8) -> Option<u32> {
 }
 
 /// How many channels sound of a type has that a decoder is started with so many of.
-fn channels_of_type(profile: u8, channels: u16) -> u16 {
+#[tactic(auto, unfolding(crate::specs::Sounds::channels_of_type))]
+fn channels_of_type(profile: u8, channels: u16) -> u16
+    ensures { result ≡ channels_of_type profile channels }
+{
     if profile == PARAMETRIC_STEREO && channels == 1 {
         2
     } else {

@@ -1,5 +1,8 @@
 //! What the samples of a track are together, by the runs of its tables and fragments.
 
+ghost use Rattle.std.specs.Prelude.{◌≡◌, ◌-◌, None, nat_lt, if◌then◌else◌};
+ghost use Rattle.mp4_report.specs.Rates.{milliseconds_each};
+
 use crate::past_end::PastEnd;
 use crate::rate::milliseconds_each;
 use crate::spans::{Span, Spans};
@@ -53,20 +56,26 @@ impl SampleSummary {
     }
 
     /// How many times a sync sample follows another.
-    fn gaps(&self) -> u64 {
+    fn gaps(&self) -> u64
+        ensures { result ≡ self.now.sync - 1 }
+    {
         self.sync.saturating_sub(1)
     }
 
     /// The milliseconds from a sync sample to the next on average, to the nearest; `None` where there are
     /// fewer than two.
-    pub fn mean_ms(&self, timescale: u32) -> Option<u64> {
+    pub fn mean_ms(&self, timescale: u32) -> Option<u64>
+        ensures { result ≡ milliseconds_each (self.now.last_sync - self.now.first_sync) (self.now.sync - 1) timescale }
+    {
         let ticks = self.last_sync.saturating_sub(self.first_sync);
         milliseconds_each(ticks, self.gaps(), timescale)
     }
 
     /// The most milliseconds from a sync sample to the next, to the nearest; `None` where there are fewer
     /// than two.
-    pub fn longest_ms(&self, timescale: u32) -> Option<u64> {
+    pub fn longest_ms(&self, timescale: u32) -> Option<u64>
+        ensures { result ≡ (if nat_lt 1 self.now.sync then milliseconds_each self.now.longest 1 timescale else None) }
+    {
         if self.gaps() == 0 {
             return None;
         }
