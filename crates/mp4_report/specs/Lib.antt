@@ -1,3 +1,4 @@
 pub mod CodecNames
 pub mod Rates
 pub mod Sounds
+pub mod PastEnd

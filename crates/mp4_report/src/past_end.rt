@@ -1,5 +1,8 @@
 //! Samples that lie past the end of their file.
 
+ghost use Rattle.std.specs.Prelude.{◌≡◌, ◌+◌, nat_le};
+ghost use Rattle.mp4_report.specs.PastEnd.{samples_within};
+
 use crate::spans::{Span, Spans};
 use mp4_media::{Movie, Mp4Track};
 use mp4_readable::{Grouped, Whole};
@@ -21,7 +24,10 @@ pub struct PastEnd {
 
 /// How many samples of one size, one after the other, lie within a file of so many bytes; 2^64 - 1 where they
 /// have no bytes.
-fn count_within(place: u64, size: u32, file_size: u64) -> u64 {
+#[tactic(auto, unfolding(crate::specs::PastEnd::samples_within))]
+fn count_within(place: u64, size: u32, file_size: u64) -> u64
+    ensures { result ≡ samples_within place size file_size }
+{
     if place > file_size {
         return 0;
     }
@@ -45,7 +51,9 @@ fn past_end_of(span: Span, file_size: u64) -> Option<PastEnd> {
 }
 
 /// Whether a sample lies within a file of so many bytes.
-pub(crate) fn is_in_file(place: u64, size: u32, file_size: u64) -> bool {
+pub(crate) fn is_in_file(place: u64, size: u32, file_size: u64) -> bool
+    ensures { result ≡ nat_le (place + size) file_size }
+{
     match place.checked_add(u64::from(size)) {
         Some(end) => end <= file_size,
         None => false,
