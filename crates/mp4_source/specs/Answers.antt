@@ -3,6 +3,8 @@ use Rattle.std.specs.Prelude.{◌≡◌, ◌⊎◌, ℕ, ⊤, Bool, IsTrue, List
 use Rattle.mp4_codec.specs.declared.error.Error.{Error}
 use Rattle.mp4_codec.specs.declared.error.Error.TheVariants.{OutOfMemory}
 use Rattle.mp4_codec.specs.Cause.{Cause, cause_of}
+use Rattle.mp4_codec.specs.Cursor.{here, header_at}
+use Rattle.mp4_codec.specs.declared.header.BoxHeader.{BoxHeader}
 use Rattle.mp4_source.specs.declared.error.SourceError.{SourceError}
 use Rattle.mp4_source.specs.declared.error.SourceError.TheVariants.{OutOfMemory as no_memory, Io as refused}
 use Rattle.mp4_source.specs.declared.file_error.FileError.{FileError}
@@ -40,3 +42,7 @@ IsLength known len = IfSome known (λ bytes. len ≡ length bytes)
 -- this is the value of some payload
 abbrev pub IsSomeValue : {X : Type 0} → (List ℕ → Result X Cause) → X → Type 0
 IsSomeValue value x = (payload : List ℕ) × (value payload ≡ Ok x)
+
+-- this is the header with which some bytes begin, and it has so many bytes
+abbrev pub IsSomeHeader : BoxHeader → ℕ → Type 0
+IsSomeHeader header n = (bytes : List ℕ) × (header_at (here bytes 0) ≡ Ok (header, here bytes n))

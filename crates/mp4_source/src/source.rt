@@ -98,8 +98,10 @@ pub fn read_into<S: ByteSource>(
     n: usize,
     buffer: &mut Vec<u8>,
 ) -> Result<(), SourceError>
+    ensures len { OnOk result (vec_len buffer.new ≡ n) }
     ensures value { OnOk result (IsPartOf (S.contents source.old) place n buffer.new.items) }
     ensures io { IfErr result (λ e. OnIo e (IsRefusal (S.contents source.old) place n (S.can_refuse source.old))) }
+    ensures memory { IfErr result (λ e. OnOutOfMemory e (vec_capacity buffer.old < n)) }
     ensures contents { S.contents source.new ≡ S.contents source.old }
     ensures can_refuse { S.can_refuse source.new ≡ S.can_refuse source.old }
 {

@@ -1,13 +1,13 @@
 //! Boxes of a source, read where they lie.
 
-ghost use Rattle.std.specs.Prelude.{◌≡◌, ◌+◌, ◌-◌, ◌≤◌, ◌⊎◌, Ok, length, IfOk, IfErr, IfSome, OnOk};
+ghost use Rattle.std.specs.Prelude.{◌≡◌, ◌+◌, ◌-◌, ◌≤◌, ◌⊎◌, Ok, length, IfOk, IfErr, IfSome, OnOk, OnErr};
 ghost use Rattle.std.specs.Prelude.{IsTrue, ◌↔◌};
 ghost use Rattle.mp4_codec.specs.BoxType.{IsNamed};
 ghost use Rattle.mp4_codec.specs.Boxes.{box_at};
 ghost use Rattle.mp4_codec.specs.Cause.{Gives};
 ghost use Rattle.mp4_codec.specs.Cursor.{here, header_at};
 ghost use Rattle.mp4_codec.specs.declared.error.Error.TheVariants.{OutOfMemory};
-ghost use Rattle.mp4_source.specs.Answers.{AnswersRead, IsIo, IsLength, IsSomeValue};
+ghost use Rattle.mp4_source.specs.Answers.{AnswersRead, IsIo, IsLength, IsSomeHeader, IsSomeValue};
 ghost use Rattle.mp4_source.specs.declared.file_error.FileError.TheVariants.{Mp4};
 
 use crate::error::SourceError;
@@ -104,7 +104,11 @@ impl<S: ByteSource + Drop> SourceCursor<S> {
         requires len { IsLength (S.contents self.old.source) self.old.len }
         ensures answer { IfSome (S.contents self.old.source) (λ bytes. AnswersRead (S.can_refuse self.old.source)
             (λ h. (h, here bytes self.new.position)) result (header_at (here bytes self.old.position))) }
+        ensures header { IfOk result (λ h. IsSomeHeader h (self.new.position - self.old.position)) }
         ensures moved { OnOk result (self.old.position + 8 ≤ self.new.position) }
+        ensures stays { OnErr result (self.new.position ≡ self.old.position) }
+        ensures fits { IfErr result (λ e. e ≡ Mp4 OutOfMemory → self.old.position + 8 ≤ self.old.len) }
+        ensures io { IfErr result (λ e. IsIo e → self.old.position + 8 ≤ self.old.len) }
         ensures named { IfOk result (λ h. IsNamed h.name) }
         ensures size { IfOk result (λ h. (h.size ≡ 0) ⊎ (8 ≤ h.size)) }
         ensures contents { S.contents self.new.source ≡ S.contents self.old.source }
@@ -132,7 +136,9 @@ impl<S: ByteSource + Drop> SourceCursor<S> {
             (λ x. (x, here bytes self.new.position)) result (box_at B.value size (here bytes self.old.position))) }
         ensures value { IfOk result (IsSomeValue B.value) }
         ensures fits { IfErr result (λ e. e ≡ Mp4 OutOfMemory → self.old.position + (size - 8) ≤ self.old.len) }
-        ensures onward { OnOk result (self.old.position ≤ self.new.position) }
+        ensures io { IfErr result (λ e. IsIo e → self.old.position + (size - 8) ≤ self.old.len) }
+        ensures moved { OnOk result (self.new.position ≡ self.old.position + (size - 8)) }
+        ensures stays { OnErr result (self.new.position ≡ self.old.position) }
         ensures contents { S.contents self.new.source ≡ S.contents self.old.source }
         ensures can_refuse { S.can_refuse self.new.source ≡ S.can_refuse self.old.source }
         ensures same_len { self.new.len ≡ self.old.len }
