@@ -1,7 +1,11 @@
 -- What an opened movie answers of its metadata and of its samples (ISO/IEC 14496-12, 8.3.2, 8.6, 8.7 and 8.11).
-use Rattle.std.specs.Prelude.{◌≡◌, ℕ, ◌+◌, List, Option, Some, None, Result, Ok, Err, nat_lt, if◌then◌else◌}
+use Rattle.std.specs.Prelude.{◌≡◌, ◌⊎◌, ◌<◌, ℕ, ◌+◌, List, length, Option, Some, None, option_map, Result, Ok, Err}
+use Rattle.std.specs.Prelude.{nat_lt, if◌then◌else◌}
 use Rattle.std.specs.HashMap.{HashMap}
-use Rattle.mp4_codec.specs.Cause.{Cause, end_of_data, trak_not_found, ◌>>=◌}
+use Rattle.mp4_codec.specs.Cause.{Cause, cause_of, end_of_data, trak_not_found, ◌>>=◌}
+use Rattle.mp4_codec.specs.declared.error.Error.TheVariants.{OutOfMemory}
+use Rattle.mp4_source.specs.declared.file_error.FileError.{FileError}
+use Rattle.mp4_source.specs.declared.file_error.FileError.TheVariants.{Mp4, Io}
 use Rattle.mp4_meta.specs.declared.ilst.IlstBox.{IlstBox}
 use Rattle.mp4_meta.specs.declared.meta.MetaBox.{MetaBox}
 use Rattle.mp4_meta.specs.declared.meta.MetaBox.TheVariants.{Mdir, Unknown}
@@ -10,7 +14,8 @@ use Rattle.mp4_boxes.specs.declared.moov.MoovBox.{MoovBox}
 use Rattle.mp4_lookup.specs.declared.track.Mp4Track.{Mp4Track}
 use Rattle.mp4_samples.specs.declared.sample.Place.{Place}
 use Rattle.mp4_lookup.specs.Rates.{sample_count_of}
-use Rattle.mp4_samples.specs.Samples.{TimedSample}
+use Rattle.mp4_samples.specs.Samples.{TimedSample, timed_sample}
+use Rattle.mp4_samples.specs.declared.sample.Mp4Sample.{Mp4Sample}
 use Rattle.mp4_samples.specs.declared.sample.SamplePlace.{SamplePlace}
 use Rattle.mp4_lookup.specs.Tracks.{sample_at, answer_at}
 use Rattle.mp4_lookup.specs.TrackRuns.{track_runs}
@@ -41,6 +46,10 @@ LiesAt answer offset = (p : Place) × (answer ≡ Ok (Some p)) × (p.offset ≡ 
 abbrev pub IsPlaced : Result (Option Place) Cause → Type 0
 IsPlaced answer = (p : Place) × (answer ≡ Ok (Some p))
 
+-- there is a place, of more bytes than so many
+abbrev pub IsPlacedPast : ℕ → Result (Option Place) Cause → Type 0
+IsPlacedPast room answer = (p : Place) × (answer ≡ Ok (Some p)) × (room < p.size)
+
 -- the place that a lookup found, in a file of so many bytes: one of a sample that doesn't lie whole in it is refused
 abbrev pub within : ℕ → Option Place → Result (Option Place) Cause
 within len None = Ok None
@@ -69,6 +78,30 @@ sample_there bytes p = record {
     is_sync = p.is_sync;
   };
 }
+
+-- the place of a sample that begins there
+abbrev pub placed_at : ℕ → TimedSample → Place
+placed_at offset s = record {
+  offset = offset;
+  size = length s.sample.bytes;
+  start_time = s.start_time;
+  duration = s.sample.duration;
+  rendering_offset = s.sample.rendering_offset;
+  is_sync = s.sample.is_sync;
+}
+
+-- What a call answers that reads the bytes at a place, whatever they are: this place, or its refusal; or memory ran
+-- out; or the source refused to read them, and then there is a place.
+abbrev pub AnswersPlaced : {X : Type 0} → (X → Option Place) → Result X FileError → Result (Option Place) Cause → Type 0
+AnswersPlaced view (Ok x) placed = placed ≡ Ok (view x)
+AnswersPlaced view (Err (Mp4 e)) placed = (e ≡ OutOfMemory) ⊎ (placed ≡ Err (cause_of e))
+AnswersPlaced view (Err (Io e)) placed = IsPlaced placed
+
+-- the same of a call that answers the sample there
+abbrev pub AnswersSample : Result (Option Mp4Sample) FileError → Result (Option Place) Cause → Type 0
+AnswersSample result placed =
+    (offset : ℕ)
+    × AnswersPlaced (λ (s : Option Mp4Sample). option_map (λ s. placed_at offset (timed_sample s)) s) result placed
 
 -- a track, which has to be there
 abbrev pub track_or : {T : Type 0} → ℕ → Option T → Result T Cause

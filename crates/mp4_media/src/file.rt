@@ -1,6 +1,7 @@
 //! Files of any size: opened by a few reads, and their samples read where they lie.
 
-ghost use Rattle.std.specs.Prelude.{◌≡◌, ◌↔◌, ◌+◌, ◌≤◌, Ok, Some, option_map, IfOk, IfErr, IfSome, IsTrue, OnOk};
+ghost use Rattle.std.specs.Prelude.{◌≡◌, ◌↔◌, ◌+◌, ◌≤◌, ◌<◌, Some, option_map, IfOk, IfErr, IfSome, IsTrue, OnOk};
+ghost use Rattle.std.specs.Prelude.{vec_len, vec_capacity};
 ghost use Rattle.std.proofs.Props.{props};
 ghost use Rattle.mp4_codec.specs.Cause.{Gives};
 ghost use Rattle.mp4_codec.specs.Cursor.{here};
@@ -14,7 +15,8 @@ ghost use Rattle.mp4_source.specs.Answers.{AnswersRead, IsLength};
 ghost use Rattle.mp4_source.specs.declared.file_error.FileError.TheVariants.{Mp4};
 ghost use Rattle.mp4_media.specs.FileBoxes.{opened_movie};
 ghost use Rattle.mp4_media.specs.MovieTracks.{AreTracks, at_id};
-ghost use Rattle.mp4_media.specs.Reading.{IsPlaced, placed_in, sample_in, sample_there, sample_with};
+ghost use Rattle.mp4_media.specs.Reading.{AnswersPlaced, AnswersSample, IsPlacedPast};
+ghost use Rattle.mp4_media.specs.Reading.{placed_in, sample_in, sample_there, sample_with, within};
 ghost use Rattle.mp4_media.specs.Walk.{opened_at};
 
 use crate::movie::{Movie, open_source};
@@ -102,7 +104,8 @@ impl<S: ByteSource + Drop> Mp4File<S> {
 
     /// How many bytes the source had when the file was opened.
     pub fn source_len(&self) -> u64
-        ensures { IsLength (S.contents self.now.source) result }
+        ensures len { result ≡ self.now.len }
+        ensures value { IsLength (S.contents self.now.source) result }
     {
         self.len
     }
@@ -126,16 +129,17 @@ impl<S: ByteSource + Drop> Mp4File<S> {
     /// The answer is where the sample lies, and when it is decoded and shown, in ticks of the track's timescale.
     ///
     /// Refused as [`crate::Mp4Reader::read_sample`], with the same errors, all of which but `OutOfMemory` are found
-    /// before a byte of the sample is read. Where memory runs out, there is such a sample. `Io` where the source
-    /// refuses to read it. A refused call leaves the movie as it is.
+    /// before a byte of the sample is read. Where memory runs out, there is such a sample, of more bytes than the
+    /// buffer has room for. `Io` where the source refuses to read it. A refused call leaves the movie as it is.
     pub fn read_sample_into(
         &mut self,
         track_id: u32,
         k: u32,
         buffer: &mut Vec<u8>,
     ) -> std::result::Result<Option<SamplePlace>, FileError>
-        ensures place { IfOk result (λ p. placed_in self.old.len self.old.movie.tracks track_id k
-            ≡ Ok (option_map place_of p)) }
+        ensures place { AnswersPlaced (λ p. option_map place_of p) result
+            (placed_in self.old.len self.old.movie.tracks track_id k) }
+        ensures size { IfOk result (λ p. IfSome p (λ p. vec_len buffer.new ≡ p.size)) }
         ensures answer { IfSome (S.contents self.old.source) (λ bytes. AnswersRead (S.can_refuse self.old.source)
             (λ p. option_map (sample_there buffer.new.items) p) result
             (sample_in bytes self.old.movie.tracks track_id k)) }
@@ -144,7 +148,8 @@ impl<S: ByteSource + Drop> Mp4File<S> {
             → IfSome (S.contents self.old.source) (λ bytes. AnswersRead (S.can_refuse self.old.source)
             (λ p. option_map (sample_there buffer.new.items) p) result (plain_sample_at bytes (tables_of t.trak) k)) }
         ensures memory { IfErr result (λ e. e ≡ Mp4 Error.OutOfMemory
-            → IsPlaced (placed_in self.old.len self.old.movie.tracks track_id k)) }
+            → IsPlacedPast (vec_capacity buffer.old) (placed_in self.old.len self.old.movie.tracks track_id k)) }
+        ensures len { self.new.len ≡ self.old.len }
         ensures movie { self.new.movie ≡ self.old.movie }
         ensures contents { S.contents self.new.source ≡ S.contents self.old.source }
         ensures can_refuse { S.can_refuse self.new.source ≡ S.can_refuse self.old.source }
@@ -160,17 +165,21 @@ impl<S: ByteSource + Drop> Mp4File<S> {
     /// read into the buffer, over what it held. The buffer grows where it has no room for them, and holds any bytes after
     /// an error. No table is looked at.
     ///
-    /// `EndOfData` where they don't lie whole within the source, and `OutOfMemory` only where they do. `Io` where the
-    /// source refuses to read them.
+    /// `EndOfData` where they don't lie whole within the source, and `OutOfMemory` only where they do and the buffer has
+    /// no room for them. `Io` where the source refuses to read them.
     pub fn read_place_into(
         &mut self,
         place: Place,
         buffer: &mut Vec<u8>,
     ) -> std::result::Result<(), FileError>
         ensures within { OnOk result (place.offset + place.size ≤ self.old.len) }
+        ensures place { AnswersPlaced (λ _. Some place) result (within self.old.len (Some place)) }
+        ensures size { OnOk result (vec_len buffer.new ≡ place.size) }
         ensures answer { IfSome (S.contents self.old.source) (λ bytes. AnswersRead (S.can_refuse self.old.source)
             (λ _. Some (sample_with buffer.new.items place)) result (read_in bytes (Some place))) }
-        ensures memory { IfErr result (λ e. e ≡ Mp4 Error.OutOfMemory → place.offset + place.size ≤ self.old.len) }
+        ensures memory { IfErr result (λ e. e ≡ Mp4 Error.OutOfMemory
+            → (place.offset + place.size ≤ self.old.len) × (vec_capacity buffer.old < place.size)) }
+        ensures len { self.new.len ≡ self.old.len }
         ensures movie { self.new.movie ≡ self.old.movie }
         ensures contents { S.contents self.new.source ≡ S.contents self.old.source }
         ensures can_refuse { S.can_refuse self.new.source ≡ S.can_refuse self.old.source }
@@ -191,6 +200,7 @@ impl<S: ByteSource + Drop> Mp4File<S> {
         track_id: u32,
         k: u32,
     ) -> std::result::Result<Option<Mp4Sample>, FileError>
+        ensures place { AnswersSample result (placed_in self.old.len self.old.movie.tracks track_id k) }
         ensures answer { IfSome (S.contents self.old.source) (λ bytes. AnswersRead (S.can_refuse self.old.source)
             (λ s. option_map timed_sample s) result (sample_in bytes self.old.movie.tracks track_id k)) }
         ensures plain { (t : Mp4Track) → at_id self.old.movie.tracks track_id ≡ Some t
@@ -198,7 +208,8 @@ impl<S: ByteSource + Drop> Mp4File<S> {
             → IfSome (S.contents self.old.source) (λ bytes. AnswersRead (S.can_refuse self.old.source)
             (λ s. option_map timed_sample s) result (plain_sample_at bytes (tables_of t.trak) k)) }
         ensures memory { IfErr result (λ e. e ≡ Mp4 Error.OutOfMemory
-            → IsPlaced (placed_in self.old.len self.old.movie.tracks track_id k)) }
+            → IsPlacedPast 0 (placed_in self.old.len self.old.movie.tracks track_id k)) }
+        ensures len { self.new.len ≡ self.old.len }
         ensures movie { self.new.movie ≡ self.old.movie }
         ensures contents { S.contents self.new.source ≡ S.contents self.old.source }
         ensures can_refuse { S.can_refuse self.new.source ≡ S.can_refuse self.old.source }
