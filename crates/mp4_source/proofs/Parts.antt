@@ -12,7 +12,7 @@ use Rattle.mp4_codec.specs.declared.box_type.BoxType.{BoxType}
 use Rattle.mp4_codec.specs.declared.header.BoxHeader.{BoxHeader}
 use Rattle.mp4_codec.specs.BoxType.{box_type}
 use Rattle.mp4_codec.specs.Boxes.{box_at}
-use Rattle.mp4_codec.specs.Cause.{Cause, end_of_data, ◌>>=◌}
+use Rattle.mp4_codec.specs.Cause.{Cause, end_of_data, invalid_data, out_of_memory, ◌>>=◌}
 use Rattle.mp4_codec.proofs.HeadLaws.{was_taken}
 use Rattle.mp4_codec.specs.Steps.{ok_is, both_steps}
 use Rattle.mp4_codec.specs.Cursor.{Cursor, Head, here, take_at, head_with, head_after, head_at, header_at, reported}
@@ -155,6 +155,43 @@ header_within place h after e =
     (omega (arith, first.0, place_is, ap length bytes_are)) two.2 in
     omega (arith, within, last, ap length bytes_are)
 
+-- an answer that doesn't say that memory ran out
+abbrev WantsNone : {A : Type 0} → Result A Cause → Type 0
+WantsNone (Ok x) = Unit {0}
+WantsNone (Err c) = c ≡ out_of_memory → ⊥
+
+-- no header says that memory ran out
+pub header_wants_none : (place : Cursor) → header_at place ≡ Err out_of_memory → ⊥
+unfolding head_at
+header_wants_none place e = subst WantsNone e (next (head_at place) _ first (λ x. tt)) refl
+  where
+    next : {A B : Type 0} (r : Result A Cause) (f : A → Result B Cause) → WantsNone r → ((x : A) → WantsNone (f x))
+        → WantsNone (r >>= f)
+    next (Ok x) f h g = g x
+    next (Err c) f h g = h
+
+    either : {A : Type 0} (b : Bool) (r s : Result A Cause) → WantsNone r → WantsNone s
+        → WantsNone (if b then r else s)
+    either true r s h i = h
+    either false r s h i = i
+
+    taken : (n : ℕ) (c : Cursor) → WantsNone (take_at n c)
+    taken n c = either (nat_lt (length c.bytes) (c.position + n)) _ _ (λ e. absurd cc) tt
+
+    sized : (name : BoxType) (header total : ℕ) → WantsNone (head_with name header total)
+    sized name header total =
+        either (total == 0) _ _ tt (either (nat_lt total header) (Err invalid_data) _ (λ e. absurd cc) tt)
+
+    after_first : (name : BoxType) (size : ℕ) (c : Cursor) → WantsNone (head_after name size c)
+    after_first name size c =
+        either (size == 1) _ _ (next (take_at 8 c) _ (taken 8 c)
+        (λ large. next (head_with name 16 (big_number 8 large.0)) _ (sized name 16 (big_number 8 large.0)) (λ x. tt)))
+        (next (head_with name 8 size) _ (sized name 8 size) (λ x. tt))
+
+    first : WantsNone (head_at place)
+    first = next (take_at 8 place) _ (taken 8 place)
+        (λ x. after_first (box_type (big_number 4 (drop 4 x.0))) (big_number 4 x.0) x.1)
+
 -- A HEADER OF A SOURCE
 
 -- fewer bytes are left than the first 8 of a header
@@ -165,13 +202,13 @@ no_header None len place is short = tt
 no_header (Some bytes) len place is short = rw (lt-ltb (length bytes) (place + 8) (omega (arith, is, short))) refl
 
 -- its first 16 bytes are read, or all that are left
-pub header_of_part : (known : Option (List ℕ)) (len place n : ℕ) (part : List ℕ) → IsLength known len
-    → place + 8 ≤ len → n ≡ min (len - place) 16 → IsPartOf known place n part
+pub header_of_part : (known : Option (List ℕ)) (place n : ℕ) (part : List ℕ)
+    → IfSome known (λ bytes. (place + 8 ≤ length bytes) × (n ≡ min (length bytes - place) 16))
+    → IsPartOf known place n part
     → IfSome known (λ bytes. header_at (here bytes place) ≡ further bytes place (header_at (here part 0)))
-header_of_part None len place n part is room n_is read = tt
-header_of_part (Some bytes) len place n part is room n_is read =
-    header_in_part bytes part place (omega (arith, is, room))
-    (read.1 ∙ ap (λ (k : ℕ). take k (drop place bytes)) (omega (arith, is, n_is)))
+header_of_part None place n part room read = tt
+header_of_part (Some bytes) place n part room read =
+    header_in_part bytes part place room.0 (read.1 ∙ ap (λ (k : ℕ). take k (drop place bytes)) room.1)
 
 -- what follows for known bytes of two facts
 pub both_known : {X : Type 0} (known : Option X) (P Q : X → Type 0) → IfSome known P → ((x : X) → P x → Q x)

@@ -1,5 +1,5 @@
 -- What a source of bytes answers.
-use Rattle.std.specs.Prelude.{◌≡◌, ℕ, ◌+◌, ◌≤◌, Bool, IsTrue, List, length, take, drop, Option, IfSome, ⊤}
+use Rattle.std.specs.Prelude.{◌≡◌, ℕ, ◌+◌, ◌≤◌, ◌<◌, Bool, IsTrue, List, length, take, drop, Option, IfSome, ⊤}
 use Rattle.std.specs.Borrow.{Fml, RattleType, MutBor}
 use Rattle.std.specs.Io.BufRead.{Rests}
 use Rattle.mp4_source.specs.declared.error.SourceError.{SourceError}
@@ -12,6 +12,10 @@ IsPartOf known place n part = IfSome known (λ xs. (place + n ≤ length xs) × 
 -- where the bytes are known, n of them follow the place
 abbrev pub HasPart : Option (List ℕ) → ℕ → ℕ → Type 0
 HasPart known place n = IfSome known (λ xs. place + n ≤ length xs)
+
+-- where the bytes are known, there are some
+abbrev pub IsNotEmpty : Option (List ℕ) → Type 0
+IsNotEmpty known = IfSome known (λ xs. 0 < length xs)
 
 -- where the bytes are known and have n from the place on, only a source that can refuse fails to read them
 abbrev pub IsRefusal : Option (List ℕ) → ℕ → ℕ → Bool → Type 0

@@ -1,6 +1,6 @@
 //! The bytes of a source that a window holds.
 
-ghost use Rattle.std.specs.Prelude.{◌≡◌, ◌+◌, ◌-◌, ◌≤◌, ◌↔◌, length, take, drop, IsTrue, IfOk, OnOk, OnErr};
+ghost use Rattle.std.specs.Prelude.{◌≡◌, ◌+◌, ◌-◌, ◌≤◌, ◌<◌, ◌↔◌, length, take, drop, IsTrue, IfOk, OnOk, OnErr};
 ghost use Rattle.std.specs.Prelude.{vec_len};
 ghost use Rattle.mp4_source.specs.Source.{IsPartOf, IsRefusal};
 ghost use Rattle.mp4_source.specs.Block.{IsHeld, IsBlockOf};
@@ -34,6 +34,7 @@ impl Block {
         ensures size { IfOk result (λ b. vec_len b.bytes ≡ size) }
         ensures start { IfOk result (λ b. b.start ≡ 0) }
         ensures filled { IfOk result (λ b. b.filled ≡ 0) }
+        ensures memory { OnErr result (0 < size) }
     {
         let mut bytes = Vec::with_capacity(alloc, size)?;
         bytes.resize(size, 0)?;

@@ -1,7 +1,7 @@
 //! Boxes of a source, read where they lie.
 
 ghost use Rattle.std.specs.Prelude.{◌≡◌, ◌+◌, ◌-◌, ◌≤◌, ◌⊎◌, Ok, length, IfOk, IfErr, IfSome, OnOk, OnErr};
-ghost use Rattle.std.specs.Prelude.{IsTrue, ◌↔◌};
+ghost use Rattle.std.specs.Prelude.{IsTrue, ◌↔◌, min};
 ghost use Rattle.mp4_codec.specs.BoxType.{IsNamed};
 ghost use Rattle.mp4_codec.specs.Boxes.{box_at};
 ghost use Rattle.mp4_codec.specs.Cause.{Gives};
@@ -36,10 +36,35 @@ fn header_of(bytes: &[u8]) -> mp4_codec::Result<(BoxHeader, u64)>
     ensures upto { IfOk result (λ x. x.1 ≤ length bytes.now) }
     ensures named { IfOk result (λ x. IsNamed x.0.name) }
     ensures size { IfOk result (λ x. (x.0.size ≡ 0) ⊎ (8 ≤ x.0.size)) }
+    ensures memory { IfErr result (λ e. e ≡ OutOfMemory → ⊥) }
 {
     let mut cursor = ByteCursor::new(bytes);
     let header = BoxHeader::read(&mut cursor)?;
     Ok((header, cursor.position()))
+}
+
+/// The header at a place of a source, and its length: the first bytes there are read into these, as many as a header
+/// has at most, or all that are left.
+fn read_header_of<S: ByteSource>(
+    source: &mut S,
+    place: u64,
+    bytes: &mut [u8],
+) -> Result<(BoxHeader, u64), FileError>
+    requires room { IfSome (S.contents source.old) (λ all. (place + 8 ≤ length all)
+        × (length bytes.old ≡ min (length all - place) 16)) }
+    ensures answer { IfSome (S.contents source.old) (λ all. AnswersRead (S.can_refuse source.old)
+        (λ x. (x.0, here all (place + x.1))) result (header_at (here all place))) }
+    ensures header { IfOk result (λ x. IsSomeHeader x.0 x.1) }
+    ensures memory { IfErr result (λ e. e ≡ Mp4 OutOfMemory → ⊥) }
+    ensures moved { IfOk result (λ x. 8 ≤ x.1) }
+    ensures upto { IfOk result (λ x. x.1 ≤ length bytes.old) }
+    ensures named { IfOk result (λ x. IsNamed x.0.name) }
+    ensures size { IfOk result (λ x. (x.0.size ≡ 0) ⊎ (8 ≤ x.0.size)) }
+    ensures contents { S.contents source.new ≡ S.contents source.old }
+    ensures can_refuse { S.can_refuse source.new ≡ S.can_refuse source.old }
+{
+    source.read_exact_at(place, bytes)?;
+    Ok(header_of(bytes)?)
 }
 
 impl<S: ByteSource + Drop> SourceCursor<S> {
@@ -99,7 +124,7 @@ impl<S: ByteSource + Drop> SourceCursor<S> {
 
     /// The header at the cursor, which is then after it, as [`BoxHeader::read`] answers of these bytes.
     ///
-    /// `Io` where the source refuses to read it. A refusal leaves the cursor where it was.
+    /// `Io` where the source refuses to read it. A refusal leaves the cursor where it was. It takes no memory.
     pub fn read_header(&mut self) -> Result<BoxHeader, FileError>
         requires len { IsLength (S.contents self.old.source) self.old.len }
         ensures answer { IfSome (S.contents self.old.source) (λ bytes. AnswersRead (S.can_refuse self.old.source)
@@ -107,7 +132,7 @@ impl<S: ByteSource + Drop> SourceCursor<S> {
         ensures header { IfOk result (λ h. IsSomeHeader h (self.new.position - self.old.position)) }
         ensures moved { OnOk result (self.old.position + 8 ≤ self.new.position) }
         ensures stays { OnErr result (self.new.position ≡ self.old.position) }
-        ensures fits { IfErr result (λ e. e ≡ Mp4 OutOfMemory → self.old.position + 8 ≤ self.old.len) }
+        ensures memory { IfErr result (λ e. e ≡ Mp4 OutOfMemory → ⊥) }
         ensures io { IfErr result (λ e. IsIo e → self.old.position + 8 ≤ self.old.len) }
         ensures named { IfOk result (λ h. IsNamed h.name) }
         ensures size { IfOk result (λ h. (h.size ≡ 0) ⊎ (8 ≤ h.size)) }
@@ -118,9 +143,9 @@ impl<S: ByteSource + Drop> SourceCursor<S> {
         if !self.has(HEADER_SIZE) {
             return Err(FileError::from(Error::EndOfData));
         }
-        let n = (self.len - self.position).min(MOST_HEADER);
-        let part = self.source.part(self.position, n as usize, &mut self.room)?;
-        let (header, length) = header_of(part)?;
+        let n = (self.len - self.position).min(MOST_HEADER) as usize;
+        let mut bytes = [0; MOST_HEADER as usize];
+        let (header, length) = read_header_of(&mut self.source, self.position, &mut bytes[..n])?;
         self.position += length;
         Ok(header)
     }
@@ -138,6 +163,7 @@ impl<S: ByteSource + Drop> SourceCursor<S> {
         ensures fits { IfErr result (λ e. e ≡ Mp4 OutOfMemory → self.old.position + (size - 8) ≤ self.old.len) }
         ensures io { IfErr result (λ e. IsIo e → self.old.position + (size - 8) ≤ self.old.len) }
         ensures moved { OnOk result (self.new.position ≡ self.old.position + (size - 8)) }
+        ensures within { OnOk result (self.new.position ≤ self.old.len) }
         ensures stays { OnErr result (self.new.position ≡ self.old.position) }
         ensures contents { S.contents self.new.source ≡ S.contents self.old.source }
         ensures can_refuse { S.can_refuse self.new.source ≡ S.can_refuse self.old.source }

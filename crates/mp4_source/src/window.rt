@@ -1,7 +1,7 @@
 //! A source whose small reads are few.
 
 ghost use Rattle.std.specs.Prelude.{◌≡◌, ◌+◌, ◌≤◌, IfOk, IfErr, IsTrue, vec_len};
-ghost use Rattle.mp4_source.specs.Source.{OnIo};
+ghost use Rattle.mp4_source.specs.Source.{IsNotEmpty, OnIo, OnOutOfMemory};
 ghost use Rattle.mp4_source.specs.Block.{IsBlockOf};
 
 use crate::block::Block;
@@ -49,6 +49,7 @@ impl<S: ByteSource> Window<S> {
         ensures contents { IfOk result (λ w. S.contents w ≡ S.contents source) }
         ensures can_refuse { IfOk result (λ w. S.can_refuse w ≡ S.can_refuse source) }
         ensures io { IfErr result (λ e. OnIo e (IsTrue (S.can_refuse source))) }
+        ensures memory { IfErr result (λ e. OnOutOfMemory e (IsNotEmpty (S.contents source))) }
     {
         let mut source = source;
         let len = source.len()?;
