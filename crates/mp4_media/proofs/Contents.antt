@@ -1,5 +1,5 @@
 -- What boxes hold, by their types.
-use Rattle.std.proofs.Common.{◌≡◌, ℕ, List, [], ◌∷◌, ◌++◌, Option, Some, None, Result, Ok, Err, refl, ap, ◌∙◌}
+use Rattle.std.proofs.Common.{◌≡◌, ℕ, List, [], ◌∷◌, ◌++◌, Option, Some, None, Result, Ok, Err, refl, sym, ap, ◌∙◌}
 use Rattle.std.specs.List.{filter_map}
 use Rattle.std.proofs.lemmas.List.{append-nil}
 use Rattle.std.proofs.lemmas.List.Elements.{filter_map-append}
@@ -18,7 +18,7 @@ use Rattle.mp4_frag.specs.Emsg.{emsg_of}
 use Rattle.mp4_boxes.specs.Moov.{moov_of}
 use Rattle.mp4_moof.specs.Moof.{moof_of}
 use Rattle.mp4_media.specs.FileBoxes.{BoxContent, Ftyp, Moov, Moof, Emsg}
-use Rattle.mp4_media.specs.FileBoxes.{read_as, meaning_of, later, and_one}
+use Rattle.mp4_media.specs.FileBoxes.{read_as, meaning_of, IsRead, later, and_one}
 use Rattle.mp4_media.specs.Walk.{content_at}
 
 pub meaning-ftyp : (name : BoxType) → name ≡ ftyp → meaning_of name ≡ Some (read_as Ftyp ftyp_of)
@@ -36,6 +36,10 @@ meaning-moof name is = rw is refl
 pub meaning-emsg : (name : BoxType) → name ≡ emsg → meaning_of name ≡ Some (read_as Emsg emsg_of)
 unfolding meaning_of
 meaning-emsg name is = rw is refl
+
+-- a box whose payload has a meaning is read
+pub has_meaning : (name : BoxType) (value : List ℕ → Result BoxContent Cause) → meaning_of name ≡ Some value → IsRead name
+has_meaning name value is = λ none. let no = sym is ∙ none in absurd cc
 
 -- a box of another type is skipped
 pub meaning-none : (name : BoxType) → IsNamed name → (name ≡ ftyp → ⊥) → (name ≡ moov → ⊥) → (name ≡ moof → ⊥)

@@ -11,7 +11,10 @@ use Rattle.mp4_codec.specs.Boxes.{box_at}
 use Rattle.mp4_moof.specs.declared.moof.MoofBox.{MoofBox}
 use Rattle.mp4_codec.specs.declared.error.Error.{Error}
 use Rattle.mp4_codec.specs.declared.error.Error.TheVariants.{OutOfMemory}
-use Rattle.mp4_source.specs.Answers.{IsIo, OnMp4, RefusesRead}
+use Rattle.mp4_source.specs.Answers.{IsIo, OnMp4, RefusesRead, told_as}
+use Rattle.mp4_source.specs.Source.{OnOutOfMemory}
+use Rattle.mp4_source.specs.declared.error.SourceError.{SourceError}
+use Rattle.mp4_source.specs.declared.error.SourceError.TheVariants.{OutOfMemory as no_memory, Io as no_read}
 use Rattle.mp4_source.specs.declared.file_error.FileError.{FileError}
 use Rattle.mp4_source.specs.declared.file_error.FileError.TheVariants.{Mp4, Io}
 use Rattle.mp4_media.specs.FileBoxes.{BoxContent}
@@ -151,3 +154,19 @@ pub refused_by_source : {Y : Type 0} (can_refuse : Bool) (f : FileError) (answer
     → IsTrue can_refuse → RefusesRead can_refuse f answer
 refused_by_source can_refuse (Mp4 x) answer io can = absurd io
 refused_by_source can_refuse (Io x) answer io can = can
+
+-- what is known where a source had no memory
+pub memory_is_out : (e : SourceError) (P : Type 0) → OnOutOfMemory e P → told_as e ≡ Mp4 OutOfMemory → P
+memory_is_out no_memory P p memory = p
+memory_is_out (no_read io) P p memory = absurd cc
+
+-- what is known where memory is out for bytes, which refuse no read
+pub memory_of_bytes : {Y : Type 0} (f : FileError) (e : Error) (answer : Result Y Cause) (P : Type 0)
+    → OnMp4 f (λ x. e ≡ x) → RefusesRead false f answer → (f ≡ Mp4 OutOfMemory → P) → e ≡ OutOfMemory → P
+memory_of_bytes (Mp4 x) e answer P same a p memory = p (ap Mp4 (sym same ∙ memory))
+memory_of_bytes (Io x) e answer P same a p memory = absurd (false≢true a)
+
+-- a source that refused a read had memory
+pub io_has_memory : (f : FileError) (P : Type 0) → IsIo f → f ≡ Mp4 OutOfMemory → P
+io_has_memory (Mp4 x) P io memory = absurd io
+io_has_memory (Io x) P io memory = absurd cc

@@ -33,15 +33,15 @@ le-leb : (m n : ℕ) → m ≤ n → leb m n ≡ true
 le-leb m n h = grind arith
 
 -- a header that was read: it has 8 bytes at least, and its size is 0 or at least 8
-record HeaderRead (place : Cursor) (h : BoxHeader) (end : Cursor) : Type 0 where
-  long : place.position + 8 ≤ end.position
-  after : end ≡ here place.bytes end.position
-  sized : (h.size ≡ 0) ⊎ (8 ≤ h.size)
+pub record HeaderRead (place : Cursor) (h : BoxHeader) (end : Cursor) : Type 0 where
+  pub long : place.position + 8 ≤ end.position
+  pub after : end ≡ here place.bytes end.position
+  pub sized : (h.size ≡ 0) ⊎ (8 ≤ h.size)
 
 abbrev as_reported : Head × Cursor → Result (BoxHeader × Cursor) Cause
 as_reported x = Ok (reported x.0, x.1)
 
-header_read : (place : Cursor) (h : BoxHeader) (end : Cursor) → header_at place ≡ Ok (h, end)
+pub header_read : (place : Cursor) (h : BoxHeader) (end : Cursor) → header_at place ≡ Ok (h, end)
     → HeaderRead place h end
 header_read place h end e =
     let one = both_steps (head_at place) as_reported (h, end) e in
@@ -108,7 +108,7 @@ begun-next size bytes place name from to w =
     rw (below, few, w.head, closed) refl
 
 -- a box of the grammar is the next one
-is_next : (size : ℕ) (bytes : List ℕ) (place next : ℕ) (b : FileBox) → IsFileBox size bytes place next b
+pub is_next : (size : ℕ) (bytes : List ℕ) (place next : ℕ) (b : FileBox) → IsFileBox size bytes place next b
     → next_box_at size (here bytes place) ≡ Ok (Some b, here bytes next)
 is_next size bytes place next b w =
     let fits : ltb size (next - w.from + 8) ≡ false = le-ltb size (next - w.from + 8) w.fits in
@@ -126,7 +126,7 @@ is_last size bytes place (open_end within name from e) =
     rw (below, few, e) refl
 
 -- a fault refuses the next box
-is_refused : (size : ℕ) (bytes : List ℕ) (place : ℕ) (c : Cause) → IsFault size bytes place c
+pub is_refused : (size : ℕ) (bytes : List ℕ) (place : ℕ) (c : Cause) → IsFault size bytes place c
     → next_box_at size (here bytes place) ≡ Err c
 unfolding next_box_at
 is_refused size bytes place c (rest below few e) = rw (gt-leb size place below, lt-ltb size (place + 8) few, e) refl
@@ -141,7 +141,7 @@ is_refused size bytes place c (nothing name from to w fits why) =
     ∙ rw (le-ltb size (to - from + 8) fits, content-missing bytes name from to w.order c why) refl
 
 -- what is at a place of a file: its end, a box, or a fault
-data Stands (size : ℕ) (bytes : List ℕ) (place : ℕ) : Type 0 where
+pub data Stands (size : ℕ) (bytes : List ℕ) (place : ℕ) : Type 0 where
   ends : EndsFile size bytes place → Stands size bytes place
   box : (b : FileBox) (next : ℕ) → IsFileBox size bytes place next b → Stands size bytes place
   fault : (c : Cause) → IsFault size bytes place c → Stands size bytes place
@@ -217,7 +217,7 @@ module _ (size : ℕ) (bytes : List ℕ) (place : ℕ) where
   by_place (inl below) = by_room below (cases_lt size (place + 8))
   by_place (inr past) = ends (no_more past)
 
-  stands : Stands size bytes place
+  pub stands : Stands size bytes place
   stands = by_place (cases_lt place size)
 
 -- a box goes on to a further place

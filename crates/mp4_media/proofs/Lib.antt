@@ -2,6 +2,7 @@ pub mod Contents
 pub mod Walking
 pub mod FoundBoxes
 pub mod Grammar
+pub mod TakingMemory
 pub mod OpenAnswers
 pub mod Finishing
 pub mod TwoParts

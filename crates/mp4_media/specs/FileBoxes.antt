@@ -1,5 +1,5 @@
 -- The boxes at the top level of a file: which are read, and what is taken of them (ISO/IEC 14496-12, 4.2 and 6.2).
-use Rattle.std.specs.Prelude.{ℕ, List, [], ◌∷◌, ◌++◌, Option, Some, None, Result, Ok, Bool, option_map, ◌==◌}
+use Rattle.std.specs.Prelude.{◌≡◌, ℕ, List, [], ◌∷◌, ◌++◌, Option, Some, None, Result, Ok, Bool, option_map, ◌==◌}
 use Rattle.std.specs.Prelude.{if◌then◌else◌}
 use Rattle.std.specs.List.{filter_map}
 use Rattle.mp4_codec.specs.declared.box_type.BoxType.{BoxType}
@@ -48,6 +48,10 @@ meaning_of name =
     if is_type moof name then Some (read_as Moof moof_of) else
     if is_type emsg name then Some (read_as Emsg emsg_of) else
     None
+
+-- boxes of this type are read
+abbrev pub IsRead : BoxType → Type 0
+IsRead name = meaning_of name ≡ None → ⊥
 
 abbrev pub ftyp_from : BoxContent → Option FtypBox
 ftyp_from (Ftyp b) = Some b

@@ -9,7 +9,7 @@ use Rattle.mp4_codec.specs.Cursor.{Cursor, header_at, here}
 use Rattle.mp4_codec.specs.Children.{last}
 use Rattle.mp4_codec.specs.Framing.{WhyNoHead}
 use Rattle.mp4_boxes.specs.declared.moov.MoovBox.{MoovBox}
-use Rattle.mp4_media.specs.FileBoxes.{FileBox, BoxContent, Skipped}
+use Rattle.mp4_media.specs.FileBoxes.{FileBox, BoxContent, IsRead, Skipped}
 use Rattle.mp4_media.specs.FileBoxes.{meaning_of, ftyps_in, moovs_in, moofs_in, moof_places_in, emsgs_in, OpenedFile}
 use Rattle.mp4_media.specs.MovieTracks.{id_fault}
 
@@ -107,3 +107,21 @@ pub data IsFaultyFile (size : ℕ) (start : Cursor) (c : Cause) : Type 0 where
       → EndsFile size start.bytes end
       → (ftyps_in boxes ≡ [] → ⊥) → (m : MoovBox) → last (moovs_in boxes) ≡ Some m
       → id_fault m (moofs_in boxes) ≡ Some c → IsFaultyFile size start c
+
+-- A box that is read begins at a place of a file of `size` bytes, and is whole within the bytes.
+pub record IsWholeToRead (size : ℕ) (bytes : List ℕ) (place : ℕ) : Type 0 where
+  pub name : BoxType
+  pub from : ℕ
+  pub to : ℕ
+  pub begins : Begins size bytes place name from to
+  pub fits : to - from + 8 ≤ size
+  pub is_read : IsRead name
+  pub inside : to ≤ length bytes
+
+-- Memory may be requested when a file is opened that begins here: after boxes without a fault there is one that is
+-- read, and it is whole.
+pub record MayTakeMemory (size : ℕ) (start : Cursor) : Type 0 where
+  pub boxes : List FileBox
+  pub place : ℕ
+  pub are : AreFileBoxes size start.bytes start.position boxes place
+  pub box : IsWholeToRead size start.bytes place

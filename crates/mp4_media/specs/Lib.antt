@@ -1,5 +1,6 @@
 pub mod FileBoxes
 pub mod FileGrammar
+pub mod Opening
 pub mod MovieTracks
 pub mod Reading
 pub mod InOrder

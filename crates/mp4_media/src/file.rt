@@ -12,9 +12,11 @@ ghost use Rattle.mp4_samples.specs.Plain.{Consistent};
 ghost use Rattle.mp4_samples.specs.Samples.{plain_sample_at, read_in, timed_sample};
 ghost use Rattle.mp4_samples.specs.Tables.{tables_of};
 ghost use Rattle.mp4_source.specs.Answers.{AnswersRead, IsLength};
+ghost use Rattle.mp4_source.specs.Source.{IsNotEmpty};
 ghost use Rattle.mp4_source.specs.declared.file_error.FileError.TheVariants.{Mp4};
 ghost use Rattle.mp4_media.specs.FileBoxes.{opened_movie};
 ghost use Rattle.mp4_media.specs.MovieTracks.{AreTracks, at_id};
+ghost use Rattle.mp4_media.specs.Opening.{IsOpeningOf};
 ghost use Rattle.mp4_media.specs.Reading.{AnswersPlaced, AnswersSample, IsPlacedPast};
 ghost use Rattle.mp4_media.specs.Reading.{placed_in, sample_in, sample_there, sample_with, within};
 ghost use Rattle.mp4_media.specs.Walk.{opened_at};
@@ -60,11 +62,37 @@ fn is_within(offset: u64, size: u32, len: u64) -> bool
     offset <= len && u64::from(size) <= len - offset
 }
 
+/// Opens a file, for `open`: the answer is that of the walk over its boxes, and then of the ids of its tracks. What the
+/// grammar of files says of it follows there.
+fn open_file<S: ByteSource + Drop>(
+    alloc: Global,
+    source: S,
+    start: u64,
+    size: u64,
+) -> std::result::Result<Mp4File<S>, FileError>
+    ensures answer { IfSome (S.contents source) (λ bytes. AnswersRead (S.can_refuse source)
+        (λ f. opened_movie f.movie) result (opened_at size (here bytes start))) }
+    ensures memory { IfErr result (λ e. e ≡ Mp4 Error.OutOfMemory → IsNotEmpty (S.contents source)) }
+    ensures tracks { IfOk result (λ f. AreTracks f.movie.moov f.movie.moofs f.movie.moof_places f.movie.tracks) }
+    ensures contents { IfOk result (λ f. S.contents f.source ≡ S.contents source) }
+    ensures can_refuse { IfOk result (λ f. S.can_refuse f.source ≡ S.can_refuse source) }
+{
+    let window = Window::new(alloc, source)?;
+    let reader = SourceCursor::new(alloc, window, start)?;
+    let (movie, window, len) = open_source(alloc, reader, size)?;
+    Ok(Mp4File {
+        source: window.into_inner(),
+        len,
+        movie,
+    })
+}
+
 impl<S: ByteSource + Drop> Mp4File<S> {
     /// Opens the file that begins at the place `start` of a source and ends at its place `size`, both counted from the
     /// source's first byte, as [`crate::Mp4Reader::read_header`] does of its bytes, with the same errors: for a whole
     /// file they are 0 and its length. The bytes of ftyp, moov, moof and emsg are read, and the headers of all other
-    /// boxes. They are read through a window, which takes at most 32 KiB while the file is opened.
+    /// boxes. They are read through a window, which takes at most 32 KiB while the file is opened, and none where the
+    /// source has no bytes.
     ///
     /// `Io` where the source refuses a read. After an error the source is gone: pass `&mut` to keep it.
     pub fn open(
@@ -75,18 +103,14 @@ impl<S: ByteSource + Drop> Mp4File<S> {
     ) -> std::result::Result<Self, FileError>
         ensures answer { IfSome (S.contents source) (λ bytes. AnswersRead (S.can_refuse source)
             (λ f. opened_movie f.movie) result (opened_at size (here bytes start))) }
+        ensures opening { IfSome (S.contents source) (λ bytes. IsOpeningOf (S.can_refuse source)
+            (λ f. opened_movie f.movie) size (here bytes start) result) }
+        ensures memory { IfErr result (λ e. e ≡ Mp4 Error.OutOfMemory → IsNotEmpty (S.contents source)) }
         ensures tracks { IfOk result (λ f. AreTracks f.movie.moov f.movie.moofs f.movie.moof_places f.movie.tracks) }
         ensures contents { IfOk result (λ f. S.contents f.source ≡ S.contents source) }
         ensures can_refuse { IfOk result (λ f. S.can_refuse f.source ≡ S.can_refuse source) }
     {
-        let window = Window::new(alloc, source)?;
-        let reader = SourceCursor::new(alloc, window, start)?;
-        let (movie, window, len) = open_source(alloc, reader, size)?;
-        Ok(Mp4File {
-            source: window.into_inner(),
-            len,
-            movie,
-        })
+        open_file(alloc, source, start, size)
     }
 
     /// The source; the movie is given up.

@@ -1,6 +1,6 @@
 //! Movies that were opened, whatever their bytes are read from.
 
-ghost use Rattle.std.specs.Prelude.{◌≡◌, ◌<◌, ◌↔◌, length, option_copied, option_map, IfOk, IfSome, IsTrue};
+ghost use Rattle.std.specs.Prelude.{◌≡◌, ◌<◌, ◌↔◌, length, None, option_copied, option_map, IfOk, IfErr, IfSome, IsTrue};
 ghost use Rattle.mp4_codec.specs.Cause.{Gives, Answers};
 ghost use Rattle.mp4_codec.specs.Cursor.{here};
 ghost use Rattle.mp4_boxes.specs.declared.moov.MoovBox.{MoovBox};
@@ -8,6 +8,8 @@ ghost use Rattle.mp4_lookup.specs.Time.{time_of};
 ghost use Rattle.mp4_samples.specs.Places.{place_of};
 ghost use Rattle.mp4_source.specs.Answers.{AnswersRead, IsLength};
 ghost use Rattle.mp4_media.specs.FileBoxes.{opened_movie};
+ghost use Rattle.mp4_source.specs.declared.file_error.FileError.TheVariants.{Mp4};
+ghost use Rattle.mp4_media.specs.FileGrammar.{MayTakeMemory};
 ghost use Rattle.mp4_media.specs.MovieTracks.{AreTracks, IsNumbered};
 ghost use Rattle.mp4_media.specs.Reading.{ilst_of_movie, located_in, needed_track, sample_count_in};
 ghost use Rattle.mp4_media.specs.Walk.{opened_at, opened_from};
@@ -77,6 +79,7 @@ fn open_found(alloc: Global, found: TopLevelBoxes, size: u64) -> Result<Movie>
     requires first_samples { IsNumbered found.moov }
     requires places { length found.moof_places ≡ length found.moofs }
     ensures answer { Answers opened_movie result (opened_from found size) }
+    ensures memory { IfErr result (λ e. e ≡ Error.OutOfMemory → found.moov ≡ None → ⊥) }
     ensures tracks { IfOk result (λ m. AreTracks m.moov m.moofs m.moof_places m.tracks) }
 {
     let TopLevelBoxes {
@@ -124,6 +127,8 @@ pub(crate) fn open_source<S: ByteSource + Drop>(
     requires len { IsLength (S.contents reader.source) reader.len }
     ensures answer { IfSome (S.contents reader.source) (λ bytes. AnswersRead (S.can_refuse reader.source)
         (λ x. opened_movie x.0) result (opened_at size (here bytes reader.position))) }
+    ensures memory { IfErr result (λ e. e ≡ Mp4 Error.OutOfMemory
+        → IfSome (S.contents reader.source) (λ bytes. MayTakeMemory size (here bytes reader.position))) }
     ensures tracks { IfOk result (λ x. AreTracks x.0.moov x.0.moofs x.0.moof_places x.0.tracks) }
     ensures contents { IfOk result (λ x. S.contents x.1 ≡ S.contents reader.source) }
     ensures can_refuse { IfOk result (λ x. S.can_refuse x.1 ≡ S.can_refuse reader.source) }

@@ -1,10 +1,13 @@
 //! Opening a file: its boxes, one after the other.
 
-ghost use Rattle.std.specs.Prelude.{◌≡◌, ◌<◌, ◌≤◌, ◌-◌, ◌+◌, [], List, ℕ, length, IfOk, IfSome, OnOk, IsTrue, IsFalse};
+ghost use Rattle.std.specs.Prelude.{◌≡◌, ◌<◌, ◌≤◌, ◌-◌, ◌+◌, [], List, ℕ, length, IfOk, IfErr, IfSome, OnOk, IsTrue, IsFalse};
 ghost use Rattle.mp4_codec.specs.BoxType.{IsNamed};
 ghost use Rattle.mp4_codec.specs.Cause.{Gives};
 ghost use Rattle.mp4_codec.specs.Cursor.{here};
 ghost use Rattle.mp4_source.specs.Answers.{AnswersRead, IsLength};
+ghost use Rattle.mp4_source.specs.declared.file_error.FileError.TheVariants.{Mp4};
+ghost use Rattle.mp4_media.specs.FileBoxes.{IsRead};
+ghost use Rattle.mp4_media.specs.FileGrammar.{IsWholeToRead, MayTakeMemory};
 ghost use Rattle.mp4_media.specs.MovieTracks.{IsNumbered};
 ghost use Rattle.mp4_media.specs.Walk.{skip_at, found_at, found_of, with_content_at, with_next_at};
 
@@ -46,6 +49,7 @@ impl TopLevelBoxes {
 fn place_after(place: u64, n: u64) -> Result<u64>
     ensures value { (bytes : List ℕ) → Gives (λ after. here bytes after) result (skip_at n (here bytes place)) }
     ensures onward { IfOk result (λ after. place ≤ after) }
+    ensures memory { IfErr result (λ e. e ≡ Error.OutOfMemory → ⊥) }
 {
     let Some(after) = place.checked_add(n) else {
         return Err(Error::InvalidData("a box ends past 64 bits"));
@@ -68,6 +72,8 @@ fn add_content<S: ByteSource + Drop>(
     ensures answer { IfSome (S.contents reader.old.source) (λ bytes. AnswersRead (S.can_refuse reader.old.source)
         (λ _. (found.new, here bytes reader.new.position)) result
         (with_content_at header.name header.size found.old place (here bytes reader.old.position))) }
+    ensures memory { IfErr result (λ e. e ≡ Mp4 Error.OutOfMemory
+        → IsRead header.name × (reader.old.position + (header.size - 8) ≤ reader.old.len)) }
     ensures numbered { OnOk result (IsNumbered found.old.moov → IsNumbered found.new.moov) }
     ensures places { OnOk result (length found.old.moof_places ≡ length found.old.moofs
         → length found.new.moof_places ≡ length found.new.moofs) }
@@ -122,6 +128,8 @@ pub(crate) fn add_next<S: ByteSource + Drop>(
     ensures answer { IfSome (S.contents reader.old.source) (λ bytes. AnswersRead (S.can_refuse reader.old.source)
         (λ more. (more, found.new, here bytes reader.new.position)) result
         (with_next_at size found.old (here bytes reader.old.position))) }
+    ensures memory { IfErr result (λ e. e ≡ Mp4 Error.OutOfMemory
+        → IfSome (S.contents reader.old.source) (λ bytes. IsWholeToRead size bytes reader.old.position)) }
     ensures numbered { OnOk result (IsNumbered found.old.moov → IsNumbered found.new.moov) }
     ensures places { OnOk result (length found.old.moof_places ≡ length found.old.moofs
         → length found.new.moof_places ≡ length found.new.moofs) }
@@ -163,6 +171,8 @@ fn add_boxes<S: ByteSource + Drop>(
     requires len { IsLength (S.contents reader.old.source) reader.old.len }
     ensures answer { IfSome (S.contents reader.old.source) (λ bytes. AnswersRead (S.can_refuse reader.old.source)
         (λ _. (found.new, reader.new.position)) result (found_at size (here bytes reader.old.position))) }
+    ensures memory { IfErr result (λ e. e ≡ Mp4 Error.OutOfMemory
+        → IfSome (S.contents reader.old.source) (λ bytes. MayTakeMemory size (here bytes reader.old.position))) }
     ensures numbered { OnOk result (IsNumbered found.new.moov) }
     ensures places { OnOk result (length found.new.moof_places ≡ length found.new.moofs) }
     ensures onward { OnOk result (reader.old.position ≤ reader.new.position) }
@@ -184,6 +194,8 @@ pub(crate) fn find_boxes<S: ByteSource + Drop>(
     requires len { IsLength (S.contents reader.old.source) reader.old.len }
     ensures answer { IfSome (S.contents reader.old.source) (λ bytes. AnswersRead (S.can_refuse reader.old.source)
         (λ found. (found, reader.new.position)) result (found_at size (here bytes reader.old.position))) }
+    ensures memory { IfErr result (λ e. e ≡ Mp4 Error.OutOfMemory
+        → IfSome (S.contents reader.old.source) (λ bytes. MayTakeMemory size (here bytes reader.old.position))) }
     ensures numbered { IfOk result (λ found. IsNumbered found.moov) }
     ensures places { IfOk result (λ found. length found.moof_places ≡ length found.moofs) }
     ensures onward { OnOk result (reader.old.position ≤ reader.new.position) }

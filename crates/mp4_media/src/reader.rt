@@ -10,7 +10,7 @@ ghost use Rattle.mp4_samples.specs.Tables.{tables_of};
 ghost use Rattle.mp4_lookup.specs.Tracks.{is_of_movie};
 ghost use Rattle.mp4_source.specs.Answers.{OnMp4};
 ghost use Rattle.mp4_media.specs.FileBoxes.{OpenedFile, opened_file, opened_movie};
-ghost use Rattle.mp4_media.specs.FileGrammar.{IsFile, IsFaultyFile};
+ghost use Rattle.mp4_media.specs.FileGrammar.{IsFile, IsFaultyFile, MayTakeMemory};
 ghost use Rattle.mp4_media.specs.MovieTracks.{AreTracks, at_id};
 ghost use Rattle.mp4_media.specs.InOrder.{refs_left, samples_in};
 ghost use Rattle.mp4_media.specs.Reading.{IsSample, LiesAt, located_in, sample_in};
@@ -79,6 +79,7 @@ fn refused_by_bytes(error: FileError) -> Error
 /// Opens the file of `size` bytes that begins at this place of the bytes.
 fn open_bytes(alloc: Global, bytes: &[u8], start: u64, size: u64) -> Result<Movie>
     ensures answer { Answers opened_movie result (opened_at size (here bytes.now start)) }
+    ensures memory { IfErr result (λ e. e ≡ Error.OutOfMemory → MayTakeMemory size (here bytes.now start)) }
     ensures tracks { IfOk result (λ m. AreTracks m.moov m.moofs m.moof_places m.tracks) }
 {
     let reader = match SourceCursor::new(alloc, bytes, start) {
@@ -95,6 +96,7 @@ fn open_bytes(alloc: Global, bytes: &[u8], start: u64, size: u64) -> Result<Movi
 /// What the grammar of files says of it follows there.
 fn open<'a>(alloc: Global, reader: ByteCursor<'a>, size: u64) -> Result<Mp4Reader<'a>>
     ensures answer { Answers opened_file result (opened_at size reader.entry) }
+    ensures memory { IfErr result (λ e. e ≡ Error.OutOfMemory → MayTakeMemory size reader.entry) }
     ensures bytes { IfOk result (λ r. r.bytes.now ≡ reader.entry.bytes) }
     ensures tracks { IfOk result (λ r. AreTracks r.movie.moov r.movie.moofs r.movie.moof_places r.movie.tracks) }
 {
@@ -117,6 +119,9 @@ impl<'a> Mp4Reader<'a> {
     ///   without a meaning;
     /// - whatever else refuses a box that is read.
     ///
+    /// Memory is requested first for a box that is read and is whole within the bytes: what is refused before one is
+    /// never `OutOfMemory` in its place.
+    ///
     /// Then `BoxNotFound` for a missing ftyp, and for a missing moov; `InvalidData` where a track of the last moov has
     /// the id 0; and `TrakNotFound` for the first fragment in file order whose track the last moov doesn't have.
     ///
@@ -128,6 +133,7 @@ impl<'a> Mp4Reader<'a> {
             → Answers opened_file result (Ok opened) }
         ensures fault { IfErr result (λ e. (e ≡ Error.OutOfMemory) ⊎ IsFaultyFile size reader.entry (cause_of e)) }
         ensures refused { (c : Cause) → IsFaultyFile size reader.entry c → Answers opened_file result (Err c) }
+        ensures memory { IfErr result (λ e. e ≡ Error.OutOfMemory → MayTakeMemory size reader.entry) }
         ensures bytes { IfOk result (λ r. r.bytes.now ≡ reader.entry.bytes) }
         ensures tracks { IfOk result (λ r. AreTracks r.movie.moov r.movie.moofs r.movie.moof_places r.movie.tracks) }
     {
@@ -218,6 +224,7 @@ pub fn read_mp4(alloc: Global, bytes: &[u8]) -> Result<Mp4Reader<'_>>
         (λ e. (e ≡ Error.OutOfMemory) ⊎ IsFaultyFile (length bytes.now) (here bytes.now 0) (cause_of e)) }
     ensures refused { (c : Cause) → IsFaultyFile (length bytes.now) (here bytes.now 0) c
         → Answers opened_file result (Err c) }
+    ensures memory { IfErr result (λ e. e ≡ Error.OutOfMemory → MayTakeMemory (length bytes.now) (here bytes.now 0)) }
     ensures bytes { IfOk result (λ r. r.bytes.now ≡ bytes.now) }
     ensures tracks { IfOk result (λ r. AreTracks r.movie.moov r.movie.moofs r.movie.moof_places r.movie.tracks) }
 {

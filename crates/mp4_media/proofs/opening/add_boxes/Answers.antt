@@ -4,6 +4,7 @@ use Rattle.mp4_codec.specs.Cursor.{here}
 use Rattle.mp4_media.specs.Walk.{next_box_at}
 use Rattle.mp4_media.proofs.Walking.{scan-starts, scan-takes, scan-refuses, scan-ends, found-refused, found-all}
 use Rattle.mp4_media.proofs.Walking.{box_added, none_added, refused_before}
+use Rattle.mp4_media.proofs.TakingMemory.{no_boxes, box_more, taken_there}
 use Rattle.mp4_media.proofs.FoundBoxes.{all_known, of_known_by, refused_too}
 use Rattle.mp4_media.proofs.opening.add_boxes.Goals as goal
 
@@ -13,6 +14,8 @@ loop-init g c =
     record {
       scanning = all_known (g.S.ByteSource.contents reader.source) _
           (λ bytes. scan-starts c.args.size (here bytes reader.position) c.args.found.now c.requires.none);
+      before = all_known (g.S.ByteSource.contents reader.source) _
+          (λ bytes. no_boxes c.args.size bytes reader.position);
       numbered = rw c.requires.none tt;
       places = rw c.requires.none refl;
       onward = omega arith;
@@ -47,6 +50,11 @@ loop-preserved g c =
           (next_box_at c.args.size (here bytes l.reader.position)) a in
           scan-takes c.args.size (here bytes reader.position) (here bytes l.reader.position) l.found
           b.0 (here bytes c.add_next.new.reader.position) c.add_next.new.found b.1 below onward b.2 w);
+      before = of_known_by (g.S.ByteSource.contents reader.source) _ _ _ l.invariant.before next
+          (λ bytes w a.
+          let b = box_added l.found c.add_next.new.found (here bytes c.add_next.new.reader.position)
+          (next_box_at c.args.size (here bytes l.reader.position)) a in
+          box_more c.args.size bytes reader.position l.reader.position c.add_next.new.reader.position b.0 w b.1);
       numbered = c.in_ok-add_next.ensures.numbered l.invariant.numbered;
       places = c.in_ok-add_next.ensures.places l.invariant.places;
       onward = omega (arith, onward, l.invariant.onward);
@@ -68,3 +76,13 @@ returns-clause-answer g c =
     let read = scan-ends c.args.size (here bytes reader.position) (here bytes l.reader.position) l.found
     (here bytes c.add_next.new.reader.position) none.0 still w in
     rw (none.1, w.given, still) (found-all c.args.size (here bytes reader.position) w.done l.reader.position read))
+
+pub returns-in_err-add_next-clause-memory : goal.returns-in_err-add_next-clause-memory
+returns-in_err-add_next-clause-memory g c =
+    let reader = c.args.reader.now in
+    let l = c.loop in
+    let p = err_from_is_err_and c.from_residual.result c.from_residual.ensures.1 in
+    rw (p.1, p.2) (λ memory.
+    of_known_by (g.S.ByteSource.contents reader.source) _ _ _ l.invariant.before
+    (rw l.invariant.contents at (c.in_err-add_next.ensures.memory memory))
+    (λ bytes before w. taken_there c.args.size bytes reader.position l.reader.position before w))

@@ -2,6 +2,7 @@ use Rattle.std.proofs.Common.{◌≡◌, ◌-◌, ◌≤◌, length}
 use Rattle.std.specs.Prelude.{IfSome}
 use Rattle.mp4_codec.specs.Cursor.{here}
 use Rattle.mp4_media.specs.MovieTracks.{HaveFirstSamples}
+use Rattle.mp4_media.proofs.TakingMemory.{AreBoxesTo}
 use Rattle.mp4_media.proofs.Walking.{Scanning}
 use Rattle.mp4_media.proofs.opening.add_boxes.Given as goal
 
@@ -10,6 +11,8 @@ abbrev pub invariant-loop : goal.invariant-loop
 invariant-loop g l = record {
   scanning : IfSome (g.S.ByteSource.contents l.fn.reader.source) (λ bytes.
       Scanning l.size (here bytes l.fn.reader.position) l.found (here bytes l.reader.position));
+  before : IfSome (g.S.ByteSource.contents l.fn.reader.source) (λ bytes.
+      AreBoxesTo l.size bytes l.fn.reader.position l.reader.position);
   numbered : IfSome l.found.moov (λ m. HaveFirstSamples m.traks);
   places : length l.found.moof_places ≡ length l.found.moofs;
   onward : l.fn.reader.position ≤ l.reader.position;

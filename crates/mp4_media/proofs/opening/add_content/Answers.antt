@@ -1,4 +1,4 @@
-use Rattle.std.proofs.Common.{refl, inr}
+use Rattle.std.proofs.Common.{refl, inr, arith}
 use Rattle.std.proofs.lemmas.Result.{err_from_is_err_and}
 use Rattle.mp4_leaf.specs.Ftyp.{ftyp_of}
 use Rattle.mp4_frag.specs.Emsg.{emsg_of}
@@ -6,7 +6,7 @@ use Rattle.mp4_boxes.specs.Moov.{moov_of}
 use Rattle.mp4_boxes.specs.MoovLaws.{moov_of-has_first_samples}
 use Rattle.mp4_moof.specs.Moof.{moof_of}
 use Rattle.mp4_media.specs.FileBoxes.{Ftyp, Moov, Moof, Emsg}
-use Rattle.mp4_media.proofs.Contents.{meaning-ftyp, meaning-moov, meaning-moof, meaning-emsg, meaning-none}
+use Rattle.mp4_media.proofs.Contents.{has_meaning, meaning-ftyp, meaning-moov, meaning-moof, meaning-emsg, meaning-none}
 use Rattle.mp4_media.proofs.FoundBoxes.{box_is_added, box_is_refused, all_known}
 use Rattle.mp4_media.proofs.opening.add_content.Goals as goal
 
@@ -105,3 +105,65 @@ returns-in_ok-after-in_default-clause-answer g c =
     all_known (g.S.ByteSource.contents c.args.reader.now.source) _
     (λ bytes. let skipped = rw c.position-payload.ensures at (c.in_ok-after-in_default.ensures.value bytes) in
     rw (none, skipped, c.set_position.ensures) refl)
+
+pub returns-in_err-ftyp-in-FtypBox-clause-memory : goal.returns-in_err-ftyp-in-FtypBox-clause-memory
+returns-in_err-ftyp-in-FtypBox-clause-memory g c =
+    let p = err_from_is_err_and c.from_residual.result c.from_residual.ensures.1 in
+    rw (p.1, p.2) (λ memory. (
+      has_meaning c.args.header.name _ (meaning-ftyp c.args.header.name c.in-FtypBox.is),
+      c.in_err-ftyp-in-FtypBox.ensures.fits memory,
+    ))
+
+pub returns-in_err-moov-in-MoovBox-clause-memory : goal.returns-in_err-moov-in-MoovBox-clause-memory
+returns-in_err-moov-in-MoovBox-clause-memory g c =
+    let p = err_from_is_err_and c.from_residual-in_err-moov-in-MoovBox.result c.from_residual-in_err-moov-in-MoovBox.ensures.1 in
+    rw (p.1, p.2) (λ memory. (
+      has_meaning c.args.header.name _ (meaning-moov c.args.header.name c.in-MoovBox.is),
+      c.in_err-moov-in-MoovBox.ensures.fits memory,
+    ))
+
+pub returns-in_err-moof-in-MoofBox-clause-memory : goal.returns-in_err-moof-in-MoofBox-clause-memory
+returns-in_err-moof-in-MoofBox-clause-memory g c =
+    let p = err_from_is_err_and c.from_residual-in_err-moof-in-MoofBox.result c.from_residual-in_err-moof-in-MoofBox.ensures.1 in
+    rw (p.1, p.2) (λ memory. (
+      has_meaning c.args.header.name _ (meaning-moof c.args.header.name c.in-MoofBox.is),
+      c.in_err-moof-in-MoofBox.ensures.fits memory,
+    ))
+
+pub returns-in_err-emsg-in-EmsgBox-clause-memory : goal.returns-in_err-emsg-in-EmsgBox-clause-memory
+returns-in_err-emsg-in-EmsgBox-clause-memory g c =
+    let p = err_from_is_err_and c.from_residual-in_err-emsg-in-EmsgBox.result c.from_residual-in_err-emsg-in-EmsgBox.ensures.1 in
+    rw (p.1, p.2) (λ memory. (
+      has_meaning c.args.header.name _ (meaning-emsg c.args.header.name c.in-EmsgBox.is),
+      c.in_err-emsg-in-EmsgBox.ensures.fits memory,
+    ))
+
+pub returns-in_err-push-in-MoofBox-clause-memory : goal.returns-in_err-push-in-MoofBox-clause-memory
+returns-in_err-push-in-MoofBox-clause-memory g c =
+    let p = err_from_is_err_and c.from_residual-in_err-push-in-MoofBox.result
+    c.from_residual-in_err-push-in-MoofBox.ensures.1 in
+    let read = c.in_ok-moof-in-MoofBox.ensures in
+    rw (p.1, p.2) (λ memory. (
+      has_meaning c.args.header.name _ (meaning-moof c.args.header.name c.in-MoofBox.is),
+      omega (arith, read.moved, read.within),
+    ))
+
+pub returns-in_err-push-in-MoofBox-2-clause-memory : goal.returns-in_err-push-in-MoofBox-2-clause-memory
+returns-in_err-push-in-MoofBox-2-clause-memory g c =
+    let p = err_from_is_err_and c.from_residual-in_err-push-in-MoofBox-2.result
+    c.from_residual-in_err-push-in-MoofBox-2.ensures.1 in
+    let read = c.in_ok-moof-in-MoofBox.ensures in
+    rw (p.1, p.2) (λ memory. (
+      has_meaning c.args.header.name _ (meaning-moof c.args.header.name c.in-MoofBox.is),
+      omega (arith, read.moved, read.within),
+    ))
+
+pub returns-in_err-push-in-EmsgBox-clause-memory : goal.returns-in_err-push-in-EmsgBox-clause-memory
+returns-in_err-push-in-EmsgBox-clause-memory g c =
+    let p = err_from_is_err_and c.from_residual-in_err-push-in-EmsgBox.result
+    c.from_residual-in_err-push-in-EmsgBox.ensures.1 in
+    let read = c.in_ok-emsg-in-EmsgBox.ensures in
+    rw (p.1, p.2) (λ memory. (
+      has_meaning c.args.header.name _ (meaning-emsg c.args.header.name c.in-EmsgBox.is),
+      omega (arith, read.moved, read.within),
+    ))

@@ -1,4 +1,4 @@
-use Rattle.std.proofs.Common.{◌≡◌, ◌∙◌, ℕ, ◌+◌, ◌≤◌, ◌<◌, Result, Ok, false, refl, ap, inr, arith}
+use Rattle.std.proofs.Common.{◌≡◌, ◌∙◌, ℕ, ◌+◌, ◌-◌, ◌≤◌, ◌<◌, length, Result, Ok, false, refl, ap, inr, arith}
 use Rattle.std.specs.Prelude.{◌==◌}
 use Rattle.std.proofs.lemmas.Bool.{ne_eqb}
 use Rattle.std.proofs.lemmas.Result.{err_from_is_err_and}
@@ -11,6 +11,7 @@ use Rattle.mp4_media.specs.Walk.{content_at, and_found, with_content_at, with_ne
 use Rattle.mp4_media.proofs.FoundBoxes.{all_known, of_known, of_known_by, refused_too}
 use Rattle.mp4_media.proofs.FoundBoxes.{no_next, short_rest, no_head, open_end, too_large, content_next, and_more}
 use Rattle.mp4_media.proofs.FoundBoxes.{next_added}
+use Rattle.mp4_media.proofs.TakingMemory.{whole_to_read}
 use Rattle.mp4_media.proofs.opening.add_next.Goals as goal
 
 pub returns-then-place-size-clause-answer : goal.returns-then-place-size-clause-answer
@@ -98,3 +99,20 @@ returns-clause-answer g c =
     (ne_eqb c.in_ok-header.header.size 0 (λ zero. omega (arith, zero))) (omega arith)
     c.args.found.now
     ∙ ap (λ (r : Result (TopLevelBoxes × Cursor) Cause). r >>= and_more) a)
+
+pub returns-in_err-add_content-clause-memory : goal.returns-in_err-add_content-clause-memory
+returns-in_err-add_content-clause-memory g c =
+    let reader = c.args.reader.now in
+    let h = c.in_ok-header.header in
+    let p = err_from_is_err_and c.from_residual-in_err-add_content.result
+    c.from_residual-in_err-add_content.ensures.1 in
+    rw (p.1, p.2) (λ memory.
+    let m = c.in_err-add_content.ensures.memory memory in
+    of_known_by (g.S.ByteSource.contents reader.source) _ _ _ c.in_ok-header.ensures.answer c.requires.len
+    (λ bytes e len_is.
+    let room : reader.position + 8 ≤ c.args.size = omega arith in
+    let fits : h.size ≤ c.args.size = omega arith in
+    let inside : c.read_header.new.self.position + (h.size - 8) ≤ length bytes =
+    omega (arith, m.1, c.in_ok-header.ensures.same_len, len_is) in
+    whole_to_read c.args.size bytes reader.position h c.read_header.new.self.position room e c.in_ok-header.ensures.size
+    (λ zero. omega (arith, zero)) fits m.0 inside))

@@ -1,10 +1,9 @@
-use Rattle.std.proofs.lemmas.Result.{err_from_is_err_and}
-use Rattle.mp4_media.proofs.FoundBoxes.{all_known, refused_by_source}
+use Rattle.mp4_codec.specs.Cursor.{here}
+use Rattle.mp4_media.proofs.FoundBoxes.{of_known}
+use Rattle.mp4_media.proofs.OpenAnswers.{read-opening}
 use Rattle.mp4_media.proofs.file.Mp4File.open.Goals as goal
 
-pub returns-in_err-reader-clause-answer : goal.returns-in_err-reader-clause-answer
-returns-in_err-reader-clause-answer g c =
-    let p = err_from_is_err_and c.from_residual-in_err-reader.result c.from_residual-in_err-reader.ensures.1 in
-    let can_refuse = rw c.in_ok-window.ensures.can_refuse at c.in_err-reader.ensures.refused in
-    all_known (g.S.ByteSource.contents c.args.source) _
-    (λ bytes. rw (p.1, p.2) (refused_by_source _ c.in_err-reader.field-0.0 _ c.in_err-reader.ensures.io can_refuse))
+pub returns-clause-opening : goal.returns-clause-opening
+returns-clause-opening g c =
+    of_known (g.S.ByteSource.contents c.args.source) _ _ c.open_file.ensures.answer
+    (λ bytes a. read-opening _ _ c.args.size (here bytes c.args.start) c.open_file.result a)

@@ -1,14 +1,9 @@
-use Rattle.std.proofs.Common.{◌≡◌, refl, ap, inr, arith}
+use Rattle.std.proofs.Common.{refl, ap, inr, arith}
 use Rattle.std.proofs.lemmas.Result.{err_from_is_err_and}
 use Rattle.mp4_codec.specs.Cause.{cause_of}
 use Rattle.mp4_codec.specs.declared.error.Error.TheVariants.{OutOfMemory}
 use Rattle.mp4_samples.specs.Places.{place_of}
-use Rattle.mp4_source.specs.Answers.{told_as}
-use Rattle.mp4_source.specs.Source.{OnOutOfMemory}
-use Rattle.mp4_source.specs.declared.error.SourceError.{SourceError}
-use Rattle.mp4_source.specs.declared.error.SourceError.TheVariants.{OutOfMemory as no_memory, Io as refused}
-use Rattle.mp4_source.specs.declared.file_error.FileError.TheVariants.{Mp4}
-use Rattle.mp4_media.proofs.FoundBoxes.{of_known, of_known_by, same_mp4}
+use Rattle.mp4_media.proofs.FoundBoxes.{memory_is_out, of_known, of_known_by, same_mp4}
 use Rattle.mp4_media.proofs.Placed.{sample_in-located}
 use Rattle.mp4_media.proofs.Reading.{place_wants_none, sample_in-plain}
 use Rattle.mp4_media.proofs.file.Mp4File.read_sample_into.Goals as goal
@@ -68,11 +63,6 @@ returns-in_err-place-clause-memory g c =
     let p = err_from_is_err_and c.from_residual.result c.from_residual.ensures.1 in
     rw (p.1, p.2) (λ memory. absurd (place_wants_none file.movie.tracks c.args.track_id c.args.k file.len
     (cause_of error) c.in_err-place.ensures (ap cause_of (same_mp4 error OutOfMemory memory))))
-
--- what is known where memory is out
-memory_is_out : (e : SourceError) (P : Type 0) → OnOutOfMemory e P → told_as e ≡ Mp4 OutOfMemory → P
-memory_is_out no_memory P p memory = p
-memory_is_out (refused io) P p memory = absurd cc
 
 pub returns-in_err-read_into-clause-memory : goal.returns-in_err-read_into-clause-memory
 returns-in_err-read_into-clause-memory g c =
