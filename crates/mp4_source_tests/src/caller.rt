@@ -1,9 +1,10 @@
 //! A caller that any source serves.
 
-ghost use Rattle.std.specs.Prelude.{◌≡◌, ◌+◌, ◌≤◌, length, slice_index, IfOk, IfErr, IfSome, IsTrue};
-ghost use Rattle.mp4_source.specs.Source.{OnIo};
+ghost use Rattle.std.specs.Prelude.{◌≡◌, ◌+◌, ◌≤◌, length, slice_index, IfOk, IfErr, IfSome, IsTrue, OnOk};
+ghost use Rattle.std.specs.Prelude.{vec_len, vec_capacity};
+ghost use Rattle.mp4_source.specs.Source.{OnIo, OnOutOfMemory};
 
-use mp4_source::{ByteSource, SourceError};
+use mp4_source::{ByteSource, SourceError, read_into};
 
 /// The bytes at two places. The first is copied before the second is asked for, since each is borrowed.
 pub fn two_bytes<S: ByteSource>(
@@ -24,4 +25,18 @@ pub fn two_bytes<S: ByteSource>(
     let part = source.part(second, 1, room)?;
     let two = part[0];
     Ok((one, two))
+}
+
+/// The byte at a place, which is read into a buffer. It has this byte alone then, also where nothing is known of the
+/// bytes of the source.
+pub fn byte_into<S: ByteSource>(
+    source: &mut S,
+    place: u64,
+    buffer: &mut Vec<u8>,
+) -> Result<u8, SourceError>
+    ensures len { OnOk result (vec_len buffer.new ≡ 1) }
+    ensures memory { IfErr result (λ e. OnOutOfMemory e (vec_capacity buffer.old ≡ 0)) }
+{
+    read_into(source, place, 1, buffer)?;
+    Ok(buffer.as_slice()[0])
 }
