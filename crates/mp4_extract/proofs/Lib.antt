@@ -4,3 +4,6 @@ pub mod ArrayLoop
 pub mod Joined
 pub mod Shown
 pub mod ReadTogether
+pub mod Sinks
+pub mod Refused
+pub mod Decoded

@@ -4,7 +4,6 @@ use Rattle.std.proofs.Common.{Option, Some, None, Result, Ok, Err, refl, sym, ap
 use Rattle.std.proofs.Common.{Bool, true, false}
 use Rattle.std.proofs.lemmas.Bool.{le-ltb, ltb-false}
 use Rattle.std.specs.Prelude.{IfSome, nat_lt, if◌then◌else◌}
-use Rattle.std.specs.Io.KnownBytes.{Appends}
 use Rattle.std.specs.HashMap.{HashMap}
 use Rattle.mp4_codec.specs.Cause.{Cause, end_of_data, ◌>>=◌}
 use Rattle.mp4_samples.specs.declared.sample.Place.{Place}
@@ -18,7 +17,7 @@ use Rattle.mp4_media.specs.Reading.{needed_track, located_in, sample_in, sample_
 use Rattle.mp4_media.proofs.FoundBoxes.{of_known}
 use Rattle.mp4_extract.specs.declared.form.SampleForm.{SampleForm}
 use Rattle.mp4_extract.specs.declared.form.SampleForm.TheVariants.{AsStored}
-use Rattle.mp4_extract.specs.Extracting.{AreSamplesIn, AreWritten}
+use Rattle.mp4_extract.specs.Extracting.{AreSamplesIn}
 use Rattle.mp4_extract.specs.Neighbours.{AreNeighbours}
 
 -- where a track's look-ups lead
@@ -124,17 +123,14 @@ read_is source buffer p e = by (nat_lt (length source) (p.offset + p.size)) refl
     by true is e = absurd cc
     by false is e = (ltb-false (length source) (p.offset + p.size) (sym is), sym (ap bytes_in e))
 
--- neighbours that were read and written
-pub neighbours_written : {S : Type 0} (known : Option (List ℕ)) (tracks : HashMap ℕ Mp4Track S) (id : ℕ)
-    (form : SampleForm) (k offset n size : ℕ) (p : Place) (buffer : List ℕ) (old new : Option (List ℕ))
+-- neighbours that were read are samples
+pub neighbours_read : {S : Type 0} (known : Option (List ℕ)) (tracks : HashMap ℕ Mp4Track S) (id : ℕ)
+    (form : SampleForm) (k offset n size : ℕ) (p : Place) (buffer : List ℕ)
     → form ≡ AsStored → AreNeighbours (located_in tracks id) k offset n size → p.offset ≡ offset → p.size ≡ size
-    → IfSome known (λ source. read_in source (Some p) ≡ Ok (Some (sample_with buffer p))) → Appends old new buffer
-    → IfSome known (λ source. AreWritten form (sample_in source tracks id) k old new n)
-neighbours_written known tracks id form k offset n size p buffer old new stored there begins has read written =
+    → IfSome known (λ source. read_in source (Some p) ≡ Ok (Some (sample_with buffer p)))
+    → IfSome known (λ source. AreSamplesIn form (sample_in source tracks id) k n buffer)
+neighbours_read known tracks id form k offset n size p buffer stored there begins has read =
     of_known known _ _ read (λ source e.
     let is = read_is source buffer p e in
-    rw stored (
-      take size (drop offset source),
-      samples_there source tracks id k offset n size there (rw (begins, has) at is.0),
-      rw (is.1, begins, has) at written,
-    ))
+    rw (stored, is.1, begins, has)
+    (samples_there source tracks id k offset n size there (rw (begins, has) at is.0)))

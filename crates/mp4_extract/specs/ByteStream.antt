@@ -88,6 +88,12 @@ length_size stream = stream.length_size_minus_one % 4 + 1
 abbrev pub has_bytes : List ℕ → Bool
 has_bytes unit = not (length unit == 0)
 
+-- a sample begins with whole units, the last of which has bytes
+abbrev pub HasUnit : ℕ → List ℕ → Type 0
+HasUnit n sample =
+    (units : List (List ℕ)) × (rest : List ℕ) × (HoldUnits n units sample rest)
+    × (unit : List ℕ) × (after : List ℕ) × (unit_at n rest ≡ Ok (unit, after)) × (has_bytes unit ≡ true)
+
 -- the parameter sets of a track, as units
 abbrev pub sets_of : AnnexB → List (List ℕ)
 sets_of stream = map (λ (u : NalUnit). u.bytes) stream.parameter_sets

@@ -1,5 +1,5 @@
 -- What becomes of the samples of a track in a format.
-use Rattle.std.specs.Prelude.{◌==◌, if◌then◌else◌, ◌≡◌, ℕ, List, Option, Some, None, Result, Ok, Err}
+use Rattle.std.specs.Prelude.{◌==◌, if◌then◌else◌, ◌≡◌, ◌+◌, ◌≤◌, ℕ, List, length, Option, Some, None, Result, Ok, Err}
 use Rattle.mp4_codec.specs.declared.error.Error.{Error}
 use Rattle.mp4_codec.specs.Cause.{Cause, cause_of, seen}
 use Rattle.mp4_entry.specs.declared.avc1.Avc1Box.{Avc1Box}
@@ -19,8 +19,8 @@ use Rattle.mp4_extract.specs.declared.format.SampleFormat.{SampleFormat}
 use Rattle.mp4_extract.specs.declared.format.SampleFormat.TheVariants.{AsStored as Stored, AnnexB as Stream}
 use Rattle.mp4_extract.specs.declared.format.SampleFormat.TheVariants.{Adts as Frames}
 use Rattle.mp4_extract.specs.Adts.{AdtsNumbers, adts_of, frame_of, numbers_of}
-use Rattle.mp4_extract.specs.ByteStream.{IsStreamOf, RefusesStream, length_size}
-use Rattle.mp4_extract.specs.ParameterSets.{avc_stream, hevc_stream}
+use Rattle.mp4_extract.specs.ByteStream.{HasUnit, IsStreamOf, RefusesStream, length_size}
+use Rattle.mp4_extract.specs.ParameterSets.{HasArrays, HasSets, avc_stream, hevc_stream}
 
 -- the byte stream of a track with these sample entries, if it is one of video
 abbrev pub entry_stream : Option Avc1Box → Option Hev1Box → Result (Option AnnexB) Cause
@@ -58,9 +58,18 @@ HasNoForm trak Stored = ⊥
 HasNoForm trak Stream = track_stream trak ≡ Ok None
 HasNoForm trak Frames = track_adts trak ≡ None
 
+-- the decoder of a track with these sample entries is started with parameter sets, for which memory is wanted
+abbrev pub WantsEntry : Option Avc1Box → Option Hev1Box → Type 0
+WantsEntry (Some e) hevc = HasSets e.avcc
+WantsEntry None (Some e) = HasArrays e.hvcc
+WantsEntry None None = ⊥
+
+abbrev pub WantsSets : TrakBox → Type 0
+WantsSets trak = WantsEntry (tables_of trak).stsd.avc1 (tables_of trak).stsd.hev1
+
 -- for this error is a track refused; as its samples are stored it never is
 abbrev pub RefusesTrack : TrakBox → SampleFormat → ExtractError → Type 0
-RefusesTrack trak format OutOfMemory = format ≡ Stream
+RefusesTrack trak format OutOfMemory = (format ≡ Stream) × (WantsSets trak)
 RefusesTrack trak format (Track e) = (format ≡ Stream) × (track_stream trak ≡ Err (cause_of e))
 RefusesTrack trak format (WrongFormat id refused) =
     (id ≡ trak.tkhd.track_id) × (refused ≡ format) × HasNoForm trak format
@@ -81,3 +90,9 @@ abbrev pub RefusesSample : SampleForm → List ℕ → Error → Type 0
 RefusesSample AsStored sample e = ⊥
 RefusesSample (StreamForm stream) sample e = RefusesStream (length_size stream) sample e
 RefusesSample (FrameForm config) sample e = frame_of config sample ≡ Err (cause_of e)
+
+-- memory is wanted for a sample in a form: it isn't as it is stored, and a byte of it is written before it is refused
+abbrev pub NeedsRoom : SampleForm → List ℕ → Type 0
+NeedsRoom AsStored sample = ⊥
+NeedsRoom (StreamForm stream) sample = HasUnit (length_size stream) sample
+NeedsRoom (FrameForm config) sample = 7 + length sample ≤ 8191

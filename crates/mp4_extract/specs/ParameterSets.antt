@@ -1,5 +1,5 @@
 -- What a byte stream takes of the sample entry of a track of video (ISO/IEC 14496-15, 5.3.3.1 and 8.3.3.1).
-use Rattle.std.specs.Prelude.{ℕ, zero, suc, List, [], ◌++◌, Result, Ok}
+use Rattle.std.specs.Prelude.{◌≡◌, ℕ, zero, suc, ◌<◌, List, [], ◌++◌, length, Result, Ok}
 use Rattle.mp4_codec.specs.Bytes.{Reader, number_at, bytes_at, list_at}
 use Rattle.mp4_codec.specs.Cause.{Cause, ◌>>=◌}
 use Rattle.mp4_entry.specs.Avcc.{unit_at}
@@ -49,3 +49,19 @@ hevc_stream b = do
     length_size_minus_one = length_size.0;
     parameter_sets = units.0;
   })
+
+-- avcC has parameter sets
+abbrev pub HasSets : AvcCBox → Type 0
+HasSets b = 0 < length (b.sequence_parameter_sets ++ b.picture_parameter_sets)
+
+-- how many arrays hvcC has, and what follows
+unfoldable pub array_count : HvcCBox → Result (ℕ × List ℕ) Cause
+array_count b = do
+  front ← bytes_at 21 b.raw
+  length_size ← number_at 1 front.1
+  count ← number_at 1 length_size.1
+  Ok count
+
+-- hvcC has arrays
+abbrev pub HasArrays : HvcCBox → Type 0
+HasArrays b = (count : ℕ × List ℕ) × (array_count b ≡ Ok count) × (0 < count.0)

@@ -1,16 +1,16 @@
 -- The subtitles of a track of text.
-use Rattle.std.specs.Prelude.{◌≡◌, ◌⊎◌, ⊤, ℕ, zero, suc, ◌+◌, ◌-◌, ◌^◌, min, ◌==◌, ◌&&◌, ◌||◌, not, nat_lt}
+use Rattle.std.specs.Prelude.{◌≡◌, ◌⊎◌, ℕ, zero, suc, ◌+◌, ◌-◌, ◌<◌, ◌^◌, min, ◌==◌, ◌&&◌, ◌||◌, not, nat_lt}
 use Rattle.std.specs.Prelude.{Bool, IsTrue, if◌then◌else◌, string_bytes, length, List, [], ◌∷◌, ◌++◌}
 use Rattle.std.specs.Prelude.{Option, Some, None, Result, Ok, Err, is_none}
 use Rattle.std.specs.HashMap.{HashMap}
-use Rattle.mp4_codec.specs.Cause.{Cause, cause_of, box_in_stbl_not_found, ◌>>=◌}
+use Rattle.mp4_codec.specs.Cause.{Cause, cause_of, box_in_stbl_not_found, invalid_data, ◌>>=◌}
 use Rattle.mp4_codec.specs.declared.box_type.BoxType.TheVariants.{Tx3gBox}
 use Rattle.mp4_codec.specs.declared.error.Error.{Error}
 use Rattle.mp4_boxes.specs.declared.moov.MoovBox.{MoovBox}
 use Rattle.mp4_lookup.specs.declared.track.Mp4Track.{Mp4Track}
 use Rattle.mp4_samples.specs.Samples.{TimedSample}
 use Rattle.mp4_samples.specs.Tables.{tables_of}
-use Rattle.mp4_media.specs.Reading.{needed_track, sample_count_in, sample_in}
+use Rattle.mp4_media.specs.Reading.{IsSample, needed_track, sample_count_in, sample_in}
 use Rattle.mp4_extract.specs.declared.edits.SubtitleTimes.{SubtitleTimes}
 use Rattle.mp4_extract.specs.declared.edits.TextShift.{TextShift}
 use Rattle.mp4_extract.specs.declared.error.ExtractError.{ExtractError}
@@ -20,8 +20,8 @@ use Rattle.mp4_extract.specs.declared.text_track.Subtitle.{Subtitle}
 use Rattle.mp4_extract.specs.declared.text_track.SubtitleReader.{SubtitleReader}
 use Rattle.mp4_extract.specs.Edits.{edit_list_of, shift_of}
 use Rattle.mp4_extract.specs.Errors.{of_track}
-use Rattle.mp4_extract.specs.Extracting.{Answer}
-use Rattle.mp4_extract.specs.Texts.{IsTextOf, milliseconds_of}
+use Rattle.mp4_extract.specs.Extracting.{Answer, offset_in}
+use Rattle.mp4_extract.specs.Texts.{HasNoText, IsTextOf, WantsText, milliseconds_of}
 
 -- a sample that begins so many ticks before what is shown of its track is shown in part
 abbrev pub has_time_left : ℕ → ℕ → Bool
@@ -48,17 +48,39 @@ IsSubtitleAt shift timescale number answer None = answer ≡ Ok None
 IsSubtitleAt shift timescale number answer (Some t) =
     (s : TimedSample) × (answer ≡ Ok (Some s)) × (IsSubtitleOf shift timescale number s t)
 
--- for this error has the sample with number k no subtitle
-abbrev pub RefusesSubtitle : ℕ → Answer → Bool → ExtractError → Type 0
-RefusesSubtitle k answer can_refuse OutOfMemory = ⊤
-RefusesSubtitle k answer can_refuse (Sample number place e) =
-    (number ≡ k) × ((answer ≡ Err (cause_of e)) ⊎ ((s : TimedSample) × (answer ≡ Ok (Some s))))
-RefusesSubtitle k answer can_refuse (Read number e) = (number ≡ k) × (IsTrue can_refuse)
-RefusesSubtitle k answer can_refuse (Write number e) = ⊥
-RefusesSubtitle k answer can_refuse (Track e) = ⊥
-RefusesSubtitle k answer can_refuse (WrongFormat id format) = ⊥
-RefusesSubtitle k answer can_refuse (NoSuchSample id number count) = ⊥
-RefusesSubtitle k answer can_refuse (OtherDescription number description format) = ⊥
+-- when the text of a sample begins, before it is moved by the shift's delay, and how long it is shown
+abbrev pub text_times : TextShift → ℕ → TimedSample → Result (ℕ × ℕ) Cause
+text_times shift timescale s = do
+  start ← milliseconds_of (s.start_time - shift.skipped) timescale
+  lasts ← milliseconds_of (s.sample.duration - (shift.skipped - s.start_time)) timescale
+  Ok (start, lasts)
+
+-- for this error has a sample no subtitle: for its times, and where they are there for its text
+abbrev pub RefusesTimed : TextShift → ℕ → TimedSample → Error → Type 0
+RefusesTimed shift timescale s e =
+    (text_times shift timescale s ≡ Err (cause_of e))
+    ⊎ ((times : ℕ × ℕ) × (text_times shift timescale s ≡ Ok times)
+    × (cause_of e ≡ invalid_data) × (HasNoText s.sample.bytes))
+
+-- memory is wanted for the subtitle of a sample: its times are there
+abbrev pub WantsSubtitle : TextShift → ℕ → TimedSample → Type 0
+WantsSubtitle shift timescale s =
+    (times : ℕ × ℕ) × (text_times shift timescale s ≡ Ok times) × (WantsText s.sample.bytes)
+
+-- For this error has the sample with number k, which lies at this place where that is known, no subtitle. Memory is
+-- wanted only where there is a sample.
+abbrev pub RefusesSubtitle : TextShift → ℕ → ℕ → Answer → Option ℕ → Bool → ExtractError → Type 0
+RefusesSubtitle shift timescale k answer offset can_refuse OutOfMemory = IsSample answer
+RefusesSubtitle shift timescale k answer offset can_refuse (Sample number place e) =
+    (number ≡ k) × (place ≡ offset)
+    × ((answer ≡ Err (cause_of e))
+    ⊎ ((s : TimedSample) × (answer ≡ Ok (Some s)) × (RefusesTimed shift timescale s e)))
+RefusesSubtitle shift timescale k answer offset can_refuse (Read number e) = (number ≡ k) × (IsTrue can_refuse)
+RefusesSubtitle shift timescale k answer offset can_refuse (Write number e) = ⊥
+RefusesSubtitle shift timescale k answer offset can_refuse (Track e) = ⊥
+RefusesSubtitle shift timescale k answer offset can_refuse (WrongFormat id format) = ⊥
+RefusesSubtitle shift timescale k answer offset can_refuse (NoSuchSample id number count) = ⊥
+RefusesSubtitle shift timescale k answer offset can_refuse (OtherDescription number description format) = ⊥
 
 -- subtitles, and one more where that is shown
 abbrev pub and_shown : List Subtitle → Subtitle → List Subtitle
@@ -127,9 +149,14 @@ module _ {S : Type 0} where
       (reading : TextReading) × (text_reading times tracks id moov ≡ Ok reading)
       × (AreAllSubtitles reading (sample_in source tracks id) list)
 
-  -- for this error are the subtitles of the track with this id refused: the track is, or one of its samples
+  -- For this error are the subtitles of the track with this id refused: the track is; or one of its samples is, the
+  -- first that is.
   abbrev pub RefusesSubtitles : SubtitleTimes → List ℕ → HashMap ℕ Mp4Track S → ℕ → MoovBox → Bool → ExtractError
       → Type 0
   RefusesSubtitles times source tracks id moov can_refuse e =
-      (e ≡ OutOfMemory) ⊎ (RefusesReading (text_reading times tracks id moov) e)
-      ⊎ ((k : ℕ) × (RefusesSubtitle k (sample_in source tracks id k) can_refuse e))
+      (RefusesReading (text_reading times tracks id moov) e)
+      ⊎ ((reading : TextReading) × (text_reading times tracks id moov ≡ Ok reading)
+      × (n : ℕ) × (n < reading.count) × (before : List Subtitle)
+      × (AreSubtitles reading (sample_in source tracks id) n before)
+      × (RefusesSubtitle reading.shift reading.timescale (n + 1) (sample_in source tracks id (n + 1))
+      (offset_in tracks id (n + 1)) can_refuse e))

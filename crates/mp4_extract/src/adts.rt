@@ -29,8 +29,9 @@ pub struct AdtsConfig {
 }
 
 impl AdtsConfig {
-    ghost use Rattle.std.specs.Prelude.{option_map};
+    ghost use Rattle.std.specs.Prelude.{option_map, ◌+◌, length, IfErr};
     ghost use Rattle.mp4_codec.specs.Cause.{Answers};
+    ghost use Rattle.mp4_codec.specs.declared.error.Error.TheVariants.{OutOfMemory};
     ghost use Rattle.mp4_extract.specs.Adts.{adts_of, frame_of, header, numbers_of, with_front};
 
     /// The configuration of a decoder, where a header can say it: an object type of 1 to 4, a frequency of the
@@ -74,7 +75,9 @@ impl AdtsConfig {
     /// `TooLarge(SampleBytes)` where it has more bytes than the header can say.
     #[tactic(auto, unfolding(crate::specs::Adts::frame_of))]
     pub(crate) fn put_sample(&self, sample: &[u8], out: &mut Vec<u8>) -> Result<()>
-        ensures { Answers (λ _. out.new.items) result (with_front out.old.items (frame_of self.now sample.now)) }
+        ensures frame { Answers (λ _. out.new.items) result
+            (with_front out.old.items (frame_of self.now sample.now)) }
+        ensures memory { IfErr result (λ e. e ≡ OutOfMemory → 7 + length sample.now ≤ 8191) }
     {
         if sample.len() > MAX_FRAME_LENGTH - HEADER_LENGTH {
             return Err(Error::TooLarge(Limit::SampleBytes));

@@ -4,6 +4,7 @@ ghost use Rattle.std.specs.Prelude.{◌≡◌, ◌⊎◌, ◌&&◌, ◌++◌, �
 ghost use Rattle.mp4_codec.specs.Bytes.{Appends, number_at};
 ghost use Rattle.mp4_codec.specs.Cause.{Reads};
 ghost use Rattle.mp4_codec.specs.declared.error.Error.TheVariants.{OutOfMemory};
+ghost use Rattle.mp4_extract.specs.ByteStream.{HasUnit};
 ghost use Rattle.mp4_extract.specs.ByteStream.{IsStreamOf, RefusesStream, byte_stream, coded_unit, length_size};
 ghost use Rattle.mp4_extract.specs.ByteStream.{is_between, is_none, kinds_after, next_units, sets_between, sets_of};
 ghost use Rattle.mp4_extract.specs.ByteStream.{start_code, unit_at, units_if};
@@ -189,6 +190,7 @@ impl AnnexB {
     pub(crate) fn put_sample(&self, sample: &[u8], out: &mut Vec<u8>) -> Result<()>
         ensures stream { OnOk result ((bytes : List ℕ) × (IsStreamOf self.now sample.now bytes)
             × (out.new.items ≡ out.old.items ++ bytes)) }
+        ensures memory { IfErr result (λ e. e ≡ OutOfMemory → HasUnit (length_size self.now) sample.now) }
         ensures cut { IfErr result (λ e. (e ≡ OutOfMemory) ⊎ (RefusesStream (length_size self.now) sample.now e)) }
     {
         let mut fields = Fields::new(sample);

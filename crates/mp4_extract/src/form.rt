@@ -5,7 +5,8 @@ ghost use Rattle.mp4_codec.specs.Cause.{Answers};
 ghost use Rattle.mp4_codec.specs.declared.error.Error.TheVariants.{OutOfMemory};
 ghost use Rattle.mp4_extract.specs.Adts.{numbers_of};
 ghost use Rattle.mp4_extract.specs.declared.form.SampleForm.TheVariants.{AsStored};
-ghost use Rattle.mp4_extract.specs.Forms.{IsFormOf, IsInForm, RefusesSample, RefusesTrack, track_adts, track_stream};
+ghost use Rattle.mp4_extract.specs.Forms.{IsFormOf, IsInForm, NeedsRoom, RefusesSample, RefusesTrack};
+ghost use Rattle.mp4_extract.specs.Forms.{WantsSets, track_adts, track_stream};
 
 use crate::adts::AdtsConfig;
 use crate::annex_b::AnnexB;
@@ -33,7 +34,8 @@ pub enum SampleForm {
 /// The byte stream of a track of video, if it is one.
 #[tactic(auto, unfolding(crate::specs::Forms::track_stream))]
 fn annex_b_of(alloc: Global, track: &Mp4Track) -> Result<Option<AnnexB>>
-    ensures { Answers (λ s. s) result (track_stream track.now.trak) }
+    ensures stream { Answers (λ s. s) result (track_stream track.now.trak) }
+    ensures memory { IfErr result (λ e. e ≡ OutOfMemory → WantsSets track.now.trak) }
 {
     let stsd = &track.trak.mdia.minf.stbl.stsd;
     if let Some(entry) = &stsd.avc1 {
@@ -106,6 +108,7 @@ impl SampleForm {
     pub fn apply<'a>(&self, sample: &'a [u8], room: &'a mut Vec<u8>) -> Result<&'a [u8]>
         ensures ok { IfOk result (λ bytes. IsInForm self.now sample.now bytes.now) }
         ensures refused { IfErr result (λ e. (e ≡ OutOfMemory) ⊎ (RefusesSample self.now sample.now e)) }
+        ensures memory { IfErr result (λ e. e ≡ OutOfMemory → NeedsRoom self.now sample.now) }
     {
         room.clear();
         match self {

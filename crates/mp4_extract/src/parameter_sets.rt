@@ -1,9 +1,11 @@
 //! What the decoder of a track of video is started with.
 
-ghost use Rattle.std.specs.Prelude.{◌++◌, Ok};
+ghost use Rattle.std.specs.Prelude.{◌≡◌, ◌<◌, ◌++◌, length, IfErr, OnErr, Ok};
 ghost use Rattle.mp4_codec.specs.Bytes.{list_at};
 ghost use Rattle.mp4_codec.specs.Cause.{Answers};
+ghost use Rattle.mp4_codec.specs.declared.error.Error.TheVariants.{OutOfMemory};
 ghost use Rattle.mp4_entry.specs.Avcc.{unit_at};
+ghost use Rattle.mp4_extract.specs.ParameterSets.{HasArrays, HasSets};
 ghost use Rattle.mp4_extract.specs.ParameterSets.{after_units, array_at, arrays_at, avc_stream, hevc_stream};
 
 use crate::annex_b::AnnexB;
@@ -17,7 +19,8 @@ const BYTES_BEFORE_LENGTH_SIZE: usize = 21;
 
 /// Adds copies of units to a list.
 fn add_units(units: &[NalUnit], list: &mut Items<NalUnit>) -> Result<()>
-    ensures { Answers (λ _. list.new) result (Ok (list.old ++ units.now)) }
+    ensures list { Answers (λ _. list.new) result (Ok (list.old ++ units.now)) }
+    ensures memory { OnErr result (0 < length units.now) }
 {
     for unit in units {
         let copy = unit.try_clone()?;
@@ -29,7 +32,8 @@ fn add_units(units: &[NalUnit], list: &mut Items<NalUnit>) -> Result<()>
 /// The sequence parameter sets of `avcC`, and then its picture parameter sets.
 #[tactic(auto, unfolding(crate::specs::ParameterSets::avc_stream))]
 pub(crate) fn annex_b_of_avcc(alloc: Global, avcc: &AvcCBox) -> Result<AnnexB>
-    ensures { Answers (λ s. s) result (Ok (avc_stream avcc.now)) }
+    ensures stream { Answers (λ s. s) result (Ok (avc_stream avcc.now)) }
+    ensures memory { OnErr result (HasSets avcc.now) }
 {
     let mut parameter_sets = Items::new(alloc);
     add_units(avcc.sequence_parameter_sets.as_slice(), &mut parameter_sets)?;
@@ -86,7 +90,9 @@ fn read_arrays(
     count: u8,
     list: &mut Items<NalUnit>,
 ) -> Result<()>
-    ensures { Answers (λ _. (list.new, fields.new)) result (after_units list.old (arrays_at count fields.old)) }
+    ensures arrays { Answers (λ _. (list.new, fields.new)) result
+        (after_units list.old (arrays_at count fields.old)) }
+    ensures some { OnErr result (0 < count) }
 {
     for _ in 0..count {
         read_array(alloc, fields, list)?;
@@ -97,9 +103,10 @@ fn read_arrays(
 /// The units of all arrays of `hvcC` in their order (ISO/IEC 14496-15, 8.3.3.1).
 ///
 /// `InvalidData` where one passes its end.
-#[tactic(auto, unfolding(crate::specs::ParameterSets::hevc_stream))]
+#[tactic(auto, unfolding(crate::specs::ParameterSets::hevc_stream, crate::specs::ParameterSets::array_count))]
 pub(crate) fn annex_b_of_hvcc(alloc: Global, hvcc: &HvcCBox) -> Result<AnnexB>
-    ensures { Answers (λ s. s) result (hevc_stream hvcc.now) }
+    ensures stream { Answers (λ s. s) result (hevc_stream hvcc.now) }
+    ensures memory { IfErr result (λ e. e ≡ OutOfMemory → HasArrays hvcc.now) }
 {
     let mut parameter_sets = Items::new(alloc);
     let mut fields = Fields::new(hvcc.raw.as_slice());

@@ -1,12 +1,13 @@
 //! Samples of a track, written one after the other.
 
-ghost use Rattle.std.specs.Prelude.{◌≡◌, ◌⊎◌, ◌<◌, ◌+◌, ◌≤◌, ℕ, List, Ok, None, IfErr, IfOk, IfSome, OnOk};
+ghost use Rattle.std.specs.Prelude.{◌≡◌, ◌⊎◌, ◌<◌, ◌+◌, ◌≤◌, ℕ, Bool, List, Ok, None, IfErr, IfOk, IfSome, OnErr, OnOk};
 ghost use Rattle.std.specs.Io.KnownBytes.{Appends};
-ghost use Rattle.mp4_media.specs.Reading.{sample_in};
+ghost use Rattle.mp4_media.specs.Reading.{IsSample, sample_in};
 ghost use Rattle.mp4_extract.specs.Extracting.{AreExtracted, AreWritten, IsFormIn, IsPastEnd, IsWriteOf, IsWritten};
 ghost use Rattle.mp4_extract.specs.Extracting.{RefusesExtraction, RefusesNumber, RefusesOneFrom, RefusesStored};
 ghost use Rattle.mp4_extract.specs.Extracting.{AreDescribed, BeginsAt, HasNone, RefusesDescription, RefusesFirst};
-ghost use Rattle.mp4_extract.specs.Extracting.{RefusesTrackIn, has_number};
+ghost use Rattle.mp4_extract.specs.Extracting.{HasFront, HoldsAfter, HoldsStored, IsKept, RefusesTrackIn, has_number};
+ghost use Rattle.mp4_extract.specs.Extracting.{offset_in};
 ghost use Rattle.mp4_extract.specs.Forms.{IsInForm};
 
 use crate::descriptions::check_descriptions;
@@ -16,7 +17,8 @@ use crate::format::SampleFormat;
 use crate::neighbours::neighbours_in;
 use mp4_media::{ByteSource, Error, Mp4File};
 use std::alloc::Global;
-use std::io::Write;
+use std::io;
+use std::io::{ErrorKind, Write};
 
 /// What the samples of a track are written by: its memory is that of the largest sample, whatever their number is.
 #[derive(Debug)]
@@ -52,16 +54,47 @@ fn has_number(count: u32, k: u32) -> bool
 }
 
 /// Where a sample of a track lies, where its tables say it.
+#[tactic(auto, unfolding(mp4_media::specs::Reading::located_in))]
 pub(crate) fn place_of<S: ByteSource + Drop>(
     file: &Mp4File<S>,
     track_id: u32,
     k: u32,
-) -> Option<u64> {
-    let track = file.tracks().get(&track_id)?;
+) -> Option<u64>
+    ensures { result ≡ offset_in file.now.movie.tracks track_id k }
+{
+    let Some(track) = file.tracks().get(&track_id) else {
+        return None;
+    };
     match track.locate(k) {
         Ok(Some(place)) => Some(place.offset),
         _ => None,
     }
+}
+
+/// Writes all bytes. Where the sink refuses, it holds a front of them.
+fn put_all<W: Write>(bytes: &[u8], out: &mut W) -> io::Result<()>
+    ensures ok { OnOk result (Appends (W.contents out.old) (W.contents out.new) bytes.now) }
+    ensures refused { OnErr result (HasFront bytes.now (W.contents out.old) (W.contents out.new)) }
+{
+    let mut written = 0;
+    for _ in 0..u64::MAX {
+        if written >= bytes.len() {
+            return Ok(());
+        }
+        match out.write(&bytes[written..]) {
+            Ok(0) => return Err(io::Error::new(
+                ErrorKind::WriteZero,
+                "failed to write whole buffer",
+            )),
+            Ok(n) => written += n,
+            Err(refused) => {
+                if refused.kind() != ErrorKind::Interrupted {
+                    return Err(refused);
+                }
+            }
+        }
+    }
+    Err(io::Error::new(ErrorKind::TimedOut, "gave up writing after 2^64 tries"))
 }
 
 impl SampleWriter {
@@ -124,8 +157,8 @@ impl SampleWriter {
     ///
     /// `Sample` where the file's tables refuse the sample, as they do number 0 and each number of a track without
     /// samples (`InvalidData`), where it doesn't lie whole in the file, and where it has no such form; `Read` where
-    /// the source refuses; then nothing is written. `Write` where the sink refuses, which may then hold a part of the
-    /// sample.
+    /// the source refuses; then nothing is written. `Write` where the sink refuses, which then holds a front of the
+    /// sample. `OutOfMemory` only where there is such a sample, and then too nothing is written.
     pub fn write_sample<S: ByteSource + Drop, W: Write>(
         &mut self,
         file: &mut Mp4File<S>,
@@ -136,8 +169,12 @@ impl SampleWriter {
             IsWritten self.old.form (sample_in source file.old.movie.tracks self.old.track_id k)
             (W.contents out.old) (W.contents out.new) found)) }
         ensures refused { IfErr result (λ e. IfSome (S.contents file.old.source) (λ source.
-            RefusesNumber self.old.form (sample_in source file.old.movie.tracks self.old.track_id k) k
-            (S.can_refuse file.old.source) e)) }
+            RefusesNumber self.old.form (sample_in source file.old.movie.tracks self.old.track_id k)
+            (offset_in file.old.movie.tracks self.old.track_id k) k (S.can_refuse file.old.source) e)) }
+        ensures holds { IfErr result (λ e. IfSome (S.contents file.old.source) (λ source.
+            HoldsAfter self.old.form (sample_in source file.old.movie.tracks self.old.track_id) k 1 0
+            (W.contents out.old) (W.contents out.new) e)) }
+        ensures kept { IfErr result (IsKept (W.contents out.old) (W.contents out.new)) }
         ensures track_id { self.new.track_id ≡ self.old.track_id }
         ensures form { self.new.form ≡ self.old.form }
         ensures movie { file.new.movie ≡ file.old.movie }
@@ -161,12 +198,14 @@ impl SampleWriter {
     fn put_stored<W: Write>(&mut self, k: u32, place: u64, out: &mut W) -> Result<(), ExtractError>
         ensures written { OnOk result ((bytes : List ℕ) × (IsInForm self.old.form self.old.stored.items bytes)
             × (Appends (W.contents out.old) (W.contents out.new) bytes)) }
-        ensures refused { IfErr result (λ e. RefusesStored self.old.form self.old.stored.items k e) }
+        ensures refused { IfErr result (λ e. RefusesStored self.old.form self.old.stored.items k place e) }
+        ensures holds { IfErr result (HoldsStored self.old.form self.old.stored.items
+            (W.contents out.old) (W.contents out.new)) }
         ensures track_id { self.new.track_id ≡ self.old.track_id }
         ensures form { self.new.form ≡ self.old.form }
     {
         match self.form.apply(self.stored.as_slice(), &mut self.turned) {
-            Ok(bytes) => match out.write_all(bytes) {
+            Ok(bytes) => match put_all(bytes, out) {
                 Ok(()) => Ok(()),
                 Err(refused) => Err(ExtractError::Write(k, refused)),
             },
@@ -193,6 +232,11 @@ impl SampleWriter {
             AreWritten self.old.form (sample_in source file.old.movie.tracks self.old.track_id) k
             (W.contents out.old) (W.contents out.new) n)) }
         ensures refused { IfErr result (IsWriteOf k) }
+        ensures there { IfErr result (λ e. IfSome (S.contents file.old.source) (λ source.
+            IsSample (sample_in source file.old.movie.tracks self.old.track_id k))) }
+        ensures holds { IfErr result (λ e. IfSome (S.contents file.old.source) (λ source.
+            HoldsAfter self.old.form (sample_in source file.old.movie.tracks self.old.track_id) k most 0
+            (W.contents out.old) (W.contents out.new) e)) }
         ensures track_id { self.new.track_id ≡ self.old.track_id }
         ensures form { self.new.form ≡ self.old.form }
         ensures movie { file.new.movie ≡ file.old.movie }
@@ -206,7 +250,7 @@ impl SampleWriter {
             return Ok(0);
         };
         match file.read_place_into(neighbours.place(), &mut self.stored) {
-            Ok(()) => match out.write_all(self.stored.as_slice()) {
+            Ok(()) => match put_all(self.stored.as_slice(), out) {
                 Ok(()) => Ok(neighbours.count),
                 Err(refused) => Err(ExtractError::Write(k, refused)),
             },
@@ -233,8 +277,11 @@ impl SampleWriter {
         ensures end { IfOk result (λ n. n ≡ 0 → IfSome (S.contents file.old.source) (λ source.
             sample_in source file.old.movie.tracks self.old.track_id k ≡ Ok None)) }
         ensures refused { IfErr result (λ e. IfSome (S.contents file.old.source) (λ source.
-            RefusesNumber self.old.form (sample_in source file.old.movie.tracks self.old.track_id k) k
-            (S.can_refuse file.old.source) e)) }
+            RefusesNumber self.old.form (sample_in source file.old.movie.tracks self.old.track_id k)
+            (offset_in file.old.movie.tracks self.old.track_id k) k (S.can_refuse file.old.source) e)) }
+        ensures holds { IfErr result (λ e. IfSome (S.contents file.old.source) (λ source.
+            HoldsAfter self.old.form (sample_in source file.old.movie.tracks self.old.track_id) k most 0
+            (W.contents out.old) (W.contents out.new) e)) }
         ensures track_id { self.new.track_id ≡ self.old.track_id }
         ensures form { self.new.form ≡ self.old.form }
         ensures movie { file.new.movie ≡ file.old.movie }
@@ -252,8 +299,9 @@ impl SampleWriter {
     /// Writes the samples from number `from` on, one after the other: `count` of them, or as many as there are. It
     /// answers how many were written.
     ///
-    /// The errors are those of [`SampleWriter::write_sample`]; the samples before the one that is refused are written.
-    /// Where the sink refuses samples that are written together, `Write` has the number of the first of them.
+    /// The errors are those of [`SampleWriter::write_sample`], for the first sample that is refused; the samples
+    /// before it are written, and nothing else. Where the sink refuses samples that are written together, `Write` has
+    /// the number of the first of them, and the sink then also holds a front of what was to be written from that on.
     pub fn write_samples<S: ByteSource + Drop, W: Write>(
         &mut self,
         file: &mut Mp4File<S>,
@@ -268,8 +316,9 @@ impl SampleWriter {
         ensures end { IfOk result (λ n. n < count → IfSome (S.contents file.old.source) (λ source.
             IsPastEnd (sample_in source file.old.movie.tracks self.old.track_id) (from + n))) }
         ensures refused { IfErr result (λ e. IfSome (S.contents file.old.source) (λ source.
-            RefusesOneFrom self.old.form (sample_in source file.old.movie.tracks self.old.track_id) from
-            (S.can_refuse file.old.source) e)) }
+            RefusesOneFrom self.old.form (sample_in source file.old.movie.tracks self.old.track_id)
+            (offset_in file.old.movie.tracks self.old.track_id) from count (S.can_refuse file.old.source)
+            (W.contents out.old) (W.contents out.new) e)) }
         ensures track_id { self.new.track_id ≡ self.old.track_id }
         ensures form { self.new.form ≡ self.old.form }
         ensures movie { file.new.movie ≡ file.old.movie }
@@ -296,7 +345,7 @@ impl SampleWriter {
 /// none of a track without samples.
 ///
 /// The errors are those of [`SampleWriter::new`] and then of [`SampleWriter::begins_at`], before which nothing is
-/// written, and of [`SampleWriter::write_samples`].
+/// written, and then of [`SampleWriter::write_samples`].
 pub fn extract<S: ByteSource + Drop, W: Write>(
     alloc: Global,
     file: &mut Mp4File<S>,
@@ -313,8 +362,10 @@ pub fn extract<S: ByteSource + Drop, W: Write>(
         ⊎ (IfSome (S.contents file.old.source) (λ source.
         IsPastEnd (sample_in source file.old.movie.tracks track_id) (from + n)))) }
     ensures refused { IfErr result (λ e. IfSome (S.contents file.old.source) (λ source.
-        RefusesExtraction format source file.old.movie.tracks file.old.movie.moov.mvex track_id from
-        (S.can_refuse file.old.source) e)) }
+        RefusesExtraction format source file.old.movie.tracks file.old.movie.moov.mvex track_id from count
+        (S.can_refuse file.old.source) (W.contents out.old) (W.contents out.new) e)) }
+    ensures described { OnOk result (AreDescribed format file.old.movie.tracks track_id file.old.movie.moov.mvex) }
+    ensures begins { OnOk result ((has_samples : Bool) × (BeginsAt file.old.movie.tracks track_id from has_samples)) }
     ensures movie { file.new.movie ≡ file.old.movie }
     ensures contents { S.contents file.new.source ≡ S.contents file.old.source }
     ensures can_refuse { S.can_refuse file.new.source ≡ S.can_refuse file.old.source }

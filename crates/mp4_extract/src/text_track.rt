@@ -3,8 +3,11 @@
 ghost use Rattle.std.specs.Prelude.{◌≡◌, ◌⊎◌, ◌+◌, ◌<◌, ◌≤◌, Ok, Some, None, IfErr, IfNone, IfOk, IfSome, OnOk};
 ghost use Rattle.mp4_codec.specs.Cause.{Gives};
 ghost use Rattle.mp4_media.specs.Reading.{sample_in, sample_there};
+ghost use Rattle.mp4_codec.specs.declared.error.Error.TheVariants.{OutOfMemory as no_memory};
+ghost use Rattle.mp4_extract.specs.Extracting.{offset_in};
 ghost use Rattle.mp4_extract.specs.Subtitles.{AreSubtitlesOf, IsReadingOf, IsSubtitleAt, IsSubtitleOf, RefusesSubtitle};
-ghost use Rattle.mp4_extract.specs.Subtitles.{RefusesSubtitles, and_shown, has_time_left, reading_of, shift_in};
+ghost use Rattle.mp4_extract.specs.Subtitles.{RefusesSubtitles, RefusesTimed, WantsSubtitle};
+ghost use Rattle.mp4_extract.specs.Subtitles.{and_shown, has_time_left, reading_of, shift_in};
 ghost use Rattle.mp4_extract.specs.Subtitles.{text_reading, timescale_in};
 ghost use Rattle.mp4_extract.specs.declared.error.ExtractError.TheVariants.{OutOfMemory};
 
@@ -46,7 +49,11 @@ fn subtitle_of(
     shift: TextShift,
     sample: &[u8],
 ) -> Result<Subtitle>
-    ensures { IfOk result (λ t. IsSubtitleOf shift timescale number (sample_there sample.now place.now) t) }
+    ensures subtitle { IfOk result (λ t. IsSubtitleOf shift timescale number (sample_there sample.now place.now) t) }
+    ensures refused { IfErr result (λ e. (e ≡ no_memory)
+        ⊎ (RefusesTimed shift timescale (sample_there sample.now place.now) e)) }
+    ensures memory { IfErr result (λ e. e ≡ no_memory
+        → WantsSubtitle shift timescale (sample_there sample.now place.now)) }
 {
     let early = shift.skipped.saturating_sub(place.start_time);
     let start = milliseconds(place.start_time.saturating_sub(shift.skipped), timescale)?;
@@ -182,8 +189,9 @@ impl SubtitleReader {
             IsSubtitleAt self.old.shift self.old.timescale number
             (sample_in source file.old.movie.tracks self.old.track_id number) t)) }
         ensures refused { IfErr result (λ e. IfSome (S.contents file.old.source) (λ source.
-            RefusesSubtitle number (sample_in source file.old.movie.tracks self.old.track_id number)
-            (S.can_refuse file.old.source) e)) }
+            RefusesSubtitle self.old.shift self.old.timescale number
+            (sample_in source file.old.movie.tracks self.old.track_id number)
+            (offset_in file.old.movie.tracks self.old.track_id number) (S.can_refuse file.old.source) e)) }
         ensures track_id { self.new.track_id ≡ self.old.track_id }
         ensures timescale { self.new.timescale ≡ self.old.timescale }
         ensures shift { self.new.shift ≡ self.old.shift }
@@ -227,8 +235,9 @@ impl SubtitleReader {
             IsSubtitleAt self.old.shift self.old.timescale (self.old.read + 1)
             (sample_in source file.old.movie.tracks self.old.track_id (self.old.read + 1)) (Some t)))) }
         ensures refused { IfSome result (λ answer. IfErr answer (λ e. IfSome (S.contents file.old.source) (λ source.
-            RefusesSubtitle (self.old.read + 1)
+            RefusesSubtitle self.old.shift self.old.timescale (self.old.read + 1)
             (sample_in source file.old.movie.tracks self.old.track_id (self.old.read + 1))
+            (offset_in file.old.movie.tracks self.old.track_id (self.old.read + 1))
             (S.can_refuse file.old.source) e))) }
         ensures read { IfSome result (λ _. self.new.read ≡ self.old.read + 1) }
         ensures more { IfSome result (λ _. self.old.read < self.old.count) }

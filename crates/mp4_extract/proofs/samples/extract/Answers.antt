@@ -1,5 +1,6 @@
-use Rattle.std.proofs.Common.{◌⊎◌, inl, inr, rules}
+use Rattle.std.proofs.Common.{◌≡◌, ◌⊎◌, inl, inr, rules, true}
 use Rattle.std.proofs.lemmas.Result.{err_from_is_err_and}
+use Rattle.std.proofs.KnownBytes.{Appends-nil}
 use Rattle.mp4_media.specs.Reading.{sample_count_in, sample_in}
 use Rattle.mp4_media.proofs.FoundBoxes.{all_known, of_known}
 use Rattle.mp4_extract.proofs.Joined.{none_counted, nothing_written}
@@ -37,18 +38,35 @@ pub returns-in_err-writer-clause-refused : goal.returns-in_err-writer-clause-ref
 returns-in_err-writer-clause-refused g c =
     let p = err_from_is_err_and c.from_residual.result c.from_residual.ensures.1 in
     rw (p.1, p.2) (all_known (g.S.ByteSource.contents c.args.file.now.source) _
-    (λ source. or_more c.in_err-writer.ensures.refused))
+    (λ source. inl (or_more c.in_err-writer.ensures.refused, Appends-nil (g.W.Write.contents c.args.out.now))))
 
 pub returns-in_err-has_samples-clause-refused : goal.returns-in_err-has_samples-clause-refused
 returns-in_err-has_samples-clause-refused g c =
     let residual = c.from_residual-in_err-has_samples in
     let p = err_from_is_err_and residual.result residual.ensures.1 in
+    let writer = c.in_ok-writer.ensures in
     rw (p.1, p.2) (all_known (g.S.ByteSource.contents c.args.file.now.source) _
-    (λ source. inr (inr (inl (rw c.in_ok-writer.ensures.track_id at c.in_err-has_samples.ensures.refused)))))
+    (λ source. inl (
+      inr (inr (
+        ((c.in_ok-writer.writer.form, writer.form), writer.described),
+        rw writer.track_id at c.in_err-has_samples.ensures.refused,
+      )),
+      Appends-nil (g.W.Write.contents c.args.out.now),
+    )))
 
 pub returns-in_err-written-clause-refused : goal.returns-in_err-written-clause-refused
 returns-in_err-written-clause-refused g c =
     let p = err_from_is_err_and c.from_residual-in_err-written.result c.from_residual-in_err-written.ensures.1 in
+    let writer = c.in_ok-writer.ensures in
+    let some : c.in_ok-has_samples.has_samples ≡ true = search rules in
     rw (p.1, p.2) (of_known (g.S.ByteSource.contents c.args.file.now.source) _ _
-    (rw c.in_ok-writer.ensures.track_id at c.in_err-written.ensures.refused)
-    (λ source refused. inr (inr (inr (c.in_ok-writer.writer.form, c.in_ok-writer.ensures.form, refused)))))
+    (rw writer.track_id at c.in_err-written.ensures.refused)
+    (λ source refused. inr (
+      (
+        ((c.in_ok-writer.writer.form, writer.form), writer.described),
+        rw some at (rw writer.track_id at c.in_ok-has_samples.ensures.begins),
+      ),
+      c.in_ok-writer.writer.form,
+      writer.form,
+      refused,
+    )))

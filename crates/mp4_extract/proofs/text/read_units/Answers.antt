@@ -5,8 +5,8 @@ use Rattle.mp4_codec.specs.Bytes.{list_at, number_at}
 use Rattle.mp4_codec.proofs.ListLoop.{goes_on, ends, is_done}
 use Rattle.mp4_extract.proofs.text.read_units.Goals as goal
 
-pub returns-in_err-unit : goal.returns-in_err-unit
-returns-in_err-unit c =
+pub returns-in_err-unit-clause-units : goal.returns-in_err-unit-clause-units
+returns-in_err-unit-clause-units c =
     let p = err_from_is_err_and c.from_residual.result c.from_residual.ensures.1 in
     let total = list_at (number_at 2) c.args.count c.args.fields.now in
     rw (p.1, p.2) (inr (ends (number_at 2) invalid_data c.loop.units c.args.count c.loop.counter c.loop.fields total
@@ -19,8 +19,8 @@ loop-preserved c =
     (goes_on (number_at 2) c.loop.units c.args.count c.loop.counter c.loop.fields c.in_ok-unit.unit c.u16.new.self total
     c.loop-test.true c.in_ok-unit.ensures c.loop.invariant)
 
-pub returns : goal.returns
-returns c =
+pub returns-clause-units : goal.returns-clause-units
+returns-clause-units c =
     let total = list_at (number_at 2) c.args.count c.args.fields.now in
     is_done (number_at 2) c.loop.units c.args.count c.loop.counter c.loop.fields total c.loop-test.false
     c.loop.invariant

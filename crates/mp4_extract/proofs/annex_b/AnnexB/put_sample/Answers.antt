@@ -1,5 +1,6 @@
-use Rattle.std.proofs.Common.{arith, rules, ap, sym, ◌∙◌, not}
-use Rattle.mp4_extract.specs.ByteStream.{length_size}
+use Rattle.std.proofs.Common.{◌≡◌, arith, rules, true, ap, sym, ◌∙◌, not}
+use Rattle.std.proofs.lemmas.Result.{err_from_is_err_and}
+use Rattle.mp4_extract.specs.ByteStream.{has_bytes, length_size}
 use Rattle.mp4_extract.proofs.Turning.{begun, finished, nil_when, passed, put, unit-moves}
 use Rattle.mp4_extract.proofs.annex_b.AnnexB.put_sample.Goals as goal
 
@@ -37,3 +38,19 @@ returns-clause-stream c =
     finished c.args.self.now c.args.sample.now c.loop-fields.fields c.args.out.now.items c.loop-fields.out.items
     c.loop-fields.progress.is_first c.loop-fields.progress.kinds c.loop-fields.invariant
     (nil_when c.loop-fields.fields (search rules))
+
+pub returns-in_err-put_next-clause-memory : goal.returns-in_err-put_next-clause-memory
+returns-in_err-put_next-clause-memory c =
+    let so_far = c.loop-fields.invariant in
+    let p = err_from_is_err_and c.from_residual.result c.from_residual.ensures.1 in
+    let some : has_bytes c.in-Ok.unit.now ≡ true =
+    ap not (sym c.is_empty-in-loop-fields.ensures) ∙ search rules in
+    rw (p.1, p.2) (λ memory. (
+      so_far.units,
+      c.loop-fields.fields,
+      so_far.held,
+      c.in-Ok.unit.now,
+      c.next_unit.new.fields,
+      c.in-Ok.ensures,
+      some,
+    ))

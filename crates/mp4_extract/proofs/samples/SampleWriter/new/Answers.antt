@@ -31,6 +31,14 @@ returns-in_err-check_descriptions-clause-refused g c =
     let p = err_from_is_err_and residual.result residual.ensures.1 in
     let refused = rw (c.deref-2.ensures, c.as_slice.ensures) at c.in_err-check_descriptions.ensures.refused in
     rw (p.1, p.2) (inr (
+      (
+        c.in_ok-form.form,
+        (
+          c.in-Some.track.now,
+          rw (← c.deref.ensures, ← c.tracks.ensures) (sym c.in-Some.ensures.value),
+          c.in_ok-form.ensures.form,
+        ),
+      ),
       c.in-Some.track.now,
       rw (← c.deref.ensures, ← c.tracks.ensures) (sym c.in-Some.ensures.value),
       refused.0,

@@ -1,13 +1,45 @@
-use Rattle.std.proofs.Common.{rules}
-use Rattle.mp4_extract.proofs.ReadTogether.{neighbours_written}
+use Rattle.std.proofs.Common.{refl, rules}
+use Rattle.mp4_media.specs.Reading.{sample_in}
+use Rattle.mp4_media.proofs.FoundBoxes.{of_known}
+use Rattle.mp4_extract.specs.declared.error.ExtractError.TheVariants.{Write}
+use Rattle.mp4_extract.proofs.ReadTogether.{neighbours_read}
+use Rattle.mp4_extract.proofs.Refused.{part_holds, some_there}
 use Rattle.mp4_extract.proofs.samples.SampleWriter.write_neighbours.Goals as goal
 
-pub returns-in-Ok-write_all-clause-written : goal.returns-in-Ok-write_all-clause-written
-returns-in-Ok-write_all-clause-written g c =
+pub returns-in-Ok-put_all-clause-written : goal.returns-in-Ok-put_all-clause-written
+returns-in-Ok-put_all-clause-written g c =
     let self = c.args.self.now in
     let neighbours = c.in-Some.neighbours in
-    neighbours_written (g.S.ByteSource.contents c.args.file.now.source) c.args.file.now.movie.tracks self.track_id
+    of_known (g.S.ByteSource.contents c.args.file.now.source) _ _
+    (neighbours_read (g.S.ByteSource.contents c.args.file.now.source) c.args.file.now.movie.tracks self.track_id
     self.form c.args.k neighbours.offset neighbours.count neighbours.size c.place.result
-    c.read_place_into.new.buffer.items (g.W.Write.contents c.args.out.now) (g.W.Write.contents c.write_all.new.self)
-    (c.is_as_stored.ensures (search rules)) c.in-Some.ensures.places c.place.ensures.offset c.place.ensures.size
-    c.in-Ok.ensures.answer (rw c.as_slice.ensures.value at c.in-Ok-write_all.ensures.bytes)
+    c.read_place_into.new.buffer.items (c.is_as_stored.ensures (search rules)) c.in-Some.ensures.places
+    c.place.ensures.offset c.place.ensures.size c.in-Ok.ensures.answer)
+    (λ source are. (_, are, rw c.as_slice.ensures.value at c.in-Ok-put_all.ensures.ok))
+
+pub returns-in-Err-put_all-clause-there : goal.returns-in-Err-put_all-clause-there
+returns-in-Err-put_all-clause-there g c =
+    let self = c.args.self.now in
+    let tracks = c.args.file.now.movie.tracks in
+    let neighbours = c.in-Some.neighbours in
+    of_known (g.S.ByteSource.contents c.args.file.now.source) _ _
+    (neighbours_read (g.S.ByteSource.contents c.args.file.now.source) tracks self.track_id
+    self.form c.args.k neighbours.offset neighbours.count neighbours.size c.place.result
+    c.read_place_into.new.buffer.items (c.is_as_stored.ensures (search rules)) c.in-Some.ensures.places
+    c.place.ensures.offset c.place.ensures.size c.in-Ok.ensures.answer)
+    (λ source are. some_there self.form (sample_in source tracks self.track_id) c.args.k neighbours.count _
+    c.in-Some.ensures.count.0 are)
+
+pub returns-in-Err-put_all-clause-holds : goal.returns-in-Err-put_all-clause-holds
+returns-in-Err-put_all-clause-holds g c =
+    let self = c.args.self.now in
+    let tracks = c.args.file.now.movie.tracks in
+    let neighbours = c.in-Some.neighbours in
+    of_known (g.S.ByteSource.contents c.args.file.now.source) _ _
+    (neighbours_read (g.S.ByteSource.contents c.args.file.now.source) tracks self.track_id
+    self.form c.args.k neighbours.offset neighbours.count neighbours.size c.place.result
+    c.read_place_into.new.buffer.items (c.is_as_stored.ensures (search rules)) c.in-Some.ensures.places
+    c.place.ensures.offset c.place.ensures.size c.in-Ok.ensures.answer)
+    (λ source are. part_holds self.form (sample_in source tracks self.track_id) c.args.k neighbours.count c.args.most _
+    (g.W.Write.contents c.args.out.now) _ (Write c.args.k c.in-Err-put_all.refused) c.in-Some.ensures.count.1 are
+    (rw c.as_slice.ensures.value at c.in-Err-put_all.ensures.refused) refl)

@@ -1,8 +1,9 @@
-use Rattle.std.proofs.Common.{arith, ◌≡◌, ◌+◌, ◌∙◌, rules}
+use Rattle.std.proofs.Common.{arith, ◌≡◌, ◌+◌, ◌-◌, ◌∙◌, rules}
 use Rattle.mp4_media.specs.Reading.{sample_in}
-use Rattle.mp4_media.proofs.FoundBoxes.{of_known}
 use Rattle.std.proofs.lemmas.Result.{err_from_is_err_and}
+use Rattle.mp4_extract.specs.Extracting.{offset_in}
 use Rattle.mp4_extract.proofs.Joined.{samples_added}
+use Rattle.mp4_extract.proofs.Refused.{one_refused}
 use Rattle.mp4_extract.proofs.samples.SampleWriter.write_samples.Goals as goal
 
 pub loop-written-preserved : goal.loop-written-preserved
@@ -30,6 +31,13 @@ returns-in_err-more-clause-refused g c =
     let inv = c.loop-written.invariant in
     let p = err_from_is_err_and c.from_residual.result c.from_residual.ensures.1 in
     let number : c.in-Some.k ≡ c.args.from + c.loop-written.written = search rules in
-    rw (p.1, p.2) (of_known (g.S.ByteSource.contents c.args.file.now.source) _ _
-    (rw (inv.0, inv.1, inv.2, inv.3, inv.4) at c.in_err-more.ensures.refused)
-    (λ source refused. (c.in-Some.k, omega arith, refused)))
+    let old = c.args.self.now in
+    let tracks = c.args.file.now.movie.tracks in
+    let refused = rw (inv.0, inv.1, inv.2, inv.3, inv.4) at c.in_err-more.ensures.refused in
+    let holds = rw (inv.0, inv.1, inv.2, inv.3) at c.in_err-more.ensures.holds in
+    rw (p.1, p.2) (one_refused (g.S.ByteSource.contents c.args.file.now.source) old.form
+    (λ source. sample_in source tracks old.track_id) (offset_in tracks old.track_id) c.args.from c.args.count
+    c.loop-written.written (c.args.count - c.loop-written.written) c.in-Some.k
+    (g.S.ByteSource.can_refuse c.args.file.now.source) (g.W.Write.contents c.args.out.now)
+    (g.W.Write.contents c.loop-written.out) _ c.in_err-more.field-0.0 number c.loop-written-test.true (omega arith)
+    inv.5 refused holds)
