@@ -47,7 +47,11 @@ fn last_sync(rows: &[SampleRow], count: usize) -> usize
 /// The number of the last row up to number `k` from which decoding can begin; 0 where there is none. The rows are looked
 /// at one by one, from number `k` on backwards.
 #[unsafe(no_mangle)]
-pub extern "C" fn mp4_c_sync_row_at_or_before(rows: &[SampleRow], k: u64, number: &mut u64) -> Answer
+pub extern "C" fn mp4_c_sync_row_at_or_before(
+    rows: &[SampleRow],
+    k: u64,
+    number: &mut u64,
+) -> Answer
     ensures { GaveSyncRow k rows.now number.new result }
 {
     let count = k.min(rows.len() as u64) as usize;
