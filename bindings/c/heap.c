@@ -1,5 +1,5 @@
-/* Hands the library's requests for memory on to malloc, realloc and free. Each request answers whether it was met, and where
- * the memory is; a request for no bytes is one for as many as its alignment, so that it has a place. It does what
+/* Hands the library's requests for memory on to malloc, realloc and free. Each request answers whether it was met, and
+ * where the memory is; a request for no bytes is one for as many as its alignment, so that it has a place. It does what
  * liblibc_c.a of the Rattle kit does, for machines for which the kit has none. */
 #include <stdint.h>
 #include <stdlib.h>
