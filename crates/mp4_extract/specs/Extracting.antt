@@ -112,6 +112,21 @@ IsWriteOf k (WrongFormat id format) = ⊥
 IsWriteOf k (NoSuchSample id number count) = ⊥
 IsWriteOf k (OtherDescription number description format) = ⊥
 
+-- an error is one of the sample with this number, or memory ran out
+abbrev pub IsOfNumber : ℕ → ExtractError → Type 0
+IsOfNumber k OutOfMemory = ⊤
+IsOfNumber k (Sample number place e) = number ≡ k
+IsOfNumber k (Read number e) = number ≡ k
+IsOfNumber k (Write number e) = number ≡ k
+IsOfNumber k (Track e) = ⊥
+IsOfNumber k (WrongFormat id format) = ⊥
+IsOfNumber k (NoSuchSample id number count) = ⊥
+IsOfNumber k (OtherDescription number description format) = ⊥
+
+-- an error is one of the samples that go from a number on and are so many
+abbrev pub IsOfOneFrom : ℕ → ℕ → ExtractError → Type 0
+IsOfOneFrom from most e = (n : ℕ) × (n < most) × (IsOfNumber (from + n) e)
+
 -- n samples from number k on were written, and a front of those after them, so that all are `most` at most
 abbrev pub AreWrittenInPart : SampleForm → (ℕ → Answer) → ℕ → ℕ → ℕ → Option (List ℕ) → Option (List ℕ) → Type 0
 AreWrittenInPart form samples k most n old new =
@@ -242,6 +257,14 @@ module _ {S : Type 0} where
   abbrev pub BeginsWithOne : SampleFormat → HashMap ℕ Mp4Track S → Option MvexBox → ℕ → ℕ → Type 0
   BeginsWithOne format tracks mvex id from =
       (IsTrackWritten format tracks id mvex) × (BeginsAt tracks id from true)
+
+  -- whatever the source holds, an error is that of the track, or of its samples from a number on, and nothing is
+  -- written; or it is one of a sample
+  abbrev pub IsOfExtraction : SampleFormat → HashMap ℕ Mp4Track S → Option MvexBox → ℕ → ℕ → ℕ
+      → Option (List ℕ) → Option (List ℕ) → ExtractError → Type 0
+  IsOfExtraction format tracks mvex id from most old new e =
+      ((RefusesAsked format tracks mvex id from e) × (Appends old new []))
+      ⊎ ((BeginsWithOne format tracks mvex id from) × (IsOfOneFrom from most e))
 
   -- For this error is the track refused, or its samples from a number on, and nothing is written; or one of its samples
   -- is, the first that is, `most` being asked for, and those before it are written.

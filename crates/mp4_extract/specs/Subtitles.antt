@@ -20,7 +20,7 @@ use Rattle.mp4_extract.specs.declared.text_track.Subtitle.{Subtitle}
 use Rattle.mp4_extract.specs.declared.text_track.SubtitleReader.{SubtitleReader}
 use Rattle.mp4_extract.specs.Edits.{edit_list_of, shift_of}
 use Rattle.mp4_extract.specs.Errors.{of_track}
-use Rattle.mp4_extract.specs.Extracting.{Answer, offset_in}
+use Rattle.mp4_extract.specs.Extracting.{Answer, IsOfNumber, offset_in}
 use Rattle.mp4_extract.specs.Texts.{HasNoText, IsTextOf, WantsText, milliseconds_of}
 
 -- a sample that begins so many ticks before what is shown of its track is shown in part
@@ -148,6 +148,13 @@ module _ {S : Type 0} where
   AreSubtitlesOf times source tracks id moov list =
       (reading : TextReading) × (text_reading times tracks id moov ≡ Ok reading)
       × (AreAllSubtitles reading (sample_in source tracks id) list)
+
+  -- whatever the source holds, an error is that of the track, or one of a sample
+  abbrev pub IsOfSubtitles : SubtitleTimes → HashMap ℕ Mp4Track S → ℕ → MoovBox → ExtractError → Type 0
+  IsOfSubtitles times tracks id moov e =
+      (RefusesReading (text_reading times tracks id moov) e)
+      ⊎ ((reading : TextReading) × (text_reading times tracks id moov ≡ Ok reading)
+      × (n : ℕ) × (n < reading.count) × (IsOfNumber (n + 1) e))
 
   -- For this error are the subtitles of the track with this id refused: the track is; or one of its samples is, the
   -- first that is.

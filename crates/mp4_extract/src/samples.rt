@@ -7,7 +7,7 @@ ghost use Rattle.mp4_extract.specs.Extracting.{AreExtracted, AreWritten, IsFormI
 ghost use Rattle.mp4_extract.specs.Extracting.{RefusesExtraction, RefusesNumber, RefusesOneFrom, RefusesStored};
 ghost use Rattle.mp4_extract.specs.Extracting.{AreDescribed, BeginsAt, HasNone, RefusesDescription, RefusesFirst};
 ghost use Rattle.mp4_extract.specs.Extracting.{HasFront, HoldsAfter, HoldsStored, IsKept, RefusesTrackIn, has_number};
-ghost use Rattle.mp4_extract.specs.Extracting.{offset_in};
+ghost use Rattle.mp4_extract.specs.Extracting.{IsOfExtraction, IsOfNumber, IsOfOneFrom, offset_in};
 ghost use Rattle.mp4_extract.specs.Forms.{IsInForm};
 
 use crate::descriptions::check_descriptions;
@@ -174,6 +174,7 @@ impl SampleWriter {
         ensures holds { IfErr result (λ e. IfSome (S.contents file.old.source) (λ source.
             HoldsAfter self.old.form (sample_in source file.old.movie.tracks self.old.track_id) k 1 0
             (W.contents out.old) (W.contents out.new) e)) }
+        ensures number { IfErr result (IsOfNumber k) }
         ensures kept { IfErr result (IsKept (W.contents out.old) (W.contents out.new)) }
         ensures track_id { self.new.track_id ≡ self.old.track_id }
         ensures form { self.new.form ≡ self.old.form }
@@ -274,6 +275,7 @@ impl SampleWriter {
         ensures written { IfOk result (λ n. IfSome (S.contents file.old.source) (λ source.
             AreWritten self.old.form (sample_in source file.old.movie.tracks self.old.track_id) k
             (W.contents out.old) (W.contents out.new) n)) }
+        ensures number { IfErr result (IsOfNumber k) }
         ensures end { IfOk result (λ n. n ≡ 0 → IfSome (S.contents file.old.source) (λ source.
             sample_in source file.old.movie.tracks self.old.track_id k ≡ Ok None)) }
         ensures refused { IfErr result (λ e. IfSome (S.contents file.old.source) (λ source.
@@ -313,6 +315,7 @@ impl SampleWriter {
         ensures written { IfOk result (λ n. IfSome (S.contents file.old.source) (λ source.
             AreWritten self.old.form (sample_in source file.old.movie.tracks self.old.track_id) from
             (W.contents out.old) (W.contents out.new) n)) }
+        ensures number { IfErr result (IsOfOneFrom from count) }
         ensures end { IfOk result (λ n. n < count → IfSome (S.contents file.old.source) (λ source.
             IsPastEnd (sample_in source file.old.movie.tracks self.old.track_id) (from + n))) }
         ensures refused { IfErr result (λ e. IfSome (S.contents file.old.source) (λ source.
@@ -364,6 +367,8 @@ pub fn extract<S: ByteSource + Drop, W: Write>(
     ensures refused { IfErr result (λ e. IfSome (S.contents file.old.source) (λ source.
         RefusesExtraction format source file.old.movie.tracks file.old.movie.moov.mvex track_id from count
         (S.can_refuse file.old.source) (W.contents out.old) (W.contents out.new) e)) }
+    ensures asked { IfErr result (IsOfExtraction format file.old.movie.tracks file.old.movie.moov.mvex track_id from
+        count (W.contents out.old) (W.contents out.new)) }
     ensures described { OnOk result (AreDescribed format file.old.movie.tracks track_id file.old.movie.moov.mvex) }
     ensures begins { OnOk result ((has_samples : Bool) × (BeginsAt file.old.movie.tracks track_id from has_samples)) }
     ensures movie { file.new.movie ≡ file.old.movie }

@@ -4,9 +4,9 @@ ghost use Rattle.std.specs.Prelude.{◌≡◌, ◌⊎◌, ◌+◌, ◌<◌, ◌�
 ghost use Rattle.mp4_codec.specs.Cause.{Gives};
 ghost use Rattle.mp4_media.specs.Reading.{sample_in, sample_there};
 ghost use Rattle.mp4_codec.specs.declared.error.Error.TheVariants.{OutOfMemory as no_memory};
-ghost use Rattle.mp4_extract.specs.Extracting.{offset_in};
+ghost use Rattle.mp4_extract.specs.Extracting.{IsOfNumber, offset_in};
 ghost use Rattle.mp4_extract.specs.Subtitles.{AreSubtitlesOf, IsReadingOf, IsSubtitleAt, IsSubtitleOf, RefusesSubtitle};
-ghost use Rattle.mp4_extract.specs.Subtitles.{RefusesSubtitles, RefusesTimed, WantsSubtitle};
+ghost use Rattle.mp4_extract.specs.Subtitles.{IsOfSubtitles, RefusesSubtitles, RefusesTimed, WantsSubtitle};
 ghost use Rattle.mp4_extract.specs.Subtitles.{and_shown, has_time_left, reading_of, shift_in};
 ghost use Rattle.mp4_extract.specs.Subtitles.{text_reading, timescale_in};
 ghost use Rattle.mp4_extract.specs.declared.error.ExtractError.TheVariants.{OutOfMemory};
@@ -192,6 +192,7 @@ impl SubtitleReader {
             RefusesSubtitle self.old.shift self.old.timescale number
             (sample_in source file.old.movie.tracks self.old.track_id number)
             (offset_in file.old.movie.tracks self.old.track_id number) (S.can_refuse file.old.source) e)) }
+        ensures number { IfErr result (IsOfNumber number) }
         ensures track_id { self.new.track_id ≡ self.old.track_id }
         ensures timescale { self.new.timescale ≡ self.old.timescale }
         ensures shift { self.new.shift ≡ self.old.shift }
@@ -239,6 +240,7 @@ impl SubtitleReader {
             (sample_in source file.old.movie.tracks self.old.track_id (self.old.read + 1))
             (offset_in file.old.movie.tracks self.old.track_id (self.old.read + 1))
             (S.can_refuse file.old.source) e))) }
+        ensures number { IfSome result (λ answer. IfErr answer (IsOfNumber (self.old.read + 1))) }
         ensures read { IfSome result (λ _. self.new.read ≡ self.old.read + 1) }
         ensures more { IfSome result (λ _. self.old.read < self.old.count) }
         ensures ended { IfNone result (self.new.read ≡ self.old.read) }
@@ -296,6 +298,7 @@ pub fn subtitles<S: ByteSource + Drop>(
     ensures refused { IfErr result (λ e. IfSome (S.contents file.old.source) (λ source.
         RefusesSubtitles times source file.old.movie.tracks track_id file.old.movie.moov
         (S.can_refuse file.old.source) e)) }
+    ensures asked { IfErr result (IsOfSubtitles times file.old.movie.tracks track_id file.old.movie.moov) }
     ensures movie { file.new.movie ≡ file.old.movie }
     ensures contents { S.contents file.new.source ≡ S.contents file.old.source }
     ensures can_refuse { S.can_refuse file.new.source ≡ S.can_refuse file.old.source }

@@ -70,3 +70,34 @@ returns-in_err-written-clause-refused g c =
       writer.form,
       refused,
     )))
+
+pub returns-in_err-writer-clause-asked : goal.returns-in_err-writer-clause-asked
+returns-in_err-writer-clause-asked g c =
+    let p = err_from_is_err_and c.from_residual.result c.from_residual.ensures.1 in
+    rw (p.1, p.2) (inl (or_more c.in_err-writer.ensures.refused, Appends-nil (g.W.Write.contents c.args.out.now)))
+
+pub returns-in_err-has_samples-clause-asked : goal.returns-in_err-has_samples-clause-asked
+returns-in_err-has_samples-clause-asked g c =
+    let residual = c.from_residual-in_err-has_samples in
+    let p = err_from_is_err_and residual.result residual.ensures.1 in
+    let writer = c.in_ok-writer.ensures in
+    rw (p.1, p.2) (inl (
+      inr (inr (
+        ((c.in_ok-writer.writer.form, writer.form), writer.described),
+        rw writer.track_id at c.in_err-has_samples.ensures.refused,
+      )),
+      Appends-nil (g.W.Write.contents c.args.out.now),
+    ))
+
+pub returns-in_err-written-clause-asked : goal.returns-in_err-written-clause-asked
+returns-in_err-written-clause-asked g c =
+    let p = err_from_is_err_and c.from_residual-in_err-written.result c.from_residual-in_err-written.ensures.1 in
+    let writer = c.in_ok-writer.ensures in
+    let some : c.in_ok-has_samples.has_samples ≡ true = search rules in
+    rw (p.1, p.2) (inr (
+      (
+        ((c.in_ok-writer.writer.form, writer.form), writer.described),
+        rw some at (rw writer.track_id at c.in_ok-has_samples.ensures.begins),
+      ),
+      c.in_err-written.ensures.number,
+    ))

@@ -41,3 +41,10 @@ returns-in_err-more-clause-refused g c =
     (g.S.ByteSource.can_refuse c.args.file.now.source) (g.W.Write.contents c.args.out.now)
     (g.W.Write.contents c.loop-written.out) _ c.in_err-more.field-0.0 number c.loop-written-test.true (omega arith)
     inv.5 refused holds)
+
+pub returns-in_err-more-clause-number : goal.returns-in_err-more-clause-number
+returns-in_err-more-clause-number g c =
+    let p = err_from_is_err_and c.from_residual.result c.from_residual.ensures.1 in
+    let number : c.in-Some.k ≡ c.args.from + c.loop-written.written = search rules in
+    rw (p.1, p.2)
+    (c.loop-written.written, c.loop-written-test.true, rw number at c.in_err-more.ensures.number)
