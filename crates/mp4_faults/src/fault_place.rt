@@ -1,8 +1,6 @@
 //! The place of a fault.
 
-ghost use Rattle.mp4_codec.specs.ExactTest.{by_test, field_tests};
-
-use mp4_codec::{BoxType, DebugItem, Error, ExactEq, FourCC, Items};
+use mp4_codec::{BoxType, DebugItem, Error, FourCC, Items};
 use std::fmt;
 use std::fmt::Write;
 
@@ -13,10 +11,6 @@ pub struct PathStep {
     pub name: BoxType,
     /// Which of the boxes of this type it is in what contains it, from 1.
     pub number: u64,
-}
-
-impl ExactEq for PathStep {
-    ghost exact = { by_test (Prim.hlevel field_tests) };
 }
 
 impl DebugItem for PathStep {}

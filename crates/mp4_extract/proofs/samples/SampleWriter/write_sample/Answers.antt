@@ -23,4 +23,5 @@ returns-in-Err-clause-refused g c =
     let known = g.S.ByteSource.contents file.source in
     rw (c.of_read.ensures, c.place_of-place.ensures, c.in-Err.ensures.movie)
     (not_read known file.movie.tracks self.track_id c.args.k file.len file.measured self.form
-    (g.S.ByteSource.can_refuse file.source) c.in-Err.error c.in-Err.ensures.memory c.in-Err.ensures.answer)
+    (g.S.ByteSource.can_refuse file.source) c.in-Err.error
+    (λ out. let past = c.in-Err.ensures.memory out in (past.0, past.1)) c.in-Err.ensures.answer)

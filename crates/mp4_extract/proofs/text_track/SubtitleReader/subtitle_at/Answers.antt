@@ -8,4 +8,4 @@ returns-in-Err-clause-refused g c =
     rw (c.of_read.ensures, c.place_of-place.ensures, c.in-Err.ensures.movie)
     (text_not_read (g.S.ByteSource.contents file.source) file.movie.tracks self.track_id c.args.number file.len
     file.measured self.shift self.timescale (g.S.ByteSource.can_refuse file.source) c.in-Err.error
-    c.in-Err.ensures.memory c.in-Err.ensures.answer)
+    (λ out. let past = c.in-Err.ensures.memory out in (past.0, past.1)) c.in-Err.ensures.answer)
