@@ -3,6 +3,7 @@ use Rattle.std.proofs.Common.{◌≡◌, ℕ, ◌+◌, ◌-◌, ◌^◌, ◌<◌
 use Rattle.std.proofs.Common.{refl, sym, ap, ◌∙◌, arith}
 use Rattle.std.specs.Prelude.{IfNone, IfSome, slice_get, slice_index}
 use Rattle.std.specs.List.{sum_by}
+use Rattle.std.proofs.lemmas.Bool.{le-ltb, lt-ltb}
 use Rattle.std.proofs.lemmas.List.Sums.{sum_by_more}
 use Rattle.std.proofs.lemmas.Option.{slice_get-get_or, same_Some}
 use Rattle.mp4_fragments.specs.Numbers.{plus}
@@ -18,11 +19,11 @@ use Rattle.mp4_fragments.specs.declared.run_samples.SampleValues.{SampleValues}
 use Rattle.mp4_search.specs.Search.{IsLastAtMost}
 use Rattle.mp4_search.proofs.SumLaws.{before_found, past_found}
 use Rattle.std.specs.Option.{option_map}
-use Rattle.mp4_fragments.specs.Index.{Find, Indexes, IsOnly, placed_at}
+use Rattle.mp4_fragments.specs.Index.{Find, Indexes, IsOnly, placed_at, run_sample_in}
 use Rattle.mp4_fragments.specs.declared.index.RunEntry.{RunEntry}
 use Rattle.mp4_fragments.specs.declared.index.RunIndex.{RunIndex}
 use Rattle.mp4_fragments.proofs.Finding.{entry_of, length-entries, right_by, slice_get-all_run_samples}
-use Rattle.mp4_fragments.proofs.Finding.{slice_get-all_run_samples_past}
+use Rattle.mp4_fragments.proofs.Finding.{run_sample_found, slice_get-all_run_samples_past}
 use Rattle.mp4_fragments.proofs.ListedValues.{sum_of_first-more}
 use Rattle.mp4_fragments.proofs.Places.{at_run_sample-on}
 
@@ -222,6 +223,35 @@ placed_begins find e p =
       | None ↦ λ none. absurd cc
       | Some x ↦ λ there. ap (λ (q : PlacedRun). q.at) (sym (same_Some _ _ there))
     ]
+
+-- the one sample of a run, as its entry has it
+pub only_sample : (find : Find) (entry : RunEntry) (v : SampleValues) (m : RunSample) (p : PlacedRun) (j : ℕ)
+    → placed_at find entry ≡ Some p → IsOnly p v → j ≡ 0
+    → ((run : TrunBox) (defaults : SampleDefaults) → m.at ≡ at_run_sample run defaults entry.at 0) → m.size ≡ v.size
+    → m.duration ≡ v.duration → m.rendering_offset ≡ v.rendering_offset → m.is_sync ≡ v.is_sync
+    → Some m ≡ run_sample_in j p
+only_sample find entry v m p j there only zero begins e2 e3 e4 e5 =
+    let start : m.at ≡ at_run_sample p.run p.defaults p.at 0 =
+    rw (placed_begins find entry p there) (begins p.run p.defaults) in
+    rw zero (rw (lt-ltb 0 (run_count p) (omega (arith, only.0))) (ap Some (sample_is m p v start only.1 e2 e3 e4 e5)))
+
+-- it has no other
+pub no_other : (p : PlacedRun) (v : SampleValues) (j : ℕ) → IsOnly p v → 1 ≤ j → None ≡ run_sample_in j p
+no_other p v j only h = rw (le-ltb j (run_count p) (omega (arith, only.0, h))) refl
+
+-- what a run that was found has at a number, by what its entry says
+pub found_by : (find : Find) (es : List RunEntry) (runs : List PlacedRun) (index : RunIndex) (key i number : ℕ)
+    (entry : RunEntry) (answer : Option RunSample) → key < 2 ^ 32 - 1 → Indexes find runs index → es ≡ index.entries
+    → entry ≡ get_or es i entry → IsLastAtMost index.counts key i → number ≡ slice_index index.counts i
+    → ((p : PlacedRun) → placed_at find entry ≡ Some p → answer ≡ run_sample_in (key - number) p)
+    → answer ≡ slice_get (all_run_samples runs) key
+found_by find es [] index key i number entry answer limit s e1 is at e2 answered =
+    absurd (omega (arith, at.within, s.counts.count))
+found_by find es (d ∷ rest) index key i number entry answer limit s e1 is at e2 answered =
+    let runs = d ∷ rest in
+    let found = before_found run_count runs index.counts key i s.counts limit at in
+    let there = placed_by find es runs index i entry d s e1 is found.0 in
+    answered (get_or runs i d) there ∙ rw e2 (run_sample_found runs index.counts key i d limit s.counts at)
 
 -- the one sample of the run after the end of another, as its entry has it
 only_of : (find : Find) (es : List RunEntry) (runs : List PlacedRun) (index : RunIndex) (entry : RunEntry) (e : RunEnd)

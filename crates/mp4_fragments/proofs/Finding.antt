@@ -56,7 +56,7 @@ slice_get-all_run_samples_past runs number i all past =
     slice_get_past (all_run_samples runs) number (omega (arith, whole, length-all_run_samples runs))
 
 -- what the run that was found has at a number
-run_sample_found : (runs : List PlacedRun) (counts : List ℕ) (key i : ℕ) (d : PlacedRun) → key < 2 ^ 32 - 1
+pub run_sample_found : (runs : List PlacedRun) (counts : List ℕ) (key i : ℕ) (d : PlacedRun) → key < 2 ^ 32 - 1
     → CountsBefore run_count runs counts → IsLastAtMost counts key i →
     run_sample_in (key - slice_index counts i) (get_or runs i d) ≡ slice_get (all_run_samples runs) key
 run_sample_found runs counts key i d limit s at =

@@ -7,6 +7,7 @@ use crate::run_samples::{RunStart, SampleValues};
 use mp4_codec::{DebugItem, Items};
 use mp4_search::SearchedNumbers;
 use std::alloc::{AllocError, Global};
+use std::marker::Model;
 
 /// A run: where it is, and where its samples begin.
 #[derive(Debug, Drop)]
@@ -37,9 +38,31 @@ pub struct RunIndex {
     pub(crate) total: u64,
 }
 
-impl RunIndex {
+/// A [`RunIndex`] while runs are added to it.
+#[derive(Drop)]
+pub(crate) struct RunIndexBuilder {
+    counts: Vec<u32>,
+    entries: Items<RunEntry>,
+    before: u32,
+    total: u64,
+}
+
+impl Model for RunIndexBuilder {
+    ghost use Rattle.mp4_fragments.specs.declared.index.RunIndex.{RunIndex};
+
+    ghost Value = { RunIndex };
+
+    ghost view = { λ s. record {
+      counts = s.counts.items;
+      entries = s.entries;
+      before = s.before;
+      total = s.total;
+    } };
+}
+
+impl RunIndexBuilder {
     /// No runs, with room for so many.
-    pub(crate) fn with_capacity(alloc: Global, runs: usize) -> Result<Self, AllocError>
+    pub fn with_capacity(alloc: Global, runs: usize) -> Result<Self, AllocError>
         ensures counts { IfOk result (λ index. index.counts ≡ []) }
         ensures entries { IfOk result (λ index. index.entries ≡ []) }
         ensures before { IfOk result (λ index. index.before ≡ 0) }
@@ -47,8 +70,8 @@ impl RunIndex {
     {
         let counts = Vec::with_capacity(alloc, runs)?;
         let entries = Items::with_capacity(alloc, runs)?;
-        Ok(RunIndex {
-            counts: SearchedNumbers::new(counts),
+        Ok(RunIndexBuilder {
+            counts,
             entries,
             before: 0,
             total: 0,
@@ -56,7 +79,7 @@ impl RunIndex {
     }
 
     /// One more run, of `count` samples.
-    pub(crate) fn push(&mut self, entry: RunEntry, count: u32) -> Result<(), AllocError>
+    pub fn push(&mut self, entry: RunEntry, count: u32) -> Result<(), AllocError>
         ensures { IfOk result (λ u. Pushed self.old self.new entry count) }
     {
         self.counts.push(self.before)?;
@@ -64,5 +87,17 @@ impl RunIndex {
         self.before = self.before.saturating_add(count);
         self.total = self.total.saturating_add(u64::from(count));
         Ok(())
+    }
+
+    /// The index of the runs that were added.
+    pub fn build(self) -> RunIndex
+        ensures { result ≡ self }
+    {
+        RunIndex {
+            counts: SearchedNumbers::new(self.counts),
+            entries: self.entries,
+            before: self.before,
+            total: self.total,
+        }
     }
 }

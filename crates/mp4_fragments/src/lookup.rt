@@ -6,12 +6,13 @@ ghost use Rattle.std.specs.Prelude.{◌≡◌, ◌-◌, ◌^◌, ◌<◌, ◌≤
 ghost use Rattle.std.specs.Option.{option_map};
 ghost use Rattle.mp4_fragments.specs.Cursor.{IsAmongRuns, IsIn, IsInRuns, IsRunEnd};
 ghost use Rattle.mp4_fragments.specs.RunSamples.{PlacedRun, all_run_samples, at_run_sample};
-ghost use Rattle.mp4_fragments.specs.Index.{Find, Indexes, IsRight, placed_at, run_at, runs_of};
+ghost use Rattle.mp4_search.specs.Search.{IsCountByGuess};
+ghost use Rattle.mp4_fragments.specs.Index.{Find, Indexes, IsRight, placed_at, run_at, run_sample_in, runs_of};
 
 use crate::cursor::{RunCursor, RunEnd, RunPosition};
 use crate::defaults::SampleDefaults;
 use crate::index::{RunEntry, RunIndex};
-use crate::run_samples::{RunSample, RunStart};
+use crate::run_samples::{RunSample, RunStart, run_sample_run_start};
 use crate::run_starts::{add, at_by_checkpoints};
 use mp4_frag::TrunBox;
 use mp4_moof::TrafBox;
@@ -81,6 +82,37 @@ fn first_start(at: RunStart) -> RunStart
     }
 }
 
+/// Sample `j` of the run of an entry, if it has so many.
+///
+/// Where it is the only one it is in the entry: neither its fragment nor its run is looked at, which are three loads, each
+/// after the one before.
+#[inline(always)]
+fn run_sample_at(
+    trafs: &[TrafBox],
+    track: SampleDefaults,
+    entry: &RunEntry,
+    j: u32,
+) -> Option<RunSample>
+    requires { IsRight (run_at trafs.now track) entry.now }
+    ensures { (p : PlacedRun) → placed_at (run_at trafs.now track) entry.now ≡ Some p → result ≡ run_sample_in j p }
+{
+    if let Some(values) = entry.only {
+        return if j == 0 {
+            Some(values.begin_at(first_start(entry.at)))
+        } else {
+            None
+        };
+    }
+    let Some((run, defaults)) = run_of(trafs, track, entry.traf, entry.run) else {
+        return None;
+    };
+    if j >= run.sample_count {
+        return None;
+    }
+    let at = at_by_checkpoints(run, defaults, entry.at, entry.checks.as_slice(), j);
+    Some(run_sample_run_start(run, defaults, at, j))
+}
+
 /// The end of the run where a walk is, if the next sample has this number.
 #[inline(always)]
 fn end_before(position: &Option<RunPosition>, number: u32) -> Option<RunEnd>
@@ -96,7 +128,7 @@ fn end_before(position: &Option<RunPosition>, number: u32) -> Option<RunEnd>
 impl RunIndex {
     /// A walk before the sample with this number, if there is one; its run is searched.
     #[inline(always)]
-    fn cursor_at<'t, S: Search>(
+    fn cursor_at<'t>(
         &self,
         trafs: &'t [TrafBox],
         track: SampleDefaults,
@@ -109,9 +141,9 @@ impl RunIndex {
         ensures some { IfSome result (λ c. IsInRuns (runs_of trafs.now track self.now) c × (c.number ≡ number)
             × (c.passed < c.run.now.sample_count) × (c.passed < 2 ^ 32 - 1)) }
         ensures none { IfNone result (slice_get (all_run_samples (runs_of trafs.now track self.now)) number ≡ None) }
-        ensures counted { S.Counts self.now.counts number readings.new }
+        ensures counted { IsCountByGuess self.now.counts number readings.new }
     {
-        let Some(found) = S::last_at_most(&self.counts, number, readings) else {
+        let Some(found) = ByGuess::last_at_most(&self.counts, number, readings) else {
             return None;
         };
         let entry = &self.entries.as_slice()[found.index];
@@ -179,10 +211,11 @@ impl RunIndex {
         ensures run_sample { result ≡ slice_get (all_run_samples (runs_of trafs.now track self.now)) number }
         ensures counted { S.Counts self.now.counts number readings.new }
     {
-        let Some(cursor) = self.cursor_at::<S>(trafs, track, number, readings) else {
+        let Some(found) = S::last_at_most(&self.counts, number, readings) else {
             return None;
         };
-        Some(cursor.run_sample())
+        let entry = &self.entries.as_slice()[found.index];
+        run_sample_at(trafs, track, entry, number - found.number)
     }
 
     /// What [`find`](RunIndex::find) answers at numbers that come in order: the walk goes on from the sample before, so
@@ -213,7 +246,7 @@ impl RunIndex {
                 return Some(run_sample);
             }
         }
-        let Some(mut found) = self.cursor_at::<ByGuess>(trafs, track, number, readings) else {
+        let Some(mut found) = self.cursor_at(trafs, track, number, readings) else {
             return None;
         };
         let run_sample = found.step();

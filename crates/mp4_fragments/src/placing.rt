@@ -8,7 +8,7 @@ ghost use Rattle.mp4_fragments.specs.Fragments.{begins, first_time, has_run_samp
 ghost use Rattle.mp4_fragments.specs.Index.{Indexes, IsOnly, Walks, KnowsRuns, KnowsTrafs, run_at};
 
 use crate::defaults::SampleDefaults;
-use crate::index::{RunEntry, RunIndex};
+use crate::index::{RunEntry, RunIndex, RunIndexBuilder};
 use crate::run_samples::{RunStart, SampleValues, values_of};
 use crate::run_starts::{at_by_checkpoints, checkpoints, data_begin};
 use mp4_frag::{TfdtBox, TrunBox};
@@ -58,7 +58,7 @@ fn only_values(run: &TrunBox, defaults: SampleDefaults) -> Option<SampleValues>
 /// Places run `i` of fragment `t` after `end`, and adds it to the index. The answer is its end.
 fn add_run(
     alloc: Global,
-    index: &mut RunIndex,
+    index: &mut RunIndexBuilder,
     t: usize,
     i: usize,
     run: &TrunBox,
@@ -89,7 +89,7 @@ fn add_run(
 /// Places the runs of fragment `t` one after the other, and adds them to the index. The answer is their end.
 fn add_runs(
     alloc: Global,
-    index: &mut RunIndex,
+    index: &mut RunIndexBuilder,
     t: usize,
     runs: &[TrunBox],
     base_data_offset: Option<u64>,
@@ -111,7 +111,7 @@ fn add_runs(
 /// they have no samples.
 fn add_traf(
     alloc: Global,
-    index: &mut RunIndex,
+    index: &mut RunIndexBuilder,
     track: SampleDefaults,
     t: usize,
     traf: &TrafBox,
@@ -142,7 +142,7 @@ fn add_traf(
 /// Places the runs of all fragments of a track, and adds them to the index.
 fn add_trafs(
     alloc: Global,
-    index: &mut RunIndex,
+    index: &mut RunIndexBuilder,
     track: SampleDefaults,
     trafs: &[TrafBox],
     base_data_offsets: &[Option<u64>],
@@ -187,11 +187,11 @@ pub fn index_of(
     ensures { IfOk result (λ index.
         Indexes (run_at trafs.now track) (placed_runs track end trafs.now base_data_offsets.now) index) }
 {
-    let mut index = RunIndex::with_capacity(alloc, count_runs(trafs))?;
+    let mut index = RunIndexBuilder::with_capacity(alloc, count_runs(trafs))?;
     let first = RunStart {
         place: None,
         time: Some(end),
     };
     add_trafs(alloc, &mut index, track, trafs, base_data_offsets, first)?;
-    Ok(index)
+    Ok(index.build())
 }

@@ -1,7 +1,8 @@
 -- Search in numbers that rise.
 use Rattle.std.specs.Prelude.{◌≡◌, ℕ, ◌+◌, ◌-◌, ◌<◌, ◌≤◌, nat_lt, nat_le, Bool, List, length, slice_index}
-use Rattle.std.specs.Prelude.{if◌then◌else◌, Option, MatchOption, ◌⊎◌}
+use Rattle.std.specs.Prelude.{if◌then◌else◌, Option, Some, None, MatchOption}
 use Rattle.mp4_search.specs.Digits.{digits}
+use Rattle.mp4_search.specs.Guess.{expected_in}
 use Rattle.mp4_search.specs.Partition.{asked_between}
 
 -- the number at i is the last that is at most the key
@@ -92,8 +93,15 @@ pub record IsCountByHalves (numbers : List ℕ) (key n : ℕ) : Type 0 where
   pub searched : n ≡ comparisons_in numbers key
   pub few : IsFew n (length numbers)
 
--- so many comparisons a search by halves makes, or a search from some place on
+-- how many numbers a search by a guess compares with the key: by halves where there is no guess, else from there on
+abbrev pub comparisons_begun_at : List ℕ → ℕ → Option ℕ → ℕ
+comparisons_begun_at numbers key None = comparisons_in numbers key
+comparisons_begun_at numbers key (Some i) = comparisons_from numbers key i
+
+unfoldable pub comparisons_by_guess : List ℕ → ℕ → ℕ
+comparisons_by_guess numbers key = comparisons_begun_at numbers key (expected_in numbers key)
+
+-- so many comparisons a search by a guess makes
 pub record IsCountByGuess (numbers : List ℕ) (key n : ℕ) : Type 0 where
-  pub searched : (n ≡ comparisons_in numbers key)
-      ⊎ ((i : ℕ) × (i < length numbers) × (n ≡ comparisons_from numbers key i))
+  pub searched : n ≡ comparisons_by_guess numbers key
   pub few : IsFewByGuess n (length numbers)

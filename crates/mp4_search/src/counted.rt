@@ -1,10 +1,10 @@
 //! Numbers of which each reading is counted.
 
-ghost use Rattle.std.specs.Prelude.{◌≡◌, ℕ, ◌+◌, ◌-◌, ◌^◌, ◌<◌, ◌≤◌, [], ◌∷◌, ◌++◌, length, slice_index, IfSome, OnOk};
+ghost use Rattle.std.specs.Prelude.{◌≡◌, ℕ, ◌+◌, ◌-◌, ◌^◌, ◌<◌, ◌≤◌, length, slice_index, IfSome};
+ghost use Rattle.mp4_search.specs.Guess.{expected_in};
 
-use crate::slope::Slope;
+use crate::line::{Line, line_of};
 use mp4_codec::Items;
-use std::alloc::AllocError;
 use std::marker::Model;
 
 /// What is looked up in as a whole. A look-up in it begins with the counters of its readings, and each of its steps
@@ -61,16 +61,19 @@ impl Readings {
 #[derive(Debug, Drop)]
 pub struct SearchedNumbers {
     numbers: Items<u32>,
-    /// By which the place of a number is guessed. No contract says anything of it.
-    slope: Slope,
+    /// By which the place of a number is guessed. None where the numbers are few or don't lie near their line.
+    line: Option<Line>,
 }
 
 impl Model for SearchedNumbers {
-    ghost use Rattle.std.specs.Prelude.{List, ℕ};
+    ghost use Rattle.std.specs.Prelude.{List, ℕ, ◌≡◌, ◌≤◌, ◌+◌, ◌^◌, IfSome};
+    ghost use Rattle.mp4_search.specs.Guess.{line_of};
 
     ghost Value = { List ℕ };
 
     ghost view = { λ s. s.numbers };
+
+    ghost invariant = { λ s. (s.line ≡ line_of s.numbers) × IfSome s.line (λ line. line.places ≤ 2 ^ 32 + 1) };
 }
 
 impl SearchedNumbers {
@@ -78,10 +81,10 @@ impl SearchedNumbers {
     pub fn new(numbers: Vec<u32>) -> Self
         ensures { result ≡ numbers.items }
     {
-        let slope = Slope::of(numbers.as_slice());
+        let line = line_of(numbers.as_slice());
         SearchedNumbers {
             numbers: Items::from(numbers),
-            slope,
+            line,
         }
     }
 
@@ -99,28 +102,17 @@ impl SearchedNumbers {
         self.numbers.len()
     }
 
-    /// Adds a number at the end.
-    pub fn push(&mut self, number: u32) -> Result<(), AllocError>
-        ensures { OnOk result (self.new ≡ self.old ++ number ∷ []) }
-    {
-        self.numbers.push(number)?;
-        if self.slope.is_outgrown(self.numbers.len()) {
-            self.slope = Slope::of(self.numbers.as_slice());
-        }
-        Ok(())
-    }
-
     /// The index at which the last number that is at most `key` is expected: a guess. None where no guess is worth its
     /// looks.
+    #[tactic(auto, unfolding(crate::specs::Guess::expected_in))]
     pub(crate) fn expected(&self, key: u32) -> Option<usize>
         requires some { 0 < length self.now }
+        ensures guess { result ≡ expected_in self.now key }
         ensures within { IfSome result (λ i. i < length self.now) }
         ensures small { IfSome result (λ i. i < 2 ^ 63) }
     {
-        match self.slope.place(key) {
-            None => None,
-            Some(place) => Some(place.min(self.numbers.len() - 1)),
-        }
+        let line = self.line?;
+        Some(line.place(key).min(self.numbers.len() - 1))
     }
 
     /// The number at an index, which counts from 0. This counts as one reading.

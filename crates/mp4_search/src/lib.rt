@@ -3,10 +3,10 @@
 
 mod bit_set;
 mod counted;
+mod line;
 mod near;
 mod partition;
 mod search;
-mod slope;
 
 pub use bit_set::BitSet;
 pub use counted::{CappedSums, LookedUp, Readings, SearchedNumbers};

@@ -8,8 +8,8 @@ ghost use Rattle.mp4_search.specs.Search.{all_of, after_earlier_looks, after_lat
 ghost use Rattle.mp4_search.specs.Search.{comparisons_between, comparisons_from, comparisons_in, left_of};
 
 use crate::counted::{Readings, SearchedNumbers};
+use crate::line::FEW;
 use crate::search::{Between, SearchHit, halve, last_at_most, last_before};
-use crate::slope::FEW;
 
 /// How far from the place that is expected numbers are looked at beside its neighbours, before the rest is halved.
 const FAR: usize = 16;
@@ -200,7 +200,8 @@ fn last_at_most_apart(numbers: &SearchedNumbers, key: u32) -> (Option<SearchHit>
 /// there; else the answer is found by halves, after at most four comparisons. So an interpolation search begins, and
 /// this one keeps the bound of a search by halves.
 ///
-/// The count is that of the search that was made: by halves, or from some index on.
+/// The count is that of the search that was made: by halves, or from the index that the line through the numbers' ends
+/// says.
 // Kept inline: docs/PERF.md, "Why these are calls".
 #[inline(always)]
 pub(crate) fn last_at_most_near(

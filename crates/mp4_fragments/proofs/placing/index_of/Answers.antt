@@ -10,5 +10,5 @@ unfolding placed_runs
 returns c =
     let find = run_at c.args.trafs.now c.args.track in
     let empty = c.in_ok-index.ensures in
-    c.in_ok-add_trafs.ensures.index find [] (knows_all c.args.trafs.now c.args.track)
-    (Indexes-none find _ empty.counts empty.entries empty.before empty.total)
+    rw c.build.ensures (c.in_ok-add_trafs.ensures.index find [] (knows_all c.args.trafs.now c.args.track)
+    (Indexes-none find _ empty.counts empty.entries empty.before empty.total))

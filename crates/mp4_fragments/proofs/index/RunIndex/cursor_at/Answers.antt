@@ -7,12 +7,12 @@ use Rattle.mp4_fragments.proofs.Finding.{length-entries, located_none, right_by}
 use Rattle.mp4_fragments.proofs.index.RunIndex.cursor_at.Goals as goal
 
 pub last_at_most-requires-clause-rises : goal.last_at_most-requires-clause-rises
-last_at_most-requires-clause-rises g c =
+last_at_most-requires-clause-rises c =
     let index = c.args.self.now in
     counts_rise run_count (runs_of c.args.trafs.now c.args.track index) index.counts c.requires.indexed.counts
 
 pub cursor_in-requires : goal.cursor_in-requires
-cursor_in-requires g c =
+cursor_in-requires c =
     let index = c.args.self.now in
     let known = run_at c.args.trafs.now c.args.track in
     let runs = runs_of c.args.trafs.now c.args.track index in
@@ -22,14 +22,14 @@ cursor_in-requires g c =
     c.requires.indexed c.as_slice.ensures c.index-as_slice-found.is (omega (arith, many, found.0.within))
 
 pub returns-in_default-clause-none : goal.returns-in_default-clause-none
-returns-in_default-clause-none g c =
+returns-in_default-clause-none c =
     let index = c.args.self.now in
     located_none (run_at c.args.trafs.now c.args.track)
     (runs_of c.args.trafs.now c.args.track index) index c.args.number c.requires.indexed
     (rw c.in_default.is at c.last_at_most.ensures.none)
 
 pub returns-clause-some : goal.returns-clause-some
-returns-clause-some g c =
+returns-clause-some c =
     let index = c.args.self.now in
     let found = rw c.in-Some.is at c.last_at_most.ensures.found in
     found_at (run_at c.args.trafs.now c.args.track) c.as_slice.result.now
@@ -38,7 +38,7 @@ returns-clause-some g c =
     c.index-as_slice-found.is found.0 found.1 c.cursor_in.ensures.some
 
 pub returns-clause-none : goal.returns-clause-none
-returns-clause-none g c =
+returns-clause-none c =
     let index = c.args.self.now in
     let found = rw c.in-Some.is at c.last_at_most.ensures.found in
     found_none (run_at c.args.trafs.now c.args.track) c.as_slice.result.now
