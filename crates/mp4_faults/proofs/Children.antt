@@ -17,7 +17,7 @@ use Rattle.mp4_codec.specs.Children.{ChildBox, child_at, begun, cut, walk}
 use Rattle.mp4_codec.specs.Steps.{ok_is, both_steps}
 use Rattle.mp4_codec.proofs.HeadLaws.{head_read, header_read}
 use Rattle.mp4_codec.specs.ChildrenLaws.{Begins, walk-begins, walk-ends, walk-breaks}
-use Rattle.mp4_faults.specs.Inner.{InnerBox, end_of, box_within, with_header, with_part, AreWithin}
+use Rattle.mp4_faults.specs.Inner.{InnerBox, as_child, end_of, box_within, with_header, with_part, AreWithin}
 
 -- READ FROM A PLACE ON
 
@@ -116,10 +116,6 @@ module _ (bytes : List ℕ) (p : ℕ) (inside : p ≤ length bytes) where
       ∙ report-there (head_at (here (drop p bytes) q))
 
 -- THE CHILDREN
-
--- a box as a child
-abbrev pub as_child : InnerBox → ChildBox
-as_child b = (b.name, b.payload)
 
 module _ (bytes : List ℕ) (p : ℕ) (inside : p ≤ length bytes) where
   abbrev child-of : Option InnerBox → Option (ChildBox × List ℕ)

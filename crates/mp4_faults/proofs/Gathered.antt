@@ -13,9 +13,9 @@ use Rattle.mp4_codec.specs.Children.{ChildBox, children, gathered, first_fault, 
 use Rattle.mp4_codec.specs.Children.{value_of}
 use Rattle.mp4_codec.specs.GatherLaws.{NoFault}
 use Rattle.mp4_codec.specs.WriteLaws.{or_parts}
-use Rattle.mp4_faults.specs.Inner.{InnerBox, box_within, AreWithin}
+use Rattle.mp4_faults.specs.Inner.{InnerBox, as_child, box_within, AreWithin}
 use Rattle.mp4_faults.specs.Innermost.{count_of, names_of}
-use Rattle.mp4_faults.proofs.Children.{as_child, walks-on, walks-none}
+use Rattle.mp4_faults.proofs.Children.{walks-on, walks-none}
 
 -- the children of a payload, where no box is after these
 pub all-children : (payload : List ℕ) (bs : List InnerBox) (end : ℕ) → AreWithin payload 0 bs end
@@ -33,7 +33,7 @@ unfolding children
 some-children payload bs end are =
     let w = walks-on payload bs 0 end (length payload) (omega arith) (omega arith) are in (_, w.is)
 
-none-refused : (fault : ChildBox → Option Cause) (cs : List ChildBox) (tail : List ℕ) → first_fault fault cs tail ≡ None
+pub none-refused : (fault : ChildBox → Option Cause) (cs : List ChildBox) (tail : List ℕ) → first_fault fault cs tail ≡ None
     → NoFault fault cs
 unfolding first_fault
 none-refused fault [] tail e = tt

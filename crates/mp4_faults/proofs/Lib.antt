@@ -4,6 +4,14 @@ pub mod Stepping
 pub mod Walked
 pub mod Children
 pub mod Gathered
+pub mod Looked
+pub mod Taken
+pub mod Fields
+pub mod Readers
+pub mod Entries
+pub mod Metadata
+pub mod Refused
+pub mod Missing
 pub mod Owners
 pub mod Searching
 pub mod FirstOf

@@ -5,9 +5,10 @@ use Rattle.std.specs.List.{AllByRecursion}
 use Rattle.mp4_codec.specs.declared.box_type.BoxType.{BoxType}
 use Rattle.mp4_codec.specs.Cause.{Cause}
 use Rattle.mp4_faults.specs.declared.fault_place.PathStep.{PathStep}
+use Rattle.mp4_faults.specs.ByChildren.{child_fault}
 use Rattle.mp4_faults.specs.Containers.{before_children, first_alone}
-use Rattle.mp4_faults.specs.Inner.{InnerBox, end_of, box_within, AreWithin, outward}
-use Rattle.mp4_faults.specs.Innermost.{Passes, IsFirstRefused, NoneRefused, sole, all, child_fault, names_of}
+use Rattle.mp4_faults.specs.Inner.{InnerBox, as_child, end_of, box_within, AreWithin, outward}
+use Rattle.mp4_faults.specs.Innermost.{Passes, IsFirstRefused, NoneRefused, sole, all, names_of}
 use Rattle.mp4_faults.specs.Innermost.{step_after, Leads}
 
 -- one box more
@@ -47,7 +48,7 @@ module _ (parent : BoxType) (payload : List ℕ) where
   }
 
   pub goes_on : (place : ℕ) (names more : List BoxType) (b : InnerBox) → Looking parent payload place names
-      → box_within payload place ≡ Some b → child_fault parent payload b ≡ None → first_alone parent ≡ false
+      → box_within payload place ≡ Some b → child_fault parent payload (as_child b) ≡ None → first_alone parent ≡ false
       → more ≡ names ++ b.name ∷ [] → Looking parent payload (end_of b) more
   goes_on place names more b l is faultless several e = record {
     before = l.before ++ b ∷ [];
@@ -55,7 +56,7 @@ module _ (parent : BoxType) (payload : List ℕ) where
       start = l.passes.start;
       starts = l.passes.starts;
       are = within-more payload l.passes.start place l.before b l.passes.are is;
-      faultless = all-more (λ (x : InnerBox). child_fault parent payload x ≡ None) l.before b l.passes.faultless
+      faultless = all-more (λ (x : InnerBox). child_fault parent payload (as_child x) ≡ None) l.before b l.passes.faultless
           faultless;
       alone = λ one. let not = sym one ∙ several in absurd cc;
     };
@@ -63,7 +64,7 @@ module _ (parent : BoxType) (payload : List ℕ) where
   }
 
   pub finds : (place : ℕ) (names : List BoxType) (b : InnerBox) (step : PathStep) (c : Cause)
-      → Looking parent payload place names → box_within payload place ≡ Some b → child_fault parent payload b ≡ Some c
+      → Looking parent payload place names → box_within payload place ≡ Some b → child_fault parent payload (as_child b) ≡ Some c
       → step ≡ step_after b.name names → IsFirstRefused parent payload step b c
   finds place names b step c l is refused e = record {
     before = l.before;
@@ -79,7 +80,7 @@ module _ (parent : BoxType) (payload : List ℕ) where
   ends place names l none = all l.before place l.passes none
 
   pub ends_at_first : (place : ℕ) (names : List BoxType) (b : InnerBox) → Looking parent payload place names
-      → box_within payload place ≡ Some b → child_fault parent payload b ≡ None → first_alone parent ≡ true
+      → box_within payload place ≡ Some b → child_fault parent payload (as_child b) ≡ None → first_alone parent ≡ true
       → NoneRefused parent payload
   ends_at_first place names b l is faultless one =
       sole place b (subst (λ (bs : List InnerBox). Passes parent payload bs place) (l.passes.alone one) l.passes) one is

@@ -23,11 +23,10 @@ use Rattle.mp4_moof.specs.declared.moof.MoofBox.{MoofBox}
 use Rattle.mp4_moof.specs.declared.traf.TrafBox.{TrafBox}
 use Rattle.mp4_moof.specs.Moof.{moof_of, moof_fault, moof_taken}
 use Rattle.mp4_moof.specs.Traf.{traf_of, traf_fault, traf_taken}
-use Rattle.mp4_faults.specs.Inner.{InnerBox, end_of, box_within, AreWithin}
+use Rattle.mp4_faults.specs.Inner.{InnerBox, as_child, end_of, box_within, AreWithin}
 use Rattle.mp4_faults.specs.Innermost.{count_of, names_of}
 use Rattle.mp4_faults.specs.WrongId.{HasOwner}
 use Rattle.mp4_faults.proofs.Looking.{within-more, map-more}
-use Rattle.mp4_faults.proofs.Children.{as_child}
 use Rattle.mp4_faults.proofs.Gathered.{all-children, some-children, gathered-whole, fault-of-part, one-of, count-all}
 use Rattle.mp4_faults.proofs.Gathered.{some-needed, has-value}
 

@@ -61,6 +61,7 @@ module _ (size : ℕ) (bytes : List ℕ) (b : InnerBox) (t : IsTopBox size bytes
         (meaningless r.means.0 r.means.1 t.within (ap r.means.0 (sym t.payload) ∙ r.means.2)));
     is_in = subst (λ (x : Cause). IsIn size bytes b.place old.names x f.path f.place) (sym i.cause)
         (refused b.name b.from (end_of b) t.begins
+        (record { small = t.fits; within = t.within; narrow = t.narrow })
         (ap (λ (p : List ℕ). payload_fault b.name p) (sym t.payload) ∙ r.fault) i.inward i.b
         (subst (λ (a : InnerBox). IsInnermost c a i.inward i.b) same-box i.innermost)
         (i.path ∙ ap (λ names. step_after b.name names ∷ i.inward) r.names) i.place);

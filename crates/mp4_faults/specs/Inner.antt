@@ -4,6 +4,7 @@ use Rattle.std.specs.Prelude.{if◌then◌else◌}
 use Rattle.mp4_codec.specs.declared.box_type.BoxType.{BoxType}
 use Rattle.mp4_codec.specs.declared.header.BoxHeader.{BoxHeader}
 use Rattle.mp4_codec.specs.Cause.{Cause}
+use Rattle.mp4_codec.specs.Children.{ChildBox}
 use Rattle.mp4_codec.specs.Cursor.{Cursor, here, take_at, header_at}
 use Rattle.mp4_faults.specs.declared.child.PlacedBox.{PlacedBox}
 
@@ -16,6 +17,10 @@ pub record InnerBox : Type 0 where
 
 abbrev pub inner : PlacedBox → InnerBox
 inner b = record { name = b.name; place = b.place; from = b.from; payload = b.payload.now }
+
+-- a box as a child
+abbrev pub as_child : InnerBox → ChildBox
+as_child b = (b.name, b.payload)
 
 -- the place after a box
 abbrev pub end_of : InnerBox → ℕ

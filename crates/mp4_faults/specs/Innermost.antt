@@ -1,31 +1,18 @@
 -- The innermost box that is at fault where a box is refused: from each box on to the first of its children that is
--- refused for the same cause.
-use Rattle.std.specs.Prelude.{◌≡◌, ℕ, ◌+◌, List, [], ◌∷◌, ◌++◌, Option, Some, None, Result, Ok, Err, Bool, true, ◌==◌}
-use Rattle.std.specs.Prelude.{count_by}
-use Rattle.std.specs.Prelude.{if◌then◌else◌, map}
+-- refused, which is for the same cause.
+use Rattle.std.specs.Prelude.{◌≡◌, ◌≤◌, ℕ, ◌+◌, List, [], ◌∷◌, ◌++◌, length, drop, Option, Some, None, Result, Ok}
+use Rattle.std.specs.Prelude.{Err, true, ◌==◌, count_by, map}
 use Rattle.std.specs.List.{AllByRecursion}
 use Rattle.mp4_codec.specs.declared.box_type.BoxType.{BoxType}
 use Rattle.mp4_codec.specs.declared.error.Error.{Error}
-use Rattle.mp4_codec.specs.declared.error.Error.TheVariants.{OutOfMemory, BoxInTrakNotFound, BoxInTrafNotFound}
-use Rattle.mp4_codec.specs.declared.error.Error.TheVariants.{BoxInStblNotFound, EntryInStblNotFound}
-use Rattle.mp4_codec.specs.declared.error.Error.TheVariants.{EntryInTrunNotFound}
+use Rattle.mp4_codec.specs.declared.error.Error.TheVariants.{OutOfMemory}
 use Rattle.mp4_codec.specs.BoxType.{code_of}
-use Rattle.mp4_codec.specs.Cause.{Cause, cause_of}
+use Rattle.mp4_codec.specs.Cause.{Cause}
 use Rattle.mp4_faults.specs.declared.fault_place.PathStep.{PathStep}
-use Rattle.mp4_faults.specs.declared.innermost.RefusedChild.{RefusedChild}
 use Rattle.mp4_faults.specs.declared.child.PlacedBox.{PlacedBox}
-use Rattle.mp4_faults.specs.Containers.{reads_with, reads_items, first_alone, before_children}
-use Rattle.mp4_faults.specs.Inner.{InnerBox, inner, outward, box_within, AreWithin}
-use Rattle.mp4_faults.specs.Refusal.{payload_fault}
-
--- an error of a track or a fragment that lacks a box or an entry
-abbrev pub IsLack : Error → Type 0
-IsLack (BoxInTrakNotFound id t) = Unit {0}
-IsLack (BoxInTrafNotFound id t) = Unit {0}
-IsLack (BoxInStblNotFound id t) = Unit {0}
-IsLack (EntryInStblNotFound id t k) = Unit {0}
-IsLack (EntryInTrunNotFound id t k) = Unit {0}
-IsLack other = ⊥
+use Rattle.mp4_faults.specs.ByChildren.{child_fault, own_fault}
+use Rattle.mp4_faults.specs.Containers.{first_alone, before_children}
+use Rattle.mp4_faults.specs.Inner.{InnerBox, inner, as_child, outward, box_within, AreWithin}
 
 -- how many types of a list are this one
 abbrev pub count_of : BoxType → List BoxType → ℕ
@@ -39,21 +26,13 @@ names_of boxes = map (λ (b : InnerBox). b.name) boxes
 abbrev pub step_after : BoxType → List BoxType → PathStep
 step_after name before = record { name = name; number = count_of name before + 1 }
 
--- why a child is refused in a container of this type, whose items are looked at or not, if the child is looked at
-abbrev pub fault_with : BoxType → Bool → InnerBox → Option Cause
-fault_with parent items b = if reads_with parent items b.name then payload_fault b.name b.payload else None
-
--- why a child is refused in a container of this type and payload
-abbrev pub child_fault : BoxType → List ℕ → InnerBox → Option Cause
-child_fault parent payload b = fault_with parent (reads_items parent payload) b
-
 -- The children of a container up to a place, of which none is refused: where only the first is looked at, there is
 -- none before the place.
 pub record Passes (parent : BoxType) (payload : List ℕ) (before : List InnerBox) (place : ℕ) : Type 0 where
   pub start : ℕ
   pub starts : before_children parent payload ≡ Some start
   pub are : AreWithin payload start before place
-  pub faultless : AllByRecursion (λ b. child_fault parent payload b ≡ None) before
+  pub faultless : AllByRecursion (λ b. child_fault parent payload (as_child b) ≡ None) before
   pub alone : first_alone parent ≡ true → before ≡ []
 
 -- this is the first child of a container that is refused, for this cause, with the step to it
@@ -63,7 +42,7 @@ pub record IsFirstRefused (parent : BoxType) (payload : List ℕ) (step : PathSt
   pub place : ℕ
   pub passes : Passes parent payload before place
   pub is : box_within payload place ≡ Some b
-  pub refused : child_fault parent payload b ≡ Some c
+  pub refused : child_fault parent payload (as_child b) ≡ Some c
   pub step_is : step ≡ step_after b.name (names_of before)
 
 -- no child of a container is refused
@@ -72,19 +51,20 @@ pub data NoneRefused (parent : BoxType) (payload : List ℕ) : Type 0 where
   childless : before_children parent payload ≡ None → NoneRefused parent payload
   -- the only child that is looked at isn't refused
   sole : (place : ℕ) (b : InnerBox) → Passes parent payload [] place → first_alone parent ≡ true
-      → box_within payload place ≡ Some b → child_fault parent payload b ≡ None → NoneRefused parent payload
+      → box_within payload place ≡ Some b → child_fault parent payload (as_child b) ≡ None
+      → NoneRefused parent payload
   -- none is up to the place where no more child begins
   all : (before : List InnerBox) (place : ℕ) → Passes parent payload before place → box_within payload place ≡ None
       → NoneRefused parent payload
 
--- Where a box of this type is refused for a cause, the fault is its own: none of its children is refused, or the first
--- that is, is for another cause.
-pub data IsOwnFault (parent : BoxType) (payload : List ℕ) (c : Cause) : Type 0 where
-  none : NoneRefused parent payload → IsOwnFault parent payload c
-  another : (step : PathStep) (b : InnerBox) (d : Cause) → IsFirstRefused parent payload step b d → (d ≡ c → ⊥)
-      → IsOwnFault parent payload c
+-- Where a box of this type is refused for a cause, the fault is its own: none of its children is refused. The cause is
+-- then that the bytes after its children are no box, or that it lacks one; or it is in the fields before them.
+pub record IsOwnFault (parent : BoxType) (payload : List ℕ) (c : Cause) : Type 0 where
+  pub none : NoneRefused parent payload
+  pub cause : (start : ℕ) → before_children parent payload ≡ Some start → start ≤ length payload
+      → own_fault parent (drop start payload) ≡ Some c
 
--- The path leads from one box to another: each time to the first child that is refused, for this cause.
+-- The path leads from one box to another: each time to the first child that is refused, which is for this cause.
 unfoldable pub Leads : Cause → InnerBox → List PathStep → InnerBox → Type 0
 Leads c a [] b = b ≡ a
 Leads c a (step ∷ path) b =
@@ -96,17 +76,17 @@ pub record IsInnermost (c : Cause) (a : InnerBox) (path : List PathStep) (b : In
   pub own : IsOwnFault b.name b.payload c
 
 -- What a call answers that looks for the first child that is refused; or memory ran out.
-abbrev pub FindsRefused : BoxType → List ℕ → Result (Option RefusedChild) Error → Type 0
+abbrev pub FindsRefused : BoxType → List ℕ → Result (Option (PathStep × PlacedBox)) Error → Type 0
 FindsRefused parent payload (Ok None) = NoneRefused parent payload
-FindsRefused parent payload (Ok (Some r)) = IsFirstRefused parent payload r.step (inner r.child) (cause_of r.error)
+FindsRefused parent payload (Ok (Some x)) = (c : Cause) × IsFirstRefused parent payload x.0 (inner x.1) c
 FindsRefused parent payload (Err e) = e ≡ OutOfMemory
 
--- What a call answers that looks for the child that is at fault; or memory ran out.
-abbrev pub FindsFaulty : Cause → InnerBox → Result (Option (PathStep × PlacedBox)) Error → Type 0
-FindsFaulty c a (Ok None) = IsOwnFault a.name a.payload c
-FindsFaulty c a (Ok (Some x)) =
-    (child : InnerBox) × IsFirstRefused a.name a.payload x.0 child c × (inner x.1 ≡ outward a child)
-FindsFaulty c a (Err e) = e ≡ OutOfMemory
+-- The same with the places of the child counted as those of its container are.
+abbrev pub FindsFaulty : InnerBox → Result (Option (PathStep × PlacedBox)) Error → Type 0
+FindsFaulty a (Ok None) = NoneRefused a.name a.payload
+FindsFaulty a (Ok (Some x)) =
+    (child : InnerBox) × (c : Cause) × IsFirstRefused a.name a.payload x.0 child c × (inner x.1 ≡ outward a child)
+FindsFaulty a (Err e) = e ≡ OutOfMemory
 
 -- What a call answers that looks for the innermost box at fault, and adds the path to it to another; or memory ran out.
 abbrev pub FindsInnermost : Cause → InnerBox → List PathStep → List PathStep → Result PlacedBox Error → Type 0

@@ -1,6 +1,7 @@
 pub mod Payload
 pub mod Refusal
 pub mod Containers
+pub mod ByChildren
 pub mod Inner
 pub mod Innermost
 pub mod TopLevel

@@ -56,6 +56,12 @@ HasNoHeader size bytes place c = (size < place + 8) ⊎ (header_at (here bytes p
 abbrev pub FitsNowhere : ℕ → List ℕ → (from to : ℕ) → Type 0
 FitsNowhere size bytes from to = (size < to - from + 8) ⊎ (length bytes < to) ⊎ (2 ^ 64 ≤ to)
 
+-- a box fits: it is no larger than the file of `size` bytes, and ends within the bytes, and below 64 bits
+pub record Fits (size : ℕ) (bytes : List ℕ) (from to : ℕ) : Type 0 where
+  pub small : to - from + 8 ≤ size
+  pub within : to ≤ length bytes
+  pub narrow : to < 2 ^ 64
+
 -- the box whose first byte and payload are at these places of a file, and which ends at the last
 abbrev pub outermost : List ℕ → BoxType → (place from to : ℕ) → InnerBox
 outermost bytes name place from to =
@@ -70,8 +76,8 @@ pub data IsIn (size : ℕ) (bytes : List ℕ) (place : ℕ) (before : List BoxTy
   -- it is that of a box that doesn't fit
   no_room : (name : BoxType) (from to : ℕ) → Begins size bytes place name from to → FitsNowhere size bytes from to
       → path ≡ step_after name before ∷ [] → at ≡ place → IsIn size bytes place before c path at
-  -- it is in a box whose payload is refused: in the innermost box that is at fault
-  refused : (name : BoxType) (from to : ℕ) → Begins size bytes place name from to
+  -- it is in a box that fits and whose payload is refused: in the innermost box that is at fault
+  refused : (name : BoxType) (from to : ℕ) → Begins size bytes place name from to → Fits size bytes from to
       → payload_fault name (between bytes from to) ≡ Some c
       → (inward : List PathStep) (b : InnerBox) → IsInnermost c (outermost bytes name place from to) inward b
       → path ≡ step_after name before ∷ inward → at ≡ b.place → IsIn size bytes place before c path at

@@ -25,7 +25,7 @@ pub fn first_fault_in(alloc: Global, name: BoxType, payload: &[u8]) -> Result<Op
         payload,
     };
     let mut path = Items::new(alloc);
-    let innermost = innermost_fault(alloc, outermost, &error, &mut path)?;
+    let innermost = innermost_fault(alloc, outermost, &mut path)?;
     Ok(Some(FaultPlace {
         path,
         place: innermost.place,

@@ -1,13 +1,14 @@
 //! The boxes of a file, one after the other, up to the first fault.
 
 ghost use Rattle.std.specs.Prelude.{◌≡◌, ◌≤◌, ◌<◌, ◌+◌, ◌^◌, ℕ, List, [], ◌∷◌, IfSome, IfOk, IsTrue, IsFalse};
-ghost use Rattle.std.specs.Prelude.{None as none};
+ghost use Rattle.std.specs.Prelude.{None as none, Some as some};
 ghost use Rattle.mp4_codec.specs.BoxType.{IsNamed};
 ghost use Rattle.mp4_codec.specs.Cause.{cause_of};
 ghost use Rattle.mp4_source.specs.Answers.{IsLength};
 ghost use Rattle.mp4_media.specs.FileBoxes.{meaning_of};
 ghost use Rattle.mp4_faults.specs.Inner.{inner, end_of};
 ghost use Rattle.mp4_faults.specs.Innermost.{step_after};
+ghost use Rattle.mp4_faults.specs.Refusal.{payload_fault};
 ghost use Rattle.mp4_faults.specs.TopLevel.{GivesNext, TellsNext, IsRead, IsTopBox, IsBegun, TellsContent};
 ghost use Rattle.mp4_faults.specs.TopLevel.{TellsValue, TellsInside, IsSeen, ReadsNext, SaysWhose};
 ghost use Rattle.mp4_codec.specs.Early.{takes_memory};
@@ -112,19 +113,20 @@ fn fault_of_box(
     Ok(NextBox::Faulty(FaultPlace { path, place, error }))
 }
 
-/// The fault of a box of a file that is refused by this error. Its payload is this.
+/// The fault of a box of a file whose payload is refused by this error.
 fn fault_within(
     alloc: Global,
     seen: &SeenBoxes,
     outermost: PlacedBox,
     error: Error,
 ) -> Result<NextBox>
-    requires { end_of (inner outermost) < 2 ^ 64 }
+    requires narrow { end_of (inner outermost) < 2 ^ 64 }
+    requires refused { payload_fault outermost.name outermost.payload.now ≡ some (cause_of error) }
     ensures { TellsInside seen.now.names (inner outermost.entry) (cause_of error) result }
 {
     let mut path = Items::new(alloc);
     path.push(step_to(outermost.name, seen.names.as_slice()))?;
-    let innermost = innermost_fault(alloc, outermost, &error, &mut path)?;
+    let innermost = innermost_fault(alloc, outermost, &mut path)?;
     Ok(NextBox::Faulty(FaultPlace {
         path,
         place: innermost.place,

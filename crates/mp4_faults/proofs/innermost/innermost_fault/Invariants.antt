@@ -1,15 +1,16 @@
-use Rattle.std.proofs.Common.{◌≡◌, ◌++◌, ◌≤◌, List, length}
-use Rattle.mp4_codec.specs.Cause.{cause_of}
+use Rattle.std.proofs.Common.{◌≡◌, ◌++◌, ◌≤◌, List, Some, length}
+use Rattle.mp4_codec.specs.Cause.{Cause}
 use Rattle.mp4_faults.specs.declared.fault_place.PathStep.{PathStep}
 use Rattle.mp4_faults.specs.Inner.{inner, end_of}
-use Rattle.mp4_faults.specs.Innermost.{Leads}
+use Rattle.mp4_faults.specs.Refusal.{payload_fault}
+use Rattle.mp4_faults.proofs.Refused.{LedTo}
 use Rattle.mp4_faults.proofs.innermost.innermost_fault.Given as goal
 
 -- The path so far leads to the box.
 abbrev pub invariant-loop-step : goal.invariant-loop-step
 invariant-loop-step l = record {
-  led : (path : List PathStep) × Leads (cause_of l.error) (inner l.fn.outermost) path (inner l.at)
-      × (l.path ≡ l.fn.path ++ path);
+  led : (c : Cause) → payload_fault l.fn.outermost.name l.fn.outermost.payload.now ≡ Some c
+      → LedTo c (inner l.fn.outermost) (inner l.at) l.fn.path l.path;
   within : end_of (inner l.at) ≤ end_of (inner l.fn.outermost);
 }
 

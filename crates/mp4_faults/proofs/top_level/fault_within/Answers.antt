@@ -1,10 +1,11 @@
 use Rattle.std.proofs.Common.{refl, ◌∙◌}
+use Rattle.mp4_codec.specs.Cause.{cause_of}
 use Rattle.mp4_faults.specs.Inner.{inner}
 use Rattle.mp4_faults.proofs.top_level.fault_within.Goals as goal
 
 pub returns : goal.returns
 returns c =
-    let answer = c.in_ok-innermost.ensures.answer in (
+    let answer = c.in_ok-innermost.ensures.answer (cause_of c.args.error) c.requires.refused in (
       _,
       refl,
       record {
