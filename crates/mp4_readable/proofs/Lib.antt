@@ -1,1 +1,2 @@
+mod Calendar
 mod Decimals

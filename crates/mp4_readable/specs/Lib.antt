@@ -1,3 +1,4 @@
+pub mod Calendar
 pub mod Clock
 pub mod DecimalTime
 pub mod Groups

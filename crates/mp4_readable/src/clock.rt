@@ -2,8 +2,9 @@
 
 ghost use Rattle.mp4_codec.specs.ExactTest.{by_test, field_tests};
 ghost use Rattle.std.specs.Prelude.{◌≡◌, ℕ, ◌*◌, ◌/◌, ◌^◌, ◌<◌, ◌≤◌};
-ghost use Rattle.mp4_readable.specs.Clock.{IsReading, parts_up};
+ghost use Rattle.mp4_readable.specs.Clock.{AreDecimals, IsReading, parts_up};
 
+use crate::fraction::{Fraction, fraction_of};
 use mp4_codec::ExactEq;
 use std::fmt;
 use std::fmt::Write;
@@ -79,6 +80,7 @@ fn decimals_of(timescale: u32) -> Decimals
     ensures apart { timescale ≤ result.second }
     ensures least { 1000 ≤ result.second }
     ensures power { result.second ≡ 10 ^ result.count }
+    ensures fewest { AreDecimals timescale result.count }
 {
     let (count, second) = match timescale {
         0..=1_000 => (3, 1_000),
@@ -94,7 +96,9 @@ fn decimals_of(timescale: u32) -> Decimals
 }
 
 /// How many decimals [`TickClock`] and [`TickSeconds`] show of times in ticks, of which a second has so many.
-pub fn tick_decimals(timescale: u32) -> usize {
+pub fn tick_decimals(timescale: u32) -> usize
+    ensures { AreDecimals timescale result }
+{
     decimals_of(timescale).count
 }
 
@@ -179,8 +183,7 @@ impl fmt::Display for TickSeconds {
         }
         let Decimals { count, second } = decimals_of(self.timescale);
         let time = parts_up(self.ticks, self.timescale, second);
-        let seconds = time / second as u128;
-        let parts = time % second as u128;
-        write!(f, "{seconds}.{parts:0count$}")
+        let Fraction { whole, parts } = fraction_of(time, second);
+        write!(f, "{whole}.{parts:0count$}")
     }
 }

@@ -1,6 +1,9 @@
 //! Reports as JSON.
 
+ghost use Rattle.mp4_codec.specs.ExactTest.{by_test, field_tests};
+
 use crate::json_writer::JsonWriter;
+use mp4_codec::ExactEq;
 use serde::{Described, Serialize, Serializer};
 use serde_json::Error;
 use std::alloc::{AllocError, Global};
@@ -20,6 +23,10 @@ pub fn json_text<T: Serialize>(alloc: Global, report: &T) -> Result<Vec<u8>, Err
 /// A whole number: in JSON a number up to 2^53, and past that a text, since many programs would round it.
 #[derive(Clone, Copy, Debug, Default, PartialEq, Eq)]
 pub struct Whole(pub u64);
+
+impl ExactEq for Whole {
+    ghost exact = { by_test (Prim.hlevel field_tests) };
+}
 
 impl fmt::Display for Whole {
     fn fmt<W: fmt::Write>(&self, f: &mut fmt::Formatter<W>) -> fmt::Result {

@@ -5,6 +5,7 @@ mod clock;
 mod code;
 mod date;
 mod decimal_time;
+mod fraction;
 mod grouped;
 mod json;
 mod json_writer;

@@ -2,6 +2,7 @@
 
 ghost use Rattle.mp4_codec.specs.ExactTest.{by_test, field_tests};
 
+use crate::fraction::{Fraction, fraction_of};
 use crate::json::Whole;
 use mp4_codec::ExactEq;
 use serde::{Described, Serialize, Serializer};
@@ -18,9 +19,8 @@ impl ExactEq for Thousandths {
 
 impl fmt::Display for Thousandths {
     fn fmt<W: fmt::Write>(&self, f: &mut fmt::Formatter<W>) -> fmt::Result {
-        let whole = self.0 / 1000;
-        let part = self.0 % 1000;
-        write!(f, "{whole}.{part:03}")
+        let Fraction { whole, parts } = fraction_of(self.0 as u128, 1000);
+        write!(f, "{whole}.{parts:03}")
     }
 }
 
