@@ -1,3 +1,4 @@
 pub mod Block
 pub mod Source
 pub mod Answers
+pub mod Sink

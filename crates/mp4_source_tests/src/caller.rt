@@ -1,10 +1,10 @@
-//! A caller that any source serves.
+//! Callers that any source or any sink serves.
 
-ghost use Rattle.std.specs.Prelude.{◌≡◌, ◌+◌, ◌≤◌, length, slice_index, IfOk, IfErr, IfSome, IsTrue, OnOk};
+ghost use Rattle.std.specs.Prelude.{◌≡◌, ◌+◌, ◌≤◌, ◌++◌, Some, length, slice_index, IfOk, IfErr, IfSome, IsTrue, OnOk};
 ghost use Rattle.std.specs.Prelude.{vec_len, vec_capacity};
 ghost use Rattle.mp4_source.specs.Source.{OnIo, OnOutOfMemory};
 
-use mp4_source::{ByteSource, SourceError, read_into};
+use mp4_source::{ByteSink, ByteSource, SinkError, SourceError, read_into};
 
 /// The bytes at two places. The first is copied before the second is asked for, since each is borrowed.
 pub fn two_bytes<S: ByteSource>(
@@ -39,4 +39,20 @@ pub fn byte_into<S: ByteSource>(
 {
     read_into(source, place, 1, buffer)?;
     Ok(buffer.as_slice()[0])
+}
+
+/// Adds 16 bytes that aren't known yet, and then these; and writes a header over the 16.
+pub fn with_late_header<S: ByteSink>(
+    sink: &mut S,
+    header: &[u8; 16],
+    bytes: &[u8],
+) -> Result<(), SinkError>
+    ensures { OnOk result (IfSome (S.contents sink.old)
+        (λ xs. S.contents sink.new ≡ Some (xs ++ (header.now ++ bytes.now)))) }
+{
+    let place = sink.len();
+    sink.append(&[0; 16])?;
+    sink.append(bytes)?;
+    sink.overwrite(place, header)?;
+    Ok(())
 }

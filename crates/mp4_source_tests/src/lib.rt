@@ -6,7 +6,11 @@
 mod asserts;
 pub mod caller;
 #[cfg(test)]
+mod disks;
+#[cfg(test)]
 mod files;
+#[cfg(test)]
+mod sinks;
 #[cfg(test)]
 mod slices;
 #[cfg(test)]
