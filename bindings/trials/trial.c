@@ -502,6 +502,20 @@ static void list_large(const char *name) {
     unmap(from);
 }
 
+/* The words of each refusal, a line each, as it names these boxes, this track and this number. */
+static void print_words(void) {
+    mp4_answer answer = {.track_id = 7, .number = 12, .box_type = "stts", .second_box_type = "mvex"};
+    for (answer.code = MP4_OK; answer.code <= MP4_NULL_POINTER + 1; answer.code++) {
+        if (answer.code != MP4_TOO_LARGE) print_text(answer);
+    }
+    answer.code = MP4_TOO_LARGE;
+    for (answer.limit = 0; answer.limit <= MP4_LIMIT_VALUE + 1; answer.limit++) print_text(answer);
+    /* no version of a box is so large */
+    answer.code = MP4_UNSUPPORTED_BOX_VERSION;
+    answer.number = 256;
+    print_text(answer);
+}
+
 int main(int count, char **words) {
     const char *command = count > 1 ? words[1] : "";
     if (count == 2 && strcmp(command, "list") == 0) {
@@ -512,12 +526,14 @@ int main(int count, char **words) {
         each_file(print_facts);
     } else if (count == 2 && strcmp(command, "nulls") == 0) {
         give_null();
+    } else if (count == 2 && strcmp(command, "words") == 0) {
+        print_words();
     } else if (count == 3 && strcmp(command, "write") == 0) {
         write_movie(words[2]);
     } else if (count == 3 && strcmp(command, "large") == 0) {
         list_large(words[2]);
     } else {
-        give_up("list | faults | facts | nulls | write OUT | large FILE");
+        give_up("list | faults | facts | nulls | words | write OUT | large FILE");
     }
     return 0;
 }
