@@ -1,7 +1,8 @@
 //! A sink that keeps no bytes.
 
 ghost use Rattle.std.specs.Prelude.{◌≡◌, ℕ, ◌+◌, ◌<◌, ◌≤◌, ◌^◌, None, true, length, IfErr, OnOk, OnErr};
-ghost use Rattle.mp4_source.specs.Sink.{AppendFails, IsAppended, IsKept, IsOverwritten, IsSinkIo, OverwriteFails};
+ghost use Rattle.mp4_source.specs.Sink.{AppendFails, IsAppended, IsKept, IsCountKept, IsOverwritten, IsSinkIo};
+ghost use Rattle.mp4_source.specs.Sink.{OverwriteFails};
 
 use crate::sink::{ByteSink, check_room, check_within};
 use crate::sink_error::SinkError;
@@ -41,6 +42,8 @@ impl ByteSink for CountingSink {
         ensures ok { OnOk result (IsAppended None None bytes.now) }
         ensures all { OnOk result (self.new ≡ self.old + length bytes.now) }
         ensures err { IfErr result (λ e. AppendFails e true None None bytes.now) }
+        ensures none { IfErr result (λ e. IsCountKept e self.old self.new) }
+        ensures waits { IfErr result (λ e. IsCountKept e 0 0) }
         ensures least { self.old ≤ self.new }
         ensures most { self.new ≤ self.old + length bytes.now }
         ensures can_refuse { true ≡ true }
@@ -66,6 +69,7 @@ impl ByteSink for CountingSink {
 
     /// It is never an error.
     fn flush(&mut self) -> io::Result<()>
+        ensures none { OnOk result (◌≡◌ {A = ℕ} 0 0) }
         ensures err { OnErr result ⊥ }
         ensures contents { IsKept None None }
         ensures len { self.new ≡ self.old }

@@ -21,7 +21,7 @@ pub use error::SourceError;
 pub use file_error::FileError;
 pub use seek_sink::{SeekSink, WAITING_SIZE};
 pub use seek_source::SeekSource;
-pub use sink::ByteSink;
+pub use sink::{ByteSink, check_room};
 pub use sink_error::SinkError;
 pub use source::{ByteSource, read_into};
 pub use source_cursor::SourceCursor;

@@ -2,7 +2,7 @@
 
 ghost use Rattle.std.specs.Prelude.{◌≡◌, ℕ, ◌+◌, ◌<◌, ◌≤◌, ◌^◌, None, true, length, IfOk, IfErr, OnOk, OnErr};
 ghost use Rattle.std.specs.Prelude.{vec_len};
-ghost use Rattle.mp4_source.specs.Sink.{AppendFails, IsAppended, IsSinkIo};
+ghost use Rattle.mp4_source.specs.Sink.{AppendFails, IsAppended, IsCountKept, IsSinkIo};
 
 use crate::sink::{ByteSink, check_room, check_within};
 use crate::sink_error::SinkError;
@@ -25,7 +25,7 @@ pub const WAITING_SIZE: usize = 65536;
 /// waits still, and is written where it belongs, over what of it was written.
 ///
 /// Nothing else may move the position meanwhile, as through a clone of a `File`: bytes would be written elsewhere.
-/// Contracts see it as what is written, whose bytes they don't know, and how many bytes it holds.
+/// Contracts see it as what is written, whose bytes they don't know, how many bytes it holds, and how many wait.
 #[derive(Drop)]
 pub struct SeekSink<W> {
     target: Target<W>,
@@ -45,9 +45,12 @@ struct Target<W> {
 }
 
 impl<W> Model for SeekSink<W> {
-    ghost Value = { W × ℕ };
+    ghost use Rattle.std.specs.Prelude.{◌≡◌, ◌+◌, ◌<◌, ◌≤◌, ◌^◌, vec_len};
+    ghost use Rattle.mp4_source.specs.Sink.{BufferedSink};
 
-    ghost view = { λ s. (s.target.inner, s.start + s.filled) };
+    ghost Value = { BufferedSink W };
+
+    ghost view = { λ s. record { inner = s.target.inner; len = s.start + s.filled; waiting = s.filled } };
 
     ghost invariant = { λ s. (vec_len s.buffer ≡ 65536) × (s.filled ≤ 65536) × (s.start + s.filled < 2 ^ 64) };
 }
@@ -67,7 +70,7 @@ impl<W> SeekSink<W> {
     pub fn new(alloc: Global, inner: W) -> Result<Self, AllocError>
     where
         W: Drop,
-        ensures { IfOk result (λ s. s ≡ (inner, 0)) }
+        ensures { IfOk result (λ s. s ≡ record { inner = inner; len = 0; waiting = 0 }) }
     {
         let mut buffer = Vec::with_capacity(alloc, WAITING_SIZE)?;
         buffer.resize(WAITING_SIZE, 0)?;
@@ -84,7 +87,7 @@ impl<W> SeekSink<W> {
 
     /// What is written, without the bytes that wait. Its position may not be moved.
     pub fn get_ref(&self) -> &W
-        ensures { result.now ≡ self.now.0 }
+        ensures { result.now ≡ self.now.inner }
     {
         &self.target.inner
     }
@@ -92,7 +95,7 @@ impl<W> SeekSink<W> {
     /// What is written, without the bytes that wait: `flush` writes them. Its position is at the end of what it has of
     /// them, or anywhere after an error.
     pub fn into_inner(self) -> W
-        ensures { result ≡ self.0 }
+        ensures { result ≡ self.inner }
     {
         let SeekSink {
             target,
@@ -128,7 +131,8 @@ impl<W: Write + Seek> Target<W> {
 impl<W: Write + Seek> SeekSink<W> {
     /// Writes the bytes that wait. After an error they wait still.
     fn write_waiting(&mut self) -> io::Result<()>
-        ensures len { self.new.1 ≡ self.old.1 }
+        ensures none { OnOk result (self.new.waiting ≡ 0) }
+        ensures len { self.new.len ≡ self.old.len }
     {
         self.target
             .write_at(self.start, &self.buffer[..self.filled])?;
@@ -140,7 +144,9 @@ impl<W: Write + Seek> SeekSink<W> {
 
 /// The errors are those of what is written; and `FileTooLarge` where the bytes would pass 2^64 - 1.
 impl<W: Write + Seek> ByteSink for SeekSink<W> {
-    ghost len = { λ s. s.1 };
+    ghost len = { λ s. s.len };
+
+    ghost waiting = { λ s. s.waiting };
 
     fn len(&self) -> u64 {
         self.start + self.filled as u64
@@ -148,12 +154,14 @@ impl<W: Write + Seek> ByteSink for SeekSink<W> {
 
     fn append(&mut self, bytes: &[u8]) -> Result<(), SinkError>
         ensures ok { OnOk result (IsAppended None None bytes.now) }
-        ensures all { OnOk result (self.new.1 ≡ self.old.1 + length bytes.now) }
+        ensures all { OnOk result (self.new.len ≡ self.old.len + length bytes.now) }
         ensures err { IfErr result (λ e. AppendFails e true None None bytes.now) }
-        ensures least { self.old.1 ≤ self.new.1 }
-        ensures most { self.new.1 ≤ self.old.1 + length bytes.now }
+        ensures none { IfErr result (λ e. IsCountKept e self.old.len self.new.len) }
+        ensures waits { IfErr result (λ e. IsCountKept e self.old.waiting self.new.waiting) }
+        ensures least { self.old.len ≤ self.new.len }
+        ensures most { self.new.len ≤ self.old.len + length bytes.now }
         ensures can_refuse { true ≡ true }
-        ensures stays { OnErr result (self.new.1 ≡ self.old.1) }
+        ensures stays { OnErr result (self.new.len ≡ self.old.len) }
         ensures memory { IfErr result IsSinkIo }
     {
         check_room(bytes.len(), ByteSink::len(self))?;

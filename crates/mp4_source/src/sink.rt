@@ -3,7 +3,7 @@
 ghost use Rattle.std.specs.Prelude.{◌≡◌, ℕ, ◌+◌, ◌<◌, ◌≤◌, ◌^◌, Bool, true, List, Option, None, length, IfOk, IfErr};
 ghost use Rattle.std.specs.Prelude.{IfSome, IsTrue, OnOk, OnErr};
 ghost use Rattle.std.specs.IoError.{error_kind};
-ghost use Rattle.mp4_source.specs.Sink.{AppendFails, IsAppended, IsKept, IsOverwritten, OverwriteFails};
+ghost use Rattle.mp4_source.specs.Sink.{AppendFails, IsAppended, IsKept, IsCountKept, IsOverwritten, OverwriteFails};
 
 use crate::sink_error::SinkError;
 use std::io;
@@ -21,6 +21,9 @@ pub trait ByteSink {
     // How many bytes it holds.
     ghost len: { Self → ℕ };
 
+    // How many of them, the last ones, wait to be handed on. A flush leaves none.
+    ghost waiting: { Self → ℕ } = { λ _. 0 };
+
     // Whether it may refuse for another reason than memory. No call changes that.
     ghost can_refuse: { Self → Bool } = { λ _. true };
 
@@ -35,6 +38,8 @@ pub trait ByteSink {
         ensures all { OnOk result (len self.new ≡ len self.old + length bytes.now) }
         ensures err { IfErr result (λ e.
             AppendFails e (can_refuse self.old) (contents self.old) (contents self.new) bytes.now) }
+        ensures none { IfErr result (λ e. IsCountKept e (len self.old) (len self.new)) }
+        ensures waits { IfErr result (λ e. IsCountKept e (waiting self.old) (waiting self.new)) }
         ensures least { len self.old ≤ len self.new }
         ensures most { len self.new ≤ len self.old + length bytes.now }
         ensures can_refuse { can_refuse self.new ≡ can_refuse self.old };
@@ -52,6 +57,7 @@ pub trait ByteSink {
 
     /// Hands on all bytes that wait to be written. It is an error only where the sink refuses.
     fn flush(&mut self) -> io::Result<()>
+        ensures none { OnOk result (waiting self.new ≡ 0) }
         ensures err { OnErr result (IsTrue (can_refuse self.old)) }
         ensures contents { IsKept (contents self.old) (contents self.new) }
         ensures len { len self.new ≡ len self.old }
@@ -65,6 +71,8 @@ impl<S: ByteSink> ByteSink for &mut S {
     ghost contents = { λ s. S.contents s.now };
 
     ghost len = { λ s. S.len s.now };
+
+    ghost waiting = { λ s. S.waiting s.now };
 
     ghost can_refuse = { λ s. S.can_refuse s.now };
 
@@ -100,7 +108,7 @@ pub(crate) fn check_within(place: u64, n: usize, len: u64) -> io::Result<()>
 }
 
 /// Refuses bytes that would be the 2^64th or a later one after so many, by `FileTooLarge`.
-pub(crate) fn check_room(n: usize, len: u64) -> io::Result<()>
+pub fn check_room(n: usize, len: u64) -> io::Result<()>
     ensures fits { OnOk result (len + n < 2 ^ 64) }
     ensures err { OnErr result (2 ^ 64 ≤ len + n) }
     ensures kind { IfErr result (λ e. error_kind e ≡ ErrorKind.FileTooLarge) }

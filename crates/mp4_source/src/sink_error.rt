@@ -3,7 +3,7 @@
 ghost use Rattle.std.specs.Prelude.{◌≡◌};
 ghost use Rattle.mp4_source.specs.declared.sink_error.SinkError.TheVariants.{OutOfMemory, Io};
 
-use std::alloc::AllocError;
+use std::alloc::{AllocError, AllocFailed};
 use std::io;
 use thiserror::Error as ThisError;
 
@@ -30,6 +30,14 @@ impl From<AllocError> for SinkError {
     ghost from_gives = { λ _ e. e ≡ OutOfMemory };
 
     fn from(_refused: AllocError) -> SinkError {
+        SinkError::OutOfMemory
+    }
+}
+
+impl<T: Drop> From<AllocFailed<T>> for SinkError {
+    ghost from_gives = { λ _ e. e ≡ OutOfMemory };
+
+    fn from(_refused: AllocFailed<T>) -> SinkError {
         SinkError::OutOfMemory
     }
 }

@@ -2,7 +2,7 @@
 
 ghost use Rattle.std.specs.Prelude.{◌≡◌, ◌+◌, ◌<◌, ◌≤◌, Some, false, length, refl, IfErr, OnOk, OnErr, vec_len};
 ghost use Rattle.std.specs.Prelude.{vec_capacity};
-ghost use Rattle.mp4_source.specs.Sink.{AppendFails, IsAppended};
+ghost use Rattle.mp4_source.specs.Sink.{AppendFails, IsAppended, IsCountKept};
 
 use crate::sink::{ByteSink, check_within};
 use crate::sink_error::SinkError;
@@ -25,6 +25,8 @@ impl ByteSink for Vec<u8> {
         ensures all { OnOk result (length self.new.items ≡ length self.old.items + length bytes.now) }
         ensures err { IfErr result (λ e.
             AppendFails e false (Some self.old.items) (Some self.new.items) bytes.now) }
+        ensures none { IfErr result (λ e. IsCountKept e (length self.old.items) (length self.new.items)) }
+        ensures waits { IfErr result (λ e. IsCountKept e 0 0) }
         ensures least { length self.old.items ≤ length self.new.items }
         ensures most { length self.new.items ≤ length self.old.items + length bytes.now }
         ensures can_refuse { false ≡ false }
