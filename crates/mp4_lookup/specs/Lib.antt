@@ -12,4 +12,5 @@ pub mod Codec
 pub mod Tables
 pub mod Walk
 pub mod InOrder
+pub mod SampleCursor
 pub mod ByTime

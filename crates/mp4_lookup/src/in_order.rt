@@ -2,12 +2,12 @@
 
 // The steps of a look-up are kept inline: docs/PERF.md, "Why these are calls".
 
-ghost use Rattle.std.specs.Prelude.{◌≡◌, ◌+◌, ◌-◌, ◌^◌, ◌<◌, IfOk, IfSome, IsTrue};
+ghost use Rattle.std.specs.Prelude.{◌≡◌, ◌+◌, ◌-◌, ◌^◌, ◌<◌, IfOk, IfSome, IsTrue, Some};
 ghost use Rattle.std.specs.Iterator.{YieldsFirstBy, item_count};
 ghost use Rattle.mp4_codec.specs.Cause.{Gives};
 ghost use Rattle.mp4_fragments.specs.Cursor.{IsAmongRuns};
 ghost use Rattle.mp4_samples.specs.Tables.{tables_of};
-ghost use Rattle.mp4_lookup.specs.InOrder.{answer_of, answers_from, samples_left};
+ghost use Rattle.mp4_lookup.specs.InOrder.{answer_of, answers_from, number_left, samples_left};
 ghost use Rattle.mp4_lookup.specs.Tables.{AreTables};
 ghost use Rattle.mp4_lookup.specs.Tracks.{answer_at, is_of_movie};
 ghost use Rattle.mp4_lookup.specs.TrackRuns.{track_runs};
@@ -24,10 +24,11 @@ use mp4_samples::Place;
 use mp4_search::Readings;
 
 impl Mp4Track {
-    /// The samples from number `k` on, in their order; samples are numbered from 1.
+    /// The samples from number `k` on, which comes next.
     #[inline(always)]
-    pub fn samples_from(&self, k: u32) -> Samples<'_>
-        ensures { samples_left result ≡ answers_from (2 ^ 32 - k) self.now k }
+    pub(crate) fn walk_from(&self, k: u32) -> Samples<'_>
+        ensures track { result.tables.track.now ≡ self.now }
+        ensures number { result.number ≡ Some k }
     {
         let tables = Tables::of(self);
         Samples {
@@ -36,6 +37,14 @@ impl Mp4Track {
             position: Position::before(&tables, k),
             run_position: None,
         }
+    }
+
+    /// The samples from number `k` on, in their order; samples are numbered from 1.
+    #[inline(always)]
+    pub fn samples_from(&self, k: u32) -> Samples<'_>
+        ensures { samples_left result ≡ answers_from (2 ^ 32 - k) self.now k }
+    {
+        self.walk_from(k)
     }
 
     /// All samples, in their order.
@@ -83,6 +92,30 @@ impl Mp4Track {
     }
 }
 
+impl<'t> Samples<'t> {
+    /// What is answered at number `k`, which comes next. No number comes after the last sample, and none after a
+    /// refusal.
+    #[inline(always)]
+    pub(crate) fn step(&mut self, k: u32) -> Result<Option<Place>>
+        requires next { self.old.number ≡ Some k }
+        ensures rule { Gives (λ p. p) result (answer_at self.old.tables.track.now.trak
+            self.old.tables.track.now.trafs (track_runs self.old.tables.track.now) k) }
+        ensures track { self.new.tables.track.now ≡ self.old.tables.track.now }
+        ensures number { self.new.number ≡ number_left result k }
+    {
+        self.number = None;
+        let track = self.tables.track;
+        match track.next_place(k, &self.tables, &mut self.position, &mut self.run_position) {
+            Ok(None) => Ok(None),
+            Ok(Some(place)) => {
+                self.number = k.checked_add(1);
+                Ok(Some(place))
+            }
+            Err(error) => Err(error),
+        }
+    }
+}
+
 impl<'t> Iterator for Samples<'t> {
     type Item = Result<Place>;
 
@@ -93,19 +126,9 @@ impl<'t> Iterator for Samples<'t> {
     #[inline(always)]
     fn next(&mut self) -> Option<Result<Place>> {
         let number = self.number?;
-        self.number = None;
-        let track = self.tables.track;
-        match track.next_place(
-            number,
-            &self.tables,
-            &mut self.position,
-            &mut self.run_position,
-        ) {
+        match self.step(number) {
             Ok(None) => None,
-            Ok(Some(place)) => {
-                self.number = number.checked_add(1);
-                Some(Ok(place))
-            }
+            Ok(Some(place)) => Some(Ok(place)),
             Err(error) => Some(Err(error)),
         }
     }

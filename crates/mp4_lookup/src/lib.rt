@@ -18,6 +18,7 @@ mod place;
 mod position;
 mod rates;
 mod runs;
+mod sample_cursor;
 mod samples;
 mod seek;
 mod tables;
@@ -27,6 +28,7 @@ mod track;
 
 pub use by_time::{FoundNumber, TimeRange};
 pub use laws::{decode_times_are_start_times, rule_is_plain_expansion};
+pub use sample_cursor::SampleCursor;
 pub use samples::Samples;
 pub use time::time_of;
 pub use track::Mp4Track;

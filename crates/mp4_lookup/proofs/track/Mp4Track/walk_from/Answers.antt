@@ -1,4 +1,4 @@
-use Rattle.mp4_lookup.proofs.track.Mp4Track.samples_from.Goals as goal
+use Rattle.mp4_lookup.proofs.track.Mp4Track.walk_from.Goals as goal
 
 pub invariant_of-result : goal.invariant_of-result
 invariant_of-result c = record {
