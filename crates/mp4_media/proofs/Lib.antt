@@ -5,6 +5,8 @@ pub mod Grammar
 pub mod TakingMemory
 pub mod OpenAnswers
 pub mod Finishing
+pub mod WritingToSinks
+pub mod KeptMovies
 pub mod TwoParts
 pub mod Gathering
 pub mod BaseDataOffsetsByTrack

@@ -6,6 +6,7 @@ pub mod Reading
 pub mod InOrder
 pub mod Walk
 pub mod WriterFields
+pub mod WriterAnswers
 pub mod Finished
 pub mod WriterCalls
 pub mod RoundTrip
@@ -25,6 +26,7 @@ pub use Rattle.mp4_samples.specs.Samples
 pub use Rattle.mp4_lookup.specs.Rule
 pub use Rattle.mp4_lookup.specs.Tracks
 pub use Rattle.mp4_lookup.specs.TrackRuns
+pub use Rattle.mp4_lookup.specs.SampleCursor
 pub use Rattle.mp4_lookup.specs.ByTime
 pub use Rattle.mp4_search.specs.Partition
 pub use Rattle.mp4_lookup.specs.Costs

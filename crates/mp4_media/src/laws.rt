@@ -4,8 +4,9 @@ ghost use Rattle.std.specs.Prelude.{◌≡◌, ◌<◌, ◌+◌, ◌^◌, ℕ, L
 ghost use Rattle.mp4_codec.specs.declared.error.Error.{Error};
 ghost use Rattle.mp4_samples.specs.Samples.{TimedSample};
 ghost use Rattle.mp4_mux.specs.Calls.{IsEnded, Session, accepted_by, writer_of};
-ghost use Rattle.mp4_mux.specs.Writing.{AcceptedTrack, whole_of};
+ghost use Rattle.mp4_mux.specs.Writing.{AcceptedTrack, WriterState, whole_of};
 ghost use Rattle.mp4_media.specs.Finished.{Opens};
+ghost use Rattle.mp4_media.specs.WriterFields.{KeptMovie, MayHold};
 ghost use Rattle.mp4_media.specs.declared.reader.Mp4Reader.{Mp4Reader};
 ghost use Rattle.mp4_media.specs.RoundTrip.{HasExactly, IsOpening, OpensAs, sample_read, samples_counted};
 
@@ -50,4 +51,13 @@ pub fn interleavings_are_read_alike()
         → HasExactly other accepted → (id k : ℕ) → k < 2 ^ 32 → sample_read one id k ≡ sample_read other id k }
     ensures counts { (one other : Mp4Reader) (accepted : List AcceptedTrack) → HasExactly one accepted
         → HasExactly other accepted → (id : ℕ) → samples_counted one id ≡ samples_counted other id }
+{}
+
+/// Where the bytes of a writer's sink are known, the writer has one state alone, and they are the bytes of that state:
+/// those that an [`crate::Mp4Writer`] of the same state has.
+pub fn known_sinks_have_their_states_bytes()
+    ensures bytes { (w : KeptMovie) (st : WriterState) (bytes : List ℕ) → MayHold w st
+        → w.media.contents ≡ Some bytes → bytes ≡ whole_of st }
+    ensures one { (w : KeptMovie) (one other : WriterState) (bytes : List ℕ) → MayHold w one → MayHold w other
+        → w.media.contents ≡ Some bytes → one ≡ other }
 {}

@@ -3,6 +3,7 @@
 
 mod calls;
 mod file;
+mod file_writer;
 mod fragments;
 pub mod framing;
 pub mod laws;
@@ -13,20 +14,26 @@ mod round_trip;
 mod sample_refs;
 pub mod searching;
 mod tracks;
+mod write_error;
 mod writer;
 pub mod writing;
 
 // Movies.
 pub use calls::WriterCall;
 pub use file::Mp4File;
+pub use file_writer::Mp4FileWriter;
 pub use movie::Movie;
-pub use mp4_lookup::{FoundNumber, Mp4Track, Samples, TimeRange, time_of};
+pub use mp4_lookup::{FoundNumber, Mp4Track, SampleCursor, Samples, TimeRange, time_of};
 pub use mp4_mux::{Mp4Config, TrackConfig, mdat_header};
 pub use mp4_samples::{Comparisons, Mp4Sample, Place, SamplePlace, SampleRef, is_equal_sample};
-pub use mp4_source::{ByteSource, FileError, SeekSource, SourceError, Window};
+pub use mp4_source::{
+    ByteSink, ByteSource, CountingSink, FileError, SeekSink, SeekSource, SinkError, SourceError,
+    Window,
+};
 pub use reader::{Mp4Reader, read_mp4};
 pub use round_trip::{FoundSample, RoundTrip, SampleQuery, find_sample, write_and_read};
 pub use sample_refs::SampleRefs;
+pub use write_error::WriteError;
 pub use writer::Mp4Writer;
 
 // Boxes, and how they are framed.

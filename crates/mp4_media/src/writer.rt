@@ -1,17 +1,20 @@
 //! Movies that are written.
 
-ghost use Rattle.std.specs.Prelude.{◌≡◌, None, OnOk, OnErr, IfOk};
-ghost use Rattle.mp4_codec.specs.Cause.{AnswersCause, Checks};
+ghost use Rattle.std.specs.Prelude.{◌≡◌, OnOk, OnErr, IfOk, IfErr};
+ghost use Rattle.mp4_codec.specs.Cause.{AnswersCause};
 ghost use Rattle.mp4_samples.specs.Samples.{sample_of};
-ghost use Rattle.mp4_mux.specs.Writing.{started, with_track, with_sample, with_end, start_cause};
+ghost use Rattle.mp4_mux.specs.Writing.{started, with_track, with_sample, with_end, start_cause, lent_sample};
 ghost use Rattle.mp4_mux.specs.Writing.{track_cause, sample_cause, end_cause, whole_of, WriterState};
 ghost use Rattle.mp4_mux.specs.Written.{IsWrittenMovie};
 ghost use Rattle.mp4_media.specs.Finished.{Opens};
-ghost use Rattle.mp4_media.specs.WriterFields.{writer_state, IsWriter};
+ghost use Rattle.mp4_media.specs.WriterAnswers.{IsMp4, IsSameAnswer};
+ghost use Rattle.mp4_media.specs.WriterFields.{known_state, MayHold};
 
-use mp4_codec::{Error, InRange, Limit, Result, TryClone};
-use mp4_mux::{Media, Mp4Config, TrackConfig, begin, check_file_type, check_movie};
-use mp4_samples::Mp4Sample;
+use crate::file_writer::Mp4FileWriter;
+use crate::write_error::WriteError;
+use mp4_codec::{Error, Result};
+use mp4_mux::{Mp4Config, TrackConfig};
+use mp4_samples::{Mp4Sample, SampleRef};
 use std::alloc::Global;
 use std::marker::Model;
 
@@ -21,33 +24,47 @@ use std::marker::Model;
 /// requested; else it is Ok, or `OutOfMemory`. A refused call leaves the writer and its bytes as they were.
 #[derive(Debug)]
 pub struct Mp4Writer {
-    /// The length of the buffer that was handed in.
-    front: usize,
-    /// The place of mdat.
-    mdat: usize,
-    config: Mp4Config,
-    media: Media,
-    ended: bool,
+    inner: Mp4FileWriter<Vec<u8>>,
 }
 
 impl Model for Mp4Writer {
     ghost Value = { WriterState };
 
-    ghost view = { writer_state };
+    ghost view = { λ w. known_state w.inner };
 
-    ghost invariant = { IsWriter };
+    ghost invariant = { λ w. MayHold w.inner (known_state w.inner) };
 }
 
 /// Taken apart here, and not at each end of each function that owns a writer.
 impl Drop for Mp4Writer {
     fn drop(self) {
-        let Mp4Writer {
-            front: _,
-            mdat: _,
-            config: _,
-            media: _,
-            ended: _,
-        } = self;
+        let Mp4Writer { inner: _ } = self;
+    }
+}
+
+/// A sample with its bytes borrowed; it lay nowhere.
+fn lent(sample: &Mp4Sample) -> SampleRef<'_>
+    ensures { lent_sample result ≡ sample_of sample.now }
+{
+    SampleRef {
+        offset: 0,
+        start_time: sample.start_time,
+        duration: sample.duration,
+        rendering_offset: sample.rendering_offset,
+        is_sync: sample.is_sync,
+        bytes: sample.bytes.as_slice(),
+    }
+}
+
+/// The answer of a call whose sink is memory, which refuses nothing.
+fn in_memory(answer: std::result::Result<(), WriteError>) -> Result<()>
+    requires { IfErr answer IsMp4 }
+    ensures { IsSameAnswer answer result }
+{
+    match answer {
+        Ok(()) => Ok(()),
+        Err(WriteError::Mp4(error)) => Err(error),
+        Err(WriteError::Io(_) | WriteError::Failed) => unreachable!(),
     }
 }
 
@@ -60,47 +77,15 @@ impl Mp4Writer {
         ensures cause { AnswersCause (start_cause config.now) result }
         ensures ok { IfOk result (λ w. w ≡ started writer.items config.now) }
     {
-        check_file_type(config)?;
-        let config = config.try_clone()?;
-        Self::start_with(alloc, writer, config)
-    }
-
-    /// Begins a movie whose file type was checked. Refused by `OutOfMemory` alone.
-    fn start_with(alloc: Global, mut buffer: Vec<u8>, config: Mp4Config) -> Result<Self>
-        requires { start_cause config ≡ None }
-        ensures cause { AnswersCause None result }
-        ensures ok { IfOk result (λ w. w ≡ started buffer.items config) }
-    {
-        config.in_range();
-        let front = buffer.len();
-        match begin(&mut buffer, &config) {
-            Ok(mdat) => Ok(Mp4Writer {
-                front,
-                mdat,
-                config,
-                media: Media::new(alloc, buffer),
-                ended: false,
-            }),
-            Err(error) => {
-                drop(buffer);
-                drop(config);
-                Err(error)
+        match Mp4FileWriter::write_start(alloc, writer, config) {
+            Ok(inner) => {
+                // For the proof alone, which learns that its bytes are known.
+                let _ = inner.bytes();
+                Ok(Mp4Writer { inner })
             }
+            Err(WriteError::Mp4(error)) => Err(error),
+            Err(WriteError::Io(_) | WriteError::Failed) => unreachable!(),
         }
-    }
-
-    /// Whether a track can be added.
-    fn check_track(&self, config: &TrackConfig) -> Result<()>
-        ensures { Checks result (track_cause self.now config.now) }
-    {
-        if self.ended {
-            return Err(Error::Ended);
-        }
-        config.check()?;
-        if self.media.tracks().len() >= u32::MAX as usize {
-            return Err(Error::TooLarge(Limit::TrackCount));
-        }
-        Ok(())
     }
 
     /// Adds a track without samples (ISO/IEC 14496-12, 8.3.1). The first has id 1, and each next one the id after
@@ -113,24 +98,10 @@ impl Mp4Writer {
         ensures ok { OnOk result (self.new ≡ with_track self.old config.now) }
         ensures err { OnErr result (self.new ≡ self.old) }
     {
-        self.check_track(config)?;
-        config.in_range();
-        self.media.add_track(self.config.timescale, config)?;
-        Ok(())
-    }
-
-    /// Whether a sample can be written.
-    fn check_sample(&self, id: u32, sample: &Mp4Sample) -> Result<()>
-        ensures { Checks result (sample_cause self.now id (sample_of sample.now)) }
-    {
-        if self.ended {
-            return Err(Error::Ended);
-        }
-        let tracks = self.media.tracks();
-        if id == 0 || id as usize > tracks.len() {
-            return Err(Error::TrakNotFound(id));
-        }
-        tracks[id as usize - 1].check_sample(sample)
+        let answer = self.inner.add_track(config);
+        // For the proof alone, which learns that its bytes are known.
+        let _ = self.inner.bytes();
+        in_memory(answer)
     }
 
     /// Writes a sample of a track after those that were written of it; its `start_time` isn't looked at, since it
@@ -148,39 +119,10 @@ impl Mp4Writer {
         ensures ok { OnOk result (self.new ≡ with_sample self.old id (sample_of sample.now)) }
         ensures err { OnErr result (self.new ≡ self.old) }
     {
-        self.check_sample(id, sample)?;
-        sample.duration.in_range();
-        sample.rendering_offset.in_range();
-        let track = id - 1;
-        self.media.add_sample(track, sample)?;
-        Ok(())
-    }
-
-    /// Whether the end can be written.
-    fn check_end(&self) -> Result<()>
-        ensures { Checks result (end_cause self.now) }
-    {
-        if self.ended {
-            return Err(Error::Ended);
-        }
-        check_movie(
-            self.config.timescale,
-            self.media.tracks(),
-            self.media.bytes().len() as u64,
-        )
-    }
-
-    /// Ends the movie, for `write_end`, whose other clauses follow from these: so they are proved where the function
-    /// has one end.
-    fn end(&mut self) -> Result<()>
-        ensures cause { AnswersCause (end_cause self.old) result }
-        ensures ok { OnOk result (self.new ≡ with_end self.old) }
-        ensures err { OnErr result (self.new ≡ self.old) }
-    {
-        self.check_end()?;
-        self.media.add_end(self.mdat, self.config.timescale)?;
-        self.ended = true;
-        Ok(())
+        let answer = self.inner.write_sample(id, &lent(sample));
+        // For the proof alone, which learns that its bytes are known.
+        let _ = self.inner.bytes();
+        in_memory(answer)
     }
 
     /// Ends the movie: what waits of each track is added to the data as its last chunk, in the order of the tracks; the
@@ -197,30 +139,23 @@ impl Mp4Writer {
         ensures opens { OnOk result (Opens self.new) }
         ensures written { OnOk result (IsWrittenMovie self.new) }
     {
-        // For the proof alone, which learns what holds of the whole.
-        let _ = &self.ended;
-        self.end()?;
-        // For the proof alone, which learns what holds of the whole.
-        let _ = self.media.bytes();
-        Ok(())
+        // For the proof alone, here and below, which learns that its bytes are known.
+        let _ = self.inner.bytes();
+        let answer = self.inner.write_end();
+        let _ = self.inner.bytes();
+        in_memory(answer)
     }
 
     /// Where the writer takes its memory from.
     pub(crate) fn allocator(&self) -> Global {
-        self.media.allocator()
+        self.inner.allocator()
     }
 
     /// The bytes as they are.
     pub fn into_writer(self) -> Vec<u8>
         ensures { result.items ≡ whole_of self }
     {
-        let Mp4Writer {
-            front: _,
-            mdat: _,
-            config: _,
-            media,
-            ended: _,
-        } = self;
-        media.into_bytes()
+        let Mp4Writer { inner } = self;
+        inner.into_inner()
     }
 }

@@ -1,6 +1,6 @@
 -- What a writer keeps, and what it holds by that.
 use Rattle.std.specs.Prelude.{◌≡◌, ℕ, ◌+◌, ◌-◌, ◌≤◌, ◌<◌, List, [], ◌∷◌, ◌++◌, length, ◌==◌, take, drop, map, Bool}
-use Rattle.std.specs.Prelude.{true, false, None}
+use Rattle.std.specs.Prelude.{true, false, None, IsTrue, ◌^◌}
 use Rattle.std.specs.Prelude.{if◌then◌else◌}
 use Rattle.std.specs.List.{flat_map, sum_by, AllByRecursion}
 use Rattle.mp4_mux.specs.declared.config.Mp4Config.{Mp4Config}
@@ -15,7 +15,9 @@ use Rattle.mp4_mux.specs.Writing.{WriterState, info_of, accepted_of, with_file_t
 use Rattle.mp4_mux.specs.Writing.{start_cause}
 use Rattle.mp4_mux.specs.Sound.{IsSound}
 use Rattle.mp4_mux.specs.Building.{Building, pending_place}
-use Rattle.mp4_mux.specs.Media.{Media, building_at, place_in, infos_in, chunk_in, track_of}
+use Rattle.mp4_mux.specs.Media.{Media, KeptMedia, building_at, place_in, infos_in, chunk_in, track_of}
+use Rattle.mp4_source.specs.declared.sink_error.SinkError.{SinkError}
+use Rattle.mp4_source.specs.declared.sink_error.SinkError.TheVariants.{OutOfMemory, Io}
 
 -- what a writer keeps
 pub record Parts : Type 0 where
@@ -123,6 +125,12 @@ media_at_end mdat timescale m = record m {
   buffer = bytes_at_end mdat (unwritten m.tracks)
       (movie_bytes timescale (finished_buildings 1 (length m.buffer) m.tracks)) m.buffer;
 }
+
+-- Why the end isn't added: where memory was refused, all is as it was; else the sink refused, which it can, or it has
+-- 2^63 bytes or more, and the data would pass the last place that 64 bits say.
+abbrev pub EndFails : SinkError → KeptMedia → KeptMedia → Type 0
+EndFails OutOfMemory before after = after ≡ before
+EndFails (Io e) before after = before.len < 2 ^ 63 → IsTrue before.can_refuse
 
 -- what a writer keeps at the end
 abbrev pub parts_at_end : Parts → Parts

@@ -11,7 +11,8 @@ use Rattle.mp4_entry.specs.declared.config.MediaConfig.TheVariants.{TtxtConfig a
 use Rattle.mp4_entry.specs.declared.track_type.TrackType.TheVariants.{Subtitle}
 use Rattle.mp4_boxes.specs.declared.moov.MoovBox.{MoovBox}
 use Rattle.mp4_boxes.specs.Moov.{moov_payload}
-use Rattle.mp4_samples.specs.Samples.{Sample}
+use Rattle.mp4_samples.specs.declared.sample.SampleRef.{SampleRef}
+use Rattle.mp4_samples.specs.Samples.{Sample, borrowed_sample}
 use Rattle.mp4_mux.specs.declared.config.Mp4Config.{Mp4Config}
 use Rattle.mp4_mux.specs.declared.config.TrackConfig.{TrackConfig}
 use Rattle.mp4_mux.specs.declared.sample_info.SampleInfo.{SampleInfo}
@@ -32,6 +33,10 @@ pub record WriterState : Type 0 where
   -- the chunks in the order in which they are in mdat
   pub chunks : List Chunk
   pub ended : Bool
+
+-- the sample that is lent to a writer: when it is decoded, and where it lay, isn't looked at
+abbrev pub lent_sample : SampleRef → Sample
+lent_sample s = (borrowed_sample s).sample
 
 -- what the tables say of a sample
 abbrev pub info_of : Sample → SampleInfo

@@ -1,24 +1,27 @@
 //! The end of a movie: what is pending of its tracks, its movie box after the data, and the header of the data, which
 //! says how many bytes they have.
 
-ghost use Rattle.std.specs.Prelude.{◌≡◌, ◌+◌, ◌^◌, ◌<◌, ◌≤◌, ◌++◌, Ok, None, length, map, fold, max, take, drop, OnOk};
-ghost use Rattle.std.specs.Prelude.{OnErr, IfOk, IfErr};
+ghost use Rattle.std.specs.Prelude.{◌≡◌, ◌+◌, ◌^◌, ◌<◌, ◌≤◌, ◌++◌, Ok, None, length, map, fold, max, OnOk};
+ghost use Rattle.std.specs.Prelude.{IfOk, IfErr};
 ghost use Rattle.std.specs.List.{All};
 ghost use Rattle.mp4_codec.specs.Cause.{Answers, Checks};
 ghost use Rattle.mp4_codec.specs.Bytes.{Appends};
 ghost use Rattle.mp4_codec.specs.Boxes.{box_bytes, size_around, size_cause, write_cause};
 ghost use Rattle.mp4_boxes.specs.Moov.{moov_payload, moov_refusal};
-ghost use Rattle.mp4_mux.specs.Mdat.{mdat_header_of};
+ghost use Rattle.mp4_mux.specs.Mdat.{IsFinished};
+ghost use Rattle.mp4_mux.specs.Media.{SinkFails};
+ghost use Rattle.mp4_source.specs.Sink.{IsCountKept};
 ghost use Rattle.mp4_mux.specs.TrackHeaders.{movie_duration};
 ghost use Rattle.mp4_mux.specs.FinishedTrack.{trak_for, movie_for};
 ghost use Rattle.mp4_mux.specs.Writing.{movie_bytes};
 ghost use Rattle.mp4_mux.specs.Parts.{unwritten, finished_buildings};
 
-use crate::mdat::{MDAT_HEADER_SIZE, mdat_header};
+use crate::mdat::mdat_header;
 use crate::track_headers::{mvhd_box, mvhd_size};
 use crate::track_writer::TrackWriter;
 use mp4_boxes::{MoovBox, TrakBox};
 use mp4_codec::{Error, Items, Limit, Put, Result, WriteBox};
+use mp4_source::{ByteSink, SinkError};
 use std::alloc::{AllocError, Global};
 
 /// How long the longest of the tracks is, in ticks of the movie; 0 where there is none.
@@ -148,24 +151,26 @@ pub fn put_movie(out: &mut Vec<u8>, timescale: u32, tracks: &[TrackWriter], end:
     Ok(())
 }
 
-/// Adds these bytes at the end of a buffer, and then writes the header of an mdat of this size over the 16 bytes at its
-/// place, which is in bytes from the start of the buffer (ISO/IEC 14496-12, 8.1.1).
+/// Adds these bytes at the end of a sink, and then writes the header of an mdat of this size over the 16 bytes at its
+/// place, which is in bytes from the sink's first one (ISO/IEC 14496-12, 8.1.1).
 ///
-/// An `Err` leaves the buffer as it was.
-pub fn finish(
-    buffer: &mut Vec<u8>,
-    mdat: usize,
+/// `OutOfMemory` leaves the sink as it was; after `Io` it isn't known what it has.
+pub fn finish<S: ByteSink>(
+    sink: &mut S,
+    mdat: u64,
     size: u64,
     tail: &[u8],
-) -> std::result::Result<(), AllocError>
-    requires { mdat + 16 ≤ length buffer.old.items }
-    ensures ok { OnOk result (buffer.new.items
-        ≡ (take mdat buffer.old.items ++ (mdat_header_of size ++ drop (mdat + 16) buffer.old.items)) ++ tail.now) }
-    ensures err { OnErr result (buffer.new.items ≡ buffer.old.items) }
+) -> std::result::Result<(), SinkError>
+    requires { mdat + 16 ≤ S.len sink.old }
+    ensures ok { OnOk result (IsFinished (S.contents sink.old) (S.contents sink.new) mdat size tail.now) }
+    ensures len { OnOk result (S.len sink.new ≡ S.len sink.old + length tail.now) }
+    ensures err { IfErr result (λ e. SinkFails e (S.can_refuse sink.old)
+        (S.contents sink.old) (S.contents sink.new) (S.len sink.old) (S.len sink.new)) }
+    ensures waits { IfErr result (λ e. IsCountKept e (S.waiting sink.old) (S.waiting sink.new)) }
+    ensures can_refuse { S.can_refuse sink.new ≡ S.can_refuse sink.old }
 {
     let header = mdat_header(size);
-    buffer.extend_from_slice(tail)?;
-    let bytes = buffer.as_mut_slice();
-    bytes[mdat..mdat + MDAT_HEADER_SIZE].copy_from_slice(&header);
+    sink.append(tail)?;
+    sink.overwrite(mdat, &header)?;
     Ok(())
 }

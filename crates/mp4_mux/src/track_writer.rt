@@ -1,17 +1,18 @@
 //! A track that is being written.
 
 ghost use Rattle.std.specs.Prelude.{ℕ, min, None, Ok, IfOk, ◌≡◌, ◌++◌, [], ◌∷◌, ◌+◌, ◌-◌, ◌*◌, ◌/◌, ◌^◌, ◌<◌, ◌↔◌};
-ghost use Rattle.std.specs.Prelude.{length, IsTrue, OnOk, OnErr};
+ghost use Rattle.std.specs.Prelude.{length, IsTrue, OnOk, OnErr, IfErr};
 ghost use Rattle.std.specs.Option.{option_to_list};
 ghost use Rattle.mp4_codec.specs.Cause.{Answers, Checks};
 ghost use Rattle.mp4_boxes.specs.Trak.{trak_payload};
-ghost use Rattle.mp4_samples.specs.Samples.{sample_of};
 ghost use Rattle.mp4_mux.specs.Config.{config_cause};
 ghost use Rattle.mp4_mux.specs.TrackHeaders.{movie_duration, durations_of};
 ghost use Rattle.mp4_mux.specs.FinishedTrack.{trak_for};
 ghost use Rattle.mp4_mux.specs.TrackParts.{finished};
 ghost use Rattle.mp4_mux.specs.Chunks.{sample_bytes, is_full};
-ghost use Rattle.mp4_mux.specs.Writing.{info_of};
+ghost use Rattle.mp4_mux.specs.Media.{SinkFails};
+ghost use Rattle.mp4_mux.specs.Writing.{info_of, lent_sample};
+ghost use Rattle.mp4_source.specs.Sink.{IsAppended, IsCountKept};
 ghost use Rattle.mp4_mux.specs.Building.{Building, new_building, pushed, popped, pending_place, closed, ticks};
 ghost use Rattle.mp4_mux.specs.Building.{room_cause};
 ghost use Rattle.mp4_mux.specs.Parts.{last_place, track_with, finished_building};
@@ -24,7 +25,8 @@ use crate::sample_info::SampleInfo;
 use crate::trak::{TrackParts, trak_box, trak_size};
 use mp4_boxes::TrakBox;
 use mp4_codec::{Error, InRange, Limit};
-use mp4_samples::Mp4Sample;
+use mp4_samples::SampleRef;
+use mp4_source::{ByteSink, SinkError};
 use std::alloc::{AllocError, Global};
 use std::marker::Model;
 
@@ -55,9 +57,9 @@ impl Model for TrackWriter {
 }
 
 /// What the tables say of a sample.
-fn info_of(sample: &Mp4Sample) -> SampleInfo
-    requires { length sample.now.bytes < 2 ^ 32 }
-    ensures { result ≡ info_of (sample_of sample.now) }
+fn info_of(sample: &SampleRef) -> SampleInfo
+    requires { length sample.now.bytes.now < 2 ^ 32 }
+    ensures { result ≡ info_of (lent_sample sample.now) }
 {
     SampleInfo {
         size: sample.bytes.len() as u32,
@@ -99,8 +101,8 @@ impl TrackWriter {
     /// has 2^32 - 1 samples, `TooLarge(TrackDuration)` where its duration in ticks of the movie would pass 64 bits. It
     /// requests no memory.
     #[tactic(auto, unfolding(crate::specs::Building::room_cause))]
-    pub fn check_sample(&self, sample: &Mp4Sample) -> mp4_codec::Result<()>
-        ensures { Checks result (room_cause self.now (sample_of sample.now)) }
+    pub fn check_sample(&self, sample: &SampleRef) -> mp4_codec::Result<()>
+        ensures { Checks result (room_cause self.now (lent_sample sample.now)) }
     {
         if sample.bytes.len() > u32::MAX as usize {
             return Err(Error::TooLarge(Limit::SampleBytes));
@@ -132,9 +134,9 @@ impl TrackWriter {
     }
 
     /// Adds a sample, which is pending. An `Err` changes nothing.
-    pub(crate) fn push(&mut self, sample: &Mp4Sample) -> Result<(), AllocError>
-        requires { room_cause self.old (sample_of sample.now) ≡ None }
-        ensures ok { OnOk result (self.new ≡ pushed self.old (sample_of sample.now)) }
+    pub(crate) fn push(&mut self, sample: &SampleRef) -> Result<(), AllocError>
+        requires { room_cause self.old (lent_sample sample.now) ≡ None }
+        ensures ok { OnOk result (self.new ≡ pushed self.old (lent_sample sample.now)) }
         ensures err { OnErr result (self.new ≡ self.old) }
     {
         let info = info_of(sample);
@@ -142,7 +144,7 @@ impl TrackWriter {
         let duration = info.duration as u64;
         let movie = movie_ticks(info.duration, self.movie_timescale, self.config.timescale);
         self.samples.push(info)?;
-        if let Err(e) = self.pending.extend_from_slice(sample.bytes.as_slice()) {
+        if let Err(e) = self.pending.extend_from_slice(sample.bytes) {
             let _ = self.samples.take_last();
             return Err(e);
         }
@@ -191,31 +193,33 @@ impl TrackWriter {
         }
     }
 
-    /// Writes the pending samples as a chunk at the end of the buffer, and notes it after the chunks of all tracks; the
-    /// track's index counts from 0. An `Err` changes nothing.
-    pub(crate) fn write_chunk(
+    /// Writes the pending samples as a chunk at the end of the sink, and notes it after the chunks of all tracks; the
+    /// track's index counts from 0. An `Err` changes neither the track nor the notes, and `OutOfMemory` not the sink
+    /// either.
+    pub(crate) fn write_chunk<S: ByteSink>(
         &mut self,
-        buffer: &mut Vec<u8>,
+        sink: &mut S,
         written: &mut Vec<ChunkRef>,
         track: u32,
-    ) -> Result<(), AllocError>
+    ) -> Result<(), SinkError>
         requires { 0 < length self.old.pending }
-        ensures track { OnOk result (self.new ≡ closed self.old (length buffer.old.items)) }
-        ensures bytes { OnOk result (buffer.new.items ≡ buffer.old.items ++ sample_bytes self.old.pending) }
+        ensures track { OnOk result (self.new ≡ closed self.old (S.len sink.old)) }
+        ensures bytes { OnOk result
+            (IsAppended (S.contents sink.old) (S.contents sink.new) (sample_bytes self.old.pending)) }
+        ensures len { OnOk result (S.len sink.new ≡ S.len sink.old + length (sample_bytes self.old.pending)) }
         ensures chunk { OnOk result
             (written.new.items ≡ written.old.items ++ record { track = track; index = length self.old.chunks } ∷ []) }
-        ensures err { OnErr result
-            ((self.new ≡ self.old) × (buffer.new.items ≡ buffer.old.items) × (written.new.items ≡ written.old.items)) }
+        ensures err { OnErr result ((self.new ≡ self.old) × (written.new.items ≡ written.old.items)) }
+        ensures sink { IfErr result (λ e. SinkFails e (S.can_refuse sink.old)
+            (S.contents sink.old) (S.contents sink.new) (S.len sink.old) (S.len sink.new)) }
+        ensures waits { IfErr result (λ e. IsCountKept e (S.waiting sink.old) (S.waiting sink.new)) }
+        ensures can_refuse { S.can_refuse sink.new ≡ S.can_refuse sink.old }
     {
-        let place = self.pending_place(buffer.len() as u64);
+        let place = self.pending_place(ByteSink::len(&*sink));
         let index = self.chunks.len() as u32;
         self.chunks.push(place)?;
-        if let Err(e) = append_chunk(
-            buffer,
-            written,
-            ChunkRef { track, index },
-            self.pending.as_slice(),
-        ) {
+        let chunk = ChunkRef { track, index };
+        if let Err(e) = append_chunk(sink, written, chunk, self.pending.as_slice()) {
             let _ = self.chunks.take_last();
             return Err(e);
         }
@@ -308,20 +312,25 @@ impl TrackWriter {
     }
 }
 
-/// Adds the bytes of a chunk at the end of the buffer, and notes it after the chunks of all tracks. An `Err` changes
-/// nothing.
-fn append_chunk(
-    buffer: &mut Vec<u8>,
+/// Adds the bytes of a chunk at the end of the sink, and notes it after the chunks of all tracks. An `Err` leaves the
+/// notes as they were, and where it is `OutOfMemory`, the sink too.
+fn append_chunk<S: ByteSink>(
+    sink: &mut S,
     written: &mut Vec<ChunkRef>,
     chunk: ChunkRef,
     bytes: &[u8],
-) -> Result<(), AllocError>
-    ensures bytes { OnOk result (buffer.new.items ≡ buffer.old.items ++ bytes.now) }
+) -> Result<(), SinkError>
+    ensures bytes { OnOk result (IsAppended (S.contents sink.old) (S.contents sink.new) bytes.now) }
+    ensures len { OnOk result (S.len sink.new ≡ S.len sink.old + length bytes.now) }
     ensures chunk { OnOk result (written.new.items ≡ written.old.items ++ chunk ∷ []) }
-    ensures err { OnErr result ((buffer.new.items ≡ buffer.old.items) × (written.new.items ≡ written.old.items)) }
+    ensures err { OnErr result (written.new.items ≡ written.old.items) }
+    ensures sink { IfErr result (λ e. SinkFails e (S.can_refuse sink.old)
+        (S.contents sink.old) (S.contents sink.new) (S.len sink.old) (S.len sink.new)) }
+    ensures waits { IfErr result (λ e. IsCountKept e (S.waiting sink.old) (S.waiting sink.new)) }
+    ensures can_refuse { S.can_refuse sink.new ≡ S.can_refuse sink.old }
 {
     written.push(chunk)?;
-    if let Err(e) = buffer.extend_from_slice(bytes) {
+    if let Err(e) = sink.append(bytes) {
         let _ = written.take_last();
         return Err(e);
     }

@@ -1,6 +1,6 @@
 use Rattle.std.proofs.Common.{◌+◌, ◌<◌, ◌^◌, arith, ap}
 use Rattle.mp4_mux.specs.declared.sample_info.SampleInfo.{SampleInfo}
-use Rattle.mp4_samples.specs.Samples.{sample_of}
+use Rattle.mp4_mux.specs.Writing.{lent_sample}
 use Rattle.mp4_mux.specs.TrackHeaders.{movie_duration}
 use Rattle.mp4_mux.specs.TrackFields.{fields_of}
 use Rattle.mp4_mux.proofs.RoomLaws.{has_room}
@@ -8,14 +8,14 @@ use Rattle.mp4_mux.proofs.TrackLemmas.{pending_room, media_room, is_track-push, 
 use Rattle.mp4_mux.proofs.track_writer.TrackWriter.push.Goals as goal
 
 pub info_of-info-requires : goal.info_of-info-requires
-info_of-info-requires c = (has_room c.args.self.now (sample_of c.args.sample.now) c.requires).size
+info_of-info-requires c = (has_room c.args.self.now (lent_sample c.args.sample.now) c.requires).size
 
 pub overflow_add-self : goal.overflow_add-self
 overflow_add-self c =
     omega (
       arith,
       pending_room (fields_of c.self.inside) c.self.invariant c.info_of-info.result c.in_range.ensures
-          (rw (← c.self.view_is) at (has_room c.args.self.now (sample_of c.args.sample.now) c.requires).count),
+          (rw (← c.self.view_is) at (has_room c.args.self.now (lent_sample c.args.sample.now) c.requires).count),
     )
 
 pub overflow_add-self-2 : goal.overflow_add-self-2
@@ -23,13 +23,13 @@ overflow_add-self-2 c =
     omega (
       arith,
       media_room (fields_of c.self.inside) c.self.invariant c.info_of-info.result c.in_range.ensures
-          (rw (← c.self.view_is) at (has_room c.args.self.now (sample_of c.args.sample.now) c.requires).count),
+          (rw (← c.self.view_is) at (has_room c.args.self.now (lent_sample c.args.sample.now) c.requires).count),
     )
 
 pub overflow_add-self-3 : goal.overflow_add-self-3
 overflow_add-self-3 c =
     let w = c.self.inside in
-    let has = has_room c.args.self.now (sample_of c.args.sample.now) c.requires in
+    let has = has_room c.args.self.now (lent_sample c.args.sample.now) c.requires in
     let room = rw (← c.self.view_is) at has.duration in
     let lasts = ap (λ (j : SampleInfo). j.duration) c.info_of-info.ensures in
     let fits : movie_duration w.movie_timescale w.config.timescale w.samples.items + c.movie_ticks-movie.result
@@ -39,17 +39,17 @@ overflow_add-self-3 c =
 pub invariant_of-self-2 : goal.invariant_of-self-2
 invariant_of-self-2 c =
     let i = c.info_of-info.result in
-    let has = has_room c.args.self.now (sample_of c.args.sample.now) c.requires in
+    let has = has_room c.args.self.now (lent_sample c.args.sample.now) c.requires in
     let room = rw (← c.self.view_is) at has.duration in
     let lasts = ap (λ (j : SampleInfo). j.duration) c.info_of-info.ensures in
-    rw (c.in_ok-push.ensures.items, c.in_default.ensures.items, c.as_slice.ensures)
+    rw (c.in_ok-push.ensures.items, c.in_default.ensures.items)
     (is_track-push (fields_of c.self.inside) c.self.invariant i c.in_range.ensures
-    (rw (← c.self.view_is) at has.count) c.args.sample.now.bytes c.movie_ticks-movie.result
+    (rw (← c.self.view_is) at has.count) c.args.sample.now.bytes.now c.movie_ticks-movie.result
     (ap (λ (j : SampleInfo). j.size) c.info_of-info.ensures) c.movie_ticks-movie.ensures
     (rw (c.movie_ticks-movie.ensures, lasts) room))
 
 pub returns-clause-ok : goal.returns-clause-ok
 returns-clause-ok c =
-    rw (← c.self.view_is, c.in_ok-push.ensures.items, c.in_default.ensures.items, c.as_slice.ensures)
-    (view-push (fields_of c.self.inside) c.self.invariant c.info_of-info.result (sample_of c.args.sample.now)
+    rw (← c.self.view_is, c.in_ok-push.ensures.items, c.in_default.ensures.items)
+    (view-push (fields_of c.self.inside) c.self.invariant c.info_of-info.result (lent_sample c.args.sample.now)
     c.movie_ticks-movie.result c.info_of-info.ensures)
