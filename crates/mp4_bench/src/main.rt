@@ -26,10 +26,12 @@ use std::alloc::Global;
 use std::process::ExitCode;
 use std::{env, io};
 
-const USAGE: &[u8] =
-    b"usage: mp4_bench all | seek | list | scan | live | record | script | walk | numbers | times [SEED [PARTS]]\n";
+const USAGE: &[u8] = b"usage: mp4_bench JOB [SEED [PARTS]]\n";
 
-const FILE_USAGE: &[u8] = b"or a file: mp4_bench even | turning | fragments [SEED [PARTS]]\n";
+const JOBS: &[u8] =
+    b"a job: all | seek | list | scan | live | record | script | walk | numbers | cursor | times\n";
+
+const FILES: &[u8] = b"or a file: even | turning | fragments\n";
 
 /// How large a job is where nothing is said: the whole of it.
 const WHOLE: u32 = 1000;
@@ -51,13 +53,16 @@ fn number_in(arguments: &[String], index: usize, otherwise: u32) -> u32 {
     }
 }
 
-/// Goes over samples in order, and by their numbers, and fails where they aren't the same.
+/// Goes over samples in order, and by their numbers, looked up and asked of a cursor, and fails where they aren't the
+/// same.
 fn compare_ways(alloc: Global, seed: u32, parts: u32) -> Result<()> {
     let mut in_order = Digest::new();
     walk::walk(alloc, seed, parts, Way::InOrder, &mut in_order)?;
     let mut by_numbers = Digest::new();
     walk::walk(alloc, seed, parts, Way::ByNumbers, &mut by_numbers)?;
-    if in_order.value() == by_numbers.value() {
+    let mut by_cursor = Digest::new();
+    walk::walk(alloc, seed, parts, Way::ByCursor, &mut by_cursor)?;
+    if in_order.value() == by_numbers.value() && in_order.value() == by_cursor.value() {
         Ok(())
     } else {
         Err(Error::InvalidData("samples in order are others than by their numbers"))
@@ -87,6 +92,7 @@ fn run_job(alloc: Global, name: &str, seed: u32, parts: u32, digest: &mut Digest
         "script" => script::script(alloc, seed, parts, digest)?,
         "walk" => walk::walk(alloc, seed, parts, Way::InOrder, digest)?,
         "numbers" => walk::walk(alloc, seed, parts, Way::ByNumbers, digest)?,
+        "cursor" => walk::walk(alloc, seed, parts, Way::ByCursor, digest)?,
         "times" => walk::walk(alloc, seed, parts, Way::ByTimes, digest)?,
         _ => return Ok(false),
     }
@@ -140,7 +146,8 @@ fn main(rt: HostRuntime) -> ExitCode {
         Ok(true) => ExitCode::SUCCESS,
         Ok(false) => {
             let _ = rt.stderr().write_all(USAGE);
-            let _ = rt.stderr().write_all(FILE_USAGE);
+            let _ = rt.stderr().write_all(JOBS);
+            let _ = rt.stderr().write_all(FILES);
             ExitCode::FAILURE
         }
         Err(_) => {

@@ -1,5 +1,5 @@
-//! A remuxer: where all samples of tracks lie, in their order: by a walk, or each by its number. Or a player that goes
-//! to random times.
+//! A remuxer: where all samples of tracks lie, in their order: by a walk, or each by its number, of a look-up or of a
+//! cursor. Or a player that goes to random times.
 
 use crate::digest::Digest;
 use crate::files::{DATA, pattern};
@@ -22,6 +22,7 @@ const PASSES: u32 = 10;
 pub enum Way {
     InOrder,
     ByNumbers,
+    ByCursor,
     ByTimes,
 }
 
@@ -44,6 +45,17 @@ fn add_by_numbers(track: &Mp4Track, digest: &mut Digest) -> Result<()> {
     for k in 1..=track.sample_count()? {
         if let Some(place) = track.locate_by_guess(k)? {
             add_place(digest, &place.place());
+        }
+    }
+    Ok(())
+}
+
+/// Adds the places of a track, each asked of a cursor by its number.
+fn add_by_cursor(track: &Mp4Track, digest: &mut Digest) -> Result<()> {
+    let mut cursor = track.sample_cursor();
+    for k in 1..=track.sample_count()? {
+        if let Some(place) = cursor.seek(k)? {
+            add_place(digest, &place);
         }
     }
     Ok(())
@@ -73,6 +85,7 @@ fn add_places(alloc: Global, file: &[u8], way: Way, digest: &mut Digest) -> Resu
         match way {
             Way::InOrder => add_in_order(track, digest)?,
             Way::ByNumbers => add_by_numbers(track, digest)?,
+            Way::ByCursor => add_by_cursor(track, digest)?,
             Way::ByTimes => add_by_times(track, &mut random, digest)?,
         }
     }

@@ -28,6 +28,8 @@ mod plain_lists;
 #[cfg(test)]
 mod queries;
 #[cfg(test)]
+mod random_cursors;
+#[cfg(test)]
 mod random_files;
 #[cfg(test)]
 mod random_fragment_files;
@@ -51,3 +53,5 @@ mod walked_lookup;
 mod writer_calls;
 #[cfg(test)]
 mod written;
+#[cfg(test)]
+mod written_files;

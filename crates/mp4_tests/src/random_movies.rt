@@ -35,7 +35,7 @@ impl<'a> Habits<'a> {
     }
 
     /// So many bytes of the pool.
-    fn some(&self, random: &mut Random, count: u32) -> &'a [u8] {
+    pub fn some(&self, random: &mut Random, count: u32) -> &'a [u8] {
         let start = random.byte() as usize;
         let end = start.wrapping_add(count as usize);
         self.pool.get(start..end).unwrap_or(&[])
@@ -52,7 +52,7 @@ fn random_timescale(random: &mut Random) -> u32 {
     }
 }
 
-fn random_beginning(random: &mut Random) -> Beginning<'static> {
+pub fn random_beginning(random: &mut Random) -> Beginning<'static> {
     let compatible_brands: &'static [u32] = match random.few() {
         0 => &[],
         1 => &[0x69736f6d],

@@ -1,0 +1,214 @@
+//! Lists of calls of a writer that writes to a file: it answers as the plain model says and the file has the model's
+//! bytes, and where the file refuses a call, that is answered, and no later call is made.
+
+use crate::asserts::{at_least, check};
+use crate::random_movies::{Habits, random_beginning, random_bytes, random_call};
+use crate::writer_calls::{config_of, media_track, writer_call};
+use crate::written::is_expected;
+use mp4_codec::{Error, Result};
+use mp4_media::{
+    ByteSink, Mp4FileWriter, SampleRef, SeekSink, SinkError, WriteError, WriterCall,
+};
+use mp4_plain_movies::calls::{Call, Media};
+use mp4_plain_movies::plain_movie::PlainMovie;
+use mp4_plain_movies::random::Random;
+use std::alloc::Global;
+use std::io;
+use std::io::{Cursor, ErrorKind, Seek, SeekFrom, Write};
+
+/// What a call of the writer answers.
+type Answer = std::result::Result<(), WriteError>;
+
+/// Makes a call, with the bytes of a sample borrowed.
+fn make<S: ByteSink>(writer: &mut Mp4FileWriter<S>, call: &WriterCall) -> Answer {
+    match call {
+        WriterCall::AddTrack(config) => writer.add_track(config),
+        WriterCall::WriteSample(id, sample) => writer.write_sample(
+            *id,
+            &SampleRef {
+                offset: 5,
+                start_time: sample.start_time,
+                duration: sample.duration,
+                rendering_offset: sample.rendering_offset,
+                is_sync: sample.is_sync,
+                bytes: sample.bytes.as_slice(),
+            },
+        ),
+        WriterCall::WriteEnd => writer.write_end(),
+    }
+}
+
+/// Whether an answer is the one that the model gives.
+fn is_answer(answer: Answer, expected: &Option<Error>) -> bool {
+    match answer {
+        Ok(()) => is_expected(&Ok(()), expected),
+        Err(WriteError::Mp4(error)) => is_expected(&Err(error), expected),
+        Err(_) => false,
+    }
+}
+
+/// The sink of the tests, a file in memory.
+type FileSink = SeekSink<Cursor<Vec<u8>>>;
+
+/// A sink that has these bytes.
+fn sink_with(alloc: Global, bytes: &[u8]) -> std::result::Result<FileSink, SinkError> {
+    let mut sink = SeekSink::new(alloc, Cursor::new(Vec::new(alloc)))?;
+    sink.append(bytes)?;
+    Ok(sink)
+}
+
+/// What a file has, after the bytes that wait were written.
+fn bytes_of(mut sink: FileSink) -> std::result::Result<Vec<u8>, SinkError> {
+    sink.flush()?;
+    Ok(sink.into_inner().into_inner())
+}
+
+/// Makes the calls of a list and mostly an end of a writer to a file and of the model. Whether all answers and the bytes
+/// are alike.
+fn list_is_alike(alloc: Global, pool: &[u8], seed: u64) -> std::result::Result<bool, WriteError> {
+    let mut random = Random::new(seed);
+    let habits = Habits::new(pool, &mut random);
+    let beginning = random_beginning(&mut random);
+    let front = habits.some(&mut random, 7);
+    let mut movie = PlainMovie::begin(alloc, front, &beginning)?;
+    let config = config_of(alloc, &beginning)?;
+    let mut writer = Mp4FileWriter::write_start(alloc, sink_with(alloc, front)?, &config)?;
+    let mut alike = true;
+    for k in 0..random.byte() {
+        let tracks = u32::try_from(movie.tracks.len()).unwrap_or(0);
+        let call = match k {
+            250 => Call::WriteEnd,
+            _ => random_call(&habits, &mut random, tracks),
+        };
+        let expected = movie.make(&call)?;
+        alike = is_answer(make(&mut writer, &writer_call(alloc, &call)?), &expected) && alike;
+    }
+    if random.below(8) > 0 {
+        let expected = movie.make(&Call::WriteEnd)?;
+        alike = is_answer(writer.write_end(), &expected) && alike;
+    }
+    Ok(alike && bytes_of(writer.into_inner())? == movie.bytes)
+}
+
+#[test]
+fn three_hundred_lists_of_calls_are_written_to_files_as_the_model_says(rt: HostRuntime) {
+    let pool = random_bytes(rt.alloc()).unwrap_or(Vec::new(rt.alloc()));
+    check(&rt, "bytes", Ok(!pool.is_empty()));
+    for seed in 2000..2300 {
+        let alike = list_is_alike(rt.alloc(), &pool, seed).unwrap_or(false);
+        check(&rt, seed, Ok(alike));
+    }
+}
+
+/// A file in memory that refuses each call from one on, whose number counts from 0.
+#[derive(Drop)]
+struct FullDisk {
+    file: Cursor<Vec<u8>>,
+    calls: u32,
+    refused: u32,
+}
+
+impl FullDisk {
+    /// Counts a call, and refuses it where it isn't before that one.
+    fn count(&mut self) -> io::Result<()> {
+        self.calls = self.calls.saturating_add(1);
+        if self.calls > self.refused {
+            return Err(io::Error::from(ErrorKind::StorageFull));
+        }
+        Ok(())
+    }
+}
+
+impl Write for FullDisk {
+    fn write(&mut self, buf: &[u8]) -> io::Result<usize> {
+        self.count()?;
+        self.file.write(buf)
+    }
+
+    fn flush(&mut self) -> io::Result<()> {
+        self.count()
+    }
+}
+
+impl Seek for FullDisk {
+    fn seek(&mut self, to: SeekFrom) -> io::Result<u64> {
+        self.count()?;
+        self.file.seek(to)
+    }
+}
+
+/// What calls were answered.
+#[derive(Clone, Copy, Default)]
+struct Replies {
+    ok: u32,
+    refused: u32,
+    failed: u32,
+    others: u32,
+}
+
+impl Replies {
+    fn add(&mut self, answer: Answer) {
+        match answer {
+            Ok(()) => self.ok = self.ok.saturating_add(1),
+            Err(WriteError::Io(e)) if e.kind() == ErrorKind::StorageFull => {
+                self.refused = self.refused.saturating_add(1);
+            }
+            Err(WriteError::Failed) => self.failed = self.failed.saturating_add(1),
+            Err(_) => self.others = self.others.saturating_add(1),
+        }
+    }
+}
+
+/// Writes forty samples of 10,000 bytes, each a chunk, and an end to a file that refuses from that call on.
+fn replies_of_a_full_disk(
+    alloc: Global,
+    pool: &[u8],
+    refused: u32,
+) -> std::result::Result<Replies, WriteError> {
+    let disk = FullDisk {
+        file: Cursor::new(Vec::new(alloc)),
+        calls: 0,
+        refused,
+    };
+    let config = config_of(alloc, &random_beginning(&mut Random::new(1)))?;
+    let sink = SeekSink::new(alloc, disk)?;
+    let mut writer = Mp4FileWriter::write_start(alloc, sink, &config)?;
+    let mut replies = Replies::default();
+    replies.add(writer.add_track(&media_track(alloc, &Media::Text)?));
+    let sample = SampleRef {
+        offset: 0,
+        start_time: 0,
+        duration: 1000,
+        rendering_offset: 0,
+        is_sync: true,
+        bytes: pool.get(..10_000).unwrap_or(&[]),
+    };
+    for _ in 0..40 {
+        replies.add(writer.write_sample(1, &sample));
+    }
+    replies.add(writer.write_end());
+    replies.add(writer.write_end());
+    Ok(replies)
+}
+
+/// Whether the calls before the refused one are Ok, that one is refused for the disk, and all after it since it was. Where
+/// none is refused, only the second end is, since the movie has ended.
+fn is_refused_once(replies: Replies) -> bool {
+    let all = replies.ok + replies.refused + replies.failed + replies.others;
+    match replies.refused {
+        0 => replies.ok == 42 && replies.others == 1 && replies.failed == 0,
+        _ => all == 43 && replies.refused == 1 && replies.others == 0,
+    }
+}
+
+#[test]
+fn a_writer_stops_where_its_file_is_full(rt: HostRuntime) {
+    let pool = random_bytes(rt.alloc()).unwrap_or(Vec::new(rt.alloc()));
+    let mut refusals = 0u32;
+    for refused in 0..20 {
+        let replies = replies_of_a_full_disk(rt.alloc(), &pool, refused).unwrap_or_default();
+        check(&rt, refused, Ok(is_refused_once(replies)));
+        refusals = refusals.saturating_add(replies.refused);
+    }
+    at_least(&rt, "refusals", refusals, 9);
+}
