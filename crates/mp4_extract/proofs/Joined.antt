@@ -3,12 +3,11 @@ use Rattle.std.proofs.Common.{◌≡◌, ℕ, zero, suc, ◌+◌, Bool, true, fa
 use Rattle.std.proofs.Common.{Option, Some, None, Result, Ok, refl, sym, ap, ◌∙◌, append_assoc, add-one, arith}
 use Rattle.std.proofs.lemmas.Bool.{eqb-true}
 use Rattle.std.proofs.lemmas.List.{append-nil}
-use Rattle.std.specs.Prelude.{IfSome, ◌==◌, if◌then◌else◌}
+use Rattle.std.specs.Prelude.{◌==◌, if◌then◌else◌}
 use Rattle.std.specs.Io.KnownBytes.{Appends}
 use Rattle.mp4_codec.specs.Cause.{Cause}
-use Rattle.mp4_media.proofs.FoundBoxes.{all_known, of_known_by}
 use Rattle.mp4_extract.specs.declared.form.SampleForm.{SampleForm}
-use Rattle.mp4_extract.specs.Extracting.{Answer, AreSamplesIn, AreWritten, HasSample, IsWritten}
+use Rattle.mp4_extract.specs.Extracting.{AreSamplesIn, AreWritten, HasSample, IsWritten, Reading}
 
 -- nothing is added
 appends-none : (known : Option (List ℕ)) → Appends known known []
@@ -24,13 +23,13 @@ appends-then (Some a) (Some b) None xs ys first second = absurd second
 appends-then (Some a) (Some b) (Some c) xs ys first second =
     second ∙ ap (λ (z : List ℕ). z ++ ys) first ∙ append_assoc a xs ys
 
-module _ (form : SampleForm) (samples : ℕ → Answer) (k : ℕ) where
-  pub none_written : (old : Option (List ℕ)) → AreWritten form samples k old old 0
+module _ (form : SampleForm) (readings : ℕ → Reading) (k : ℕ) where
+  pub none_written : (old : Option (List ℕ)) → AreWritten form readings k old old 0
   none_written old = ([], refl, appends-none old)
 
   -- the bytes of samples, and of those after them
-  samples_join : (n m : ℕ) (xs ys : List ℕ) → AreSamplesIn form samples k n xs
-      → AreSamplesIn form samples (k + n) m ys → AreSamplesIn form samples k (n + m) (xs ++ ys)
+  samples_join : (n m : ℕ) (xs ys : List ℕ) → AreSamplesIn form readings k n xs
+      → AreSamplesIn form readings (k + n) m ys → AreSamplesIn form readings k (n + m) (xs ++ ys)
   samples_join n zero xs ys first none =
       let same : n + 0 ≡ n = omega arith in
       rw (same, none, append-nil xs) first
@@ -46,16 +45,16 @@ module _ (form : SampleForm) (samples : ℕ → Answer) (k : ℕ) where
         ap (λ (z : List ℕ). xs ++ z) second.4 ∙ sym (append_assoc xs before second.1),
       )
 
-  pub others_more : (old mid new : Option (List ℕ)) (n m : ℕ) → AreWritten form samples k old mid n
-      → AreWritten form samples (k + n) mid new m → AreWritten form samples k old new (n + m)
+  pub others_more : (old mid new : Option (List ℕ)) (n m : ℕ) → AreWritten form readings k old mid n
+      → AreWritten form readings (k + n) mid new m → AreWritten form readings k old new (n + m)
   others_more old mid new n m first second = (
     first.0 ++ second.0,
     samples_join n m first.0 second.0 first.1 second.1,
     appends-then old mid new first.0 second.0 first.2 second.2,
   )
 
-  pub one_more : (old mid new : Option (List ℕ)) (n : ℕ) → AreWritten form samples k old mid n
-      → HasSample form (samples (k + n)) mid new → AreWritten form samples k old new (n + 1)
+  pub one_more : (old mid new : Option (List ℕ)) (n : ℕ) → AreWritten form readings k old mid n
+      → HasSample form (readings (k + n)) mid new → AreWritten form readings k old new (n + 1)
   one_more old mid new n before last = rw add-one (
     before.0 ++ last.0,
     (before.0, last.0, before.1, last.1, refl),
@@ -72,39 +71,18 @@ pub none_counted : (counted : Result ℕ Cause) (count : ℕ) (has_some : Bool) 
 none_counted counted count has_some is some none =
     is ∙ ap (λ n. let r : Result ℕ Cause = Ok n in r) (eqb-true count 0 (not_false (count == 0) (sym some ∙ none)))
 
--- nothing was written, where the source's bytes are known
-pub nothing_written : (known : Option (List ℕ)) (form : SampleForm) (samples : List ℕ → ℕ → Answer) (k : ℕ)
-    (old : Option (List ℕ)) → IfSome known (λ source. AreWritten form (samples source) k old old 0)
-nothing_written known form samples k old = all_known known _ (λ source. none_written form (samples source) k old)
+-- samples more were written
+pub samples_added : (form : SampleForm) (readings : ℕ → Reading) (k n number m : ℕ) (old mid new : Option (List ℕ))
+    → number ≡ k + n → AreWritten form readings k old mid n → AreWritten form readings number mid new m
+    → AreWritten form readings k old new (n + m)
+samples_added form readings k n number m old mid new is first second =
+    others_more form readings k old mid new n m first (rw is at second)
 
--- a sample more was written, where the source's bytes are known
-pub sample_added : (known : Option (List ℕ)) (form : SampleForm) (samples : List ℕ → ℕ → Answer) (k n number : ℕ)
-    (old mid new : Option (List ℕ)) (found : Bool) → found ≡ true → number ≡ k + n
-    → IfSome known (λ source. AreWritten form (samples source) k old mid n)
-    → IfSome known (λ source. IsWritten form (samples source number) mid new found)
-    → IfSome known (λ source. AreWritten form (samples source) k old new (n + 1))
-sample_added known form samples k n number old mid new found there is before last =
-    of_known_by known _ _ _ before (rw (there, is) at last)
-    (λ source b l. one_more form (samples source) k old mid new n b l)
-
--- samples more were written, where the source's bytes are known
-pub samples_added : (known : Option (List ℕ)) (form : SampleForm) (samples : List ℕ → ℕ → Answer) (k n number m : ℕ)
-    (old mid new : Option (List ℕ)) → number ≡ k + n
-    → IfSome known (λ source. AreWritten form (samples source) k old mid n)
-    → IfSome known (λ source. AreWritten form (samples source) number mid new m)
-    → IfSome known (λ source. AreWritten form (samples source) k old new (n + m))
-samples_added known form samples k n number m old mid new is first second =
-    of_known_by known _ _ _ first (rw is at second)
-    (λ source a b. others_more form (samples source) k old mid new n m a b)
-
--- a sample was written after none, or there is none, where the source's bytes are known
-pub first_written : (known : Option (List ℕ)) (form : SampleForm) (samples : List ℕ → ℕ → Answer) (k n m : ℕ)
-    (old mid new : Option (List ℕ)) (found : Bool) → n ≡ 0 → m ≡ (if found then 1 else 0)
-    → IfSome known (λ source. AreWritten form (samples source) k old mid n)
-    → IfSome known (λ source. IsWritten form (samples source k) mid new found)
-    → IfSome known (λ source. AreWritten form (samples source) k old new m)
-first_written known form samples k n m old mid new true none one before last =
-    let number : k ≡ k + 0 = omega arith in
-    rw one (sample_added known form samples k 0 k old mid new true refl number (rw none at before) last)
-first_written known form samples k n m old mid new false none is before last =
-    rw is (of_known_by known _ _ _ (rw none at before) last (λ source b l. rw l.1 b))
+-- a sample was written after none, or there is none
+pub first_written : (form : SampleForm) (readings : ℕ → Reading) (k n m : ℕ) (old mid new : Option (List ℕ))
+    (found : Bool) → n ≡ 0 → m ≡ (if found then 1 else 0) → AreWritten form readings k old mid n
+    → IsWritten form (readings k) mid new found → AreWritten form readings k old new m
+first_written form readings k n m old mid new true none one before last =
+    let same : k + 0 ≡ k = omega arith in
+    rw one (one_more form readings k old mid new 0 (rw none at before) (rw same last))
+first_written form readings k n m old mid new false none is before last = rw (is, last.1) (rw none at before)

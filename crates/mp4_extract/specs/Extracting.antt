@@ -1,7 +1,7 @@
 -- The samples of a track, one after the other.
-use Rattle.std.specs.Prelude.{◌≡◌, ◌⊎◌, ⊤, ℕ, zero, suc, ◌+◌, ◌^◌, ◌<◌, ◌≤◌, Bool, true, false, IsTrue, not}
+use Rattle.std.specs.Prelude.{◌≡◌, ◌⊎◌, ℕ, zero, suc, ◌+◌, ◌^◌, ◌<◌, ◌≤◌, Bool, true, false, IsTrue, not}
 use Rattle.std.specs.Prelude.{◌==◌, ◌&&◌, ◌||◌, nat_le}
-use Rattle.std.specs.Prelude.{List, [], ◌++◌, Option, Some, None, Result, Ok, Err}
+use Rattle.std.specs.Prelude.{List, [], ◌++◌, length, Option, Some, None, IfSome, Result, Ok, Err}
 use Rattle.std.specs.HashMap.{HashMap}
 use Rattle.std.specs.Io.KnownBytes.{Appends}
 use Rattle.mp4_codec.specs.Cause.{Cause, cause_of}
@@ -12,7 +12,7 @@ use Rattle.mp4_lookup.specs.declared.track.Mp4Track.{Mp4Track}
 use Rattle.mp4_samples.specs.declared.sample.Place.{Place}
 use Rattle.mp4_samples.specs.Samples.{TimedSample}
 use Rattle.mp4_media.specs.MovieTracks.{at_id}
-use Rattle.mp4_media.specs.Reading.{IsSample, located_in, sample_count_in, sample_in}
+use Rattle.mp4_media.specs.Reading.{located_in, placed_at, placed_in, sample_count_in, sample_in}
 use Rattle.mp4_extract.specs.declared.descriptions.OtherSample.{OtherSample}
 use Rattle.mp4_extract.specs.declared.error.ExtractError.{ExtractError}
 use Rattle.mp4_extract.specs.declared.error.ExtractError.TheVariants.{OutOfMemory, Track, WrongFormat, NoSuchSample}
@@ -27,40 +27,54 @@ use Rattle.mp4_extract.specs.Forms.{IsFormOf, IsInForm, NeedsRoom, RefusesSample
 abbrev pub Answer : Type 0
 Answer = Result (Option TimedSample) Cause
 
--- these bytes are the sample of an answer in a form
-abbrev pub IsSampleIn : SampleForm → Answer → List ℕ → Type 0
-IsSampleIn form answer bytes = (s : TimedSample) × (answer ≡ Ok (Some s)) × (IsInForm form s.sample.bytes bytes)
+-- what may be answered of a sample
+abbrev pub Reading : Type 1
+Reading = Answer → Type 0
+
+-- an answer is of the place that is found, whatever bytes lie there: a sample has as many as its place says
+abbrev pub IsOfPlace : Result (Option Place) Cause → Reading
+IsOfPlace placed (Ok (Some s)) = (offset : ℕ) × (placed ≡ Ok (Some (placed_at offset s)))
+IsOfPlace placed (Ok None) = placed ≡ Ok None
+IsOfPlace placed (Err c) = placed ≡ Err c
+
+-- there is a sample
+abbrev pub IsThere : Reading → Type 0
+IsThere reading = (s : TimedSample) × reading (Ok (Some s))
+
+-- these bytes are the sample that was read, in a form
+abbrev pub IsSampleIn : SampleForm → Reading → List ℕ → Type 0
+IsSampleIn form reading bytes = (s : TimedSample) × (reading (Ok (Some s))) × (IsInForm form s.sample.bytes bytes)
 
 -- these bytes are those of n samples from number k on in a form, in their order, joined
-abbrev pub AreSamplesIn : SampleForm → (ℕ → Answer) → ℕ → ℕ → List ℕ → Type 0
-AreSamplesIn form samples k zero bytes = bytes ≡ []
-AreSamplesIn form samples k (suc n) bytes =
-    (before : List ℕ) × (last : List ℕ) × (AreSamplesIn form samples k n before)
-    × (IsSampleIn form (samples (k + n)) last) × (bytes ≡ before ++ last)
+abbrev pub AreSamplesIn : SampleForm → (ℕ → Reading) → ℕ → ℕ → List ℕ → Type 0
+AreSamplesIn form readings k zero bytes = bytes ≡ []
+AreSamplesIn form readings k (suc n) bytes =
+    (before : List ℕ) × (last : List ℕ) × (AreSamplesIn form readings k n before)
+    × (IsSampleIn form (readings (k + n)) last) × (bytes ≡ before ++ last)
 
--- a sink that held some bytes holds the sample of an answer too
-abbrev pub HasSample : SampleForm → Answer → Option (List ℕ) → Option (List ℕ) → Type 0
-HasSample form answer old new = (bytes : List ℕ) × (IsSampleIn form answer bytes) × (Appends old new bytes)
+-- a sink that held some bytes holds the sample that was read too
+abbrev pub HasSample : SampleForm → Reading → Option (List ℕ) → Option (List ℕ) → Type 0
+HasSample form reading old new = (bytes : List ℕ) × (IsSampleIn form reading bytes) × (Appends old new bytes)
 
 -- a sample was written, or there is none
-abbrev pub IsWritten : SampleForm → Answer → Option (List ℕ) → Option (List ℕ) → Bool → Type 0
-IsWritten form answer old new true = HasSample form answer old new
-IsWritten form answer old new false = (answer ≡ Ok None) × (new ≡ old)
+abbrev pub IsWritten : SampleForm → Reading → Option (List ℕ) → Option (List ℕ) → Bool → Type 0
+IsWritten form reading old new true = HasSample form reading old new
+IsWritten form reading old new false = (reading (Ok None)) × (new ≡ old)
 
 -- n samples from number k on were written
-abbrev pub AreWritten : SampleForm → (ℕ → Answer) → ℕ → Option (List ℕ) → Option (List ℕ) → ℕ → Type 0
-AreWritten form samples k old new n =
-    (bytes : List ℕ) × (AreSamplesIn form samples k n bytes) × (Appends old new bytes)
+abbrev pub AreWritten : SampleForm → (ℕ → Reading) → ℕ → Option (List ℕ) → Option (List ℕ) → ℕ → Type 0
+AreWritten form readings k old new n =
+    (bytes : List ℕ) × (AreSamplesIn form readings k n bytes) × (Appends old new bytes)
 
 -- no sample has this number, or it passes the numbers of samples
-abbrev pub IsPastEnd : (ℕ → Answer) → ℕ → Type 0
-IsPastEnd samples k = (2 ^ 32 ≤ k) ⊎ (samples k ≡ Ok None)
+abbrev pub IsPastEnd : (ℕ → Reading) → ℕ → Type 0
+IsPastEnd readings k = (2 ^ 32 ≤ k) ⊎ (readings k (Ok None))
 
--- for this error is the sample of an answer refused: by the file, or since it has no such form
-abbrev pub RefusesAnswer : SampleForm → Answer → Error → Type 0
-RefusesAnswer form answer e =
-    (answer ≡ Err (cause_of e))
-    ⊎ ((s : TimedSample) × (answer ≡ Ok (Some s)) × (RefusesSample form s.sample.bytes e))
+-- for this error is a sample refused: by the file, or since it has no such form
+abbrev pub RefusesAnswer : SampleForm → Reading → Error → Type 0
+RefusesAnswer form reading e =
+    (reading (Err (cause_of e)))
+    ⊎ ((s : TimedSample) × (reading (Ok (Some s))) × (RefusesSample form s.sample.bytes e))
 
 -- bytes are a front of others
 abbrev pub IsFrontOf : List ℕ → List ℕ → Type 0
@@ -76,30 +90,41 @@ offset_of (Ok (Some p)) = Some p.offset
 offset_of (Ok None) = None
 offset_of (Err c) = None
 
--- for this error is a sample with number k, which lies at this place, and whose bytes were read, refused
-abbrev pub RefusesStored : SampleForm → List ℕ → ℕ → ℕ → ExtractError → Type 0
-RefusesStored form sample k offset OutOfMemory = NeedsRoom form sample
-RefusesStored form sample k offset (Sample number place e) =
+-- for this error is a sample with number k, which lies at this place, and whose bytes were read, refused, where a
+-- buffer has room for so many bytes
+abbrev pub RefusesStored : SampleForm → ℕ → List ℕ → ℕ → ℕ → ExtractError → Type 0
+RefusesStored form room sample k offset OutOfMemory = NeedsRoom form room sample
+RefusesStored form room sample k offset (Sample number place e) =
     (number ≡ k) × (place ≡ Some offset) × (RefusesSample form sample e)
-RefusesStored form sample k offset (Write number e) = number ≡ k
-RefusesStored form sample k offset (Read number e) = ⊥
-RefusesStored form sample k offset (Track e) = ⊥
-RefusesStored form sample k offset (WrongFormat id format) = ⊥
-RefusesStored form sample k offset (NoSuchSample id number count) = ⊥
-RefusesStored form sample k offset (OtherDescription number description format) = ⊥
+RefusesStored form room sample k offset (Write number e) = number ≡ k
+RefusesStored form room sample k offset (Read number e) = ⊥
+RefusesStored form room sample k offset (Track e) = ⊥
+RefusesStored form room sample k offset (WrongFormat id format) = ⊥
+RefusesStored form room sample k offset (NoSuchSample id number count) = ⊥
+RefusesStored form room sample k offset (OtherDescription number description format) = ⊥
 
--- for this error is the sample with number k refused, which lies at this place where that is known; memory is wanted
--- only where there is a sample
-abbrev pub RefusesNumber : SampleForm → Answer → Option ℕ → ℕ → Bool → ExtractError → Type 0
-RefusesNumber form answer offset k can_refuse OutOfMemory = IsSample answer
-RefusesNumber form answer offset k can_refuse (Sample number place e) =
-    (number ≡ k) × (place ≡ offset) × (RefusesAnswer form answer e)
-RefusesNumber form answer offset k can_refuse (Read number e) = (number ≡ k) × (IsTrue can_refuse)
-RefusesNumber form answer offset k can_refuse (Write number e) = (number ≡ k) × (IsSample answer)
-RefusesNumber form answer offset k can_refuse (Track e) = ⊥
-RefusesNumber form answer offset k can_refuse (WrongFormat id format) = ⊥
-RefusesNumber form answer offset k can_refuse (NoSuchSample id number count) = ⊥
-RefusesNumber form answer offset k can_refuse (OtherDescription number description format) = ⊥
+-- a source may refuse to read bytes that it has: one whose bytes are known only where it says so
+abbrev pub MayRefuse : Option (List ℕ) → Bool → Type 0
+MayRefuse known can_refuse = IfSome known (λ _. IsTrue can_refuse)
+
+-- For this error is the sample with number k refused, which lies at this place where that is known. Only where there is
+-- a sample do the source and the sink refuse it, and is memory wanted.
+abbrev pub RefusesNumber : SampleForm → Reading → Option ℕ → ℕ → Type 0 → ExtractError → Type 0
+RefusesNumber form reading offset k may_refuse OutOfMemory = IsThere reading
+RefusesNumber form reading offset k may_refuse (Sample number place e) =
+    (number ≡ k) × (place ≡ offset) × (RefusesAnswer form reading e)
+RefusesNumber form reading offset k may_refuse (Read number e) = (number ≡ k) × (IsThere reading) × may_refuse
+RefusesNumber form reading offset k may_refuse (Write number e) = (number ≡ k) × (IsThere reading)
+RefusesNumber form reading offset k may_refuse (Track e) = ⊥
+RefusesNumber form reading offset k may_refuse (WrongFormat id format) = ⊥
+RefusesNumber form reading offset k may_refuse (NoSuchSample id number count) = ⊥
+RefusesNumber form reading offset k may_refuse (OtherDescription number description format) = ⊥
+
+-- memory is wanted for a sample: one of two buffers, for what is stored and for what is written, has no room for it
+abbrev pub WantsRoom : SampleForm → ℕ → ℕ → Reading → Type 0
+WantsRoom form stored turned reading =
+    (s : TimedSample) × (reading (Ok (Some s)))
+    × ((stored < length s.sample.bytes) ⊎ (NeedsRoom form turned s.sample.bytes))
 
 -- the sink refused the samples from this number on
 abbrev pub IsWriteOf : ℕ → ExtractError → Type 0
@@ -112,41 +137,26 @@ IsWriteOf k (WrongFormat id format) = ⊥
 IsWriteOf k (NoSuchSample id number count) = ⊥
 IsWriteOf k (OtherDescription number description format) = ⊥
 
--- an error is one of the sample with this number, or memory ran out
-abbrev pub IsOfNumber : ℕ → ExtractError → Type 0
-IsOfNumber k OutOfMemory = ⊤
-IsOfNumber k (Sample number place e) = number ≡ k
-IsOfNumber k (Read number e) = number ≡ k
-IsOfNumber k (Write number e) = number ≡ k
-IsOfNumber k (Track e) = ⊥
-IsOfNumber k (WrongFormat id format) = ⊥
-IsOfNumber k (NoSuchSample id number count) = ⊥
-IsOfNumber k (OtherDescription number description format) = ⊥
-
--- an error is one of the samples that go from a number on and are so many
-abbrev pub IsOfOneFrom : ℕ → ℕ → ExtractError → Type 0
-IsOfOneFrom from most e = (n : ℕ) × (n < most) × (IsOfNumber (from + n) e)
-
 -- n samples from number k on were written, and a front of those after them, so that all are `most` at most
-abbrev pub AreWrittenInPart : SampleForm → (ℕ → Answer) → ℕ → ℕ → ℕ → Option (List ℕ) → Option (List ℕ) → Type 0
-AreWrittenInPart form samples k most n old new =
-    (bytes : List ℕ) × (AreSamplesIn form samples k n bytes)
-    × (m : ℕ) × (n + m ≤ most) × (others : List ℕ) × (AreSamplesIn form samples (k + n) m others)
+abbrev pub AreWrittenInPart : SampleForm → (ℕ → Reading) → ℕ → ℕ → ℕ → Option (List ℕ) → Option (List ℕ) → Type 0
+AreWrittenInPart form readings k most n old new =
+    (bytes : List ℕ) × (AreSamplesIn form readings k n bytes)
+    × (m : ℕ) × (n + m ≤ most) × (others : List ℕ) × (AreSamplesIn form readings (k + n) m others)
     × (front : List ℕ) × (IsFrontOf others front) × (Appends old new (bytes ++ front))
 
 -- after this error of number k + n a sink holds just the n samples from number k on; where it refused itself, also a
 -- front of those after them that were to be written
-abbrev pub HoldsAfter : SampleForm → (ℕ → Answer) → ℕ → ℕ → ℕ → Option (List ℕ) → Option (List ℕ) → ExtractError
+abbrev pub HoldsAfter : SampleForm → (ℕ → Reading) → ℕ → ℕ → ℕ → Option (List ℕ) → Option (List ℕ) → ExtractError
     → Type 0
-HoldsAfter form samples k most n old new (Write number e) = AreWrittenInPart form samples k most n old new
-HoldsAfter form samples k most n old new OutOfMemory = AreWritten form samples k old new n
-HoldsAfter form samples k most n old new (Sample number place e) = AreWritten form samples k old new n
-HoldsAfter form samples k most n old new (Read number e) = AreWritten form samples k old new n
-HoldsAfter form samples k most n old new (Track e) = AreWritten form samples k old new n
-HoldsAfter form samples k most n old new (WrongFormat id format) = AreWritten form samples k old new n
-HoldsAfter form samples k most n old new (NoSuchSample id number count) = AreWritten form samples k old new n
-HoldsAfter form samples k most n old new (OtherDescription number description format) =
-    AreWritten form samples k old new n
+HoldsAfter form readings k most n old new (Write number e) = AreWrittenInPart form readings k most n old new
+HoldsAfter form readings k most n old new OutOfMemory = AreWritten form readings k old new n
+HoldsAfter form readings k most n old new (Sample number place e) = AreWritten form readings k old new n
+HoldsAfter form readings k most n old new (Read number e) = AreWritten form readings k old new n
+HoldsAfter form readings k most n old new (Track e) = AreWritten form readings k old new n
+HoldsAfter form readings k most n old new (WrongFormat id format) = AreWritten form readings k old new n
+HoldsAfter form readings k most n old new (NoSuchSample id number count) = AreWritten form readings k old new n
+HoldsAfter form readings k most n old new (OtherDescription number description format) =
+    AreWritten form readings k old new n
 
 -- after this error, of a sample whose bytes were read, a sink holds what it held; where it refused itself, also a front
 -- of these bytes, which are the sample in its form
@@ -161,42 +171,36 @@ HoldsStored form sample old new (WrongFormat id format) = Appends old new []
 HoldsStored form sample old new (NoSuchSample id number count) = Appends old new []
 HoldsStored form sample old new (OtherDescription number description format) = Appends old new []
 
--- after this error a sink holds what it held, unless it refused itself
-abbrev pub IsKept : Option (List ℕ) → Option (List ℕ) → ExtractError → Type 0
-IsKept old new (Write number e) = ⊤
-IsKept old new OutOfMemory = Appends old new []
-IsKept old new (Sample number place e) = Appends old new []
-IsKept old new (Read number e) = Appends old new []
-IsKept old new (Track e) = Appends old new []
-IsKept old new (WrongFormat id format) = Appends old new []
-IsKept old new (NoSuchSample id number count) = Appends old new []
-IsKept old new (OtherDescription number description format) = Appends old new []
-
 -- For this error are samples refused that go from a number on, `most` at most: of one of them, before which all are
 -- written, and the sink holds just those.
-abbrev pub RefusesOneFrom : SampleForm → (ℕ → Answer) → (ℕ → Option ℕ) → ℕ → ℕ → Bool
+abbrev pub RefusesOneFrom : SampleForm → (ℕ → Reading) → (ℕ → Option ℕ) → ℕ → ℕ → Type 0
     → Option (List ℕ) → Option (List ℕ) → ExtractError → Type 0
-RefusesOneFrom form samples offsets from most can_refuse old new e =
+RefusesOneFrom form readings offsets from most may_refuse old new e =
     (n : ℕ) × (n < most)
-    × (RefusesNumber form (samples (from + n)) (offsets (from + n)) (from + n) can_refuse e)
-    × (HoldsAfter form samples from most n old new e)
+    × (RefusesNumber form (readings (from + n)) (offsets (from + n)) (from + n) may_refuse e)
+    × (HoldsAfter form readings from most n old new e)
 
 -- whether number k is that of one of so many samples; where there are none, they would begin with number 1
 abbrev pub has_number : ℕ → ℕ → Bool
 has_number count k = nat_le 1 k && (nat_le k count || (count == 0 && k == 1))
 
 module _ {S : Type 0} where
+  -- What may be read at number k of the track with this id, in a file of so many bytes: where these are known, just the
+  -- sample that they hold there.
+  abbrev pub IsReadIn : Option (List ℕ) → ℕ → HashMap ℕ Mp4Track S → ℕ → ℕ → Reading
+  IsReadIn known len tracks id k answer =
+      (IsOfPlace (placed_in len tracks id k) answer) × (IfSome known (λ source. sample_in source tracks id k ≡ answer))
+
   -- this is the form of the samples of the track with this id in a format
   abbrev pub IsFormIn : HashMap ℕ Mp4Track S → ℕ → SampleFormat → SampleForm → Type 0
   IsFormIn tracks id format form =
       (t : Mp4Track) × (at_id tracks id ≡ Some t) × (IsFormOf t.trak format form)
 
   -- n samples of the track with this id were written in a format, from number k on
-  abbrev pub AreExtracted : SampleFormat → List ℕ → HashMap ℕ Mp4Track S → ℕ → ℕ
+  abbrev pub AreExtracted : SampleFormat → (ℕ → Reading) → HashMap ℕ Mp4Track S → ℕ → ℕ
       → Option (List ℕ) → Option (List ℕ) → ℕ → Type 0
-  AreExtracted format source tracks id k old new n =
-      (form : SampleForm) × (IsFormIn tracks id format form)
-      × (AreWritten form (sample_in source tracks id) k old new n)
+  AreExtracted format readings tracks id k old new n =
+      (form : SampleForm) × (IsFormIn tracks id format form) × (AreWritten form readings k old new n)
 
   -- for this error is the track with this id refused: there is none, or it has no form in the format
   abbrev pub RefusesTrackIn : HashMap ℕ Mp4Track S → ℕ → SampleFormat → ExtractError → Type 0
@@ -258,20 +262,12 @@ module _ {S : Type 0} where
   BeginsWithOne format tracks mvex id from =
       (IsTrackWritten format tracks id mvex) × (BeginsAt tracks id from true)
 
-  -- whatever the source holds, an error is that of the track, or of its samples from a number on, and nothing is
-  -- written; or it is one of a sample
-  abbrev pub IsOfExtraction : SampleFormat → HashMap ℕ Mp4Track S → Option MvexBox → ℕ → ℕ → ℕ
-      → Option (List ℕ) → Option (List ℕ) → ExtractError → Type 0
-  IsOfExtraction format tracks mvex id from most old new e =
-      ((RefusesAsked format tracks mvex id from e) × (Appends old new []))
-      ⊎ ((BeginsWithOne format tracks mvex id from) × (IsOfOneFrom from most e))
-
   -- For this error is the track refused, or its samples from a number on, and nothing is written; or one of its samples
   -- is, the first that is, `most` being asked for, and those before it are written.
-  abbrev pub RefusesExtraction : SampleFormat → List ℕ → HashMap ℕ Mp4Track S → Option MvexBox → ℕ → ℕ → ℕ → Bool
-      → Option (List ℕ) → Option (List ℕ) → ExtractError → Type 0
-  RefusesExtraction format source tracks mvex id from most can_refuse old new e =
+  abbrev pub RefusesExtraction : SampleFormat → (ℕ → Reading) → HashMap ℕ Mp4Track S → Option MvexBox → ℕ → ℕ → ℕ
+      → Type 0 → Option (List ℕ) → Option (List ℕ) → ExtractError → Type 0
+  RefusesExtraction format readings tracks mvex id from most may_refuse old new e =
       ((RefusesAsked format tracks mvex id from e) × (Appends old new []))
       ⊎ ((BeginsWithOne format tracks mvex id from)
       × (form : SampleForm) × (IsFormIn tracks id format form)
-      × (RefusesOneFrom form (sample_in source tracks id) (offset_in tracks id) from most can_refuse old new e))
+      × (RefusesOneFrom form readings (offset_in tracks id) from most may_refuse old new e))

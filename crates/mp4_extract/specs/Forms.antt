@@ -1,5 +1,6 @@
 -- What becomes of the samples of a track in a format.
-use Rattle.std.specs.Prelude.{◌==◌, if◌then◌else◌, ◌≡◌, ◌+◌, ◌≤◌, ℕ, List, length, Option, Some, None, Result, Ok, Err}
+use Rattle.std.specs.Prelude.{◌==◌, if◌then◌else◌, ◌≡◌, ◌+◌, ◌≤◌, ◌<◌, ℕ, List, length}
+use Rattle.std.specs.Prelude.{Option, Some, None, Result, Ok, Err}
 use Rattle.mp4_codec.specs.declared.error.Error.{Error}
 use Rattle.mp4_codec.specs.Cause.{Cause, cause_of, seen}
 use Rattle.mp4_entry.specs.declared.avc1.Avc1Box.{Avc1Box}
@@ -91,8 +92,16 @@ RefusesSample AsStored sample e = ⊥
 RefusesSample (StreamForm stream) sample e = RefusesStream (length_size stream) sample e
 RefusesSample (FrameForm config) sample e = frame_of config sample ≡ Err (cause_of e)
 
--- memory is wanted for a sample in a form: it isn't as it is stored, and a byte of it is written before it is refused
-abbrev pub NeedsRoom : SampleForm → List ℕ → Type 0
-NeedsRoom AsStored sample = ⊥
-NeedsRoom (StreamForm stream) sample = HasUnit (length_size stream) sample
-NeedsRoom (FrameForm config) sample = 7 + length sample ≤ 8191
+-- memory is wanted for a sample in a form, where a buffer has room for so many bytes: it isn't as it is stored, a byte
+-- of it is written before it is refused, and the room isn't enough
+abbrev pub NeedsRoom : SampleForm → ℕ → List ℕ → Type 0
+NeedsRoom AsStored room sample = ⊥
+NeedsRoom (StreamForm stream) room sample = HasUnit (length_size stream) sample
+NeedsRoom (FrameForm config) room sample = (7 + length sample ≤ 8191) × (room < 7 + length sample)
+
+-- memory is wanted for a sample in a form that is put into a buffer which has room for so many bytes: also where it is
+-- as it is stored
+abbrev pub WantsBuffer : SampleForm → ℕ → List ℕ → Type 0
+WantsBuffer AsStored room sample = room < length sample
+WantsBuffer (StreamForm stream) room sample = NeedsRoom (StreamForm stream) room sample
+WantsBuffer (FrameForm config) room sample = NeedsRoom (FrameForm config) room sample

@@ -1,6 +1,6 @@
 -- The subtitles of a track of text.
 use Rattle.std.specs.Prelude.{◌≡◌, ◌⊎◌, ℕ, zero, suc, ◌+◌, ◌-◌, ◌<◌, ◌^◌, min, ◌==◌, ◌&&◌, ◌||◌, not, nat_lt}
-use Rattle.std.specs.Prelude.{Bool, IsTrue, if◌then◌else◌, string_bytes, length, List, [], ◌∷◌, ◌++◌}
+use Rattle.std.specs.Prelude.{Bool, if◌then◌else◌, string_bytes, length, List, [], ◌∷◌, ◌++◌}
 use Rattle.std.specs.Prelude.{Option, Some, None, Result, Ok, Err, is_none}
 use Rattle.std.specs.HashMap.{HashMap}
 use Rattle.mp4_codec.specs.Cause.{Cause, cause_of, box_in_stbl_not_found, invalid_data, ◌>>=◌}
@@ -10,7 +10,7 @@ use Rattle.mp4_boxes.specs.declared.moov.MoovBox.{MoovBox}
 use Rattle.mp4_lookup.specs.declared.track.Mp4Track.{Mp4Track}
 use Rattle.mp4_samples.specs.Samples.{TimedSample}
 use Rattle.mp4_samples.specs.Tables.{tables_of}
-use Rattle.mp4_media.specs.Reading.{IsSample, needed_track, sample_count_in, sample_in}
+use Rattle.mp4_media.specs.Reading.{needed_track, sample_count_in}
 use Rattle.mp4_extract.specs.declared.edits.SubtitleTimes.{SubtitleTimes}
 use Rattle.mp4_extract.specs.declared.edits.TextShift.{TextShift}
 use Rattle.mp4_extract.specs.declared.error.ExtractError.{ExtractError}
@@ -20,7 +20,7 @@ use Rattle.mp4_extract.specs.declared.text_track.Subtitle.{Subtitle}
 use Rattle.mp4_extract.specs.declared.text_track.SubtitleReader.{SubtitleReader}
 use Rattle.mp4_extract.specs.Edits.{edit_list_of, shift_of}
 use Rattle.mp4_extract.specs.Errors.{of_track}
-use Rattle.mp4_extract.specs.Extracting.{Answer, IsOfNumber, offset_in}
+use Rattle.mp4_extract.specs.Extracting.{IsThere, Reading, offset_in}
 use Rattle.mp4_extract.specs.Texts.{HasNoText, IsTextOf, WantsText, milliseconds_of}
 
 -- a sample that begins so many ticks before what is shown of its track is shown in part
@@ -42,11 +42,11 @@ pub record IsSubtitleOf (shift : TextShift) (timescale number : ℕ) (s : TimedS
       ≡ (not (length (string_bytes t.text) == 0) && has_time_left (shift.skipped - s.start_time) s.sample.duration)
   pub text_is : IsTextOf s.sample.bytes (string_bytes t.text)
 
--- the subtitle of what was looked up at this number, if there is a sample
-abbrev pub IsSubtitleAt : TextShift → ℕ → ℕ → Answer → Option Subtitle → Type 0
-IsSubtitleAt shift timescale number answer None = answer ≡ Ok None
-IsSubtitleAt shift timescale number answer (Some t) =
-    (s : TimedSample) × (answer ≡ Ok (Some s)) × (IsSubtitleOf shift timescale number s t)
+-- the subtitle of what was read at this number, if there is a sample
+abbrev pub IsSubtitleAt : TextShift → ℕ → ℕ → Reading → Option Subtitle → Type 0
+IsSubtitleAt shift timescale number reading None = reading (Ok None)
+IsSubtitleAt shift timescale number reading (Some t) =
+    (s : TimedSample) × (reading (Ok (Some s))) × (IsSubtitleOf shift timescale number s t)
 
 -- when the text of a sample begins, before it is moved by the shift's delay, and how long it is shown
 abbrev pub text_times : TextShift → ℕ → TimedSample → Result (ℕ × ℕ) Cause
@@ -67,20 +67,27 @@ abbrev pub WantsSubtitle : TextShift → ℕ → TimedSample → Type 0
 WantsSubtitle shift timescale s =
     (times : ℕ × ℕ) × (text_times shift timescale s ≡ Ok times) × (WantsText s.sample.bytes)
 
--- For this error has the sample with number k, which lies at this place where that is known, no subtitle. Memory is
--- wanted only where there is a sample.
-abbrev pub RefusesSubtitle : TextShift → ℕ → ℕ → Answer → Option ℕ → Bool → ExtractError → Type 0
-RefusesSubtitle shift timescale k answer offset can_refuse OutOfMemory = IsSample answer
-RefusesSubtitle shift timescale k answer offset can_refuse (Sample number place e) =
+-- memory is wanted for a subtitle: a buffer has no room for so many bytes as its sample has, or its text wants it
+abbrev pub WantsTextRoom : TextShift → ℕ → ℕ → Reading → Type 0
+WantsTextRoom shift timescale room reading =
+    (s : TimedSample) × (reading (Ok (Some s)))
+    × ((room < length s.sample.bytes) ⊎ (WantsSubtitle shift timescale s))
+
+-- For this error has the sample with number k, which lies at this place where that is known, no subtitle. Only where
+-- there is a sample does the source refuse it, and is memory wanted.
+abbrev pub RefusesSubtitle : TextShift → ℕ → ℕ → Reading → Option ℕ → Type 0 → ExtractError → Type 0
+RefusesSubtitle shift timescale k reading offset may_refuse OutOfMemory = IsThere reading
+RefusesSubtitle shift timescale k reading offset may_refuse (Sample number place e) =
     (number ≡ k) × (place ≡ offset)
-    × ((answer ≡ Err (cause_of e))
-    ⊎ ((s : TimedSample) × (answer ≡ Ok (Some s)) × (RefusesTimed shift timescale s e)))
-RefusesSubtitle shift timescale k answer offset can_refuse (Read number e) = (number ≡ k) × (IsTrue can_refuse)
-RefusesSubtitle shift timescale k answer offset can_refuse (Write number e) = ⊥
-RefusesSubtitle shift timescale k answer offset can_refuse (Track e) = ⊥
-RefusesSubtitle shift timescale k answer offset can_refuse (WrongFormat id format) = ⊥
-RefusesSubtitle shift timescale k answer offset can_refuse (NoSuchSample id number count) = ⊥
-RefusesSubtitle shift timescale k answer offset can_refuse (OtherDescription number description format) = ⊥
+    × ((reading (Err (cause_of e)))
+    ⊎ ((s : TimedSample) × (reading (Ok (Some s))) × (RefusesTimed shift timescale s e)))
+RefusesSubtitle shift timescale k reading offset may_refuse (Read number e) =
+    (number ≡ k) × (IsThere reading) × may_refuse
+RefusesSubtitle shift timescale k reading offset may_refuse (Write number e) = ⊥
+RefusesSubtitle shift timescale k reading offset may_refuse (Track e) = ⊥
+RefusesSubtitle shift timescale k reading offset may_refuse (WrongFormat id format) = ⊥
+RefusesSubtitle shift timescale k reading offset may_refuse (NoSuchSample id number count) = ⊥
+RefusesSubtitle shift timescale k reading offset may_refuse (OtherDescription number description format) = ⊥
 
 -- subtitles, and one more where that is shown
 abbrev pub and_shown : List Subtitle → Subtitle → List Subtitle
@@ -97,18 +104,17 @@ abbrev pub reading_of : SubtitleReader → TextReading
 reading_of r = record { timescale = r.timescale; shift = r.shift; count = r.count }
 
 -- these are the subtitles that are shown of the first n samples, in their order
-abbrev pub AreSubtitles : TextReading → (ℕ → Answer) → ℕ → List Subtitle → Type 0
-AreSubtitles reading samples zero list = list ≡ []
-AreSubtitles reading samples (suc n) list =
-    (before : List Subtitle) × (last : Subtitle) × (AreSubtitles reading samples n before)
-    × (IsSubtitleAt reading.shift reading.timescale (n + 1) (samples (n + 1)) (Some last))
+abbrev pub AreSubtitles : TextReading → (ℕ → Reading) → ℕ → List Subtitle → Type 0
+AreSubtitles text readings zero list = list ≡ []
+AreSubtitles text readings (suc n) list =
+    (before : List Subtitle) × (last : Subtitle) × (AreSubtitles text readings n before)
+    × (IsSubtitleAt text.shift text.timescale (n + 1) (readings (n + 1)) (Some last))
     × (list ≡ and_shown before last)
 
 -- these are the subtitles that are shown of all samples
-abbrev pub AreAllSubtitles : TextReading → (ℕ → Answer) → List Subtitle → Type 0
-AreAllSubtitles reading samples list =
-    (n : ℕ) × (AreSubtitles reading samples n list)
-    × ((n ≡ reading.count) ⊎ (samples (n + 1) ≡ Ok None))
+abbrev pub AreAllSubtitles : TextReading → (ℕ → Reading) → List Subtitle → Type 0
+AreAllSubtitles text readings list =
+    (n : ℕ) × (AreSubtitles text readings n list) × ((n ≡ text.count) ⊎ (readings (n + 1) (Ok None)))
 
 -- for this error are the texts of a track not read, where they would be read so
 abbrev pub RefusesReading : Result TextReading Cause → ExtractError → Type 0
@@ -144,26 +150,18 @@ module _ {S : Type 0} where
     Ok (record { timescale = timescale; shift = shift; count = count })
 
   -- these are the subtitles that are shown of the track with this id
-  abbrev pub AreSubtitlesOf : SubtitleTimes → List ℕ → HashMap ℕ Mp4Track S → ℕ → MoovBox → List Subtitle → Type 0
-  AreSubtitlesOf times source tracks id moov list =
-      (reading : TextReading) × (text_reading times tracks id moov ≡ Ok reading)
-      × (AreAllSubtitles reading (sample_in source tracks id) list)
-
-  -- whatever the source holds, an error is that of the track, or one of a sample
-  abbrev pub IsOfSubtitles : SubtitleTimes → HashMap ℕ Mp4Track S → ℕ → MoovBox → ExtractError → Type 0
-  IsOfSubtitles times tracks id moov e =
-      (RefusesReading (text_reading times tracks id moov) e)
-      ⊎ ((reading : TextReading) × (text_reading times tracks id moov ≡ Ok reading)
-      × (n : ℕ) × (n < reading.count) × (IsOfNumber (n + 1) e))
+  abbrev pub AreSubtitlesOf : SubtitleTimes → (ℕ → Reading) → HashMap ℕ Mp4Track S → ℕ → MoovBox → List Subtitle
+      → Type 0
+  AreSubtitlesOf times readings tracks id moov list =
+      (text : TextReading) × (text_reading times tracks id moov ≡ Ok text) × (AreAllSubtitles text readings list)
 
   -- For this error are the subtitles of the track with this id refused: the track is; or one of its samples is, the
   -- first that is.
-  abbrev pub RefusesSubtitles : SubtitleTimes → List ℕ → HashMap ℕ Mp4Track S → ℕ → MoovBox → Bool → ExtractError
-      → Type 0
-  RefusesSubtitles times source tracks id moov can_refuse e =
+  abbrev pub RefusesSubtitles : SubtitleTimes → (ℕ → Reading) → HashMap ℕ Mp4Track S → ℕ → MoovBox → Type 0
+      → ExtractError → Type 0
+  RefusesSubtitles times readings tracks id moov may_refuse e =
       (RefusesReading (text_reading times tracks id moov) e)
-      ⊎ ((reading : TextReading) × (text_reading times tracks id moov ≡ Ok reading)
-      × (n : ℕ) × (n < reading.count) × (before : List Subtitle)
-      × (AreSubtitles reading (sample_in source tracks id) n before)
-      × (RefusesSubtitle reading.shift reading.timescale (n + 1) (sample_in source tracks id (n + 1))
-      (offset_in tracks id (n + 1)) can_refuse e))
+      ⊎ ((text : TextReading) × (text_reading times tracks id moov ≡ Ok text)
+      × (n : ℕ) × (n < text.count) × (before : List Subtitle) × (AreSubtitles text readings n before)
+      × (RefusesSubtitle text.shift text.timescale (n + 1) (readings (n + 1)) (offset_in tracks id (n + 1))
+      may_refuse e))

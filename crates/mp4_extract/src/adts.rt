@@ -4,7 +4,7 @@ ghost use Rattle.std.specs.Prelude.{◌≡◌, ◌≤◌};
 ghost use Rattle.std.proofs.Props.{props};
 
 use byteorder::{BigEndian, ByteOrder};
-use mp4_codec::{Error, Limit, Result, put_bytes};
+use mp4_codec::{Error, Limit, Result};
 use mp4_entry::DecoderSpecificDescriptor;
 
 /// The bytes of a header.
@@ -29,7 +29,7 @@ pub struct AdtsConfig {
 }
 
 impl AdtsConfig {
-    ghost use Rattle.std.specs.Prelude.{option_map, ◌+◌, length, IfErr};
+    ghost use Rattle.std.specs.Prelude.{option_map, ◌+◌, ◌<◌, length, IfErr, vec_capacity, vec_len};
     ghost use Rattle.mp4_codec.specs.Cause.{Answers};
     ghost use Rattle.mp4_codec.specs.declared.error.Error.TheVariants.{OutOfMemory};
     ghost use Rattle.mp4_extract.specs.Adts.{adts_of, frame_of, header, numbers_of, with_front};
@@ -77,13 +77,14 @@ impl AdtsConfig {
     pub(crate) fn put_sample(&self, sample: &[u8], out: &mut Vec<u8>) -> Result<()>
         ensures frame { Answers (λ _. out.new.items) result
             (with_front out.old.items (frame_of self.now sample.now)) }
-        ensures memory { IfErr result (λ e. e ≡ OutOfMemory → 7 + length sample.now ≤ 8191) }
+        ensures memory { IfErr result (λ e. e ≡ OutOfMemory → (7 + length sample.now ≤ 8191)
+            × (vec_capacity out.old < vec_len out.old + (7 + length sample.now))) }
     {
         if sample.len() > MAX_FRAME_LENGTH - HEADER_LENGTH {
             return Err(Error::TooLarge(Limit::SampleBytes));
         }
-        put_bytes(out, &self.header(HEADER_LENGTH + sample.len()))?;
-        put_bytes(out, sample)?;
+        out.extend_from_slice(&self.header(HEADER_LENGTH + sample.len()))?;
+        out.extend_from_slice(sample)?;
         Ok(())
     }
 }

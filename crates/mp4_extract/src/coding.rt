@@ -1,8 +1,12 @@
 //! Kinds of coded video, and what a unit of them is.
 
+ghost use denote.Enum.Bare.{same_true};
 ghost use Rattle.std.specs.Prelude.{◌≡◌, ◌≤◌};
+ghost use Rattle.mp4_extract.specs.contracts.coding.VideoCoding.{the_type as video_codings};
 ghost use Rattle.mp4_extract.specs.NalUnits.{is_parameter_set, is_random_access, kinds_before, kinds_below};
 ghost use Rattle.mp4_extract.specs.NalUnits.{kinds_with, needs_zero_byte, unit_type};
+
+use mp4_codec::ExactEq;
 
 /// How video is coded.
 #[derive(Clone, Copy, Debug, PartialEq, Eq)]
@@ -11,6 +15,10 @@ pub enum VideoCoding {
     H264,
     /// HEVC (ISO/IEC 23008-2).
     H265,
+}
+
+impl ExactEq for VideoCoding {
+    ghost exact = { same_true video_codings tt };
 }
 
 impl VideoCoding {

@@ -1,6 +1,7 @@
 //! The sample description of each sample (ISO/IEC 14496-12, 8.5.2).
 
 ghost use Rattle.std.specs.Prelude.{◌≡◌, Some, None, IfErr, OnOk};
+ghost use Rattle.mp4_codec.specs.ExactTest.{by_test, field_tests};
 ghost use Rattle.mp4_extract.specs.declared.descriptions.OtherSample.{OtherSample};
 ghost use Rattle.mp4_extract.specs.declared.error.ExtractError.TheVariants.{OtherDescription};
 ghost use Rattle.mp4_extract.specs.Descriptions.{description_of, description_with, default_description};
@@ -10,6 +11,7 @@ ghost use Rattle.mp4_extract.specs.Descriptions.{other_for, other_traf, samples_
 use crate::error::ExtractError;
 use crate::format::SampleFormat;
 use mp4_boxes::TrakBox;
+use mp4_codec::ExactEq;
 use mp4_frag::{TrexBox, TrunBox};
 use mp4_moof::{MvexBox, TrafBox};
 use mp4_table::StscEntry;
@@ -21,6 +23,10 @@ pub struct OtherSample {
     pub number: u32,
     /// The number of its description, from 1.
     pub description: u32,
+}
+
+impl ExactEq for OtherSample {
+    ghost exact = { by_test (Prim.hlevel field_tests) };
 }
 
 /// Whether a run of chunks has another description than the first, and begins with one of so many samples.

@@ -1,13 +1,16 @@
 //! How the edits of a track move the times of its texts (ISO/IEC 14496-12, 8.6.6).
 
+ghost use denote.Enum.Bare.{same_true};
 ghost use Rattle.std.specs.Prelude.{◌≡◌, option_copied};
+ghost use Rattle.mp4_codec.specs.ExactTest.{by_test, field_tests};
+ghost use Rattle.mp4_extract.specs.contracts.edits.SubtitleTimes.{the_type as subtitle_times};
 ghost use Rattle.mp4_codec.specs.Cause.{Gives};
 ghost use Rattle.mp4_extract.specs.Edits.{edit_list_of, is_empty_edit, shift_by, shift_by_two, shift_of, skipped_by};
 ghost use Rattle.mp4_extract.specs.Edits.{skipped_by_next};
 
 use crate::times::milliseconds;
 use mp4_boxes::TrakBox;
-use mp4_codec::Result;
+use mp4_codec::{ExactEq, Result};
 use mp4_leaf::{ElstBox, ElstEntry};
 
 /// Which times subtitles have.
@@ -19,6 +22,10 @@ pub enum SubtitleTimes {
     Decoded,
 }
 
+impl ExactEq for SubtitleTimes {
+    ghost exact = { same_true subtitle_times tt };
+}
+
 /// How the times of a track's media become those of the movie.
 #[derive(Clone, Copy, Debug, PartialEq, Eq)]
 pub struct TextShift {
@@ -26,6 +33,10 @@ pub struct TextShift {
     pub(crate) delay: u64,
     /// How many ticks of the media are left out at its start.
     pub(crate) skipped: u64,
+}
+
+impl ExactEq for TextShift {
+    ghost exact = { by_test (Prim.hlevel field_tests) };
 }
 
 /// Whether an edit of a list of this version is empty: its media time is -1, of 32 bits in version 0 and of 64 in

@@ -1,12 +1,13 @@
 //! What becomes of the samples of a track.
 
-ghost use Rattle.std.specs.Prelude.{◌≡◌, ◌⊎◌, option_map, IfErr, IfOk, IsTrue};
+ghost use Rattle.std.specs.Prelude.{◌≡◌, ◌⊎◌, ◌++◌, ◌-◌, ℕ, List, [], option_map, IfErr, IfOk, IsTrue, OnErr, OnOk};
+ghost use Rattle.std.specs.Prelude.{vec_capacity, vec_len};
 ghost use Rattle.mp4_codec.specs.Cause.{Answers};
 ghost use Rattle.mp4_codec.specs.declared.error.Error.TheVariants.{OutOfMemory};
 ghost use Rattle.mp4_extract.specs.Adts.{numbers_of};
 ghost use Rattle.mp4_extract.specs.declared.form.SampleForm.TheVariants.{AsStored};
 ghost use Rattle.mp4_extract.specs.Forms.{IsFormOf, IsInForm, NeedsRoom, RefusesSample, RefusesTrack};
-ghost use Rattle.mp4_extract.specs.Forms.{WantsSets, track_adts, track_stream};
+ghost use Rattle.mp4_extract.specs.Forms.{WantsBuffer, WantsSets, track_adts, track_stream};
 
 use crate::adts::AdtsConfig;
 use crate::annex_b::AnnexB;
@@ -101,14 +102,16 @@ impl SampleForm {
         matches!(self, SampleForm::AsStored)
     }
 
-    /// A sample in this form: the sample itself, or what the room then holds.
+    /// A sample in this form: the sample itself, or what the room then holds, over what it held. Where that is wanted
+    /// afterwards, [`SampleForm::apply_into`] says what a buffer holds.
     ///
     /// `InvalidData` where the length of a unit passes the sample's end, `TooLarge(SampleBytes)` where a header can't
     /// say how long the sample is.
     pub fn apply<'a>(&self, sample: &'a [u8], room: &'a mut Vec<u8>) -> Result<&'a [u8]>
         ensures ok { IfOk result (λ bytes. IsInForm self.now sample.now bytes.now) }
         ensures refused { IfErr result (λ e. (e ≡ OutOfMemory) ⊎ (RefusesSample self.now sample.now e)) }
-        ensures memory { IfErr result (λ e. e ≡ OutOfMemory → NeedsRoom self.now sample.now) }
+        ensures memory { IfErr result (λ e. e ≡ OutOfMemory
+            → NeedsRoom self.now (vec_capacity room.old) sample.now) }
     {
         room.clear();
         match self {
@@ -120,6 +123,44 @@ impl SampleForm {
             SampleForm::Adts(config) => {
                 config.put_sample(sample, room)?;
                 Ok(room.as_slice())
+            }
+        }
+    }
+
+    /// Adds a sample in this form to a buffer, which holds any bytes after those that it held where it is refused.
+    fn put_sample(&self, sample: &[u8], out: &mut Vec<u8>) -> Result<()>
+        ensures added { OnOk result ((bytes : List ℕ) × (IsInForm self.now sample.now bytes)
+            × (out.new.items ≡ out.old.items ++ bytes)) }
+        ensures refused { IfErr result (λ e. (e ≡ OutOfMemory) ⊎ (RefusesSample self.now sample.now e)) }
+        ensures memory { IfErr result (λ e. e ≡ OutOfMemory → WantsBuffer self.now
+            (vec_capacity out.old - vec_len out.old) sample.now) }
+    {
+        match self {
+            SampleForm::AsStored => {
+                out.extend_from_slice(sample)?;
+                Ok(())
+            }
+            SampleForm::AnnexB(stream) => stream.put_sample(sample, out),
+            SampleForm::Adts(config) => config.put_sample(sample, out),
+        }
+    }
+
+    /// A sample in this form, put into a buffer over what it held. After an error the buffer is empty.
+    ///
+    /// The errors are those of [`SampleForm::apply`].
+    pub fn apply_into(&self, sample: &[u8], buffer: &mut Vec<u8>) -> Result<()>
+        ensures ok { OnOk result (IsInForm self.now sample.now buffer.new.items) }
+        ensures empty { OnErr result (buffer.new.items ≡ []) }
+        ensures refused { IfErr result (λ e. (e ≡ OutOfMemory) ⊎ (RefusesSample self.now sample.now e)) }
+        ensures memory { IfErr result (λ e. e ≡ OutOfMemory
+            → WantsBuffer self.now (vec_capacity buffer.old) sample.now) }
+    {
+        buffer.clear();
+        match self.put_sample(sample, buffer) {
+            Ok(()) => Ok(()),
+            Err(error) => {
+                buffer.clear();
+                Err(error)
             }
         }
     }

@@ -1,5 +1,9 @@
 //! How samples are written.
 
+ghost use denote.Enum.Bare.{same_true};
+ghost use Rattle.mp4_extract.specs.contracts.format.SampleFormat.{the_type as sample_formats};
+
+use mp4_codec::ExactEq;
 use thiserror::Error as ThisError;
 
 /// How the samples of a track are written.
@@ -15,4 +19,8 @@ pub enum SampleFormat {
     /// Sound of `mp4a` with a header before each sample (ISO/IEC 14496-3, 1.A.2.2.1).
     #[error("ADTS")]
     Adts,
+}
+
+impl ExactEq for SampleFormat {
+    ghost exact = { same_true sample_formats tt };
 }

@@ -1,13 +1,14 @@
 //! Samples of a track, written one after the other.
 
-ghost use Rattle.std.specs.Prelude.{◌≡◌, ◌⊎◌, ◌<◌, ◌+◌, ◌≤◌, ℕ, Bool, List, Ok, None, IfErr, IfOk, IfSome, OnErr, OnOk};
+ghost use Rattle.std.specs.Prelude.{◌≡◌, ◌⊎◌, ◌<◌, ◌+◌, ◌≤◌, ℕ, Bool, List, Ok, None, IfErr, IfOk, OnErr, OnOk};
+ghost use Rattle.std.specs.Prelude.{vec_capacity};
 ghost use Rattle.std.specs.Io.KnownBytes.{Appends};
-ghost use Rattle.mp4_media.specs.Reading.{IsSample, sample_in};
+ghost use Rattle.mp4_extract.specs.declared.error.ExtractError.TheVariants.{OutOfMemory};
 ghost use Rattle.mp4_extract.specs.Extracting.{AreExtracted, AreWritten, IsFormIn, IsPastEnd, IsWriteOf, IsWritten};
-ghost use Rattle.mp4_extract.specs.Extracting.{RefusesExtraction, RefusesNumber, RefusesOneFrom, RefusesStored};
+ghost use Rattle.mp4_extract.specs.Extracting.{IsReadIn, IsThere, MayRefuse, RefusesExtraction, RefusesNumber};
 ghost use Rattle.mp4_extract.specs.Extracting.{AreDescribed, BeginsAt, HasNone, RefusesDescription, RefusesFirst};
-ghost use Rattle.mp4_extract.specs.Extracting.{HasFront, HoldsAfter, HoldsStored, IsKept, RefusesTrackIn, has_number};
-ghost use Rattle.mp4_extract.specs.Extracting.{IsOfExtraction, IsOfNumber, IsOfOneFrom, offset_in};
+ghost use Rattle.mp4_extract.specs.Extracting.{HasFront, HoldsAfter, HoldsStored, RefusesTrackIn, has_number};
+ghost use Rattle.mp4_extract.specs.Extracting.{RefusesOneFrom, RefusesStored, WantsRoom, offset_in};
 ghost use Rattle.mp4_extract.specs.Forms.{IsInForm};
 
 use crate::descriptions::check_descriptions;
@@ -157,27 +158,31 @@ impl SampleWriter {
     ///
     /// `Sample` where the file's tables refuse the sample, as they do number 0 and each number of a track without
     /// samples (`InvalidData`), where it doesn't lie whole in the file, and where it has no such form; `Read` where
-    /// the source refuses; then nothing is written. `Write` where the sink refuses, which then holds a front of the
-    /// sample. `OutOfMemory` only where there is such a sample, and then too nothing is written.
+    /// the source refuses a sample that lies in the file; then nothing is written. `Write` where the sink refuses,
+    /// which then holds a front of the sample. `OutOfMemory` only where there is such a sample, and one of the
+    /// writer's buffers has no room for it; then too nothing is written.
     pub fn write_sample<S: ByteSource + Drop, W: Write>(
         &mut self,
         file: &mut Mp4File<S>,
         k: u32,
         out: &mut W,
     ) -> Result<bool, ExtractError>
-        ensures written { IfOk result (λ found. IfSome (S.contents file.old.source) (λ source.
-            IsWritten self.old.form (sample_in source file.old.movie.tracks self.old.track_id k)
-            (W.contents out.old) (W.contents out.new) found)) }
-        ensures refused { IfErr result (λ e. IfSome (S.contents file.old.source) (λ source.
-            RefusesNumber self.old.form (sample_in source file.old.movie.tracks self.old.track_id k)
-            (offset_in file.old.movie.tracks self.old.track_id k) k (S.can_refuse file.old.source) e)) }
-        ensures holds { IfErr result (λ e. IfSome (S.contents file.old.source) (λ source.
-            HoldsAfter self.old.form (sample_in source file.old.movie.tracks self.old.track_id) k 1 0
-            (W.contents out.old) (W.contents out.new) e)) }
-        ensures number { IfErr result (IsOfNumber k) }
-        ensures kept { IfErr result (IsKept (W.contents out.old) (W.contents out.new)) }
+        ensures written { IfOk result (IsWritten self.old.form
+            (IsReadIn (S.contents file.old.source) file.old.len file.old.movie.tracks self.old.track_id k)
+            (W.contents out.old) (W.contents out.new)) }
+        ensures refused { IfErr result (RefusesNumber self.old.form
+            (IsReadIn (S.contents file.old.source) file.old.len file.old.movie.tracks self.old.track_id k)
+            (offset_in file.old.movie.tracks self.old.track_id k) k
+            (MayRefuse (S.contents file.old.source) (S.can_refuse file.old.source))) }
+        ensures memory { IfErr result (λ e. e ≡ OutOfMemory → WantsRoom self.old.form
+            (vec_capacity self.old.stored) (vec_capacity self.old.turned)
+            (IsReadIn (S.contents file.old.source) file.old.len file.old.movie.tracks self.old.track_id k)) }
+        ensures holds { IfErr result (HoldsAfter self.old.form
+            (IsReadIn (S.contents file.old.source) file.old.len file.old.movie.tracks self.old.track_id) k 1 0
+            (W.contents out.old) (W.contents out.new)) }
         ensures track_id { self.new.track_id ≡ self.old.track_id }
         ensures form { self.new.form ≡ self.old.form }
+        ensures len { file.new.len ≡ file.old.len }
         ensures movie { file.new.movie ≡ file.old.movie }
         ensures contents { S.contents file.new.source ≡ S.contents file.old.source }
         ensures can_refuse { S.can_refuse file.new.source ≡ S.can_refuse file.old.source }
@@ -199,7 +204,8 @@ impl SampleWriter {
     fn put_stored<W: Write>(&mut self, k: u32, place: u64, out: &mut W) -> Result<(), ExtractError>
         ensures written { OnOk result ((bytes : List ℕ) × (IsInForm self.old.form self.old.stored.items bytes)
             × (Appends (W.contents out.old) (W.contents out.new) bytes)) }
-        ensures refused { IfErr result (λ e. RefusesStored self.old.form self.old.stored.items k place e) }
+        ensures refused { IfErr result (RefusesStored self.old.form (vec_capacity self.old.turned)
+            self.old.stored.items k place) }
         ensures holds { IfErr result (HoldsStored self.old.form self.old.stored.items
             (W.contents out.old) (W.contents out.new)) }
         ensures track_id { self.new.track_id ≡ self.old.track_id }
@@ -229,17 +235,18 @@ impl SampleWriter {
     ) -> Result<u32, ExtractError>
         requires { 1 ≤ most }
         ensures count { IfOk result (λ n. n ≤ most) }
-        ensures written { IfOk result (λ n. IfSome (S.contents file.old.source) (λ source.
-            AreWritten self.old.form (sample_in source file.old.movie.tracks self.old.track_id) k
-            (W.contents out.old) (W.contents out.new) n)) }
+        ensures written { IfOk result (AreWritten self.old.form
+            (IsReadIn (S.contents file.old.source) file.old.len file.old.movie.tracks self.old.track_id) k
+            (W.contents out.old) (W.contents out.new)) }
         ensures refused { IfErr result (IsWriteOf k) }
-        ensures there { IfErr result (λ e. IfSome (S.contents file.old.source) (λ source.
-            IsSample (sample_in source file.old.movie.tracks self.old.track_id k))) }
-        ensures holds { IfErr result (λ e. IfSome (S.contents file.old.source) (λ source.
-            HoldsAfter self.old.form (sample_in source file.old.movie.tracks self.old.track_id) k most 0
-            (W.contents out.old) (W.contents out.new) e)) }
+        ensures there { OnErr result (IsThere
+            (IsReadIn (S.contents file.old.source) file.old.len file.old.movie.tracks self.old.track_id k)) }
+        ensures holds { IfErr result (HoldsAfter self.old.form
+            (IsReadIn (S.contents file.old.source) file.old.len file.old.movie.tracks self.old.track_id) k most 0
+            (W.contents out.old) (W.contents out.new)) }
         ensures track_id { self.new.track_id ≡ self.old.track_id }
         ensures form { self.new.form ≡ self.old.form }
+        ensures len { file.new.len ≡ file.old.len }
         ensures movie { file.new.movie ≡ file.old.movie }
         ensures contents { S.contents file.new.source ≡ S.contents file.old.source }
         ensures can_refuse { S.can_refuse file.new.source ≡ S.can_refuse file.old.source }
@@ -272,20 +279,21 @@ impl SampleWriter {
     ) -> Result<u32, ExtractError>
         requires { 1 ≤ most }
         ensures count { IfOk result (λ n. n ≤ most) }
-        ensures written { IfOk result (λ n. IfSome (S.contents file.old.source) (λ source.
-            AreWritten self.old.form (sample_in source file.old.movie.tracks self.old.track_id) k
-            (W.contents out.old) (W.contents out.new) n)) }
-        ensures number { IfErr result (IsOfNumber k) }
-        ensures end { IfOk result (λ n. n ≡ 0 → IfSome (S.contents file.old.source) (λ source.
-            sample_in source file.old.movie.tracks self.old.track_id k ≡ Ok None)) }
-        ensures refused { IfErr result (λ e. IfSome (S.contents file.old.source) (λ source.
-            RefusesNumber self.old.form (sample_in source file.old.movie.tracks self.old.track_id k)
-            (offset_in file.old.movie.tracks self.old.track_id k) k (S.can_refuse file.old.source) e)) }
-        ensures holds { IfErr result (λ e. IfSome (S.contents file.old.source) (λ source.
-            HoldsAfter self.old.form (sample_in source file.old.movie.tracks self.old.track_id) k most 0
-            (W.contents out.old) (W.contents out.new) e)) }
+        ensures written { IfOk result (AreWritten self.old.form
+            (IsReadIn (S.contents file.old.source) file.old.len file.old.movie.tracks self.old.track_id) k
+            (W.contents out.old) (W.contents out.new)) }
+        ensures end { IfOk result (λ n. n ≡ 0 →
+            IsReadIn (S.contents file.old.source) file.old.len file.old.movie.tracks self.old.track_id k (Ok None)) }
+        ensures refused { IfErr result (RefusesNumber self.old.form
+            (IsReadIn (S.contents file.old.source) file.old.len file.old.movie.tracks self.old.track_id k)
+            (offset_in file.old.movie.tracks self.old.track_id k) k
+            (MayRefuse (S.contents file.old.source) (S.can_refuse file.old.source))) }
+        ensures holds { IfErr result (HoldsAfter self.old.form
+            (IsReadIn (S.contents file.old.source) file.old.len file.old.movie.tracks self.old.track_id) k most 0
+            (W.contents out.old) (W.contents out.new)) }
         ensures track_id { self.new.track_id ≡ self.old.track_id }
         ensures form { self.new.form ≡ self.old.form }
+        ensures len { file.new.len ≡ file.old.len }
         ensures movie { file.new.movie ≡ file.old.movie }
         ensures contents { S.contents file.new.source ≡ S.contents file.old.source }
         ensures can_refuse { S.can_refuse file.new.source ≡ S.can_refuse file.old.source }
@@ -312,18 +320,19 @@ impl SampleWriter {
         out: &mut W,
     ) -> Result<u32, ExtractError>
         ensures count { IfOk result (λ n. n ≤ count) }
-        ensures written { IfOk result (λ n. IfSome (S.contents file.old.source) (λ source.
-            AreWritten self.old.form (sample_in source file.old.movie.tracks self.old.track_id) from
-            (W.contents out.old) (W.contents out.new) n)) }
-        ensures number { IfErr result (IsOfOneFrom from count) }
-        ensures end { IfOk result (λ n. n < count → IfSome (S.contents file.old.source) (λ source.
-            IsPastEnd (sample_in source file.old.movie.tracks self.old.track_id) (from + n))) }
-        ensures refused { IfErr result (λ e. IfSome (S.contents file.old.source) (λ source.
-            RefusesOneFrom self.old.form (sample_in source file.old.movie.tracks self.old.track_id)
-            (offset_in file.old.movie.tracks self.old.track_id) from count (S.can_refuse file.old.source)
-            (W.contents out.old) (W.contents out.new) e)) }
+        ensures written { IfOk result (AreWritten self.old.form
+            (IsReadIn (S.contents file.old.source) file.old.len file.old.movie.tracks self.old.track_id) from
+            (W.contents out.old) (W.contents out.new)) }
+        ensures end { IfOk result (λ n. n < count → IsPastEnd
+            (IsReadIn (S.contents file.old.source) file.old.len file.old.movie.tracks self.old.track_id) (from + n)) }
+        ensures refused { IfErr result (RefusesOneFrom self.old.form
+            (IsReadIn (S.contents file.old.source) file.old.len file.old.movie.tracks self.old.track_id)
+            (offset_in file.old.movie.tracks self.old.track_id) from count
+            (MayRefuse (S.contents file.old.source) (S.can_refuse file.old.source))
+            (W.contents out.old) (W.contents out.new)) }
         ensures track_id { self.new.track_id ≡ self.old.track_id }
         ensures form { self.new.form ≡ self.old.form }
+        ensures len { file.new.len ≡ file.old.len }
         ensures movie { file.new.movie ≡ file.old.movie }
         ensures contents { S.contents file.new.source ≡ S.contents file.old.source }
         ensures can_refuse { S.can_refuse file.new.source ≡ S.can_refuse file.old.source }
@@ -359,18 +368,20 @@ pub fn extract<S: ByteSource + Drop, W: Write>(
     out: &mut W,
 ) -> Result<u32, ExtractError>
     ensures count { IfOk result (λ n. n ≤ count) }
-    ensures written { IfOk result (λ n. IfSome (S.contents file.old.source) (λ source.
-        AreExtracted format source file.old.movie.tracks track_id from (W.contents out.old) (W.contents out.new) n)) }
-    ensures end { IfOk result (λ n. n < count → (HasNone file.old.movie.tracks track_id)
-        ⊎ (IfSome (S.contents file.old.source) (λ source.
-        IsPastEnd (sample_in source file.old.movie.tracks track_id) (from + n)))) }
-    ensures refused { IfErr result (λ e. IfSome (S.contents file.old.source) (λ source.
-        RefusesExtraction format source file.old.movie.tracks file.old.movie.moov.mvex track_id from count
-        (S.can_refuse file.old.source) (W.contents out.old) (W.contents out.new) e)) }
-    ensures asked { IfErr result (IsOfExtraction format file.old.movie.tracks file.old.movie.moov.mvex track_id from
-        count (W.contents out.old) (W.contents out.new)) }
+    ensures written { IfOk result (AreExtracted format
+        (IsReadIn (S.contents file.old.source) file.old.len file.old.movie.tracks track_id)
+        file.old.movie.tracks track_id from
+        (W.contents out.old) (W.contents out.new)) }
+    ensures end { IfOk result (λ n. n < count → (HasNone file.old.movie.tracks track_id) ⊎ (IsPastEnd
+        (IsReadIn (S.contents file.old.source) file.old.len file.old.movie.tracks track_id) (from + n))) }
+    ensures refused { IfErr result (RefusesExtraction format
+        (IsReadIn (S.contents file.old.source) file.old.len file.old.movie.tracks track_id)
+        file.old.movie.tracks file.old.movie.moov.mvex track_id from count
+        (MayRefuse (S.contents file.old.source) (S.can_refuse file.old.source))
+        (W.contents out.old) (W.contents out.new)) }
     ensures described { OnOk result (AreDescribed format file.old.movie.tracks track_id file.old.movie.moov.mvex) }
     ensures begins { OnOk result ((has_samples : Bool) × (BeginsAt file.old.movie.tracks track_id from has_samples)) }
+    ensures len { file.new.len ≡ file.old.len }
     ensures movie { file.new.movie ≡ file.old.movie }
     ensures contents { S.contents file.new.source ≡ S.contents file.old.source }
     ensures can_refuse { S.can_refuse file.new.source ≡ S.can_refuse file.old.source }

@@ -1,12 +1,13 @@
 //! The subtitles of a track of text.
 
 ghost use Rattle.std.specs.Prelude.{◌≡◌, ◌⊎◌, ◌+◌, ◌<◌, ◌≤◌, Ok, Some, None, IfErr, IfNone, IfOk, IfSome, OnOk};
+ghost use Rattle.std.specs.Prelude.{vec_capacity};
 ghost use Rattle.mp4_codec.specs.Cause.{Gives};
-ghost use Rattle.mp4_media.specs.Reading.{sample_in, sample_there};
+ghost use Rattle.mp4_media.specs.Reading.{sample_there};
 ghost use Rattle.mp4_codec.specs.declared.error.Error.TheVariants.{OutOfMemory as no_memory};
-ghost use Rattle.mp4_extract.specs.Extracting.{IsOfNumber, offset_in};
+ghost use Rattle.mp4_extract.specs.Extracting.{IsReadIn, MayRefuse, offset_in};
 ghost use Rattle.mp4_extract.specs.Subtitles.{AreSubtitlesOf, IsReadingOf, IsSubtitleAt, IsSubtitleOf, RefusesSubtitle};
-ghost use Rattle.mp4_extract.specs.Subtitles.{IsOfSubtitles, RefusesSubtitles, RefusesTimed, WantsSubtitle};
+ghost use Rattle.mp4_extract.specs.Subtitles.{RefusesSubtitles, RefusesTimed, WantsSubtitle, WantsTextRoom};
 ghost use Rattle.mp4_extract.specs.Subtitles.{and_shown, has_time_left, reading_of, shift_in};
 ghost use Rattle.mp4_extract.specs.Subtitles.{text_reading, timescale_in};
 ghost use Rattle.mp4_extract.specs.declared.error.ExtractError.TheVariants.{OutOfMemory};
@@ -185,19 +186,21 @@ impl SubtitleReader {
         file: &mut Mp4File<S>,
         number: u32,
     ) -> std::result::Result<Option<Subtitle>, ExtractError>
-        ensures subtitle { IfOk result (λ t. IfSome (S.contents file.old.source) (λ source.
-            IsSubtitleAt self.old.shift self.old.timescale number
-            (sample_in source file.old.movie.tracks self.old.track_id number) t)) }
-        ensures refused { IfErr result (λ e. IfSome (S.contents file.old.source) (λ source.
-            RefusesSubtitle self.old.shift self.old.timescale number
-            (sample_in source file.old.movie.tracks self.old.track_id number)
-            (offset_in file.old.movie.tracks self.old.track_id number) (S.can_refuse file.old.source) e)) }
-        ensures number { IfErr result (IsOfNumber number) }
+        ensures subtitle { IfOk result (IsSubtitleAt self.old.shift self.old.timescale number
+            (IsReadIn (S.contents file.old.source) file.old.len file.old.movie.tracks self.old.track_id number)) }
+        ensures refused { IfErr result (RefusesSubtitle self.old.shift self.old.timescale number
+            (IsReadIn (S.contents file.old.source) file.old.len file.old.movie.tracks self.old.track_id number)
+            (offset_in file.old.movie.tracks self.old.track_id number)
+            (MayRefuse (S.contents file.old.source) (S.can_refuse file.old.source))) }
+        ensures memory { IfErr result (λ e. e ≡ OutOfMemory → WantsTextRoom self.old.shift self.old.timescale
+            (vec_capacity self.old.stored)
+            (IsReadIn (S.contents file.old.source) file.old.len file.old.movie.tracks self.old.track_id number)) }
         ensures track_id { self.new.track_id ≡ self.old.track_id }
         ensures timescale { self.new.timescale ≡ self.old.timescale }
         ensures shift { self.new.shift ≡ self.old.shift }
         ensures read { self.new.read ≡ self.old.read }
         ensures count { self.new.count ≡ self.old.count }
+        ensures len { file.new.len ≡ file.old.len }
         ensures movie { file.new.movie ≡ file.old.movie }
         ensures contents { S.contents file.new.source ≡ S.contents file.old.source }
         ensures can_refuse { S.can_refuse file.new.source ≡ S.can_refuse file.old.source }
@@ -227,29 +230,37 @@ impl SubtitleReader {
     /// begins later by the time for which it is empty (ISO/IEC 14496-12, 8.6.6).
     ///
     /// `Sample` where the file's tables refuse the sample, where it doesn't lie whole in the file, where its text
-    /// passes its end or isn't encoded as it should be; `Read` where the source refuses.
+    /// passes its end or isn't encoded as it should be; `Read` where the source refuses a sample that lies in the file;
+    /// `OutOfMemory` only where there is a sample.
     pub fn next<S: ByteSource + Drop>(
         &mut self,
         file: &mut Mp4File<S>,
     ) -> Option<std::result::Result<Subtitle, ExtractError>>
-        ensures subtitle { IfSome result (λ answer. IfOk answer (λ t. IfSome (S.contents file.old.source) (λ source.
-            IsSubtitleAt self.old.shift self.old.timescale (self.old.read + 1)
-            (sample_in source file.old.movie.tracks self.old.track_id (self.old.read + 1)) (Some t)))) }
-        ensures refused { IfSome result (λ answer. IfErr answer (λ e. IfSome (S.contents file.old.source) (λ source.
-            RefusesSubtitle self.old.shift self.old.timescale (self.old.read + 1)
-            (sample_in source file.old.movie.tracks self.old.track_id (self.old.read + 1))
+        ensures subtitle { IfSome result (λ answer. IfOk answer (λ t. IsSubtitleAt
+            self.old.shift self.old.timescale (self.old.read + 1)
+            (IsReadIn (S.contents file.old.source) file.old.len file.old.movie.tracks self.old.track_id
+            (self.old.read + 1)) (Some t))) }
+        ensures refused { IfSome result (λ answer. IfErr answer (RefusesSubtitle
+            self.old.shift self.old.timescale (self.old.read + 1)
+            (IsReadIn (S.contents file.old.source) file.old.len file.old.movie.tracks self.old.track_id
+            (self.old.read + 1))
             (offset_in file.old.movie.tracks self.old.track_id (self.old.read + 1))
-            (S.can_refuse file.old.source) e))) }
-        ensures number { IfSome result (λ answer. IfErr answer (IsOfNumber (self.old.read + 1))) }
+            (MayRefuse (S.contents file.old.source) (S.can_refuse file.old.source)))) }
+        ensures memory { IfSome result (λ answer. IfErr answer (λ e. e ≡ OutOfMemory → WantsTextRoom
+            self.old.shift self.old.timescale (vec_capacity self.old.stored)
+            (IsReadIn (S.contents file.old.source) file.old.len file.old.movie.tracks self.old.track_id
+            (self.old.read + 1)))) }
         ensures read { IfSome result (λ _. self.new.read ≡ self.old.read + 1) }
         ensures more { IfSome result (λ _. self.old.read < self.old.count) }
         ensures ended { IfNone result (self.new.read ≡ self.old.read) }
-        ensures end { IfNone result ((self.old.count ≤ self.old.read) ⊎ (IfSome (S.contents file.old.source)
-            (λ source. sample_in source file.old.movie.tracks self.old.track_id (self.old.read + 1) ≡ Ok None))) }
+        ensures end { IfNone result ((self.old.count ≤ self.old.read) ⊎
+            (IsReadIn (S.contents file.old.source) file.old.len file.old.movie.tracks self.old.track_id
+            (self.old.read + 1) (Ok None))) }
         ensures track_id { self.new.track_id ≡ self.old.track_id }
         ensures timescale { self.new.timescale ≡ self.old.timescale }
         ensures shift { self.new.shift ≡ self.old.shift }
         ensures count { self.new.count ≡ self.old.count }
+        ensures len { file.new.len ≡ file.old.len }
         ensures movie { file.new.movie ≡ file.old.movie }
         ensures contents { S.contents file.new.source ≡ S.contents file.old.source }
         ensures can_refuse { S.can_refuse file.new.source ≡ S.can_refuse file.old.source }
@@ -293,12 +304,14 @@ pub fn subtitles<S: ByteSource + Drop>(
     track_id: u32,
     times: SubtitleTimes,
 ) -> std::result::Result<Vec<Subtitle>, ExtractError>
-    ensures subtitles { IfOk result (λ list. IfSome (S.contents file.old.source) (λ source.
-        AreSubtitlesOf times source file.old.movie.tracks track_id file.old.movie.moov list.items)) }
-    ensures refused { IfErr result (λ e. IfSome (S.contents file.old.source) (λ source.
-        RefusesSubtitles times source file.old.movie.tracks track_id file.old.movie.moov
-        (S.can_refuse file.old.source) e)) }
-    ensures asked { IfErr result (IsOfSubtitles times file.old.movie.tracks track_id file.old.movie.moov) }
+    ensures subtitles { IfOk result (λ list. AreSubtitlesOf times
+        (IsReadIn (S.contents file.old.source) file.old.len file.old.movie.tracks track_id)
+        file.old.movie.tracks track_id file.old.movie.moov list.items) }
+    ensures refused { IfErr result (RefusesSubtitles times
+        (IsReadIn (S.contents file.old.source) file.old.len file.old.movie.tracks track_id)
+        file.old.movie.tracks track_id file.old.movie.moov
+        (MayRefuse (S.contents file.old.source) (S.can_refuse file.old.source))) }
+    ensures len { file.new.len ≡ file.old.len }
     ensures movie { file.new.movie ≡ file.old.movie }
     ensures contents { S.contents file.new.source ≡ S.contents file.old.source }
     ensures can_refuse { S.can_refuse file.new.source ≡ S.can_refuse file.old.source }

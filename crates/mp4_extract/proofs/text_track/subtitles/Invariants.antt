@@ -1,6 +1,5 @@
 use Rattle.std.proofs.Common.{◌≡◌, ◌≤◌, ◌-◌}
-use Rattle.std.specs.Prelude.{IfSome}
-use Rattle.mp4_media.specs.Reading.{sample_in}
+use Rattle.mp4_extract.specs.Extracting.{IsReadIn}
 use Rattle.mp4_extract.specs.Subtitles.{AreSubtitles, reading_of}
 use Rattle.mp4_extract.proofs.text_track.subtitles.Given as goal
 
@@ -11,11 +10,12 @@ invariant-loop-answer g l = record {
   shift : l.reader.shift ≡ l.initial.reader.shift;
   count : l.reader.count ≡ l.initial.reader.count;
   few : l.reader.read ≤ l.initial.reader.count;
+  len : l.file.len ≡ l.fn.file.len;
   movie : l.file.movie ≡ l.fn.file.movie;
   contents : g.S.ByteSource.contents l.file.source ≡ g.S.ByteSource.contents l.fn.file.source;
   can_refuse : g.S.ByteSource.can_refuse l.file.source ≡ g.S.ByteSource.can_refuse l.fn.file.source;
-  read : IfSome (g.S.ByteSource.contents l.fn.file.source) (λ source. AreSubtitles (reading_of l.initial.reader)
-      (sample_in source l.fn.file.movie.tracks l.track_id) l.reader.read l.list.items);
+  read : AreSubtitles (reading_of l.initial.reader) (IsReadIn (g.S.ByteSource.contents l.fn.file.source)
+      l.fn.file.len l.fn.file.movie.tracks l.track_id) l.reader.read l.list.items;
 }
 
 abbrev pub decreases-loop-answer : goal.decreases-loop-answer
