@@ -1,24 +1,45 @@
 //! The fields of headers: ftyp, mvhd, tkhd, mdhd, hdlr, vmhd, smhd and elst.
 
+ghost use Rattle.std.specs.Prelude.{◌≡◌};
+ghost use Rattle.mp4_fields.specs.Numbers.{elst_cells, fraction, matrix_numbers, signed_time, twos_complement};
+
 use crate::leaf::LeafFields;
 use crate::list::FieldList;
 use crate::value::{Cells, TableRow};
+use mp4_codec::FixedPointI8;
 use mp4_leaf::{
     ElstBox, ElstEntry, FtypBox, HdlrBox, Matrix, MdhdBox, MvhdBox, SmhdBox, TkhdBox, VmhdBox,
 };
 
 /// A signed number of 16.16 bits, which is so many 65536ths.
-fn signed_16(raw: i32) -> f64 {
+#[tactic(auto, using(crate::proofs::Numbers::units), unfolding(crate::specs::Numbers::fraction))]
+fn signed_16(raw: i32) -> f64
+    ensures { result ≡ fraction raw 16 }
+{
     f64::from(raw) / 65536.0
 }
 
 /// A signed number of 2.30 bits.
-fn signed_2(raw: i32) -> f64 {
+#[tactic(auto, using(crate::proofs::Numbers::units), unfolding(crate::specs::Numbers::fraction))]
+fn signed_2(raw: i32) -> f64
+    ensures { result ≡ fraction raw 30 }
+{
     f64::from(raw) / 1_073_741_824.0
 }
 
+/// A signed number of 8.8 bits.
+#[tactic(auto, using(crate::proofs::Numbers::units), unfolding(crate::specs::Numbers::fraction))]
+fn signed_8(number: FixedPointI8) -> f64
+    ensures { result ≡ fraction number.raw 8 }
+{
+    f64::from(number.raw_value()) / 256.0
+}
+
 /// The nine numbers of a matrix in file order (ISO/IEC 14496-12, 8.2.2): a b u, c d v, x y w.
-fn numbers_of(matrix: Matrix) -> [f64; 9] {
+#[tactic(auto, unfolding(crate::specs::Numbers::matrix_numbers))]
+fn numbers_of(matrix: Matrix) -> [f64; 9]
+    ensures { result ≡ matrix_numbers matrix }
+{
     [
         signed_16(matrix.a),
         signed_16(matrix.b),
@@ -106,20 +127,26 @@ impl LeafFields for SmhdBox {
     fn fields(&self, fields: FieldList) -> FieldList {
         fields
             .version_and_flags(self.version, self.flags)
-            .fixed("balance", f64::from(self.balance.raw_value()) / 256.0)
+            .fixed("balance", signed_8(self.balance))
     }
 }
 
 /// The signed number of 16 bits that these bits are.
-fn signed(bits: u16) -> i16 {
-    i16::from_be_bytes(bits.to_be_bytes())
+#[tactic(auto, using(crate::proofs::Numbers::casts))]
+fn signed(bits: u16) -> i16
+    ensures { result ≡ twos_complement 16 bits }
+{
+    bits.cast_signed()
 }
 
 /// The signed number that a media time is: of 32 bits in version 0, else of 64 (ISO/IEC 14496-12, 8.6.6).
-fn signed_time(media_time: u64, version: u8) -> i128 {
+#[tactic(auto, using(crate::proofs::Numbers::casts))]
+fn signed_time(media_time: u64, version: u8) -> i128
+    ensures { result ≡ signed_time media_time version }
+{
     match (version, u32::try_from(media_time)) {
-        (0, Ok(bits)) => i128::from(i32::from_be_bytes(bits.to_be_bytes())),
-        _ => i128::from(i64::from_be_bytes(media_time.to_be_bytes())),
+        (0, Ok(bits)) => i128::from(bits.cast_signed()),
+        _ => i128::from(media_time.cast_signed()),
     }
 }
 
@@ -131,7 +158,10 @@ impl TableRow for ElstEntry {
         "media_rate_fraction",
     ];
 
-    fn cells(&self, version: u8) -> Cells {
+    #[tactic(auto, unfolding(crate::specs::Numbers::elst_cells))]
+    fn cells(&self, version: u8) -> Cells
+        ensures { result ≡ elst_cells self.now version }
+    {
         [
             i128::from(self.segment_duration),
             signed_time(self.media_time, version),

@@ -1,5 +1,8 @@
 //! Lists of fields, as they are put together.
 
+ghost use Rattle.std.specs.Prelude.{◌≡◌, pos};
+ghost use Rattle.mp4_fields.specs.Numbers.{fraction};
+
 use crate::value::{Cells, Field, List, Table, TableRow, Value};
 use mp4_codec::{FixedPointU8, FixedPointU16, FourCC};
 use std::alloc::{AllocError, Global};
@@ -18,6 +21,22 @@ pub struct Listing {
 pub struct FieldList {
     listing: Listing,
     fields: Result<Vec<Field>, AllocError>,
+}
+
+/// A number of 8.8 bits.
+#[tactic(auto, using(crate::proofs::Numbers::units), unfolding(crate::specs::Numbers::fraction))]
+fn unsigned_8(number: FixedPointU8) -> f64
+    ensures { result ≡ fraction (pos number.raw) 8 }
+{
+    f64::from(number.raw_value()) / 256.0
+}
+
+/// A number of 16.16 bits.
+#[tactic(auto, using(crate::proofs::Numbers::units), unfolding(crate::specs::Numbers::fraction))]
+fn unsigned_16(number: FixedPointU16) -> f64
+    ensures { result ≡ fraction (pos number.raw) 16 }
+{
+    f64::from(number.raw_value()) / 65536.0
 }
 
 /// The first values of a list.
@@ -107,12 +126,12 @@ impl FieldList {
 
     /// A number of 8.8 bits.
     pub fn fixed_8(self, name: &'static str, value: FixedPointU8) -> Self {
-        self.fixed(name, f64::from(value.raw_value()) / 256.0)
+        self.fixed(name, unsigned_8(value))
     }
 
     /// A number of 16.16 bits.
     pub fn fixed_16(self, name: &'static str, value: FixedPointU16) -> Self {
-        self.fixed(name, f64::from(value.raw_value()) / 65536.0)
+        self.fixed(name, unsigned_16(value))
     }
 
     /// Flags, which are shown in hex.

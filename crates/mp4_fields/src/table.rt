@@ -1,5 +1,8 @@
 //! The fields of sample tables (ISO/IEC 14496-12, 8.6 and 8.7).
 
+ghost use Rattle.std.specs.Prelude.{◌≡◌};
+ghost use Rattle.mp4_fields.specs.Numbers.{ctts_cells, stsc_cells, stts_cells};
+
 use crate::leaf::LeafFields;
 use crate::list::FieldList;
 use crate::value::{Cells, TableRow};
@@ -10,7 +13,10 @@ use mp4_table::{
 impl TableRow for SttsEntry {
     const NAMES: &'static [&'static str] = &["sample_count", "sample_delta"];
 
-    fn cells(&self, _version: u8) -> Cells {
+    #[tactic(auto, unfolding(crate::specs::Numbers::stts_cells))]
+    fn cells(&self, _version: u8) -> Cells
+        ensures { result ≡ stts_cells self.now }
+    {
         [
             i128::from(self.sample_count),
             i128::from(self.sample_delta),
@@ -23,7 +29,10 @@ impl TableRow for SttsEntry {
 impl TableRow for CttsEntry {
     const NAMES: &'static [&'static str] = &["sample_count", "sample_offset"];
 
-    fn cells(&self, _version: u8) -> Cells {
+    #[tactic(auto, unfolding(crate::specs::Numbers::ctts_cells))]
+    fn cells(&self, _version: u8) -> Cells
+        ensures { result ≡ ctts_cells self.now }
+    {
         [
             i128::from(self.sample_count),
             i128::from(self.sample_offset),
@@ -40,7 +49,10 @@ impl TableRow for StscEntry {
         "sample_description_index",
     ];
 
-    fn cells(&self, _version: u8) -> Cells {
+    #[tactic(auto, unfolding(crate::specs::Numbers::stsc_cells))]
+    fn cells(&self, _version: u8) -> Cells
+        ensures { result ≡ stsc_cells self.now }
+    {
         [
             i128::from(self.first_chunk),
             i128::from(self.samples_per_chunk),

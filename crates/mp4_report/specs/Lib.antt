@@ -1,4 +1,9 @@
 pub mod CodecNames
-pub mod Rates
-pub mod Sounds
+pub mod Languages
 pub mod PastEnd
+pub mod Rates
+pub mod Samples
+pub mod Sounds
+pub mod Summaries
+pub mod TagValues
+pub mod Tracks

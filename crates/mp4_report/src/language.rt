@@ -1,6 +1,7 @@
 //! The language of a track.
 
-ghost use Rattle.std.specs.Prelude.{◌<◌};
+ghost use Rattle.std.specs.Prelude.{◌≡◌, ◌-◌, ◌<◌, option_copied};
+ghost use Rattle.mp4_report.specs.Languages.{IsLanguage, language_form};
 
 /// The smallest character of a language in a media header, which stands for 0.
 const ZERO: u8 = 0x60;
@@ -30,6 +31,19 @@ const LATER_LANGUAGES: [&str; 23] = [
     "afr", "bre", "iku", "gla", "glv", "gle", "ton", "ell", "kal", "aze",
 ];
 
+/// How a media header says a language.
+#[derive(Clone, Copy, Debug, PartialEq, Eq)]
+enum LanguageForm {
+    /// By a code of Macintosh.
+    Macintosh(usize),
+    /// Not at all, as `und` says.
+    Unset,
+    /// By the three letters of its ISO 639-2/T code.
+    Letters,
+    /// By characters that aren't letters.
+    Unknown,
+}
+
 /// The language of a code of Macintosh.
 fn macintosh_language(code: usize) -> Option<&'static str> {
     match code.checked_sub(LATER) {
@@ -40,28 +54,43 @@ fn macintosh_language(code: usize) -> Option<&'static str> {
 
 /// The number that a character of a language stands for.
 fn number_of(character: u8) -> usize
-    ensures { result < 256 }
+    ensures number { result ≡ character - 0x60 }
+    ensures small { result < 256 }
 {
     usize::from(character.saturating_sub(ZERO))
+}
+
+/// How three characters of five bits each say a language.
+#[tactic(auto, unfolding(crate::specs::Languages::language_form))]
+fn form_of(characters: &[u8]) -> LanguageForm
+    ensures { result ≡ language_form characters.now }
+{
+    let [first, second, third] = *characters else {
+        return LanguageForm::Unknown;
+    };
+    if first == ZERO {
+        return LanguageForm::Macintosh(number_of(second) * 32 + number_of(third));
+    }
+    if first == UNSET && second == UNSET && third == UNSET {
+        return LanguageForm::Unset;
+    }
+    if first.is_ascii_lowercase() && second.is_ascii_lowercase() && third.is_ascii_lowercase() {
+        return LanguageForm::Letters;
+    }
+    LanguageForm::Unknown
 }
 
 /// The ISO 639-2/T code of the language that a media header says by three characters of five bits each. Where
 /// the first is 0, they are a code of Macintosh; where all bits are set, no language is said, as `und` says;
 /// and the language isn't known where they aren't three letters (QuickTime File Format, "Language Code
 /// Values").
-pub(crate) fn language_of(characters: &str) -> Option<&str> {
-    let [first, second, third] = characters.as_bytes() else {
-        return None;
-    };
-    let (first, second, third) = (*first, *second, *third);
-    if first == ZERO {
-        return macintosh_language(number_of(second) * 32 + number_of(third));
+pub(crate) fn language_of(characters: &str) -> Option<&str>
+    ensures { IsLanguage (language_form characters.now) characters.now (option_copied result) }
+{
+    match form_of(characters.as_bytes()) {
+        LanguageForm::Macintosh(code) => macintosh_language(code),
+        LanguageForm::Unset => Some("und"),
+        LanguageForm::Letters => Some(characters),
+        LanguageForm::Unknown => None,
     }
-    if first == UNSET && second == UNSET && third == UNSET {
-        return Some("und");
-    }
-    if first.is_ascii_lowercase() && second.is_ascii_lowercase() && third.is_ascii_lowercase() {
-        return Some(characters);
-    }
-    None
 }

@@ -1,7 +1,9 @@
 //! Samples that lie past the end of their file.
 
-ghost use Rattle.std.specs.Prelude.{◌≡◌, ◌+◌, nat_le};
-ghost use Rattle.mp4_report.specs.PastEnd.{samples_within};
+ghost use Rattle.std.specs.Prelude.{◌≡◌, ◌+◌, nat_eq, nat_le, All, IfOk, IsSome};
+ghost use Rattle.std.specs.HashMap.{get};
+ghost use Rattle.mp4_report.specs.Tracks.{AreTrackIds};
+ghost use Rattle.mp4_report.specs.PastEnd.{joined, past_end_of, samples_within};
 
 use crate::spans::{Span, Spans};
 use mp4_media::{Movie, Mp4Track};
@@ -38,7 +40,10 @@ fn count_within(place: u64, size: u32, file_size: u64) -> u64
 }
 
 /// The samples of a span that lie past the end of a file of so many bytes.
-fn past_end_of(span: Span, file_size: u64) -> Option<PastEnd> {
+#[tactic(auto, unfolding(crate::specs::PastEnd::past_end_of))]
+fn past_end_of(span: Span, file_size: u64) -> Option<PastEnd>
+    ensures { result ≡ past_end_of span file_size }
+{
     let within = count_within(span.first.offset, span.first.size, file_size);
     match u32::try_from(within) {
         Ok(within) if within < span.count => Some(PastEnd {
@@ -62,7 +67,9 @@ pub(crate) fn is_in_file(place: u64, size: u32, file_size: u64) -> bool
 
 impl PastEnd {
     /// Those that were found so far, and those of a span after them.
-    pub(crate) fn with_span(so_far: Option<Self>, span: Span, file_size: u64) -> Option<Self> {
+    pub(crate) fn with_span(so_far: Option<Self>, span: Span, file_size: u64) -> Option<Self>
+        ensures { result ≡ joined so_far (past_end_of span file_size) }
+    {
         match (so_far, past_end_of(span, file_size)) {
             (Some(earlier), Some(later)) => Some(PastEnd {
                 count: Whole(earlier.count.0.saturating_add(later.count.0)),
@@ -121,11 +128,12 @@ impl fmt::Display for TrackPastEnd {
 }
 
 /// The ids of a movie's tracks, rising.
-pub(crate) fn track_ids(alloc: Global, movie: &Movie) -> Result<Vec<u32>, AllocError> {
-    let mut ids = Vec::new(alloc);
-    for id in movie.tracks().keys() {
-        ids.push(*id)?;
-    }
+#[tactic(auto, using(crate::proofs::Ids::permuted))]
+pub(crate) fn track_ids(alloc: Global, movie: &Movie) -> Result<Vec<u32>, AllocError>
+    ensures ids { IfOk result (λ ids. AreTrackIds movie.now.tracks ids.items) }
+    ensures found { IfOk result (λ ids. All (λ id. IsSome (get nat_eq movie.now.tracks id)) ids.items) }
+{
+    let mut ids: Vec<u32> = movie.tracks().keys().copied().collect(alloc)?;
     ids.sort()?;
     Ok(ids)
 }

@@ -1,6 +1,9 @@
 //! The samples of a track: where they lie, and when they are decoded and shown.
 
-ghost use Rattle.std.specs.Prelude.{◌≡◌};
+ghost use Rattle.std.specs.Prelude.{◌≡◌, ◌+◌, ◌-◌, ◌^◌, ◌==◌, if◌then◌else◌, drop, min, None, option_map, IfSome};
+ghost use Rattle.mp4_codec.specs.Cause.{cause_of};
+ghost use Rattle.mp4_lookup.specs.InOrder.{samples_left};
+ghost use Rattle.mp4_report.specs.Samples.{IsFirstNumber, is_empty, next_refusal, next_row, row_of};
 
 use crate::past_end::is_in_file;
 use crate::spans::{Span, Spans};
@@ -50,13 +53,17 @@ pub struct SampleReport {
 }
 
 /// Whether a track has no samples: its tables are empty, and it has no fragments.
-fn is_empty(track: &Mp4Track) -> bool {
+fn is_empty(track: &Mp4Track) -> bool
+    ensures { result ≡ is_empty track.now }
+{
     let stbl = &track.trak.mdia.minf.stbl;
     track.trafs.is_empty() && stbl.sample_count() == 0 && stbl.stsc.entries.is_empty()
 }
 
 /// The number of the first sample that is listed: 1 where no sample is decoded so early.
-fn first_number(track: &Mp4Track, first: First) -> u32 {
+fn first_number(track: &Mp4Track, first: First) -> u32
+    ensures { IsFirstNumber track.now first.entry result }
+{
     match first {
         First::Number(number) => number.max(1),
         First::Time(time) => track.sample_at(time.ticks(track.timescale())).unwrap_or(1),
@@ -64,7 +71,9 @@ fn first_number(track: &Mp4Track, first: First) -> u32 {
 }
 
 /// A sample of a file of so many bytes.
-fn report_of(number: u32, place: Place, file_size: u64) -> SampleReport {
+fn report_of(number: u32, place: Place, file_size: u64) -> SampleReport
+    ensures { result ≡ row_of number file_size place }
+{
     SampleReport {
         number,
         place: Whole(place.offset),
@@ -116,7 +125,9 @@ impl<'m> SampleRows<'m> {
     }
 
     /// Ticks in a second.
-    pub fn timescale(&self) -> u32 {
+    pub fn timescale(&self) -> u32
+        ensures { result ≡ self.now.track.now.trak.mdia.mdhd.timescale }
+    {
         self.track.timescale()
     }
 
@@ -129,7 +140,16 @@ impl<'m> SampleRows<'m> {
 
     /// The next sample; `None` after the last that is asked for, after the last of the track, and where one
     /// is refused.
-    pub fn next_row(&mut self) -> Option<SampleReport> {
+    #[tactic(auto, unfolding(crate::specs::Samples::next_row, crate::specs::Samples::next_refusal))]
+    pub fn next_row(&mut self) -> Option<SampleReport>
+        ensures row { result ≡ next_row self.old }
+        ensures others { samples_left self.new.samples ≡ (if self.old.left == 0
+            then samples_left self.old.samples else drop 1 (samples_left self.old.samples)) }
+        ensures number { IfSome result (λ _. self.new.number ≡ min (self.old.number + 1) (2 ^ 32 - 1)) }
+        ensures left { IfSome result (λ _. self.new.left + 1 ≡ self.old.left) }
+        ensures file_size { self.new.file_size ≡ self.old.file_size }
+        ensures refused { option_map cause_of self.new.refused ≡ next_refusal self.old }
+    {
         self.left = self.left.checked_sub(1)?;
         match self.samples.next()? {
             Ok(place) => {

@@ -1,7 +1,8 @@
 //! What a sample entry says of sound.
 
-ghost use Rattle.std.specs.Prelude.{◌≡◌};
-ghost use Rattle.mp4_report.specs.Sounds.{AreChannelsOf, AreHertzOf, channel_count, channels_of_type};
+ghost use Rattle.std.specs.Prelude.{◌≡◌, ◌≤◌, IfSome};
+ghost use Rattle.mp4_report.specs.Sounds.{channel_count, channels_by_number, channels_of_type, decoder_sound};
+ghost use Rattle.mp4_report.specs.Sounds.{entry_sound, frequency_by_index, sound_of};
 
 use crate::codec_name::MPEG4_AUDIO;
 use mp4_entry::{ChannelConfig, DecoderSpecificDescriptor, Mp4aBox, SampleFreqIndex};
@@ -39,8 +40,9 @@ fn channels_of(config: ChannelConfig) -> u16
 }
 
 /// The channels that the number of an arrangement says, if it is that of one.
+#[tactic(auto, unfolding(crate::specs::Sounds::channels_by_number))]
 fn channels_by_number(number: u8) -> Option<u16>
-    ensures { AreChannelsOf number result }
+    ensures { result ≡ channels_by_number number }
 {
     match ChannelConfig::try_from(number) {
         Ok(config) => Some(channels_of(config)),
@@ -49,8 +51,10 @@ fn channels_by_number(number: u8) -> Option<u16>
 }
 
 /// The frequency that an index says, if it is that of one.
+#[tactic(auto, using(crate::proofs::Sounds::hertz_small), unfolding(crate::specs::Sounds::frequency_by_index))]
 fn frequency_by_index(index: u8) -> Option<u32>
-    ensures { AreHertzOf index result }
+    ensures hertz { result ≡ frequency_by_index index }
+    ensures small { IfSome result (λ frequency. frequency ≤ 96000) }
 {
     match SampleFreqIndex::try_from(index) {
         Ok(index) => Some(index.freq()),
@@ -72,7 +76,9 @@ fn channels_of_type(profile: u8, channels: u16) -> u16
 
 impl Sound {
     /// The sound that the entry itself says.
-    fn of_entry(entry: &Mp4aBox) -> Self {
+    fn of_entry(entry: &Mp4aBox) -> Self
+        ensures { result ≡ entry_sound entry.now }
+    {
         Sound {
             sampling_frequency: u32::from(entry.samplerate.value()),
             core_frequency: None,
@@ -81,7 +87,10 @@ impl Sound {
     }
 
     /// The sound that a decoder is started with; what that doesn't say is as the entry says.
-    fn of_decoder(decoder: DecoderSpecificDescriptor, said: Sound) -> Self {
+    #[tactic(auto, unfolding(crate::specs::Sounds::decoder_sound))]
+    fn of_decoder(decoder: DecoderSpecificDescriptor, said: Sound) -> Self
+        ensures { result ≡ decoder_sound decoder said }
+    {
         let profile = decoder.profile;
         let channels = channels_by_number(decoder.chan_conf).unwrap_or(said.channels);
         let channels = channels_of_type(profile, channels);
@@ -104,7 +113,10 @@ impl Sound {
 
     /// The sound of an entry: as its `esds` says, where that is of MPEG-4 audio and says a type of sound, or
     /// else as the entry itself does.
-    pub fn of(entry: &Mp4aBox) -> Self {
+    #[tactic(auto, unfolding(crate::specs::Sounds::sound_of))]
+    pub fn of(entry: &Mp4aBox) -> Self
+        ensures { result ≡ sound_of entry.now }
+    {
         let said = Sound::of_entry(entry);
         let Some(esds) = &entry.esds else {
             return said;

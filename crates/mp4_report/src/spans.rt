@@ -1,6 +1,9 @@
 //! The samples of a track in spans of equal ones, so that a walk over them takes as many steps as the file
 //! has bytes for, however many samples it says.
 
+ghost use Rattle.std.specs.Prelude.{◌≡◌, ◌+◌, ◌-◌, ◌^◌, min};
+ghost use Rattle.mp4_report.specs.PastEnd.{last_time, place_after};
+
 use crate::equal_samples::EqualSamples;
 use mp4_codec::Result;
 use mp4_media::{Mp4Track, Samples};
@@ -19,18 +22,24 @@ pub(crate) struct Span {
 
 impl Span {
     /// The number of the last.
-    pub(crate) fn last_number(&self) -> u32 {
+    pub(crate) fn last_number(&self) -> u32
+        ensures { result ≡ min (self.now.number + (self.now.count - 1)) (2 ^ 32 - 1) }
+    {
         self.number.saturating_add(self.count.saturating_sub(1))
     }
 
     /// Where the sample begins that has so many of them before it.
-    pub(crate) fn place_after(&self, count: u32) -> u64 {
-        let bytes = u64::from(count).saturating_mul(u64::from(self.first.size));
+    pub(crate) fn place_after(&self, count: u32) -> u64
+        ensures { result ≡ place_after self.now count }
+    {
+        let bytes = u64::from(count) * u64::from(self.first.size);
         self.first.offset.saturating_add(bytes)
     }
 
     /// When the last is decoded.
-    pub(crate) fn last_time(&self) -> u64 {
+    pub(crate) fn last_time(&self) -> u64
+        ensures { result ≡ last_time self.now }
+    {
         let ticks = u64::from(self.count.saturating_sub(1)) * u64::from(self.first.duration);
         self.first.start_time.saturating_add(ticks)
     }

@@ -1,7 +1,7 @@
 //! What the samples of a track are together, by the runs of its tables and fragments.
 
-ghost use Rattle.std.specs.Prelude.{◌≡◌, ◌-◌, None, nat_lt, if◌then◌else◌};
-ghost use Rattle.mp4_report.specs.Rates.{milliseconds_each};
+ghost use Rattle.std.specs.Prelude.{◌≡◌, ◌-◌, if◌then◌else◌};
+ghost use Rattle.mp4_report.specs.Summaries.{longest_ms, mean_ms, with_span, with_sync};
 
 use crate::past_end::PastEnd;
 use crate::rate::milliseconds_each;
@@ -28,7 +28,10 @@ pub struct SampleSummary {
 
 impl SampleSummary {
     /// Counts sync samples, each of which is decoded when the one before it has lasted.
-    fn add_sync(&mut self, span: Span) {
+    #[tactic(auto, unfolding(crate::specs::Summaries::with_sync))]
+    fn add_sync(&mut self, span: Span)
+        ensures { self.new ≡ with_sync self.old span }
+    {
         if self.sync == 0 {
             self.first_sync = span.first.start_time;
         } else {
@@ -42,17 +45,27 @@ impl SampleSummary {
         self.sync = self.sync.saturating_add(u64::from(span.count));
     }
 
+    /// Counts samples as sync samples, if they are.
+    fn add_if_sync(&mut self, span: Span)
+        ensures { self.new ≡ (if span.first.is_sync then with_sync self.old span else self.old) }
+    {
+        if span.first.is_sync {
+            self.add_sync(span);
+        }
+    }
+
     /// Counts samples of a file of so many bytes.
-    fn add(&mut self, span: Span, file_size: u64) {
+    #[tactic(auto, unfolding(crate::specs::Summaries::with_span))]
+    fn add(&mut self, span: Span, file_size: u64)
+        ensures { self.new ≡ with_span self.old span file_size }
+    {
         let count = u64::from(span.count);
         self.count = self.count.saturating_add(count);
         self.bytes = self
             .bytes
             .saturating_add(count.saturating_mul(u64::from(span.first.size)));
-        if span.first.is_sync {
-            self.add_sync(span);
-        }
         self.past_end = PastEnd::with_span(self.past_end, span, file_size);
+        self.add_if_sync(span);
     }
 
     /// How many times a sync sample follows another.
@@ -65,7 +78,7 @@ impl SampleSummary {
     /// The milliseconds from a sync sample to the next on average, to the nearest; `None` where there are
     /// fewer than two.
     pub fn mean_ms(&self, timescale: u32) -> Option<u64>
-        ensures { result ≡ milliseconds_each (self.now.last_sync - self.now.first_sync) (self.now.sync - 1) timescale }
+        ensures { result ≡ mean_ms self.now timescale }
     {
         let ticks = self.last_sync.saturating_sub(self.first_sync);
         milliseconds_each(ticks, self.gaps(), timescale)
@@ -74,7 +87,7 @@ impl SampleSummary {
     /// The most milliseconds from a sync sample to the next, to the nearest; `None` where there are fewer
     /// than two.
     pub fn longest_ms(&self, timescale: u32) -> Option<u64>
-        ensures { result ≡ (if nat_lt 1 self.now.sync then milliseconds_each self.now.longest 1 timescale else None) }
+        ensures { result ≡ longest_ms self.now timescale }
     {
         if self.gaps() == 0 {
             return None;

@@ -1,5 +1,12 @@
 //! What the tracks of a file are.
 
+ghost use Rattle.std.specs.Prelude.{◌≡◌, IfOk, None, Some, if◌then◌else◌, option_map, string_bytes};
+ghost use Rattle.mp4_report.specs.Languages.{IsLanguage, language_form};
+ghost use Rattle.mp4_report.specs.Rates.{thousandths_rate_of};
+ghost use Rattle.mp4_report.specs.Sounds.{sound_of};
+ghost use Rattle.mp4_report.specs.Tracks.{edits_of, is_video, kind_of, milliseconds, picture_size, thousandths};
+ghost use Rattle.mp4_report.specs.Tracks.{ticks_of_samples, track_ticks, whole, with_fields};
+
 use crate::codec_name::{CodecName, codec_name_of};
 use crate::language::language_of;
 use crate::milliseconds::milliseconds_of;
@@ -78,18 +85,33 @@ pub struct TracksReport {
     pub tracks: Vec<TrackReport>,
 }
 
-fn kind_of(track: &Mp4Track) -> TrackKind {
-    let handler = track.trak.mdia.hdlr.handler_type;
-    match &handler.value {
-        b"vide" => TrackKind::Video,
-        b"soun" => TrackKind::Audio,
-        b"sbtl" | b"subt" | b"text" => TrackKind::Subtitles,
+/// The kind of a track with this handler: `vide`, `soun`, `sbtl`, `subt` and `text` are named.
+#[tactic(auto, unfolding(crate::specs::Tracks::kind_of))]
+fn kind_of(handler: FourCC) -> TrackKind
+    ensures { result ≡ kind_of handler }
+{
+    match u32::from(handler) {
+        0x76696465 => TrackKind::Video,
+        0x736f756e => TrackKind::Audio,
+        0x7362746c | 0x73756274 | 0x74657874 => TrackKind::Subtitles,
         _ => TrackKind::Other(handler),
     }
 }
 
+impl TrackKind {
+    fn is_video(self) -> bool
+        ensures { result ≡ is_video self }
+    {
+        matches!(self, TrackKind::Video)
+    }
+}
+
 /// The size of the pictures of a track: that of its sample entry, or else that of its header.
-fn pictures_of(track: &Mp4Track, stsd: &StsdBox) -> PictureSize {
+#[tactic(auto, unfolding(crate::specs::Tracks::picture_size))]
+fn pictures_of(track: &Mp4Track) -> PictureSize
+    ensures { result ≡ picture_size track.now.trak }
+{
+    let stsd = &track.trak.mdia.minf.stbl.stsd;
     if let Some(entry) = &stsd.hev1 {
         return PictureSize {
             width: entry.width,
@@ -109,7 +131,9 @@ fn pictures_of(track: &Mp4Track, stsd: &StsdBox) -> PictureSize {
 }
 
 /// How many ticks the samples of a track last, from the first on.
-fn ticks_of_samples(track: &Mp4Track) -> Option<u64> {
+fn ticks_of_samples(track: &Mp4Track) -> Option<u64>
+    ensures { result ≡ ticks_of_samples track.now }
+{
     match track.time_range() {
         Some(range) => Some(range.end.saturating_sub(range.start)),
         None => None,
@@ -118,7 +142,10 @@ fn ticks_of_samples(track: &Mp4Track) -> Option<u64> {
 
 /// How many ticks a track lasts: as its media header says, or as its samples do, where they are in fragments too, of
 /// which the header says nothing, and where it doesn't know.
-fn ticks_of(track: &Mp4Track) -> Option<u64> {
+#[tactic(auto, unfolding(crate::specs::Tracks::track_ticks))]
+fn ticks_of(track: &Mp4Track) -> Option<u64>
+    ensures { result ≡ track_ticks track.now }
+{
     if !track.trafs.is_empty() {
         return ticks_of_samples(track);
     }
@@ -129,14 +156,21 @@ fn ticks_of(track: &Mp4Track) -> Option<u64> {
 }
 
 /// The language of a track.
-fn language_text(alloc: Global, track: &Mp4Track) -> Result<Option<String>, AllocError> {
+fn language_text(alloc: Global, track: &Mp4Track) -> Result<Option<String>, AllocError>
+    ensures { IfOk result (λ text. let said = track.now.trak.mdia.mdhd.language in
+        IsLanguage (language_form said) said (option_map string_bytes text)) }
+{
     match language_of(track.language()) {
         Some(language) => Ok(Some(String::from_str(alloc, language)?)),
         None => Ok(None),
     }
 }
 
-fn edits_of(track: &Mp4Track) -> u64 {
+/// How many entries the edit list of a track has.
+#[tactic(auto, unfolding(crate::specs::Tracks::edits_of))]
+fn edits_of(track: &Mp4Track) -> u64
+    ensures { result ≡ edits_of track.now.trak }
+{
     match &track.trak.edts {
         Some(edts) => match &edts.elst {
             Some(elst) => elst.entries.len() as u64,
@@ -146,15 +180,74 @@ fn edits_of(track: &Mp4Track) -> u64 {
     }
 }
 
+/// A number that may not be known.
+fn whole(number: Option<u64>) -> Option<Whole>
+    ensures { result ≡ option_map whole number }
+{
+    match number {
+        Some(number) => Some(Whole(number)),
+        None => None,
+    }
+}
+
+/// The pictures in a second of so many that are spread over these ticks, of a track of this kind.
+fn frame_rate_of(kind: TrackKind, count: u64, spread: u64, timescale: u32) -> Option<Thousandths>
+    ensures { result ≡ (if is_video kind
+        then option_map thousandths (thousandths_rate_of count spread timescale) else None) }
+{
+    if !kind.is_video() {
+        return None;
+    }
+    match thousandths_rate_of(count, spread, timescale) {
+        Some(rate) => Some(Thousandths(rate)),
+        None => None,
+    }
+}
+
+/// The size of the pictures of a track of this kind.
+fn video_size(kind: TrackKind, track: &Mp4Track) -> Option<PictureSize>
+    ensures { result ≡ (if is_video kind then Some (picture_size track.now.trak) else None) }
+{
+    if kind.is_video() {
+        Some(pictures_of(track))
+    } else {
+        None
+    }
+}
+
+/// The sound that a track's description says.
+fn sound_of(stsd: &StsdBox) -> Option<Sound>
+    ensures { result ≡ option_map sound_of stsd.now.mp4a }
+{
+    match &stsd.mp4a {
+        Some(entry) => Some(Sound::of(entry)),
+        None => None,
+    }
+}
+
+/// The milliseconds of so many ticks, where they are known.
+fn duration_of(ticks: Option<u64>, timescale: u32) -> Option<u64>
+    ensures { result ≡ milliseconds timescale ticks }
+{
+    match ticks {
+        Some(ticks) => milliseconds_of(ticks, timescale),
+        None => None,
+    }
+}
+
 /// What a track is, whose samples are these together.
+#[tactic(auto, unfolding(crate::specs::Tracks::with_fields))]
 fn report_of(
     alloc: Global,
     id: u32,
     track: &Mp4Track,
     summary: SampleSummary,
-) -> Result<TrackReport, AllocError> {
-    let kind = kind_of(track);
-    let is_video = kind == TrackKind::Video;
+) -> Result<TrackReport, AllocError>
+    ensures fields { IfOk result (λ report. report ≡ with_fields id track.now summary report) }
+    ensures language { IfOk result (λ report. let said = track.now.trak.mdia.mdhd.language in
+        IsLanguage (language_form said) said (option_map string_bytes report.language)) }
+{
+    let kind = kind_of(track.trak.mdia.hdlr.handler_type);
     let timescale = track.timescale();
     let ticks = ticks_of(track);
     let stsd = &track.trak.mdia.minf.stbl.stsd;
@@ -164,27 +257,17 @@ fn report_of(
         id,
         kind,
         codec: codec_name_of(stsd),
-        pictures: if is_video {
-            Some(pictures_of(track, stsd))
-        } else {
-            None
-        },
-        frame_rate: if is_video {
-            thousandths_rate_of(summary.count, spread, timescale).map(Thousandths)
-        } else {
-            None
-        },
-        sound: stsd.mp4a.as_ref().map(Sound::of),
-        bit_rate: rate_of(summary.bytes.saturating_mul(8), spread, timescale).map(Whole),
+        pictures: video_size(kind, track),
+        frame_rate: frame_rate_of(kind, summary.count, spread, timescale),
+        sound: sound_of(stsd),
+        bit_rate: whole(rate_of(summary.bytes.saturating_mul(8), spread, timescale)),
         language,
         timescale,
-        duration_ms: ticks
-            .and_then(|ticks| milliseconds_of(ticks, timescale))
-            .map(Whole),
+        duration_ms: whole(duration_of(ticks, timescale)),
         samples: Whole(summary.count),
         sync_samples: Whole(summary.sync),
-        sync_longest_ms: summary.longest_ms(timescale).map(Whole),
-        sync_mean_ms: summary.mean_ms(timescale).map(Whole),
+        sync_longest_ms: whole(summary.longest_ms(timescale)),
+        sync_mean_ms: whole(summary.mean_ms(timescale)),
         edits: Whole(edits_of(track)),
         fragments: Whole(track.trafs.len() as u64),
         past_end: summary.past_end,

@@ -1,0 +1,5 @@
+pub mod Constraints
+pub mod Digits
+pub mod Ids
+pub mod Numbers
+pub mod Sounds
