@@ -6,9 +6,7 @@ use crate::random_movies::{Habits, random_beginning, random_bytes, random_call};
 use crate::writer_calls::{config_of, media_track, writer_call};
 use crate::written::is_expected;
 use mp4_codec::{Error, Result};
-use mp4_media::{
-    ByteSink, Mp4FileWriter, SampleRef, SeekSink, SinkError, WriteError, WriterCall,
-};
+use mp4_media::{ByteSink, Mp4FileWriter, SampleRef, SeekSink, SinkError, WriteError, WriterCall};
 use mp4_plain_movies::calls::{Call, Media};
 use mp4_plain_movies::plain_movie::PlainMovie;
 use mp4_plain_movies::random::Random;
