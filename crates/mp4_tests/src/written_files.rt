@@ -189,13 +189,12 @@ fn replies_of_a_full_disk(
     Ok(replies)
 }
 
-/// Whether the calls before the refused one are Ok, that one is refused for the disk, and all after it since it was. Where
-/// none is refused, only the second end is, since the movie has ended.
+/// Whether of 43 calls one is refused for the disk, those before it are Ok, and all after it failed since it was. Where
+/// none is refused for it, only the second end is refused, since the movie has ended.
 fn is_refused_once(replies: Replies) -> bool {
-    let all = replies.ok + replies.refused + replies.failed + replies.others;
     match replies.refused {
-        0 => replies.ok == 42 && replies.others == 1 && replies.failed == 0,
-        _ => all == 43 && replies.refused == 1 && replies.others == 0,
+        0 => replies.ok == 42 && replies.others == 1,
+        _ => replies.refused == 1 && replies.ok.saturating_add(replies.failed) == 42,
     }
 }
 
