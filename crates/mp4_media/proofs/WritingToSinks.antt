@@ -86,6 +86,17 @@ pub never_true : (b : Bool) → b ≡ false → IsTrue b → ⊥
 unfolding is_truth
 never_true b is not = subst is_truth (sym is ∙ not) tt
 
+-- where the sink refuses for one reason, it does for a wider one
+pub for_more : {X : Type 0} (P Q : Type 0) (cause : Option Cause) (r : Result X WriteError) → (P → Q)
+    → AnswersWrite P cause r → AnswersWrite Q cause r
+for_more P Q cause (Ok x) f a = a
+for_more P Q None (Err (Mp4 e)) f a = a
+for_more P Q (Some c) (Err (Mp4 e)) f a = a
+for_more P Q None (Err (Io e)) f a = f a
+for_more P Q (Some c) (Err (Io e)) f a = a
+for_more P Q None (Err Failed) f a = a
+for_more P Q (Some c) (Err Failed) f a = a
+
 -- where the sink refuses nothing, an error is no other
 pub mp4_alone : {X : Type 0} (P : Type 0) (cause : Option Cause) (r : Result X WriteError) → (P → ⊥)
     → AnswersWrite P cause r → IfErr r IsMp4
