@@ -7,7 +7,7 @@ use crate::fragments::{Shape, fragmented_file};
 use crate::list::made_file;
 use crate::parts::Parts;
 use crate::tables::{even_tables, list_chunks, list_sync_samples, turning_tables};
-use mp4_media::{Error, Mp4Track, Place, Result, read_mp4};
+use mp4_media::{Mp4Track, Place, Result, read_mp4};
 use mp4_plain_movies::random::Random;
 use std::alloc::Global;
 
@@ -79,7 +79,7 @@ fn add_by_times(track: &Mp4Track, random: &mut Random, digest: &mut Digest) -> R
 /// Adds the places of the track of a file, as often as it is gone over.
 fn add_places(alloc: Global, file: &[u8], way: Way, digest: &mut Digest) -> Result<()> {
     let movie = read_mp4(alloc, file)?;
-    let track = movie.tracks().get(&1).ok_or(Error::TrakNotFound(1))?;
+    let track = movie.track(1)?;
     let mut random = Random::new(1);
     for _ in 0..PASSES {
         match way {

@@ -5,7 +5,7 @@ ghost use Rattle.mp4_c.specs.ByTime.{GaveSampleAt, GaveSyncSample, number_reply}
 ghost use Rattle.mp4_c.specs.Replies.{Gave, OnFile, OnTrack};
 
 use crate::answer::Answer;
-use crate::opened_file::{opened, track_of};
+use crate::opened_file::opened;
 use mp4_media::Mp4Reader;
 use std::alloc::Global;
 
@@ -29,7 +29,7 @@ fn found(answer: Option<u32>, number: &mut u32) -> Answer
 fn find_sample_at(movie: &Mp4Reader, track_id: u32, time: u64, number: &mut u32) -> Answer
     ensures { OnTrack track_id (GaveSampleAt time) movie.now number.old number.new result }
 {
-    match track_of(movie, track_id) {
+    match movie.track(track_id) {
         Ok(track) => found(track.sample_at(time), number),
         Err(error) => Answer::refused(&error),
     }
@@ -59,7 +59,7 @@ pub extern "C" fn mp4_c_sample_at(
 fn find_sync_sample(movie: &Mp4Reader, track_id: u32, k: u32, number: &mut u32) -> Answer
     ensures { OnTrack track_id (GaveSyncSample k) movie.now number.old number.new result }
 {
-    match track_of(movie, track_id) {
+    match movie.track(track_id) {
         Ok(track) => found(track.sync_sample_at_or_before(k), number),
         Err(error) => Answer::refused(&error),
     }

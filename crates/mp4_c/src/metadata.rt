@@ -11,7 +11,7 @@ ghost use Rattle.mp4_c.specs.Replies.{Gave, OnFile, OnTrack};
 
 use crate::answer::{Answer, NOT_PRESENT, UNKNOWN_CHOICE};
 use crate::copied::copy_to_front;
-use crate::opened_file::{opened, track_of};
+use crate::opened_file::opened;
 use mp4_media::{Error, IlstBox, Metadata, Mp4Reader, Mp4Track, Result};
 use std::alloc::Global;
 use std::borrow::CowStr;
@@ -133,7 +133,7 @@ fn copy_set_of(track: &Mp4Track, kind: u32, room: &mut [u8]) -> Answer
 fn copy_set_in(movie: &Mp4Reader, track_id: u32, kind: u32, room: &mut [u8]) -> Answer
     ensures { OnTrack track_id (GaveSet kind) movie.now room.old room.new result }
 {
-    match track_of(movie, track_id) {
+    match movie.track(track_id) {
         Ok(track) => copy_set_of(track, kind, room),
         Err(error) => Answer::refused(&error),
     }

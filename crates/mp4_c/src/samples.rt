@@ -7,7 +7,7 @@ ghost use Rattle.mp4_c.specs.Rooms.{over};
 ghost use Rattle.mp4_c.specs.Samples.{GaveSamples, end_of, refusal_in, row_of, rows_of, walk_answer};
 
 use crate::answer::Answer;
-use crate::opened_file::{opened, track_of};
+use crate::opened_file::opened;
 use mp4_media::{Mp4Reader, Mp4Track, Place, Result, Samples};
 use std::alloc::Global;
 
@@ -119,7 +119,7 @@ fn list_samples(track_id: u32, track: &Mp4Track, first: u32, rows: &mut [SampleR
 fn list_samples_of(movie: &Mp4Reader, track_id: u32, first: u32, rows: &mut [SampleRow]) -> Answer
     ensures { OnTrack track_id (GaveSamples track_id first) movie.now rows.old rows.new result }
 {
-    match track_of(movie, track_id) {
+    match movie.track(track_id) {
         Ok(track) => list_samples(track_id, track, first, rows),
         Err(error) => Answer::refused(&error),
     }

@@ -1,17 +1,18 @@
 -- What a call that opens a file answers, in the words of the grammar.
-use Rattle.std.proofs.Common.{◌≡◌, ◌⊎◌, inl, inr, ℕ, Bool, Result, Ok, Err, subst}
+use Rattle.std.proofs.Common.{◌≡◌, ◌⊎◌, inl, inr, ℕ, ◌+◌, ◌<◌, ◌≤◌, Bool, List, [], Result, Ok, Err, refl, subst}
 use Rattle.std.specs.Prelude.{IfOk, IfErr}
 use Rattle.mp4_codec.specs.declared.error.Error.{Error}
 use Rattle.mp4_codec.specs.declared.error.Error.TheVariants.{OutOfMemory}
-use Rattle.mp4_codec.specs.Cause.{Cause, cause_of, Answers}
-use Rattle.mp4_codec.specs.Cursor.{Cursor}
+use Rattle.mp4_codec.specs.declared.box_type.BoxType.TheVariants.{FtypBox as ftyp}
+use Rattle.mp4_codec.specs.Cause.{Cause, box_not_found, cause_of, end_of_data, Answers}
+use Rattle.mp4_codec.specs.Cursor.{Cursor, here}
 use Rattle.mp4_source.specs.Answers.{AnswersRead, OnMp4}
 use Rattle.mp4_source.specs.declared.file_error.FileError.{FileError}
 use Rattle.mp4_source.specs.declared.file_error.FileError.TheVariants.{Mp4, Io}
 use Rattle.mp4_media.specs.declared.reader.Mp4Reader.{Mp4Reader}
 use Rattle.mp4_media.specs.Opening.{IsOpeningBy, IsOpeningOf}
 use Rattle.mp4_media.specs.FileBoxes.{OpenedFile, opened_file}
-use Rattle.mp4_media.specs.FileGrammar.{IsFile, IsFaultyFile}
+use Rattle.mp4_media.specs.FileGrammar.{AreFileBoxes, IsFile, IsFaultyFile, faulty_box, no_ftyp, no_more, rest}
 use Rattle.mp4_media.specs.MovieTracks.{AreTracks}
 use Rattle.mp4_media.specs.Walk.{opened_at}
 use Rattle.mp4_media.proofs.Grammar.{file-opens, faulty-refused, opened-is_file, refused-is_faulty}
@@ -63,3 +64,13 @@ module _ {X : Type 0} (can_refuse : Bool) (opened_in : X → OpenedFile) (size :
     fault = read-fault result e;
     refused = λ c f. subst (AnswersRead can_refuse opened_in result) (faulty-refused size start c f) e;
   }
+
+-- no room for the header of a box, where a file of so many bytes begins
+module _ (size : ℕ) (bytes : List ℕ) (start : ℕ) where
+  pub nothing_there : size ≤ start → IsFaultyFile size (here bytes start) (box_not_found ftyp)
+  unfolding AreFileBoxes
+  nothing_there none = no_ftyp [] start refl (no_more none) refl refl
+
+  pub too_little_there : start < size → size < start + 8 → IsFaultyFile size (here bytes start) end_of_data
+  unfolding AreFileBoxes
+  too_little_there some few = faulty_box [] start refl (rest some few refl)

@@ -109,10 +109,7 @@ impl<'m> SampleRows<'m> {
             first,
             count,
         } = request;
-        let track = movie
-            .tracks()
-            .get(&track_id)
-            .ok_or(Error::TrakNotFound(track_id))?;
+        let track = movie.track(track_id)?;
         let number = first_number(track, first);
         Ok(SampleRows {
             track,

@@ -105,7 +105,7 @@ fn write_sample(text: &mut Vec<u8>, k: u32, place: &Result<Option<Place>>) -> Re
 
 /// Writes the lines of the samples of a track of a file of `len` bytes, up to the first that isn't there.
 pub(crate) fn write_samples(text: &mut Vec<u8>, movie: &Movie, len: u64, id: u32) -> Result<()> {
-    let track = movie.tracks().get(&id).ok_or(Error::TrakNotFound(id))?;
+    let track = movie.track(id)?;
     let mut samples = track.samples();
     for k in 1..=track.sample_count()? {
         if !write_sample(text, k, &next_place(&mut samples, len))? {

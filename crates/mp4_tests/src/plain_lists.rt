@@ -2,7 +2,7 @@
 //! sample is looked up by halves, its bytes are taken from the file, and `writeln!` writes its seven numbers.
 //! Today's lists are compared with these, which are not proved.
 
-use mp4_codec::{ByteCursor, Error, Result};
+use mp4_codec::{ByteCursor, Result};
 use mp4_media::{Mp4Reader, SamplePlace, read_mp4};
 use mp4_script::{ScriptFault, info_text, run_script};
 use std::alloc::Global;
@@ -16,7 +16,7 @@ fn read_sample_ref<'a>(
     id: u32,
     k: u32,
 ) -> Result<Option<&'a [u8]>> {
-    let track = movie.tracks().get(&id).ok_or(Error::TrakNotFound(id))?;
+    let track = movie.track(id)?;
     let Some(place) = track.locate(k)? else {
         return Ok(None);
     };
@@ -31,10 +31,7 @@ fn place_of(movie: &Mp4Reader, file: &[u8], id: u32, k: u32) -> Result<Option<Sa
     let Some(_) = read_sample_ref(movie, file, id, k)? else {
         return Ok(None);
     };
-    match movie.tracks().get(&id) {
-        Some(track) => track.locate(k),
-        None => Err(Error::TrakNotFound(id)),
-    }
+    movie.track(id)?.locate(k)
 }
 
 /// Writes the line of a sample. The answer is whether there is one: no line follows that of one that isn't

@@ -27,10 +27,7 @@ fn write_subtitle(lines: &mut String, sample: &SampleRef, timescale: u32) -> Res
 
 /// The subtitles of a text track, a line each.
 pub fn subtitles(alloc: Global, movie: &Mp4Reader, track_id: u32) -> Result<String> {
-    let track = movie
-        .tracks()
-        .get(&track_id)
-        .ok_or(Error::TrakNotFound(track_id))?;
+    let track = movie.track(track_id)?;
     let mut lines = String::new(alloc);
     for sample in movie.samples(track_id)? {
         write_subtitle(&mut lines, &sample?, track.timescale())?;

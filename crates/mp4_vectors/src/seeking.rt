@@ -1,16 +1,11 @@
 //! What a file answers to a seeker.
 
-use mp4_media::{Error, FoundNumber, Mp4Reader, Mp4Track, Place, Result};
+use mp4_media::{FoundNumber, Mp4Reader, Mp4Track, Place, Result};
 use std::alloc::Global;
 use std::fmt::Write;
 
 /// How many samples after the one that was found are looked at, at most.
 const MOST_LATER: u32 = 100;
-
-/// The track of an id.
-fn track_of<'m>(movie: &'m Mp4Reader, id: u32) -> Result<&'m Mp4Track> {
-    movie.tracks().get(&id).ok_or(Error::TrakNotFound(id))
-}
 
 /// What is sought of a sample.
 #[derive(Clone, Copy)]
@@ -81,7 +76,7 @@ fn found(
 
 /// The last sample that is decoded at or before a time.
 pub fn sample_at(alloc: Global, movie: &Mp4Reader, id: u32, time: u64) -> Result<String> {
-    let track = track_of(movie, id)?;
+    let track = movie.track(id)?;
     let number = track.sample_at(time);
     let sought = Sought::DecodedBy(time);
     let is_right = is_one(track, number, sought) && is_last(track, number, u32::MAX, sought);
@@ -90,7 +85,7 @@ pub fn sample_at(alloc: Global, movie: &Mp4Reader, id: u32, time: u64) -> Result
 
 /// The last sync sample up to a number.
 pub fn sync_sample(alloc: Global, movie: &Mp4Reader, id: u32, k: u32) -> Result<String> {
-    let track = track_of(movie, id)?;
+    let track = movie.track(id)?;
     let number = track.sync_sample_at_or_before(k);
     let is_right = is_one(track, number, Sought::Sync) && is_last(track, number, k, Sought::Sync);
     found(
@@ -103,19 +98,19 @@ pub fn sync_sample(alloc: Global, movie: &Mp4Reader, id: u32, k: u32) -> Result<
 
 /// How many times are compared for the last sample that is decoded at or before a time.
 pub fn comparisons_by_time(alloc: Global, movie: &Mp4Reader, id: u32, time: u64) -> Result<String> {
-    let found = track_of(movie, id)?.find_sample_at(time);
+    let found = movie.track(id)?.find_sample_at(time);
     Ok(format!(in alloc; "{}", found.comparisons)?)
 }
 
 /// How many numbers are compared for the last sync sample up to a number.
 pub fn comparisons_by_sync(alloc: Global, movie: &Mp4Reader, id: u32, k: u32) -> Result<String> {
-    let found = track_of(movie, id)?.find_sync_sample_at_or_before(k);
+    let found = movie.track(id)?.find_sync_sample_at_or_before(k);
     Ok(format!(in alloc; "{}", found.comparisons)?)
 }
 
 /// When a track begins and ends.
 pub fn time_range(alloc: Global, movie: &Mp4Reader, id: u32) -> Result<String> {
-    match track_of(movie, id)?.time_range() {
+    match movie.track(id)?.time_range() {
         None => Ok(String::from_str(alloc, "none")?),
         Some(range) => Ok(format!(in alloc; "{} to {}", range.start, range.end)?),
     }
