@@ -21,7 +21,7 @@ map-seconds : {A B C : Type 0} (f : B → C) (ps : List (A × B)) → map (λ p.
 map-seconds f [] = refl
 map-seconds f (p ∷ ps) = ap (λ xs. f p.1 ∷ xs) (map-seconds f ps)
 
-map-infos : {C : Type 0} (f : SampleInfo → C) (vs : List (ℕ × ℕ × ℤ × Bool))
+map-infos : {C : Type 0} (f : SampleInfo → C) (vs : List (ℕ × (ℕ × (ℤ × Bool))))
     → map f (map info_with vs) ≡ map (λ v. f (info_with v)) vs
 map-infos f [] = refl
 map-infos f (v ∷ vs) = ap (λ xs. f (info_with v) ∷ xs) (map-infos f vs)
@@ -31,7 +31,7 @@ map-infos f (v ∷ vs) = ap (λ xs. f (info_with v) ∷ xs) (map-infos f vs)
 -- what is before the last is the same, where the whole is
 pub same-init : {A : Type 0} (xs ys : List A) (x y : A) → xs ++ x ∷ [] ≡ ys ++ y ∷ [] → xs ≡ ys
 same-init xs ys x y e =
-    let same : length xs ≡ length ys = omega (arith, length_push xs x, length_push ys y, ap length e) in
+    let same : length ys ≡ length xs = omega (arith, length_push xs x, length_push ys y, ap length e) in
     sym (take_at xs (x ∷ []) (length xs) refl) ∙ ap (take (length xs)) e ∙ take_at ys (y ∷ []) (length xs) same
 
 module _ (sizes durations : List ℕ) (offsets : List ℤ) (syncs : List Bool)
@@ -108,9 +108,9 @@ module _ (sizes durations : List ℕ) (offsets : List ℤ) (syncs : List Bool)
       (omega (arith, third, h.durations_count)) in
       ap (map info_with)
       (ap (zip (sizes ++ s.size ∷ [])) middle
-      ∙ zip-push sizes (zip durations (zip offsets syncs)) s.size (s.duration, s.rendering_offset, s.is_sync) second)
+      ∙ zip-push sizes (zip durations (zip offsets syncs)) s.size (s.duration, (s.rendering_offset, s.is_sync)) second)
       ∙ map-append info_with (zip sizes (zip durations (zip offsets syncs)))
-      ((s.size, s.duration, s.rendering_offset, s.is_sync) ∷ [])
+      ((s.size, (s.duration, (s.rendering_offset, s.is_sync))) ∷ [])
 
   pub as-many-push : (s : SampleInfo)
       → AreAsMany (sizes ++ s.size ∷ []) (durations ++ s.duration ∷ []) (offsets ++ s.rendering_offset ∷ [])
@@ -120,3 +120,14 @@ module _ (sizes durations : List ℕ) (offsets : List ℤ) (syncs : List Bool)
     offsets_count = omega (arith, length_push sizes s.size, length_push offsets s.rendering_offset, h.offsets_count);
     syncs_count = omega (arith, length_push sizes s.size, length_push syncs s.is_sync, h.syncs_count);
   }
+
+-- the lists without the last sample
+pub as-many-init : (sizes durations : List ℕ) (offsets : List ℤ) (syncs : List Bool) (s : SampleInfo)
+    → AreAsMany (sizes ++ s.size ∷ []) (durations ++ s.duration ∷ []) (offsets ++ s.rendering_offset ∷ [])
+    (syncs ++ s.is_sync ∷ [])
+    → AreAsMany sizes durations offsets syncs
+as-many-init sizes durations offsets syncs s h = record {
+  durations_count = omega (arith, length_push sizes s.size, length_push durations s.duration, h.durations_count);
+  offsets_count = omega (arith, length_push sizes s.size, length_push offsets s.rendering_offset, h.offsets_count);
+  syncs_count = omega (arith, length_push sizes s.size, length_push syncs s.is_sync, h.syncs_count);
+}

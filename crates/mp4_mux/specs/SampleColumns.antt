@@ -4,7 +4,7 @@ use Rattle.std.specs.List.{zip}
 use Rattle.mp4_mux.specs.declared.sample_info.SampleInfo.{SampleInfo}
 
 -- a sample of these values
-abbrev pub info_with : ℕ × ℕ × ℤ × Bool → SampleInfo
+abbrev pub info_with : ℕ × (ℕ × (ℤ × Bool)) → SampleInfo
 info_with v = record { size = v.0; duration = v.1.0; rendering_offset = v.1.1.0; is_sync = v.1.1.1 }
 
 -- the samples of these sizes, durations, rendering offsets, and of these that are sync samples

@@ -5,7 +5,7 @@ ghost use Rattle.std.specs.List.{list_all, count_by};
 ghost use Rattle.mp4_mux.specs.Columns.{values_of};
 ghost use Rattle.mp4_mux.specs.ColumnTables.{true_numbers_from, same_size};
 
-use crate::column::Column;
+use crate::column::{Column, Run};
 use mp4_codec::ExactEq;
 use std::alloc::{AllocError, Global};
 
@@ -58,9 +58,10 @@ pub fn true_count(column: &Column<bool>) -> u32
     let mut count: u32 = 0;
     for i in 0..column.run_count() {
         let run = column.run_at(i);
-        if run.value {
-            count += run.count;
+        if !run.value {
+            continue;
         }
+        count += run.count;
     }
     count
 }
@@ -96,14 +97,21 @@ pub fn true_numbers(alloc: Global, column: &Column<bool>) -> Result<Vec<u32>, Al
     Ok(numbers)
 }
 
+/// Adds the values of a run.
+fn push_run(values: &mut Vec<u32>, run: Run<u32>) -> Result<(), AllocError>
+    ensures { OnOk result (values.new.items ≡ values.old.items ++ replicate run.count run.value) }
+{
+    let count = run.count as usize;
+    values.resize(values.len() + count, run.value)
+}
+
 /// All values.
 pub fn values(alloc: Global, column: &Column<u32>) -> Result<Vec<u32>, AllocError>
     ensures { IfOk result (λ values. values.items ≡ values_of column.now) }
 {
     let mut values = Vec::with_capacity(alloc, column.len() as usize)?;
     for i in 0..column.run_count() {
-        let run = column.run_at(i);
-        values.resize(values.len() + run.count as usize, run.value)?;
+        push_run(&mut values, column.run_at(i))?;
     }
     Ok(values)
 }

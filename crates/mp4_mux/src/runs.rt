@@ -81,7 +81,7 @@ pub fn run_count<T: ExactEq + Copy>(column: &Column<T>) -> u32
     let mut count: u32 = 1;
     for i in 1..column.run_count() {
         let next = column.run_at(i);
-        if value == next.value {
+        if next.value == value {
             continue;
         }
         value = next.value;

@@ -7,6 +7,7 @@ ghost use Rattle.mp4_mux.specs.SampleColumns.{infos_of, AreAsMany};
 
 use crate::column::Column;
 use crate::sample_info::SampleInfo;
+use mp4_codec::InRange;
 use std::alloc::{AllocError, Global};
 use std::marker::Model;
 
@@ -64,6 +65,8 @@ impl SampleInfos {
         ensures ok { OnOk result (self.new ≡ self.old ++ sample ∷ []) }
         ensures err { OnErr result (self.new ≡ self.old) }
     {
+        // For the proof alone, which learns the range of its numbers.
+        sample.in_range();
         self.sizes.push(sample.size)?;
         if let Err(e) = self.durations.push(sample.duration) {
             let _ = self.sizes.pop();
@@ -88,11 +91,15 @@ impl SampleInfos {
         requires { 0 < length self.old }
         ensures { self.old ≡ self.new ++ result ∷ [] }
     {
+        let size = self.sizes.pop();
+        let duration = self.durations.pop();
+        let rendering_offset = self.rendering_offsets.pop();
+        let is_sync = self.syncs.pop();
         SampleInfo {
-            size: self.sizes.pop(),
-            duration: self.durations.pop(),
-            rendering_offset: self.rendering_offsets.pop(),
-            is_sync: self.syncs.pop(),
+            size,
+            duration,
+            rendering_offset,
+            is_sync,
         }
     }
 

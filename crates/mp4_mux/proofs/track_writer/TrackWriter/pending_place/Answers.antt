@@ -7,4 +7,4 @@ pub returns : goal.returns
 returns c =
     rw (← c.self.view_is)
     (place_is (fields_of c.self.inside) c.self.invariant c.args.offset c.len.result
-    (omega (arith, c.self.inside.samples.ok.0)))
+    c.len.ensures)
