@@ -1,9 +1,8 @@
 -- The values of runs, and what a column keeps true as its values come and go.
-use Rattle.std.proofs.Common.{◌≡◌, ℕ, zero, suc, ◌+◌, ◌-◌, ◌<◌, ◌≤◌, List, [], ◌∷◌, ◌++◌, length, map, replicate, get_or, drop}
+use Rattle.std.proofs.Common.{◌≡◌, ℕ, zero, suc, ◌+◌, ◌-◌, ◌<◌, ◌≤◌, List, [], ◌∷◌, ◌++◌, length, map, replicate, get_or}
 use Rattle.std.proofs.Common.{refl, sym, ap, ◌∙◌, append_assoc, arith}
 use Rattle.std.specs.List.{AllByRecursion}
-use Rattle.std.proofs.lemmas.List.{length-append, length-map, length-replicate, length_push, append-nil, replicate_more}
-use Rattle.std.proofs.lemmas.List.{drop_more, drop_all, nil_from_length}
+use Rattle.std.proofs.lemmas.List.{length-append, length-replicate, length_push, append-nil, replicate_more}
 use Rattle.mp4_mux.specs.declared.column.Run.{Run}
 use Rattle.mp4_mux.specs.Columns.{values_of, one_run, runs_in}
 use Rattle.mp4_mux.specs.ColumnFields.{IsColumn}

@@ -1,5 +1,5 @@
 -- Samples, and the lists of each kind of number of theirs.
-use Rattle.std.proofs.Common.{◌≡◌, ℕ, ℤ, ◌+◌, ◌-◌, Bool, List, [], ◌∷◌, ◌++◌, length, map, take, refl, sym, ap, ap₂, ◌∙◌, arith}
+use Rattle.std.proofs.Common.{◌≡◌, ℕ, ℤ, Bool, List, [], ◌∷◌, ◌++◌, length, map, take, refl, sym, ap, ◌∙◌, arith}
 use Rattle.std.specs.List.{zip}
 use Rattle.std.proofs.lemmas.List.{length-map, map-append, length_push, take_at}
 use Rattle.std.proofs.lemmas.Slice.Zip.{length-zip, firsts-zip, seconds-zip}
@@ -25,8 +25,6 @@ map-infos : {C : Type 0} (f : SampleInfo → C) (vs : List (ℕ × (ℕ × (ℤ 
     → map f (map info_with vs) ≡ map (λ v. f (info_with v)) vs
 map-infos f [] = refl
 map-infos f (v ∷ vs) = ap (λ xs. f (info_with v) ∷ xs) (map-infos f vs)
-
-
 
 -- what is before the last is the same, where the whole is
 pub same-init : {A : Type 0} (xs ys : List A) (x y : A) → xs ++ x ∷ [] ≡ ys ++ y ∷ [] → xs ≡ ys

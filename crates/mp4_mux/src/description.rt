@@ -67,11 +67,7 @@ fn sound_description(config: &AacConfig, size: u32) -> StsdBox
 
 /// The description of these samples (ISO/IEC 14496-12, 8.5.2): the entry of the configuration, and in that of sound the
 /// size of the largest sample. Refused by `OutOfMemory` alone.
-pub(crate) fn stsd_box(
-    alloc: Global,
-    media: &MediaConfig,
-    samples: &SampleInfos,
-) -> Result<StsdBox>
+pub(crate) fn stsd_box(alloc: Global, media: &MediaConfig, samples: &SampleInfos) -> Result<StsdBox>
     ensures { Answers (λ b. b) result (Ok (stsd_for media.now samples.now)) }
 {
     match media {

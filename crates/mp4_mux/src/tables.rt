@@ -20,7 +20,10 @@ use mp4_table::{
 use std::alloc::{AllocError, Global};
 
 /// How long the samples last, in runs.
-fn stts_entries(alloc: Global, samples: &SampleInfos) -> std::result::Result<Vec<SttsEntry>, AllocError>
+fn stts_entries(
+    alloc: Global,
+    samples: &SampleInfos,
+) -> std::result::Result<Vec<SttsEntry>, AllocError>
     ensures { IfOk result (λ entries. entries.items ≡ runs_of same_duration stts_run samples.now) }
 {
     runs(alloc, samples.durations())
@@ -47,7 +50,10 @@ pub fn are_in_order(samples: &SampleInfos) -> bool
 }
 
 /// How much later than they are decoded the samples are shown, in runs.
-fn ctts_entries(alloc: Global, samples: &SampleInfos) -> std::result::Result<Vec<CttsEntry>, AllocError>
+fn ctts_entries(
+    alloc: Global,
+    samples: &SampleInfos,
+) -> std::result::Result<Vec<CttsEntry>, AllocError>
     ensures { IfOk result (λ entries. entries.items ≡ runs_of same_offset ctts_run samples.now) }
 {
     runs(alloc, samples.rendering_offsets())

@@ -1,4 +1,4 @@
-use Rattle.std.proofs.Common.{refl, sym, arith}
+use Rattle.std.proofs.Common.{refl, arith}
 use Rattle.mp4_mux.proofs.ColumnRuns.{some-runs, same_size-is, same_size-none}
 use Rattle.mp4_mux.specs.Columns.{values_of}
 use Rattle.mp4_mux.proofs.column_tables.same_size.Goals as goal

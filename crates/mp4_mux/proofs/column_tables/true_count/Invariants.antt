@@ -1,4 +1,4 @@
-use Rattle.std.proofs.Common.{◌≡◌, ◌≤◌, ◌+◌, length}
+use Rattle.std.proofs.Common.{◌≡◌, ◌+◌}
 use Rattle.std.specs.List.{count_by}
 use Rattle.mp4_mux.specs.Columns.{values_of}
 use Rattle.mp4_mux.proofs.ColumnRuns.{rest}

@@ -25,7 +25,7 @@ loop-i-preserved-then-not-run c = record {
         arith,
         c.loop-i.invariant.before,
         length-rest c.args.column.now c.loop-i.i c.run_at-run.result
-          (omega (arith, c.loop-i-test.true, c.run_count-i-end.ensures)) c.run_at-run.ensures.is,
+            (omega (arith, c.loop-i-test.true, c.run_count-i-end.ensures)) c.run_at-run.ensures.is,
       );
 }
 
@@ -52,7 +52,7 @@ loop-i-preserved c = record {
         arith,
         c.loop-i.invariant.before,
         length-rest c.args.column.now c.loop-i.i c.run_at-run.result
-          (omega (arith, c.loop-i-test.true, c.run_count-i-end.ensures)) c.run_at-run.ensures.is,
+            (omega (arith, c.loop-i-test.true, c.run_count-i-end.ensures)) c.run_at-run.ensures.is,
       );
 }
 

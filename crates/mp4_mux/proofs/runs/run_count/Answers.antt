@@ -23,7 +23,7 @@ loop-i-preserved-then-eq g c =
       arith,
       c.loop-i.invariant,
       changes-same g.T.PartialEq.eq g.met.T.Eq.laws.refl c.args.column.now c.loop-i.i c.loop-i.value c.run_at-next.result
-      (omega (arith, c.loop-i-test.true, c.run_count-i-end.ensures)) c.run_at-next.ensures.is
+          (omega (arith, c.loop-i-test.true, c.run_count-i-end.ensures)) c.run_at-next.ensures.is
           (sym (g.met.T.ExactEq.exact c.run_at-next.result.value c.loop-i.value (sym c.if-eq.ensures))),
     )
 
@@ -33,7 +33,7 @@ overflow_add-count g c =
       arith,
       c.loop-i.invariant,
       changes-other g.T.PartialEq.eq g.met.T.Eq.laws.refl c.args.column.now c.loop-i.i c.loop-i.value c.run_at-next.result
-      (omega (arith, c.loop-i-test.true, c.run_count-i-end.ensures)) c.run_at-next.ensures.is
+          (omega (arith, c.loop-i-test.true, c.run_count-i-end.ensures)) c.run_at-next.ensures.is
           (g.met.T.Eq.laws.symm c.loop-i.value c.run_at-next.result.value ∙ sym c.if-eq.ensures) (c.run_at-next.ensures.some (omega (arith, c.if-len-eq0.false, c.len.ensures))),
       changes-small g.T.PartialEq.eq (values_of c.args.column.now),
       c.len.ensures,
@@ -46,7 +46,7 @@ loop-i-preserved g c =
       arith,
       c.loop-i.invariant,
       changes-other g.T.PartialEq.eq g.met.T.Eq.laws.refl c.args.column.now c.loop-i.i c.loop-i.value c.run_at-next.result
-      (omega (arith, c.loop-i-test.true, c.run_count-i-end.ensures)) c.run_at-next.ensures.is
+          (omega (arith, c.loop-i-test.true, c.run_count-i-end.ensures)) c.run_at-next.ensures.is
           (g.met.T.Eq.laws.symm c.loop-i.value c.run_at-next.result.value ∙ sym c.if-eq.ensures) (c.run_at-next.ensures.some (omega (arith, c.if-len-eq0.false, c.len.ensures))),
     )
 

@@ -1,4 +1,4 @@
-use Rattle.std.proofs.Common.{◌∙◌, ◌+◌, ◌++◌, [], ◌∷◌, ap, sym, append_assoc, arith, List}
+use Rattle.std.proofs.Common.{◌∙◌, ◌+◌, ◌++◌, [], ◌∷◌, ap, sym, append_assoc, arith}
 use Rattle.mp4_mux.specs.Columns.{values_of}
 use Rattle.mp4_mux.specs.SampleTables.{runs_from}
 use Rattle.mp4_mux.proofs.ColumnRuns.{rest, some-runs, length-rest, length-first, runs-none, runs-first, runs-same}
@@ -30,7 +30,7 @@ overflow_add-count g c =
       arith,
       c.loop-i.invariant.count,
       length-rest c.args.column.now c.loop-i.i c.run_at-next.result
-      (omega (arith, c.loop-i-test.true, c.run_count-i-end.ensures)) c.run_at-next.ensures.is,
+          (omega (arith, c.loop-i-test.true, c.run_count-i-end.ensures)) c.run_at-next.ensures.is,
       c.len.ensures,
       c.len.type_inv,
     )
@@ -43,8 +43,12 @@ loop-i-preserved-then-eq g c = record {
       (omega (arith, c.loop-i-test.true, c.run_count-i-end.ensures)) c.run_at-next.ensures.is
       (g.met.T.ExactEq.exact c.loop-i.value c.run_at-next.result.value (sym c.if-eq.ensures))))
       ∙ c.loop-i.invariant.so_far;
-  count = omega (arith, c.loop-i.invariant.count, length-rest c.args.column.now c.loop-i.i c.run_at-next.result
-      (omega (arith, c.loop-i-test.true, c.run_count-i-end.ensures)) c.run_at-next.ensures.is);
+  count = omega (
+    arith,
+    c.loop-i.invariant.count,
+    length-rest c.args.column.now c.loop-i.i c.run_at-next.result
+        (omega (arith, c.loop-i-test.true, c.run_count-i-end.ensures)) c.run_at-next.ensures.is,
+  );
 }
 
 pub loop-i-preserved : goal.loop-i-preserved
@@ -58,11 +62,15 @@ loop-i-preserved g c =
           ∙ ap (λ rest. done ++ rest)
           (sym (runs-other g.T.PartialEq.eq g.R.TableRun.run g.met.T.Eq.laws.refl c.args.column.now c.loop-i.count c.loop-i.i c.loop-i.value
           c.run_at-next.result
-      (omega (arith, c.loop-i-test.true, c.run_count-i-end.ensures)) c.run_at-next.ensures.is
+          (omega (arith, c.loop-i-test.true, c.run_count-i-end.ensures)) c.run_at-next.ensures.is
           (sym c.if-eq.ensures) (c.run_at-next.ensures.some (omega (arith, c.if-len-eq0.false, c.len.ensures)))))
           ∙ c.loop-i.invariant.so_far);
-      count = omega (arith, c.loop-i.invariant.count, length-rest c.args.column.now c.loop-i.i c.run_at-next.result
-      (omega (arith, c.loop-i-test.true, c.run_count-i-end.ensures)) c.run_at-next.ensures.is);
+      count = omega (
+        arith,
+        c.loop-i.invariant.count,
+        length-rest c.args.column.now c.loop-i.i c.run_at-next.result
+            (omega (arith, c.loop-i-test.true, c.run_count-i-end.ensures)) c.run_at-next.ensures.is,
+      );
     }
 
 pub returns : goal.returns

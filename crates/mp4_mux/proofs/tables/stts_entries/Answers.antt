@@ -1,4 +1,4 @@
-use Rattle.std.proofs.Common.{◌∙◌, ap, nat_eq}
+use Rattle.std.proofs.Common.{◌≡◌, IfOk, subst, ◌∙◌, ap, nat_eq}
 use Rattle.mp4_mux.specs.SampleTables.{runs_of}
 use Rattle.mp4_mux.specs.ColumnTables.{stts_entry}
 use Rattle.mp4_mux.proofs.ColumnTableLaws.{runs_of-map}
@@ -6,6 +6,7 @@ use Rattle.mp4_mux.proofs.tables.stts_entries.Goals as goal
 
 pub returns : goal.returns
 returns c =
-    ?ret
+    subst (λ xs. IfOk c.runs.result (λ r. r.items ≡ xs))
     (ap (runs_of nat_eq stts_entry) c.durations.ensures
     ∙ runs_of-map nat_eq stts_entry (λ s. s.duration) c.args.samples.now)
+    c.runs.ensures

@@ -1,8 +1,6 @@
-use Rattle.std.proofs.Common.{◌≡◌, ◌+◌, ◌-◌, ◌≤◌, ◌<◌, [], length, arith, ap, sym, ◌∙◌}
+use Rattle.std.proofs.Common.{◌≡◌, ◌-◌, ◌≤◌, ◌<◌, [], length, arith, ap, sym}
 use Rattle.std.proofs.lemmas.Bool.{eqb-true}
 use Rattle.std.proofs.lemmas.List.{nil_from_length}
-use Rattle.mp4_mux.specs.declared.column.Run.{Run}
-use Rattle.mp4_mux.specs.Columns.{values_of, runs_in}
 use Rattle.mp4_mux.proofs.ColumnLaws.{column-each, column-shorter, column-run, values-each, values-shorter}
 use Rattle.mp4_mux.proofs.ColumnLaws.{length-values_in, last-small, no-values, values-run-one}
 use Rattle.mp4_mux.proofs.column.Column.pop.Goals as goal

@@ -1,7 +1,6 @@
-use Rattle.std.proofs.Common.{◌≡◌, ◌+◌, ◌-◌, ◌≤◌, ◌<◌, [], length, arith, ap, sym, ◌∙◌}
+use Rattle.std.proofs.Common.{◌≡◌, [], arith, sym}
 use Rattle.std.proofs.lemmas.Bool.{eqb-true, eqb-false}
 use Rattle.std.proofs.lemmas.List.{nil_from_length}
-use Rattle.mp4_mux.specs.Columns.{values_of, runs_in}
 use Rattle.mp4_mux.proofs.ColumnLaws.{last-small, each-column, longer-column, run-column, values-each, values-longer}
 use Rattle.mp4_mux.proofs.ColumnLaws.{values-run, length-values_in}
 use Rattle.mp4_mux.proofs.column.Column.push.Goals as goal

@@ -1,10 +1,10 @@
-use Rattle.std.proofs.Common.{◌≡◌, arith, rules}
+use Rattle.std.proofs.Common.{arith, rules}
 use Rattle.std.specs.Prelude.{FitsSigned}
 use Rattle.std.specs.Int.{w32}
 use Rattle.std.proofs.lemmas.Int.{to_z-of_z}
 use Rattle.mp4_mux.specs.declared.sample_info.SampleInfo.{SampleInfo}
 use Rattle.mp4_mux.specs.Columns.{values_of}
-use Rattle.mp4_mux.proofs.SampleColumnLaws.{length-infos, infos-push, as-many-push, as-many-init}
+use Rattle.mp4_mux.proofs.SampleColumnLaws.{length-infos, infos-push, as-many-init}
 use Rattle.mp4_mux.proofs.sample_infos.SampleInfos.pop.Goals as goal
 
 pub pop-size-requires : goal.pop-size-requires

@@ -3,7 +3,7 @@ use mir.Val.{to_z, of_z}
 use Rattle.std.specs.Int.{w32}
 use Rattle.std.proofs.lemmas.Int.{to_z-of_z}
 use Rattle.mp4_mux.specs.Columns.{values_of}
-use Rattle.mp4_mux.proofs.SampleColumnLaws.{length-infos, infos-push, as-many-push, as-many-init}
+use Rattle.mp4_mux.proofs.SampleColumnLaws.{length-infos, infos-push}
 use Rattle.mp4_mux.proofs.sample_infos.SampleInfos.push.Goals as goal
 
 pub push-requires : goal.push-requires
