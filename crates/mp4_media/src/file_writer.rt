@@ -28,8 +28,7 @@ use std::marker::Model;
 /// at most 64 or half as many as the samples; from then on each further value takes 4 bytes, or 1 where it says of a
 /// sync sample. So a sample takes nothing where it is as the one before it, 4 bytes where its size is another, 8 where
 /// its rendering offset is another too, and at most 16; a chunk takes 24. The spare room of the lists, which grow by
-/// doubling, isn't counted in this. `write_end` requests the bytes of the
-/// tables besides.
+/// doubling, isn't counted in this. `write_end` requests the bytes of the tables besides.
 ///
 /// Where a call has a cause for its refusal, exactly that cause is the answer, found before memory is requested and
 /// before a byte goes to the sink; else it is Ok, or `OutOfMemory`, or `Io` where the sink refuses. `OutOfMemory` and

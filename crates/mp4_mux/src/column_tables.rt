@@ -54,7 +54,8 @@ pub fn largest(column: &Column<u32>) -> u32
 pub fn true_count(column: &Column<bool>) -> u32
     ensures { result ≡ count_by (λ b. b) (values_of column.now) }
 {
-    let values = column.len();
+    // For the proof alone, which learns that the values are less than 2^32.
+    let _ = column.len();
     let mut count: u32 = 0;
     for i in 0..column.run_count() {
         let run = column.run_at(i);
@@ -82,7 +83,8 @@ fn push_numbers(numbers: &mut Vec<u32>, before: u32, count: u32) -> Result<(), A
 pub fn true_numbers(alloc: Global, column: &Column<bool>) -> Result<Vec<u32>, AllocError>
     ensures { IfOk result (λ numbers. numbers.items ≡ true_numbers_from 1 (values_of column.now)) }
 {
-    let values = column.len();
+    // For the proof alone, which learns that the values are less than 2^32.
+    let _ = column.len();
     let mut numbers = Vec::new(alloc);
     let mut before: u32 = 0;
     for i in 0..column.run_count() {

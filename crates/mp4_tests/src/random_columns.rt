@@ -163,7 +163,7 @@ fn samples_in_runs_in_patterns_and_all_different_are_written_as_the_model_says(r
         let alike = track_is_alike(rt.alloc(), &pool, &orders).unwrap_or(false);
         check(&rt, case, Ok(alike));
     }
-    at_least(&rt, "lists in runs", reached.in_runs, 10);
-    at_least(&rt, "lists one by one", reached.one_by_one, 10);
-    at_least(&rt, "lists that change", reached.changed, 4);
+    at_least(&rt, "lists in runs", reached.in_runs, 20);
+    at_least(&rt, "lists one by one", reached.one_by_one, 20);
+    at_least(&rt, "lists that change", reached.changed, 10);
 }

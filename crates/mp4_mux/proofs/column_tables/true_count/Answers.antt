@@ -21,8 +21,8 @@ overflow_add-count c =
       count-more c.args.column.now c.loop-i.i c.run_at-run.result
           (omega (arith, c.loop-i-test.true, c.run_count-i-end.ensures)) c.run_at-run.ensures.is (not-false c.run_at-run.result.value c.if-not-run.false),
       count_by-le-length (λ b. b) (values_of c.args.column.now),
-      c.len-values.ensures,
-      c.len-values.type_inv,
+      c.len.ensures,
+      c.len.type_inv,
     )
 
 pub loop-i-preserved : goal.loop-i-preserved

@@ -9,8 +9,8 @@ overflow_add-before c =
       c.loop-i.invariant.before,
       length-rest c.args.column.now c.loop-i.i c.run_at-run.result
           (omega (arith, c.loop-i-test.true, c.run_count-i-end.ensures)) c.run_at-run.ensures.is,
-      c.len-values.ensures,
-      c.len-values.type_inv,
+      c.len.ensures,
+      c.len.type_inv,
     )
 
 pub loop-i-preserved-then-not-run : goal.loop-i-preserved-then-not-run
@@ -36,8 +36,8 @@ push_numbers-requires c =
       c.loop-i.invariant.before,
       length-rest c.args.column.now c.loop-i.i c.run_at-run.result
           (omega (arith, c.loop-i-test.true, c.run_count-i-end.ensures)) c.run_at-run.ensures.is,
-      c.len-values.ensures,
-      c.len-values.type_inv,
+      c.len.ensures,
+      c.len.type_inv,
     )
 
 pub loop-i-preserved : goal.loop-i-preserved
