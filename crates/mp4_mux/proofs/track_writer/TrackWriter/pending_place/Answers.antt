@@ -1,4 +1,3 @@
-use Rattle.std.proofs.Common.{arith}
 use Rattle.mp4_mux.specs.TrackFields.{fields_of}
 use Rattle.mp4_mux.proofs.TrackLemmas.{place_is}
 use Rattle.mp4_mux.proofs.track_writer.TrackWriter.pending_place.Goals as goal

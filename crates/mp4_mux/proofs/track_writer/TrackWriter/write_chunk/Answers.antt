@@ -1,4 +1,4 @@
-use Rattle.std.proofs.Common.{◌≡◌, length, drop, arith}
+use Rattle.std.proofs.Common.{◌≡◌, length, drop}
 use Rattle.mp4_mux.specs.TrackFields.{fields_of}
 use Rattle.mp4_mux.proofs.SampleLaws.{bytes-samples_in}
 use Rattle.mp4_mux.proofs.TrackLemmas.{is_track-close, view-close}
