@@ -42,6 +42,13 @@ impl TableRun<i32> for CttsEntry {
     }
 }
 
+/// Whether both values belong to one run.
+fn is_same<T: ExactEq + Copy>(a: T, b: T) -> bool
+    ensures { result ≡ T.eq a b }
+{
+    a == b
+}
+
 /// The runs of the values, from the first to the last.
 pub fn runs<T: ExactEq + Copy, R: TableRun<T>>(
     alloc: Global,
@@ -58,7 +65,7 @@ pub fn runs<T: ExactEq + Copy, R: TableRun<T>>(
     let mut value = first.value;
     for i in 1..column.run_count() {
         let next = column.run_at(i);
-        if value == next.value {
+        if is_same(value, next.value) {
             count += next.count;
             continue;
         }
@@ -81,7 +88,7 @@ pub fn run_count<T: ExactEq + Copy>(column: &Column<T>) -> u32
     let mut count: u32 = 1;
     for i in 1..column.run_count() {
         let next = column.run_at(i);
-        if next.value == value {
+        if is_same(next.value, value) {
             continue;
         }
         value = next.value;

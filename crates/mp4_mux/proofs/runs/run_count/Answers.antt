@@ -17,14 +17,14 @@ loop-i-init g c =
     (some-runs c.args.column.now (omega (arith, c.if-len-eq0.false, c.len.ensures))) c.run_at.ensures.is
     (c.run_at.ensures.some (omega (arith, c.if-len-eq0.false, c.len.ensures)))
 
-pub loop-i-preserved-then-eq : goal.loop-i-preserved-then-eq
-loop-i-preserved-then-eq g c =
+pub loop-i-preserved-then-is_same : goal.loop-i-preserved-then-is_same
+loop-i-preserved-then-is_same g c =
     omega (
       arith,
       c.loop-i.invariant,
       changes-same g.T.PartialEq.eq g.met.T.Eq.laws.refl c.args.column.now c.loop-i.i c.loop-i.value c.run_at-next.result
           (omega (arith, c.loop-i-test.true, c.run_count-i-end.ensures)) c.run_at-next.ensures.is
-          (sym (g.met.T.ExactEq.exact c.run_at-next.result.value c.loop-i.value (sym c.if-eq.ensures))),
+          (sym (g.met.T.ExactEq.exact c.run_at-next.result.value c.loop-i.value (sym c.if-is_same.ensures))),
     )
 
 pub overflow_add-count : goal.overflow_add-count
@@ -34,7 +34,7 @@ overflow_add-count g c =
       c.loop-i.invariant,
       changes-other g.T.PartialEq.eq g.met.T.Eq.laws.refl c.args.column.now c.loop-i.i c.loop-i.value c.run_at-next.result
           (omega (arith, c.loop-i-test.true, c.run_count-i-end.ensures)) c.run_at-next.ensures.is
-          (g.met.T.Eq.laws.symm c.loop-i.value c.run_at-next.result.value ∙ sym c.if-eq.ensures) (c.run_at-next.ensures.some (omega (arith, c.if-len-eq0.false, c.len.ensures))),
+          (g.met.T.Eq.laws.symm c.loop-i.value c.run_at-next.result.value ∙ sym c.if-is_same.ensures) (c.run_at-next.ensures.some (omega (arith, c.if-len-eq0.false, c.len.ensures))),
       changes-small g.T.PartialEq.eq (values_of c.args.column.now),
       c.len.ensures,
       c.len.type_inv,
@@ -47,7 +47,7 @@ loop-i-preserved g c =
       c.loop-i.invariant,
       changes-other g.T.PartialEq.eq g.met.T.Eq.laws.refl c.args.column.now c.loop-i.i c.loop-i.value c.run_at-next.result
           (omega (arith, c.loop-i-test.true, c.run_count-i-end.ensures)) c.run_at-next.ensures.is
-          (g.met.T.Eq.laws.symm c.loop-i.value c.run_at-next.result.value ∙ sym c.if-eq.ensures) (c.run_at-next.ensures.some (omega (arith, c.if-len-eq0.false, c.len.ensures))),
+          (g.met.T.Eq.laws.symm c.loop-i.value c.run_at-next.result.value ∙ sym c.if-is_same.ensures) (c.run_at-next.ensures.some (omega (arith, c.if-len-eq0.false, c.len.ensures))),
     )
 
 pub returns : goal.returns

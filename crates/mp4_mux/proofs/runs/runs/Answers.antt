@@ -35,13 +35,13 @@ overflow_add-count g c =
       c.len.type_inv,
     )
 
-pub loop-i-preserved-then-eq : goal.loop-i-preserved-then-eq
-loop-i-preserved-then-eq g c = record {
+pub loop-i-preserved-then-is_same : goal.loop-i-preserved-then-is_same
+loop-i-preserved-then-is_same g c = record {
   so_far = ap (λ rest. c.loop-i.runs.items ++ rest)
       (sym (runs-same g.T.PartialEq.eq g.R.TableRun.run g.met.T.Eq.laws.refl c.args.column.now c.loop-i.count c.loop-i.i c.loop-i.value
       c.run_at-next.result
       (omega (arith, c.loop-i-test.true, c.run_count-i-end.ensures)) c.run_at-next.ensures.is
-      (g.met.T.ExactEq.exact c.loop-i.value c.run_at-next.result.value (sym c.if-eq.ensures))))
+      (g.met.T.ExactEq.exact c.loop-i.value c.run_at-next.result.value (sym c.if-is_same.ensures))))
       ∙ c.loop-i.invariant.so_far;
   count = omega (
     arith,
@@ -63,7 +63,7 @@ loop-i-preserved g c =
           (sym (runs-other g.T.PartialEq.eq g.R.TableRun.run g.met.T.Eq.laws.refl c.args.column.now c.loop-i.count c.loop-i.i c.loop-i.value
           c.run_at-next.result
           (omega (arith, c.loop-i-test.true, c.run_count-i-end.ensures)) c.run_at-next.ensures.is
-          (sym c.if-eq.ensures) (c.run_at-next.ensures.some (omega (arith, c.if-len-eq0.false, c.len.ensures)))))
+          (sym c.if-is_same.ensures) (c.run_at-next.ensures.some (omega (arith, c.if-len-eq0.false, c.len.ensures)))))
           ∙ c.loop-i.invariant.so_far);
       count = omega (
         arith,
