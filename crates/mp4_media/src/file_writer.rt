@@ -20,8 +20,15 @@ use std::alloc::Global;
 use std::marker::Model;
 
 /// Writes a movie of any size to a sink, after the bytes that it has: the file type, the data, and the movie box after
-/// it. What goes to the sink stays there: in memory are the tables, which grow with the number of samples, and the
-/// samples that wait, of each track those of at most a second.
+/// it. What goes to the sink stays there: in memory are, of each track, what its tables will say and the samples that
+/// wait, of at most a second.
+///
+/// Of each sample the tables say four values: its size, its duration, its rendering offset, and whether it is a sync
+/// sample. Each kind is a list of its own, which takes 8 bytes for each run of equal neighbours as long as the runs are
+/// at most 64 or half as many as the samples; from then on each further value takes 4 bytes, or 1 where it says of a
+/// sync sample. So a sample takes nothing where it is as the one before it, 4 bytes where its size is another, 8 where
+/// its rendering offset is another too, and at most 16; a chunk takes 24. The spare room of the lists, which grow by
+/// doubling, isn't counted in this. `write_end` requests the bytes of the tables besides.
 ///
 /// Where a call has a cause for its refusal, exactly that cause is the answer, found before memory is requested and
 /// before a byte goes to the sink; else it is Ok, or `OutOfMemory`, or `Io` where the sink refuses. `OutOfMemory` and

@@ -18,7 +18,8 @@ use mp4_samples::{Mp4Sample, SampleRef};
 use std::alloc::Global;
 use std::marker::Model;
 
-/// Writes a movie at the end of a buffer: the file type, the data, and the movie box after it.
+/// Writes a movie at the end of a buffer: the file type, the data, and the movie box after it. Besides the buffer it
+/// takes the memory that [`crate::Mp4FileWriter`] says.
 ///
 /// Where a call has a cause for its refusal, exactly that cause is the answer, checked before memory is
 /// requested; else it is Ok, or `OutOfMemory`. A refused call leaves the writer and its bytes as they were.

@@ -8,7 +8,7 @@ use Rattle.mp4_table.specs.Runs.{expand, changes_after, changes}
 use Rattle.mp4_mux.specs.SampleTables.{runs_from, runs_of}
 
 -- as many runs as members that are the first or differ from the one before
-length-runs_from : {X R : Type 0} (same : X → X → Bool) (run : ℕ → X → R) (n : ℕ) (x : X) (ys : List X)
+pub length-runs_from : {X R : Type 0} (same : X → X → Bool) (run : ℕ → X → R) (n : ℕ) (x : X) (ys : List X)
     → length (runs_from same run n x ys) ≡ suc (changes_after same x ys)
 unfolding runs_from changes_after
 length-runs_from same run n x [] = refl

@@ -1,53 +1,16 @@
--- The tables of samples and of chunks, made from the front on.
-use Rattle.std.proofs.Common.{◌≡◌, ℕ, ◌+◌, ◌-◌, ◌<◌, ◌≤◌, ◌==◌, ◌^◌, true, false, cond, ltb, List, [], ◌∷◌}
-use Rattle.std.proofs.Common.{◌++◌, length, get_or, drop, map, refl, sym, ap, ◌∙◌, append_assoc, arith, eq-eqb, ⊎_elim}
-use Rattle.std.specs.List.{list_all}
+-- The tables of chunks, made from the front on.
+use Rattle.std.proofs.Common.{◌≡◌, ℕ, ◌+◌, ◌-◌, ◌<◌, ◌≤◌, ◌^◌, false, ltb, List, [], ◌∷◌}
+use Rattle.std.proofs.Common.{◌++◌, length, get_or, drop, map, refl, sym, ◌∙◌, append_assoc, arith, eq-eqb, ⊎_elim}
 use Rattle.std.proofs.lemmas.Bool.{ne_eqb, lt-ltb, false≢true, cases_lt}
-use Rattle.std.proofs.lemmas.List.{drop_more, drop_all, length-map, get_or-map, append-nil, nil_from_length}
+use Rattle.std.proofs.lemmas.List.{drop_more, drop_all, length-map, get_or-map, append-nil}
 use Rattle.std.proofs.lemmas.List.Folds.{list_any_at}
 use Rattle.mp4_table.specs.declared.stsc.StscEntry.{StscEntry}
-use Rattle.mp4_mux.specs.declared.sample_info.SampleInfo.{SampleInfo}
 use Rattle.mp4_mux.specs.declared.chunk_place.ChunkPlace.{ChunkPlace}
-use Rattle.mp4_mux.specs.SampleTables.{sync_numbers_from, one_size, chunk_entries_from, are_far}
+use Rattle.mp4_mux.specs.SampleTables.{chunk_entries_from, are_far}
 
 -- what a slice of chunks has past its end
 abbrev pub no_chunk : ChunkPlace
 no_chunk = record { first = 0; count = 0; offset = 0 }
-
--- the numbers of the sync samples from sample i on, counted from 0
-abbrev pub numbers_at : List SampleInfo → ℕ → List ℕ
-numbers_at ss i = sync_numbers_from (i + 1) (drop i ss)
-
-module _ (ss : List SampleInfo) (d : SampleInfo) where
-  pub numbers_at_other : (i : ℕ) → i < length ss → (get_or ss i d).is_sync ≡ false
-      → numbers_at ss (i + 1) ≡ numbers_at ss i
-  unfolding sync_numbers_from
-  numbers_at_other i h e = rw (drop_more ss i d h, e) refl
-
-  pub numbers_at_sync : (done : List ℕ) (i : ℕ) → i < length ss → (get_or ss i d).is_sync ≡ true
-      → (done ++ (i + 1) ∷ []) ++ numbers_at ss (i + 1) ≡ done ++ numbers_at ss i
-  unfolding sync_numbers_from
-  numbers_at_sync done i h e =
-      append_assoc done ((i + 1) ∷ []) (numbers_at ss (i + 1)) ∙ rw (drop_more ss i d h, e) refl
-
-  pub numbers_at_end : (done : List ℕ) (i : ℕ) → length ss ≤ i → done ++ numbers_at ss i ≡ done
-  unfolding sync_numbers_from
-  numbers_at_end done i h = rw (drop_all i ss h) (append-nil done)
-
-  -- the one size is the first, where all have it
-  pub one_size_is : 0 < length ss
-      → cond (list_all (λ o. o.size == (get_or ss 0 d).size) ss) (get_or ss 0 d).size 0 ≡ one_size ss
-  unfolding one_size
-  one_size_is h =
-      let size = (get_or ss 0 d).size in
-      let whole : ss ≡ get_or ss 0 d ∷ drop 1 ss = drop_more ss 0 d h in
-      ap (λ xs. cond (list_all (λ o. o.size == size) xs) size 0) whole
-      ∙ rw (eq-eqb size size refl) refl
-      ∙ sym (ap one_size whole)
-
-pub no_size : (ss : List SampleInfo) → length ss ≡ 0 → 0 ≡ one_size ss
-unfolding one_size
-no_size ss h = rw (nil_from_length ss h) refl
 
 -- the entries of the chunks from chunk i on, counted from 0: before it are so many samples, and chunks of n
 abbrev pub entries_at : List ChunkPlace → ℕ → ℕ → ℕ → List StscEntry

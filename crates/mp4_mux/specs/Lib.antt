@@ -1,6 +1,10 @@
 pub mod Config
 pub mod Mdat
 pub mod SampleInfos
+pub mod Columns
+pub mod ColumnFields
+pub mod SampleColumns
+pub mod ColumnTables
 pub mod SampleTables
 pub mod ChunkLists
 pub mod TrackHeaders

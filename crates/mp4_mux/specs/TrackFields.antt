@@ -7,7 +7,7 @@ fields_of w =
     record {
       config = w.config;
       movie_timescale = w.movie_timescale;
-      samples = w.samples.items;
+      samples = w.samples;
       chunks = w.chunks.items;
       bytes = w.pending.items;
       pending_duration = w.pending_duration;

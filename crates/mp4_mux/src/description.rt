@@ -7,7 +7,8 @@ ghost use Rattle.mp4_entry.specs.Config.{entry_length};
 ghost use Rattle.mp4_entry.specs.Stsd.{stsd_of_config};
 ghost use Rattle.mp4_mux.specs.Description.{largest_size, buffer_size, mp4a_with, stsd_for};
 
-use crate::sample_info::SampleInfo;
+use crate::column_tables::largest;
+use crate::sample_infos::SampleInfos;
 use mp4_codec::Result;
 use mp4_entry::{AacConfig, EsdsBox, MediaConfig, Mp4aBox, StsdBox};
 use std::alloc::Global;
@@ -16,19 +17,15 @@ use std::alloc::Global;
 const LARGEST_BUFFER: u32 = 0xff_ffff;
 
 /// The size of the largest sample, in bytes; 0 where there is none.
-fn largest_size(samples: &[SampleInfo]) -> u32
+fn largest_size(samples: &SampleInfos) -> u32
     ensures { result ≡ largest_size samples.now }
 {
-    let mut largest = 0;
-    for sample in samples {
-        largest = largest.max(sample.size);
-    }
-    largest
+    largest(samples.sizes())
 }
 
 /// The same, as far as 24 bits go.
 #[tactic(auto, unfolding(crate::specs::Description::buffer_size))]
-fn buffer_size(samples: &[SampleInfo]) -> u32
+fn buffer_size(samples: &SampleInfos) -> u32
     ensures { result ≡ buffer_size samples.now }
 {
     largest_size(samples).min(LARGEST_BUFFER)
@@ -70,11 +67,7 @@ fn sound_description(config: &AacConfig, size: u32) -> StsdBox
 
 /// The description of these samples (ISO/IEC 14496-12, 8.5.2): the entry of the configuration, and in that of sound the
 /// size of the largest sample. Refused by `OutOfMemory` alone.
-pub(crate) fn stsd_box(
-    alloc: Global,
-    media: &MediaConfig,
-    samples: &[SampleInfo],
-) -> Result<StsdBox>
+pub(crate) fn stsd_box(alloc: Global, media: &MediaConfig, samples: &SampleInfos) -> Result<StsdBox>
     ensures { Answers (λ b. b) result (Ok (stsd_for media.now samples.now)) }
 {
     match media {

@@ -3,6 +3,8 @@
 
 mod beginning;
 mod chunk_place;
+mod column;
+mod column_tables;
 mod config;
 mod description;
 mod durations;
@@ -12,6 +14,7 @@ mod mdat;
 mod media;
 mod runs;
 mod sample_info;
+mod sample_infos;
 mod table_sizes;
 mod tables;
 mod track_headers;

@@ -1,97 +1,97 @@
 //! Neighbours among the samples that are alike, as runs.
 
-ghost use Rattle.std.specs.Prelude.{◌≡◌, ℕ, Bool, ◌^◌, ◌<◌, length, IfOk};
-ghost use Rattle.mp4_mux.specs.declared.sample_info.SampleInfo.{SampleInfo};
-ghost use Rattle.mp4_mux.specs.SampleTables.{runs_of, same_duration, stts_run, same_offset, ctts_run};
+ghost use Rattle.std.specs.Prelude.{◌≡◌, ℕ, IfOk};
+ghost use Rattle.mp4_mux.specs.Columns.{values_of};
+ghost use Rattle.mp4_table.specs.Runs.{changes};
+ghost use Rattle.mp4_mux.specs.SampleTables.{runs_of};
+ghost use Rattle.mp4_mux.specs.ColumnTables.{stts_entry, ctts_entry};
 
-use crate::sample_info::SampleInfo;
+use crate::column::Column;
+use mp4_codec::ExactEq;
 use mp4_table::{CttsEntry, SttsEntry};
 use std::alloc::{AllocError, Global};
 
-/// A run of samples that are alike in one way, as an entry of a table.
-pub trait SampleRun: Copy {
-    ghost same: { SampleInfo → SampleInfo → Bool };
+/// A run of equal values, as an entry of a table.
+pub trait TableRun<T>: Copy {
+    ghost run: { ℕ → T → Self };
 
-    ghost run: { ℕ → SampleInfo → Self };
-
-    /// Whether both samples belong to one run.
-    fn is_same(a: SampleInfo, b: SampleInfo) -> bool
-        ensures { result ≡ same a b };
-
-    /// The run of so many samples, of which this is the last.
-    fn of(count: u32, last: SampleInfo) -> Self
-        ensures { result ≡ run count last };
+    /// The run of so many of this value.
+    fn of(count: u32, value: T) -> Self
+        ensures { result ≡ run count value };
 }
 
-impl SampleRun for SttsEntry {
-    ghost same = { same_duration };
+impl TableRun<u32> for SttsEntry {
+    ghost run = { stts_entry };
 
-    ghost run = { stts_run };
-
-    fn is_same(a: SampleInfo, b: SampleInfo) -> bool {
-        a.duration == b.duration
-    }
-
-    fn of(count: u32, last: SampleInfo) -> Self {
+    fn of(count: u32, value: u32) -> Self {
         SttsEntry {
             sample_count: count,
-            sample_delta: last.duration,
+            sample_delta: value,
         }
     }
 }
 
-impl SampleRun for CttsEntry {
-    ghost same = { same_offset };
+impl TableRun<i32> for CttsEntry {
+    ghost run = { ctts_entry };
 
-    ghost run = { ctts_run };
-
-    fn is_same(a: SampleInfo, b: SampleInfo) -> bool {
-        a.rendering_offset == b.rendering_offset
-    }
-
-    fn of(count: u32, last: SampleInfo) -> Self {
+    fn of(count: u32, value: i32) -> Self {
         CttsEntry {
             sample_count: count,
-            sample_offset: last.rendering_offset,
+            sample_offset: value,
         }
     }
 }
 
-/// The runs of the samples, from the first to the last.
-pub fn runs<R: SampleRun>(alloc: Global, samples: &[SampleInfo]) -> Result<Vec<R>, AllocError>
-    requires { length samples.now < 2 ^ 32 }
-    ensures { IfOk result (λ r. r.items ≡ runs_of R.same R.run samples.now) }
+/// Whether both values belong to one run.
+fn is_same<T: ExactEq + Copy>(a: T, b: T) -> bool
+    ensures { result ≡ T.eq a b }
+{
+    a == b
+}
+
+/// The runs of the values, from the first to the last.
+pub fn runs<T: ExactEq + Copy, R: TableRun<T>>(
+    alloc: Global,
+    column: &Column<T>,
+) -> Result<Vec<R>, AllocError>
+    ensures { IfOk result (λ r. r.items ≡ runs_of T.eq R.run (values_of column.now)) }
 {
     let mut runs = Vec::new(alloc);
-    if samples.is_empty() {
+    if column.len() == 0 {
         return Ok(runs);
     }
-    let mut count: u32 = 1;
-    for i in 1..samples.len() {
-        if R::is_same(samples[i - 1], samples[i]) {
-            count += 1;
+    let first = column.run_at(0);
+    let mut count = first.count;
+    let mut value = first.value;
+    for i in 1..column.run_count() {
+        let next = column.run_at(i);
+        if is_same(value, next.value) {
+            count += next.count;
             continue;
         }
-        runs.push(R::of(count, samples[i - 1]))?;
-        count = 1;
+        runs.push(R::of(count, value))?;
+        count = next.count;
+        value = next.value;
     }
-    runs.push(R::of(count, samples[samples.len() - 1]))?;
+    runs.push(R::of(count, value))?;
     Ok(runs)
 }
 
-/// How many runs the samples make.
-pub fn run_count<R: SampleRun>(samples: &[SampleInfo]) -> u32
-    requires { length samples.now < 2 ^ 32 }
-    ensures { result ≡ length (runs_of R.same R.run samples.now) }
+/// How many runs the values make.
+pub fn run_count<T: ExactEq + Copy>(column: &Column<T>) -> u32
+    ensures { result ≡ changes T.eq (values_of column.now) }
 {
-    if samples.is_empty() {
+    if column.len() == 0 {
         return 0;
     }
+    let mut value = column.run_at(0).value;
     let mut count: u32 = 1;
-    for i in 1..samples.len() {
-        if R::is_same(samples[i - 1], samples[i]) {
+    for i in 1..column.run_count() {
+        let next = column.run_at(i);
+        if is_same(next.value, value) {
             continue;
         }
+        value = next.value;
         count += 1;
     }
     count

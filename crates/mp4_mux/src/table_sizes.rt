@@ -13,68 +13,79 @@ ghost use Rattle.mp4_table.specs.Stss.{stss_payload};
 ghost use Rattle.mp4_table.specs.Stsz.{stsz_payload};
 ghost use Rattle.mp4_table.specs.Stsc.{stsc_payload};
 ghost use Rattle.mp4_mux.specs.SampleTables.{are_far, stts_for, ctts_for, stss_for, stsz_for, stsc_for};
+ghost use Rattle.mp4_mux.specs.SampleTables.{runs_of, same_duration, stts_run, same_offset, ctts_run};
 ghost use Rattle.mp4_mux.specs.ChunkLists.{sample_counts, offsets, and_last, places_length};
 
 use crate::chunk_place::ChunkPlace;
+use crate::column_tables::true_count;
 use crate::runs::run_count;
-use crate::sample_info::SampleInfo;
+use crate::sample_infos::SampleInfos;
 use crate::tables::{are_far, are_in_order, one_size};
-use mp4_table::{CttsEntry, SttsEntry};
+
+/// How many entries the time-to-sample table has.
+fn stts_count(samples: &SampleInfos) -> u32
+    ensures { result ≡ length (runs_of same_duration stts_run samples.now) }
+{
+    run_count(samples.durations())
+}
+
+/// How many entries the table of rendering offsets has.
+fn ctts_count(samples: &SampleInfos) -> u32
+    ensures { result ≡ length (runs_of same_offset ctts_run samples.now) }
+{
+    run_count(samples.rendering_offsets())
+}
 
 /// The bytes of the time-to-sample table.
 #[tactic(auto, using(crate::proofs::TableSizes::sizes))]
-pub fn stts_size(samples: &[SampleInfo]) -> u64
-    requires { length samples.now < 2 ^ 32 }
+pub fn stts_size(samples: &SampleInfos) -> u64
     ensures value { result ≡ 8 + length (stts_payload (stts_for samples.now)) }
     ensures small { result < 2 ^ 38 }
 {
-    16 + 8 * u64::from(run_count::<SttsEntry>(samples))
+    16 + 8 * u64::from(stts_count(samples))
 }
 
 /// The bytes of the table of rendering offsets, and 0 where there is none.
 #[tactic(auto, using(crate::proofs::TableSizes::sizes))]
-pub fn ctts_size(samples: &[SampleInfo]) -> u64
-    requires { length samples.now < 2 ^ 32 }
+pub fn ctts_size(samples: &SampleInfos) -> u64
     ensures value { result ≡ length (optional ctts ctts_payload (ctts_for samples.now)) }
     ensures small { result < 2 ^ 38 }
 {
     if are_in_order(samples) {
         return 0;
     }
-    16 + 8 * u64::from(run_count::<CttsEntry>(samples))
+    16 + 8 * u64::from(ctts_count(samples))
 }
 
 /// How many sync samples there are.
-fn sync_count(samples: &[SampleInfo]) -> usize
+fn sync_count(samples: &SampleInfos) -> u32
     ensures { result ≡ count_by (λ s. s.is_sync) samples.now }
 {
-    samples.iter().filter(|sample| sample.is_sync).count()
+    true_count(samples.syncs())
 }
 
 /// The bytes of the table of sync samples, and 0 where there is none.
 #[tactic(auto, using(crate::proofs::TableSizes::sizes))]
-pub fn stss_size(samples: &[SampleInfo]) -> u64
-    requires { length samples.now < 2 ^ 32 }
+pub fn stss_size(samples: &SampleInfos) -> u64
     ensures value { result ≡ length (optional stss stss_payload (stss_for samples.now)) }
     ensures small { result < 2 ^ 38 }
 {
     if samples.is_empty() {
         return 0;
     }
-    16 + 4 * (sync_count(samples) as u64)
+    16 + 4 * u64::from(sync_count(samples))
 }
 
 /// The bytes of the sample size table.
 #[tactic(auto, using(crate::proofs::TableSizes::sizes))]
-pub fn stsz_size(samples: &[SampleInfo]) -> u64
-    requires { length samples.now < 2 ^ 32 }
+pub fn stsz_size(samples: &SampleInfos) -> u64
     ensures value { result ≡ 8 + length (stsz_payload (stsz_for samples.now)) }
     ensures small { result < 2 ^ 38 }
 {
     if one_size(samples) != 0 {
         return 20;
     }
-    20 + 4 * (samples.len() as u64)
+    20 + 4 * u64::from(samples.len())
 }
 
 /// How many entries the sample-to-chunk table has: one for each chunk that has another number of samples

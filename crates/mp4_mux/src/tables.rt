@@ -1,27 +1,40 @@
 //! The tables of a track, made from what is known of its samples and of its chunks.
 
-ghost use Rattle.std.specs.Prelude.{◌≡◌, ◌^◌, ◌<◌, ◌≤◌, ◌==◌, false, length, Ok, IfOk};
-ghost use Rattle.std.specs.List.{sum_by, list_all, All};
+ghost use Rattle.std.specs.Prelude.{◌≡◌, ◌^◌, ◌<◌, ◌≤◌, false, length, Ok, IfOk};
+ghost use Rattle.std.specs.List.{sum_by, All};
 ghost use Rattle.mp4_codec.specs.Cause.{Answers};
 ghost use Rattle.mp4_mux.specs.SampleTables.{are_in_order, sync_numbers_from, one_size, listed_sizes};
 ghost use Rattle.mp4_mux.specs.SampleTables.{chunk_entries_from, are_far, stts_for, ctts_for, stss_for, stsz_for};
-ghost use Rattle.mp4_mux.specs.SampleTables.{stsc_for, stco_for, co64_for};
+ghost use Rattle.mp4_mux.specs.SampleTables.{stsc_for, stco_for, co64_for, runs_of, same_duration, stts_run};
+ghost use Rattle.mp4_mux.specs.SampleTables.{same_offset, ctts_run};
 ghost use Rattle.mp4_mux.specs.ChunkLists.{sample_counts, offsets};
 
 use crate::chunk_place::ChunkPlace;
+use crate::column_tables::{all_equal, same_size, true_numbers, values};
 use crate::runs::runs;
-use crate::sample_info::SampleInfo;
+use crate::sample_infos::SampleInfos;
 use mp4_codec::{Result, SharedItems};
-use mp4_table::{Co64Box, CttsBox, StcoBox, StscBox, StscEntry, StssBox, StszBox, SttsBox};
+use mp4_table::{
+    Co64Box, CttsBox, CttsEntry, StcoBox, StscBox, StscEntry, StssBox, StszBox, SttsBox, SttsEntry,
+};
 use std::alloc::{AllocError, Global};
+
+/// How long the samples last, in runs.
+fn stts_entries(
+    alloc: Global,
+    samples: &SampleInfos,
+) -> std::result::Result<Vec<SttsEntry>, AllocError>
+    ensures { IfOk result (λ entries. entries.items ≡ runs_of same_duration stts_run samples.now) }
+{
+    runs(alloc, samples.durations())
+}
 
 /// The time-to-sample table of the samples.
 #[tactic(auto, unfolding(crate::specs::SampleTables::stts_for))]
-pub fn stts(alloc: Global, samples: &[SampleInfo]) -> Result<SttsBox>
-    requires { length samples.now < 2 ^ 32 }
+pub fn stts(alloc: Global, samples: &SampleInfos) -> Result<SttsBox>
     ensures { Answers (λ b. b) result (Ok (stts_for samples.now)) }
 {
-    let entries = runs(alloc, samples)?;
+    let entries = stts_entries(alloc, samples)?;
     Ok(SttsBox {
         version: 0,
         flags: 0,
@@ -30,22 +43,31 @@ pub fn stts(alloc: Global, samples: &[SampleInfo]) -> Result<SttsBox>
 }
 
 /// Whether each sample is shown when it is decoded.
-pub fn are_in_order(samples: &[SampleInfo]) -> bool
+pub fn are_in_order(samples: &SampleInfos) -> bool
     ensures { result ≡ are_in_order samples.now }
 {
-    samples.iter().all(|sample| sample.rendering_offset == 0)
+    all_equal(samples.rendering_offsets(), 0)
+}
+
+/// How much later than they are decoded the samples are shown, in runs.
+fn ctts_entries(
+    alloc: Global,
+    samples: &SampleInfos,
+) -> std::result::Result<Vec<CttsEntry>, AllocError>
+    ensures { IfOk result (λ entries. entries.items ≡ runs_of same_offset ctts_run samples.now) }
+{
+    runs(alloc, samples.rendering_offsets())
 }
 
 /// The table of the samples' rendering offsets, where one isn't 0.
 #[tactic(auto, unfolding(crate::specs::SampleTables::ctts_for))]
-pub fn ctts(alloc: Global, samples: &[SampleInfo]) -> Result<Option<CttsBox>>
-    requires { length samples.now < 2 ^ 32 }
+pub fn ctts(alloc: Global, samples: &SampleInfos) -> Result<Option<CttsBox>>
     ensures { Answers (λ b. b) result (Ok (ctts_for samples.now)) }
 {
     if are_in_order(samples) {
         return Ok(None);
     }
-    let entries = runs(alloc, samples)?;
+    let entries = ctts_entries(alloc, samples)?;
     Ok(Some(CttsBox {
         version: 0,
         flags: 0,
@@ -54,24 +76,15 @@ pub fn ctts(alloc: Global, samples: &[SampleInfo]) -> Result<Option<CttsBox>>
 }
 
 /// The numbers of the sync samples, counted from 1.
-fn sync_numbers(alloc: Global, samples: &[SampleInfo]) -> std::result::Result<Vec<u32>, AllocError>
-    requires { length samples.now < 2 ^ 32 }
+fn sync_numbers(alloc: Global, samples: &SampleInfos) -> std::result::Result<Vec<u32>, AllocError>
     ensures { IfOk result (λ numbers. numbers.items ≡ sync_numbers_from 1 samples.now) }
 {
-    let mut numbers = Vec::new(alloc);
-    for i in 0..samples.len() {
-        if !samples[i].is_sync {
-            continue;
-        }
-        numbers.push(i as u32 + 1)?;
-    }
-    Ok(numbers)
+    true_numbers(alloc, samples.syncs())
 }
 
 /// The table of the sync samples, where there is a sample.
 #[tactic(auto, unfolding(crate::specs::SampleTables::stss_for))]
-pub fn stss(alloc: Global, samples: &[SampleInfo]) -> Result<Option<StssBox>>
-    requires { length samples.now < 2 ^ 32 }
+pub fn stss(alloc: Global, samples: &SampleInfos) -> Result<Option<StssBox>>
     ensures { Answers (λ b. b) result (Ok (stss_for samples.now)) }
 {
     if samples.is_empty() {
@@ -85,39 +98,27 @@ pub fn stss(alloc: Global, samples: &[SampleInfo]) -> Result<Option<StssBox>>
     }))
 }
 
-/// Whether each sample has this size.
-fn all_have(samples: &[SampleInfo], size: u32) -> bool
-    ensures { result ≡ list_all (λ s. s.size == size) samples.now }
-{
-    samples.iter().all(|sample| sample.size == size)
-}
-
 /// The size that all samples have, and 0 where they differ.
-pub fn one_size(samples: &[SampleInfo]) -> u32
+pub fn one_size(samples: &SampleInfos) -> u32
     ensures { result ≡ one_size samples.now }
 {
-    if samples.is_empty() {
-        return 0;
-    }
-    let size = samples[0].size;
-    if all_have(samples, size) { size } else { 0 }
+    same_size(samples.sizes())
 }
 
 /// The size of each sample, where no one size stands for all.
 #[tactic(auto, unfolding(crate::specs::SampleTables::listed_sizes))]
-fn listed_sizes(alloc: Global, samples: &[SampleInfo]) -> std::result::Result<Vec<u32>, AllocError>
+fn listed_sizes(alloc: Global, samples: &SampleInfos) -> std::result::Result<Vec<u32>, AllocError>
     ensures { IfOk result (λ sizes. sizes.items ≡ listed_sizes samples.now) }
 {
     if one_size(samples) != 0 {
         return Ok(Vec::new(alloc));
     }
-    samples.iter().map(|sample| sample.size).collect(alloc)
+    values(alloc, samples.sizes())
 }
 
 /// The sample size table of the samples.
 #[tactic(auto, unfolding(crate::specs::SampleTables::stsz_for))]
-pub fn stsz(alloc: Global, samples: &[SampleInfo]) -> Result<StszBox>
-    requires { length samples.now < 2 ^ 32 }
+pub fn stsz(alloc: Global, samples: &SampleInfos) -> Result<StszBox>
     ensures { Answers (λ b. b) result (Ok (stsz_for samples.now)) }
 {
     let sample_sizes = listed_sizes(alloc, samples)?;
@@ -125,7 +126,7 @@ pub fn stsz(alloc: Global, samples: &[SampleInfo]) -> Result<StszBox>
         version: 0,
         flags: 0,
         sample_size: one_size(samples),
-        sample_count: samples.len() as u32,
+        sample_count: samples.len(),
         sample_sizes: SharedItems::from_items(sample_sizes.into())?,
     })
 }

@@ -22,6 +22,7 @@ use crate::chunk_place::{ChunkPlace, ChunkRef};
 use crate::config::TrackConfig;
 use crate::durations::Durations;
 use crate::sample_info::SampleInfo;
+use crate::sample_infos::SampleInfos;
 use crate::trak::{TrackParts, trak_box, trak_size};
 use mp4_boxes::TrakBox;
 use mp4_codec::{Error, InRange, Limit};
@@ -37,7 +38,7 @@ pub struct TrackWriter {
     config: TrackConfig,
     /// Ticks in a second, of the movie.
     movie_timescale: u32,
-    samples: Vec<SampleInfo>,
+    samples: SampleInfos,
     chunks: Vec<ChunkPlace>,
     /// The bytes of the samples that no chunk has yet.
     pending: Vec<u8>,
@@ -78,7 +79,7 @@ impl TrackWriter {
         TrackWriter {
             config,
             movie_timescale,
-            samples: Vec::new(alloc),
+            samples: SampleInfos::new(alloc),
             chunks: Vec::new(alloc),
             pending: Vec::new(alloc),
             pending_duration: 0,
@@ -122,7 +123,7 @@ impl TrackWriter {
     {
         // For the proof alone, which learns what holds of the whole.
         let _ = &self.closed;
-        self.samples.len() as u32
+        self.samples.len()
     }
 
     /// Whether its duration in ticks of the movie stays within 64 bits with one more sample of this duration.
@@ -145,7 +146,7 @@ impl TrackWriter {
         let movie = movie_ticks(info.duration, self.movie_timescale, self.config.timescale);
         self.samples.push(info)?;
         if let Err(e) = self.pending.extend_from_slice(sample.bytes) {
-            let _ = self.samples.take_last();
+            let _ = self.samples.pop();
             return Err(e);
         }
         self.pending_duration += duration;
@@ -159,7 +160,7 @@ impl TrackWriter {
         requires { 0 < length self.old.pending }
         ensures { self.new ≡ popped self.old }
     {
-        let info = self.samples.take_last();
+        let info = self.samples.pop();
         let movie = movie_ticks(info.duration, self.movie_timescale, self.config.timescale);
         self.pending
             .truncate(self.pending.len() - info.size as usize);
@@ -188,7 +189,7 @@ impl TrackWriter {
     {
         ChunkPlace {
             first: self.closed,
-            count: self.samples.len() as u32 - self.closed,
+            count: self.samples.len() - self.closed,
             offset,
         }
     }
@@ -223,7 +224,7 @@ impl TrackWriter {
             let _ = self.chunks.take_last();
             return Err(e);
         }
-        self.closed = self.samples.len() as u32;
+        self.closed = self.samples.len();
         self.pending.clear();
         self.pending_duration = 0;
         Ok(())
@@ -251,7 +252,7 @@ impl TrackWriter {
         TrackParts {
             id,
             config: &self.config,
-            samples: self.samples.as_slice(),
+            samples: &self.samples,
             chunks: self.chunks.as_slice(),
             durations: self.durations,
         }

@@ -13,7 +13,7 @@ use crate::chunk_place::ChunkPlace;
 use crate::config::TrackConfig;
 use crate::description::{entry_size, stsd_box};
 use crate::durations::Durations;
-use crate::sample_info::SampleInfo;
+use crate::sample_infos::SampleInfos;
 use crate::table_sizes::{ctts_size, places_size, stsc_size, stss_size, stsz_size, stts_size};
 use crate::tables::{co64, ctts, stco, stsc, stss, stsz, stts};
 use crate::track_headers::{
@@ -37,7 +37,7 @@ pub struct TrackParts<'a> {
     /// What it was added with.
     pub config: &'a TrackConfig,
     /// Its samples, in the order in which they are decoded.
-    pub samples: &'a [SampleInfo],
+    pub samples: &'a SampleInfos,
     /// Its chunks, in the order of their samples.
     pub chunks: &'a [ChunkPlace],
     /// How long it is.
@@ -45,8 +45,7 @@ pub struct TrackParts<'a> {
 }
 
 /// The tables that say when samples are decoded and shown (ISO/IEC 14496-12, 8.6.1). Refused by `OutOfMemory` alone.
-fn time_tables(alloc: Global, samples: &[SampleInfo]) -> Result<(SttsBox, Option<CttsBox>)>
-    requires { length samples.now < 2 ^ 32 }
+fn time_tables(alloc: Global, samples: &SampleInfos) -> Result<(SttsBox, Option<CttsBox>)>
     ensures { Answers (λ both. both) result (Ok (stts_for samples.now, ctts_for samples.now)) }
 {
     let stts = stts(alloc, samples)?;
@@ -56,8 +55,7 @@ fn time_tables(alloc: Global, samples: &[SampleInfo]) -> Result<(SttsBox, Option
 
 /// The tables that say which are sync samples (8.6.2) and how many bytes each has (8.7.3). Refused by `OutOfMemory`
 /// alone.
-fn sample_tables(alloc: Global, samples: &[SampleInfo]) -> Result<(Option<StssBox>, StszBox)>
-    requires { length samples.now < 2 ^ 32 }
+fn sample_tables(alloc: Global, samples: &SampleInfos) -> Result<(Option<StssBox>, StszBox)>
     ensures { Answers (λ both. both) result (Ok (stss_for samples.now, stsz_for samples.now)) }
 {
     let stss = stss(alloc, samples)?;
@@ -160,8 +158,7 @@ pub fn trak_box(alloc: Global, track: &TrackParts) -> Result<TrakBox>
 /// How many bytes the tables have that say when samples are shown, which are sync samples, and how long they are. It
 /// requests no memory.
 #[tactic(auto, unfolding(crate::specs::FinishedTrack::sample_tables_length))]
-fn sample_tables_size(samples: &[SampleInfo]) -> u64
-    requires { length samples.now < 2 ^ 32 }
+fn sample_tables_size(samples: &SampleInfos) -> u64
     ensures value { result ≡ sample_tables_length samples.now }
     ensures small { result < 2 ^ 40 }
 {

@@ -28,6 +28,8 @@ mod plain_lists;
 #[cfg(test)]
 mod queries;
 #[cfg(test)]
+mod random_columns;
+#[cfg(test)]
 mod random_cursors;
 #[cfg(test)]
 mod random_files;

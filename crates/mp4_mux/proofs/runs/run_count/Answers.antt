@@ -1,52 +1,60 @@
-use Rattle.std.proofs.Common.{◌∙◌, sym, arith, ◌<◌, length}
-use Rattle.std.proofs.lemmas.Bool.{eqb-true, eqb-false}
-use Rattle.mp4_mux.proofs.RunTableLaws.{length-runs_of}
-use Rattle.mp4_mux.proofs.RunSteps.{no_sample, no_changes, changes_at_first, changes_at_same, changes_at_other}
-use Rattle.mp4_mux.proofs.RunSteps.{changes_at_end}
+use Rattle.std.proofs.Common.{◌∙◌, sym, arith}
+use Rattle.mp4_mux.specs.Columns.{values_of}
+use Rattle.mp4_mux.proofs.ColumnRuns.{some-runs, changes-none, changes-first, changes-same, changes-other, changes-end}
+use Rattle.mp4_mux.proofs.ColumnRuns.{changes-small}
 use Rattle.mp4_mux.proofs.runs.run_count.Goals as goal
 
-pub returns-then-is_empty : goal.returns-then-is_empty
-returns-then-is_empty g c =
-    no_changes g.R.SampleRun.same no_sample c.args.samples.now (eqb-true _ _ (sym c.if-is_empty.ensures))
-    ∙ sym (length-runs_of g.R.SampleRun.same g.R.SampleRun.run c.args.samples.now)
+pub returns-then-len-eq0 : goal.returns-then-len-eq0
+returns-then-len-eq0 g c =
+    changes-none g.T.PartialEq.eq (values_of c.args.column.now) (omega (arith, c.if-len-eq0.true, c.len.ensures))
+
+pub run_at-requires : goal.run_at-requires
+run_at-requires g c = some-runs c.args.column.now (omega (arith, c.if-len-eq0.false, c.len.ensures))
 
 pub loop-i-init : goal.loop-i-init
 loop-i-init g c =
-    let some : 0 < length c.args.samples.now = omega (arith, eqb-false _ _ (sym c.if-is_empty.ensures)) in
-    record {
-      so_far = changes_at_first g.R.SampleRun.same no_sample c.args.samples.now some;
-      count = omega arith;
-    }
+    changes-first g.T.PartialEq.eq g.met.T.Eq.laws.refl c.args.column.now c.run_at.result
+    (some-runs c.args.column.now (omega (arith, c.if-len-eq0.false, c.len.ensures))) c.run_at.ensures.is
+    (c.run_at.ensures.some (omega (arith, c.if-len-eq0.false, c.len.ensures)))
 
 pub loop-i-preserved-then-is_same : goal.loop-i-preserved-then-is_same
-loop-i-preserved-then-is_same g c = record {
-  so_far =
-      omega (
-        arith,
-        c.loop-i.invariant.so_far,
-        changes_at_same g.R.SampleRun.same no_sample c.args.samples.now
-            c.loop-i.i c.loop-i-test.true (sym c.if-is_same.ensures),
-      );
-  count = omega (arith, c.loop-i.invariant.count);
-}
+loop-i-preserved-then-is_same g c =
+    omega (
+      arith,
+      c.loop-i.invariant,
+      changes-same g.T.PartialEq.eq g.met.T.Eq.laws.refl c.args.column.now c.loop-i.i c.loop-i.value c.run_at-next.result
+          (omega (arith, c.loop-i-test.true, c.run_count-i-end.ensures)) c.run_at-next.ensures.is
+          (sym (g.met.T.ExactEq.exact c.run_at-next.result.value c.loop-i.value (sym c.if-is_same.ensures))),
+    )
+
+pub overflow_add-count : goal.overflow_add-count
+overflow_add-count g c =
+    omega (
+      arith,
+      c.loop-i.invariant,
+      changes-other g.T.PartialEq.eq g.met.T.Eq.laws.refl c.args.column.now c.loop-i.i c.loop-i.value c.run_at-next.result
+          (omega (arith, c.loop-i-test.true, c.run_count-i-end.ensures)) c.run_at-next.ensures.is
+          (g.met.T.Eq.laws.symm c.loop-i.value c.run_at-next.result.value ∙ sym c.if-is_same.ensures) (c.run_at-next.ensures.some (omega (arith, c.if-len-eq0.false, c.len.ensures))),
+      changes-small g.T.PartialEq.eq (values_of c.args.column.now),
+      c.len.ensures,
+      c.len.type_inv,
+    )
 
 pub loop-i-preserved : goal.loop-i-preserved
-loop-i-preserved g c = record {
-  so_far =
-      omega (
-        arith,
-        c.loop-i.invariant.so_far,
-        changes_at_other g.R.SampleRun.same no_sample c.args.samples.now
-            c.loop-i.i c.loop-i-test.true (sym c.if-is_same.ensures),
-      );
-  count = omega (arith, c.loop-i.invariant.count);
-}
+loop-i-preserved g c =
+    omega (
+      arith,
+      c.loop-i.invariant,
+      changes-other g.T.PartialEq.eq g.met.T.Eq.laws.refl c.args.column.now c.loop-i.i c.loop-i.value c.run_at-next.result
+          (omega (arith, c.loop-i-test.true, c.run_count-i-end.ensures)) c.run_at-next.ensures.is
+          (g.met.T.Eq.laws.symm c.loop-i.value c.run_at-next.result.value ∙ sym c.if-is_same.ensures) (c.run_at-next.ensures.some (omega (arith, c.if-len-eq0.false, c.len.ensures))),
+    )
 
 pub returns : goal.returns
 returns g c =
     omega (
       arith,
-      c.loop-i.invariant.so_far,
-      changes_at_end g.R.SampleRun.same no_sample c.args.samples.now c.loop-i.i c.loop-i-test.false,
-      length-runs_of g.R.SampleRun.same g.R.SampleRun.run c.args.samples.now,
+      c.loop-i.invariant,
+      changes-end g.T.PartialEq.eq g.met.T.Eq.laws.refl c.args.column.now c.loop-i.i c.loop-i.value
+          (omega (arith, c.loop-i-test.false, c.run_count-i-end.ensures)),
     )

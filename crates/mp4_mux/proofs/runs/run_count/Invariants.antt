@@ -1,10 +1,9 @@
-use Rattle.std.proofs.Common.{◌≡◌, ◌≤◌, ◌+◌}
-use Rattle.mp4_table.specs.Runs.{changes}
-use Rattle.mp4_mux.proofs.RunSteps.{no_sample, changes_at}
+use Rattle.std.proofs.Common.{◌≡◌, ◌+◌}
+use Rattle.mp4_table.specs.Runs.{changes_after, changes}
+use Rattle.mp4_mux.specs.Columns.{values_of}
+use Rattle.mp4_mux.proofs.ColumnRuns.{rest}
 use Rattle.mp4_mux.proofs.runs.run_count.Given as goal
 
 abbrev pub invariant-loop-i : goal.invariant-loop-i
-invariant-loop-i g l = record {
-  so_far : l.count + changes_at g.R.SampleRun.same no_sample l.samples l.i ≡ changes g.R.SampleRun.same l.samples;
-  count : l.count ≤ l.i;
-}
+invariant-loop-i g l =
+    l.count + changes_after g.T.PartialEq.eq l.value (rest l.column l.i) ≡ changes g.T.PartialEq.eq (values_of l.column)

@@ -1,47 +1,82 @@
-use Rattle.std.proofs.Common.{◌≡◌, ap, ◌∙◌, sym, arith, ◌++◌, ◌<◌, length}
-use Rattle.std.proofs.lemmas.Bool.{eqb-true, eqb-false}
-use Rattle.mp4_mux.proofs.RunSteps.{no_sample, runs_of_none, runs_at_first, runs_at_same, runs_at_other}
-use Rattle.mp4_mux.proofs.RunSteps.{runs_at_end}
+use Rattle.std.proofs.Common.{◌∙◌, ◌+◌, ◌++◌, [], ◌∷◌, ap, sym, append_assoc, arith}
+use Rattle.mp4_mux.specs.Columns.{values_of}
+use Rattle.mp4_mux.specs.SampleTables.{runs_from}
+use Rattle.mp4_mux.proofs.ColumnRuns.{rest, some-runs, length-rest, length-first, runs-none, runs-first, runs-same}
+use Rattle.mp4_mux.proofs.ColumnRuns.{runs-other, runs-end}
 use Rattle.mp4_mux.proofs.runs.runs.Goals as goal
 
-pub returns-then-is_empty : goal.returns-then-is_empty
-returns-then-is_empty g c =
+pub returns-then-len-eq0 : goal.returns-then-len-eq0
+returns-then-len-eq0 g c =
     c.new-runs.ensures.items
-    ∙ runs_of_none g.R.SampleRun.same g.R.SampleRun.run no_sample c.args.samples.now
-    (eqb-true _ _ (sym c.if-is_empty.ensures))
+    ∙ runs-none g.T.PartialEq.eq g.R.TableRun.run g.met.T.Eq.laws.refl (values_of c.args.column.now)
+    (omega (arith, c.if-len-eq0.true, c.len.ensures))
+
+pub run_at-first-requires : goal.run_at-first-requires
+run_at-first-requires g c = some-runs c.args.column.now (omega (arith, c.if-len-eq0.false, c.len.ensures))
 
 pub loop-i-init : goal.loop-i-init
 loop-i-init g c =
-    let some : 0 < length c.args.samples.now = omega (arith, eqb-false _ _ (sym c.if-is_empty.ensures)) in
+    let there = some-runs c.args.column.now (omega (arith, c.if-len-eq0.false, c.len.ensures)) in
     record {
       so_far = rw c.new-runs.ensures.items
-          (runs_at_first g.R.SampleRun.same g.R.SampleRun.run no_sample c.args.samples.now some);
-      count = omega arith;
+          (runs-first g.T.PartialEq.eq g.R.TableRun.run g.met.T.Eq.laws.refl c.args.column.now c.run_at-first.result there
+          c.run_at-first.ensures.is (c.run_at-first.ensures.some (omega (arith, c.if-len-eq0.false, c.len.ensures))));
+      count = omega (arith, length-first c.args.column.now c.run_at-first.result there c.run_at-first.ensures.is);
     }
+
+pub overflow_add-count : goal.overflow_add-count
+overflow_add-count g c =
+    omega (
+      arith,
+      c.loop-i.invariant.count,
+      length-rest c.args.column.now c.loop-i.i c.run_at-next.result
+          (omega (arith, c.loop-i-test.true, c.run_count-i-end.ensures)) c.run_at-next.ensures.is,
+      c.len.ensures,
+      c.len.type_inv,
+    )
 
 pub loop-i-preserved-then-is_same : goal.loop-i-preserved-then-is_same
 loop-i-preserved-then-is_same g c = record {
   so_far = ap (λ rest. c.loop-i.runs.items ++ rest)
-      (runs_at_same g.R.SampleRun.same g.R.SampleRun.run no_sample c.args.samples.now c.loop-i.count c.loop-i.i
-      c.loop-i.auto.i c.loop-i-test.true (sym c.if-is_same.ensures))
+      (sym (runs-same g.T.PartialEq.eq g.R.TableRun.run g.met.T.Eq.laws.refl c.args.column.now c.loop-i.count c.loop-i.i c.loop-i.value
+      c.run_at-next.result
+      (omega (arith, c.loop-i-test.true, c.run_count-i-end.ensures)) c.run_at-next.ensures.is
+      (g.met.T.ExactEq.exact c.loop-i.value c.run_at-next.result.value (sym c.if-is_same.ensures))))
       ∙ c.loop-i.invariant.so_far;
-  count = omega (arith, c.loop-i.invariant.count);
+  count = omega (
+    arith,
+    c.loop-i.invariant.count,
+    length-rest c.args.column.now c.loop-i.i c.run_at-next.result
+        (omega (arith, c.loop-i-test.true, c.run_count-i-end.ensures)) c.run_at-next.ensures.is,
+  );
 }
 
 pub loop-i-preserved : goal.loop-i-preserved
-loop-i-preserved g c = record {
-  so_far = rw (c.in_ok-push.ensures.items, c.of.ensures)
-      (runs_at_other g.R.SampleRun.same g.R.SampleRun.run no_sample c.args.samples.now c.loop-i.runs.items
-      c.loop-i.count c.loop-i.i c.loop-i.auto.i c.loop-i-test.true (sym c.if-is_same.ensures)
-      ∙ c.loop-i.invariant.so_far);
-  count = omega arith;
-}
+loop-i-preserved g c =
+    let done = c.loop-i.runs.items in
+    let next = c.run_at-next.result in
+    record {
+      so_far = rw (c.in_ok-push.ensures.items, c.of.ensures)
+          (append_assoc done (g.R.TableRun.run c.loop-i.count c.loop-i.value ∷ [])
+          (runs_from g.T.PartialEq.eq g.R.TableRun.run next.count next.value (rest c.args.column.now (c.loop-i.i + 1)))
+          ∙ ap (λ rest. done ++ rest)
+          (sym (runs-other g.T.PartialEq.eq g.R.TableRun.run g.met.T.Eq.laws.refl c.args.column.now c.loop-i.count c.loop-i.i c.loop-i.value
+          c.run_at-next.result
+          (omega (arith, c.loop-i-test.true, c.run_count-i-end.ensures)) c.run_at-next.ensures.is
+          (sym c.if-is_same.ensures) (c.run_at-next.ensures.some (omega (arith, c.if-len-eq0.false, c.len.ensures)))))
+          ∙ c.loop-i.invariant.so_far);
+      count = omega (
+        arith,
+        c.loop-i.invariant.count,
+        length-rest c.args.column.now c.loop-i.i c.run_at-next.result
+            (omega (arith, c.loop-i-test.true, c.run_count-i-end.ensures)) c.run_at-next.ensures.is,
+      );
+    }
 
 pub returns : goal.returns
 returns g c =
-    let whole : length c.args.samples.now ≡ c.loop-i.i = omega (arith, eqb-false _ _ (sym c.if-is_empty.ensures)) in
-    rw (
-      c.in_ok-push-2.ensures.items,
-      c.of-2.ensures,
-      ← runs_at_end g.R.SampleRun.same g.R.SampleRun.run no_sample c.args.samples.now c.loop-i.count c.loop-i.i whole,
-    ) c.loop-i.invariant.so_far
+    rw (c.in_ok-push-2.ensures.items, c.of-2.ensures)
+    (ap (λ rest. c.loop-i.runs.items ++ rest)
+    (sym (runs-end g.T.PartialEq.eq g.R.TableRun.run g.met.T.Eq.laws.refl c.args.column.now c.loop-i.count c.loop-i.i c.loop-i.value
+    (omega (arith, c.loop-i-test.false, c.run_count-i-end.ensures))))
+    ∙ c.loop-i.invariant.so_far)

@@ -7,7 +7,7 @@ use Rattle.mp4_mux.proofs.track_writer.TrackWriter.is_full.Goals as goal
 pub returns-then-self : goal.returns-then-self
 unfolding is_full
 returns-then-self c =
-    let rest = drop c.self.inside.closed c.self.inside.samples.items in
+    let rest = drop c.self.inside.closed c.self.inside.samples in
     rw (
       ← c.self.view_is,
       durations-samples_in rest c.self.inside.pending.items,
@@ -19,7 +19,7 @@ returns-then-self c =
 pub returns-else-self : goal.returns-else-self
 unfolding is_full
 returns-else-self c =
-    let rest = drop c.self.inside.closed c.self.inside.samples.items in
+    let rest = drop c.self.inside.closed c.self.inside.samples in
     rw (
       ← c.self.view_is,
       durations-samples_in rest c.self.inside.pending.items,

@@ -8,7 +8,7 @@ use Rattle.mp4_mux.proofs.track_writer.TrackWriter.new.Goals as goal
 
 pub invariant_of-result : goal.invariant_of-result
 unfolding media_duration movie_duration
-invariant_of-result c = rw (c.new.ensures.items, c.new-2.ensures.items, c.new-3.ensures.items) record {
+invariant_of-result c = rw (c.new.ensures, c.new-2.ensures.items, c.new-3.ensures.items) record {
   accepted = c.requires;
   clock = has_ticks c.args.config c.requires;
   within = omega arith;
@@ -26,4 +26,4 @@ invariant_of-result c = rw (c.new.ensures.items, c.new-2.ensures.items, c.new-3.
 
 pub returns : goal.returns
 unfolding samples_in
-returns c = rw (c.new.ensures.items, c.new-2.ensures.items) refl
+returns c = rw (c.new.ensures, c.new-2.ensures.items) refl

@@ -6,5 +6,5 @@ pub returns : goal.returns
 returns c =
     rw (← c.self.view_is)
     (c.as_slice.ensures.value
-    ∙ sym (bytes-samples_in (drop c.self.inside.closed c.self.inside.samples.items) c.self.inside.pending.items
+    ∙ sym (bytes-samples_in (drop c.self.inside.closed c.self.inside.samples) c.self.inside.pending.items
     c.self.invariant.sizes))

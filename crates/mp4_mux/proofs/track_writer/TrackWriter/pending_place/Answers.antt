@@ -1,4 +1,3 @@
-use Rattle.std.proofs.Common.{arith}
 use Rattle.mp4_mux.specs.TrackFields.{fields_of}
 use Rattle.mp4_mux.proofs.TrackLemmas.{place_is}
 use Rattle.mp4_mux.proofs.track_writer.TrackWriter.pending_place.Goals as goal
@@ -7,4 +6,4 @@ pub returns : goal.returns
 returns c =
     rw (← c.self.view_is)
     (place_is (fields_of c.self.inside) c.self.invariant c.args.offset c.len.result
-    (omega (arith, c.self.inside.samples.ok.0)))
+    c.len.ensures)

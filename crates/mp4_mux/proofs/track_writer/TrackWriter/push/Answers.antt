@@ -10,6 +10,13 @@ use Rattle.mp4_mux.proofs.track_writer.TrackWriter.push.Goals as goal
 pub info_of-info-requires : goal.info_of-info-requires
 info_of-info-requires c = (has_room c.args.self.now (lent_sample c.args.sample.now) c.requires).size
 
+pub push-requires : goal.push-requires
+push-requires c =
+    omega (
+      arith,
+      rw (← c.self.view_is) at (has_room c.args.self.now (lent_sample c.args.sample.now) c.requires).count,
+    )
+
 pub overflow_add-self : goal.overflow_add-self
 overflow_add-self c =
     omega (
@@ -32,7 +39,7 @@ overflow_add-self-3 c =
     let has = has_room c.args.self.now (lent_sample c.args.sample.now) c.requires in
     let room = rw (← c.self.view_is) at has.duration in
     let lasts = ap (λ (j : SampleInfo). j.duration) c.info_of-info.ensures in
-    let fits : movie_duration w.movie_timescale w.config.timescale w.samples.items + c.movie_ticks-movie.result
+    let fits : movie_duration w.movie_timescale w.config.timescale w.samples + c.movie_ticks-movie.result
     < 2 ^ 64 = rw (c.movie_ticks-movie.ensures, lasts) room in
     omega (arith, c.self.invariant.movie, fits)
 
@@ -42,7 +49,7 @@ invariant_of-self-2 c =
     let has = has_room c.args.self.now (lent_sample c.args.sample.now) c.requires in
     let room = rw (← c.self.view_is) at has.duration in
     let lasts = ap (λ (j : SampleInfo). j.duration) c.info_of-info.ensures in
-    rw (c.in_ok-push.ensures.items, c.in_default.ensures.items)
+    rw (c.in_ok-push.ensures.ok, c.in_default.ensures.items)
     (is_track-push (fields_of c.self.inside) c.self.invariant i c.in_range.ensures
     (rw (← c.self.view_is) at has.count) c.args.sample.now.bytes.now c.movie_ticks-movie.result
     (ap (λ (j : SampleInfo). j.size) c.info_of-info.ensures) c.movie_ticks-movie.ensures
@@ -50,6 +57,6 @@ invariant_of-self-2 c =
 
 pub returns-clause-ok : goal.returns-clause-ok
 returns-clause-ok c =
-    rw (← c.self.view_is, c.in_ok-push.ensures.items, c.in_default.ensures.items)
+    rw (← c.self.view_is, c.in_ok-push.ensures.ok, c.in_default.ensures.items)
     (view-push (fields_of c.self.inside) c.self.invariant c.info_of-info.result (lent_sample c.args.sample.now)
     c.movie_ticks-movie.result c.info_of-info.ensures)
