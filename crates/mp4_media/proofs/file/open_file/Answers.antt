@@ -9,12 +9,11 @@ use Rattle.mp4_media.proofs.file.open_file.Goals as goal
 
 pub returns-in_err-check_first_box-clause-answer : goal.returns-in_err-check_first_box-clause-answer
 returns-in_err-check_first_box-clause-answer g c =
-    let p = err_from_is_err_and c.from_residual-in_err-check_first_box.result
-    c.from_residual-in_err-check_first_box.ensures.1 in
+    let p = err_from_is_err_and c.from_residual.result c.from_residual.ensures.1 in
     let error = c.in_err-check_first_box.field-0.0 in
     all_known (g.S.ByteSource.contents c.args.source) _ (λ bytes. rw (p.1, p.2) (inr (
-      faulty-refused c.args.size (here bytes c.args.start) (cause_of error)
-      (c.in_err-check_first_box.ensures.fault bytes))))
+    faulty-refused c.args.size (here bytes c.args.start) (cause_of error)
+    (c.in_err-check_first_box.ensures.fault bytes))))
 
 pub returns-in_err-reader-clause-answer : goal.returns-in_err-reader-clause-answer
 returns-in_err-reader-clause-answer g c =
@@ -26,8 +25,10 @@ returns-in_err-reader-clause-answer g c =
 pub returns-in_err-movie-clause-memory : goal.returns-in_err-movie-clause-memory
 returns-in_err-movie-clause-memory g c =
     let p = err_from_is_err_and c.from_residual-in_err-movie.result c.from_residual-in_err-movie.ensures.1 in
-    rw (p.1, p.2) (λ memory. (of_known (g.S.ByteSource.contents c.args.source) _ _
-    (rw (c.in_ok-reader.ensures.contents, c.in_ok-window.ensures.contents)
-    at (c.in_err-movie.ensures.memory memory))
-    (λ bytes m. not_empty c.args.size (here bytes c.in_ok-reader.reader.position) m),
-    c.in_ok-check_first_box.ensures.room))
+    rw (p.1, p.2) (λ memory. (
+      of_known (g.S.ByteSource.contents c.args.source) _ _
+          (rw (c.in_ok-reader.ensures.contents, c.in_ok-window.ensures.contents)
+          at (c.in_err-movie.ensures.memory memory))
+          (λ bytes m. not_empty c.args.size (here bytes c.in_ok-reader.reader.position) m),
+      c.in_ok-check_first_box.ensures.room,
+    ))
