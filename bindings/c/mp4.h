@@ -310,6 +310,7 @@ mp4_answer mp4_c_write(const mp4_new_movie *movie, const mp4_brand *brands, size
                        const mp4_new_track *tracks, size_t track_count, const mp4_sample *samples, size_t sample_count,
                        const uint8_t *data, size_t data_size, uint8_t *out, size_t room);
 mp4_answer mp4_c_error_text(const mp4_answer *answer, uint8_t *bytes, size_t room);
+mp4_answer mp4_c_open_error_text(const uint8_t *file, size_t size, uint8_t *bytes, size_t room);
 
 /* A pointer for an array of no elements that is given as NULL, and whether NULL is given for one that has some. */
 #define MP4_POINTER_(type, pointer, spare) ((pointer) ? (type *)(pointer) : (type *)(void *)(spare))
@@ -463,6 +464,16 @@ static inline mp4_answer mp4_error_text(const mp4_answer *answer, uint8_t *bytes
     uint64_t spare[1] = {0};
     if (!answer || MP4_IS_NULL_(bytes, room)) return mp4_null_pointer_();
     return mp4_c_error_text(answer, MP4_POINTER_(uint8_t, bytes, spare), room);
+}
+
+/* Why mp4_open refuses a file, in words as those of mp4_error_text; where the code is MP4_INVALID_DATA, they are followed
+ * by a colon and what it is that is invalid: "invalid data: a box is larger than the file". The file is opened once more
+ * for it. 120 bytes are enough. Of a file that opens they are "no error". */
+static inline mp4_answer mp4_open_error_text(const void *file, size_t size, uint8_t *bytes, size_t room) {
+    uint64_t spare[1] = {0};
+    if (MP4_IS_NULL_(file, size) || MP4_IS_NULL_(bytes, room)) return mp4_null_pointer_();
+    return mp4_c_open_error_text(MP4_POINTER_(const uint8_t, file, spare), size, MP4_POINTER_(uint8_t, bytes, spare),
+                                 room);
 }
 
 /* What a code says in words, without what an answer names beside it: text that ends with a zero and lives as long as

@@ -157,6 +157,7 @@ def _library() -> ctypes.CDLL:
         "parameter_set": (*file, _u32, _u32, *room),
         "write": (pointer, pointer, size, pointer, size, pointer, size, *file, *room),
         "error_text": (pointer, *room),
+        "open_error_text": (*file, *room),
     }
     for each, arguments in functions.items():
         function = getattr(library, "mp4_c_" + each)
@@ -229,15 +230,17 @@ class Limit(enum.IntEnum):
 class Error(Exception):
     """Why a call was refused. Its text is that of the program ``mp4_tool``.
 
-    ``code`` says why; ``box_type``, ``second_box_type``, ``track_id``, ``number`` and ``limit`` are
+    ``code`` says why, and of a file that doesn't open by ``INVALID_DATA``, ``reason`` what it is that
+    is invalid, as "a box is larger than the file"; else it is empty. ``box_type``, ``second_box_type``, ``track_id``, ``number`` and ``limit`` are
     what the refusal names, or empty and 0. After a refused :func:`write`, ``part`` says what was
     refused, "movie", "track", "sample" or "end", and ``index`` which one, from 0 on. It can be
     pickled and copied, so a process of a pool may raise it.
     """
 
-    def __init__(self, answer: "_Answer"):
+    def __init__(self, answer: "_Answer", reason: str = ""):
         super().__init__(_text_of(answer))
         self._answer = bytes(answer)
+        self.reason = reason
         self.code = Code(answer.code)
         self.box_type = bytes(answer.box_type).rstrip(b"\0")
         self.second_box_type = bytes(answer.second_box_type).rstrip(b"\0")
@@ -247,8 +250,8 @@ class Error(Exception):
         self.part: Optional[str] = {1: "movie", 2: "track", 3: "sample", 4: "end"}.get(answer.part)
         self.index: int = answer.index
 
-    def __reduce__(self) -> Tuple[Callable[[bytes], "Error"], Tuple[bytes]]:
-        return _error_of, (self._answer,)
+    def __reduce__(self) -> Tuple[Callable[[bytes, str], "Error"], Tuple[bytes, str]]:
+        return _error_of, (self._answer, self.reason)
 
 
 class OutOfMemory(Error, MemoryError):
@@ -267,9 +270,11 @@ def _refusal(answer: "_Answer") -> Error:
     return OutOfMemory(answer) if answer.code == Code.OUT_OF_MEMORY else Error(answer)
 
 
-def _error_of(answer: bytes) -> Error:
+def _error_of(answer: bytes, reason: str) -> Error:
     """The error of the bytes of an answer."""
-    return _refusal(_Answer.from_buffer_copy(answer))
+    error = _refusal(_Answer.from_buffer_copy(answer))
+    error.reason = reason
+    return error
 
 
 def _accepted(answer: "_Answer") -> "_Answer":
@@ -653,7 +658,10 @@ class Movie:
 
     def _read_header(self) -> None:
         facts = _Movie()
-        _accepted(self._ask("open", ctypes.byref(facts)))
+        answer = self._ask("open", ctypes.byref(facts))
+        if answer.code == Code.INVALID_DATA:
+            raise Error(answer, self._reason())
+        _accepted(answer)
         self.size = facts.size
         self.duration = facts.duration
         self.timescale = facts.timescale
@@ -680,6 +688,12 @@ class Movie:
             self._calls -= 1
             if self._calls == 0:
                 self._no_call.notify_all()
+
+    def _reason(self) -> str:
+        """What it is that makes the file invalid, which doesn't open."""
+        text = (_u8 * 120)()
+        filled = self._ask("open_error_text", text, len(text)).filled
+        return bytes(text[:filled]).decode("ascii").partition(": ")[2]
 
     def _ask(self, name: str, *words: object) -> "_Answer":
         """The library's answer to a question about the file."""

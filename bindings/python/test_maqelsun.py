@@ -144,6 +144,12 @@ class Reading(unittest.TestCase):
         expected = [tuple(map(int, sample[1:])) for sample in movie.samples(1)]
         self.assertEqual(list(rows), expected)
 
+    def test_a_refused_file_says_what_is_invalid(self):
+        error = self.refused("invalid data", Movie, b"\0\0\1\0free")
+        self.assertEqual(error.reason, "a box is larger than the file")
+        self.assertEqual(pickle.loads(pickle.dumps(error)).reason, error.reason)
+        self.assertEqual(self.refused("ftyp not found", Movie, b"").reason, "")
+
     def test_a_table_of_a_refused_sample_is_refused(self):
         file = bytearray(numbers(12))
         file[file.rindex(b"stsc") + 19] = 0  # the samples of each chunk

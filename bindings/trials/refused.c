@@ -110,6 +110,10 @@ static mp4_answer say_error(trial *t) {
     return mp4_error_text(&answer, t->bytes, sizeof t->bytes);
 }
 
+static mp4_answer say_why(trial *t) {
+    return mp4_open_error_text(t->file, t->size - 1, t->bytes, sizeof t->bytes);
+}
+
 typedef struct call {
     const char *name;
     mp4_answer (*make)(trial *);
@@ -127,6 +131,7 @@ static call calls[] = {
     {"mp4_parameter_set", read_parameter_set, 0},
     {"mp4_write", write_movie, 0},
     {"mp4_error_text", say_error, 0},
+    {"mp4_open_error_text", say_why, 0},
 };
 
 /* One call whose n-th request is refused, and what it makes of a trial that was filled with ones. */

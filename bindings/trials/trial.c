@@ -473,6 +473,8 @@ static void give_null(void) {
     is_answered("mp4_sync_row_at_or_before", mp4_sync_row_at_or_before(NULL, 0, 1, &row));
     is_refused("mp4_error_text", mp4_error_text(NULL, NULL, 0));
     is_refused("mp4_error_text", mp4_error_text(&answer, NULL, 1));
+    is_refused("mp4_open_error_text", mp4_open_error_text(NULL, 1, NULL, 0));
+    is_refused("mp4_open_error_text", mp4_open_error_text("", 0, NULL, 1));
     if (mp4_sample_bytes(NULL, 1, NULL) || mp4_sample_bytes(&byte, 1, NULL)) printf("mp4_sample_bytes takes NULL\n");
 }
 

@@ -1,8 +1,9 @@
 //! Why a call is refused.
 
 use crate::layout::Answer;
-use crate::{FourCC, Writer};
-use std::collections::TryReserveError;
+use crate::{ffi, FourCC, Writer};
+use std::collections::{BTreeSet, TryReserveError};
+use std::sync::{Mutex, PoisonError};
 use std::{fmt, io};
 
 /// What this crate's calls answer.
@@ -37,8 +38,9 @@ pub enum Error {
     EndOfData,
     /// A request for memory was refused.
     OutOfMemory,
-    /// The bytes, or the numbers asked for, mean nothing.
-    InvalidData,
+    /// The bytes, or the numbers asked for, mean nothing. The text says what is wrong where a file
+    /// doesn't open or a number has no value; else it is empty.
+    InvalidData(&'static str),
     /// A required box is missing.
     BoxNotFound(FourCC),
     /// Neither of two boxes is there, of which one is required.
@@ -156,7 +158,7 @@ impl Error {
         match answer.code {
             1 => Error::EndOfData,
             2 => Error::OutOfMemory,
-            3 => Error::InvalidData,
+            3 => Error::InvalidData(""),
             4 => Error::BoxNotFound(kind),
             5 => Error::Box2NotFound(kind, answer.second_box_type.into()),
             6 => Error::TrakNotFound(track),
@@ -172,6 +174,34 @@ impl Error {
             16 => Error::Unrepresentable,
             code => Error::Unknown(code),
         }
+    }
+}
+
+/// The texts of [`Error::InvalidData`] that were met so far: the library has a few dozen.
+static TEXTS: Mutex<BTreeSet<&'static str>> = Mutex::new(BTreeSet::new());
+
+/// A text that is kept for good: once, however often it is met.
+fn kept(text: &str) -> &'static str {
+    let mut texts = TEXTS.lock().unwrap_or_else(PoisonError::into_inner);
+    if let Some(text) = texts.get(text) {
+        return text;
+    }
+    let text: &'static str = Box::leak(text.into());
+    texts.insert(text);
+    text
+}
+
+/// The error of a file that doesn't open, with the text of [`Error::InvalidData`].
+pub(crate) fn of_opening(error: Error, file: &[u8]) -> Error {
+    if error != Error::InvalidData("") {
+        return error;
+    }
+    let mut words = [0; 120];
+    let length = ffi::open_error_text(file, &mut words).filled as usize;
+    let words = std::str::from_utf8(&words[..length]).unwrap_or_default();
+    match words.split_once(": ") {
+        Some((_, text)) => Error::InvalidData(kept(text)),
+        None => error,
     }
 }
 
@@ -229,7 +259,7 @@ impl fmt::Display for Error {
         match self {
             Error::EndOfData => f.write_str("end of data"),
             Error::OutOfMemory => f.write_str("out of memory"),
-            Error::InvalidData => f.write_str("invalid data"),
+            Error::InvalidData(_) => f.write_str("invalid data"),
             Error::BoxNotFound(kind) => write!(f, "{kind} not found"),
             Error::Box2NotFound(one, other) => write!(f, "{one} and {other} not found"),
             Error::TrakNotFound(id) => write!(f, "trak[{id}] not found"),
@@ -260,7 +290,6 @@ impl std::error::Error for Error {}
 #[cfg(test)]
 mod tests {
     use super::*;
-    use crate::ffi;
 
     /// What the library says of an answer.
     fn text_of(answer: &Answer) -> String {

@@ -65,6 +65,7 @@ extern "C" {
         out: *mut u8,
         room: usize,
     ) -> Answer;
+    fn mp4_c_open_error_text(file: *const u8, size: usize, bytes: *mut u8, room: usize) -> Answer;
     #[cfg(test)]
     fn mp4_c_error_text(answer: *const Answer, bytes: *mut u8, room: usize) -> Answer;
 }
@@ -139,6 +140,12 @@ pub(crate) fn write(parts: Parts, out: &mut [u8]) -> Answer {
             out.len(),
         )
     }
+}
+
+/// Why a file doesn't open, in words.
+pub(crate) fn open_error_text(file: &[u8], bytes: &mut [u8]) -> Answer {
+    // SAFETY: both slices are what the library asks for.
+    unsafe { mp4_c_open_error_text(file.as_ptr(), file.len(), bytes.as_mut_ptr(), bytes.len()) }
 }
 
 /// What an answer says in words.

@@ -31,7 +31,7 @@ impl FromStr for FourCC {
     fn from_str(text: &str) -> Result<Self, Error> {
         match text.as_bytes().try_into() {
             Ok(value) => Ok(FourCC { value }),
-            Err(_) => Err(Error::InvalidData),
+            Err(_) => Err(Error::InvalidData("a code has four bytes")),
         }
     }
 }

@@ -1,6 +1,6 @@
 //! Movies that are read.
 
-use crate::error::NOT_PRESENT;
+use crate::error::{of_opening, NOT_PRESENT};
 use crate::layout::{Answer, BrandRow, MovieRow, SampleRow, TrackRow};
 use crate::sample_list::{Rows, SampleList};
 use crate::samples::{Sample, Samples};
@@ -111,7 +111,7 @@ impl<B: AsRef<[u8]>> Movie<B> {
     pub fn open(file: B) -> Result<Self> {
         let mut facts = MovieRow::default();
         let bytes = file.as_ref();
-        ffi::open(bytes, &mut facts).accepted()?;
+        ffi::open(bytes, &mut facts).accepted().map_err(|error| of_opening(error, bytes))?;
         let rows = all_rows(facts.track_count, |rows: &mut [TrackRow]| ffi::tracks(bytes, rows))?;
         let tracks: Vec<Track> = rows.into_iter().map(Track::new).collect();
         let rows = tracks.iter().map(|_| OnceLock::new()).collect();

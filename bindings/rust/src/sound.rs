@@ -75,7 +75,7 @@ impl TryFrom<u8> for AudioObjectType {
 
     fn try_from(number: u8) -> Result<Self, Error> {
         match number {
-            0 | 31 | 96.. => Err(Error::InvalidData),
+            0 | 31 | 96.. => Err(Error::InvalidData("a number of no type of sound")),
             number => Ok(AudioObjectType(number)),
         }
     }
@@ -134,7 +134,10 @@ impl TryFrom<u8> for SampleFreqIndex {
     type Error = Error;
 
     fn try_from(number: u8) -> Result<Self, Error> {
-        FREQUENCIES.get(usize::from(number)).map(|(index, _)| *index).ok_or(Error::InvalidData)
+        FREQUENCIES
+            .get(usize::from(number))
+            .map(|(index, _)| *index)
+            .ok_or(Error::InvalidData("an index of no frequency"))
     }
 }
 
@@ -184,7 +187,7 @@ impl TryFrom<u8> for ChannelConfig {
             5 => ChannelConfig::Five,
             6 => ChannelConfig::FiveOne,
             7 => ChannelConfig::SevenOne,
-            _ => return Err(Error::InvalidData),
+            _ => return Err(Error::InvalidData("a number of no channels")),
         })
     }
 }

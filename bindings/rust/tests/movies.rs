@@ -145,7 +145,13 @@ fn samples_begin_at_any_number() {
         let expected = 2001usize.saturating_sub(first as usize);
         assert_eq!(movie.samples_from(1, first).unwrap().count(), expected, "from {first}");
     }
-    assert_eq!(movie.samples_from(1, 0).unwrap().next(), Some(Err(Error::InvalidData)));
+    assert_eq!(movie.samples_from(1, 0).unwrap().next(), Some(Err(Error::InvalidData(""))));
+}
+
+#[test]
+fn a_file_that_is_invalid_says_why() {
+    let error = Movie::open(b"\0\0\x01\0free").err();
+    assert_eq!(error, Some(Error::InvalidData("a box is larger than the file")));
 }
 
 #[test]
@@ -154,7 +160,7 @@ fn one_sample_is_read_by_its_number() {
     let movie = Movie::open(&file).unwrap();
     assert_eq!(movie.read_sample(1, 2).unwrap().unwrap().bytes, b"2");
     assert_eq!(movie.read_sample(1, 4), Ok(None));
-    assert_eq!(movie.read_sample(1, 0), Err(Error::InvalidData));
+    assert_eq!(movie.read_sample(1, 0), Err(Error::InvalidData("")));
     assert_eq!(movie.read_sample(2, 1), Err(Error::TrakNotFound(2)));
     assert_eq!(movie.samples(2).err(), Some(Error::TrakNotFound(2)));
 }
@@ -416,8 +422,8 @@ fn a_list_ends_before_a_refused_sample() {
     file[table + 19] = 0; // the samples of each chunk
     let movie = Movie::open(&file).unwrap();
     let list = movie.sample_list(1).unwrap();
-    assert_eq!((list.len(), list.refusal()), (0, Some(Error::InvalidData)));
-    assert_eq!(movie.read_sample(1, 1), Err(Error::InvalidData));
+    assert_eq!((list.len(), list.refusal()), (0, Some(Error::InvalidData(""))));
+    assert_eq!(movie.read_sample(1, 1), Err(Error::InvalidData("")));
     assert_eq!(movie.sample_at(1, 0), Ok(Some(1)));
     assert_eq!(movie.sync_sample_at_or_before(1, 5), Ok(Some(5)));
 }

@@ -11,6 +11,7 @@ mod live;
 mod made;
 mod parts;
 mod record;
+mod record_file;
 mod scan;
 mod script;
 mod seek;
@@ -19,6 +20,7 @@ mod walk;
 
 use crate::digest::Digest;
 use crate::made::made;
+use crate::record_file::record_file;
 use crate::walk::Way;
 use mp4_media::{Error, Result};
 use mp4_script::decimal_in;
@@ -26,7 +28,7 @@ use std::alloc::Global;
 use std::process::ExitCode;
 use std::{env, io};
 
-const USAGE: &[u8] = b"usage: mp4_bench JOB [SEED [PARTS]]\n";
+const USAGE: &[u8] = b"usage: mp4_bench JOB [SEED [PARTS]], or mp4_bench record_file SEED PARTS FILE\n";
 
 const JOBS: &[u8] =
     b"a job: all | seek | list | scan | live | record | script | walk | numbers | cursor | times\n";
@@ -126,8 +128,15 @@ fn run(rt: &HostRuntime) -> Result<bool> {
         return Ok(false);
     };
     let mut digest = Digest::new();
-    if !run_job(rt.alloc(), name.as_str(), seed, parts, &mut digest)? {
-        return Ok(false);
+    match arguments.get(3) {
+        Some(file) if name.as_str() == "record_file" => {
+            record_file(rt, rt.alloc(), file.as_str(), seed, parts, &mut digest)?;
+        }
+        _ => {
+            if !run_job(rt.alloc(), name.as_str(), seed, parts, &mut digest)? {
+                return Ok(false);
+            }
+        }
     }
     match print_digest(rt, &digest) {
         Ok(()) => Ok(true),

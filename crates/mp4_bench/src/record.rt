@@ -25,15 +25,20 @@ struct Recording {
     timescale: u32,
 }
 
-/// A writer of a movie with three tracks of text.
-fn begun(alloc: Global, timescale: u32) -> Result<Mp4Writer> {
+/// What a movie is begun with.
+pub fn movie_config(alloc: Global) -> Result<Mp4Config> {
     let brands = vec![in alloc; FourCC::from(*b"isom"), FourCC::from(*b"mp41")]?;
-    let config = Mp4Config {
+    Ok(Mp4Config {
         major_brand: FourCC::from(*b"isom"),
         minor_version: 512,
         compatible_brands: Items::from(brands),
         timescale: 1000,
-    };
+    })
+}
+
+/// A writer of a movie with three tracks of text.
+fn begun(alloc: Global, timescale: u32) -> Result<Mp4Writer> {
+    let config = movie_config(alloc)?;
     let mut writer = Mp4Writer::write_start(alloc, Vec::new(alloc), &config)?;
     add_tracks(alloc, &mut writer, timescale)?;
     Ok(writer)

@@ -5,7 +5,7 @@ use Rattle.mp4_codec.specs.Cause.{Cause, cause_of}
 use Rattle.mp4_lookup.specs.declared.track.Mp4Track.{Mp4Track}
 use Rattle.mp4_media.specs.declared.reader.Mp4Reader.{Mp4Reader}
 use Rattle.mp4_media.specs.Reading.{needed_track}
-use Rattle.mp4_media.specs.RoundTrip.{IsOpening}
+use Rattle.mp4_media.specs.Opening.{IsOpening}
 use Rattle.mp4_c.specs.declared.answer.Answer.{Answer}
 use Rattle.mp4_c.specs.Answers.{refused}
 

@@ -1,11 +1,13 @@
 -- What is written of the tracks and samples that a caller gives.
-use Rattle.std.specs.Prelude.{◌≡◌, ℕ, List, [], ◌∷◌, None, true, false, map, ◌==◌, if◌then◌else◌}
+use Rattle.std.specs.Prelude.{◌≡◌, ℕ, List, [], ◌∷◌, length, Option, None, IfSome, true, false, map, ◌==◌}
+use Rattle.std.specs.Prelude.{if◌then◌else◌}
 use Rattle.std.specs.List.{AllByRecursion}
 use Rattle.mp4_codec.specs.declared.four_cc.FourCC.{FourCC}
 use Rattle.mp4_samples.specs.Samples.{Sample}
 use Rattle.mp4_mux.specs.declared.config.Mp4Config.{Mp4Config}
 use Rattle.mp4_mux.specs.declared.config.TrackConfig.{TrackConfig}
 use Rattle.mp4_media.specs.Finished.{Opens}
+use Rattle.mp4_media.specs.WriterFields.{KeptMovie, MayHold}
 use Rattle.mp4_mux.specs.Writing.{WriterState, whole_of, with_end, with_sample, with_track}
 use Rattle.mp4_mux.specs.Written.{IsWrittenMovie}
 use Rattle.mp4_c.specs.declared.configs.Brand.{Brand}
@@ -62,9 +64,26 @@ abbrev pub IsEndOf : WriterState → List ℕ → Type 0
 IsEndOf st bytes =
     (bytes ≡ whole_of (with_end st)) × (Opens (with_end st)) × (IsWrittenMovie (with_end st))
 
+-- A sink has the bytes of a writer after its end: as many, and where they are known, these.
+pub record IsEndIn (st : WriterState) (contents : Option (List ℕ)) (len : ℕ) : Type 0 where
+  pub bytes : IfSome contents (λ bytes. bytes ≡ whole_of (with_end st))
+  pub count : len ≡ length (whole_of (with_end st))
+  pub opens : Opens (with_end st)
+  pub written : IsWrittenMovie (with_end st)
+
+-- after a call, a writer may have a state to which this leads from each state that it may have had
+abbrev pub Leads : (WriterState → WriterState → Type 0) → KeptMovie → KeptMovie → Type 0
+Leads To old new = (st : WriterState) → MayHold old st → (next : WriterState) × (To st next) × (MayHold new next)
+
 -- These bytes are those of a writer that had begun so, to which exactly these tracks were added, and then exactly the
 -- samples of these rows, in their order, whose bytes lie whole in the source, and which was ended.
 abbrev pub IsMovieOf : WriterState → List NewTrack → List ℕ → List SampleRow → List ℕ → Type 0
 IsMovieOf begun tracks source rows bytes =
     (ready : WriterState) × (HasTracks source tracks begun ready) × (AreWhole source rows)
     × (IsEndOf (with_rows source ready rows) bytes)
+
+-- The same of the bytes that a sink has.
+abbrev pub IsMovieIn : WriterState → List NewTrack → List ℕ → List SampleRow → Option (List ℕ) → ℕ → Type 0
+IsMovieIn begun tracks source rows contents len =
+    (ready : WriterState) × (HasTracks source tracks begun ready) × (AreWhole source rows)
+    × (IsEndIn (with_rows source ready rows) contents len)

@@ -1,6 +1,10 @@
 -- What is replied of a movie that is written.
 use Rattle.std.specs.Prelude.{◌⊎◌, ℕ, List}
+use Rattle.mp4_codec.specs.declared.error.Error.{Error}
+use Rattle.mp4_codec.specs.declared.error.Error.TheVariants.{OutOfMemory}
 use Rattle.mp4_codec.specs.Cause.{Cause}
+use Rattle.mp4_media.specs.declared.write_error.WriteError.{WriteError}
+use Rattle.mp4_media.specs.declared.write_error.WriteError.TheVariants.{Mp4, Io, Failed}
 use Rattle.mp4_c.specs.declared.answer.Answer.{Answer}
 use Rattle.mp4_c.specs.declared.written.Part.{Part}
 use Rattle.mp4_c.specs.declared.written.Part.TheVariants.{Movie, Track, Sample, End}
@@ -15,6 +19,12 @@ part_number Movie = 1
 part_number Track = 2
 part_number Sample = 3
 part_number End = 4
+
+-- what a writer is refused for whose sink is memory, or counts: any refusal of the sink is one of memory
+abbrev pub refusal_in : WriteError → Error
+refusal_in (Mp4 e) = e
+refusal_in (Io e) = OutOfMemory
+refusal_in Failed = OutOfMemory
 
 -- the answer of a writing that was refused at a part, and at which track or sample
 abbrev pub refused_at : Cause → Part → ℕ → Answer

@@ -25,7 +25,7 @@ pub use metadata::{mp4_c_metadata, mp4_c_parameter_set};
 pub use movie::{MovieInfo, mp4_c_brands, mp4_c_open};
 pub use rows::{mp4_c_row_at, mp4_c_sync_row_at_or_before};
 pub use samples::{SampleRow, mp4_c_samples};
-pub use text::mp4_c_error_text;
+pub use text::{mp4_c_error_text, mp4_c_open_error_text};
 pub use tracks::{TrackInfo, mp4_c_tracks};
 pub use version::mp4_c_version;
 pub use written::mp4_c_write;

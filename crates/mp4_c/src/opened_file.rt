@@ -2,7 +2,7 @@
 
 ghost use Rattle.mp4_codec.specs.Cause.{Gives};
 ghost use Rattle.mp4_media.specs.Reading.{needed_track};
-ghost use Rattle.mp4_media.specs.RoundTrip.{IsOpening};
+ghost use Rattle.mp4_media.specs.Opening.{IsOpening};
 
 use mp4_media::{Error, Mp4Reader, Mp4Track, Result, read_mp4};
 use std::alloc::Global;

@@ -4,6 +4,7 @@ ghost use Rattle.mp4_c.specs.ErrorText.{GaveWords};
 
 use crate::answer::{Answer, NOT_PRESENT, NULL_POINTER, UNKNOWN_CHOICE};
 use crate::copied::copy_to_front;
+use crate::opened_file::opened;
 use mp4_media::{BoxType, Error, Limit};
 use std::alloc::{AllocError, Global};
 
@@ -89,6 +90,27 @@ fn copy_words(words: std::result::Result<String, AllocError>, room: &mut [u8]) -
     match words {
         Ok(words) => copy_to_front(words.as_bytes(), room),
         Err(_) => Answer::refused(&Error::OutOfMemory),
+    }
+}
+
+/// The words that say why a file doesn't open: those of the error, and after a colon the text of `InvalidData`.
+fn reason_of(alloc: Global, error: &Error) -> std::result::Result<String, AllocError> {
+    match error {
+        Error::InvalidData(text) => format!(in alloc; "{error}: {text}"),
+        _ => words_of(alloc, error),
+    }
+}
+
+/// Copies in words why a file doesn't open, without a zero after them, where there is room for all of them: the words of
+/// [`mp4_c_error_text`], and after "invalid data: " what it is that is invalid. `count` is how many bytes they have, and
+/// `filled` is `count`, or 0 where they don't fit. Of a file that opens the words are those of no error.
+#[unsafe(no_mangle)]
+pub extern "C" fn mp4_c_open_error_text(alloc: Global, file: &[u8], room: &mut [u8]) -> Answer
+    ensures { GaveWords room.old room.new result }
+{
+    match opened(alloc, file) {
+        Ok(_) => copy_to_front(plain_words(0).as_bytes(), room),
+        Err(error) => copy_words(reason_of(alloc, &error), room),
     }
 }
 

@@ -1,24 +1,23 @@
 //! Movies that are written.
 
-ghost use Rattle.std.specs.Prelude.{◌≡◌, [], Some, IfErr, IfOk, OnOk};
-ghost use Rattle.mp4_codec.specs.Cause.{AnswersCause, cause_of};
-ghost use Rattle.mp4_samples.specs.Samples.{sample_of};
-ghost use Rattle.mp4_mux.specs.Writing.{end_cause, start_cause, started, with_sample};
+ghost use Rattle.std.specs.Prelude.{◌≡◌, [], Some, IfErr, IfOk, IfSome, OnOk};
+ghost use Rattle.mp4_codec.specs.Cause.{Checks, cause_of};
+ghost use Rattle.mp4_mux.specs.Writing.{WriterState, end_cause, lent_sample, start_cause, started, with_sample};
 ghost use Rattle.mp4_media.specs.MovieTracks.{RefusedBy};
+ghost use Rattle.mp4_media.specs.WriterFields.{MayHold};
 ghost use Rattle.mp4_c.specs.declared.written.Part.TheVariants.{Track, Sample, End};
 ghost use Rattle.mp4_c.specs.Parts.{part_fault};
 ghost use Rattle.mp4_c.specs.Refusals.{IsRefusal, IsRefusedPart, IsRefusedSample, IsRefusedTrack, IsTrackFault};
 ghost use Rattle.mp4_c.specs.Refusals.{OrNoMemory, sample_fault};
-ghost use Rattle.mp4_c.specs.Written.{AreWhole, HasTrack, HasTracks, IsEndOf, IsMovieOf, config_of, sample_in};
-ghost use Rattle.mp4_c.specs.Written.{with_rows};
-ghost use Rattle.mp4_c.specs.WrittenReply.{GaveMovie, part_number, refused_at};
+ghost use Rattle.mp4_c.specs.Written.{AreWhole, HasTrack, HasTracks, IsEndIn, IsMovieIn, IsMovieOf, Leads, config_of};
+ghost use Rattle.mp4_c.specs.Written.{sample_in, with_rows};
+ghost use Rattle.mp4_c.specs.WrittenReply.{GaveMovie, part_number, refusal_in, refused_at};
 
 use crate::answer::Answer;
 use crate::configs::{Brand, NewMovie, NewTrack, movie_config, part_of, track_config};
 use crate::copied::copy_to_front;
 use crate::samples::SampleRow;
-use bytes::Bytes;
-use mp4_media::{Error, Mp4Sample, Mp4Writer, Result};
+use mp4_media::{ByteSink, CountingSink, Error, Mp4FileWriter, Result, SampleRef, WriteError};
 use std::alloc::Global;
 
 /// A part of a writing.
@@ -55,35 +54,65 @@ struct Fault {
 /// An answer, or what the writing was refused at.
 type Written<T> = std::result::Result<T, Fault>;
 
-/// A writer that has begun.
-fn begun(alloc: Global, movie: &NewMovie, brands: &[Brand]) -> Result<Mp4Writer>
-    ensures begun { IfOk result (λ w. w ≡ started [] (config_of movie.now brands.now)) }
+/// What a writer is refused for whose sink is memory, or counts. A count past 2^64 - 1 bytes is of a movie for which there
+/// is no memory.
+fn refusal_in(error: WriteError) -> Error
+    ensures { result ≡ refusal_in error }
+{
+    match error {
+        WriteError::Mp4(error) => error,
+        WriteError::Io(_) | WriteError::Failed => Error::OutOfMemory,
+    }
+}
+
+/// A writer that has begun in an empty sink.
+fn begun<S: ByteSink + Drop>(
+    alloc: Global,
+    sink: S,
+    movie: &NewMovie,
+    brands: &[Brand],
+) -> Result<Mp4FileWriter<S>>
+    requires none { S.len sink ≡ 0 }
+    requires empty { IfSome (S.contents sink) (λ bytes. bytes ≡ []) }
+    ensures begun { IfOk result (λ w. MayHold w (started [] (config_of movie.now brands.now))) }
     ensures cause { RefusedBy (start_cause (config_of movie.now brands.now)) result }
 {
     let config = movie_config(alloc, movie, brands)?;
-    Mp4Writer::write_start(alloc, Vec::new(alloc), &config)
+    match Mp4FileWriter::write_start(alloc, sink, &config) {
+        Ok(writer) => Ok(writer),
+        Err(error) => Err(refusal_in(error)),
+    }
 }
 
 /// Adds a track.
-fn add_track(alloc: Global, writer: &mut Mp4Writer, track: &NewTrack, source: &[u8]) -> Result<()>
-    ensures added { OnOk result (HasTrack source.now track.now writer.old writer.new) }
-    ensures refused { IfErr result (λ e. OrNoMemory (IsTrackFault source.now writer.old track.now) (cause_of e)) }
+fn add_track<S: ByteSink + Drop>(
+    alloc: Global,
+    writer: &mut Mp4FileWriter<S>,
+    track: &NewTrack,
+    source: &[u8],
+) -> Result<()>
+    ensures added { OnOk result (Leads (HasTrack source.now track.now) writer.old writer.new) }
+    ensures refused { IfErr result (λ e. (st : WriterState) → MayHold writer.old st
+        → OrNoMemory (IsTrackFault source.now st track.now) (cause_of e)) }
 {
     let config = track_config(alloc, track, source)?;
-    writer.add_track(&config)
+    match writer.add_track(&config) {
+        Ok(()) => Ok(()),
+        Err(error) => Err(refusal_in(error)),
+    }
 }
 
 /// Adds tracks, in their order.
-fn add_tracks(
+fn add_tracks<S: ByteSink + Drop>(
     alloc: Global,
-    writer: &mut Mp4Writer,
+    writer: &mut Mp4FileWriter<S>,
     tracks: &[NewTrack],
     source: &[u8],
 ) -> Written<()>
-    ensures added { OnOk result (HasTracks source.now tracks.now writer.old writer.new) }
+    ensures added { OnOk result (Leads (HasTracks source.now tracks.now) writer.old writer.new) }
     ensures part { IfErr result (λ f. f.part ≡ Track) }
-    ensures refused { IfErr result (λ f.
-        OrNoMemory (IsRefusedTrack source.now tracks.now writer.old f.index) (cause_of f.error)) }
+    ensures refused { IfErr result (λ f. (st : WriterState) → MayHold writer.old st
+        → OrNoMemory (IsRefusedTrack source.now tracks.now st f.index) (cause_of f.error)) }
 {
     for (k, track) in tracks.iter().enumerate() {
         match add_track(alloc, writer, track, source) {
@@ -100,46 +129,55 @@ fn add_tracks(
     Ok(())
 }
 
-/// A sample with its bytes; `EndOfData` where they aren't whole in the data.
-fn sample_at(alloc: Global, row: &SampleRow, source: &[u8]) -> Result<Mp4Sample>
-    ensures sample { IfOk result (λ s. sample_of s ≡ sample_in source.now row.now) }
-    ensures cause { AnswersCause (part_fault source.now row.now.offset row.now.size) result }
+/// A sample, whose bytes stay where they are; `EndOfData` where they aren't whole in the data.
+fn sample_at<'s>(row: &SampleRow, source: &'s [u8]) -> Result<SampleRef<'s>>
+    ensures sample { IfOk result (λ s. lent_sample s ≡ sample_in source.now row.now) }
+    ensures fault { Checks result (part_fault source.now row.now.offset row.now.size) }
 {
     let bytes = part_of(source, row.offset, row.size)?;
-    Ok(Mp4Sample {
+    Ok(SampleRef {
+        offset: row.offset,
         start_time: 0,
         duration: row.duration,
         rendering_offset: row.rendering_offset,
         is_sync: row.is_sync != 0,
-        bytes: Bytes::copy_from_slice(alloc, bytes)?,
+        bytes,
     })
 }
 
 /// Writes a sample.
-fn add_sample(alloc: Global, writer: &mut Mp4Writer, row: &SampleRow, source: &[u8]) -> Result<()>
-    ensures added { OnOk result
-        (writer.new ≡ with_sample writer.old row.now.track_id (sample_in source.now row.now)) }
-    ensures cause { RefusedBy (sample_fault source.now writer.old row.now) result }
+fn add_sample<S: ByteSink + Drop>(
+    writer: &mut Mp4FileWriter<S>,
+    row: &SampleRow,
+    source: &[u8],
+) -> Result<()>
+    ensures added { OnOk result ((st : WriterState) → MayHold writer.old st
+        → MayHold writer.new (with_sample st row.now.track_id (sample_in source.now row.now))) }
+    ensures cause { (st : WriterState) → MayHold writer.old st → RefusedBy (sample_fault source.now st row.now) result }
+    ensures whole { OnOk result (part_fault source.now row.now.offset row.now.size ≡ None) }
 {
-    let sample = sample_at(alloc, row, source)?;
-    writer.write_sample(row.track_id, &sample)
+    let sample = sample_at(row, source)?;
+    match writer.write_sample(row.track_id, &sample) {
+        Ok(()) => Ok(()),
+        Err(error) => Err(refusal_in(error)),
+    }
 }
 
 /// Writes samples, in their order.
-fn add_samples(
-    alloc: Global,
-    writer: &mut Mp4Writer,
+fn add_samples<S: ByteSink + Drop>(
+    writer: &mut Mp4FileWriter<S>,
     rows: &[SampleRow],
     source: &[u8],
 ) -> Written<()>
-    ensures added { OnOk result (writer.new ≡ with_rows source.now writer.old rows.now) }
+    ensures added { OnOk result ((st : WriterState) → MayHold writer.old st
+        → MayHold writer.new (with_rows source.now st rows.now)) }
     ensures whole { OnOk result (AreWhole source.now rows.now) }
     ensures part { IfErr result (λ f. f.part ≡ Sample) }
-    ensures refused { IfErr result (λ f.
-        OrNoMemory (IsRefusedSample source.now rows.now writer.old f.index) (cause_of f.error)) }
+    ensures refused { IfErr result (λ f. (st : WriterState) → MayHold writer.old st
+        → OrNoMemory (IsRefusedSample source.now rows.now st f.index) (cause_of f.error)) }
 {
     for (k, row) in rows.iter().enumerate() {
-        match add_sample(alloc, writer, row, source) {
+        match add_sample(writer, row, source) {
             Ok(()) => {}
             Err(error) => {
                 return Err(Fault {
@@ -153,58 +191,64 @@ fn add_samples(
     Ok(())
 }
 
-/// Ends a movie, and answers its bytes.
-fn ended(writer: Mp4Writer) -> Written<Vec<u8>>
-    ensures movie { IfOk result (λ bytes. IsEndOf writer bytes.items) }
+/// Ends a movie, and gives its sink back.
+fn ended<S: ByteSink + Drop>(writer: Mp4FileWriter<S>) -> Written<S>
+    ensures movie { IfOk result (λ sink. (st : WriterState) → MayHold writer st
+        → IsEndIn st (S.contents sink) (S.len sink)) }
     ensures part { IfErr result (λ f. f.part ≡ End) }
     ensures index { IfErr result (λ f. f.index ≡ 0) }
-    ensures refused { IfErr result (λ f. OrNoMemory (λ c. end_cause writer ≡ Some c) (cause_of f.error)) }
+    ensures refused { IfErr result (λ f. (st : WriterState) → MayHold writer st
+        → OrNoMemory (λ c. end_cause st ≡ Some c) (cause_of f.error)) }
 {
     let mut writer = writer;
     match writer.write_end() {
-        Ok(()) => Ok(writer.into_writer()),
+        Ok(()) => Ok(writer.into_inner()),
         Err(error) => Err(Fault {
             part: Part::End,
             index: 0,
-            error,
+            error: refusal_in(error),
         }),
     }
 }
 
 /// Adds tracks and samples to a writer that has begun, and ends it.
-fn filled(
+fn filled<S: ByteSink + Drop>(
     alloc: Global,
-    writer: Mp4Writer,
+    writer: Mp4FileWriter<S>,
     tracks: &[NewTrack],
     samples: &[SampleRow],
     source: &[u8],
-) -> Written<Vec<u8>>
-    ensures movie { IfOk result (λ bytes. IsMovieOf writer tracks.now source.now samples.now bytes.items) }
-    ensures refused { IfErr result (λ f.
-        OrNoMemory (IsRefusedPart writer tracks.now source.now samples.now f.part f.index) (cause_of f.error)) }
+) -> Written<S>
+    ensures movie { IfOk result (λ sink. (st : WriterState) → MayHold writer st
+        → IsMovieIn st tracks.now source.now samples.now (S.contents sink) (S.len sink)) }
+    ensures refused { IfErr result (λ f. (st : WriterState) → MayHold writer st
+        → OrNoMemory (IsRefusedPart st tracks.now source.now samples.now f.part f.index) (cause_of f.error)) }
 {
     let mut writer = writer;
     add_tracks(alloc, &mut writer, tracks, source)?;
-    add_samples(alloc, &mut writer, samples, source)?;
+    add_samples(&mut writer, samples, source)?;
     ended(writer)
 }
 
-/// The bytes of a movie.
-fn written(
+/// A movie in a sink that was empty.
+fn written<S: ByteSink + Drop>(
     alloc: Global,
+    sink: S,
     movie: &NewMovie,
     brands: &[Brand],
     tracks: &[NewTrack],
     samples: &[SampleRow],
     source: &[u8],
-) -> Written<Vec<u8>>
-    ensures movie { IfOk result (λ bytes.
-        IsMovieOf (started [] (config_of movie.now brands.now)) tracks.now source.now samples.now bytes.items) }
+) -> Written<S>
+    requires none { S.len sink ≡ 0 }
+    requires empty { IfSome (S.contents sink) (λ bytes. bytes ≡ []) }
+    ensures movie { IfOk result (λ sink. IsMovieIn (started [] (config_of movie.now brands.now))
+        tracks.now source.now samples.now (S.contents sink) (S.len sink)) }
     ensures refused { IfErr result (λ f.
         OrNoMemory (IsRefusal movie.now brands.now tracks.now source.now samples.now f.part f.index)
         (cause_of f.error)) }
 {
-    match begun(alloc, movie, brands) {
+    match begun(alloc, sink, movie, brands) {
         Ok(writer) => filled(alloc, writer, tracks, samples, source),
         Err(error) => Err(Fault {
             part: Part::Movie,
@@ -225,12 +269,43 @@ fn refused_at(fault: &Fault) -> Answer
     }
 }
 
+/// The answer of a writing without room, which counts the bytes.
+fn counted(
+    alloc: Global,
+    movie: &NewMovie,
+    brands: &[Brand],
+    tracks: &[NewTrack],
+    samples: &[SampleRow],
+    source: &[u8],
+) -> Answer
+    ensures { GaveMovie
+        (IsMovieOf (started [] (config_of movie.now brands.now)) tracks.now source.now samples.now)
+        (IsRefusal movie.now brands.now tracks.now source.now samples.now)
+        [] [] result }
+{
+    match written(
+        alloc,
+        CountingSink::new(),
+        movie,
+        brands,
+        tracks,
+        samples,
+        source,
+    ) {
+        Ok(sink) => Answer::done(sink.len(), 0),
+        Err(fault) => refused_at(&fault),
+    }
+}
+
 /// Writes a movie of these tracks and of these samples, in this order, where there is room for all of it. `count` is
 /// how many bytes it has, whatever the room, and `filled` is `count`, or 0 where they don't fit.
 ///
 /// After a refusal `part` says what was refused, and `index` which track or sample, counted from 0: `InvalidData` for
 /// another sample entry, type of sound, frequency or channels than are known, `EndOfData` where a sample or a parameter
-/// set isn't whole in the data, and else what [`Mp4Writer`] refuses.
+/// set isn't whole in the data, and else what [`mp4_media::Mp4Writer`] refuses.
+///
+/// Where there is no room at all, the bytes are counted and not kept: what it takes then are the tables, and the samples
+/// of at most a second of each track.
 #[unsafe(no_mangle)]
 pub extern "C" fn mp4_c_write(
     alloc: Global,
@@ -246,7 +321,18 @@ pub extern "C" fn mp4_c_write(
         (IsRefusal movie.now brands.now tracks.now source.now samples.now)
         room.old room.new result }
 {
-    match written(alloc, movie, brands, tracks, samples, source) {
+    if room.is_empty() {
+        return counted(alloc, movie, brands, tracks, samples, source);
+    }
+    match written(
+        alloc,
+        Vec::new(alloc),
+        movie,
+        brands,
+        tracks,
+        samples,
+        source,
+    ) {
         Ok(bytes) => copy_to_front(bytes.as_slice(), room),
         Err(fault) => refused_at(&fault),
     }

@@ -48,7 +48,8 @@ use Rattle.mp4_media.specs.MovieTracks.{trak_with_id, trafs_in, trafs_of, with_f
 use Rattle.mp4_media.specs.MovieTracks.{AreTracks}
 use Rattle.mp4_media.specs.Reading.{track_or, sample_in, sample_count_in}
 use Rattle.mp4_media.specs.RoundTrip.{sample_number, accepted_with_id, accepted_sample, IsDescribed, HasExactly}
-use Rattle.mp4_media.specs.RoundTrip.{IsOpening, OpensAs, IsPlainTrack}
+use Rattle.mp4_media.specs.Opening.{IsOpening}
+use Rattle.mp4_media.specs.RoundTrip.{OpensAs, IsPlainTrack}
 use Rattle.mp4_media.proofs.Gathering.{with_first}
 
 -- The box of a track by its id.

@@ -1,5 +1,5 @@
 -- A writer whose sink has known bytes has one state alone, and a call leaves that which it says.
-use Rattle.std.proofs.Common.{◌≡◌, ℕ, List, Option, Some, None, Result, Ok, Err, sym, ap, ap₂, subst, ◌∙◌}
+use Rattle.std.proofs.Common.{◌≡◌, ℕ, List, length, Option, Some, None, Result, Ok, Err, sym, ap, ap₂, subst, ◌∙◌}
 use Rattle.std.specs.Prelude.{Bool, true, false, IsTrue, IfErr, OnOk, OnErr}
 use Rattle.mp4_codec.specs.declared.error.Error.{Error}
 use Rattle.mp4_codec.specs.Cause.{Cause, AnswersCause}
@@ -34,6 +34,10 @@ pub known_whole : (w : KeptMovie) (st : WriterState) (bytes : List ℕ) → MayH
 known_whole w st bytes h known =
     let held : bytes ≡ h.held.buffer = rw known at h.may_be.contents in
     held ∙ h.writing.whole ∙ ap whole_of h.state
+
+-- and there are as many as the sink counts
+pub counted_whole : (w : KeptMovie) (st : WriterState) → MayHold w st → w.media.len ≡ length (whole_of st)
+counted_whole w st h = h.may_be.len ∙ ap length (h.writing.whole ∙ ap whole_of h.state)
 
 -- a writer after a call that is refused for nothing of its sink
 module _ {X : Type 0} (old new : KeptMovie) (inv : MayHold old (known_state old)) (bytes : List ℕ)
@@ -81,6 +85,17 @@ is_truth false = Unit {0}
 pub never_true : (b : Bool) → b ≡ false → IsTrue b → ⊥
 unfolding is_truth
 never_true b is not = subst is_truth (sym is ∙ not) tt
+
+-- where the sink refuses for one reason, it does for a wider one
+pub for_more : {X : Type 0} (P Q : Type 0) (cause : Option Cause) (r : Result X WriteError) → (P → Q)
+    → AnswersWrite P cause r → AnswersWrite Q cause r
+for_more P Q cause (Ok x) f a = a
+for_more P Q None (Err (Mp4 e)) f a = a
+for_more P Q (Some c) (Err (Mp4 e)) f a = a
+for_more P Q None (Err (Io e)) f a = f a
+for_more P Q (Some c) (Err (Io e)) f a = a
+for_more P Q None (Err Failed) f a = a
+for_more P Q (Some c) (Err Failed) f a = a
 
 -- where the sink refuses nothing, an error is no other
 pub mp4_alone : {X : Type 0} (P : Type 0) (cause : Option Cause) (r : Result X WriteError) → (P → ⊥)

@@ -1,12 +1,12 @@
 -- What the library promises above all: what is written is read back, and what is found in any file is what its tables
 -- say (ISO/IEC 14496-12, 8.3.2, 8.6 and 8.7).
-use Rattle.std.specs.Prelude.{◌≡◌, ◌⊎◌, ℕ, zero, suc, ◌<◌, ◌^◌, List, [], ◌∷◌, length, slice_get, option_map, Option}
+use Rattle.std.specs.Prelude.{◌≡◌, ℕ, zero, suc, ◌<◌, ◌^◌, List, [], ◌∷◌, length, slice_get, option_map, Option}
 use Rattle.std.specs.Prelude.{Some}
-use Rattle.std.specs.Prelude.{Result, Ok, Err, IfErr, IfOk, IfSome, IsSomeAnd, IsTrue, false}
+use Rattle.std.specs.Prelude.{Result, Ok, Err, IfOk, IfSome, IsSomeAnd, IsTrue, false}
 use Rattle.mp4_codec.specs.declared.error.Error.{Error}
 use Rattle.mp4_codec.specs.declared.error.Error.TheVariants.{OutOfMemory}
-use Rattle.mp4_codec.specs.Cause.{Cause, invalid_data, trak_not_found, cause_of, Gives, Answers, ◌>>=◌}
-use Rattle.mp4_codec.specs.Cursor.{Cursor, here}
+use Rattle.mp4_codec.specs.Cause.{Cause, invalid_data, trak_not_found, Gives, Answers, ◌>>=◌}
+use Rattle.mp4_codec.specs.Cursor.{Cursor}
 use Rattle.mp4_entry.specs.Config.{media_type_in}
 use Rattle.mp4_entry.specs.TrackType.{track_type_of}
 use Rattle.mp4_boxes.specs.declared.stbl.StblBox.{StblBox}
@@ -25,9 +25,9 @@ use Rattle.mp4_mux.specs.declared.config.TrackConfig.{TrackConfig}
 use Rattle.mp4_mux.specs.Writing.{AcceptedTrack}
 use Rattle.mp4_media.specs.declared.reader.Mp4Reader.{Mp4Reader}
 use Rattle.mp4_media.specs.declared.round_trip.FoundSample.{FoundSample}
-use Rattle.mp4_media.specs.FileBoxes.{OpenedFile, opened_file}
-use Rattle.mp4_media.specs.FileGrammar.{IsFile, IsFaultyFile}
-use Rattle.mp4_media.specs.MovieTracks.{trak_with_id, trafs_in, trafs_of, at_id, AreTracks}
+use Rattle.mp4_media.specs.FileBoxes.{OpenedFile}
+use Rattle.mp4_media.specs.FileGrammar.{IsFile}
+use Rattle.mp4_media.specs.MovieTracks.{trak_with_id, trafs_in, trafs_of, at_id}
 use Rattle.mp4_media.specs.Reading.{track_or, located_in, sample_in, sample_count_in}
 
 -- The first half: what is written is read back.
@@ -74,24 +74,6 @@ pub record HasExactly (movie : Mp4Reader) (accepted : List AcceptedTrack) : Type
       → IsSomeAnd (at_id movie.movie.tracks id) (λ t. IsDescribed t.trak a.config)
   pub samples : (id k : ℕ) → k < 2 ^ 32 → sample_read movie id k ≡ accepted_sample accepted id k
   pub counts : (id : ℕ) → samples_counted movie id ≡ accepted_count accepted id
-
--- What a call answers that opens the file of so many bytes which begins here, as `read_header` does and as its contract
--- says: where these bytes are a file it is what they hold, where they have a fault it is the first; or memory ran out.
--- The movie of what it answers is seen by `movie_in`.
-pub record IsOpeningBy {X : Type 0} (movie_in : X → Mp4Reader) (size : ℕ) (start : Cursor) (result : Result X Error)
-    : Type 0 where
-  pub file : IfOk result (λ x. IsFile size start (opened_file (movie_in x)))
-  pub opens : (opened : OpenedFile) → IsFile size start opened
-      → Answers (λ x. opened_file (movie_in x)) result (Ok opened)
-  pub fault : IfErr result (λ e. (e ≡ OutOfMemory) ⊎ IsFaultyFile size start (cause_of e))
-  pub refused : (c : Cause) → IsFaultyFile size start c → Answers (λ x. opened_file (movie_in x)) result (Err c)
-  pub bytes : IfOk result (λ x. (movie_in x).bytes.now ≡ start.bytes)
-  pub tracks : IfOk result (λ x. AreTracks (movie_in x).movie.moov (movie_in x).movie.moofs
-      (movie_in x).movie.moof_places (movie_in x).movie.tracks)
-
--- what `read_mp4` answers of these bytes
-abbrev pub IsOpening : List ℕ → Result Mp4Reader Error → Type 0
-IsOpening bytes result = IsOpeningBy (λ movie. movie) (length bytes) (here bytes 0) result
 
 -- bytes open, or memory ran out; where they open, this holds of the movie
 abbrev pub OpensAs : (Mp4Reader → Type 0) → Result Mp4Reader Error → Type 0

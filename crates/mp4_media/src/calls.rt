@@ -4,17 +4,24 @@ ghost use Rattle.mp4_codec.specs.ExactTest.{by_law, exact_enum, field_tests};
 ghost use Rattle.mp4_mux.specs.contracts.config.TrackConfigExactEq.TheImpl.Laws.{lawful as track_config_laws};
 ghost use Rattle.mp4_samples.specs.contracts.sample.Mp4SampleExactEq.TheImpl.Laws.{lawful as mp4_sample_laws};
 ghost use Rattle.mp4_media.specs.contracts.calls.WriterCall.{enum as writer_calls};
-ghost use Rattle.std.specs.Prelude.{◌≡◌, ◌≤◌, [], length, true, vec_capacity, vec_len, IfErr, IfOk, OnErr};
+ghost use Rattle.std.specs.Prelude.{◌≡◌, ◌≤◌, ◌<◌, ◌^◌, [], length, true, vec_capacity, vec_len, IsErrAnd, IsTrue};
+ghost use Rattle.std.specs.Prelude.{IfErr, IfOk, OnErr, OnOk};
 ghost use Rattle.std.specs.List.{AllByRecursion};
 ghost use Rattle.mp4_codec.specs.Cause.{AnswersCause};
-ghost use Rattle.mp4_mux.specs.Calls.{Answered, IsInRangeCall, after, after_reply, call_cause};
+ghost use Rattle.mp4_mux.specs.Calls.{Answered, IsInRangeCall, after, after_reply, call_cause, step};
+ghost use Rattle.mp4_mux.specs.Writing.{WriterState};
 ghost use Rattle.mp4_media.specs.Finished.{Opens};
+ghost use Rattle.mp4_media.specs.WriterAnswers.{AnswersWrite, IsFailed, LeavesWriter};
 ghost use Rattle.mp4_media.specs.WriterCalls.{call_of, calls_of};
+ghost use Rattle.mp4_media.specs.WriterFields.{MayHold};
 
-use crate::writer::Mp4Writer;
+use crate::file_writer::Mp4FileWriter;
+use crate::write_error::WriteError;
+use crate::writer::{Mp4Writer, lent};
 use mp4_codec::{Error, ExactEq, InRange, Result};
 use mp4_mux::TrackConfig;
 use mp4_samples::Mp4Sample;
+use mp4_source::ByteSink;
 
 /// A call of a writer of movies.
 #[derive(Debug, PartialEq, Eq, Drop)]
@@ -43,6 +50,26 @@ impl InRange for WriterCall {
                 sample.rendering_offset.in_range();
             }
             WriterCall::WriteEnd => {}
+        }
+    }
+}
+
+impl<S: ByteSink + Drop> Mp4FileWriter<S> {
+    /// Makes a call, and answers what it answers.
+    pub fn perform(&mut self, call: &WriterCall) -> std::result::Result<(), WriteError>
+        ensures failed { self.old.failed ≡ true → IsErrAnd result IsFailed }
+        ensures cause { (st : WriterState) → MayHold self.old st
+            → AnswersWrite (self.old.media.len < 2 ^ 63 → IsTrue self.old.media.can_refuse)
+            (call_cause st (call_of call.now)) result }
+        ensures ok { OnOk result ((st : WriterState) → MayHold self.old st
+            → MayHold self.new (step st (call_of call.now))) }
+        ensures err { IfErr result (λ e. LeavesWriter e self.old self.new) }
+        ensures can_refuse { self.new.media.can_refuse ≡ self.old.media.can_refuse }
+    {
+        match call {
+            WriterCall::AddTrack(config) => self.add_track(config),
+            WriterCall::WriteSample(id, sample) => self.write_sample(*id, &lent(sample)),
+            WriterCall::WriteEnd => self.write_end(),
         }
     }
 }

@@ -1,9 +1,9 @@
 //! Files of any size: opened by a few reads, and their samples read where they lie.
 
-ghost use Rattle.std.specs.Prelude.{◌≡◌, ◌↔◌, ◌+◌, ◌≤◌, ◌<◌, Some, option_map, IfOk, IfErr, IfSome, IsTrue, OnOk};
-ghost use Rattle.std.specs.Prelude.{vec_len, vec_capacity};
+ghost use Rattle.std.specs.Prelude.{◌≡◌, ◌↔◌, ◌+◌, ◌≤◌, ◌<◌, ℕ, List, Some, option_map, vec_len, vec_capacity};
+ghost use Rattle.std.specs.Prelude.{IfOk, IfErr, IfSome, IsTrue, OnOk};
 ghost use Rattle.std.proofs.Props.{props};
-ghost use Rattle.mp4_codec.specs.Cause.{Gives};
+ghost use Rattle.mp4_codec.specs.Cause.{Gives, cause_of};
 ghost use Rattle.mp4_codec.specs.Cursor.{here};
 ghost use Rattle.mp4_lookup.specs.declared.track.Mp4Track.{Mp4Track};
 ghost use Rattle.mp4_lookup.specs.Tracks.{is_of_movie};
@@ -15,6 +15,7 @@ ghost use Rattle.mp4_source.specs.Answers.{AnswersRead, IsLength};
 ghost use Rattle.mp4_source.specs.Source.{IsNotEmpty};
 ghost use Rattle.mp4_source.specs.declared.file_error.FileError.TheVariants.{Mp4};
 ghost use Rattle.mp4_media.specs.FileBoxes.{opened_movie};
+ghost use Rattle.mp4_media.specs.FileGrammar.{IsFaultyFile};
 ghost use Rattle.mp4_media.specs.MovieTracks.{AreTracks, at_id};
 ghost use Rattle.mp4_media.specs.Opening.{IsOpeningOf};
 ghost use Rattle.mp4_media.specs.Reading.{AnswersPlaced, AnswersSample, IsPlacedPast};
@@ -23,7 +24,7 @@ ghost use Rattle.mp4_media.specs.Walk.{opened_at};
 
 use crate::movie::{Movie, open_source};
 use bytes::Bytes;
-use mp4_codec::{Error, Result};
+use mp4_codec::{BoxType, Error, HEADER_SIZE, Result};
 use mp4_samples::{Mp4Sample, Place, SamplePlace};
 use mp4_source::{ByteSource, FileError, SourceCursor, Window, read_into};
 use std::alloc::Global;
@@ -62,6 +63,22 @@ fn is_within(offset: u64, size: u32, len: u64) -> bool
     offset <= len && u64::from(size) <= len - offset
 }
 
+/// Whether a file that begins at `start` and ends at `size` has room for the header of a box: `BoxNotFound` for the file
+/// type where it has no bytes, `EndOfData` where it has 1 to 7.
+fn check_first_box(start: u64, size: u64) -> Result<()>
+    ensures room { OnOk result (start + 8 ≤ size) }
+    ensures fault { IfErr result (λ e. (bytes : List ℕ) → IsFaultyFile size (here bytes start) (cause_of e)) }
+    ensures memory { IfErr result (λ e. e ≡ Error.OutOfMemory → ⊥) }
+{
+    if start >= size {
+        return Err(Error::BoxNotFound(BoxType::FtypBox));
+    }
+    if size - start < HEADER_SIZE {
+        return Err(Error::EndOfData);
+    }
+    Ok(())
+}
+
 /// Opens a file, for `open`: the answer is that of the walk over its boxes, and then of the ids of its tracks. What the
 /// grammar of files says of it follows there.
 fn open_file<S: ByteSource + Drop>(
@@ -72,11 +89,13 @@ fn open_file<S: ByteSource + Drop>(
 ) -> std::result::Result<Mp4File<S>, FileError>
     ensures answer { IfSome (S.contents source) (λ bytes. AnswersRead (S.can_refuse source)
         (λ f. opened_movie f.movie) result (opened_at size (here bytes start))) }
-    ensures memory { IfErr result (λ e. e ≡ Mp4 Error.OutOfMemory → IsNotEmpty (S.contents source)) }
+    ensures memory { IfErr result (λ e. e ≡ Mp4 Error.OutOfMemory
+        → IsNotEmpty (S.contents source) × (start + 8 ≤ size)) }
     ensures tracks { IfOk result (λ f. AreTracks f.movie.moov f.movie.moofs f.movie.moof_places f.movie.tracks) }
     ensures contents { IfOk result (λ f. S.contents f.source ≡ S.contents source) }
     ensures can_refuse { IfOk result (λ f. S.can_refuse f.source ≡ S.can_refuse source) }
 {
+    check_first_box(start, size)?;
     let window = Window::new(alloc, source)?;
     let reader = SourceCursor::new(alloc, window, start)?;
     let (movie, window, len) = open_source(alloc, reader, size)?;
@@ -92,7 +111,7 @@ impl<S: ByteSource + Drop> Mp4File<S> {
     /// source's first byte, as [`crate::Mp4Reader::read_header`] does of its bytes, with the same errors: for a whole
     /// file they are 0 and its length. The bytes of ftyp, moov, moof and emsg are read, and the headers of all other
     /// boxes. They are read through a window, which takes at most 32 KiB while the file is opened, and none where the
-    /// source has no bytes.
+    /// source has no bytes or fewer than 8 are between the two places: then memory never runs out.
     ///
     /// `Io` where the source refuses a read. After an error the source is gone: pass `&mut` to keep it.
     pub fn open(
@@ -105,7 +124,8 @@ impl<S: ByteSource + Drop> Mp4File<S> {
             (λ f. opened_movie f.movie) result (opened_at size (here bytes start))) }
         ensures opening { IfSome (S.contents source) (λ bytes. IsOpeningOf (S.can_refuse source)
             (λ f. opened_movie f.movie) size (here bytes start) result) }
-        ensures memory { IfErr result (λ e. e ≡ Mp4 Error.OutOfMemory → IsNotEmpty (S.contents source)) }
+        ensures memory { IfErr result (λ e. e ≡ Mp4 Error.OutOfMemory
+            → IsNotEmpty (S.contents source) × (start + 8 ≤ size)) }
         ensures tracks { IfOk result (λ f. AreTracks f.movie.moov f.movie.moofs f.movie.moof_places f.movie.tracks) }
         ensures contents { IfOk result (λ f. S.contents f.source ≡ S.contents source) }
         ensures can_refuse { IfOk result (λ f. S.can_refuse f.source ≡ S.can_refuse source) }

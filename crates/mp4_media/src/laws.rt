@@ -8,7 +8,8 @@ ghost use Rattle.mp4_mux.specs.Writing.{AcceptedTrack, WriterState, whole_of};
 ghost use Rattle.mp4_media.specs.Finished.{Opens};
 ghost use Rattle.mp4_media.specs.WriterFields.{KeptMovie, MayHold};
 ghost use Rattle.mp4_media.specs.declared.reader.Mp4Reader.{Mp4Reader};
-ghost use Rattle.mp4_media.specs.RoundTrip.{HasExactly, IsOpening, OpensAs, sample_read, samples_counted};
+ghost use Rattle.mp4_media.specs.Opening.{IsOpening};
+ghost use Rattle.mp4_media.specs.RoundTrip.{HasExactly, OpensAs, sample_read, samples_counted};
 
 pub use mp4_boxes::read_tables_have_first_samples;
 pub use mp4_codec::{
@@ -53,11 +54,12 @@ pub fn interleavings_are_read_alike()
         → HasExactly other accepted → (id : ℕ) → samples_counted one id ≡ samples_counted other id }
 {}
 
-/// Where the bytes of a writer's sink are known, the writer has one state alone, and they are the bytes of that state:
-/// those that an [`crate::Mp4Writer`] of the same state has.
+/// The sink of a writer has as many bytes as a state that the writer may have. Where its bytes are known, that is one
+/// state alone, and they are its bytes: those that an [`crate::Mp4Writer`] of the same state has.
 pub fn known_sinks_have_their_states_bytes()
     ensures bytes { (w : KeptMovie) (st : WriterState) (bytes : List ℕ) → MayHold w st
         → w.media.contents ≡ Some bytes → bytes ≡ whole_of st }
+    ensures len { (w : KeptMovie) (st : WriterState) → MayHold w st → w.media.len ≡ length (whole_of st) }
     ensures one { (w : KeptMovie) (one other : WriterState) (bytes : List ℕ) → MayHold w one → MayHold w other
         → w.media.contents ≡ Some bytes → one ≡ other }
 {}

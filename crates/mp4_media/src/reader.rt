@@ -1,7 +1,7 @@
 //! Opened movies whose bytes are in memory, and their samples.
 
-ghost use Rattle.std.specs.Prelude.{◌≡◌, ◌⊎◌, length, Ok, Err, Some, option_map, IfOk, IfErr, IfSome, IsTrue};
-ghost use Rattle.mp4_codec.specs.Cause.{Cause, cause_of, Gives, Answers};
+ghost use Rattle.std.specs.Prelude.{◌≡◌, length, Some, option_map, IfOk, IfErr, IfSome, IsTrue};
+ghost use Rattle.mp4_codec.specs.Cause.{Gives, Answers};
 ghost use Rattle.mp4_codec.specs.Cursor.{here};
 ghost use Rattle.mp4_lookup.specs.declared.track.Mp4Track.{Mp4Track};
 ghost use Rattle.mp4_samples.specs.Plain.{Consistent};
@@ -9,10 +9,11 @@ ghost use Rattle.mp4_samples.specs.Samples.{borrowed_sample, plain_sample_at, re
 ghost use Rattle.mp4_samples.specs.Tables.{tables_of};
 ghost use Rattle.mp4_lookup.specs.Tracks.{is_of_movie};
 ghost use Rattle.mp4_source.specs.Answers.{OnMp4};
-ghost use Rattle.mp4_media.specs.FileBoxes.{OpenedFile, opened_file, opened_movie};
-ghost use Rattle.mp4_media.specs.FileGrammar.{IsFile, IsFaultyFile, MayTakeMemory};
+ghost use Rattle.mp4_media.specs.FileBoxes.{opened_file, opened_movie};
+ghost use Rattle.mp4_media.specs.FileGrammar.{MayTakeMemory};
 ghost use Rattle.mp4_media.specs.MovieTracks.{AreTracks, at_id};
 ghost use Rattle.mp4_media.specs.InOrder.{refs_left, samples_in};
+ghost use Rattle.mp4_media.specs.Opening.{IsOpening, IsOpeningBy};
 ghost use Rattle.mp4_media.specs.Reading.{IsSample, LiesAt, located_in, sample_in};
 ghost use Rattle.mp4_media.specs.Walk.{opened_at};
 
@@ -128,14 +129,8 @@ impl<'a> Mp4Reader<'a> {
     /// Of tracks with equal ids the last is opened. The fragments of a track are its trafs in file order (8.8.6). Their
     /// runs are placed by one pass over all fragments, and then one over those of each track; no sample is written out.
     pub fn read_header(alloc: Global, reader: ByteCursor<'a>, size: u64) -> Result<Self>
-        ensures file { IfOk result (λ r. IsFile size reader.entry (opened_file r)) }
-        ensures opens { (opened : OpenedFile) → IsFile size reader.entry opened
-            → Answers opened_file result (Ok opened) }
-        ensures fault { IfErr result (λ e. (e ≡ Error.OutOfMemory) ⊎ IsFaultyFile size reader.entry (cause_of e)) }
-        ensures refused { (c : Cause) → IsFaultyFile size reader.entry c → Answers opened_file result (Err c) }
+        ensures opening { IsOpeningBy (λ movie. movie) size reader.entry result }
         ensures memory { IfErr result (λ e. e ≡ Error.OutOfMemory → MayTakeMemory size reader.entry) }
-        ensures bytes { IfOk result (λ r. r.bytes.now ≡ reader.entry.bytes) }
-        ensures tracks { IfOk result (λ r. AreTracks r.movie.moov r.movie.moofs r.movie.moof_places r.movie.tracks) }
     {
         open(alloc, reader, size)
     }
@@ -217,16 +212,8 @@ impl<'a> Mp4Reader<'a> {
 
 /// Opens the file of these bytes, from the first to the last, as [`Mp4Reader::read_header`] does.
 pub fn read_mp4(alloc: Global, bytes: &[u8]) -> Result<Mp4Reader<'_>>
-    ensures file { IfOk result (λ r. IsFile (length bytes.now) (here bytes.now 0) (opened_file r)) }
-    ensures opens { (opened : OpenedFile) → IsFile (length bytes.now) (here bytes.now 0) opened
-        → Answers opened_file result (Ok opened) }
-    ensures fault { IfErr result
-        (λ e. (e ≡ Error.OutOfMemory) ⊎ IsFaultyFile (length bytes.now) (here bytes.now 0) (cause_of e)) }
-    ensures refused { (c : Cause) → IsFaultyFile (length bytes.now) (here bytes.now 0) c
-        → Answers opened_file result (Err c) }
+    ensures opening { IsOpening bytes.now result }
     ensures memory { IfErr result (λ e. e ≡ Error.OutOfMemory → MayTakeMemory (length bytes.now) (here bytes.now 0)) }
-    ensures bytes { IfOk result (λ r. r.bytes.now ≡ bytes.now) }
-    ensures tracks { IfOk result (λ r. AreTracks r.movie.moov r.movie.moofs r.movie.moof_places r.movie.tracks) }
 {
     Mp4Reader::read_header(alloc, ByteCursor::new(bytes), bytes.len() as u64)
 }

@@ -16,8 +16,8 @@ ghost use Rattle.mp4_mux.specs.Writing.{start_cause, started, whole_of};
 ghost use Rattle.mp4_media.specs.Finished.{Opens};
 ghost use Rattle.mp4_media.specs.MovieTracks.{at_id};
 ghost use Rattle.mp4_media.specs.Reading.{IsSample, sample_in};
-ghost use Rattle.mp4_media.specs.RoundTrip.{LooksUpInEachFile, HasExactly, IsLocated, IsOpening, IsOpeningBy, IsPlace};
-ghost use Rattle.mp4_media.specs.RoundTrip.{OpensAs};
+ghost use Rattle.mp4_media.specs.Opening.{IsOpening, IsOpeningBy};
+ghost use Rattle.mp4_media.specs.RoundTrip.{LooksUpInEachFile, HasExactly, IsLocated, IsPlace, OpensAs};
 ghost use Rattle.mp4_media.specs.WriterCalls.{calls_of};
 
 use crate::calls::WriterCall;

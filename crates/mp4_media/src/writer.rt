@@ -43,7 +43,7 @@ impl Drop for Mp4Writer {
 }
 
 /// A sample with its bytes borrowed; it lay nowhere.
-fn lent(sample: &Mp4Sample) -> SampleRef<'_>
+pub(crate) fn lent(sample: &Mp4Sample) -> SampleRef<'_>
     ensures { lent_sample result ≡ sample_of sample.now }
 {
     SampleRef {

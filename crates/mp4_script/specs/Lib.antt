@@ -1,4 +1,5 @@
 pub mod Lines
 pub mod Listing
 pub mod Script
+pub mod ScriptSink
 pub mod Commands

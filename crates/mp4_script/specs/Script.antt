@@ -8,7 +8,8 @@ use Rattle.mp4_media.specs.Mp4Config.{Mp4Config}
 use Rattle.mp4_media.specs.Writing.{WriterState, AcceptedTrack, started, with_end, end_cause, whole_of}
 use Rattle.mp4_media.specs.Calls.{Call, step, call_cause, accept}
 use Rattle.mp4_media.specs.declared.reader.Mp4Reader.{Mp4Reader}
-use Rattle.mp4_media.specs.RoundTrip.{HasExactly, IsOpening, OpensAs}
+use Rattle.mp4_media.specs.Opening.{IsOpening}
+use Rattle.mp4_media.specs.RoundTrip.{HasExactly, OpensAs}
 use Rattle.mp4_script.specs.Commands.{command_in}
 use Rattle.mp4_script.specs.Lines.{lines_of}
 use Rattle.mp4_script.specs.declared.script.ScriptFault.{ScriptFault}
@@ -89,6 +90,11 @@ CallsWriter line = (call : Call) × (command_in line ≡ Some call)
 -- memory ran out in the call of a line, which has this number
 abbrev pub RanOutAt : ℕ → List ℕ → ScriptFault → Type 0
 RanOutAt number line fault = CallsWriter line × (fault ≡ Refused number OutOfMemory)
+
+-- why the line of this number gives no call: it is no command, or memory ran out for its call
+abbrev pub IsFaultOfLine : ℕ → List ℕ → ScriptFault → Type 0
+IsFaultOfLine number line fault =
+    ((command_in line ≡ None) × (fault ≡ NotACommand number)) ⊎ RanOutAt number line fault
 
 -- memory ran out in the call of a line of a script, and the lines before it were run
 pub record RanOutIn (script : List ℕ) (writer : WriterState) (fault : ScriptFault) : Type 0 where

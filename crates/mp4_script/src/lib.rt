@@ -8,6 +8,7 @@ mod info;
 mod lines;
 mod samples;
 mod script;
+mod script_writer;
 mod show;
 
 pub use commands::decimal_in;
@@ -15,4 +16,5 @@ pub use faults::fault_text;
 pub use info::{file_info_text, info_text};
 pub use samples::{file_samples_text, samples_text};
 pub use script::{ScriptFault, run_script};
+pub use script_writer::{ScriptWriteFault, ScriptWriter};
 pub use show::show_text;

@@ -1,14 +1,15 @@
 //! Scripts: lines that say what a movie is made of.
 
-ghost use Rattle.std.specs.Prelude.{◌≡◌, [], ◌∷◌, Ok, IfOk, Some};
+ghost use Rattle.std.specs.Prelude.{◌≡◌, [], ◌∷◌, Ok, IfOk, IfErr, Some};
 ghost use Rattle.std.specs.List.{AllByRecursion};
 ghost use Rattle.mp4_media.specs.Cause.{Answers};
 ghost use Rattle.mp4_media.specs.Calls.{IsInRangeCall};
 ghost use Rattle.mp4_media.specs.WriterCalls.{call_of};
 ghost use Rattle.mp4_script.specs.declared.script.ScriptFault.TheVariants.{Refused};
+ghost use Rattle.mp4_script.specs.Commands.{command_in};
 ghost use Rattle.mp4_script.specs.Lines.{lines_of};
 ghost use Rattle.mp4_script.specs.Script.{called, calls_in, standard_config, standard_writer, line_step, run_all};
-ghost use Rattle.mp4_script.specs.Script.{movie_made_by, RanOutAt, RanOutIn, RanOut, AnswersScript, OpensAsScripted};
+ghost use Rattle.mp4_script.specs.Script.{IsFaultOfLine, movie_made_by, RanOutAt, RanOutIn, RanOut, AnswersScript, OpensAsScripted};
 
 use crate::commands::{call_of, command_in};
 use crate::lines::Lines;
@@ -42,7 +43,7 @@ const MINOR_VERSION: u32 = 512;
 const TIMESCALE: u32 = 1000;
 
 /// What each movie of a script is begun with.
-fn standard_config(alloc: Global) -> mp4_media::Result<Mp4Config>
+pub(crate) fn standard_config(alloc: Global) -> mp4_media::Result<Mp4Config>
     ensures { Answers (λ c. c) result (Ok standard_config) }
 {
     let brands = [
@@ -78,6 +79,28 @@ fn make_call(writer: &mut Mp4Writer, number: u64, call: &WriterCall) -> Result<(
     }
 }
 
+/// The call of the line of this number, which isn't empty.
+pub(crate) fn call_in_line(
+    alloc: Global,
+    number: u64,
+    line: &[u8],
+) -> Result<WriterCall, ScriptFault>
+    ensures call { IfOk result (λ call. command_in line.now ≡ Some (call_of call)) }
+    ensures fault { IfErr result (IsFaultOfLine number line.now) }
+    ensures fits { IfOk result (λ call. IsInRangeCall (call_of call)) }
+{
+    let Some(command) = command_in(line) else {
+        return Err(ScriptFault::NotACommand(number));
+    };
+    match call_of(alloc, &command) {
+        Ok(call) => {
+            call.in_range();
+            Ok(call)
+        }
+        Err(error) => Err(ScriptFault::Refused(number, error)),
+    }
+}
+
 /// Runs the line of this number: an empty one changes nothing, and any other makes its call.
 fn run_line(
     alloc: Global,
@@ -92,16 +115,8 @@ fn run_line(
     if line.is_empty() {
         return Ok(());
     }
-    let Some(command) = command_in(line) else {
-        return Err(ScriptFault::NotACommand(number));
-    };
-    match call_of(alloc, &command) {
-        Ok(call) => {
-            call.in_range();
-            make_call(writer, number, &call)
-        }
-        Err(error) => Err(ScriptFault::Refused(number, error)),
-    }
+    let call = call_in_line(alloc, number, line)?;
+    make_call(writer, number, &call)
 }
 
 /// Runs the lines of a script, up to the first that is at fault.

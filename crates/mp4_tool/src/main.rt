@@ -2,6 +2,7 @@
 #![tactic(auto)]
 
 mod faults;
+mod make;
 mod run;
 
 use crate::run::run;

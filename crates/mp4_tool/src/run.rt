@@ -1,9 +1,10 @@
 //! A run of the program.
 
 use crate::faults::Fault;
+use crate::make::make;
 use mp4_media::{Error, FileError, SeekSource};
 use mp4_script::{
-    decimal_in, file_info_text, file_samples_text, info_text, run_script, samples_text, show_text,
+    decimal_in, file_info_text, file_samples_text, info_text, samples_text, show_text,
 };
 use std::alloc::Global;
 use std::fs;
@@ -12,12 +13,12 @@ use std::io::{ErrorKind, Read};
 use std::rt::Files;
 
 /// The most reads that are made of one file or input.
-const READS: u64 = 4_294_967_296;
+pub const READS: u64 = 4_294_967_296;
 
 /// The bytes that are asked for by one read.
-const READ_SIZE: usize = 8192;
+pub const READ_SIZE: usize = 8192;
 
-const STANDARD_INPUT: &str = "standard input";
+pub const STANDARD_INPUT: &str = "standard input";
 
 const USAGE: &str = "usage: mp4_tool make OUT | info FILE | samples FILE TRACK | show\n";
 
@@ -29,7 +30,7 @@ const WRONG_ARGUMENTS: u8 = 2;
 
 /// All bytes of a source, which has this name in faults. It can't be read where a read of it fails, or where it
 /// hasn't ended after [`READS`] reads.
-fn read_all<'a, R: Read>(
+pub fn read_all<'a, R: Read>(
     alloc: Global,
     source: &mut R,
     name: &'a str,
@@ -95,25 +96,6 @@ fn samples<'a>(
     }
     let bytes = read_all(alloc, &mut file, name)?;
     Ok(samples_text(alloc, bytes.as_slice(), track_id)?)
-}
-
-/// Makes the movie of a script and writes it to a file, which is made anew. Where the script is at fault, or memory
-/// runs out, the file isn't touched: `out` has room for the text before the file is written.
-fn make<'a, R: Read>(
-    rt: &impl Files,
-    alloc: Global,
-    input: &mut R,
-    name: &'a str,
-    out: &mut Vec<u8>,
-) -> Result<Vec<u8>, Fault<'a>> {
-    let script = read_all(alloc, input, STANDARD_INPUT)?;
-    let movie = run_script(alloc, script.as_slice())?;
-    let text = format!(in alloc; "wrote {} bytes\n", movie.len()).map_err(Error::from)?;
-    out.reserve(text.len()).map_err(Error::from)?;
-    if fs::write(rt, name, movie.as_slice()).is_err() {
-        return Err(Fault::CannotWrite(name));
-    }
-    Ok(text.into_bytes())
 }
 
 fn show<R: Read>(alloc: Global, input: &mut R) -> Result<Vec<u8>, Fault<'static>> {

@@ -12,6 +12,9 @@ use std::test::Fail;
 
 const USAGE: &str = "usage: mp4_tool make OUT | info FILE | samples FILE TRACK | show\n";
 
+/// The name of a movie that isn't whole.
+const ASIDE: &str = ".mp4_tool-0.part";
+
 /// What a run answered and printed.
 #[derive(Debug, Drop)]
 pub struct Printed {
@@ -200,6 +203,56 @@ fn an_older_file_is_written_anew(rt: HostRuntime) -> std::result::Result<(), Fai
 }
 
 #[test]
+fn a_script_that_comes_byte_by_byte_makes_the_same_movie(
+    rt: HostRuntime,
+) -> std::result::Result<(), Fail> {
+    let mut slow = Slow {
+        text: TEXT_SCRIPT.as_bytes(),
+        interrupted: false,
+    };
+    let printed = ran(&rt, "make slow.mp4", &mut slow)?;
+    let made = fs::read(&rt, "slow.mp4")?;
+    fs::remove_file(&rt, "slow.mp4")?;
+    let expected = run_script(rt.alloc(), TEXT_SCRIPT.as_bytes())?;
+    assert!(rt; printed.is(0, "wrote 607 bytes\n", ""), "{printed:?}");
+    assert!(rt; made.as_slice() == expected.as_slice());
+    assert!(rt; fs::metadata(&rt, ASIDE).is_err());
+    Ok(())
+}
+
+#[test]
+fn a_script_is_at_fault_before_its_file_cannot_be_written(
+    rt: HostRuntime,
+) -> std::result::Result<(), Fail> {
+    let faulty = ran(&rt, "make no_folder/x.mp4", &mut b"\nx\n".as_slice())?;
+    assert!(rt;
+        faulty.is(1, "", "mp4_tool: line 2: not a command\n"),
+        "{faulty:?}"
+    );
+    let right = ran(&rt, "make no_folder/x.mp4", &mut b"\n\n".as_slice())?;
+    assert!(rt;
+        right.is(1, "", "mp4_tool: cannot write no_folder/x.mp4\n"),
+        "{right:?}"
+    );
+    let cut = ran(&rt, "make cut_off.mp4", &mut FailsAfter { bytes: 3 })?;
+    assert!(rt;
+        cut.is(1, "", "mp4_tool: cannot read standard input\n"),
+        "{cut:?}"
+    );
+    assert!(rt; fs::metadata(&rt, "cut_off.mp4").is_err());
+    assert!(rt; fs::metadata(&rt, ASIDE).is_err());
+    Ok(())
+}
+
+#[test]
+fn what_is_no_regular_file_is_written_as_it_is(rt: HostRuntime) -> std::result::Result<(), Fail> {
+    let printed = ran(&rt, "make /dev/null", &mut TEXT_SCRIPT.as_bytes())?;
+    assert!(rt; printed.is(0, "wrote 607 bytes\n", ""), "{printed:?}");
+    assert!(rt; !fs::metadata(&rt, "/dev/null")?.is_file());
+    Ok(())
+}
+
+#[test]
 fn a_file_is_left_where_its_script_is_at_fault(rt: HostRuntime) -> std::result::Result<(), Fail> {
     fs::write(&rt, "left.mp4", b"old".as_slice())?;
     let printed = ran(&rt, "make left.mp4", &mut b"track text 0".as_slice())?;
@@ -210,6 +263,7 @@ fn a_file_is_left_where_its_script_is_at_fault(rt: HostRuntime) -> std::result::
         "{printed:?}"
     );
     assert!(rt; left.as_slice() == b"old".as_slice());
+    assert!(rt; fs::metadata(&rt, ASIDE).is_err());
     let printed = ran(&rt, "make /", &mut b"".as_slice())?;
     assert!(rt;
         printed.is(1, "", "mp4_tool: cannot write /\n"),

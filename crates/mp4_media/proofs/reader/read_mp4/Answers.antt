@@ -1,4 +1,4 @@
 use Rattle.mp4_media.proofs.reader.read_mp4.Goals as goal
 
-pub returns-clause-refused : goal.returns-clause-refused
-returns-clause-refused c = λ why f. c.read_header.ensures.refused why (rw c.new.ensures f)
+pub returns-clause-opening : goal.returns-clause-opening
+returns-clause-opening c = rw c.new.ensures at c.read_header.ensures.opening

@@ -17,7 +17,7 @@ pub returns-in_err-movie-clause-found : goal.returns-in_err-movie-clause-found
 returns-in_err-movie-clause-found c = λ opened trak is plain.
     let p = err_from_is_err_and c.from_residual.result c.from_residual.ensures.1 in
     rw (p.1, p.2) (wanted_memory opened c.in_err-movie.field-0.0
-    (c.in_err-movie.ensures.opens opened (rw (c.set_position.ensures, c.new-file.ensures) is)))
+    (c.in_err-movie.ensures.opening.opens opened (rw (c.set_position.ensures, c.new-file.ensures) is)))
 
 pub returns-clause-found : goal.returns-clause-found
 returns-clause-found c = λ opened trak is plain.
@@ -25,13 +25,13 @@ returns-clause-found c = λ opened trak is plain.
     let query = c.args.query.now in
     let same : opened ≡ opened_file movie =
     ok_is opened (opened_file movie)
-    (c.in_ok-movie.ensures.opens opened (rw (c.set_position.ensures, c.new-file.ensures) is)) in
-    let t = found_track movie c.in_ok-movie.ensures.tracks opened same query.track_id trak plain in
+    (c.in_ok-movie.ensures.opening.opens opened (rw (c.set_position.ensures, c.new-file.ensures) is)) in
+    let t = found_track movie c.in_ok-movie.ensures.opening.tracks opened same query.track_id trak plain in
     let fits : Consistent (tables_of t.track.trak) =
     subst (λ (b : TrakBox). Consistent (tables_of b)) (sym t.box) plain.consistent in
     let of_movie = unfragmented_is_of_movie t.track.trak t.track.trafs query.number t.unfragmented in
     let bytes : movie.bytes.now ≡ query.bytes.now =
-    rw (c.set_position.ensures, c.new-file.ensures) at c.in_ok-movie.ensures.bytes in
+    rw (c.set_position.ensures, c.new-file.ensures) at c.in_ok-movie.ensures.opening.bytes in
     record {
       place = subst (λ (b : TrakBox). IsPlace (tables_of b) query.number c.place_in-place.result) t.box
           (c.place_in-place.ensures.plain t.track t.is_there of_movie fits);
@@ -45,22 +45,24 @@ returns-clause-found c = λ opened trak is plain.
 pub returns-in_err-movie-clause-opened : goal.returns-in_err-movie-clause-opened
 returns-in_err-movie-clause-opened c =
     let p = err_from_is_err_and c.from_residual.result c.from_residual.ensures.1 in
-    let opens = rw (c.set_position.ensures, c.new-file.ensures) at c.in_err-movie.ensures.opens in
-    let fault = rw (c.set_position.ensures, c.new-file.ensures) at c.in_err-movie.ensures.fault in
-    let refused = rw (c.set_position.ensures, c.new-file.ensures) at c.in_err-movie.ensures.refused in
-    rw (p.1, p.2) (record { file = tt; opens = opens; fault = fault; refused = refused; bytes = tt; tracks = tt })
+    let opening = rw (c.set_position.ensures, c.new-file.ensures) at c.in_err-movie.ensures.opening in
+    rw (p.1, p.2) (record {
+      file = tt;
+      opens = opening.opens;
+      fault = opening.fault;
+      refused = opening.refused;
+      bytes = tt;
+      tracks = tt;
+    })
 
 pub returns-clause-opened : goal.returns-clause-opened
 returns-clause-opened c =
-    let file = rw (c.set_position.ensures, c.new-file.ensures) at c.in_ok-movie.ensures.file in
-    let opens = rw (c.set_position.ensures, c.new-file.ensures) at c.in_ok-movie.ensures.opens in
-    let refused = rw (c.set_position.ensures, c.new-file.ensures) at c.in_ok-movie.ensures.refused in
-    let bytes = rw (c.set_position.ensures, c.new-file.ensures) at c.in_ok-movie.ensures.bytes in
+    let opening = rw (c.set_position.ensures, c.new-file.ensures) at c.in_ok-movie.ensures.opening in
     rw c.read_sample-sample.ensures.same (record {
-      file = file;
-      opens = opens;
+      file = opening.file;
+      opens = opening.opens;
       fault = tt;
-      refused = refused;
-      bytes = bytes;
-      tracks = c.in_ok-movie.ensures.tracks;
+      refused = opening.refused;
+      bytes = opening.bytes;
+      tracks = opening.tracks;
     })

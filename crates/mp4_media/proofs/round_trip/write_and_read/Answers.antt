@@ -20,11 +20,5 @@ returns-clause-read_back c = λ over.
     let bytes : c.as_slice-bytes.result.now ≡ whole_of (writer_of session) =
     c.as_slice-bytes.ensures.value ∙ c.in_ok-replies.ensures.bytes in
     read_back session refl (record { answered = answered; ended = ended }) c.as_slice-bytes.result.now bytes
-    (omega arith) (c.in_ok-replies.ensures.opens over) c.read_mp4.result (record {
-      file = c.read_mp4.ensures.file;
-      opens = c.read_mp4.ensures.opens;
-      fault = c.read_mp4.ensures.fault;
-      refused = c.read_mp4.ensures.refused;
-      bytes = c.read_mp4.ensures.bytes;
-      tracks = c.read_mp4.ensures.tracks;
-    })
+    (omega arith) (c.in_ok-replies.ensures.opens over) c.read_mp4.result
+    c.read_mp4.ensures.opening
