@@ -1,4 +1,4 @@
-//! The functions that docs/CALLING.md shows first, one of which README shows too.
+//! Functions of which docs/CALLING.md shows the first, and README the last.
 
 use crate::asserts::check;
 use bytes::Bytes;
