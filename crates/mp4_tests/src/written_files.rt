@@ -89,10 +89,10 @@ fn list_is_alike(alloc: Global, pool: &[u8], seed: u64) -> std::result::Result<b
 }
 
 #[test]
-fn three_hundred_lists_of_calls_are_written_to_files_as_the_model_says(rt: HostRuntime) {
+fn a_thousand_lists_of_calls_are_written_to_files_as_the_model_says(rt: HostRuntime) {
     let pool = random_bytes(rt.alloc()).unwrap_or(Vec::new(rt.alloc()));
     check(&rt, "bytes", Ok(!pool.is_empty()));
-    for seed in 2000..2300 {
+    for seed in 2000..3000 {
         let alike = list_is_alike(rt.alloc(), &pool, seed).unwrap_or(false);
         check(&rt, seed, Ok(alike));
     }
@@ -157,17 +157,12 @@ impl Replies {
     }
 }
 
-/// Writes forty samples of 10,000 bytes, each a chunk, and an end to a file that refuses from that call on.
-fn replies_of_a_full_disk(
+/// Writes forty samples of 10,000 bytes, each a chunk, and an end, twice, to a file. What was answered, and the file.
+fn written_to<W: Write + Seek + Drop>(
     alloc: Global,
     pool: &[u8],
-    refused: u32,
-) -> std::result::Result<Replies, WriteError> {
-    let disk = FullDisk {
-        file: Cursor::new(Vec::new(alloc)),
-        calls: 0,
-        refused,
-    };
+    disk: W,
+) -> std::result::Result<(Replies, W), WriteError> {
     let config = config_of(alloc, &random_beginning(&mut Random::new(1)))?;
     let sink = SeekSink::new(alloc, disk)?;
     let mut writer = Mp4FileWriter::write_start(alloc, sink, &config)?;
@@ -186,6 +181,21 @@ fn replies_of_a_full_disk(
     }
     replies.add(writer.write_end());
     replies.add(writer.write_end());
+    Ok((replies, writer.into_inner().into_inner()))
+}
+
+/// What a file answers that refuses from that call on.
+fn replies_of_a_full_disk(
+    alloc: Global,
+    pool: &[u8],
+    refused: u32,
+) -> std::result::Result<Replies, WriteError> {
+    let disk = FullDisk {
+        file: Cursor::new(Vec::new(alloc)),
+        calls: 0,
+        refused,
+    };
+    let (replies, _disk) = written_to(alloc, pool, disk)?;
     Ok(replies)
 }
 
@@ -208,4 +218,49 @@ fn a_writer_stops_where_its_file_is_full(rt: HostRuntime) {
         refusals = refusals.saturating_add(replies.refused);
     }
     at_least(&rt, "refusals", refusals, 9);
+}
+
+/// A file in memory that takes at most seven bytes of each write.
+#[derive(Drop)]
+struct ShortWrites {
+    file: Cursor<Vec<u8>>,
+    writes: u32,
+}
+
+impl Write for ShortWrites {
+    fn write(&mut self, buf: &[u8]) -> io::Result<usize> {
+        self.writes = self.writes.saturating_add(1);
+        self.file.write(buf.get(..7).unwrap_or(buf))
+    }
+
+    fn flush(&mut self) -> io::Result<()> {
+        Ok(())
+    }
+}
+
+impl Seek for ShortWrites {
+    fn seek(&mut self, to: SeekFrom) -> io::Result<u64> {
+        self.file.seek(to)
+    }
+}
+
+/// Whether a file that takes few bytes of each write has the bytes of one that takes all, and how many writes it was.
+fn is_written_in_parts(alloc: Global, pool: &[u8]) -> std::result::Result<(bool, u32), WriteError> {
+    let (_, whole) = written_to(alloc, pool, Cursor::new(Vec::new(alloc)))?;
+    let short = ShortWrites {
+        file: Cursor::new(Vec::new(alloc)),
+        writes: 0,
+    };
+    let (replies, parts) = written_to(alloc, pool, short)?;
+    let ShortWrites { file, writes } = parts;
+    let is_same = file.into_inner() == whole.into_inner();
+    Ok((is_same && replies.ok == 42, writes))
+}
+
+#[test]
+fn a_file_that_takes_few_bytes_of_each_write_gets_all(rt: HostRuntime) {
+    let pool = random_bytes(rt.alloc()).unwrap_or(Vec::new(rt.alloc()));
+    let (is_same, writes) = is_written_in_parts(rt.alloc(), &pool).unwrap_or((false, 0));
+    check(&rt, "a file", Ok(is_same));
+    at_least(&rt, "writes", writes, 50_000);
 }
