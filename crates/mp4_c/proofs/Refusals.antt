@@ -1,21 +1,28 @@
 -- What a part of a writing is refused for.
 use Rattle.std.proofs.Common.{◌≡◌, ℕ, ◌<◌, List, [], length, take, get_or, Option, Some, None, Result, Ok, Err}
 use Rattle.std.proofs.Common.{◌∙◌, inl, inr, refl, ap, sym}
-use Rattle.std.specs.Prelude.{IfErr}
+use Rattle.std.specs.Prelude.{IfErr, IfOk}
 use Rattle.std.proofs.lemmas.Option.{slice_get-get_or}
 use Rattle.mp4_codec.specs.declared.error.Error.{Error}
 use Rattle.mp4_codec.specs.Cause.{AnswersCause, Cause, cause_of, ◌or◌}
-use Rattle.mp4_mux.specs.Writing.{WriterState, end_cause, started}
+use Rattle.mp4_mux.specs.Writing.{WriterState, end_cause, started, whole_of, with_end}
 use Rattle.mp4_media.specs.MovieTracks.{RefusedBy}
+use Rattle.mp4_media.specs.WriterAnswers.{RefusesWrite}
+use Rattle.mp4_media.specs.WriterFields.{KeptMovie, MayHold}
+use Rattle.mp4_media.specs.declared.write_error.WriteError.{WriteError}
+use Rattle.mp4_media.specs.declared.write_error.WriteError.TheVariants.{Mp4, Io, Failed}
 use Rattle.mp4_c.specs.declared.configs.Brand.{Brand}
 use Rattle.mp4_c.specs.declared.configs.NewMovie.{NewMovie}
 use Rattle.mp4_c.specs.declared.configs.NewTrack.{NewTrack}
 use Rattle.mp4_c.specs.declared.samples.SampleRow.{SampleRow}
 use Rattle.mp4_c.specs.declared.written.Fault.{Fault}
-use Rattle.mp4_c.specs.declared.written.Part.TheVariants.{Sample, End}
+use Rattle.mp4_c.specs.declared.written.Part.TheVariants.{Track, Sample, End}
+use Rattle.mp4_c.specs.Answers.{done}
 use Rattle.mp4_c.specs.Refusals.{IsRefusal, IsRefusedPart, IsRefusedSample, IsRefusedTrack, IsTrackFault, OrNoMemory}
-use Rattle.mp4_c.specs.Refusals.{sample, end, later, sample_fault}
-use Rattle.mp4_c.specs.Written.{AreWhole, HasTracks, config_of, with_rows}
+use Rattle.mp4_c.specs.Refusals.{track, sample, end, later, sample_fault}
+use Rattle.mp4_c.specs.Rooms.{copied, with_front}
+use Rattle.mp4_c.specs.Written.{AreWhole, HasTracks, IsEndIn, IsMovieIn, IsMovieOf, config_of, with_rows}
+use Rattle.mp4_c.specs.WrittenReply.{refusal_in}
 
 -- what holds of a cause holds in other words
 pub in_other_words : (P Q : Cause → Type 0) (c : Cause) → (P c → Q c) → OrNoMemory P c → OrNoMemory Q c
@@ -60,37 +67,115 @@ refused_sample source rows ready st k d e here so_far =
     refused_error (IsRefusedSample source rows ready k) (sample_fault source st row) e
     (λ c same. (row, slice_get-get_or rows k d here, ap (λ w. sample_fault source w row) (sym so_far) ∙ same))
 
--- a refused sample is a refused part
-pub at_sample : {X : Type 0} (result : Result X Fault) (y f : Fault) (begun ready : WriterState)
-    → (tracks : List NewTrack) (source : List ℕ) (rows : List SampleRow) → result ≡ Err y → y ≡ f
-    → f.part ≡ Sample → HasTracks source tracks begun ready
-    → OrNoMemory (IsRefusedSample source rows ready f.index) (cause_of f.error)
-    → IfErr result (λ f. OrNoMemory (IsRefusedPart begun tracks source rows f.part f.index) (cause_of f.error))
-at_sample result y f begun ready tracks source rows is same part has refused =
-    rw is (rw same (in_other_words (IsRefusedSample source rows ready f.index)
-    (IsRefusedPart begun tracks source rows f.part f.index) (cause_of f.error) (λ r. sample part ready has r) refused))
+-- a refusal of a writer, as one of memory or of a count
+pub refused_by : (P : Type 0) (cause : Option Cause) (e : WriteError) → RefusesWrite P cause e
+    → RefusedBy {X = Unit {0}} cause (Err (refusal_in e))
+refused_by P None (Mp4 e) a = inl a
+refused_by P (Some c) (Mp4 e) a = inr (ap (λ (x : Cause). Some x) a)
+refused_by P None (Io e) a = inl refl
+refused_by P (Some c) (Io e) a = absurd a
+refused_by P None Failed a = absurd a
+refused_by P (Some c) Failed a = absurd a
 
--- a refused end is a refused part
-pub at_end : {X : Type 0} (result : Result X Fault) (begun ready st : WriterState)
-    → (tracks : List NewTrack) (source : List ℕ) (rows : List SampleRow)
-    → IfErr result (λ f. f.part ≡ End) → IfErr result (λ f. f.index ≡ 0)
-    → IfErr result (λ f. OrNoMemory (λ c. end_cause st ≡ Some c) (cause_of f.error))
-    → HasTracks source tracks begun ready → AreWhole source rows → st ≡ with_rows source ready rows
-    → IfErr result (λ f. OrNoMemory (IsRefusedPart begun tracks source rows f.part f.index) (cause_of f.error))
-at_end (Ok x) begun ready st tracks source rows part index refused has whole same = tt
-at_end (Err f) begun ready st tracks source rows part index refused has whole same =
-    in_other_words (λ c. end_cause st ≡ Some c) (IsRefusedPart begun tracks source rows f.part f.index)
-    (cause_of f.error) (λ r. end part index ready has whole (ap end_cause (sym same) ∙ r)) refused
+-- a refused track is a refused part
+pub at_track : (f : Fault) (begun : WriterState) (tracks : List NewTrack) (source : List ℕ) (rows : List SampleRow)
+    → f.part ≡ Track → OrNoMemory (IsRefusedTrack source tracks begun f.index) (cause_of f.error)
+    → OrNoMemory (IsRefusedPart begun tracks source rows f.part f.index) (cause_of f.error)
+at_track f begun tracks source rows part refused =
+    in_other_words (IsRefusedTrack source tracks begun f.index) (IsRefusedPart begun tracks source rows f.part f.index)
+    (cause_of f.error) (λ r. track part r) refused
+
+-- a refused sample is a refused part
+pub at_sample : (f : Fault) (begun ready : WriterState) (tracks : List NewTrack) (source : List ℕ)
+    (rows : List SampleRow) → f.part ≡ Sample → HasTracks source tracks begun ready
+    → OrNoMemory (IsRefusedSample source rows ready f.index) (cause_of f.error)
+    → OrNoMemory (IsRefusedPart begun tracks source rows f.part f.index) (cause_of f.error)
+at_sample f begun ready tracks source rows part has refused =
+    in_other_words (IsRefusedSample source rows ready f.index) (IsRefusedPart begun tracks source rows f.part f.index)
+    (cause_of f.error) (λ r. sample part ready has r) refused
+
+-- A writer that has all tracks and samples, and its end.
+module _ {X : Type 0} (contents : X → Option (List ℕ)) (len : X → ℕ) (r : Result X Fault) (begun after : KeptMovie)
+    (tracks : List NewTrack) (source : List ℕ) (rows : List SampleRow)
+    (leads : (st : WriterState) → MayHold begun st
+    → (ready : WriterState) × (HasTracks source tracks st ready) × (MayHold after (with_rows source ready rows)))
+    (whole : AreWhole source rows) where
+  -- where the end is refused, that is a refused part
+  pub at_end : IfErr r (λ f. f.part ≡ End) → IfErr r (λ f. f.index ≡ 0)
+      → IfErr r (λ f. (st : WriterState) → MayHold after st
+      → OrNoMemory (λ c. end_cause st ≡ Some c) (cause_of f.error))
+      → IfErr r (λ f. (st : WriterState) → MayHold begun st
+      → OrNoMemory (IsRefusedPart st tracks source rows f.part f.index) (cause_of f.error))
+  at_end part index refused = by r part index refused
+    where
+      by : (q : Result X Fault) → IfErr q (λ f. f.part ≡ End) → IfErr q (λ f. f.index ≡ 0)
+          → IfErr q (λ f. (st : WriterState) → MayHold after st
+          → OrNoMemory (λ c. end_cause st ≡ Some c) (cause_of f.error))
+          → IfErr q (λ f. (st : WriterState) → MayHold begun st
+          → OrNoMemory (IsRefusedPart st tracks source rows f.part f.index) (cause_of f.error))
+      by (Ok x) part index refused = tt
+      by (Err f) part index refused = λ st h.
+          let ready = leads st h in
+          in_other_words (λ c. end_cause (with_rows source ready.0 rows) ≡ Some c)
+          (IsRefusedPart st tracks source rows f.part f.index) (cause_of f.error)
+          (λ is. end part index ready.0 ready.1.0 whole is)
+          (refused (with_rows source ready.0 rows) ready.1.1)
+
+  -- where it is Ok, its sink has the movie
+  pub at_movie : IfOk r (λ x. (st : WriterState) → MayHold after st → IsEndIn st (contents x) (len x))
+      → IfOk r (λ x. (st : WriterState) → MayHold begun st
+      → IsMovieIn st tracks source rows (contents x) (len x))
+  at_movie ended = by r ended
+    where
+      by : (q : Result X Fault)
+          → IfOk q (λ x. (st : WriterState) → MayHold after st → IsEndIn st (contents x) (len x))
+          → IfOk q (λ x. (st : WriterState) → MayHold begun st
+          → IsMovieIn st tracks source rows (contents x) (len x))
+      by (Ok x) ended = λ st h.
+          let ready = leads st h in
+          (ready.0, (ready.1.0, (whole, ended (with_rows source ready.0 rows) ready.1.1)))
+      by (Err f) ended = tt
+
+-- what holds of each state that a writer may have holds of one
+pub of_one : {X Y : Type 0} (r : Result X Y) (w : KeptMovie) (st : WriterState) (P : WriterState → X → Type 0)
+    → MayHold w st → IfOk r (λ x. (st : WriterState) → MayHold w st → P st x) → IfOk r (λ x. P st x)
+of_one (Ok x) w st P h each = each st h
+of_one (Err e) w st P h each = tt
 
 -- a part that is refused after the beginning is where the writing is refused
-pub after_beginning : {X : Type 0} (result : Result X Fault) (begun : WriterState) (movie : NewMovie)
-    → (brands : List Brand) (tracks : List NewTrack) (source : List ℕ) (rows : List SampleRow)
-    → begun ≡ started [] (config_of movie brands)
-    → IfErr result (λ f. OrNoMemory (IsRefusedPart begun tracks source rows f.part f.index) (cause_of f.error))
-    → IfErr result (λ f. OrNoMemory (IsRefusal movie brands tracks source rows f.part f.index) (cause_of f.error))
-after_beginning (Ok x) begun movie brands tracks source rows is refused = tt
-after_beginning (Err f) begun movie brands tracks source rows is refused =
-    let now : OrNoMemory (IsRefusedPart (started [] (config_of movie brands)) tracks source rows f.part f.index)
-    (cause_of f.error) = rw is at refused in
-    in_other_words (IsRefusedPart (started [] (config_of movie brands)) tracks source rows f.part f.index)
-    (IsRefusal movie brands tracks source rows f.part f.index) (cause_of f.error) (λ r. later r) now
+pub after_beginning : {X : Type 0} (r : Result X Fault) (w : KeptMovie) (movie : NewMovie)
+    (brands : List Brand) (tracks : List NewTrack) (source : List ℕ) (rows : List SampleRow)
+    → MayHold w (started [] (config_of movie brands))
+    → IfErr r (λ f. (st : WriterState) → MayHold w st
+    → OrNoMemory (IsRefusedPart st tracks source rows f.part f.index) (cause_of f.error))
+    → IfErr r (λ f. OrNoMemory (IsRefusal movie brands tracks source rows f.part f.index) (cause_of f.error))
+after_beginning (Ok x) w movie brands tracks source rows h refused = tt
+after_beginning (Err f) w movie brands tracks source rows h refused =
+    let begun = started [] (config_of movie brands) in
+    in_other_words (IsRefusedPart begun tracks source rows f.part f.index)
+    (IsRefusal movie brands tracks source rows f.part f.index) (cause_of f.error) (λ r. later r) (refused begun h)
+
+-- the movie of a sink whose bytes are known
+pub known_movie : (begun : WriterState) (tracks : List NewTrack) (source : List ℕ) (rows : List SampleRow)
+    (bytes : List ℕ) (len : ℕ) → IsMovieIn begun tracks source rows (Some bytes) len
+    → IsMovieOf begun tracks source rows bytes
+known_movie begun tracks source rows bytes len m =
+    let e = m.1.1.1 in (m.0, (m.1.0, (m.1.1.0, (e.bytes, (e.opens, e.written)))))
+
+-- and of one that counts them: its bytes are those of the state, and there are as many
+pub counted_bytes : (begun : WriterState) (tracks : List NewTrack) (source : List ℕ) (rows : List SampleRow)
+    (contents : Option (List ℕ)) (len : ℕ) → IsMovieIn begun tracks source rows contents len
+    → (bytes : List ℕ) × (IsMovieOf begun tracks source rows bytes) × (len ≡ length bytes)
+counted_bytes begun tracks source rows contents len m =
+    let e = m.1.1.1 in
+    (whole_of (with_end (with_rows source m.0 rows)),
+    ((m.0, (m.1.0, (m.1.1.0, (refl, (e.opens, e.written))))), e.count))
+
+-- bytes for which there is no room are counted alone
+pub no_room : (bytes : List ℕ) → copied bytes [] ≡ done (length bytes) 0
+no_room [] = refl
+no_room (b ∷ bs) = refl
+
+pub no_room_stays : (bytes : List ℕ) → with_front bytes [] ≡ []
+no_room_stays [] = refl
+no_room_stays (b ∷ bs) = refl

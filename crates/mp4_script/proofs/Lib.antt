@@ -4,3 +4,4 @@ pub mod Decimals
 pub mod Steps
 pub mod Standard
 pub mod Scripted
+pub mod ScriptedSinks

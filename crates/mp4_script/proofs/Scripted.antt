@@ -20,6 +20,7 @@ use Rattle.mp4_script.specs.Lines.{lines_of}
 use Rattle.mp4_script.specs.Script.{ScriptCause, refused, called, line_step, run_from, run_all, calls_in}
 use Rattle.mp4_script.specs.Script.{accepted_by_script}
 use Rattle.mp4_script.specs.Script.{standard_config, standard_writer, script_cause_of, RanOutAt, AnswersScript, ◌>>=◌}
+use Rattle.mp4_script.specs.Script.{IsFaultOfLine}
 
 -- an empty line is no command
 no_command : command_in [] ≡ None
@@ -35,10 +36,19 @@ no_calls [] e =
     (sym no_command) tt
 no_calls (b ∷ bs) e = let none = eqb-true (length (b ∷ bs)) 0 (sym e) in absurd (omega (arith, none))
 
+-- a line that gives no call is at fault
+pub no_call : (number : ℕ) (line : List ℕ) → false ≡ eqb (length line) 0 → (fault : ScriptFault)
+    → IsFaultOfLine number line fault → (writer : WriterState)
+    → RanOutAt number line fault ⊎ (line_step number line writer ≡ Err (script_cause_of fault))
+no_call number [] some fault f writer = absurd (true≢false (sym some))
+no_call number (b ∷ bs) some fault (inr ran_out) writer = inl ran_out
+no_call number (b ∷ bs) some fault (inl none) writer =
+    inr (ap (called number writer) none.0 ∙ ap (λ (f : ScriptFault). Err (script_cause_of f)) (sym none.1))
+
 -- The line of this number, which is a command.
 module _ (number : ℕ) (line : List ℕ) (call : Call) (some : false ≡ eqb (length line) 0)
     (is : Some call ≡ command_in line) where
-  its_step : (writer : WriterState) → line_step number line writer ≡ called number writer (Some call)
+  pub its_step : (writer : WriterState) → line_step number line writer ≡ called number writer (Some call)
   its_step writer = by line some is
     where
       by : (ls : List ℕ) → false ≡ eqb (length ls) 0 → Some call ≡ command_in ls

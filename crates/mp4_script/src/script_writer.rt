@@ -1,13 +1,12 @@
 //! Movies that are written to a sink while the lines of their script are read.
 
-ghost use Rattle.std.specs.Prelude.{◌≡◌, IfErr, IsTrue};
-ghost use Rattle.mp4_media.specs.WriterAnswers.{IsFailed};
+ghost use Rattle.std.specs.Prelude.{◌≡◌, Some};
 ghost use Rattle.mp4_media.specs.WriterFields.{MayHold};
 ghost use Rattle.mp4_media.specs.WriterCalls.{call_of};
 ghost use Rattle.mp4_media.specs.Writing.{WriterState};
 ghost use Rattle.mp4_script.specs.Script.{RanOutAt, called, line_step};
-ghost use Rattle.mp4_script.specs.ScriptSink.{AnswersInSink};
-ghost use Rattle.mp4_script.specs.declared.script.ScriptFault.TheVariants.{Refused};
+ghost use Rattle.mp4_script.specs.ScriptSink.{AnswersInSink, IsToldAs};
+ghost use Rattle.mp4_script.specs.declared.script.ScriptFault.TheVariants.{End, Refused};
 
 use crate::script::{ScriptFault, call_in_line, standard_config};
 use memchr::memchr;
@@ -43,7 +42,9 @@ pub struct ScriptWriter<S: ByteSink> {
 const LINE_FEED: u8 = b'\n';
 
 /// What the call of the line of this number was refused for.
-fn refused(number: u64, error: WriteError) -> ScriptWriteFault {
+fn refused(number: u64, error: WriteError) -> ScriptWriteFault
+    ensures { IsToldAs (λ e. Refused number e) error result }
+{
     match error {
         WriteError::Mp4(error) => ScriptWriteFault::Script(ScriptFault::Refused(number, error)),
         WriteError::Io(error) => ScriptWriteFault::Sink(error),
@@ -52,7 +53,9 @@ fn refused(number: u64, error: WriteError) -> ScriptWriteFault {
 }
 
 /// What the beginning or the end was refused for.
-fn refused_at_end(error: WriteError) -> ScriptWriteFault {
+fn refused_at_end(error: WriteError) -> ScriptWriteFault
+    ensures { IsToldAs (λ e. End e) error result }
+{
     match error {
         WriteError::Mp4(error) => ScriptWriteFault::Script(ScriptFault::End(error)),
         WriteError::Io(error) => ScriptWriteFault::Sink(error),

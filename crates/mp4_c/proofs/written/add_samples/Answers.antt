@@ -1,29 +1,41 @@
 -- Each turn writes one sample more.
-use Rattle.mp4_c.proofs.Refusals.{first_of, refused_sample}
+use Rattle.std.proofs.Common.{refl, subst, take}
+use Rattle.mp4_mux.specs.Writing.{WriterState}
+use Rattle.mp4_media.specs.WriterFields.{MayHold}
+use Rattle.mp4_c.specs.Written.{with_rows}
+use Rattle.mp4_c.proofs.Refusals.{refused_sample}
 use Rattle.mp4_c.proofs.Writing.{all_rows, all_whole, no_rows, rows_next, whole_next}
 use Rattle.mp4_c.proofs.written.add_samples.Goals as goal
 
 pub loop-k-init : goal.loop-k-init
-loop-k-init c = record { added = no_rows c.args.source.now c.args.writer.now c.args.rows.now; whole = tt }
+loop-k-init g c = record {
+  added = λ st h. subst (MayHold c.args.writer.now) (no_rows c.args.source.now st c.args.rows.now) h;
+  whole = tt;
+}
 
 pub loop-k-preserved : goal.loop-k-preserved
-loop-k-preserved c = record {
-  added = rows_next c.args.source.now c.args.writer.now c.loop-k.writer c.add_sample.new.writer c.args.rows.now
-      c.loop-k.k _ c.loop-k-test.true c.loop-k.invariant.added c.in-Ok.ensures.added;
+loop-k-preserved g c = record {
+  added = λ st h.
+      let now = with_rows c.args.source.now st (take c.loop-k.k c.args.rows.now) in
+      subst (MayHold c.add_sample.new.writer)
+      (rows_next c.args.source.now st now _ c.args.rows.now c.loop-k.k _ c.loop-k-test.true refl refl)
+      (c.in-Ok.ensures.added now (c.loop-k.invariant.added st h));
   whole = whole_next c.args.source.now c.args.rows.now c.loop-k.k _ c.loop-k-test.true c.loop-k.invariant.whole
-      (first_of _ _ c.in-Ok.ensures.cause);
+      c.in-Ok.ensures.whole;
 }
 
 pub returns-clause-added : goal.returns-clause-added
-returns-clause-added c =
-    all_rows c.args.source.now c.args.writer.now c.loop-k.writer c.args.rows.now c.loop-k.k c.loop-k-test.false
-    c.loop-k.invariant.added
+returns-clause-added g c = λ st h.
+    subst (MayHold c.loop-k.writer) (all_rows c.args.source.now st
+    (with_rows c.args.source.now st (take c.loop-k.k c.args.rows.now)) c.args.rows.now c.loop-k.k
+    c.loop-k-test.false refl) (c.loop-k.invariant.added st h)
 
 pub returns-clause-whole : goal.returns-clause-whole
-returns-clause-whole c =
+returns-clause-whole g c =
     all_whole c.args.source.now c.args.rows.now c.loop-k.k c.loop-k-test.false c.loop-k.invariant.whole
 
 pub returns-in-Err-clause-refused : goal.returns-in-Err-clause-refused
-returns-in-Err-clause-refused c =
-    refused_sample c.args.source.now c.args.rows.now c.args.writer.now c.loop-k.writer c.loop-k.k _ c.in-Err.error
-    c.loop-k-test.true c.loop-k.invariant.added c.in-Err.ensures.cause
+returns-in-Err-clause-refused g c = λ st h.
+    let now = with_rows c.args.source.now st (take c.loop-k.k c.args.rows.now) in
+    refused_sample c.args.source.now c.args.rows.now st now c.loop-k.k _ c.in-Err.error c.loop-k-test.true refl
+    (c.in-Err.ensures.cause now (c.loop-k.invariant.added st h))

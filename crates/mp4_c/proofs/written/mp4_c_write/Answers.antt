@@ -4,6 +4,7 @@ use Rattle.mp4_codec.specs.Cause.{cause_of}
 use Rattle.mp4_c.specs.declared.answer.Answer.{Answer}
 use Rattle.mp4_c.specs.Replies.{Gave}
 use Rattle.mp4_c.specs.Rooms.{copied, with_front}
+use Rattle.mp4_c.proofs.Refusals.{known_movie}
 use Rattle.mp4_c.proofs.written.mp4_c_write.Goals as goal
 
 given : (bytes shown room new : List ℕ) (answer : Answer) → shown ≡ bytes → answer ≡ copied shown room
@@ -18,7 +19,7 @@ pub returns-in-Ok : goal.returns-in-Ok
 returns-in-Ok c =
     inl (
       c.in-Ok.bytes.items,
-      c.in-Ok.ensures.movie,
+      known_movie _ c.args.tracks.now c.args.source.now c.args.samples.now c.in-Ok.bytes.items _ c.in-Ok.ensures.movie,
       given _ _ _ _ _ c.as_slice.ensures.value c.copy_to_front.ensures.answer c.copy_to_front.ensures.room,
     )
 
