@@ -3,6 +3,7 @@ use Rattle.std.proofs.Common.{◌≡◌, ℕ, suc, ◌-◌, ◌+◌, ◌≤◌, 
 use Rattle.std.proofs.Common.{◌∙◌, append_assoc, arith}
 use Rattle.std.proofs.lemmas.List.{append-nil}
 use Rattle.mp4_codec.specs.Cause.{Cause, ◌>>=◌}
+use Rattle.mp4_codec.specs.Steps.{ok_is}
 use Rattle.mp4_entry.specs.declared.avcc.NalUnit.{NalUnit}
 use Rattle.mp4_extract.specs.ParameterSets.{after_units, array_at, arrays_at}
 
@@ -17,9 +18,6 @@ regroup : (front first : List NalUnit) (r : Answer)
     → after_units front (r >>= λ x. Ok (first ++ x.0, x.1)) ≡ after_units (front ++ first) r
 regroup front first (Ok x) = ap (λ (us : List NalUnit). Ok (us, x.1)) (sym (append_assoc front first x.0))
 regroup front first (Err c) = refl
-
-ok_is : {A : Type 0} (x y : A) → (let r : Result A Cause = Ok x in r) ≡ Ok y → x ≡ y
-ok_is x y e = cc
 
 -- what an array added is what is read after the units before it
 read_first : (front now : List NalUnit) (after : List ℕ) (r : Answer) → after_units front r ≡ Ok (now, after)

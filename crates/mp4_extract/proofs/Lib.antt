@@ -7,3 +7,6 @@ pub mod ReadTogether
 pub mod Sinks
 pub mod Refused
 pub mod Decoded
+pub mod Parts
+pub mod Clocks
+pub mod SubtitleLaws

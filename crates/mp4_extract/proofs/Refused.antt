@@ -28,7 +28,7 @@ use Rattle.mp4_extract.specs.declared.form.SampleForm.{SampleForm}
 use Rattle.mp4_extract.specs.Errors.{of_file}
 use Rattle.mp4_extract.specs.Extracting.{AreSamplesIn, AreWritten, HasFront, HoldsAfter, HoldsStored, IsReadIn}
 use Rattle.mp4_extract.specs.Extracting.{IsThere, IsWriteOf, MayRefuse, Reading, RefusesNumber, RefusesOneFrom}
-use Rattle.mp4_extract.specs.Extracting.{RefusesStored, WantsRoom, offset_in, offset_of}
+use Rattle.mp4_extract.specs.Extracting.{RefusesOne, RefusesStored, WantsRoom, WantsRoomFor, offset_in, offset_of}
 use Rattle.mp4_extract.specs.Forms.{IsInForm}
 use Rattle.mp4_extract.proofs.Joined.{others_more}
 
@@ -217,7 +217,7 @@ module _ {S : Type 0} (len : ℕ) (tracks : HashMap ℕ Mp4Track S) (id k : ℕ)
   offset_is p placed = ap offset_of (placed_is len (located_in tracks id k) p placed).0
 
   -- a sample that lies in the file is there
-  pub sample_at : (known : Option (List ℕ)) → IsLength known len → (p : Place)
+  sample_at : (known : Option (List ℕ)) → IsLength known len → (p : Place)
       → placed_in len tracks id k ≡ Ok (Some p)
       → (s : TimedSample) × (IsReadIn known len tracks id k (Ok (Some s))) × (length s.sample.bytes ≡ p.size)
   sample_at None measured p placed =
@@ -235,26 +235,26 @@ module _ {S : Type 0} (len : ℕ) (tracks : HashMap ℕ Mp4Track S) (id k : ℕ)
         is,
       )
 
-  pub placed_there : (known : Option (List ℕ)) → IsLength known len → IsPlaced (placed_in len tracks id k)
+  placed_there : (known : Option (List ℕ)) → IsLength known len → IsPlaced (placed_in len tracks id k)
       → IsThere (IsReadIn known len tracks id k)
   placed_there known measured placed =
       let found = sample_at known measured placed.0 placed.1 in
       (found.0, found.1)
 
   -- memory is wanted for a sample that is larger than its buffer
-  pub large_wants : (known : Option (List ℕ)) → IsLength known len → (form : SampleForm) (stored turned : ℕ)
+  large_wants : (known : Option (List ℕ)) → IsLength known len → (wants : TimedSample → Type 0) (stored : ℕ)
       → (p : Place) → placed_in len tracks id k ≡ Ok (Some p) → stored < p.size
-      → WantsRoom form stored turned (IsReadIn known len tracks id k)
-  large_wants known measured form stored turned p placed large =
+      → WantsRoomFor wants stored (IsReadIn known len tracks id k)
+  large_wants known measured wants stored p placed large =
       let found = sample_at known measured p placed in
       (found.0, found.1, inl (rw found.2 large))
 
-  -- what isn't for want of memory
+  -- what is known of an error that isn't "out of memory"
   named : {A : Type 0} (e : Error) → (e ≡ no_memory → ⊥) → (e ≡ no_memory) ⊎ A → A
   named e other (inl memory) = absurd (other memory)
   named e other (inr a) = a
 
-  pub fault_read : (known : Option (List ℕ)) (e : Error) → (e ≡ no_memory → ⊥)
+  fault_read : (known : Option (List ℕ)) (e : Error) → (e ≡ no_memory → ⊥)
       → (e ≡ no_memory) ⊎ (placed_in len tracks id k ≡ Err (cause_of e))
       → IfSome known (λ source. (e ≡ no_memory) ⊎ (sample_in source tracks id k ≡ Err (cause_of e)))
       → IsReadIn known len tracks id k (Err (cause_of e))
@@ -263,28 +263,28 @@ module _ {S : Type 0} (len : ℕ) (tracks : HashMap ℕ Mp4Track S) (id k : ℕ)
     of_known known _ _ refused (λ source is. named e other is),
   )
 
-  -- a sample that wasn't read is refused
-  pub not_read : (known : Option (List ℕ)) → IsLength known len → (form : SampleForm) (can_refuse : Bool)
-      (error : FileError)
+  -- a sample that wasn't read is refused, whatever is wanted of it
+  pub not_read : (known : Option (List ℕ)) → IsLength known len → (refuses : TimedSample → Error → Type 0)
+      (written : Type 0) (can_refuse : Bool) (error : FileError)
       → (error ≡ Mp4 no_memory → IsPlaced (placed_in len tracks id k))
       → AnswersPlaced (λ (p : Option SamplePlace). option_map place_of p) (Err error) (placed_in len tracks id k)
       → IfSome known (λ source. RefusesRead can_refuse error (sample_in source tracks id k))
-      → RefusesNumber form (IsReadIn known len tracks id k) (offset_in tracks id k) k (MayRefuse known can_refuse)
-      (of_file k (offset_in tracks id k) error)
-  not_read known measured form can_refuse (Mp4 no_memory) memory placed refused =
+      → RefusesOne refuses written (IsReadIn known len tracks id k) (offset_in tracks id k) k
+      (MayRefuse known can_refuse) (of_file k (offset_in tracks id k) error)
+  not_read known measured refuses written can_refuse (Mp4 no_memory) memory placed refused =
       placed_there known measured (memory refl)
-  not_read known measured form can_refuse (Mp4 e) memory placed refused =
+  not_read known measured refuses written can_refuse (Mp4 e) memory placed refused =
       (refl, refl, inl (fault_read known e (λ is. cc) placed refused))
-  not_read known measured form can_refuse (Io e) memory placed refused =
+  not_read known measured refuses written can_refuse (Io e) memory placed refused =
       (refl, placed_there known measured placed, refused)
 
   -- memory is wanted for it
-  pub not_read_wants : (known : Option (List ℕ)) → IsLength known len → (form : SampleForm) (stored turned : ℕ)
+  pub not_read_wants : (known : Option (List ℕ)) → IsLength known len → (wants : TimedSample → Type 0) (stored : ℕ)
       (place : Option ℕ) (error : FileError)
       → (error ≡ Mp4 no_memory → IsPlacedPast stored (placed_in len tracks id k))
-      → of_file k place error ≡ OutOfMemory → WantsRoom form stored turned (IsReadIn known len tracks id k)
-  not_read_wants known measured form stored turned place (Mp4 no_memory) memory is =
+      → of_file k place error ≡ OutOfMemory → WantsRoomFor wants stored (IsReadIn known len tracks id k)
+  not_read_wants known measured wants stored place (Mp4 no_memory) memory is =
       let past = memory refl in
-      large_wants known measured form stored turned past.0 past.1 past.2
-  not_read_wants known measured form stored turned place (Mp4 e) memory is = absurd cc
-  not_read_wants known measured form stored turned place (Io e) memory is = absurd cc
+      large_wants known measured wants stored past.0 past.1 past.2
+  not_read_wants known measured wants stored place (Mp4 e) memory is = absurd cc
+  not_read_wants known measured wants stored place (Io e) memory is = absurd cc

@@ -10,6 +10,7 @@ use Rattle.std.proofs.lemmas.List.Elements.{filter-append}
 use Rattle.mp4_codec.specs.Bytes.{Appends, number_at, bytes_at}
 use Rattle.mp4_codec.specs.Cause.{Cause, invalid_data, ◌>>=◌}
 use Rattle.mp4_codec.specs.FieldLaws.{number-has_length}
+use Rattle.mp4_codec.specs.Steps.{ok_is}
 use Rattle.mp4_extract.specs.declared.annex_b.AnnexB.{AnnexB}
 use Rattle.mp4_extract.specs.ByteStream.{unit_at, HoldUnits, IsStreamOf, byte_stream, with_sets, sets_of, stream_of}
 use Rattle.mp4_extract.specs.ByteStream.{has_bytes, is_none, kinds_after, length_size, next_units, sets_between}
@@ -35,9 +36,6 @@ held-snoc n (x ∷ xs) bytes rest u next held e = (held.0, held.1, held-snoc n x
 
 abbrev snd : List ℕ × List ℕ → List ℕ
 snd x = x.1
-
-ok_is : {A : Type 0} (x y : A) → (let r : Result A Cause = Ok x in r) ≡ Ok y → x ≡ y
-ok_is x y e = cc
 
 bytes_moves : (k : ℕ) (bytes u next : List ℕ) (b : Bool)
     → cond {A = Result (List ℕ × List ℕ) Cause} b (Err invalid_data) (Ok (take k bytes, drop k bytes)) ≡ Ok (u, next)

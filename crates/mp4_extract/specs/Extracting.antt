@@ -4,6 +4,7 @@ use Rattle.std.specs.Prelude.{◌==◌, ◌&&◌, ◌||◌, nat_le}
 use Rattle.std.specs.Prelude.{List, [], ◌++◌, length, Option, Some, None, IfSome, Result, Ok, Err}
 use Rattle.std.specs.HashMap.{HashMap}
 use Rattle.std.specs.Io.KnownBytes.{Appends}
+use Rattle.std.specs.declared.io.Error.{Error as IoError}
 use Rattle.mp4_codec.specs.Cause.{Cause, cause_of}
 use Rattle.mp4_codec.specs.declared.error.Error.{Error}
 use Rattle.mp4_codec.specs.declared.error.Error.TheVariants.{TrakNotFound}
@@ -70,12 +71,6 @@ AreWritten form readings k old new n =
 abbrev pub IsPastEnd : (ℕ → Reading) → ℕ → Type 0
 IsPastEnd readings k = (2 ^ 32 ≤ k) ⊎ (readings k (Ok None))
 
--- for this error is a sample refused: by the file, or since it has no such form
-abbrev pub RefusesAnswer : SampleForm → Reading → Error → Type 0
-RefusesAnswer form reading e =
-    (reading (Err (cause_of e)))
-    ⊎ ((s : TimedSample) × (reading (Ok (Some s))) × (RefusesSample form s.sample.bytes e))
-
 -- bytes are a front of others
 abbrev pub IsFrontOf : List ℕ → List ℕ → Type 0
 IsFrontOf whole front = (rest : List ℕ) × (whole ≡ front ++ rest)
@@ -83,6 +78,11 @@ IsFrontOf whole front = (rest : List ℕ) × (whole ≡ front ++ rest)
 -- a sink that held some bytes holds a front of others too
 abbrev pub HasFront : List ℕ → Option (List ℕ) → Option (List ℕ) → Type 0
 HasFront whole old new = (front : List ℕ) × (IsFrontOf whole front) × (Appends old new front)
+
+-- a sink that held some bytes was to hold others too: after Ok it does, and after a refusal it holds a front of them
+abbrev pub IsPut : List ℕ → Option (List ℕ) → Option (List ℕ) → Result (Unit {0}) IoError → Type 0
+IsPut bytes old new (Ok done) = Appends old new bytes
+IsPut bytes old new (Err e) = HasFront bytes old new
 
 -- where a sample lies, where its look-up answers it
 abbrev pub offset_of : Result (Option Place) Cause → Option ℕ
@@ -107,24 +107,35 @@ RefusesStored form room sample k offset (OtherDescription number description for
 abbrev pub MayRefuse : Option (List ℕ) → Bool → Type 0
 MayRefuse known can_refuse = IfSome known (λ _. IsTrue can_refuse)
 
--- For this error is the sample with number k refused, which lies at this place where that is known. Only where there is
--- a sample do the source and the sink refuse it, and is memory wanted.
-abbrev pub RefusesNumber : SampleForm → Reading → Option ℕ → ℕ → Type 0 → ExtractError → Type 0
-RefusesNumber form reading offset k may_refuse OutOfMemory = IsThere reading
-RefusesNumber form reading offset k may_refuse (Sample number place e) =
-    (number ≡ k) × (place ≡ offset) × (RefusesAnswer form reading e)
-RefusesNumber form reading offset k may_refuse (Read number e) = (number ≡ k) × (IsThere reading) × may_refuse
-RefusesNumber form reading offset k may_refuse (Write number e) = (number ≡ k) × (IsThere reading)
-RefusesNumber form reading offset k may_refuse (Track e) = ⊥
-RefusesNumber form reading offset k may_refuse (WrongFormat id format) = ⊥
-RefusesNumber form reading offset k may_refuse (NoSuchSample id number count) = ⊥
-RefusesNumber form reading offset k may_refuse (OtherDescription number description format) = ⊥
+-- For this error is the sample with number k refused, which lies at this place where that is known: by the file, or for
+-- a cause by which what is wanted of its bytes isn't there. Only where there is a sample does the source refuse it, and
+-- is memory wanted; the sink refuses it only where it is written.
+abbrev pub RefusesOne : (TimedSample → Error → Type 0) → Type 0 → Reading → Option ℕ → ℕ → Type 0 → ExtractError
+    → Type 0
+RefusesOne refuses written reading offset k may_refuse OutOfMemory = IsThere reading
+RefusesOne refuses written reading offset k may_refuse (Sample number place e) =
+    (number ≡ k) × (place ≡ offset)
+    × ((reading (Err (cause_of e))) ⊎ ((s : TimedSample) × (reading (Ok (Some s))) × (refuses s e)))
+RefusesOne refuses written reading offset k may_refuse (Read number e) = (number ≡ k) × (IsThere reading) × may_refuse
+RefusesOne refuses written reading offset k may_refuse (Write number e) = (number ≡ k) × written
+RefusesOne refuses written reading offset k may_refuse (Track e) = ⊥
+RefusesOne refuses written reading offset k may_refuse (WrongFormat id format) = ⊥
+RefusesOne refuses written reading offset k may_refuse (NoSuchSample id number count) = ⊥
+RefusesOne refuses written reading offset k may_refuse (OtherDescription number description format) = ⊥
 
--- memory is wanted for a sample: one of two buffers, for what is stored and for what is written, has no room for it
+-- the same of a sample that is written where there is one: it may have no such form
+abbrev pub RefusesNumber : SampleForm → Reading → Option ℕ → ℕ → Type 0 → ExtractError → Type 0
+RefusesNumber form reading offset k may_refuse e =
+    RefusesOne (λ s. RefusesSample form s.sample.bytes) (IsThere reading) reading offset k may_refuse e
+
+-- memory is wanted for a sample: a buffer has no room for its bytes, or memory is wanted for what is made of them
+abbrev pub WantsRoomFor : (TimedSample → Type 0) → ℕ → Reading → Type 0
+WantsRoomFor wants stored reading =
+    (s : TimedSample) × (reading (Ok (Some s))) × ((stored < length s.sample.bytes) ⊎ (wants s))
+
+-- one of two buffers, for what is stored and for what is written, has no room for a sample
 abbrev pub WantsRoom : SampleForm → ℕ → ℕ → Reading → Type 0
-WantsRoom form stored turned reading =
-    (s : TimedSample) × (reading (Ok (Some s)))
-    × ((stored < length s.sample.bytes) ⊎ (NeedsRoom form turned s.sample.bytes))
+WantsRoom form stored turned reading = WantsRoomFor (λ s. NeedsRoom form turned s.sample.bytes) stored reading
 
 -- the sink refused the samples from this number on
 abbrev pub IsWriteOf : ℕ → ExtractError → Type 0

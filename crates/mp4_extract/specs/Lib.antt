@@ -10,3 +10,4 @@ pub mod Descriptions
 pub mod Neighbours
 pub mod Extracting
 pub mod Subtitles
+pub mod SubtitleTexts

@@ -20,7 +20,7 @@ use Rattle.mp4_extract.specs.declared.text_track.Subtitle.{Subtitle}
 use Rattle.mp4_extract.specs.declared.text_track.SubtitleReader.{SubtitleReader}
 use Rattle.mp4_extract.specs.Edits.{edit_list_of, shift_of}
 use Rattle.mp4_extract.specs.Errors.{of_track}
-use Rattle.mp4_extract.specs.Extracting.{IsThere, Reading, offset_in}
+use Rattle.mp4_extract.specs.Extracting.{Reading, RefusesOne, WantsRoomFor, offset_in}
 use Rattle.mp4_extract.specs.Texts.{HasNoText, IsTextOf, WantsText, milliseconds_of}
 
 -- a sample that begins so many ticks before what is shown of its track is shown in part
@@ -69,25 +69,13 @@ WantsSubtitle shift timescale s =
 
 -- memory is wanted for a subtitle: a buffer has no room for so many bytes as its sample has, or its text wants it
 abbrev pub WantsTextRoom : TextShift → ℕ → ℕ → Reading → Type 0
-WantsTextRoom shift timescale room reading =
-    (s : TimedSample) × (reading (Ok (Some s)))
-    × ((room < length s.sample.bytes) ⊎ (WantsSubtitle shift timescale s))
+WantsTextRoom shift timescale room reading = WantsRoomFor (WantsSubtitle shift timescale) room reading
 
--- For this error has the sample with number k, which lies at this place where that is known, no subtitle. Only where
--- there is a sample does the source refuse it, and is memory wanted.
+-- for this error has the sample with number k, which lies at this place where that is known, no subtitle; none is
+-- written, so that no sink refuses it
 abbrev pub RefusesSubtitle : TextShift → ℕ → ℕ → Reading → Option ℕ → Type 0 → ExtractError → Type 0
-RefusesSubtitle shift timescale k reading offset may_refuse OutOfMemory = IsThere reading
-RefusesSubtitle shift timescale k reading offset may_refuse (Sample number place e) =
-    (number ≡ k) × (place ≡ offset)
-    × ((reading (Err (cause_of e)))
-    ⊎ ((s : TimedSample) × (reading (Ok (Some s))) × (RefusesTimed shift timescale s e)))
-RefusesSubtitle shift timescale k reading offset may_refuse (Read number e) =
-    (number ≡ k) × (IsThere reading) × may_refuse
-RefusesSubtitle shift timescale k reading offset may_refuse (Write number e) = ⊥
-RefusesSubtitle shift timescale k reading offset may_refuse (Track e) = ⊥
-RefusesSubtitle shift timescale k reading offset may_refuse (WrongFormat id format) = ⊥
-RefusesSubtitle shift timescale k reading offset may_refuse (NoSuchSample id number count) = ⊥
-RefusesSubtitle shift timescale k reading offset may_refuse (OtherDescription number description format) = ⊥
+RefusesSubtitle shift timescale k reading offset may_refuse e =
+    RefusesOne (RefusesTimed shift timescale) ⊥ reading offset k may_refuse e
 
 -- subtitles, and one more where that is shown
 abbrev pub and_shown : List Subtitle → Subtitle → List Subtitle

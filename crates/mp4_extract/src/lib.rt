@@ -4,6 +4,7 @@
 
 mod adts;
 mod annex_b;
+mod clock;
 mod coding;
 mod descriptions;
 mod edits;

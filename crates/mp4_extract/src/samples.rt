@@ -73,7 +73,7 @@ pub(crate) fn place_of<S: ByteSource + Drop>(
 }
 
 /// Writes all bytes. Where the sink refuses, it holds a front of them.
-fn put_all<W: Write>(bytes: &[u8], out: &mut W) -> io::Result<()>
+pub(crate) fn put_all<W: Write>(bytes: &[u8], out: &mut W) -> io::Result<()>
     ensures ok { OnOk result (Appends (W.contents out.old) (W.contents out.new) bytes.now) }
     ensures refused { OnErr result (HasFront bytes.now (W.contents out.old) (W.contents out.new)) }
 {

@@ -7,7 +7,7 @@ use Rattle.mp4_codec.specs.declared.box_type.BoxType.TheVariants.{DinfBox, DrefB
 use Rattle.mp4_codec.specs.declared.box_type.BoxType.TheVariants.{Vp09Box, Mp4aBox, Tx3gBox, AvcCBox, HvcCBox}
 use Rattle.mp4_codec.specs.declared.box_type.BoxType.TheVariants.{VpccBox, EsdsBox, WaveBox, IlstBox}
 use Rattle.mp4_codec.specs.BoxType.{box_type, IsNamed}
-use Rattle.mp4_codec.specs.Cause.{Cause, invalid_data, fault_of, seen, ◌or◌, ◌>>=◌}
+use Rattle.mp4_codec.specs.Cause.{Cause, invalid_data, fault_of, ◌or◌, ◌>>=◌}
 use Rattle.mp4_codec.specs.Bytes.{number_at, bytes_at}
 use Rattle.mp4_codec.specs.Children.{ChildBox, children, first_fault, fault_in, last_of}
 use Rattle.mp4_leaf.specs.Dinf.{dinf_of, dref_of, url_of}
@@ -25,15 +25,12 @@ use Rattle.mp4_entry.specs.Mp4a.{mp4a_of, child_esds, versioned_esds, or_wave_es
 use Rattle.mp4_entry.specs.Esds.{esds_of}
 use Rattle.mp4_entry.specs.Tx3g.{tx3g_of}
 use Rattle.mp4_faults.specs.ByChildren.{container_fault, after_children, missing, lacking, lacking_config, types_in}
-use Rattle.mp4_faults.specs.Containers.{is_one_of, read_by, read_by_table, read_by_other, reads_items, before_sound, after_sound}
+use Rattle.mp4_faults.specs.Containers.{is_one_of, read_by, read_by_table, read_by_other, reads_items, before_sound}
+use Rattle.mp4_faults.specs.Containers.{after_sound}
 use Rattle.mp4_faults.specs.Refusal.{payload_fault, table_fault, other_fault}
 use Rattle.mp4_faults.proofs.Fields.{number-there, bytes-there}
-use Rattle.mp4_faults.proofs.Looked.{OfTypes, last-type, or-entry, no-entry, looks, looks-at}
+use Rattle.mp4_faults.proofs.Looked.{OfTypes, last-type, or-entry, no-entry, looks, looks-at, seen-fault}
 use Rattle.mp4_faults.proofs.Taken.{is-there, gathers, needs, has, by-first}
-
-seen-fault : {A B : Type 0} (view : A → B) (r : Result A Cause) → fault_of (seen view r) ≡ fault_of r
-seen-fault view (Ok x) = refl
-seen-fault view (Err d) = refl
 
 -- REFERENCES
 
@@ -43,7 +40,8 @@ dref-looks c n = last-type c n UrlBox url_of refl (λ q. refl)
 
 pub dref-by : (payload : List ℕ) → 8 ≤ length payload
     → payload_fault DrefBox payload ≡ container_fault DrefBox payload (drop 8 payload)
-unfolding payload_fault table_fault other_fault dref_of read_by read_by_table read_by_other reads_items after_children missing box_type
+unfolding payload_fault table_fault other_fault dref_of read_by read_by_table read_by_other reads_items after_children
+    missing box_type
 dref-by payload long =
     rw (
       number-there payload 0 1 (omega (arith, long)),
@@ -58,7 +56,8 @@ unfolding payload_fault table_fault other_fault read_by read_by_table read_by_ot
 dinf-looks c n = last-type c n DrefBox dref_of refl (λ q. refl)
 
 pub dinf-by : (payload : List ℕ) → payload_fault DinfBox payload ≡ container_fault DinfBox payload payload
-unfolding payload_fault table_fault other_fault dinf_of read_by read_by_table read_by_other reads_items after_children missing lacking box_type
+unfolding payload_fault table_fault other_fault dinf_of read_by read_by_table read_by_other reads_items after_children
+    missing lacking box_type
 dinf-by payload =
     gathers (read_by DinfBox) (fault_in DrefBox dref_of) dinf-looks refl (last_of DrefBox dref_of) _ _ payload
     (λ named none. needs (read_by DinfBox) (fault_in DrefBox dref_of) dinf-looks (children payload).0 named none DrefBox
@@ -77,7 +76,8 @@ stsd-looks c n =
 
 pub stsd-by : (payload : List ℕ) → 8 ≤ length payload
     → payload_fault StsdBox payload ≡ container_fault StsdBox payload (drop 8 payload)
-unfolding payload_fault table_fault other_fault stsd_of read_by read_by_table read_by_other reads_items after_children missing box_type
+unfolding payload_fault table_fault other_fault stsd_of read_by read_by_table read_by_other reads_items after_children
+    missing box_type
 stsd-by payload long =
     let version = big_number 1 (take 1 (drop 0 payload)) in
     let flags = big_number 3 (take 3 (drop 1 payload)) in
@@ -131,21 +131,24 @@ visual-by {C} kind value known is no-items among payload long =
 
 pub avc1-by : (payload : List ℕ) → 78 ≤ length payload
     → payload_fault Avc1Box payload ≡ container_fault Avc1Box payload (drop 78 payload)
-unfolding payload_fault table_fault other_fault avc1_of read_by read_by_table reads_items after_children missing box_type
+unfolding payload_fault table_fault other_fault avc1_of read_by read_by_table reads_items after_children missing
+    box_type
 avc1-by payload long =
     seen-fault _ (visual_entry AvcCBox avcc_of payload)
     ∙ visual-by AvcCBox avcc_of refl (λ q. refl) refl refl payload long
 
 pub hev1-by : (payload : List ℕ) → 78 ≤ length payload
     → payload_fault Hev1Box payload ≡ container_fault Hev1Box payload (drop 78 payload)
-unfolding payload_fault table_fault other_fault hev1_of read_by read_by_table reads_items after_children missing box_type
+unfolding payload_fault table_fault other_fault hev1_of read_by read_by_table reads_items after_children missing
+    box_type
 hev1-by payload long =
     seen-fault _ (visual_entry HvcCBox hvcc_of payload)
     ∙ visual-by HvcCBox hvcc_of refl (λ q. refl) refl refl payload long
 
 pub vp09-by : (payload : List ℕ) → 78 ≤ length payload
     → payload_fault Vp09Box payload ≡ container_fault Vp09Box payload (drop 78 payload)
-unfolding payload_fault table_fault other_fault vp09_of read_by read_by_table reads_items after_children missing box_type
+unfolding payload_fault table_fault other_fault vp09_of read_by read_by_table reads_items after_children missing
+    box_type
 vp09-by payload long =
     seen-fault _ (visual_entry VpccBox vpcc_of payload)
     ∙ visual-by VpccBox vpcc_of refl (λ q. refl) refl refl payload long
@@ -207,8 +210,8 @@ module _ (payload : List ℕ) (start : ℕ) where
   unfolding bytes_at number_at
   starts e = by (ltb (length payload) 8) e
     where
-      by-two : (few : Bool) → after_sound (cond few (Err invalid_data) (Ok (version, drop 2 (drop 8 payload)))) ≡ Some start
-          → Starts
+      by-two : (few : Bool)
+          → after_sound (cond few (Err invalid_data) (Ok (version, drop 2 (drop 8 payload)))) ≡ Some start → Starts
       by-two true e = absurd cc
       by-two false e = by-version (eqb version 0) (eqb version 1) refl refl e
 

@@ -33,8 +33,8 @@ unfolding children
 some-children payload bs end are =
     let w = walks-on payload bs 0 end (length payload) (omega arith) (omega arith) are in (_, w.is)
 
-pub none-refused : (fault : ChildBox → Option Cause) (cs : List ChildBox) (tail : List ℕ) → first_fault fault cs tail ≡ None
-    → NoFault fault cs
+pub none-refused : (fault : ChildBox → Option Cause) (cs : List ChildBox) (tail : List ℕ)
+    → first_fault fault cs tail ≡ None → NoFault fault cs
 unfolding first_fault
 none-refused fault [] tail e = tt
 none-refused fault (c ∷ cs) tail e =

@@ -1,5 +1,6 @@
 -- The header that says a wrong id is where it is looked up.
-use Rattle.std.proofs.Common.{◌≡◌, ◌<◌, ℕ, ◌+◌, ◌∷◌, Bool, List, length, Option, Some, sym, ap, subst, ◌∙◌, arith}
+use Rattle.std.proofs.Common.{◌≡◌, ◌<◌, ℕ, ◌+◌, ◌∷◌, Bool, List, length, Option, Some, Result, sym, ap, subst, ◌∙◌}
+use Rattle.std.proofs.Common.{arith}
 use Rattle.std.specs.Prelude.{unwrap_or}
 use Rattle.std.specs.List.{slice_get}
 use Rattle.std.proofs.lemmas.List.{length-append}
@@ -28,7 +29,7 @@ use Rattle.mp4_faults.specs.FirstFault.{IsFaultOfFile, IsPlaceOf, wrong_id}
 use Rattle.mp4_faults.specs.Innermost.{count_of}
 use Rattle.mp4_faults.specs.Ids.{IsFirstIn, IsFirstUnknown, IsFirstId, TellsIds, cause_of_id, known_in}
 use Rattle.mp4_faults.specs.TopLevel.{NamedBox, boxes_of, AreNamedBoxes, moov_places_in, IsSeen, types_of}
-use Rattle.mp4_faults.specs.WrongId.{HasHeader, IsWrongId}
+use Rattle.mp4_faults.specs.WrongId.{HasHeader, HasOwner, IsWrongId}
 use Rattle.mp4_faults.proofs.Owners.{of-movie, of-fragment}
 use Rattle.mp4_faults.proofs.Places.{IsAt, AreAt, last-at, nth-at, movies-at, fragments-at}
 
@@ -39,6 +40,20 @@ first-below refusal xs i x c f =
     let long = ap length f.is ∙ length-append f.before (x ∷ f.after) in
     let count = f.count in
     omega (arith, long, count)
+
+-- a header is found in the box that begins at a place, where it has such an owner
+has-header : {A : Type 0} (of : List ℕ → Result A Cause) (bytes : List ℕ) (place : ℕ) (x : A)
+    (b : IsAt of bytes place x) (id : IdPlace) → id.place ≡ place
+    → HasOwner (between bytes b.from b.to) id.name id.number id.header → HasHeader bytes id
+has-header of bytes place x b id same owner = record {
+  name = b.name;
+  from = b.from;
+  to = b.to;
+  begins = rw same b.begins;
+  order = b.order;
+  inside = b.inside;
+  owner = owner;
+}
 
 module _ (size : ℕ) (bytes : List ℕ) (start end : ℕ) (boxes : List NamedBox)
     (are : AreNamedBoxes size bytes start boxes end) where
@@ -52,16 +67,8 @@ module _ (size : ℕ) (bytes : List ℕ) (start end : ℕ) (boxes : List NamedBo
       let b : IsAt moov_of bytes at.0 m = at.2 in (
         at.0,
         at.1,
-        λ id place name number header. record {
-          name = b.name;
-          from = b.from;
-          to = b.to;
-          begins = rw place b.begins;
-          order = b.order;
-          inside = b.inside;
-          owner = rw (name, number, header)
-              (of-movie (between bytes b.from b.to) m b.is i (first-below zero_id m.traks i t invalid_data first));
-        },
+        λ id place name number header. has-header moov_of bytes at.0 m b id place (rw (name, number, header)
+            (of-movie (between bytes b.from b.to) m b.is i (first-below zero_id m.traks i t invalid_data first))),
       )
 
   pub traf-there : (known : ℕ → Bool) (i j unknown : ℕ) → IsFirstUnknown known (moofs_in (boxes_of boxes)) i j unknown
@@ -76,17 +83,9 @@ module _ (size : ℕ) (bytes : List ℕ) (start end : ℕ) (boxes : List NamedBo
       let b : IsAt moof_of bytes at.0 first.m = at.2 in (
         at.0,
         ap (slice_get places) (sym moof.count) ∙ at.1,
-        λ id place name number header. record {
-          name = b.name;
-          from = b.from;
-          to = b.to;
-          begins = rw place b.begins;
-          order = b.order;
-          inside = b.inside;
-          owner = rw (name, number, header)
-              (of-fragment (between bytes b.from b.to) first.m b.is j
-              (first-below (unknown_id known) first.m.trafs j first.t (trak_not_found unknown) first.first_traf));
-        },
+        λ id place name number header. has-header moof_of bytes at.0 first.m b id place (rw (name, number, header)
+            (of-fragment (between bytes b.from b.to) first.m b.is j
+            (first-below (unknown_id known) first.m.trafs j first.t (trak_not_found unknown) first.first_traf))),
       )
 
 -- WHAT IS SAID OF A WRONG ID

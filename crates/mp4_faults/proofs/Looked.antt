@@ -22,6 +22,11 @@ eqb-sym m n = by (eqb m n) refl
     by false e =
         sym (ne_eqb n m (λ (same : n ≡ m). let yes = eq-eqb m n (sym same) in let not = sym yes ∙ e in absurd cc))
 
+-- a view of a value doesn't change why there is none
+pub seen-fault : {A B : Type 0} (view : A → B) (r : Result A Cause) → fault_of (seen view r) ≡ fault_of r
+seen-fault view (Ok x) = refl
+seen-fault view (Err d) = refl
+
 -- either of two tests, for one answer
 either : (a b : Bool) (x : Option Cause) → (cond a x None or cond b x None) ≡ cond (a || b) x None
 either true b (Some c) = refl
@@ -40,8 +45,8 @@ module _ (c : ChildBox) (named : IsNamed c.0) where
     as-its-type : (b : Bool) → eqb (code_of c.0) (code_of u) ≡ b
         → cond b (fault_of (value c.1)) None ≡ cond b (payload_fault c.0 c.1) None
     as-its-type true e =
-        sym (ap (λ (v : BoxType). payload_fault v c.1) (same-type c.0 u named known (eqb-true (code_of c.0) (code_of u) e))
-        ∙ is c.1)
+        sym (ap (λ (v : BoxType). payload_fault v c.1)
+        (same-type c.0 u named known (eqb-true (code_of c.0) (code_of u) e)) ∙ is c.1)
     as-its-type false e = refl
 
     of-type : fault_in u value c ≡ cond (eqb (code_of u) (code_of c.0)) (payload_fault c.0 c.1) None
@@ -71,14 +76,10 @@ module _ (c : ChildBox) (named : IsNamed c.0) where
       is = rw (eqb-sym (code_of u) (code_of c.0)) (by (eqb (code_of c.0) (code_of u)) refl);
     }
       where
-        seen-fault : (r : Result A Cause) → fault_of (seen kind r) ≡ fault_of r
-        seen-fault (Ok x) = refl
-        seen-fault (Err d) = refl
-
         by : (b : Bool) → eqb (code_of c.0) (code_of u) ≡ b
             → fault_of (cond b (seen kind (value c.1)) other)
             ≡ cond (b || is_one_of c.0 types) (payload_fault c.0 c.1) None
-        by true e = seen-fault (value c.1) ∙ as-its-type true e
+        by true e = seen-fault kind (value c.1) ∙ as-its-type true e
         by false e = rest.is
 
   pub no-entry : {B : Type 0} (x : B) → OfTypes (fault_of {A = B} (Ok x)) []

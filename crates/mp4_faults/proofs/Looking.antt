@@ -56,7 +56,8 @@ module _ (parent : BoxType) (payload : List ℕ) where
       start = l.passes.start;
       starts = l.passes.starts;
       are = within-more payload l.passes.start place l.before b l.passes.are is;
-      faultless = all-more (λ (x : InnerBox). child_fault parent payload (as_child x) ≡ None) l.before b l.passes.faultless
+      faultless =
+          all-more (λ (x : InnerBox). child_fault parent payload (as_child x) ≡ None) l.before b l.passes.faultless
           faultless;
       alone = λ one. let not = sym one ∙ several in absurd cc;
     };
@@ -64,7 +65,8 @@ module _ (parent : BoxType) (payload : List ℕ) where
   }
 
   pub finds : (place : ℕ) (names : List BoxType) (b : InnerBox) (step : PathStep) (c : Cause)
-      → Looking parent payload place names → box_within payload place ≡ Some b → child_fault parent payload (as_child b) ≡ Some c
+      → Looking parent payload place names → box_within payload place ≡ Some b
+      → child_fault parent payload (as_child b) ≡ Some c
       → step ≡ step_after b.name names → IsFirstRefused parent payload step b c
   finds place names b step c l is refused e = record {
     before = l.before;

@@ -33,7 +33,8 @@ unfolding payload_fault table_fault other_fault read_by read_by_table read_by_ot
 udta-looks c n = last-type c n MetaBox meta_of refl (λ q. refl)
 
 pub udta-by : (payload : List ℕ) → payload_fault UdtaBox payload ≡ container_fault UdtaBox payload payload
-unfolding payload_fault table_fault other_fault udta_of read_by read_by_table read_by_other reads_items after_children missing box_type
+unfolding payload_fault table_fault other_fault udta_of read_by read_by_table read_by_other reads_items after_children
+    missing box_type
 udta-by payload =
     gathers (read_by UdtaBox) (fault_in MetaBox meta_of) udta-looks refl (last_of MetaBox meta_of) _ _ payload
     (λ named none. refl)
@@ -165,7 +166,8 @@ module _ (body : List ℕ) where
       sym (last-there HdlrBox hdlr_of cs none) ∙ ap is-there is in
       by (is_mdir handler) none there
     where
-      of-list : (o : Option Cause) (list : Option Ilst) → fault_of (unless o (Ok list) >>= λ l. Ok (Mdir l)) ≡ (o or None)
+      of-list : (o : Option Cause) (list : Option Ilst)
+          → fault_of (unless o (Ok list) >>= λ l. Ok (Mdir l)) ≡ (o or None)
       of-list None list = refl
       of-list (Some c) list = refl
 

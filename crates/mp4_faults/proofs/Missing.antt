@@ -3,11 +3,12 @@ use Rattle.std.proofs.Common.{◌≡◌, ℕ, Bool, true, false, eqb, List, ◌�
 use Rattle.std.proofs.lemmas.Bool.{eqb-true}
 use Rattle.std.specs.List.{list_any}
 use Rattle.mp4_codec.specs.declared.box_type.BoxType.{BoxType}
-use Rattle.mp4_codec.specs.declared.box_type.BoxType.TheVariants.{Avc1Box, AvcCBox, Co64Box, CovrBox, DataBox, DayBox, DescBox}
-use Rattle.mp4_codec.specs.declared.box_type.BoxType.TheVariants.{DinfBox, DrefBox, HdlrBox, Hev1Box, HvcCBox, MdhdBox, MdiaBox}
-use Rattle.mp4_codec.specs.declared.box_type.BoxType.TheVariants.{MetaBox, MfhdBox, MinfBox, MoofBox, MoovBox, MvexBox, MvhdBox}
-use Rattle.mp4_codec.specs.declared.box_type.BoxType.TheVariants.{NameBox, StblBox, StcoBox, StscBox, StsdBox, StszBox, SttsBox}
-use Rattle.mp4_codec.specs.declared.box_type.BoxType.TheVariants.{TfhdBox, TkhdBox, TrafBox, TrakBox, TrexBox, Vp09Box, VpccBox}
+use Rattle.mp4_codec.specs.declared.box_type.BoxType.TheVariants.{Avc1Box, AvcCBox, Co64Box, CovrBox, DataBox, DayBox}
+use Rattle.mp4_codec.specs.declared.box_type.BoxType.TheVariants.{DescBox, DinfBox, DrefBox, HdlrBox, Hev1Box, HvcCBox}
+use Rattle.mp4_codec.specs.declared.box_type.BoxType.TheVariants.{MdhdBox, MdiaBox, MetaBox, MfhdBox, MinfBox, MoofBox}
+use Rattle.mp4_codec.specs.declared.box_type.BoxType.TheVariants.{MoovBox, MvexBox, MvhdBox, NameBox, StblBox, StcoBox}
+use Rattle.mp4_codec.specs.declared.box_type.BoxType.TheVariants.{StscBox, StsdBox, StszBox, SttsBox, TfhdBox, TkhdBox}
+use Rattle.mp4_codec.specs.declared.box_type.BoxType.TheVariants.{TrafBox, TrakBox, TrexBox, Vp09Box, VpccBox}
 use Rattle.mp4_codec.specs.BoxType.{code_of}
 use Rattle.mp4_faults.specs.ByChildren.{missing, lacking}
 use Rattle.mp4_faults.specs.Containers.{is_one_of, reads, read_by, read_by_table, read_by_other}

@@ -106,12 +106,15 @@ nth-at of bytes (y ∷ ys) x after (p ∷ ps) are = nth-at of bytes ys x after p
 
 -- the movies and the fragments among the boxes of a file
 module _ (size : ℕ) (bytes : List ℕ) where
-  movie-at : (place next : ℕ) (b : NamedBox) → IsNamedBox size bytes place next b → (m : MoovBox)
-      → b.1.content ≡ Moov m → IsAt moov_of bytes b.1.place m
-  movie-at place next b is m e = by is.box.holds
+  content-at : {A : Type 0} (of : List ℕ → Result A Cause) (x : A) (content : BoxContent) → (content ≡ Skipped → ⊥)
+      → ((name : BoxType) (value : List ℕ → Result BoxContent Cause) (payload : List ℕ) → meaning_of name ≡ Some value
+      → value payload ≡ Ok content → of payload ≡ Ok x)
+      → (place next : ℕ) (b : NamedBox) → IsNamedBox size bytes place next b → b.1.content ≡ content
+      → IsAt of bytes b.1.place x
+  content-at of x content whole means place next b is e = by is.box.holds
     where
-      by : Holds bytes is.box.name is.box.from next b.1.content → IsAt moov_of bytes b.1.place m
-      by (skipped none small content) = let not = sym content ∙ e in absurd cc
+      by : Holds bytes is.box.name is.box.from next b.1.content → IsAt of bytes b.1.place x
+      by (skipped none small none_is) = absurd (whole (sym e ∙ none_is))
       by (read value meaning inside value_is) = record {
         name = is.box.name;
         from = is.box.from;
@@ -119,24 +122,19 @@ module _ (size : ℕ) (bytes : List ℕ) where
         begins = rw is.box.place_is is.box.begins.head;
         order = is.box.begins.order;
         inside = inside;
-        is = movie-is is.box.name value (between bytes is.box.from next) m meaning (value_is ∙ ap Ok e);
+        is = means is.box.name value (between bytes is.box.from next) meaning (value_is ∙ ap Ok e);
       }
+
+  movie-at : (place next : ℕ) (b : NamedBox) → IsNamedBox size bytes place next b → (m : MoovBox)
+      → b.1.content ≡ Moov m → IsAt moov_of bytes b.1.place m
+  movie-at place next b is m e =
+      content-at moov_of m (Moov m) (λ not. cc) (λ name value payload. movie-is name value payload m) place next b is e
 
   fragment-at : (place next : ℕ) (b : NamedBox) → IsNamedBox size bytes place next b → (m : MoofBox)
       → b.1.content ≡ Moof m → IsAt moof_of bytes b.1.place m
-  fragment-at place next b is m e = by is.box.holds
-    where
-      by : Holds bytes is.box.name is.box.from next b.1.content → IsAt moof_of bytes b.1.place m
-      by (skipped none small content) = let not = sym content ∙ e in absurd cc
-      by (read value meaning inside value_is) = record {
-        name = is.box.name;
-        from = is.box.from;
-        to = next;
-        begins = rw is.box.place_is is.box.begins.head;
-        order = is.box.begins.order;
-        inside = inside;
-        is = fragment-is is.box.name value (between bytes is.box.from next) m meaning (value_is ∙ ap Ok e);
-      }
+  fragment-at place next b is m e =
+      content-at moof_of m (Moof m) (λ not. cc) (λ name value payload. fragment-is name value payload m) place next b
+      is e
 
   pub movies-at : (place end : ℕ) (boxes : List NamedBox) → AreNamedBoxes size bytes place boxes end
       → AreAt moov_of bytes (moovs_in (boxes_of boxes)) (moov_places_in (boxes_of boxes))

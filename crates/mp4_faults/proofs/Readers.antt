@@ -5,12 +5,13 @@ use Rattle.mp4_codec.specs.declared.box_type.BoxType.{BoxType}
 use Rattle.mp4_codec.specs.BoxType.{box_type, IsNamed}
 use Rattle.mp4_codec.specs.Cause.{Cause, box_not_found, box2_not_found, fault_of, ◌or◌, ◌>>=◌}
 use Rattle.mp4_codec.specs.Children.{ChildBox, children, is_of, fault_in, last, last_of, all_of, some_needed}
-use Rattle.mp4_codec.specs.declared.box_type.BoxType.TheVariants.{Co64Box, CovrBox, CttsBox, DayBox, DescBox, DinfBox, EdtsBox}
-use Rattle.mp4_codec.specs.declared.box_type.BoxType.TheVariants.{ElstBox, HdlrBox, IlstBox, MdhdBox, MdiaBox, MehdBox, MetaBox}
-use Rattle.mp4_codec.specs.declared.box_type.BoxType.TheVariants.{MfhdBox, MinfBox, MoofBox, MoovBox, MvexBox, MvhdBox, NameBox}
-use Rattle.mp4_codec.specs.declared.box_type.BoxType.TheVariants.{SmhdBox, StblBox, StcoBox, StscBox, StsdBox, StssBox, StszBox}
-use Rattle.mp4_codec.specs.declared.box_type.BoxType.TheVariants.{SttsBox, TfdtBox, TfhdBox, TkhdBox, TrafBox, TrakBox, TrexBox}
-use Rattle.mp4_codec.specs.declared.box_type.BoxType.TheVariants.{TrunBox, UdtaBox, VmhdBox}
+use Rattle.mp4_codec.specs.declared.box_type.BoxType.TheVariants.{Co64Box, CovrBox, CttsBox, DayBox, DescBox, DinfBox}
+use Rattle.mp4_codec.specs.declared.box_type.BoxType.TheVariants.{EdtsBox, ElstBox, HdlrBox, IlstBox, MdhdBox, MdiaBox}
+use Rattle.mp4_codec.specs.declared.box_type.BoxType.TheVariants.{MehdBox, MetaBox, MfhdBox, MinfBox, MoofBox, MoovBox}
+use Rattle.mp4_codec.specs.declared.box_type.BoxType.TheVariants.{MvexBox, MvhdBox, NameBox, SmhdBox, StblBox, StcoBox}
+use Rattle.mp4_codec.specs.declared.box_type.BoxType.TheVariants.{StscBox, StsdBox, StssBox, StszBox, SttsBox, TfdtBox}
+use Rattle.mp4_codec.specs.declared.box_type.BoxType.TheVariants.{TfhdBox, TkhdBox, TrafBox, TrakBox, TrexBox, TrunBox}
+use Rattle.mp4_codec.specs.declared.box_type.BoxType.TheVariants.{UdtaBox, VmhdBox}
 use Rattle.mp4_boxes.specs.Moov.{moov_of, moov_fault, moov_taken}
 use Rattle.mp4_boxes.specs.Trak.{trak_of, trak_fault, trak_taken}
 use Rattle.mp4_boxes.specs.Mdia.{mdia_of, mdia_fault, mdia_taken}
@@ -53,7 +54,7 @@ use Rattle.mp4_faults.specs.ByChildren.{container_fault, after_children, missing
 use Rattle.mp4_faults.specs.Containers.{is_one_of, read_by, read_by_table, read_by_other, reads_items}
 use Rattle.mp4_faults.specs.Refusal.{payload_fault, table_fault, other_fault}
 use Rattle.mp4_faults.proofs.Looked.{OfTypes, last-type, and-type, looks, looks-at}
-use Rattle.mp4_faults.proofs.Taken.{is-there, gathers, needs, has, by-first}
+use Rattle.mp4_faults.proofs.Taken.{is-there, last-some, gathers, needs, has, by-first}
 
 moov-looks : (c : ChildBox) (n : IsNamed c.0) → OfTypes c n (moov_fault c) (read_by MoovBox)
 unfolding payload_fault table_fault other_fault read_by read_by_table read_by_other moov_fault box_type
@@ -65,10 +66,12 @@ moov-looks c n =
     last-type c n UdtaBox udta_of refl (λ q. refl)))))
 
 pub moov-by : (payload : List ℕ) → payload_fault MoovBox payload ≡ container_fault MoovBox payload payload
-unfolding payload_fault table_fault other_fault moov_of moov_taken read_by read_by_table read_by_other reads_items after_children missing lacking box_type
+unfolding payload_fault table_fault other_fault moov_of moov_taken read_by read_by_table read_by_other reads_items
+    after_children missing lacking box_type
 moov-by payload =
     gathers (read_by MoovBox) moov_fault moov-looks refl moov_taken _ _ payload (λ named none.
-    needs (read_by MoovBox) moov_fault moov-looks (children payload).0 named none MvhdBox mvhd_of refl (λ q. refl) refl _ _
+    needs (read_by MoovBox) moov_fault moov-looks (children payload).0 named none MvhdBox mvhd_of
+    refl (λ q. refl) refl _ _
     (λ x. refl))
 
 trak-looks : (c : ChildBox) (n : IsNamed c.0) → OfTypes c n (trak_fault c) (read_by TrakBox)
@@ -80,11 +83,14 @@ trak-looks c n =
     last-type c n MdiaBox mdia_of refl (λ q. refl))))
 
 pub trak-by : (payload : List ℕ) → payload_fault TrakBox payload ≡ container_fault TrakBox payload payload
-unfolding payload_fault table_fault other_fault trak_of trak_taken read_by read_by_table read_by_other reads_items after_children missing lacking box_type
+unfolding payload_fault table_fault other_fault trak_of trak_taken read_by read_by_table read_by_other reads_items
+    after_children missing lacking box_type
 trak-by payload =
     gathers (read_by TrakBox) trak_fault trak-looks refl trak_taken _ _ payload (λ named none.
-    needs (read_by TrakBox) trak_fault trak-looks (children payload).0 named none TkhdBox tkhd_of refl (λ q. refl) refl _ _
-    (λ x. needs (read_by TrakBox) trak_fault trak-looks (children payload).0 named none MdiaBox mdia_of refl (λ q. refl) refl _ _
+    needs (read_by TrakBox) trak_fault trak-looks (children payload).0 named none TkhdBox tkhd_of
+    refl (λ q. refl) refl _ _
+    (λ x. needs (read_by TrakBox) trak_fault trak-looks (children payload).0 named none MdiaBox mdia_of
+    refl (λ q. refl) refl _ _
     (λ x. refl)))
 
 mdia-looks : (c : ChildBox) (n : IsNamed c.0) → OfTypes c n (mdia_fault c) (read_by MdiaBox)
@@ -95,12 +101,16 @@ mdia-looks c n =
     last-type c n MinfBox minf_of refl (λ q. refl)))
 
 pub mdia-by : (payload : List ℕ) → payload_fault MdiaBox payload ≡ container_fault MdiaBox payload payload
-unfolding payload_fault table_fault other_fault mdia_of mdia_taken read_by read_by_table read_by_other reads_items after_children missing lacking box_type
+unfolding payload_fault table_fault other_fault mdia_of mdia_taken read_by read_by_table read_by_other reads_items
+    after_children missing lacking box_type
 mdia-by payload =
     gathers (read_by MdiaBox) mdia_fault mdia-looks refl mdia_taken _ _ payload (λ named none.
-    needs (read_by MdiaBox) mdia_fault mdia-looks (children payload).0 named none MdhdBox mdhd_of refl (λ q. refl) refl _ _
-    (λ x. needs (read_by MdiaBox) mdia_fault mdia-looks (children payload).0 named none HdlrBox hdlr_of refl (λ q. refl) refl _ _
-    (λ x. needs (read_by MdiaBox) mdia_fault mdia-looks (children payload).0 named none MinfBox minf_of refl (λ q. refl) refl _ _
+    needs (read_by MdiaBox) mdia_fault mdia-looks (children payload).0 named none MdhdBox mdhd_of
+    refl (λ q. refl) refl _ _
+    (λ x. needs (read_by MdiaBox) mdia_fault mdia-looks (children payload).0 named none HdlrBox hdlr_of
+    refl (λ q. refl) refl _ _
+    (λ x. needs (read_by MdiaBox) mdia_fault mdia-looks (children payload).0 named none MinfBox minf_of
+    refl (λ q. refl) refl _ _
     (λ x. refl))))
 
 minf-looks : (c : ChildBox) (n : IsNamed c.0) → OfTypes c n (minf_fault c) (read_by MinfBox)
@@ -112,11 +122,14 @@ minf-looks c n =
     last-type c n StblBox stbl_of refl (λ q. refl))))
 
 pub minf-by : (payload : List ℕ) → payload_fault MinfBox payload ≡ container_fault MinfBox payload payload
-unfolding payload_fault table_fault other_fault minf_of minf_taken read_by read_by_table read_by_other reads_items after_children missing lacking box_type
+unfolding payload_fault table_fault other_fault minf_of minf_taken read_by read_by_table read_by_other reads_items
+    after_children missing lacking box_type
 minf-by payload =
     gathers (read_by MinfBox) minf_fault minf-looks refl minf_taken _ _ payload (λ named none.
-    needs (read_by MinfBox) minf_fault minf-looks (children payload).0 named none DinfBox dinf_of refl (λ q. refl) refl _ _
-    (λ x. needs (read_by MinfBox) minf_fault minf-looks (children payload).0 named none StblBox stbl_of refl (λ q. refl) refl _ _
+    needs (read_by MinfBox) minf_fault minf-looks (children payload).0 named none DinfBox dinf_of
+    refl (λ q. refl) refl _ _
+    (λ x. needs (read_by MinfBox) minf_fault minf-looks (children payload).0 named none StblBox stbl_of
+    refl (λ q. refl) refl _ _
     (λ x. refl)))
 
 stbl-looks : (c : ChildBox) (n : IsNamed c.0) → OfTypes c n (stbl_fault c) (read_by StblBox)
@@ -144,10 +157,12 @@ moof-looks c n =
     last-type c n TrafBox traf_of refl (λ q. refl))
 
 pub moof-by : (payload : List ℕ) → payload_fault MoofBox payload ≡ container_fault MoofBox payload payload
-unfolding payload_fault table_fault other_fault moof_of moof_taken read_by read_by_table read_by_other reads_items after_children missing lacking box_type
+unfolding payload_fault table_fault other_fault moof_of moof_taken read_by read_by_table read_by_other reads_items
+    after_children missing lacking box_type
 moof-by payload =
     gathers (read_by MoofBox) moof_fault moof-looks refl moof_taken _ _ payload (λ named none.
-    needs (read_by MoofBox) moof_fault moof-looks (children payload).0 named none MfhdBox mfhd_of refl (λ q. refl) refl _ _
+    needs (read_by MoofBox) moof_fault moof-looks (children payload).0 named none MfhdBox mfhd_of
+    refl (λ q. refl) refl _ _
     (λ x. refl))
 
 traf-looks : (c : ChildBox) (n : IsNamed c.0) → OfTypes c n (traf_fault c) (read_by TrafBox)
@@ -158,10 +173,12 @@ traf-looks c n =
     last-type c n TrunBox trun_of refl (λ q. refl)))
 
 pub traf-by : (payload : List ℕ) → payload_fault TrafBox payload ≡ container_fault TrafBox payload payload
-unfolding payload_fault table_fault other_fault traf_of traf_taken read_by read_by_table read_by_other reads_items after_children missing lacking box_type
+unfolding payload_fault table_fault other_fault traf_of traf_taken read_by read_by_table read_by_other reads_items
+    after_children missing lacking box_type
 traf-by payload =
     gathers (read_by TrafBox) traf_fault traf-looks refl traf_taken _ _ payload (λ named none.
-    needs (read_by TrafBox) traf_fault traf-looks (children payload).0 named none TfhdBox tfhd_of refl (λ q. refl) refl _ _
+    needs (read_by TrafBox) traf_fault traf-looks (children payload).0 named none TfhdBox tfhd_of
+    refl (λ q. refl) refl _ _
     (λ x. refl))
 
 ilst-looks : (c : ChildBox) (n : IsNamed c.0) → OfTypes c n (ilst_fault c) (read_by IlstBox)
@@ -173,7 +190,8 @@ ilst-looks c n =
     last-type c n DescBox item_of refl (λ q. refl))))
 
 pub ilst-by : (payload : List ℕ) → payload_fault IlstBox payload ≡ container_fault IlstBox payload payload
-unfolding payload_fault table_fault other_fault ilst_of ilst_taken read_by read_by_table read_by_other reads_items after_children missing lacking box_type
+unfolding payload_fault table_fault other_fault ilst_of ilst_taken read_by read_by_table read_by_other reads_items
+    after_children missing lacking box_type
 ilst-by payload =
     gathers (read_by IlstBox) ilst_fault ilst-looks refl ilst_taken _ _ payload (λ named none.
     refl)
@@ -208,7 +226,8 @@ abbrev lack : BoxType → List ChildBox → Option Cause
 lack t cs = cond (is_one_of t (types_in cs)) None (Some (box_not_found t))
 
 pub stbl-by : (payload : List ℕ) → payload_fault StblBox payload ≡ container_fault StblBox payload payload
-unfolding payload_fault table_fault stbl_of stbl_taken read_by read_by_table reads_items after_children missing lacking box_type
+unfolding payload_fault table_fault stbl_of stbl_taken read_by read_by_table reads_items after_children missing lacking
+    box_type
 stbl-by payload =
     gathers (read_by StblBox) stbl_fault stbl-looks refl stbl_taken _ _ payload (λ named none.
     let cs = (children payload).0 in
@@ -224,7 +243,8 @@ stbl-by payload =
     (lacking_places (types_in cs))))
 
 pub mvex-by : (payload : List ℕ) → payload_fault MvexBox payload ≡ container_fault MvexBox payload payload
-unfolding payload_fault table_fault other_fault mvex_of mvex_taken read_by read_by_table read_by_other reads_items after_children missing lacking box_type last_of
+unfolding payload_fault table_fault other_fault mvex_of mvex_taken read_by read_by_table read_by_other reads_items
+    after_children missing lacking box_type last_of
 mvex-by payload =
     gathers (read_by MvexBox) mvex_fault mvex-looks refl mvex_taken _ _ payload (λ named none.
     let cs = (children payload).0 in
@@ -232,16 +252,12 @@ mvex-by payload =
     ∙ ap (λ (b : Bool). cond b None (Some (box_not_found TrexBox)) or None)
     (has (read_by MvexBox) mvex_fault mvex-looks cs named none TrexBox trex_of refl (λ q. refl) refl))
   where
-    last-is : {A : Type 0} (x : A) (xs : List A) → is-there (last (x ∷ xs)) ≡ true
-    last-is x [] = refl
-    last-is x (y ∷ ys) = last-is y ys
-
     some-next : {A B : Type 0} (xs : List A) (next : List A → Result B Cause)
         → ((ys : List A) → fault_of (next ys) ≡ None)
         → fault_of (some_needed TrexBox xs >>= next)
         ≡ (cond (is-there (last xs)) None (Some (box_not_found TrexBox)) or None)
     some-next [] next h = refl
-    some-next (x ∷ xs) next h = rw (last-is x xs) (h (x ∷ xs))
+    some-next (x ∷ xs) next h = rw (last-some x xs).1 (h (x ∷ xs))
 
 abbrev edits_of : Option Elst → Result Edts Cause
 edits_of edits = Ok (record { elst = edits })
@@ -251,7 +267,8 @@ unfolding payload_fault table_fault other_fault read_by read_by_table read_by_ot
 edts-looks c n = last-type c n ElstBox elst_of refl (λ q. refl)
 
 pub edts-by : (payload : List ℕ) → payload_fault EdtsBox payload ≡ container_fault EdtsBox payload payload
-unfolding payload_fault table_fault other_fault edts_of read_by read_by_table read_by_other reads_items after_children missing box_type
+unfolding payload_fault table_fault other_fault edts_of read_by read_by_table read_by_other reads_items after_children
+    missing box_type
 edts-by payload =
     by-first (fault_in ElstBox elst_of) (looks (read_by EdtsBox))
     (looks-at (read_by EdtsBox) (fault_in ElstBox elst_of) edts-looks refl)

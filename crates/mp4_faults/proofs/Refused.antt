@@ -1,6 +1,6 @@
 -- Why a container is refused: the law, and what it says of the first refused child and of a fault of the box's own.
-use Rattle.std.proofs.Common.{◌≡◌, ◌≤◌, ℕ, Bool, true, false, cond, eqb, ltb, List, [], ◌∷◌, ◌++◌, Option}
-use Rattle.std.proofs.Common.{Some, None, Result, Ok, Err, refl, sym, ap, subst, ◌∙◌, length, take, drop, arith, map, append_assoc}
+use Rattle.std.proofs.Common.{◌≡◌, ◌≤◌, ℕ, Bool, true, false, cond, eqb, ltb, List, [], ◌∷◌, ◌++◌, Option, Some, None}
+use Rattle.std.proofs.Common.{Result, Ok, Err, refl, sym, ap, subst, ◌∙◌, length, take, drop, arith, map, append_assoc}
 use Rattle.std.specs.List.{AllByRecursion}
 use Rattle.std.proofs.lemmas.List.{append-nil}
 use Rattle.mp4_codec.specs.declared.box_type.BoxType.{BoxType}
@@ -16,8 +16,9 @@ use Rattle.mp4_codec.specs.GatherLaws.{NoFault, first_fault-none}
 use Rattle.mp4_meta.specs.Meta.{meta_of, meta_body, meta_with, last_handler, names_hdlr}
 use Rattle.mp4_faults.specs.declared.fault_place.PathStep.{PathStep}
 use Rattle.mp4_faults.specs.ByChildren.{child_fault, container_fault, looked_at, first_only, after_children}
-use Rattle.mp4_faults.specs.Containers.{before_children, before_metadata, after_first, first_alone, reads_items, has_items}
-use Rattle.mp4_faults.specs.Containers.{is_of_items, handler_in, reads, reads_with, read_by, read_by_table, read_by_other}
+use Rattle.mp4_faults.specs.Containers.{before_children, before_metadata, after_first, first_alone, reads_items}
+use Rattle.mp4_faults.specs.Containers.{has_items, is_of_items, handler_in, reads, reads_with, read_by, read_by_table}
+use Rattle.mp4_faults.specs.Containers.{read_by_other}
 use Rattle.mp4_faults.specs.Inner.{InnerBox, as_child, end_of, box_within, AreWithin, outward}
 use Rattle.mp4_faults.specs.Innermost.{IsFirstRefused, NoneRefused, childless, sole, all, IsOwnFault, Leads}
 use Rattle.mp4_faults.specs.Innermost.{IsInnermost}
@@ -76,7 +77,8 @@ no-body payload e read = by (ltb (length payload) 4) e read
         (number_at 1 payload >>= λ version. Err (unsupported_version MetaBox version.0)))) ≡ None → ⊥
     by-form true hdlr e f = absurd cc
     by-form false true e f = absurd cc
-    by-form false false e f = refuses (List ℕ) (number_at 1 payload) (λ version. unsupported_version MetaBox version.0) f
+    by-form false false e f =
+        refuses (List ℕ) (number_at 1 payload) (λ version. unsupported_version MetaBox version.0) f
 
     by : (few : Bool)
         → after_first (cond few (Err invalid_data) (Ok (first-number payload, drop 4 payload))) ≡ None
@@ -153,8 +155,8 @@ container-by other payload start e inside = absurd cc
 
 -- THE FIRST REFUSED CHILD
 
-first-of : (fault : ChildBox → Option Cause) (bs : List InnerBox) (b : InnerBox) (others : List ChildBox) (tail : List ℕ)
-    (c : Cause) → AllByRecursion (λ x. fault (as_child x) ≡ None) bs → fault (as_child b) ≡ Some c
+first-of : (fault : ChildBox → Option Cause) (bs : List InnerBox) (b : InnerBox) (others : List ChildBox)
+    (tail : List ℕ) (c : Cause) → AllByRecursion (λ x. fault (as_child x) ≡ None) bs → fault (as_child b) ≡ Some c
     → first_fault fault (map as_child (bs ++ b ∷ []) ++ others) tail ≡ Some c
 unfolding first_fault
 first-of fault [] b others tail c none is = rw is refl
@@ -189,7 +191,8 @@ module _ (name : BoxType) (payload : List ℕ) where
   up-to start place bs b are is =
       let more = within-more payload start place bs b are is in
       let inside = within bs b start (end_of b) more in
-      let w = walks-on payload (bs ++ b ∷ []) start (end_of b) (length (drop start payload)) inside (omega arith) more in
+      let w = walks-on payload (bs ++ b ∷ []) start (end_of b) (length (drop start payload)) inside (omega arith)
+      more in
       record { inside = inside; others = _; are = w.is }
 
   only : (list : List ChildBox × List ℕ) (c : ChildBox) (others : List ChildBox) → list.0 ≡ c ∷ others
@@ -210,19 +213,25 @@ module _ (name : BoxType) (payload : List ℕ) where
       ∙ ap (λ (o : Option Cause). o or after_children name (drop p.start payload)) (by (first_alone name) refl)
     where
       by : (alone : Bool) → first_alone name ≡ alone
-          → first_fault fault (cond alone (first_only (children (drop first.passes.start payload))) (children (drop first.passes.start payload))).0
-          (cond alone (first_only (children (drop first.passes.start payload))) (children (drop first.passes.start payload))).1 ≡ Some c
+          → first_fault fault
+          (cond alone (first_only (children (drop first.passes.start payload)))
+          (children (drop first.passes.start payload))).0
+          (cond alone (first_only (children (drop first.passes.start payload)))
+          (children (drop first.passes.start payload))).1
+          ≡ Some c
       by false e =
           let p = first.passes in
           let u = up-to p.start first.place first.before b p.are first.is in
           ap (λ (cs : List ChildBox). first_fault fault cs (children (drop first.passes.start payload)).1) u.are
-          ∙ first-of fault first.before b u.others (children (drop first.passes.start payload)).1 c p.faultless first.refused
+          ∙ first-of fault first.before b u.others (children (drop first.passes.start payload)).1 c p.faultless
+          first.refused
       by true e =
           let p = first.passes in
           let u = up-to p.start first.place first.before b p.are first.is in
           let none : first.before ≡ [] = p.alone e in
           let are = u.are ∙ ap (λ (bs : List InnerBox). map as_child (bs ++ b ∷ []) ++ u.others) none in
-          ap (λ (x : List ChildBox × List ℕ). first_fault fault x.0 x.1) (only (children (drop first.passes.start payload)) (as_child b) u.others are)
+          ap (λ (x : List ChildBox × List ℕ). first_fault fault x.0 x.1)
+          (only (children (drop first.passes.start payload)) (as_child b) u.others are)
           ∙ rw first.refused refl
 
   -- THE BOX'S OWN FAULT
@@ -231,8 +240,8 @@ module _ (name : BoxType) (payload : List ℕ) where
       → k ≡ start
   same-start k start e f = some-place k start (sym e ∙ f)
 
-  faultless : (start : ℕ) → before_children name payload ≡ Some start → start ≤ length payload → NoneRefused name payload
-      → NoFault fault (looked_at name (drop start payload)).0
+  faultless : (start : ℕ) → before_children name payload ≡ Some start → start ≤ length payload
+      → NoneRefused name payload → NoFault fault (looked_at name (drop start payload)).0
   unfolding children AreWithin
   faultless start e inside (childless none) = let not = sym none ∙ e in absurd cc
   faultless start e inside (sole place b passes one is none) =
@@ -245,7 +254,8 @@ module _ (name : BoxType) (payload : List ℕ) where
       subst (λ (x : List ChildBox × List ℕ). NoFault fault x.0) (sym looked) (none, tt)
   faultless start e inside (all before place passes ends) =
       let same = same-start passes.start start passes.starts e in
-      let are : AreWithin payload start before place = subst (λ (n : ℕ). AreWithin payload n before place) same passes.are in
+      let are : AreWithin payload start before place =
+      subst (λ (n : ℕ). AreWithin payload n before place) same passes.are in
       let w = walks-on payload before start place (length (drop start payload)) inside (omega arith) are in
       let cs : (children (drop start payload)).0 ≡ map as_child before =
       w.is ∙ ap (λ (ds : List ChildBox). map as_child before ++ ds) (walks-none payload place w.steps w.inside ends)
@@ -259,10 +269,12 @@ module _ (name : BoxType) (payload : List ℕ) where
       by cs none first false f = subst (NoFault fault) (sym cs) (none-of fault before none)
       by cs none first true f =
           subst (λ (x : List ChildBox × List ℕ). NoFault fault x.0)
-          (sym (only-none (children (drop start payload)) (cs ∙ ap (λ (bs : List InnerBox). map as_child bs) (first f)))) tt
+          (sym (only-none (children (drop start payload))
+          (cs ∙ ap (λ (bs : List InnerBox). map as_child bs) (first f)))) tt
 
   -- where none of its children is refused, the cause is the box's own
-  pub own-fault : (c : Cause) → payload_fault name payload ≡ Some c → NoneRefused name payload → IsOwnFault name payload c
+  pub own-fault : (c : Cause) → payload_fault name payload ≡ Some c → NoneRefused name payload
+      → IsOwnFault name payload c
   own-fault c refused none = record {
     none = none;
     cause = λ start e inside.

@@ -1,6 +1,6 @@
 -- Why a container is refused that gathers its children: the first of them, or what comes after.
-use Rattle.std.proofs.Common.{◌≡◌, ◌≤◌, ◌-◌, ℕ, zero, suc, Bool, true, false, cond, eqb, ltb, ◌||◌, List, [], ◌∷◌, ◌++◌, Option, Some, None}
-use Rattle.std.proofs.Common.{Result, Ok, Err, refl, sym, ap, subst, ◌∙◌, length, arith}
+use Rattle.std.proofs.Common.{◌≡◌, ◌≤◌, ◌-◌, ℕ, zero, suc, Bool, true, false, cond, eqb, ltb, ◌||◌, List, [], ◌∷◌, ◌++◌}
+use Rattle.std.proofs.Common.{Option, Some, None, Result, Ok, Err, refl, sym, ap, subst, ◌∙◌, length, arith}
 use Rattle.std.proofs.lemmas.Bool.{lt-ltb}
 use Rattle.std.specs.List.{AllByRecursion}
 use Rattle.std.specs.Option.{option_to_list}
@@ -9,8 +9,8 @@ use Rattle.mp4_codec.specs.declared.box_type.BoxType.TheVariants.{IlstBox}
 use Rattle.mp4_codec.specs.declared.header.BoxHeader.{BoxHeader}
 use Rattle.mp4_codec.specs.BoxType.{IsNamed}
 use Rattle.mp4_codec.specs.Cause.{Cause, box_not_found, fault_of, unless, ◌or◌, ◌>>=◌}
-use Rattle.mp4_codec.specs.Children.{ChildBox, children, walk, walk_on, child_at, begun, cut, is_of, value_of, fault_in, all_of, last, last_of}
-use Rattle.mp4_codec.specs.Children.{needed, gathered, first_fault, next_at, next_of}
+use Rattle.mp4_codec.specs.Children.{ChildBox, children, walk, walk_on, child_at, begun, cut, is_of, value_of, fault_in}
+use Rattle.mp4_codec.specs.Children.{all_of, last, last_of, needed, gathered, first_fault, next_at, next_of}
 use Rattle.mp4_codec.specs.Cursor.{Cursor, here, left, header_at, take_at}
 use Rattle.mp4_codec.specs.GatherLaws.{NoFault}
 use Rattle.mp4_codec.proofs.HeadLaws.{header_read}
@@ -26,11 +26,12 @@ abbrev pub is-there : {A : Type 0} → Option A → Bool
 is-there None = false
 is-there (Some x) = true
 
-module _ {A : Type 0} (t : BoxType) (value : List ℕ → Result A Cause) where
-  last-some : (x : A) (xs : List A) → (y : A) × (last (x ∷ xs) ≡ Some y)
-  last-some x [] = (x, refl)
-  last-some x (z ∷ zs) = last-some z zs
+-- a list that isn't empty has a last
+pub last-some : {A : Type 0} (x : A) (xs : List A) → (y : A) × (last (x ∷ xs) ≡ Some y)
+last-some x [] = (x, refl)
+last-some x (z ∷ zs) = last-some z zs
 
+module _ {A : Type 0} (t : BoxType) (value : List ℕ → Result A Cause) where
   -- where no child of a type is refused, the last is there if the type is among the children's
   pub last-there : (cs : List ChildBox) → NoFault (fault_in t value) cs
       → is-there (last_of t value cs) ≡ is_one_of t (types_in cs)

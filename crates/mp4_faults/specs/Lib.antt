@@ -9,3 +9,4 @@ pub mod BoxFault
 pub mod Ids
 pub mod WrongId
 pub mod FirstFault
+pub mod PathText

@@ -1,5 +1,8 @@
 //! The place of a fault.
 
+ghost use Rattle.std.specs.Prelude.{◌≡◌, Some};
+ghost use Rattle.mp4_faults.specs.PathText.{is_numbered, path_text, step_text, steps_of, type_text, visible_byte};
+
 use mp4_codec::{BoxType, DebugItem, Error, FourCC, Items};
 use std::fmt;
 use std::fmt::Write;
@@ -15,22 +18,39 @@ pub struct PathStep {
 
 impl DebugItem for PathStep {}
 
-/// Writes the code of a type; a byte that is neither visible, nor a space, nor the © of iTunes' items, is a full stop.
-fn write_type<W: fmt::Write>(name: BoxType, f: &mut fmt::Formatter<W>) -> fmt::Result {
-    for byte in FourCC::from(name).value {
-        let shown = match byte {
-            0x20..=0x7e | 0xa9 => char::from(byte),
-            _ => '.',
-        };
-        f.write_char(shown)?;
+/// The code of a type as text; a byte that is neither visible, nor a space, nor the © of iTunes' items, is a full stop.
+#[derive(Clone, Copy)]
+struct TypeText(BoxType);
+
+/// A byte of a code as a character.
+fn visible_byte(byte: u8) -> char
+    ensures { result ≡ visible_byte byte }
+{
+    match byte {
+        0x20..=0x7e | 0xa9 => char::from(byte),
+        _ => '.',
     }
-    Ok(())
+}
+
+impl fmt::Display for TypeText {
+    ghost output = { λ t. Some (type_text t.0) };
+
+    #[tactic(auto, unfolding(crate::specs::PathText::type_text))]
+    fn fmt<W: fmt::Write>(&self, f: &mut fmt::Formatter<W>) -> fmt::Result {
+        for byte in FourCC::from(self.0).value {
+            let shown = visible_byte(byte);
+            write!(f, "{shown}")?;
+        }
+        Ok(())
+    }
 }
 
 impl PathStep {
     /// Whether the number is written: it is for types of which a container usually holds several, and for
     /// another type where the box isn't the first.
-    pub fn is_numbered(&self) -> bool {
+    pub fn is_numbered(&self) -> bool
+        ensures { result ≡ is_numbered self.now }
+    {
         match self.name {
             BoxType::TrakBox | BoxType::TrexBox => true,
             BoxType::MoofBox | BoxType::TrafBox | BoxType::TrunBox | BoxType::EmsgBox => true,
@@ -40,12 +60,16 @@ impl PathStep {
 }
 
 impl fmt::Display for PathStep {
+    ghost output = { λ step. Some (step_text step) };
+
+    #[tactic(auto, unfolding(crate::specs::PathText::step_text))]
     fn fmt<W: fmt::Write>(&self, f: &mut fmt::Formatter<W>) -> fmt::Result {
-        write_type(self.name, f)?;
+        let name = TypeText(self.name);
         if self.is_numbered() {
-            write!(f, "[{}]", self.number)?;
+            let number = self.number;
+            return write!(f, "{name}[{number}]");
         }
-        Ok(())
+        write!(f, "{name}")
     }
 }
 
@@ -60,18 +84,24 @@ pub struct BoxPath<'a> {
 
 impl<'a> BoxPath<'a> {
     /// The path of these steps.
-    pub fn new(steps: &'a [PathStep]) -> Self {
+    pub fn new(steps: &'a [PathStep]) -> Self
+        ensures { steps_of result ≡ steps.now }
+    {
         BoxPath { steps }
     }
 }
 
 impl fmt::Display for BoxPath<'_> {
+    ghost output = { λ path. Some (path_text (steps_of path)) };
+
+    #[tactic(auto, unfolding(crate::specs::PathText::path_text))]
     fn fmt<W: fmt::Write>(&self, f: &mut fmt::Formatter<W>) -> fmt::Result {
-        for (index, step) in self.steps.iter().enumerate() {
-            if index > 0 {
-                f.write_str("/")?;
-            }
-            write!(f, "{step}")?;
+        let [first, others @ ..] = self.steps else {
+            return Ok(());
+        };
+        write!(f, "{first}")?;
+        for step in others {
+            write!(f, "/{step}")?;
         }
         Ok(())
     }
@@ -93,7 +123,9 @@ pub struct FaultPlace {
 
 impl FaultPlace {
     /// The path as text.
-    pub fn shown_path(&self) -> BoxPath<'_> {
+    pub fn shown_path(&self) -> BoxPath<'_>
+        ensures { steps_of result ≡ self.now.path }
+    {
         BoxPath::new(self.path.as_slice())
     }
 }

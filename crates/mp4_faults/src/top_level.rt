@@ -1,6 +1,6 @@
 //! The boxes of a file, one after the other, up to the first fault.
 
-ghost use Rattle.std.specs.Prelude.{◌≡◌, ◌≤◌, ◌<◌, ◌+◌, ◌^◌, ℕ, List, [], ◌∷◌, IfSome, IfOk, IsTrue, IsFalse};
+ghost use Rattle.std.specs.Prelude.{◌≡◌, ◌≤◌, ◌<◌, ◌+◌, ◌^◌, ℕ, List, [], ◌∷◌, IfSome, IfErr, IfOk, IsTrue, IsFalse};
 ghost use Rattle.std.specs.Prelude.{None as none, Some as some};
 ghost use Rattle.mp4_codec.specs.BoxType.{IsNamed};
 ghost use Rattle.mp4_codec.specs.Cause.{cause_of};
@@ -297,7 +297,8 @@ fn read_box<S: ByteSource + Drop>(
 }
 
 /// What is at the cursor in a file that ends at the place `size`: after a box without fault the cursor is after it, and
-/// where the file ends it stays.
+/// where the file ends it stays. Memory runs out, and the source refuses a read, only where the bytes of a
+/// header are left.
 pub(crate) fn next_box<S: ByteSource + Drop>(
     alloc: Global,
     reader: &mut SourceCursor<S>,
@@ -308,6 +309,7 @@ pub(crate) fn next_box<S: ByteSource + Drop>(
     ensures answer { IfSome (S.contents reader.old.source) (λ bytes. ReadsNext size bytes
         (S.can_refuse reader.old.source) reader.old.position seen.old seen.new reader.new.position result) }
     ensures below { IfOk result (λ next. next ≡ NextBox.Faultless → reader.old.position < size) }
+    ensures begun { IfErr result (λ _. reader.old.position + 8 ≤ size) }
     ensures onward { IfOk result (λ next. next ≡ NextBox.Faultless → reader.old.position < reader.new.position) }
     ensures contents { S.contents reader.new.source ≡ S.contents reader.old.source }
     ensures can_refuse { S.can_refuse reader.new.source ≡ S.can_refuse reader.old.source }

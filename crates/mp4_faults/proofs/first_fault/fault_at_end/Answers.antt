@@ -1,4 +1,4 @@
-use Rattle.std.proofs.Common.{◌∙◌, sym, refl}
+use Rattle.std.proofs.Common.{refl}
 use Rattle.std.proofs.lemmas.Result.{err_from_is_err_and}
 use Rattle.mp4_media.proofs.FoundBoxes.{all_known, of_known}
 use Rattle.mp4_faults.proofs.IdPlaces.{track-has, track-fault, traf-has, traf-fault}

@@ -1,6 +1,5 @@
 use Rattle.std.proofs.Common.{sym, refl, ◌∙◌}
 use Rattle.mp4_faults.specs.Inner.{inner}
-use Rattle.mp4_codec.specs.Cause.{cause_of}
 use Rattle.mp4_faults.proofs.Looking.{starts, goes_on, finds, ends, ends_at_first}
 use Rattle.mp4_faults.proofs.innermost.first_refused.Goals as goal
 

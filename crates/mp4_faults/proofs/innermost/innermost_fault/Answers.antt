@@ -1,4 +1,4 @@
-use Rattle.std.proofs.Common.{◌∙◌, ap, arith}
+use Rattle.std.proofs.Common.{arith}
 use Rattle.mp4_faults.specs.Inner.{inner}
 use Rattle.mp4_faults.proofs.Refused.{led-starts, led-on, led-ends}
 use Rattle.mp4_faults.proofs.innermost.innermost_fault.Goals as goal

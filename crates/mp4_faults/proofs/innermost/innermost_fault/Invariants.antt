@@ -1,6 +1,5 @@
-use Rattle.std.proofs.Common.{◌≡◌, ◌++◌, ◌≤◌, List, Some, length}
+use Rattle.std.proofs.Common.{◌≡◌, ◌≤◌, Some, length}
 use Rattle.mp4_codec.specs.Cause.{Cause}
-use Rattle.mp4_faults.specs.declared.fault_place.PathStep.{PathStep}
 use Rattle.mp4_faults.specs.Inner.{inner, end_of}
 use Rattle.mp4_faults.specs.Refusal.{payload_fault}
 use Rattle.mp4_faults.proofs.Refused.{LedTo}

@@ -50,3 +50,17 @@ returns-in_err-found-clause-holds g c =
     c.in_err-found.field-0.0 (omega arith) (rw none at neighbours.written)
     (rw same (rw (neighbours.track_id, neighbours.form, neighbours.len, neighbours.movie, neighbours.contents) at
     c.in_err-found.ensures.holds)))
+
+pub returns-in_err-found-clause-refused : goal.returns-in_err-found-clause-refused
+returns-in_err-found-clause-refused g c =
+    let residual = c.from_residual-in_err-found in
+    let p = err_from_is_err_and residual.result residual.ensures.1 in
+    let neighbours = c.in_ok-neighbours.ensures in
+    rw (p.1, p.2) (rw (
+      neighbours.track_id,
+      neighbours.form,
+      neighbours.len,
+      neighbours.movie,
+      neighbours.contents,
+      neighbours.can_refuse,
+    ) at c.in_err-found.ensures.refused)

@@ -3,7 +3,8 @@ use Rattle.std.proofs.lemmas.Result.{err_from_is_err_and}
 use Rattle.std.specs.Prelude.{vec_capacity}
 use Rattle.mp4_media.specs.Reading.{sample_there}
 use Rattle.mp4_samples.specs.Places.{place_of}
-use Rattle.mp4_extract.specs.Extracting.{IsReadIn, MayRefuse, offset_in}
+use Rattle.mp4_extract.specs.Extracting.{IsReadIn, IsThere, MayRefuse, offset_in}
+use Rattle.mp4_extract.specs.Forms.{NeedsRoom, RefusesSample}
 use Rattle.mp4_extract.proofs.Refused.{not_read, not_read_wants, offset_is, read_is, stored_holds, stored_refused}
 use Rattle.mp4_extract.proofs.Refused.{stored_wants}
 use Rattle.mp4_extract.proofs.samples.SampleWriter.write_sample.Goals as goal
@@ -75,9 +76,12 @@ pub returns-in-Err-clause-refused : goal.returns-in-Err-clause-refused
 returns-in-Err-clause-refused g c =
     let self = c.args.self.now in
     let file = c.args.file.now in
+    let known = g.S.ByteSource.contents file.source in
     rw (c.of_read.ensures, c.place_of-place.ensures, c.in-Err.ensures.movie)
-    (not_read file.len file.movie.tracks self.track_id c.args.k (g.S.ByteSource.contents file.source) file.measured
-    self.form (g.S.ByteSource.can_refuse file.source) c.in-Err.error
+    (not_read file.len file.movie.tracks self.track_id c.args.k known file.measured
+    (λ s. RefusesSample self.form s.sample.bytes)
+    (IsThere (IsReadIn known file.len file.movie.tracks self.track_id c.args.k))
+    (g.S.ByteSource.can_refuse file.source) c.in-Err.error
     (λ out. let past = c.in-Err.ensures.memory out in (past.0, past.1)) c.in-Err.ensures.place c.in-Err.ensures.answer)
 
 pub returns-in-Err-clause-memory : goal.returns-in-Err-clause-memory
@@ -86,5 +90,5 @@ returns-in-Err-clause-memory g c =
     let file = c.args.file.now in
     rw c.of_read.ensures
     (not_read_wants file.len file.movie.tracks self.track_id c.args.k (g.S.ByteSource.contents file.source)
-    file.measured self.form (vec_capacity self.stored) (vec_capacity self.turned) _ c.in-Err.error
-    c.in-Err.ensures.memory)
+    file.measured (λ s. NeedsRoom self.form (vec_capacity self.turned) s.sample.bytes) (vec_capacity self.stored) _
+    c.in-Err.error c.in-Err.ensures.memory)

@@ -3,8 +3,9 @@ use Rattle.std.specs.Prelude.{vec_capacity}
 use Rattle.mp4_media.specs.Reading.{sample_there}
 use Rattle.mp4_samples.specs.Places.{place_of}
 use Rattle.mp4_extract.specs.Extracting.{IsReadIn, MayRefuse, offset_in}
-use Rattle.mp4_extract.proofs.Refused.{offset_is, read_is}
-use Rattle.mp4_extract.proofs.Shown.{text_not_read, text_not_read_wants, text_refused, text_wants}
+use Rattle.mp4_extract.specs.Subtitles.{RefusesTimed, WantsSubtitle}
+use Rattle.mp4_extract.proofs.Refused.{not_read, not_read_wants, offset_is, read_is}
+use Rattle.mp4_extract.proofs.Shown.{text_refused, text_wants}
 use Rattle.mp4_extract.proofs.text_track.SubtitleReader.subtitle_at.Goals as goal
 
 pub returns-in-Ok-clause-subtitle : goal.returns-in-Ok-clause-subtitle
@@ -54,8 +55,8 @@ returns-in-Err-clause-refused g c =
     let self = c.args.self.now in
     let file = c.args.file.now in
     rw (c.of_read.ensures, c.place_of-place.ensures, c.in-Err.ensures.movie)
-    (text_not_read file.len file.movie.tracks self.track_id c.args.number self.shift self.timescale
-    (g.S.ByteSource.contents file.source) file.measured (g.S.ByteSource.can_refuse file.source) c.in-Err.error
+    (not_read file.len file.movie.tracks self.track_id c.args.number (g.S.ByteSource.contents file.source)
+    file.measured (RefusesTimed self.shift self.timescale) ⊥ (g.S.ByteSource.can_refuse file.source) c.in-Err.error
     (λ out. let past = c.in-Err.ensures.memory out in (past.0, past.1)) c.in-Err.ensures.place c.in-Err.ensures.answer)
 
 pub returns-in-Err-clause-memory : goal.returns-in-Err-clause-memory
@@ -63,6 +64,6 @@ returns-in-Err-clause-memory g c =
     let self = c.args.self.now in
     let file = c.args.file.now in
     rw c.of_read.ensures
-    (text_not_read_wants file.len file.movie.tracks self.track_id c.args.number self.shift self.timescale
-    (g.S.ByteSource.contents file.source) file.measured (vec_capacity self.stored) _ c.in-Err.error
+    (not_read_wants file.len file.movie.tracks self.track_id c.args.number (g.S.ByteSource.contents file.source)
+    file.measured (WantsSubtitle self.shift self.timescale) (vec_capacity self.stored) _ c.in-Err.error
     c.in-Err.ensures.memory)
