@@ -167,9 +167,10 @@ pub counted_bytes : (begun : WriterState) (tracks : List NewTrack) (source : Lis
     (contents : Option (List ℕ)) (len : ℕ) → IsMovieIn begun tracks source rows contents len
     → (bytes : List ℕ) × (IsMovieOf begun tracks source rows bytes) × (len ≡ length bytes)
 counted_bytes begun tracks source rows contents len m =
-    let e = m.1.1.1 in
-    (whole_of (with_end (with_rows source m.0 rows)),
-    ((m.0, (m.1.0, (m.1.1.0, (refl, (e.opens, e.written))))), e.count))
+    let e = m.1.1.1 in (
+      whole_of (with_end (with_rows source m.0 rows)),
+      ((m.0, (m.1.0, (m.1.1.0, (refl, (e.opens, e.written))))), e.count),
+    )
 
 -- bytes for which there is no room are counted alone
 pub no_room : (bytes : List ℕ) → copied bytes [] ≡ done (length bytes) 0

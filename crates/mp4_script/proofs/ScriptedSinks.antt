@@ -40,11 +40,11 @@ same_refusal P None e a = a
 same_refusal P (Some c) e a = a
 
 -- and one that a writer refuses is refused
-pub call_fails : {X : Type 0} (number : ℕ) (writer : WriterState) (call : Call) (P : Type 0) (after : KeptMovie)
+pub call_fails : (X : Type 0) (number : ℕ) (writer : WriterState) (call : Call) (P : Type 0) (after : KeptMovie)
     (e : WriteError) (fault : ScriptWriteFault) → IsToldAs (λ e. Refused number e) e fault
     → RefusesWrite P (call_cause writer call) e
     → AnswersInSink {X = X} (λ f. f ≡ Refused number OutOfMemory) after (Err fault) (called number writer (Some call))
-call_fails number writer call P after (Mp4 e) (Script f) told a =
+call_fails X number writer call P after (Mp4 e) (Script f) told a =
     by (call_was_refused number writer call e (same_refusal P (call_cause writer call) e a))
   where
     by : (Refused number e ≡ Refused number OutOfMemory)
@@ -52,11 +52,11 @@ call_fails number writer call P after (Mp4 e) (Script f) told a =
         → (f ≡ Refused number OutOfMemory) ⊎ (called number writer (Some call) ≡ Err (script_cause_of f))
     by (inl memory) = inl (told ∙ memory)
     by (inr refused) = inr (refused ∙ ap (λ (x : ScriptFault). Err (script_cause_of x)) (sym told))
-call_fails number writer call P after (Mp4 e) (Sink x) told a = absurd told
-call_fails number writer call P after (Io e) (Script f) told a = absurd told
-call_fails number writer call P after (Io e) (Sink x) told a = tt
-call_fails number writer call P after Failed (Script f) told a = absurd told
-call_fails number writer call P after Failed (Sink x) told a = tt
+call_fails X number writer call P after (Mp4 e) (Sink x) told a = absurd told
+call_fails X number writer call P after (Io e) (Script f) told a = absurd told
+call_fails X number writer call P after (Io e) (Sink x) told a = tt
+call_fails X number writer call P after Failed (Script f) told a = absurd told
+call_fails X number writer call P after Failed (Sink x) told a = tt
 
 -- The line of this number, which is a command, answers what its call does.
 pub line_answers : {X : Type 0} (number : ℕ) (line : List ℕ) (call : Call) → false ≡ eqb (length line) 0
@@ -64,7 +64,7 @@ pub line_answers : {X : Type 0} (number : ℕ) (line : List ℕ) (call : Call) �
     → AnswersInSink (λ f. f ≡ Refused number OutOfMemory) after result (called number writer (Some call))
     → AnswersInSink (RanOutAt number line) after result (line_step number line writer)
 line_answers number line call some is writer after (Ok x) a =
-    (a.0, (its_step number line call some (sym is) writer ∙ a.1.0, a.1.1))
+    (a.0, its_step number line call some (sym is) writer ∙ a.1, a.2)
 line_answers number line call some is writer after (Err (Script f)) (inl memory) = inl ((call, is), memory)
 line_answers number line call some is writer after (Err (Script f)) (inr refused) =
     inr (its_step number line call some (sym is) writer ∙ refused)

@@ -1,5 +1,5 @@
 -- What is answered of a line whose call goes to a writer of a sink.
-use Rattle.std.specs.Prelude.{◌≡◌, ◌⊎◌, ⊤, ⊥, Result, Ok, Err}
+use Rattle.std.specs.Prelude.{◌≡◌, ◌⊎◌, ⊤, Result, Ok, Err}
 use Rattle.mp4_media.specs.Error.{Error}
 use Rattle.mp4_media.specs.WriterFields.{KeptMovie, MayHold}
 use Rattle.mp4_media.specs.declared.write_error.WriteError.{WriteError}

@@ -1,6 +1,6 @@
 //! The lines of a text.
 
-ghost use Rattle.std.specs.Prelude.{◌≡◌, [], ◌∷◌, ◌==◌, ◌≤◌, length, MatchOption, IfNone};
+ghost use Rattle.std.specs.Prelude.{◌≡◌, [], ◌∷◌, ◌==◌, ◌≤◌, ◌<◌, length, MatchOption, IfNone, IfSome};
 ghost use Rattle.std.specs.List.{position_or_len};
 ghost use Rattle.mp4_script.specs.Lines.{lines_of, lines_left};
 
@@ -45,6 +45,17 @@ fn line_length(text: &[u8]) -> usize
         return 0;
     }
     length_by_memchr(text)
+}
+
+/// The first line, and what is after its line feed; None where there is no line feed.
+pub(crate) fn cut_line(text: &[u8]) -> Option<(&[u8], &[u8])>
+    ensures shorter { IfSome result (λ parts. length parts.1.now < length text.now) }
+{
+    let end = line_length(text);
+    if end < text.len() {
+        return Some((&text[..end], &text[end + 1..]));
+    }
+    None
 }
 
 impl<'a> Lines<'a> {

@@ -8,8 +8,8 @@ ghost use Rattle.mp4_script.specs.Script.{RanOutAt, called, line_step};
 ghost use Rattle.mp4_script.specs.ScriptSink.{AnswersInSink, IsToldAs};
 ghost use Rattle.mp4_script.specs.declared.script.ScriptFault.TheVariants.{End, Refused};
 
+use crate::lines::cut_line;
 use crate::script::{ScriptFault, call_in_line, standard_config};
-use memchr::memchr;
 use mp4_media::{ByteSink, Error, Mp4FileWriter, WriteError, WriterCall};
 use std::alloc::Global;
 use std::io;
@@ -37,9 +37,6 @@ pub struct ScriptWriter<S: ByteSink> {
     /// The beginning of the next line.
     line: Vec<u8>,
 }
-
-/// The byte at the end of a line.
-const LINE_FEED: u8 = b'\n';
 
 /// What the call of the line of this number was refused for.
 fn refused(number: u64, error: WriteError) -> ScriptWriteFault
@@ -92,8 +89,10 @@ fn run_line<S: ByteSink + Drop>(
     if line.is_empty() {
         return Ok(());
     }
-    let call = call_in_line(alloc, number, line)?;
-    make_call(writer, number, &call)
+    match call_in_line(alloc, number, line) {
+        Ok(call) => make_call(writer, number, &call),
+        Err(fault) => Err(ScriptWriteFault::Script(fault)),
+    }
 }
 
 impl<S: ByteSink + Drop> ScriptWriter<S> {
@@ -132,7 +131,12 @@ impl<S: ByteSink + Drop> ScriptWriter<S> {
     fn run_kept(&mut self, part: &[u8]) -> Result<(), ScriptWriteFault> {
         self.keep(part)?;
         self.lines = self.lines.saturating_add(1);
-        run_line(self.alloc, &mut self.writer, self.lines, self.line.as_slice())?;
+        run_line(
+            self.alloc,
+            &mut self.writer,
+            self.lines,
+            self.line.as_slice(),
+        )?;
         self.line.clear();
         Ok(())
     }
@@ -141,9 +145,8 @@ impl<S: ByteSink + Drop> ScriptWriter<S> {
     /// at fault is the answer, as [`crate::run_script`] says; `Sink` where the sink refuses.
     pub fn write(&mut self, part: &[u8]) -> Result<(), ScriptWriteFault> {
         let mut rest = part;
-        while let Some(end) = memchr(LINE_FEED, rest) {
-            let line = &rest[..end];
-            rest = &rest[end + 1..];
+        while let Some((line, after)) = cut_line(rest) {
+            rest = after;
             if self.line.is_empty() {
                 self.run_next(line)?;
             } else {

@@ -10,9 +10,14 @@ loop-k-init g c = λ st h. (st, (no_tracks c.args.source.now c.args.tracks.now s
 pub loop-k-preserved : goal.loop-k-preserved
 loop-k-preserved g c = λ st h.
     let now = c.loop-k.invariant st h in
-    let next = c.in-Ok.ensures.added now.0 now.1.1 in
-    (next.0, (tracks_next c.args.source.now c.args.tracks.now st now.0 next.0 c.loop-k.k _ c.loop-k-test.true now.1.0
-    next.1.0, next.1.1))
+    let next = c.in-Ok.ensures.added now.0 now.1.1 in (
+      next.0,
+      (
+        tracks_next c.args.source.now c.args.tracks.now st now.0 next.0 c.loop-k.k _ c.loop-k-test.true now.1.0
+            next.1.0,
+        next.1.1,
+      ),
+    )
 
 pub returns-clause-added : goal.returns-clause-added
 returns-clause-added g c = λ st h.
