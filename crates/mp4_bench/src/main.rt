@@ -28,7 +28,8 @@ use std::alloc::Global;
 use std::process::ExitCode;
 use std::{env, io};
 
-const USAGE: &[u8] = b"usage: mp4_bench JOB [SEED [PARTS]], or mp4_bench record_file SEED PARTS FILE\n";
+const USAGE: &[u8] =
+    b"usage: mp4_bench JOB [SEED [PARTS]], or mp4_bench record_file SEED PARTS FILE\n";
 
 const JOBS: &[u8] =
     b"a job: all | seek | list | scan | live | record | script | walk | numbers | cursor | times\n";

@@ -1,7 +1,8 @@
 -- What a part of a writing is refused for.
-use Rattle.std.proofs.Common.{◌≡◌, ℕ, ◌<◌, List, [], length, take, get_or, Option, Some, None, Result, Ok, Err}
+use Rattle.std.proofs.Common.{◌≡◌, ℕ, ◌<◌, List, [], ◌∷◌, true, eqb, arith, length, take, get_or, Option, Some, None, Result, Ok, Err}
 use Rattle.std.proofs.Common.{◌∙◌, inl, inr, refl, ap, sym}
 use Rattle.std.specs.Prelude.{IfErr, IfOk}
+use Rattle.std.proofs.lemmas.Bool.{eqb-true, lt-ltb}
 use Rattle.std.proofs.lemmas.Option.{slice_get-get_or}
 use Rattle.mp4_codec.specs.declared.error.Error.{Error}
 use Rattle.mp4_codec.specs.Cause.{AnswersCause, Cause, cause_of, ◌or◌}
@@ -118,8 +119,8 @@ module _ {X : Type 0} (contents : X → Option (List ℕ)) (len : X → ℕ) (r 
           let ready = leads st h in
           in_other_words (λ c. end_cause (with_rows source ready.0 rows) ≡ Some c)
           (IsRefusedPart st tracks source rows f.part f.index) (cause_of f.error)
-          (λ is. end part index ready.0 ready.1.0 whole is)
-          (refused (with_rows source ready.0 rows) ready.1.1)
+          (λ is. end part index ready.0 ready.1 whole is)
+          (refused (with_rows source ready.0 rows) ready.2)
 
   -- where it is Ok, its sink has the movie
   pub at_movie : IfOk r (λ x. (st : WriterState) → MayHold after st → IsEndIn st (contents x) (len x))
@@ -133,7 +134,7 @@ module _ {X : Type 0} (contents : X → Option (List ℕ)) (len : X → ℕ) (r 
           → IsMovieIn st tracks source rows (contents x) (len x))
       by (Ok x) ended = λ st h.
           let ready = leads st h in
-          (ready.0, (ready.1.0, (whole, ended (with_rows source ready.0 rows) ready.1.1)))
+          (ready.0, ready.1, whole, ended (with_rows source ready.0 rows) ready.2)
       by (Err f) ended = tt
 
 -- what holds of each state that a writer may have holds of one
@@ -160,23 +161,25 @@ pub known_movie : (begun : WriterState) (tracks : List NewTrack) (source : List 
     (bytes : List ℕ) (len : ℕ) → IsMovieIn begun tracks source rows (Some bytes) len
     → IsMovieOf begun tracks source rows bytes
 known_movie begun tracks source rows bytes len m =
-    let e = m.1.1.1 in (m.0, (m.1.0, (m.1.1.0, (e.bytes, (e.opens, e.written)))))
+    (m.0, m.1, m.2, (m.3.bytes, m.3.opens, m.3.written))
 
 -- and of one that counts them: its bytes are those of the state, and there are as many
 pub counted_bytes : (begun : WriterState) (tracks : List NewTrack) (source : List ℕ) (rows : List SampleRow)
     (contents : Option (List ℕ)) (len : ℕ) → IsMovieIn begun tracks source rows contents len
     → (bytes : List ℕ) × (IsMovieOf begun tracks source rows bytes) × (len ≡ length bytes)
 counted_bytes begun tracks source rows contents len m =
-    let e = m.1.1.1 in (
-      whole_of (with_end (with_rows source m.0 rows)),
-      ((m.0, (m.1.0, (m.1.1.0, (refl, (e.opens, e.written))))), e.count),
-    )
+    (whole_of (with_end (with_rows source m.0 rows)), (m.0, m.1, m.2, (refl, m.3.opens, m.3.written)), m.3.count)
+
+-- a room without bytes
+pub empty_room : (room : List ℕ) → true ≡ eqb (length room) 0 → room ≡ []
+empty_room [] e = refl
+empty_room (b ∷ bs) e = let none = eqb-true (length (b ∷ bs)) 0 (sym e) in absurd (omega (arith, none))
 
 -- bytes for which there is no room are counted alone
 pub no_room : (bytes : List ℕ) → copied bytes [] ≡ done (length bytes) 0
 no_room [] = refl
-no_room (b ∷ bs) = refl
+no_room (b ∷ bs) = rw (lt-ltb 0 (length (b ∷ bs)) (omega arith)) refl
 
 pub no_room_stays : (bytes : List ℕ) → with_front bytes [] ≡ []
 no_room_stays [] = refl
-no_room_stays (b ∷ bs) = refl
+no_room_stays (b ∷ bs) = rw (lt-ltb 0 (length (b ∷ bs)) (omega arith)) refl

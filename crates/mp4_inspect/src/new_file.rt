@@ -32,8 +32,9 @@ impl<'a, R: Files> NewFile<'a, R> {
         if is_same_file(rt, alloc, read, name) {
             return Err(Fault::SameFile);
         }
-        let (file, out) = mp4_new_file::NewFile::create(rt, alloc, "mp4_inspect", name)
-            .map_err(cannot_write)?;
+        let (file, out) = mp4_new_file::NewFile::create(rt, alloc, "mp4_inspect", name).map_err(
+            cannot_write,
+        )?;
         match BufWriter::new(alloc, out) {
             Ok(out) => Ok(NewFile { file, out }),
             Err(error) => {

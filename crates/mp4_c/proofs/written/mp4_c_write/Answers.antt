@@ -4,7 +4,7 @@ use Rattle.mp4_codec.specs.Cause.{cause_of}
 use Rattle.mp4_c.specs.declared.answer.Answer.{Answer}
 use Rattle.mp4_c.specs.Replies.{Gave}
 use Rattle.mp4_c.specs.Rooms.{copied, with_front}
-use Rattle.mp4_c.proofs.Refusals.{known_movie}
+use Rattle.mp4_c.proofs.Refusals.{empty_room, known_movie}
 use Rattle.mp4_c.proofs.written.mp4_c_write.Goals as goal
 
 given : (bytes shown room new : List ℕ) (answer : Answer) → shown ≡ bytes → answer ≡ copied shown room
@@ -32,3 +32,6 @@ returns-in-Err c =
       c.in-Err.ensures.refused,
       λ i. record { answer = sym c.refused_at.ensures i; room = c.args.room.now },
     )
+
+pub returns-then-is_empty : goal.returns-then-is_empty
+returns-then-is_empty c = rw (empty_room c.args.room.now c.if-is_empty.ensures) c.counted.ensures
