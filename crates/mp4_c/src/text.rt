@@ -101,9 +101,9 @@ fn reason_of(alloc: Global, error: &Error) -> std::result::Result<String, AllocE
     }
 }
 
-/// Copies in words why a file doesn't open, without a zero after them, where there is room for all of them: the words of
-/// [`mp4_c_error_text`], and after "invalid data: " what it is that is invalid. `count` is how many bytes they have, and
-/// `filled` is `count`, or 0 where they don't fit. Of a file that opens the words are those of no error.
+/// Copies in words why a file doesn't open, without a zero after them, where there is room for all of them: the words
+/// of [`mp4_c_error_text`], and after "invalid data: " what it is that is invalid. `count` is how many bytes they have,
+/// and `filled` is `count`, or 0 where they don't fit. Of a file that opens the words are those of no error.
 #[unsafe(no_mangle)]
 pub extern "C" fn mp4_c_open_error_text(alloc: Global, file: &[u8], room: &mut [u8]) -> Answer
     ensures { GaveWords room.old room.new result }

@@ -54,8 +54,8 @@ struct Fault {
 /// An answer, or what the writing was refused at.
 type Written<T> = std::result::Result<T, Fault>;
 
-/// What a writer is refused for whose sink is memory, or counts. A count past 2^64 - 1 bytes is of a movie for which there
-/// is no memory.
+/// What a writer is refused for whose sink is memory, or counts. A count past 2^64 - 1 bytes is of a movie for which
+/// there is no memory.
 fn refusal_in(error: WriteError) -> Error
     ensures { result ≡ refusal_in error }
 {
@@ -304,8 +304,8 @@ fn counted(
 /// another sample entry, type of sound, frequency or channels than are known, `EndOfData` where a sample or a parameter
 /// set isn't whole in the data, and else what [`mp4_media::Mp4Writer`] refuses.
 ///
-/// Where there is no room at all, the bytes are counted and not kept: what it takes then are the tables, and the samples
-/// of at most a second of each track.
+/// Where there is no room at all, the bytes are counted and not kept: what it takes then are the tables, and the
+/// samples of at most a second of each track.
 #[unsafe(no_mangle)]
 pub extern "C" fn mp4_c_write(
     alloc: Global,

@@ -91,8 +91,8 @@ fn write_as_read<'a, R: Read, W: Write + Seek + Drop>(
 }
 
 /// Makes the movie of a script and writes it to a file, which gets its name when it is whole. Where the script is at
-/// fault, or memory runs out, what has the name isn't touched. The script isn't held in memory, nor are the bytes of the
-/// movie, unless what has the name is no regular file.
+/// fault, or memory runs out, what has the name isn't touched. The script isn't held in memory, nor are the bytes of
+/// the movie, unless what has the name is no regular file.
 pub fn make<'a, R: Read>(
     rt: &impl Files,
     alloc: Global,
