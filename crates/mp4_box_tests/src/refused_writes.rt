@@ -5,8 +5,8 @@ use mp4_codec::{
     BoxHeader, BoxType, Error, Items, Limit, Result, Text, WriteBox, check_all, check_optional,
     check_value, check_version,
 };
-use mp4_frag::{EmsgBox, MehdBox, TfdtBox, TfhdBox, TrunBox};
 use mp4_leaf::{DataBox, DataType, ElstBox, ElstEntry, HdlrBox, MdhdBox, MvhdBox, TkhdBox, UrlBox};
+use mp4_moof::{EmsgBox, MehdBox, TfdtBox, TfhdBox, TrunBox};
 use mp4_plain_movies::encoded::{
     also, hex, is_invalid, is_past_its_field, is_unrepresentable, writes,
 };

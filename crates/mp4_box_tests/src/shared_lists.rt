@@ -4,8 +4,7 @@
 use crate::asserts::check;
 use mp4_codec::{Items, Result, SharedItem, SharedItems, TryClone};
 use mp4_entry::{AvcCBox, NalUnit};
-use mp4_frag::TrunBox;
-use mp4_moof::TrafBox;
+use mp4_moof::{TrafBox, TrunBox};
 use mp4_plain_movies::encoded::both;
 use mp4_plain_movies::equality::{are_alike, tells_each};
 use std::alloc::{AllocError, Global};

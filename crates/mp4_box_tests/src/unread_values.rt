@@ -5,10 +5,9 @@ use crate::asserts::check;
 use mp4_boxes::{MdiaBox, MinfBox, StblBox};
 use mp4_codec::{BoxType, FourCC, Items, Result, SharedItems, Text, WriteBox};
 use mp4_entry::{Avc1Box, AvcCBox, EsdsBox, Hev1Box, Mp4aBox, NalUnit, StsdBox, Tx3gBox};
-use mp4_frag::TrunBox;
 use mp4_leaf::{DataBox, DataType, HdlrBox};
 use mp4_meta::{IlstBox, IlstItemBox, MetaBox, Metadata, MetadataKey};
-use mp4_moof::TrafBox;
+use mp4_moof::{TrafBox, TrunBox};
 use mp4_plain_movies::encoded::{
     also, both, hex, is_invalid, is_unrepresentable, read_bytes, writes, written,
 };

@@ -3,7 +3,7 @@
 use crate::encoded::digits;
 use crate::refusals::refusal;
 use mp4_codec::{BoxHeader, ByteCursor, Child, Children, Error, FourCC, Result, all_children};
-use mp4_frag::MfhdBox;
+use mp4_moof::MfhdBox;
 use std::alloc::Global;
 use std::fmt::Write;
 

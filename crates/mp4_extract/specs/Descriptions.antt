@@ -3,8 +3,8 @@
 use Rattle.std.specs.Prelude.{ℕ, ◌+◌, ◌-◌, ◌^◌, min, Bool, nat_le, nat_lt, ◌==◌, ◌&&◌, if◌then◌else◌, List, [], ◌∷◌}
 use Rattle.std.specs.Prelude.{Option, Some, None}
 use Rattle.mp4_table.specs.declared.stsc.StscEntry.{StscEntry}
-use Rattle.mp4_frag.specs.declared.trex.TrexBox.{TrexBox}
-use Rattle.mp4_frag.specs.declared.trun.TrunBox.{TrunBox}
+use Rattle.mp4_moof.specs.declared.trex.TrexBox.{TrexBox}
+use Rattle.mp4_moof.specs.declared.trun.TrunBox.{TrunBox}
 use Rattle.mp4_moof.specs.declared.mvex.MvexBox.{MvexBox}
 use Rattle.mp4_moof.specs.declared.traf.TrafBox.{TrafBox}
 use Rattle.mp4_boxes.specs.declared.trak.TrakBox.{TrakBox}

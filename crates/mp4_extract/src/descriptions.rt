@@ -12,8 +12,7 @@ use crate::error::ExtractError;
 use crate::format::SampleFormat;
 use mp4_boxes::TrakBox;
 use mp4_codec::ExactEq;
-use mp4_frag::{TrexBox, TrunBox};
-use mp4_moof::{MvexBox, TrafBox};
+use mp4_moof::{MvexBox, TrafBox, TrexBox, TrunBox};
 use mp4_table::StscEntry;
 
 /// A sample of another description than the first.

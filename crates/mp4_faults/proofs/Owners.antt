@@ -11,8 +11,8 @@ use Rattle.mp4_codec.specs.Children.{ChildBox, children, gathered, fault_in, nee
 use Rattle.mp4_codec.specs.GatherLaws.{NoFault, gathered-taken}
 use Rattle.mp4_codec.specs.Steps.{ok_is, both_steps}
 use Rattle.mp4_codec.specs.WriteLaws.{or_parts}
-use Rattle.mp4_frag.specs.Mfhd.{mfhd_of}
-use Rattle.mp4_frag.specs.Tfhd.{tfhd_of}
+use Rattle.mp4_moof.specs.Mfhd.{mfhd_of}
+use Rattle.mp4_moof.specs.Tfhd.{tfhd_of}
 use Rattle.mp4_leaf.specs.Mvhd.{mvhd_of}
 use Rattle.mp4_leaf.specs.Tkhd.{tkhd_of}
 use Rattle.mp4_boxes.specs.declared.moov.MoovBox.{MoovBox}

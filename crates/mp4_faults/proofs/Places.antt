@@ -10,7 +10,7 @@ use Rattle.mp4_codec.specs.Children.{last}
 use Rattle.mp4_codec.specs.Cursor.{header_at, here}
 use Rattle.mp4_boxes.specs.declared.moov.MoovBox.{MoovBox}
 use Rattle.mp4_boxes.specs.Moov.{moov_of}
-use Rattle.mp4_frag.specs.Emsg.{emsg_of}
+use Rattle.mp4_moof.specs.Emsg.{emsg_of}
 use Rattle.mp4_leaf.specs.Ftyp.{ftyp_of}
 use Rattle.mp4_moof.specs.declared.moof.MoofBox.{MoofBox}
 use Rattle.mp4_moof.specs.Moof.{moof_of}

@@ -47,15 +47,15 @@ use Rattle.mp4_entry.specs.Mp4a.{mp4a_of}
 use Rattle.mp4_entry.specs.Esds.{esds_of}
 use Rattle.mp4_entry.specs.Tx3g.{tx3g_of}
 use Rattle.mp4_moof.specs.Mvex.{mvex_of}
-use Rattle.mp4_frag.specs.Mehd.{mehd_of}
-use Rattle.mp4_frag.specs.Trex.{trex_of}
-use Rattle.mp4_frag.specs.Emsg.{emsg_of}
+use Rattle.mp4_moof.specs.Mehd.{mehd_of}
+use Rattle.mp4_moof.specs.Trex.{trex_of}
+use Rattle.mp4_moof.specs.Emsg.{emsg_of}
 use Rattle.mp4_moof.specs.Moof.{moof_of}
-use Rattle.mp4_frag.specs.Mfhd.{mfhd_of}
+use Rattle.mp4_moof.specs.Mfhd.{mfhd_of}
 use Rattle.mp4_moof.specs.Traf.{traf_of}
-use Rattle.mp4_frag.specs.Tfhd.{tfhd_of}
-use Rattle.mp4_frag.specs.Tfdt.{tfdt_of}
-use Rattle.mp4_frag.specs.Trun.{trun_of}
+use Rattle.mp4_moof.specs.Tfhd.{tfhd_of}
+use Rattle.mp4_moof.specs.Tfdt.{tfdt_of}
+use Rattle.mp4_moof.specs.Trun.{trun_of}
 use Rattle.mp4_meta.specs.Udta.{udta_of}
 use Rattle.mp4_meta.specs.Meta.{meta_of}
 use Rattle.mp4_meta.specs.Ilst.{ilst_of, item_of}

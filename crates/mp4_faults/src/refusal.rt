@@ -8,13 +8,14 @@ use mp4_codec::{BoxType, Error, ReadBox, Result};
 use mp4_entry::{
     Avc1Box, AvcCBox, EsdsBox, Hev1Box, HvcCBox, Mp4aBox, StsdBox, Tx3gBox, Vp09Box, VpccBox,
 };
-use mp4_frag::{EmsgBox, MehdBox, MfhdBox, TfdtBox, TfhdBox, TrexBox, TrunBox};
 use mp4_leaf::{
     DataBox, DinfBox, DrefBox, ElstBox, FtypBox, HdlrBox, MdhdBox, MvhdBox, SmhdBox, TkhdBox,
     UrlBox, VmhdBox,
 };
 use mp4_meta::{IlstBox, IlstItemBox, MetaBox, UdtaBox};
-use mp4_moof::{MoofBox, MvexBox, TrafBox};
+use mp4_moof::{
+    EmsgBox, MehdBox, MfhdBox, MoofBox, MvexBox, TfdtBox, TfhdBox, TrafBox, TrexBox, TrunBox,
+};
 use mp4_table::{Co64Box, CttsBox, StcoBox, StscBox, StssBox, StszBox, SttsBox};
 use std::alloc::Global;
 

@@ -19,9 +19,8 @@ use crate::fault_place::FaultPlace;
 use crate::innermost::{innermost_fault, step_to};
 use mp4_boxes::MoovBox;
 use mp4_codec::{BoxHeader, BoxType, Error, HEADER_SIZE, Items, OPEN_END, ReadBox, Result};
-use mp4_frag::EmsgBox;
 use mp4_leaf::FtypBox;
-use mp4_moof::MoofBox;
+use mp4_moof::{EmsgBox, MoofBox};
 use mp4_source::{ByteSource, FileError, SourceCursor};
 use std::alloc::Global;
 

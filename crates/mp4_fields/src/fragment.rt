@@ -2,7 +2,7 @@
 
 use crate::leaf::LeafFields;
 use crate::list::FieldList;
-use mp4_frag::{EmsgBox, MehdBox, MfhdBox, TfdtBox, TfhdBox, TrexBox, TrunBox};
+use mp4_moof::{EmsgBox, MehdBox, MfhdBox, TfdtBox, TfhdBox, TrexBox, TrunBox};
 
 impl LeafFields for MehdBox {
     fn fields(&self, fields: FieldList) -> FieldList {

@@ -4,10 +4,10 @@ use crate::list::{FieldList, Listing};
 use crate::value::Field;
 use mp4_codec::{BoxType, ReadBox, Result};
 use mp4_entry::{Avc1Box, AvcCBox, EsdsBox, Hev1Box, HvcCBox, Mp4aBox, Tx3gBox, Vp09Box, VpccBox};
-use mp4_frag::{EmsgBox, MehdBox, MfhdBox, TfdtBox, TfhdBox, TrexBox, TrunBox};
 use mp4_leaf::{
     DataBox, ElstBox, FtypBox, HdlrBox, MdhdBox, MvhdBox, SmhdBox, TkhdBox, UrlBox, VmhdBox,
 };
+use mp4_moof::{EmsgBox, MehdBox, MfhdBox, TfdtBox, TfhdBox, TrexBox, TrunBox};
 use mp4_table::{Co64Box, CttsBox, StcoBox, StscBox, StssBox, StszBox, SttsBox};
 
 /// A box whose fields are listed.

@@ -7,7 +7,7 @@ use Rattle.std.proofs.lemmas.Bool.{le-ltb, lt-ltb}
 use Rattle.std.proofs.lemmas.List.Sums.{sum_by_more}
 use Rattle.std.proofs.lemmas.Option.{slice_get-get_or, same_Some}
 use Rattle.mp4_fragments.specs.Numbers.{plus}
-use Rattle.mp4_frag.specs.declared.trun.TrunBox.{TrunBox}
+use Rattle.mp4_moof.specs.declared.trun.TrunBox.{TrunBox}
 use Rattle.mp4_fragments.specs.RunSamples.{PlacedRun, all_run_samples, at_run_sample, run_sample_of, run_count}
 use Rattle.mp4_fragments.specs.RunSamples.{values_of}
 use Rattle.mp4_fragments.specs.Cursor.{IsIn, IsInRuns, IsRunEnd}

@@ -17,7 +17,7 @@ use Rattle.mp4_fragments.specs.Numbers.{plus, sum_of_first}
 use Rattle.mp4_fragments.specs.RunSamples.{PlacedRun, all_run_samples, at_run_sample, run_sample_of, run_count}
 use Rattle.mp4_fragments.specs.ByTime.{AreEarliest, AreKept, begin_of, decoded_by}
 use Rattle.mp4_fragments.specs.ByTime.{earlier, first_decoded, in_run_by, run_sample_by, run_sample_time, runs_by}
-use Rattle.mp4_frag.specs.declared.trun.TrunBox.{TrunBox}
+use Rattle.mp4_moof.specs.declared.trun.TrunBox.{TrunBox}
 use Rattle.mp4_fragments.specs.Index.{Find, Indexes, placed_at}
 use Rattle.mp4_fragments.specs.declared.defaults.SampleDefaults.{SampleDefaults}
 use Rattle.mp4_fragments.specs.declared.index.RunEntry.{RunEntry}

@@ -1,8 +1,8 @@
 -- Where the data of fragments lies: the base data offset of each track fragment (ISO/IEC 14496-12, 8.8.4, 8.8.7 and
 -- 8.8.8).
 use Rattle.std.specs.Prelude.{ℕ, ℤ, Bool, false, not, List, [], ◌∷◌, fold, Option, Some, None, if◌then◌else◌}
-use Rattle.mp4_frag.specs.Optional.{is_set}
-use Rattle.mp4_frag.specs.declared.trun.TrunBox.{TrunBox}
+use Rattle.mp4_moof.specs.Optional.{is_set}
+use Rattle.mp4_moof.specs.declared.trun.TrunBox.{TrunBox}
 use Rattle.mp4_moof.specs.declared.traf.TrafBox.{TrafBox}
 use Rattle.mp4_fragments.specs.Numbers.{plus, moved, sum_of_first}
 use Rattle.mp4_fragments.specs.Defaults.{defaults_in}

@@ -1,6 +1,6 @@
 -- What a fragment's samples have where nothing else is said of them (ISO/IEC 14496-12, 8.8.3 and 8.8.7).
 use Rattle.std.specs.Option.{unwrap_or}
-use Rattle.mp4_frag.specs.declared.trex.TrexBox.{TrexBox}
+use Rattle.mp4_moof.specs.declared.trex.TrexBox.{TrexBox}
 use Rattle.mp4_moof.specs.declared.traf.TrafBox.{TrafBox}
 use Rattle.mp4_fragments.specs.declared.defaults.SampleDefaults.{SampleDefaults}
 

@@ -1,8 +1,8 @@
 -- The samples that fragments add to a track, in order (ISO/IEC 14496-12, 8.8.4 to 8.8.8 and 8.8.12).
 use Rattle.std.specs.Prelude.{ℕ, nat_lt, Bool, List, [], ◌∷◌, ◌++◌, fold, zip, Option, Some, None, if◌then◌else◌}
 use Rattle.std.specs.List.{list_any}
-use Rattle.mp4_frag.specs.declared.tfdt.TfdtBox.{TfdtBox}
-use Rattle.mp4_frag.specs.declared.trun.TrunBox.{TrunBox}
+use Rattle.mp4_moof.specs.declared.tfdt.TfdtBox.{TfdtBox}
+use Rattle.mp4_moof.specs.declared.trun.TrunBox.{TrunBox}
 use Rattle.mp4_moof.specs.declared.traf.TrafBox.{TrafBox}
 use Rattle.mp4_fragments.specs.BaseDataOffsets.{data_begins}
 use Rattle.mp4_fragments.specs.Defaults.{defaults_in}

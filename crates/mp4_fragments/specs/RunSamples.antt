@@ -4,7 +4,7 @@ use Rattle.std.specs.List.{range_with_len, flat_map}
 use Rattle.std.specs.Option.{unwrap_or}
 use Rattle.std.specs.Int.{cast_signed, w32}
 use Rattle.std.specs.Int.Bits.{bit_and}
-use Rattle.mp4_frag.specs.declared.trun.TrunBox.{TrunBox}
+use Rattle.mp4_moof.specs.declared.trun.TrunBox.{TrunBox}
 use Rattle.mp4_fragments.specs.Numbers.{plus, sum_of_first}
 use Rattle.mp4_fragments.specs.declared.run_samples.RunStart.{RunStart}
 use Rattle.mp4_fragments.specs.declared.run_samples.RunSample.{RunSample}

@@ -1,22 +1,21 @@
 //! Where the data of fragments lies: the base data offset of each track fragment.
 
 ghost use Rattle.std.specs.Prelude.{◌≡◌, fold};
-ghost use Rattle.mp4_frag.specs.Optional.{is_set};
+ghost use Rattle.mp4_moof.specs.Optional.{is_set};
 ghost use Rattle.mp4_fragments.specs.BaseDataOffsets.{base_data_offset_of, counts_from_data_before, data_ends};
 ghost use Rattle.mp4_fragments.specs.BaseDataOffsets.{traf_ends};
 
 use crate::defaults::SampleDefaults;
 use crate::run_starts::{add, data_begin};
 use crate::values::sum_of;
-use mp4_frag::TrunBox;
-use mp4_moof::TrafBox;
+use mp4_moof::{TrafBox, TrunBox};
 
 /// The flag of a header whose base data offset is the first byte of its fragment.
 const DEFAULT_BASE_IS_MOOF: u32 = 0x20000;
 
 /// Where the places of a track fragment count from (ISO/IEC 14496-12, 8.8.7): its own base data offset where it says
 /// one; else `moof`, the first byte of the fragment, where it says so; else `before`, where the data before it ended.
-#[tactic(auto, unfolding(mp4_frag::specs::Optional::is_set))]
+#[tactic(auto, unfolding(mp4_moof::specs::Optional::is_set))]
 pub fn traf_base_data_offset(traf: &TrafBox, moof: u64, before: Option<u64>) -> Option<u64>
     ensures { result ≡ base_data_offset_of traf.now moof before }
 {
@@ -34,7 +33,7 @@ pub fn traf_base_data_offset(traf: &TrafBox, moof: u64, before: Option<u64>) -> 
 
 /// Whether the places of a track fragment count from where the data before it ended: it says neither a base data offset
 /// nor that they count from the first byte of its movie fragment.
-#[tactic(auto, unfolding(mp4_frag::specs::Optional::is_set))]
+#[tactic(auto, unfolding(mp4_moof::specs::Optional::is_set))]
 pub fn counts_from_data_before(traf: &TrafBox) -> bool
     ensures { result ≡ counts_from_data_before traf.now }
 {

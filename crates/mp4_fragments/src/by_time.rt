@@ -15,8 +15,7 @@ use crate::lookup::run_of;
 use crate::run_samples::RunStart;
 use crate::run_starts::at_by_checkpoints;
 use crate::times::RunTimes;
-use mp4_frag::TrunBox;
-use mp4_moof::TrafBox;
+use mp4_moof::{TrafBox, TrunBox};
 use mp4_search::{Parted, Readings, partition_point};
 
 /// The times that are kept of runs, from the first run on: those of the first runs are at or before a time.

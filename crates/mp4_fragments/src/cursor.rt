@@ -9,7 +9,7 @@ ghost use Rattle.mp4_fragments.specs.Cursor.{IsAmongRuns, IsInRuns, IsRunEnd};
 use crate::defaults::SampleDefaults;
 use crate::run_samples::{RunSample, RunStart, run_sample_run_start};
 use crate::run_starts::add;
-use mp4_frag::TrunBox;
+use mp4_moof::TrunBox;
 
 /// Where a walk over the samples of a track's runs is: in a run, before one of its samples or after the last.
 #[derive(Clone, Copy, Debug)]

@@ -5,8 +5,7 @@ ghost use Rattle.std.specs.Prelude.{◌≡◌};
 ghost use Rattle.mp4_fragments.specs.Defaults.{no_defaults, defaults_of_trex, defaults_in};
 
 use mp4_codec::ExactEq;
-use mp4_frag::TrexBox;
-use mp4_moof::TrafBox;
+use mp4_moof::{TrafBox, TrexBox};
 
 /// What a sample of a fragment has where neither its run nor its fragment says it (ISO/IEC 14496-12, 8.8.3).
 #[derive(Clone, Copy, Debug, PartialEq, Eq)]

@@ -14,8 +14,7 @@ use crate::defaults::SampleDefaults;
 use crate::index::{RunEntry, RunIndex};
 use crate::run_samples::{RunSample, RunStart, run_sample_run_start};
 use crate::run_starts::{add, at_by_checkpoints};
-use mp4_frag::TrunBox;
-use mp4_moof::TrafBox;
+use mp4_moof::{TrafBox, TrunBox};
 use mp4_search::{ByGuess, Readings, Search};
 
 /// Run `i` of fragment `t` of a track, and what its samples have where it says nothing.

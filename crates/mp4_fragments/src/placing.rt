@@ -11,8 +11,7 @@ use crate::defaults::SampleDefaults;
 use crate::index::{RunEntry, RunIndex, RunIndexBuilder};
 use crate::run_samples::{RunStart, SampleValues, values_of};
 use crate::run_starts::{at_by_checkpoints, checkpoints, data_begin};
-use mp4_frag::{TfdtBox, TrunBox};
-use mp4_moof::TrafBox;
+use mp4_moof::{TfdtBox, TrafBox, TrunBox};
 use std::alloc::{AllocError, Global};
 
 /// Where and when a run begins, if the sample before it ends at `at`.

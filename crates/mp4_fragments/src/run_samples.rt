@@ -9,7 +9,7 @@ ghost use Rattle.mp4_fragments.specs.RunSamples.{at_run_sample, run_sample_of, f
 use crate::defaults::SampleDefaults;
 use crate::values::value_at;
 use mp4_codec::{DebugItem, ExactEq};
-use mp4_frag::TrunBox;
+use mp4_moof::TrunBox;
 
 /// The flag of a sample that can't be decoded without those before it (ISO/IEC 14496-12, 8.8.3.1).
 pub(crate) const IS_NO_SYNC_SAMPLE: u32 = 0x10000;

@@ -10,7 +10,7 @@ use crate::defaults::SampleDefaults;
 use crate::run_samples::RunStart;
 use crate::values::{sum_between, sum_of};
 use mp4_codec::Items;
-use mp4_frag::TrunBox;
+use mp4_moof::TrunBox;
 use std::alloc::{AllocError, Global};
 
 /// How many samples lie between two checkpoints of a run.

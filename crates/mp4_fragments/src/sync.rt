@@ -14,8 +14,7 @@ use crate::defaults::SampleDefaults;
 use crate::index::{RunEntry, RunIndex};
 use crate::lookup::run_of;
 use crate::run_samples::{IS_NO_SYNC_SAMPLE, is_sync};
-use mp4_frag::TrunBox;
-use mp4_moof::TrafBox;
+use mp4_moof::{TrafBox, TrunBox};
 use mp4_search::{Parted, Readings, partition_point};
 use std::alloc::{AllocError, Global};
 

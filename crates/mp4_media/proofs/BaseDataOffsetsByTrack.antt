@@ -11,7 +11,7 @@ use Rattle.std.proofs.lemmas.List.Elements.{filter-append}
 use Rattle.mp4_moof.specs.declared.moof.MoofBox.{MoofBox}
 use Rattle.mp4_moof.specs.declared.traf.TrafBox.{TrafBox}
 use Rattle.mp4_fragments.specs.declared.defaults.SampleDefaults.{SampleDefaults}
-use Rattle.mp4_frag.specs.Optional.{is_set}
+use Rattle.mp4_moof.specs.Optional.{is_set}
 use Rattle.mp4_fragments.specs.BaseDataOffsets.{base_data_offset_of, base_data_offset_or, base_data_offsets_from}
 use Rattle.mp4_fragments.specs.BaseDataOffsets.{base_data_offsets_of, counts_from, counts_from_data_before, traf_ends}
 use Rattle.mp4_media.specs.MovieTracks.{base_data_offsets_at, own_base_data_offsets, track_base_data_offsets, trafs_in}

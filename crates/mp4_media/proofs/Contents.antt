@@ -14,7 +14,7 @@ use Rattle.mp4_codec.specs.Children.{last}
 use Rattle.mp4_codec.specs.ChildrenLaws.{not_of}
 use Rattle.mp4_codec.specs.GatherLaws.{last-push}
 use Rattle.mp4_leaf.specs.Ftyp.{ftyp_of}
-use Rattle.mp4_frag.specs.Emsg.{emsg_of}
+use Rattle.mp4_moof.specs.Emsg.{emsg_of}
 use Rattle.mp4_boxes.specs.Moov.{moov_of}
 use Rattle.mp4_moof.specs.Moof.{moof_of}
 use Rattle.mp4_media.specs.FileBoxes.{BoxContent, Ftyp, Moov, Moof, Emsg}

@@ -9,8 +9,8 @@ use Rattle.mp4_codec.specs.BoxType.{code_of}
 use Rattle.mp4_codec.specs.Cause.{Cause, ◌>>=◌}
 use Rattle.mp4_leaf.specs.declared.ftyp.FtypBox.{FtypBox}
 use Rattle.mp4_leaf.specs.Ftyp.{ftyp_of}
-use Rattle.mp4_frag.specs.declared.emsg.EmsgBox.{EmsgBox}
-use Rattle.mp4_frag.specs.Emsg.{emsg_of}
+use Rattle.mp4_moof.specs.declared.emsg.EmsgBox.{EmsgBox}
+use Rattle.mp4_moof.specs.Emsg.{emsg_of}
 use Rattle.mp4_boxes.specs.declared.moov.MoovBox.{MoovBox}
 use Rattle.mp4_moof.specs.declared.moof.MoofBox.{MoofBox}
 use Rattle.mp4_boxes.specs.Moov.{moov_of}

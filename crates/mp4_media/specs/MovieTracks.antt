@@ -9,7 +9,7 @@ use Rattle.mp4_codec.specs.Cause.{Cause, invalid_data, trak_not_found, cause_of,
 use Rattle.mp4_codec.specs.Boxes.{all_refusal}
 use Rattle.mp4_codec.specs.Children.{last}
 use Rattle.mp4_table.specs.Stsc.{HasFirstSamples}
-use Rattle.mp4_frag.specs.declared.trex.TrexBox.{TrexBox}
+use Rattle.mp4_moof.specs.declared.trex.TrexBox.{TrexBox}
 use Rattle.mp4_boxes.specs.declared.moov.MoovBox.{MoovBox}
 use Rattle.mp4_boxes.specs.declared.trak.TrakBox.{TrakBox}
 use Rattle.mp4_moof.specs.declared.mvex.MvexBox.{MvexBox}

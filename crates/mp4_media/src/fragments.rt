@@ -9,9 +9,8 @@ ghost use Rattle.mp4_media.specs.MovieTracks.{own_base_data_offsets, track_base_
 ghost use Rattle.mp4_media.specs.MovieTracks.{trexs_in};
 
 use mp4_codec::{Error, Items, Result, TryClone};
-use mp4_frag::TrexBox;
 use mp4_fragments::{SampleDefaults, counts_from_data_before, traf_base_data_offset, traf_end};
-use mp4_moof::{MoofBox, MvexBox, TrafBox};
+use mp4_moof::{MoofBox, MvexBox, TrafBox, TrexBox};
 use std::alloc::{AllocError, Global};
 use std::collections::HashMap;
 

@@ -46,7 +46,6 @@ pub use mp4_codec::{
 // Containers.
 pub use mp4_boxes::{EdtsBox, MdiaBox, MinfBox, MoovBox, StblBox, TrakBox};
 pub use mp4_meta::{IlstBox, IlstItemBox, MetaBox, Metadata, MetadataKey, UdtaBox};
-pub use mp4_moof::{MoofBox, MvexBox, TrafBox};
 
 // Leaf boxes, sample entries and sample tables.
 pub use mp4_entry::{
@@ -55,10 +54,12 @@ pub use mp4_entry::{
     HvcCBox, MediaConfig, MediaType, Mp4aBox, NalUnit, SLConfigDescriptor, SampleFreqIndex,
     StsdBox, TrackType, TtxtConfig, Tx3gBox, Vp09Box, Vp9Config, VpccBox,
 };
-pub use mp4_frag::{EmsgBox, MehdBox, MfhdBox, TfdtBox, TfhdBox, TrexBox, TrunBox};
 pub use mp4_leaf::{
     DataBox, DataType, DinfBox, DrefBox, ElstBox, ElstEntry, FtypBox, HdlrBox, Matrix, MdhdBox,
     MvhdBox, RgbColor, SmhdBox, TkhdBox, UrlBox, VmhdBox,
+};
+pub use mp4_moof::{
+    EmsgBox, MehdBox, MfhdBox, MoofBox, MvexBox, TfdtBox, TfhdBox, TrafBox, TrexBox, TrunBox,
 };
 pub use mp4_table::{
     Co64Box, CttsBox, CttsEntry, StcoBox, StscBox, StscEntry, StssBox, StszBox, SttsBox, SttsEntry,

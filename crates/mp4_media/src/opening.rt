@@ -13,9 +13,8 @@ ghost use Rattle.mp4_media.specs.Walk.{skip_at, found_at, found_of, with_content
 
 use mp4_boxes::MoovBox;
 use mp4_codec::{BoxHeader, BoxType, Error, HEADER_SIZE, Items, OPEN_END, Result};
-use mp4_frag::EmsgBox;
 use mp4_leaf::FtypBox;
-use mp4_moof::MoofBox;
+use mp4_moof::{EmsgBox, MoofBox};
 use mp4_source::{ByteSource, FileError, SourceCursor};
 use std::alloc::Global;
 

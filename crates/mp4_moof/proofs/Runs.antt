@@ -7,7 +7,7 @@ use Rattle.mp4_codec.specs.Cause.{Cause, unless}
 use Rattle.mp4_codec.specs.Children.{ChildBox, children, is_of, all_of, first_fault, gathered}
 use Rattle.mp4_codec.specs.Early.{Early, fails, succeeds, takes_memory, Shows, at_once, ◌and_then◌, early_gathered}
 use Rattle.mp4_codec.proofs.EarlyLaws.{both_succeed, none_of-succeeds}
-use Rattle.mp4_frag.specs.Trun.{trun_of}
+use Rattle.mp4_moof.specs.Trun.{trun_of}
 use Rattle.mp4_moof.specs.declared.traf.TrafBox.{TrafBox}
 use Rattle.mp4_moof.specs.declared.traf.TrafParts.{TrafParts}
 use Rattle.mp4_moof.specs.Traf.{traf_child_early, traf_early, traf_fault, traf_of, traf_taken}

@@ -6,24 +6,24 @@ use Rattle.mp4_codec.specs.BoxType.{box_type}
 use Rattle.mp4_codec.specs.Boxes.{no_refusal}
 use Rattle.mp4_codec.specs.Framing.{IsEncodable}
 use Rattle.mp4_codec.specs.WrittenParts.{Kind}
-use Rattle.mp4_frag.specs.declared.mehd.MehdBox.{MehdBox}
-use Rattle.mp4_frag.specs.Mehd.{mehd_of, mehd_payload, mehd_refusal, IsInRangeMehd, IsWellFormedMehd}
-use Rattle.mp4_frag.specs.MehdLaws.{mehd_again}
-use Rattle.mp4_frag.specs.declared.trex.TrexBox.{TrexBox}
-use Rattle.mp4_frag.specs.Trex.{trex_of, trex_payload, IsInRangeTrex, IsWellFormedTrex}
-use Rattle.mp4_frag.specs.TrexLaws.{trex_again}
-use Rattle.mp4_frag.specs.declared.mfhd.MfhdBox.{MfhdBox}
-use Rattle.mp4_frag.specs.Mfhd.{mfhd_of, mfhd_payload, IsInRangeMfhd, IsWellFormedMfhd}
-use Rattle.mp4_frag.specs.MfhdLaws.{mfhd_again}
-use Rattle.mp4_frag.specs.declared.tfhd.TfhdBox.{TfhdBox}
-use Rattle.mp4_frag.specs.Tfhd.{tfhd_of, tfhd_payload, tfhd_refusal, IsInRangeTfhd, IsWellFormedTfhd}
-use Rattle.mp4_frag.specs.TfhdLaws.{tfhd_again}
-use Rattle.mp4_frag.specs.declared.tfdt.TfdtBox.{TfdtBox}
-use Rattle.mp4_frag.specs.Tfdt.{tfdt_of, tfdt_payload, tfdt_refusal, IsInRangeTfdt, IsWellFormedTfdt}
-use Rattle.mp4_frag.specs.TfdtLaws.{tfdt_again}
-use Rattle.mp4_frag.specs.declared.trun.TrunBox.{TrunBox}
-use Rattle.mp4_frag.specs.Trun.{trun_of, trun_payload, trun_refusal, IsInRangeTrun, IsWellFormedTrun}
-use Rattle.mp4_frag.specs.TrunLaws.{trun_again}
+use Rattle.mp4_moof.specs.declared.mehd.MehdBox.{MehdBox}
+use Rattle.mp4_moof.specs.Mehd.{mehd_of, mehd_payload, mehd_refusal, IsInRangeMehd, IsWellFormedMehd}
+use Rattle.mp4_moof.specs.MehdLaws.{mehd_again}
+use Rattle.mp4_moof.specs.declared.trex.TrexBox.{TrexBox}
+use Rattle.mp4_moof.specs.Trex.{trex_of, trex_payload, IsInRangeTrex, IsWellFormedTrex}
+use Rattle.mp4_moof.specs.TrexLaws.{trex_again}
+use Rattle.mp4_moof.specs.declared.mfhd.MfhdBox.{MfhdBox}
+use Rattle.mp4_moof.specs.Mfhd.{mfhd_of, mfhd_payload, IsInRangeMfhd, IsWellFormedMfhd}
+use Rattle.mp4_moof.specs.MfhdLaws.{mfhd_again}
+use Rattle.mp4_moof.specs.declared.tfhd.TfhdBox.{TfhdBox}
+use Rattle.mp4_moof.specs.Tfhd.{tfhd_of, tfhd_payload, tfhd_refusal, IsInRangeTfhd, IsWellFormedTfhd}
+use Rattle.mp4_moof.specs.TfhdLaws.{tfhd_again}
+use Rattle.mp4_moof.specs.declared.tfdt.TfdtBox.{TfdtBox}
+use Rattle.mp4_moof.specs.Tfdt.{tfdt_of, tfdt_payload, tfdt_refusal, IsInRangeTfdt, IsWellFormedTfdt}
+use Rattle.mp4_moof.specs.TfdtLaws.{tfdt_again}
+use Rattle.mp4_moof.specs.declared.trun.TrunBox.{TrunBox}
+use Rattle.mp4_moof.specs.Trun.{trun_of, trun_payload, trun_refusal, IsInRangeTrun, IsWellFormedTrun}
+use Rattle.mp4_moof.specs.TrunLaws.{trun_again}
 
 pub encodable_mehd : IsEncodable mehd
 unfolding box_type

@@ -8,7 +8,7 @@ use Rattle.mp4_codec.specs.Boxes.{box_bytes, all_box_bytes, all_refusal, IsCanon
 use Rattle.mp4_codec.specs.Early.{Early, early_gathered, early_last, early_next, at_once, ◌and_then◌}
 use Rattle.mp4_codec.specs.Children.{ChildBox, children, gathered, fault_in, last_of, all_of, with_last, with_next}
 use Rattle.mp4_codec.specs.Children.{needed}
-use Rattle.mp4_frag.specs.Mfhd.{mfhd_of, mfhd_payload, IsInRangeMfhd, IsWellFormedMfhd, default_mfhd}
+use Rattle.mp4_moof.specs.Mfhd.{mfhd_of, mfhd_payload, IsInRangeMfhd, IsWellFormedMfhd, default_mfhd}
 use Rattle.mp4_moof.specs.Traf.{traf_of, traf_early, traf_payload, traf_refusal, IsInRangeTraf, IsWellFormedTraf}
 use Rattle.mp4_moof.specs.declared.moof.MoofBox.{MoofBox}
 use Rattle.mp4_moof.specs.declared.moof.MoofParts.{MoofParts}

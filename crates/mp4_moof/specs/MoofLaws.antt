@@ -8,7 +8,7 @@ use Rattle.mp4_codec.specs.GatherLaws.{unless-then, with_last-last_of, all_child
 use Rattle.mp4_codec.specs.WriteLaws.{is_written}
 use Rattle.mp4_codec.specs.WrittenParts.{Groups, Part, Written, payloads, required_part, list_part, group}
 use Rattle.mp4_codec.specs.WrittenParts.{last_group, gathered-written, last_of-part, all_of-part, both_fit}
-use Rattle.mp4_frag.specs.Mfhd.{mfhd_of, mfhd_payload}
+use Rattle.mp4_moof.specs.Mfhd.{mfhd_of, mfhd_payload}
 use Rattle.mp4_moof.specs.Traf.{traf_of, traf_payload}
 use Rattle.mp4_moof.specs.declared.moof.MoofBox.{MoofBox}
 use Rattle.mp4_moof.specs.FragmentKinds.{mfhd_kind}

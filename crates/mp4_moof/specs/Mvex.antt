@@ -8,8 +8,8 @@ use Rattle.mp4_codec.specs.Boxes.{optional, optional_refusal, all_box_bytes, IsC
 use Rattle.mp4_codec.specs.Early.{Early, early_gathered, early_last, early_next, at_once, ◌and_then◌}
 use Rattle.mp4_codec.specs.Children.{ChildBox, children, gathered, fault_in, last_of, all_of, with_last, with_next}
 use Rattle.mp4_codec.specs.Children.{some_needed}
-use Rattle.mp4_frag.specs.Mehd.{mehd_of, mehd_payload, mehd_refusal, IsInRangeMehd, IsWellFormedMehd}
-use Rattle.mp4_frag.specs.Trex.{trex_of, trex_payload, IsInRangeTrex, IsWellFormedTrex}
+use Rattle.mp4_moof.specs.Mehd.{mehd_of, mehd_payload, mehd_refusal, IsInRangeMehd, IsWellFormedMehd}
+use Rattle.mp4_moof.specs.Trex.{trex_of, trex_payload, IsInRangeTrex, IsWellFormedTrex}
 use Rattle.mp4_moof.specs.declared.mvex.MvexBox.{MvexBox}
 use Rattle.mp4_moof.specs.declared.mvex.MvexParts.{MvexParts}
 

@@ -13,8 +13,8 @@ use Rattle.mp4_codec.specs.WriteLaws.{is_written}
 use Rattle.mp4_codec.specs.WrittenParts.{none_refuse, some_needed-again, Groups, Part, Written, payloads}
 use Rattle.mp4_codec.specs.WrittenParts.{optional_part, list_part, group, last_group, gathered-written}
 use Rattle.mp4_codec.specs.WrittenParts.{last_of-part, all_of-part, both_fit, Kind}
-use Rattle.mp4_frag.specs.Mehd.{mehd_of, mehd_payload}
-use Rattle.mp4_frag.specs.Trex.{trex_of, trex_payload}
+use Rattle.mp4_moof.specs.Mehd.{mehd_of, mehd_payload}
+use Rattle.mp4_moof.specs.Trex.{trex_of, trex_payload}
 use Rattle.mp4_moof.specs.declared.mvex.MvexBox.{MvexBox}
 use Rattle.mp4_moof.specs.FragmentKinds.{mehd_kind, trex_kind}
 use Rattle.mp4_moof.specs.Mvex.{mvex_fault, mvex_taken, mvex_added, mvex_of, mvex_payload, mvex_refusal}

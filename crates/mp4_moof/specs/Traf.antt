@@ -8,9 +8,9 @@ use Rattle.mp4_codec.specs.Boxes.{box_bytes, optional, optional_refusal, all_box
 use Rattle.mp4_codec.specs.Early.{Early, early_gathered, early_last, early_next, at_once, refused_at_once, ◌and_then◌}
 use Rattle.mp4_codec.specs.Children.{ChildBox, children, gathered, fault_in, last_of, all_of, with_last, with_next}
 use Rattle.mp4_codec.specs.Children.{needed}
-use Rattle.mp4_frag.specs.Tfhd.{tfhd_of, tfhd_payload, tfhd_refusal, IsInRangeTfhd, IsWellFormedTfhd, default_tfhd}
-use Rattle.mp4_frag.specs.Tfdt.{tfdt_of, tfdt_payload, tfdt_refusal, IsInRangeTfdt, IsWellFormedTfdt}
-use Rattle.mp4_frag.specs.Trun.{trun_of, trun_payload, trun_refusal, IsInRangeTrun, IsWellFormedTrun}
+use Rattle.mp4_moof.specs.Tfhd.{tfhd_of, tfhd_payload, tfhd_refusal, IsInRangeTfhd, IsWellFormedTfhd, default_tfhd}
+use Rattle.mp4_moof.specs.Tfdt.{tfdt_of, tfdt_payload, tfdt_refusal, IsInRangeTfdt, IsWellFormedTfdt}
+use Rattle.mp4_moof.specs.Trun.{trun_of, trun_payload, trun_refusal, IsInRangeTrun, IsWellFormedTrun}
 use Rattle.mp4_moof.specs.declared.traf.TrafBox.{TrafBox}
 use Rattle.mp4_moof.specs.declared.traf.TrafParts.{TrafParts}
 

@@ -15,9 +15,9 @@ use Rattle.mp4_codec.specs.WriteLaws.{is_written, or_parts}
 use Rattle.mp4_codec.specs.WrittenParts.{Groups, Part, Written, payloads, required_part, optional_part, list_part}
 use Rattle.mp4_codec.specs.WrittenParts.{group, last_group, gathered-written, last_of-part, all_of-part, both_fit}
 use Rattle.mp4_codec.specs.WrittenParts.{Kind}
-use Rattle.mp4_frag.specs.Tfhd.{tfhd_of, tfhd_payload, tfhd_refusal}
-use Rattle.mp4_frag.specs.Tfdt.{tfdt_of, tfdt_payload, tfdt_refusal}
-use Rattle.mp4_frag.specs.Trun.{trun_of, trun_payload}
+use Rattle.mp4_moof.specs.Tfhd.{tfhd_of, tfhd_payload, tfhd_refusal}
+use Rattle.mp4_moof.specs.Tfdt.{tfdt_of, tfdt_payload, tfdt_refusal}
+use Rattle.mp4_moof.specs.Trun.{trun_of, trun_payload}
 use Rattle.mp4_moof.specs.declared.traf.TrafBox.{TrafBox}
 use Rattle.mp4_moof.specs.FragmentKinds.{tfhd_kind, tfdt_kind, trun_kind}
 use Rattle.mp4_moof.specs.Traf.{traf_fault, traf_taken, traf_added, traf_of, traf_payload, traf_refusal}

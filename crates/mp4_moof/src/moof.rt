@@ -1,7 +1,7 @@
 //! The fragment of a movie.
 
 ghost use Rattle.mp4_codec.specs.ExactTest.{by_law, by_test, field_tests};
-ghost use Rattle.mp4_frag.specs.contracts.mfhd.MfhdBoxExactEq.TheImpl.Laws.{lawful as mfhd_laws};
+ghost use Rattle.mp4_moof.specs.contracts.mfhd.MfhdBoxExactEq.TheImpl.Laws.{lawful as mfhd_laws};
 ghost use Rattle.mp4_moof.specs.contracts.traf.TrafBoxExactEq.TheImpl.Laws.{lawful as traf_laws};
 ghost use Rattle.std.specs.Prelude.{◌≡◌, Ok};
 ghost use Rattle.mp4_codec.specs.declared.box_type.BoxType.TheVariants.{MoofBox as moof};
@@ -11,13 +11,13 @@ ghost use Rattle.mp4_moof.specs.Moof.{moof_payload, default_moof, moof_fault, mo
 ghost use Rattle.mp4_moof.specs.Moof.{moof_of, moof_early, moof_refusal, IsInRangeMoof, IsWellFormedMoof};
 ghost use Rattle.mp4_moof.specs.MoofLaws.{moof_adds, moof_again};
 
+use crate::MfhdBox;
 use crate::traf::TrafBox;
 use mp4_codec::{
     BoxType, Child, DebugItem, ExactEq, Gather, HEADER_SIZE, InRange, Items, Mp4Box, Put, ReadBox,
     Result, TryClone, WriteBox, all_size, check_all, gather_children, keep_each, keep_last,
     put_all, required,
 };
-use mp4_frag::MfhdBox;
 use std::alloc::Global;
 
 /// A movie fragment, `moof`: samples that are added after those of the movie (ISO/IEC 14496-12, 8.8.4).

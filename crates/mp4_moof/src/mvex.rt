@@ -1,8 +1,8 @@
 //! What a movie says of its fragments.
 
 ghost use Rattle.mp4_codec.specs.ExactTest.{by_law, by_test, field_tests};
-ghost use Rattle.mp4_frag.specs.contracts.mehd.MehdBoxExactEq.TheImpl.Laws.{lawful as mehd_laws};
-ghost use Rattle.mp4_frag.specs.contracts.trex.TrexBoxExactEq.TheImpl.Laws.{lawful as trex_laws};
+ghost use Rattle.mp4_moof.specs.contracts.mehd.MehdBoxExactEq.TheImpl.Laws.{lawful as mehd_laws};
+ghost use Rattle.mp4_moof.specs.contracts.trex.TrexBoxExactEq.TheImpl.Laws.{lawful as trex_laws};
 ghost use Rattle.std.specs.Prelude.{◌≡◌, Ok};
 ghost use Rattle.mp4_codec.specs.declared.box_type.BoxType.TheVariants.{MvexBox as mvex};
 ghost use Rattle.mp4_codec.specs.Cause.{Gives};
@@ -11,12 +11,12 @@ ghost use Rattle.mp4_moof.specs.Mvex.{mvex_payload, default_mvex, mvex_fault, mv
 ghost use Rattle.mp4_moof.specs.Mvex.{mvex_of, mvex_early, mvex_refusal, IsInRangeMvex, IsWellFormedMvex};
 ghost use Rattle.mp4_moof.specs.MvexLaws.{mvex_adds, mvex_again};
 
+use crate::{MehdBox, TrexBox};
 use mp4_codec::{
     BoxType, Child, ExactEq, Gather, HEADER_SIZE, InRange, Items, Mp4Box, Put, ReadBox, Result,
     TryClone, WriteBox, all_size, check_optional, gather_children, keep_each, keep_last,
     optional_size, put_all, put_optional, some_required,
 };
-use mp4_frag::{MehdBox, TrexBox};
 use std::alloc::Global;
 
 /// The movie extends box, `mvex`: it says that fragments may follow (ISO/IEC 14496-12, 8.8.1).

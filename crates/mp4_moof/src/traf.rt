@@ -1,9 +1,9 @@
 //! The fragment of a track.
 
 ghost use Rattle.mp4_codec.specs.ExactTest.{by_law, by_test, field_tests};
-ghost use Rattle.mp4_frag.specs.contracts.tfhd.TfhdBoxExactEq.TheImpl.Laws.{lawful as tfhd_laws};
-ghost use Rattle.mp4_frag.specs.contracts.tfdt.TfdtBoxExactEq.TheImpl.Laws.{lawful as tfdt_laws};
-ghost use Rattle.mp4_frag.specs.contracts.trun.TrunBoxExactEq.TheImpl.Laws.{lawful as trun_laws};
+ghost use Rattle.mp4_moof.specs.contracts.tfhd.TfhdBoxExactEq.TheImpl.Laws.{lawful as tfhd_laws};
+ghost use Rattle.mp4_moof.specs.contracts.tfdt.TfdtBoxExactEq.TheImpl.Laws.{lawful as tfdt_laws};
+ghost use Rattle.mp4_moof.specs.contracts.trun.TrunBoxExactEq.TheImpl.Laws.{lawful as trun_laws};
 ghost use Rattle.std.specs.Prelude.{◌≡◌, Ok};
 ghost use Rattle.mp4_codec.specs.declared.box_type.BoxType.TheVariants.{TrafBox as traf};
 ghost use Rattle.mp4_codec.specs.Cause.{Gives};
@@ -12,12 +12,12 @@ ghost use Rattle.mp4_moof.specs.Traf.{traf_payload, default_traf, traf_fault, tr
 ghost use Rattle.mp4_moof.specs.Traf.{traf_of, traf_early, traf_refusal, IsInRangeTraf, IsWellFormedTraf};
 ghost use Rattle.mp4_moof.specs.TrafLaws.{traf_adds, traf_again};
 
+use crate::{TfdtBox, TfhdBox, TrunBox};
 use mp4_codec::{
     BoxType, Child, DebugItem, ExactEq, Gather, HEADER_SIZE, InRange, Items, Mp4Box, Put, ReadBox,
     Result, SharedItems, TryClone, WriteBox, all_size, check_all, check_optional, gather_children,
     keep_each, keep_last, optional_size, put_all, put_optional, required,
 };
-use mp4_frag::{TfdtBox, TfhdBox, TrunBox};
 use std::alloc::Global;
 
 /// The track fragment, `traf`: the part of a movie fragment that adds samples to one track (ISO/IEC 14496-12, 8.8.6).

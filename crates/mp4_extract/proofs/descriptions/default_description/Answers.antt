@@ -1,6 +1,6 @@
 use Rattle.std.proofs.Common.{◌+◌, ◌∙◌, ℕ, drop, sym, ap, List}
 use Rattle.std.proofs.lemmas.List.{drop_more}
-use Rattle.mp4_frag.specs.declared.trex.TrexBox.{TrexBox}
+use Rattle.mp4_moof.specs.declared.trex.TrexBox.{TrexBox}
 use Rattle.mp4_extract.specs.Descriptions.{default_description}
 use Rattle.mp4_extract.proofs.descriptions.default_description.Goals as goal
 

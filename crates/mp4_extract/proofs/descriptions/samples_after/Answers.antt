@@ -1,6 +1,6 @@
 use Rattle.std.proofs.Common.{◌+◌, ◌∙◌, ℕ, drop, sym, ap, List}
 use Rattle.std.proofs.lemmas.List.{drop_more}
-use Rattle.mp4_frag.specs.declared.trun.TrunBox.{TrunBox}
+use Rattle.mp4_moof.specs.declared.trun.TrunBox.{TrunBox}
 use Rattle.mp4_extract.specs.Descriptions.{samples_after}
 use Rattle.mp4_extract.proofs.descriptions.samples_after.Goals as goal
 

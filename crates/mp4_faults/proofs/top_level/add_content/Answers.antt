@@ -3,7 +3,7 @@ use Rattle.mp4_codec.specs.Cause.{cause_of}
 use Rattle.mp4_leaf.specs.Ftyp.{ftyp_of}
 use Rattle.mp4_boxes.specs.Moov.{moov_of}
 use Rattle.mp4_moof.specs.Moof.{moof_of}
-use Rattle.mp4_frag.specs.Emsg.{emsg_of}
+use Rattle.mp4_moof.specs.Emsg.{emsg_of}
 use Rattle.mp4_media.specs.FileBoxes.{Ftyp, Moov, Moof, Emsg}
 use Rattle.mp4_media.proofs.Contents.{meaning-ftyp, meaning-moov, meaning-moof, meaning-emsg}
 use Rattle.mp4_faults.specs.Refusal.{payload_fault, table_fault, other_fault}

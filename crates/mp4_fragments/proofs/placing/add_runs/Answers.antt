@@ -1,5 +1,5 @@
 use Rattle.std.proofs.Common.{◌≡◌, Some, sym, ap, ◌∙◌, arith}
-use Rattle.mp4_frag.specs.declared.trun.TrunBox.{TrunBox}
+use Rattle.mp4_moof.specs.declared.trun.TrunBox.{TrunBox}
 use Rattle.mp4_fragments.specs.Fragments.{with_run}
 use Rattle.mp4_fragments.proofs.Walking.{Walks-more, Walks-whole}
 use Rattle.mp4_fragments.proofs.placing.add_runs.Goals as goal
