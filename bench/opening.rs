@@ -1,7 +1,7 @@
-//! How long a file takes to open, beside a stand-in for the Rust crate `mp4` 0.14: it does a part of what that crate does
-//! when it opens a file. Each number of each table is read out of a cursor, one after the other, and each track is
-//! copied out of the movie. Both are timed by turns, in seconds of the processor. With `folder` what `./callers build`
-//! made:
+//! How long a file takes to open, beside a stand-in for the Rust crate `mp4` 0.14: it does a part of what
+//! that crate does when it opens a file. Each number of each table is read out of a cursor, one after the
+//! other, and each track is copied out of the movie. Both are timed by turns, in seconds of the processor.
+//! With `folder` what `scripts/callers build` made:
 //!
 //!     rustc -O --edition 2021 bench/opening.rs -o opening -C link-arg=folder/libmp4_c.a -C link-arg=folder/liblibc_c.a
 //!     ./opening FILE..

@@ -16,7 +16,7 @@ and needs nothing but Python 3.8.
     file = maqelsun.write([maqelsun.NewTrack("tx3g")], lines)
 
 The shared object ``libmaqelsun.so`` is looked for at the first call: where MAQELSUN_LIBRARY says,
-else beside this file, else where ``./callers build`` of the repository leaves it.
+else beside this file, else where ``scripts/callers build`` of the repository leaves it.
 """
 
 import ctypes
@@ -135,7 +135,7 @@ def _library() -> ctypes.CDLL:
     chosen = os.environ.get("MAQELSUN_LIBRARY") or next(filter(os.path.exists, places), None)
     if chosen is None:
         raise ImportError(
-            f"there is no {name} beside {os.path.basename(__file__)}: build it by ./callers build "
+            f"there is no {name} beside {os.path.basename(__file__)}: build it by scripts/callers build "
             "at the top of the repository of Maqelsun, or let MAQELSUN_LIBRARY name it"
         )
     # While a function of it runs, other threads of Python do too.

@@ -1,4 +1,4 @@
-//! Finds the proved library and links it: that of the package, or the one that `./callers` of the
+//! Finds the proved library and links it: that of the package, or the one that `scripts/callers` of the
 //! repository leaves.
 
 use std::path::{Path, PathBuf};
@@ -35,9 +35,9 @@ fn main() {
                 "The package has the library for Linux on x86_64 and aarch64. In the repository of"
             );
             eprintln!(
-                "Maqelsun `./callers build` builds it; MAQELSUN_LIB_DIR names another folder with"
+                "Maqelsun `scripts/callers build` builds it; MAQELSUN_LIB_DIR names another folder"
             );
-            eprintln!("libmp4_c.a and liblibc_c.a.");
+            eprintln!("with libmp4_c.a and liblibc_c.a.");
             process::exit(1);
         }
         println!("cargo:rustc-link-lib=static={name}");

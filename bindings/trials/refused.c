@@ -1,5 +1,5 @@
-/* Each request for memory refused in turn. ./callers links this with --wrap=malloc and --wrap=realloc, so that it sees what
- * the library requests.
+/* Each request for memory refused in turn. scripts/callers links this with --wrap=malloc and --wrap=realloc, so
+ * that it sees what the library requests.
  *
  *   refused < NAMES        each call on each file that a line of standard input names
  *

@@ -1,4 +1,4 @@
-/* What ./callers asks of the library from C; trial.rs and trial.py answer the same from Rust and Python.
+/* What scripts/callers asks of the library from C; trial.rs and trial.py answer the same from Rust and Python.
  *
  *   trial list             the samples of each file that a line of standard input names
  *   trial faults           why each of these files doesn't open, or an empty line

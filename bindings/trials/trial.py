@@ -1,4 +1,4 @@
-"""What ./callers asks of the library from Python: trial.c says what each command does."""
+"""What scripts/callers asks of the library from Python: trial.c says what each command does."""
 
 import sys
 import threading

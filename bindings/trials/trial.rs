@@ -1,4 +1,4 @@
-//! What ./callers asks of the library from Rust: trial.c says what each command does.
+//! What scripts/callers asks of the library from Rust: trial.c says what each command does.
 
 use maqelsun::{
     AacConfig, AudioObjectType, AvcConfig, ChannelConfig, MediaConfig, Movie, MovieConfig,
