@@ -11,9 +11,9 @@ use Rattle.mp4_media.specs.FileBoxes.{OpenedFile, opened_file}
 use Rattle.mp4_media.specs.FileGrammar.{IsFile, IsFaultyFile}
 use Rattle.mp4_media.specs.MovieTracks.{AreTracks}
 
--- What a call answers that opens the file of so many bytes which begins here, as `read_header` does: where these bytes
--- are a file it is what they hold, with its tracks; where they have a fault it is the first; or memory ran out. The movie
--- of what it answers is seen by `movie_in`.
+-- What a call answers that opens the file of so many bytes which begins here, as `read_header` does: where these
+-- bytes are a file it is what they hold, with its tracks; where they have a fault it is the first; or memory ran out.
+-- The movie of what it answers is seen by `movie_in`.
 pub record IsOpeningBy {X : Type 0} (movie_in : X → Mp4Reader) (size : ℕ) (start : Cursor) (result : Result X Error)
     : Type 0 where
   pub file : IfOk result (λ x. IsFile size start (opened_file (movie_in x)))

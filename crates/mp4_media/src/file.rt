@@ -63,8 +63,8 @@ fn is_within(offset: u64, size: u32, len: u64) -> bool
     offset <= len && u64::from(size) <= len - offset
 }
 
-/// Whether a file that begins at `start` and ends at `size` has room for the header of a box: `BoxNotFound` for the file
-/// type where it has no bytes, `EndOfData` where it has 1 to 7.
+/// Whether a file that begins at `start` and ends at `size` has room for the header of a box: `BoxNotFound` for the
+/// file type where it has no bytes, `EndOfData` where it has 1 to 7.
 fn check_first_box(start: u64, size: u64) -> Result<()>
     ensures room { OnOk result (start + 8 ≤ size) }
     ensures fault { IfErr result (λ e. (bytes : List ℕ) → IsFaultyFile size (here bytes start) (cause_of e)) }
