@@ -8,7 +8,7 @@ use Rattle.memchr.specs.Find.{Nowhere, NoneBefore, Passes}
 use Rattle.std.proofs.lemmas.List.Splits.{slice_split_first, slice_split-cons_no, length-slice_split}
 use Rattle.mp4_script.specs.Lines.{lines_of}
 
-abbrev is_feed : ℕ → Bool
+abbrev pub is_feed : ℕ → Bool
 is_feed byte = eqb byte 10
 
 never_true : (b : Bool) → (b ≡ true → ⊥) → b ≡ false

@@ -1,7 +1,9 @@
 pub mod Cutting
+pub mod Parts
 pub mod Digits
 pub mod Decimals
 pub mod Steps
 pub mod Standard
 pub mod Scripted
 pub mod ScriptedSinks
+pub mod ScriptParts

@@ -43,7 +43,7 @@ same_refusal P (Some c) e a = a
 pub call_fails : (X : Type 0) (number : ℕ) (writer : WriterState) (call : Call) (P : Type 0) (after : KeptMovie)
     (e : WriteError) (fault : ScriptWriteFault) → IsToldAs (λ e. Refused number e) e fault
     → RefusesWrite P (call_cause writer call) e
-    → AnswersInSink {X = X} (λ f. f ≡ Refused number OutOfMemory) after (Err fault) (called number writer (Some call))
+    → AnswersInSink {X = X} (λ f. f ≡ Refused number OutOfMemory) P after (Err fault) (called number writer (Some call))
 call_fails X number writer call P after (Mp4 e) (Script f) told a =
     by (call_was_refused number writer call e (same_refusal P (call_cause writer call) e a))
   where
@@ -54,18 +54,29 @@ call_fails X number writer call P after (Mp4 e) (Script f) told a =
     by (inr refused) = inr (refused ∙ ap (λ (x : ScriptFault). Err (script_cause_of x)) (sym told))
 call_fails X number writer call P after (Mp4 e) (Sink x) told a = absurd told
 call_fails X number writer call P after (Io e) (Script f) told a = absurd told
-call_fails X number writer call P after (Io e) (Sink x) told a = tt
+call_fails X number writer call P after (Io e) (Sink x) told a = by (call_cause writer call) refl a
+  where
+    by : (cause : Option Cause) → call_cause writer call ≡ cause → RefusesWrite P cause (Io e)
+        → P × ((next : WriterState) × (called number writer (Some call) ≡ Ok next))
+    by None none may = (may, (step writer call, call_goes number writer call none))
+    by (Some c) some never = absurd never
 call_fails X number writer call P after Failed (Script f) told a = absurd told
-call_fails X number writer call P after Failed (Sink x) told a = tt
+call_fails X number writer call P after Failed (Sink x) told a = absurd (never (call_cause writer call) a)
+  where
+    never : (cause : Option Cause) → RefusesWrite P cause Failed → ⊥
+    never None a = a
+    never (Some c) a = a
 
 -- The line of this number, which is a command, answers what its call does.
 pub line_answers : {X : Type 0} (number : ℕ) (line : List ℕ) (call : Call) → false ≡ eqb (length line) 0
-    → command_in line ≡ Some call → (writer : WriterState) (after : KeptMovie) (result : Result X ScriptWriteFault)
-    → AnswersInSink (λ f. f ≡ Refused number OutOfMemory) after result (called number writer (Some call))
-    → AnswersInSink (RanOutAt number line) after result (line_step number line writer)
-line_answers number line call some is writer after (Ok x) a =
+    → command_in line ≡ Some call → (writer : WriterState) (P : Type 0) (after : KeptMovie)
+    (result : Result X ScriptWriteFault)
+    → AnswersInSink (λ f. f ≡ Refused number OutOfMemory) P after result (called number writer (Some call))
+    → AnswersInSink (RanOutAt number line) P after result (line_step number line writer)
+line_answers number line call some is writer P after (Ok x) a =
     (a.0, its_step number line call some (sym is) writer ∙ a.1, a.2)
-line_answers number line call some is writer after (Err (Script f)) (inl memory) = inl ((call, is), memory)
-line_answers number line call some is writer after (Err (Script f)) (inr refused) =
+line_answers number line call some is writer P after (Err (Script f)) (inl memory) = inl ((call, is), memory)
+line_answers number line call some is writer P after (Err (Script f)) (inr refused) =
     inr (its_step number line call some (sym is) writer ∙ refused)
-line_answers number line call some is writer after (Err (Sink x)) a = tt
+line_answers number line call some is writer P after (Err (Sink x)) a =
+    (a.0, (a.1.0, its_step number line call some (sym is) writer ∙ a.1.1))

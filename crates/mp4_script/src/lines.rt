@@ -49,7 +49,9 @@ fn line_length(text: &[u8]) -> usize
 
 /// The first line, and what is after its line feed; None where there is no line feed.
 pub(crate) fn cut_line(text: &[u8]) -> Option<(&[u8], &[u8])>
+    ensures parts { IfSome result (λ parts. lines_of text.now ≡ parts.0.now ∷ lines_of parts.1.now) }
     ensures shorter { IfSome result (λ parts. length parts.1.now < length text.now) }
+    ensures last { IfNone result (lines_of text.now ≡ text.now ∷ []) }
 {
     let end = line_length(text);
     if end < text.len() {
