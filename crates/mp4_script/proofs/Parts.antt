@@ -1,5 +1,5 @@
 -- A text that is cut into lines part by part.
-use Rattle.std.proofs.Common.{◌≡◌, ℕ, ◌+◌, ◌≤◌, Bool, true, false, List, [], ◌∷◌, ◌++◌, length, refl, sym, ap, ◌∙◌, arith}
+use Rattle.std.proofs.Common.{◌≡◌, ℕ, ◌≤◌, Bool, true, false, List, [], ◌∷◌, ◌++◌, length, refl, sym, ap, ◌∙◌, arith}
 use Rattle.std.proofs.Common.{append-nil, length-append}
 use Rattle.std.specs.List.{slice_split, onto_first}
 use Rattle.std.proofs.lemmas.List.{append_cancel_left}
@@ -28,7 +28,7 @@ some_line text none = omega (arith, ap length none, length-slice_split is_feed t
 -- What the lines of a text and more are, if they are known of the text without its first byte.
 module _ (byte : ℕ) (text more : List ℕ)
     (rest : (lines : List (List ℕ)) (kept : List ℕ) → cut text ≡ lines ++ kept ∷ []
-      → cut (text ++ more) ≡ lines ++ cut (kept ++ more))
+    → cut (text ++ more) ≡ lines ++ cut (kept ++ more))
   where
     after_feed : is_feed byte ≡ true → (lines : List (List ℕ)) (kept : List ℕ)
         → [] ∷ cut text ≡ lines ++ kept ∷ [] → cut (byte ∷ text ++ more) ≡ lines ++ cut (kept ++ more)

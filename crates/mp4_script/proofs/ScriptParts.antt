@@ -1,12 +1,11 @@
 -- A script that is written part by part to a writer of a sink.
-use Rattle.std.proofs.Common.{◌≡◌, ◌⊎◌, inl, inr, ℕ, ◌+◌, ◌-◌, ◌^◌, ◌<◌, ◌≤◌, List, [], ◌∷◌, ◌++◌, length, Option, Some}
+use Rattle.std.proofs.Common.{◌≡◌, ◌⊎◌, inl, inr, ℕ, ◌+◌, ◌-◌, ◌^◌, ◌<◌, List, [], ◌∷◌, ◌++◌, length, Option, Some}
 use Rattle.std.proofs.Common.{None, Result, Ok, Err, refl, sym, ap, subst, ◌∙◌, append_assoc, append-nil, length-append}
 use Rattle.std.proofs.Common.{arith}
-use Rattle.std.specs.Prelude.{Bool, IfSome, IsTrue}
-use Rattle.mp4_media.specs.Error.{Error}
+use Rattle.std.specs.Prelude.{Bool, IfSome, IfErr, OnOk}
 use Rattle.mp4_media.specs.Error.TheVariants.{OutOfMemory}
-use Rattle.mp4_media.specs.Cause.{Cause, cause_of}
-use Rattle.mp4_media.specs.WriterAnswers.{RefusesWrite, AnswersWrite}
+use Rattle.mp4_media.specs.Cause.{Cause}
+use Rattle.mp4_media.specs.WriterAnswers.{RefusesWrite}
 use Rattle.mp4_media.specs.WriterFields.{KeptMovie, MayHold}
 use Rattle.mp4_media.specs.Writing.{WriterState, with_end, end_cause, whole_of}
 use Rattle.mp4_media.specs.declared.write_error.WriteError.{WriteError}
@@ -16,13 +15,15 @@ use Rattle.mp4_script.specs.Lines.{lines_of}
 use Rattle.mp4_script.specs.Script.{ScriptCause, script_cause_of, at_end, line_step, run_from, run_all, ended_movie, RanOutAt}
 use Rattle.mp4_script.specs.Script.{◌>>=◌}
 use Rattle.mp4_script.specs.ScriptSink.{AnswersInSink, MayRefuse, IsToldAs, IsToldIn, next_number, IsAfter, IsReached}
-use Rattle.mp4_script.specs.ScriptSink.{IsFirstFault, IsFirstRefusal, IsEndRefusal, AnswersEnd, RanOutOfMemory}
+use Rattle.mp4_script.specs.ScriptSink.{IsFirstFault, IsFirstRefusal, IsEndRefusal, AnswersPart, AnswersEnd}
+use Rattle.mp4_script.specs.ScriptSink.{RanOutOfMemory}
 use Rattle.mp4_script.specs.declared.script.ScriptFault.{ScriptFault}
 use Rattle.mp4_script.specs.declared.script.ScriptFault.TheVariants.{Refused, End}
 use Rattle.mp4_script.specs.declared.script_writer.ScriptWriteFault.{ScriptWriteFault}
 use Rattle.mp4_script.specs.declared.script_writer.ScriptWriteFault.TheVariants.{Script, Sink}
 use Rattle.mp4_script.proofs.Cutting.{count-lines}
 use Rattle.mp4_script.proofs.Parts.{lines_go_on, is_unended, first_line_joins, some-lines}
+use Rattle.mp4_script.proofs.Standard.{ended_for_none, ended_for_cause}
 use Rattle.mp4_script.proofs.Steps.{run_more, then-nothing}
 
 -- While a part is written: the lines that ended so far were run, and what is kept begins the first line of the rest.
@@ -110,13 +111,13 @@ module _ (text : List ℕ) (begun : WriterState) (writer : KeptMovie) (count : �
       }
 
       -- where it isn't run, it is the first that is at fault, or at which the sink refused
-      pub fault_is_told : {X : Type 0} (later : KeptMovie) (can_refuse : Bool) → writer.media.can_refuse ≡ can_refuse
+      pub fault_is_told : (X : Type 0) (later : KeptMovie) (can_refuse : Bool) → writer.media.can_refuse ≡ can_refuse
           → (e : ScriptWriteFault)
           → AnswersInSink {X = X} (λ fault. fault ≡ Refused (next_number count) OutOfMemory)
           (MayRefuse writer.media.can_refuse writer.media.len) later (Err e)
           (line_step (next_number count) (kept ++ line) g.next)
           → IsToldIn e (IsFirstFault text begun) (IsFirstRefusal text begun can_refuse)
-      fault_is_told later can_refuse same (Script fault) a = record {
+      fault_is_told X later can_refuse same (Script fault) a = record {
         number = next_number count;
         line = kept ++ line;
         more = length (lines_of after);
@@ -132,7 +133,7 @@ module _ (text : List ℕ) (begun : WriterState) (writer : KeptMovie) (count : �
               × (line_step (next_number count) (kept ++ line) g.next ≡ Err (script_cause_of fault)))
           by (inl memory) = inl memory
           by (inr refused) = inr (omega (arith, some-lines after), refused)
-      fault_is_told later can_refuse same (Sink e) a = record {
+      fault_is_told X later can_refuse same (Sink e) a = record {
         number = next_number count;
         line = kept ++ line;
         more = length (lines_of after);
@@ -184,6 +185,42 @@ module _ (text : List ℕ) (begun : WriterState) (writer : KeptMovie) (count : �
         cause = inl refl;
       })
 
+      -- so what is kept answers the part
+      pub kept_answers : {X : Type 0} (result : Result X ScriptWriteFault) (later : KeptMovie) (number : ℕ)
+          (more : List ℕ) → OnOk result (more ≡ kept ++ rest)
+          → IfErr result (λ e. e ≡ Script (Refused (next_number count) OutOfMemory)) → later ≡ writer
+          → number ≡ count → AnswersPart text begun later number more result
+      kept_answers (Ok x) later number more is memory same counted = is_kept later number more is same counted
+      kept_answers (Err e) later number more is memory same counted = is_not_kept e memory _
+
+-- before its first part nothing of a script was written
+pub nothing_yet : (begun : WriterState) (writer : KeptMovie) → MayHold writer begun → (kept : List ℕ) → kept ≡ []
+    → IsAfter [] begun writer 0 kept
+unfolding lines_of run_from
+nothing_yet begun writer may kept none = record {
+  lines = [];
+  cut = rw none refl;
+  next = begun;
+  run = refl;
+  may_hold = may;
+  counted = refl;
+}
+
+-- a movie that isn't begun, for no cause
+pub start_is_told : (P : Type 0) (cause : Option Cause) → cause ≡ None → (e : WriteError) (fault : ScriptWriteFault)
+    → IsToldAs (λ e. End e) e fault → RefusesWrite P cause e → IsToldIn fault (λ f. f ≡ End OutOfMemory) P
+start_is_told P cause none e fault told refuses =
+    by e fault told (subst (λ (c : Option Cause). RefusesWrite P c e) none refuses)
+  where
+    by : (e : WriteError) (fault : ScriptWriteFault) → IsToldAs (λ e. End e) e fault → RefusesWrite P None e
+        → IsToldIn fault (λ f. f ≡ End OutOfMemory) P
+    by (Mp4 e) (Script f) told memory = told ∙ ap End memory
+    by (Mp4 e) (Sink x) told memory = absurd told
+    by (Io e) (Script f) told may = absurd told
+    by (Io e) (Sink x) told may = may
+    by Failed (Script f) told never = absurd told
+    by Failed (Sink x) told never = absurd never
+
 -- memory ran out in the call of a line, or for the line
 pub as_memory : {X : Type 0} (number : ℕ) (line : List ℕ) (P : Type 0) (after : KeptMovie)
     (result : Result X ScriptWriteFault) (answer : Result WriterState ScriptCause)
@@ -220,16 +257,16 @@ module _ (script : List ℕ) (begun : WriterState) (writer : KeptMovie) (count :
         ∙ ap (λ (l : List ℕ). line_step (next_number count) l a.next) (sym whole)
 
     -- where the last line is at fault, so is the script; or the sink refused at it
-    pub last_is_told : {X S : Type 0} (later : KeptMovie) (contents : S → Option (List ℕ)) (len : S → ℕ)
+    pub last_is_told : (X : Type 0) {S : Type 0} (later : KeptMovie) (contents : S → Option (List ℕ)) (len : S → ℕ)
         (e : ScriptWriteFault)
         → AnswersInSink {X = X} (λ fault. fault ≡ Refused (next_number count) OutOfMemory)
         (MayRefuse writer.media.can_refuse writer.media.len) later (Err e)
         (line_step (next_number count) (kept ++ []) a.next)
         → AnswersEnd script begun contents len writer.media.can_refuse (Err e)
-    last_is_told later contents len (Script fault) (inl memory) = inl (inr (next_number count, memory))
-    last_is_told later contents len (Script fault) (inr refused) =
+    last_is_told X later contents len (Script fault) (inl memory) = inl (inr (next_number count, memory))
+    last_is_told X later contents len (Script fault) (inr refused) =
         inr (ap (λ (r : Result WriterState ScriptCause). r >>= ended_movie) (run_is ∙ refused))
-    last_is_told later contents len (Sink e) told =
+    last_is_told X later contents len (Sink e) told =
         inl (record {
           number = next_number count;
           line = kept;
@@ -253,18 +290,14 @@ module _ (script : List ℕ) (begun : WriterState) (writer : KeptMovie) (count :
       made_is : (run_all script begun >>= ended_movie) ≡ ended_movie next
       made_is = ap (λ (r : Result WriterState ScriptCause). r >>= ended_movie) (run_is ∙ ok)
 
-      no_cause : {X : Type 0} (P : Type 0) (x : X) → AnswersWrite {X = X} P (end_cause next) (Ok x)
-          → ended_movie next ≡ Ok (whole_of (with_end next))
-      no_cause P x none = rw none refl
-
       -- where the movie is ended, the sink has its bytes
-      pub movie_is_there : {S : Type 0} (contents : S → Option (List ℕ)) (len : S → ℕ) (sink : S) (P : Type 0)
-          → AnswersWrite {X = Unit {0}} P (end_cause next) (Ok tt) → (ended : KeptMovie) → MayHold ended (with_end next)
+      pub movie_is_there : {S : Type 0} (contents : S → Option (List ℕ)) (len : S → ℕ) (sink : S)
+          → end_cause next ≡ None → (ended : KeptMovie) → MayHold ended (with_end next)
           → contents sink ≡ ended.media.contents → len sink ≡ ended.media.len
           → AnswersEnd script begun contents len writer.media.can_refuse (Ok sink)
-      movie_is_there contents len sink P none ended may held counted = (
+      movie_is_there contents len sink none ended may held counted = (
         whole_of (with_end next),
-        made_is ∙ no_cause P tt none,
+        made_is ∙ ended_for_none next none,
         counted ∙ counted_whole ended (with_end next) may,
         by (contents sink) held,
       )
@@ -288,8 +321,7 @@ module _ (script : List ℕ) (begun : WriterState) (writer : KeptMovie) (count :
               ⊎ ((run_all script begun >>= ended_movie) ≡ Err (script_cause_of fault))
           by None none memory = inl (inl (told ∙ ap End memory))
           by (Some c) some is =
-              let is_end : ended_movie next ≡ Err (at_end c) = rw some refl in
-              inr (made_is ∙ is_end ∙ ap (λ (x : Cause). Err (at_end x)) is
+              inr (made_is ∙ ended_for_cause next c some ∙ ap (λ (x : Cause). Err (at_end x)) is
               ∙ ap (λ (f : ScriptFault). Err (script_cause_of f)) (sym told))
       end_is_told contents len last may same (Mp4 e) (Sink x) told refuses = absurd told
       end_is_told contents len last may same (Io e) (Script fault) told refuses = absurd told

@@ -6,13 +6,13 @@ use Rattle.mp4_media.specs.Error.{Error}
 use Rattle.mp4_media.specs.Error.TheVariants.{OutOfMemory}
 use Rattle.mp4_media.specs.Cause.{Cause, AnswersCause}
 use Rattle.mp4_media.specs.Calls.{Call, step, call_cause}
-use Rattle.mp4_media.specs.WriterAnswers.{AnswersWrite, RefusesWrite}
-use Rattle.mp4_media.specs.WriterFields.{KeptMovie, MayHold}
+use Rattle.mp4_media.specs.WriterAnswers.{RefusesWrite}
+use Rattle.mp4_media.specs.WriterFields.{KeptMovie}
 use Rattle.mp4_media.specs.Writing.{WriterState}
 use Rattle.mp4_media.specs.declared.write_error.WriteError.{WriteError}
 use Rattle.mp4_media.specs.declared.write_error.WriteError.TheVariants.{Mp4, Io, Failed}
 use Rattle.mp4_script.specs.Commands.{command_in}
-use Rattle.mp4_script.specs.Script.{ScriptCause, called, line_step, script_cause_of, RanOutAt}
+use Rattle.mp4_script.specs.Script.{called, line_step, script_cause_of, RanOutAt}
 use Rattle.mp4_script.specs.ScriptSink.{AnswersInSink, IsToldAs}
 use Rattle.mp4_script.specs.declared.script.ScriptFault.{ScriptFault}
 use Rattle.mp4_script.specs.declared.script.ScriptFault.TheVariants.{Refused}

@@ -13,7 +13,8 @@ use Rattle.mp4_script.specs.declared.script.ScriptFault.TheVariants.{End}
 use Rattle.mp4_script.specs.Script.{ScriptCause, script_cause_of, at_end, standard_config, standard_writer, run_all}
 use Rattle.mp4_script.specs.Script.{ended_movie, movie_made_by, RanOutIn, RanOut, AnswersScript, ◌>>=◌}
 
-begins : start_cause standard_config ≡ None
+-- it is begun for no cause
+pub begins : start_cause standard_config ≡ None
 begins = start_cause-few standard_config (omega arith)
 
 -- where there is no cause, a refusal says that memory ran out
@@ -21,7 +22,7 @@ of_memory : (X : Type 0) (cause : Option Cause) (e : Error)
     → cause ≡ None → AnswersCause {X = X} cause (Err e) → e ≡ OutOfMemory
 of_memory X cause e none answers = subst (λ why. AnswersCause {X = X} why (Err e)) none answers
 
-same_config : (config : Mp4Config) (x : Result Mp4Config Cause)
+pub same_config : (config : Mp4Config) (x : Result Mp4Config Cause)
     → x ≡ Ok standard_config → x ≡ Ok config → config ≡ standard_config
 same_config config x e f = cc
 
@@ -58,15 +59,24 @@ run_and_ended : (script : List ℕ) (writer next : WriterState)
 run_and_ended script writer next begun-is run =
     ap (λ (r : Result WriterState ScriptCause). r >>= ended_movie) (ap (run_all script) (sym begun-is) ∙ run)
 
+-- a movie whose end has no cause is ended
+pub ended_for_none : (next : WriterState) → end_cause next ≡ None → ended_movie next ≡ Ok (whole_of (with_end next))
+ended_for_none next is =
+    ap (λ (why : Option Cause). elim why [ None ↦ Ok (whole_of (with_end next)) | Some c ↦ Err (at_end c) ]) is
+
+-- and any other is refused for it
+pub ended_for_cause : (next : WriterState) (cause : Cause) → end_cause next ≡ Some cause
+    → ended_movie next ≡ Err (at_end cause)
+ended_for_cause next cause is =
+    ap (λ (why : Option Cause). elim why [ None ↦ Ok (whole_of (with_end next)) | Some c ↦ Err (at_end c) ]) is
+
 -- the same where the end is refused, for this cause
 end_refused_for : (next : WriterState) (e : Error) (cause : Option Cause)
     → end_cause next ≡ cause → AnswersCause {X = Unit {0}} cause (Err e)
     → (e ≡ OutOfMemory) ⊎ (ended_movie next ≡ Err (at_end (cause_of e)))
 end_refused_for next e None is answers = inl answers
 end_refused_for next e (Some cause) is answers =
-    inr (
-    ap (λ (why : Option Cause). elim why [ None ↦ Ok (whole_of (with_end next)) | Some c ↦ Err (at_end c) ]) is
-    ∙ ap (λ c. Err (at_end c)) answers)
+    inr (ended_for_cause next cause is ∙ ap (λ c. Err (at_end c)) answers)
 
 or_at_end : (script : List ℕ) (next : WriterState) (e : Error) → movie_made_by script ≡ ended_movie next
     → (e ≡ OutOfMemory) ⊎ (ended_movie next ≡ Err (at_end (cause_of e)))
@@ -88,8 +98,7 @@ end_is_refused script writer next e begun-is run answers =
 ended_ok : (next : WriterState) (cause : Option Cause)
     → end_cause next ≡ cause → AnswersCause {X = Unit {0}} cause (Ok tt)
     → ended_movie next ≡ Ok (whole_of (with_end next))
-ended_ok next None is answers =
-    ap (λ (why : Option Cause). elim why [ None ↦ Ok (whole_of (with_end next)) | Some c ↦ Err (at_end c) ]) is
+ended_ok next None is answers = ended_for_none next is
 ended_ok next (Some cause) is answers = absurd answers
 
 -- where the end is Ok, its bytes are the movie

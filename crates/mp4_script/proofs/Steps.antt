@@ -33,7 +33,8 @@ module _ (n : ℕ) (lines others : List (List ℕ)) (line : List ℕ) (left : dr
   pub so_many : length (take n lines) ≡ n
   so_many = length-take-le n lines (omega (arith, one_more))
 
-then-nothing : (number : ℕ) (r : Result WriterState ScriptCause) → (r >>= run_from number []) ≡ r
+-- after the last line nothing is run
+pub then-nothing : (number : ℕ) (r : Result WriterState ScriptCause) → (r >>= run_from number []) ≡ r
 unfolding run_from
 then-nothing number (Ok w) = refl
 then-nothing number (Err c) = refl

@@ -1,6 +1,6 @@
 //! Movies that are written to a sink while the lines of their script are read.
 
-ghost use Rattle.std.specs.Prelude.{◌≡◌, ◌<◌, ◌-◌, ◌^◌, ◌++◌, [], List, ℕ, length, Some, IfOk, IfErr, OnOk, IsTrue};
+ghost use Rattle.std.specs.Prelude.{◌≡◌, ◌<◌, ◌-◌, ◌^◌, ◌++◌, [], List, ℕ, length, Some, IfOk, IfErr, OnOk, IfSome, IsTrue};
 ghost use Rattle.mp4_media.specs.WriterFields.{MayHold};
 ghost use Rattle.mp4_media.specs.WriterCalls.{call_of};
 ghost use Rattle.mp4_media.specs.Writing.{WriterState, started};
@@ -106,6 +106,7 @@ impl<S: ByteSink + Drop> ScriptWriter<S> {
     /// refuses.
     pub fn new(alloc: Global, sink: S) -> Result<Self, ScriptWriteFault>
         ensures begun { IfOk result (λ w. (front : List ℕ) → S.len sink ≡ length front
+            → IfSome (S.contents sink) (λ bytes. bytes ≡ front)
             → IsAfter [] (started front standard_config) w.writer w.lines w.line.items) }
         ensures err { IfErr result (λ e. IsToldIn e (λ fault. fault ≡ End Error.OutOfMemory) (IsTrue (S.can_refuse sink))) }
         ensures can_refuse { IfOk result (λ w. w.writer.media.can_refuse ≡ S.can_refuse sink) }

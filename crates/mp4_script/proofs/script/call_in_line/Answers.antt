@@ -1,4 +1,4 @@
-use Rattle.std.proofs.Common.{◌≡◌, inl, inr, sym, ap, ◌∙◌, Some}
+use Rattle.std.proofs.Common.{sym, ap, ◌∙◌, Some}
 use Rattle.mp4_media.specs.Steps.{ok_is}
 use Rattle.mp4_media.specs.Calls.{Call}
 use Rattle.mp4_media.specs.WriterCalls.{call_of}
