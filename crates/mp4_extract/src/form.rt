@@ -72,7 +72,7 @@ impl SampleForm {
     /// The form of a track's samples in a format.
     ///
     /// `WrongFormat` where the track isn't coded as the format says, `Track(InvalidData)` where the parameter sets of
-    /// HEVC pass the end of their box.
+    /// HEVC pass the end of their box. `OutOfMemory` only for a byte stream of a track that has parameter sets.
     pub fn new(
         alloc: Global,
         track: &Mp4Track,

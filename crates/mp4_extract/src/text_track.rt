@@ -229,9 +229,10 @@ impl SubtitleReader {
     /// rounded to the nearest. What the first edit leaves out of the media's start isn't shown, and what is shown
     /// begins later by the time for which it is empty (ISO/IEC 14496-12, 8.6.6).
     ///
-    /// `Sample` where the file's tables refuse the sample, where it doesn't lie whole in the file, where its text
-    /// passes its end or isn't encoded as it should be; `Read` where the source refuses a sample that lies in the file;
-    /// `OutOfMemory` only where there is a sample.
+    /// `Sample` where the file's tables refuse the sample, where it doesn't lie whole in the file, where its times have
+    /// no milliseconds (`ZeroTimescale`, or `TooLarge(Value)` past 64 bits), where its text passes its end or isn't
+    /// encoded as it should be; `Read` where the source refuses a sample that lies in the file; `OutOfMemory` only where
+    /// there is a sample.
     pub fn next<S: ByteSource + Drop>(
         &mut self,
         file: &mut Mp4File<S>,

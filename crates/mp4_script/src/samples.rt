@@ -119,7 +119,8 @@ pub(crate) fn write_samples(text: &mut Vec<u8>, movie: &Movie, len: u64, id: u32
 /// lasts, how much later it is shown, in ticks of the track, and 1 for a sync sample or 0. A number without a sample is
 /// `none`, and one that can't be read says why; either ends the lines.
 ///
-/// Refused as the movie's opening and the count of samples are, and where memory runs out.
+/// Refused as the movie's opening is, with `TrakNotFound` for an id that no track has, as the count of its samples is,
+/// and where memory runs out.
 pub fn samples_text(alloc: Global, file: &[u8], track_id: u32) -> Result<Vec<u8>> {
     let movie = read_mp4(alloc, file)?;
     let mut text = Vec::new(alloc);
@@ -129,7 +130,8 @@ pub fn samples_text(alloc: Global, file: &[u8], track_id: u32) -> Result<Vec<u8>
 
 /// What [`samples_text`] says of the file of all bytes of a source: no byte of a sample is read.
 ///
-/// Refused as the file's opening and the count of samples are, and where memory runs out.
+/// Refused as the file's opening is, with `TrakNotFound` for an id that no track has, as the count of its samples is,
+/// and where memory runs out.
 pub fn file_samples_text<S: ByteSource + Drop>(
     alloc: Global,
     source: S,
