@@ -180,8 +180,7 @@ fn fault_from<S: ByteSource + Drop>(
 /// Where a file is broken that begins at the place `start` of a source and ends at its place `size`, both counted from
 /// the source's first byte: its first fault, with the path to it and its place; `None` for a file that opens. What
 /// opens, and by which error it is refused else, is as [`mp4_media::Mp4File::open`] answers with the same arguments.
-///
-/// Its time follows the bytes of the file: each track and each track fragment is looked at once.
+/// Each track and each track fragment is looked at once.
 ///
 /// Refused by `OutOfMemory`, or by `Io` where the source refuses a read.
 pub fn first_fault_of<S: ByteSource + Drop>(

@@ -29,7 +29,7 @@ use mp4_search::{ByGuess, Readings};
 pub struct FoundNumber {
     /// Samples are numbered from 1. None where no sample is so early.
     pub number: Option<u32>,
-    /// How many times or numbers were compared.
+    /// How many times or numbers were read to be compared.
     pub comparisons: u32,
 }
 
@@ -75,8 +75,8 @@ impl Mp4Track {
         self.find_sample_at(time).number
     }
 
-    /// What [`sample_at`](Mp4Track::sample_at) answers, and how many times were compared: at most so many as the
-    /// numbers of the runs of its fragments and of the entries of stts have binary digits, and 34 more.
+    /// What [`sample_at`](Mp4Track::sample_at) answers, and how many times were read to be compared: at most so many as
+    /// the numbers of the runs of its fragments and of the entries of stts have binary digits, and 34 more.
     pub fn find_sample_at(&self, time: u64) -> FoundNumber
         ensures number { AnswersLast (sample_by (tables_of self.now.trak) (track_runs self.now) time)
             (2 ^ 32) result.number }

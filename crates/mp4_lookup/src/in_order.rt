@@ -39,7 +39,9 @@ impl Mp4Track {
         }
     }
 
-    /// The samples from number `k` on, in their order; samples are numbered from 1.
+    /// Where the samples from number `k` on lie, in their order, and when they are decoded and shown, in ticks of the
+    /// track's timescale: each is what [`Mp4Track::locate`] answers at its number. Samples are numbered from 1; number
+    /// 0 is refused. It ends after the last sample, and after the first that is refused.
     #[inline(always)]
     pub fn samples_from(&self, k: u32) -> Samples<'_>
         ensures { samples_left result ≡ answers_from (2 ^ 32 - k) self.now k }
@@ -47,7 +49,7 @@ impl Mp4Track {
         self.walk_from(k)
     }
 
-    /// All samples, in their order.
+    /// Where all samples lie, in their order, as [`Mp4Track::samples_from`] answers from the first on.
     #[inline(always)]
     pub fn samples(&self) -> Samples<'_>
         ensures { samples_left result ≡ answers_from (2 ^ 32 - 1) self.now 1 }

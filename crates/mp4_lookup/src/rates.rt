@@ -51,8 +51,8 @@ impl Mp4Track {
     }
 
     /// Bits in a second. Where the sample entry mp4a is there (ISO/IEC 14496-12, 8.5.2), the average that its esds
-    /// says, and 0 without esds. Else that of the samples, rounded down: the bits of all of them over the duration in
-    /// whole seconds.
+    /// says, and 0 without esds. Else that of the samples, rounded down: their bits over the duration in whole seconds,
+    /// where stsz lists sizes of those that it lists, and else of all, those of fragments too.
     ///
     /// Without mp4a the refusals of `duration`; then 0 where that is less than a second, whatever the samples are;
     /// else the refusals of `sample_count` where stsz says one size for all (8.7.3), then `TooLarge(Value)` where the

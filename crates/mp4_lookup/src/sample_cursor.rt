@@ -19,8 +19,8 @@ use mp4_samples::Place;
 /// Where the samples of a track lie and when they are decoded and shown, by their numbers: at each, in whatever order
 /// they are asked for, what [`Mp4Track::locate`] answers, but for what it cost.
 ///
-/// It keeps a walk over the samples. The number that comes next in the walk is answered by a step, which costs no
-/// search; any other by a look-up with a guess, which leaves the walk where it was. The walk begins again only at a
+/// It keeps a walk over the samples. The number that comes next in the walk is answered by a step, which mostly costs
+/// no search; any other by a lookup with a guess, which leaves the walk where it was. The walk begins again only at a
 /// number that follows the one asked for before it. So numbers in their order cost about as much as
 /// [`Mp4Track::samples`], from the third on, and numbers in no order as much as [`Mp4Track::locate_by_guess`].
 #[derive(Drop)]

@@ -110,8 +110,8 @@ impl<S: ByteSource + Drop> Mp4File<S> {
     /// Opens the file that begins at the place `start` of a source and ends at its place `size`, both counted from the
     /// source's first byte, as [`crate::Mp4Reader::read_header`] does of its bytes, with the same errors: for a whole
     /// file they are 0 and its length. The bytes of ftyp, moov, moof and emsg are read, and the headers of all other
-    /// boxes. They are read through a window, which takes at most 32 KiB while the file is opened, and none where the
-    /// source has no bytes or fewer than 8 are between the two places: then memory never runs out.
+    /// boxes. They are read through a window, which takes at most 32 KiB while the file is opened, and none where fewer
+    /// than 8 bytes are between the two places: then memory never runs out.
     ///
     /// `Io` where the source refuses a read. After an error the source is gone: pass `&mut` to keep it.
     pub fn open(

@@ -21,7 +21,7 @@ use std::marker::Model;
 
 /// Writes a movie of any size to a sink, after the bytes that it has: the file type, the data, and the movie box after
 /// it. What goes to the sink stays there: in memory are, of each track, what its tables will say and the samples that
-/// wait, of at most a second.
+/// wait, until they last a second and have a byte.
 ///
 /// Of each sample the tables say four values: its size, its duration, its rendering offset, and whether it is a sync
 /// sample. Each kind is a list of its own, which takes 8 bytes for each run of equal neighbours as long as the runs are

@@ -219,6 +219,7 @@ impl Movie {
     }
 
     /// The track with this id; `TrakNotFound` where there is none.
+    #[inline(always)]
     pub fn track(&self, track_id: u32) -> Result<&Mp4Track>
         ensures { Gives (λ t. t.now) result (needed_track self.now.tracks track_id) }
     {

@@ -49,6 +49,7 @@ impl<'a> Deref for Mp4Reader<'a> {
 }
 
 /// The sample that lies at a place of these bytes; `EndOfData` where it isn't whole there.
+#[inline(always)]
 pub(crate) fn borrowed_at(bytes: &[u8], place: Place) -> Result<SampleRef<'_>>
     ensures rule { Gives (λ s. Some (borrowed_sample s)) result (read_in bytes.now (Some place)) }
     ensures offset { IfOk result (λ s. s.offset ≡ place.offset) }
@@ -166,6 +167,7 @@ impl<'a> Mp4Reader<'a> {
 
     /// Sample `k` of the track with this id, its bytes borrowed from those that were opened, so that it may be kept
     /// when the reader is gone. It takes no memory; all else is as in [`Mp4Reader::read_sample`].
+    #[inline(always)]
     pub fn read_sample_ref(&self, track_id: u32, k: u32) -> Result<Option<SampleRef<'a>>>
         ensures rule { Gives (λ s. option_map borrowed_sample s) result
             (sample_in self.now.bytes.now self.now.movie.tracks track_id k) }
@@ -180,6 +182,7 @@ impl<'a> Mp4Reader<'a> {
     }
 
     /// The answer of `read_sample_ref`, whose clause `plain` follows from this one.
+    #[inline(always)]
     #[tactic(auto, unfolding(crate::specs::Reading::sample_in, crate::specs::Reading::located_in, mp4_lookup::specs::Tracks::sample_at))]
     fn borrowed(&self, track_id: u32, k: u32) -> Result<Option<SampleRef<'a>>>
         ensures rule { Gives (λ s. option_map borrowed_sample s) result
@@ -194,8 +197,8 @@ impl<'a> Mp4Reader<'a> {
     }
 
     /// The samples of the track with this id in their order, from the first on, with their bytes: each is what
-    /// [`Mp4Reader::read_sample_ref`] answers at its number, and costs no search. It ends after the last, and after
-    /// the first that is refused.
+    /// [`Mp4Reader::read_sample_ref`] answers at its number, and mostly costs no search. It ends after the last, and
+    /// after the first that is refused.
     ///
     /// `TrakNotFound` where there is no such track.
     #[tactic(auto, unfolding(crate::specs::InOrder::samples_in))]

@@ -141,7 +141,8 @@ fn tracks_with_defaults(
     let base_data_offsets = base_data_offsets_by_id(alloc, moofs, places, defaults)?;
     let mut fragments = fragments_by_id(alloc, moofs)?;
     let traks = moov.traks.as_slice();
-    let mut tracks = HashMap::new(alloc);
+    // A map that grew would leave its smaller ones behind it, each opening anew.
+    let mut tracks = HashMap::with_capacity(alloc, traks.len())?;
     for index in (0..traks.len()).rev() {
         let trak = &traks[index];
         let id = trak.tkhd.track_id;

@@ -11,7 +11,7 @@ pub struct ChunkPlace {
     pub first: u32,
     /// How many samples it has.
     pub count: u32,
-    /// Where it begins, in bytes from the start of the buffer.
+    /// Where it begins, in bytes from the first of the sink.
     pub offset: u64,
 }
 

@@ -67,6 +67,7 @@ impl<T: ExactEq + Copy> Column<T> {
     }
 
     /// Adds a value at the end. An `Err` changes no value.
+    #[inline(always)]
     pub fn push(&mut self, value: T) -> Result<(), AllocError>
         requires { length (values_of self.old) < 2 ^ 32 - 1 }
         ensures ok { OnOk result (values_of self.new ≡ values_of self.old ++ value ∷ []) }
@@ -93,7 +94,9 @@ impl<T: ExactEq + Copy> Column<T> {
         Ok(())
     }
 
-    /// Takes the last value.
+    /// Takes the last value, where memory runs out for what belongs to it.
+    #[cold]
+    #[inline(never)]
     pub fn pop(&mut self) -> T
         requires { 0 < length (values_of self.old) }
         ensures { values_of self.old ≡ values_of self.new ++ result ∷ [] }

@@ -60,6 +60,7 @@ impl SampleInfos {
     }
 
     /// Adds one at the end. An `Err` changes nothing.
+    #[inline(always)]
     pub fn push(&mut self, sample: SampleInfo) -> Result<(), AllocError>
         requires { length self.old < 2 ^ 32 - 1 }
         ensures ok { OnOk result (self.new ≡ self.old ++ sample ∷ []) }

@@ -9,7 +9,7 @@ ghost use Rattle.mp4_search.specs.Search.{comparisons_between, comparisons_from,
 
 use crate::counted::{Readings, SearchedNumbers};
 use crate::line::FEW;
-use crate::search::{Between, SearchHit, halve, last_at_most, last_before};
+use crate::search::{Between, SearchHit, halve, last_at_most};
 
 /// How far from the place that is expected numbers are looked at beside its neighbours, before the rest is halved.
 const FAR: usize = 16;
@@ -175,7 +175,16 @@ fn last_at_most_from(
     let mut readings = Readings::new();
     let near = looked_near(numbers, key, index, &mut readings);
     let end = halve(numbers, key, near, &mut readings);
-    (last_before(end.low, end.last), readings)
+    match end.last {
+        Some(number) => {
+            let hit = SearchHit {
+                index: end.low - 1,
+                number,
+            };
+            (Some(hit), readings)
+        },
+        None => (None, readings),
+    }
 }
 
 /// [`last_at_most`] as a function of its own.

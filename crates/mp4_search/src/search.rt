@@ -172,6 +172,7 @@ pub(crate) fn halve(
 }
 
 /// The last of the numbers that is at most `key`, and how many of them were compared with it.
+#[inline(always)]
 #[tactic(auto, unfolding(crate::specs::Search::comparisons_in))]
 pub(crate) fn last_at_most(numbers: &SearchedNumbers, key: u32) -> (Option<SearchHit>, Readings)
     requires { IsNonDecreasing numbers.now }

@@ -10,11 +10,11 @@ use Rattle.mp4_media.proofs.tracks.tracks_with_defaults.Goals as goal
 pub loop-index-init : goal.loop-index-init
 loop-index-init c =
     let traks = c.as_slice-traks.result.now in
-    subst (λ ts. Made c.args.moov.now c.args.moofs.now c.args.places.now ts c.new-tracks.result
+    subst (λ ts. Made c.args.moov.now c.args.moofs.now c.args.places.now ts c.in_ok-tracks.tracks
     c.in_ok-fragments.fragments)
     (sym (drop_all (length traks) traks (omega arith)))
-    (made-none c.args.moov.now c.args.moofs.now c.args.places.now c.new-tracks.result c.in_ok-fragments.fragments
-    c.new-tracks.ensures.empty c.in_ok-fragments.ensures.all)
+    (made-none c.args.moov.now c.args.moofs.now c.args.places.now c.in_ok-tracks.tracks c.in_ok-fragments.fragments
+    c.in_ok-tracks.ensures.empty c.in_ok-fragments.ensures.all)
 
 pub taken_track-requires-clause-base_data_offsets : goal.taken_track-requires-clause-base_data_offsets
 taken_track-requires-clause-base_data_offsets c =
