@@ -36,6 +36,9 @@ class Box:
     def fault(self, words=None):
         return Fault(self.path, self.place, words)
 
+    def is_cut(self):
+        return self.fault(f"its fields have to be whole, and it ends after {grouped(len(self.data))} bytes")
+
 
 def step(counts, path, kind):
     """The path of the next box of a type in its container."""
@@ -85,7 +88,7 @@ def look_at_leaf(box):
         rule, number = refused.rule
         size = grouped(len(box.data))
         if rule == "fields":
-            raise box.fault(f"its fields have to be whole, and it ends after {size} bytes") from None
+            raise box.is_cut() from None
         if rule == "list" and box.kind in LISTS:
             words = f"its list has to end within it, and it says {grouped(number)} entries in {size} bytes"
             raise box.fault(words) from None
@@ -112,6 +115,8 @@ def look_at_children(box, start, wanted, is_first_alone=False):
 
 def look_at_meta(box):
     """The framing and the handlers of metadata first, and then, where it is of iTunes, its lists of items."""
+    if len(box.payload) < 4:
+        raise box.is_cut()
     start = children_start(b"meta", box.payload)
     if start is None:
         raise box.fault()
@@ -146,7 +151,7 @@ def look_at(box):
     if start is None:
         return
     if start > len(box.payload):
-        raise box.fault(f"its fields have to be whole, and it ends after {grouped(len(box.data))} bytes")
+        raise box.is_cut()
     found = look_at_children(box, start, READ[box.kind], box.kind in (b"stsd", b"edts"))
     if box.kind == b"mp4a":
         look_at_wave(found)
