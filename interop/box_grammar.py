@@ -7,7 +7,12 @@ INVALID = "invalid data"
 
 
 class Refused(Exception):
-    """Bytes that aren't what they have to be. Its text is in the words of docs/VECTORS.md."""
+    """Bytes that aren't what they have to be. Its text is in the words of docs/VECTORS.md; its rule is the one
+    that is broken, of some, and the number that breaks it."""
+
+    def __init__(self, words, rule=None, number=0):
+        super().__init__(words)
+        self.rule = rule, number
 
 
 class Payload:
@@ -21,7 +26,7 @@ class Payload:
 
     def take(self, count):
         if count > self.left():
-            raise Refused(INVALID)
+            raise Refused(INVALID, "fields")
         self.place += count
         return self.data[self.place - count:self.place]
 
@@ -37,7 +42,7 @@ class Payload:
     def versioned(self, version):
         """A number of 64 bits in version 1, and of 32 in version 0; no other version has one."""
         if version > 1:
-            raise Refused(INVALID)
+            raise Refused(INVALID, "version", version)
         return self.unsigned(8 if version else 4)
 
     def fixed(self, size, bits, signed=False):
@@ -55,7 +60,7 @@ class Payload:
     def entries(self, count, size, read):
         """A list, which lies within the payload as a whole."""
         if count * size > self.left():
-            raise Refused(INVALID)
+            raise Refused(INVALID, "list", count)
         return [read() for _ in range(count)]
 
 
@@ -152,7 +157,7 @@ def elst(p):
     fields = full(p)
     version = version_of(fields)
     if version > 1:
-        raise Refused(INVALID)
+        raise Refused(INVALID, "version", version)
     wide = 8 if version else 4
     names = ("segment_duration", "media_time", "media_rate", "media_rate_fraction")
     rows = p.entries(p.unsigned(4), 2 * wide + 4, lambda: (p.unsigned(wide), p.signed(wide), p.signed(2), p.signed(2)))
@@ -258,7 +263,7 @@ def emsg(p):
     fields = full(p)
     version = version_of(fields)
     if version > 1:
-        raise Refused(f"emsg version {version} is not supported")
+        raise Refused(f"emsg version {version} is not supported", "version", version)
     texts = lambda: [("scheme_id_uri", "text", lossy(p.ended_text())), ("value", "text", lossy(p.ended_text()))]
     early = [] if version else texts()
     timescale = numbers(p, "timescale")
@@ -415,6 +420,7 @@ NEEDED = {
     b"vp09": (b"vpcC",), b"mvex": (b"trex",), b"moof": (b"mfhd",), b"traf": (b"tfhd",),
     NAM: (b"data",), DAY: (b"data",), b"covr": (b"data",), b"desc": (b"data",),
 }
+ENTRIES = (b"avc1", b"hev1", b"vp09")
 OWN = (b"ftyp", b"moov", b"moof", b"emsg")
 
 
@@ -433,7 +439,7 @@ def header(data, place, end):
         return kind, 8, None
     if size > 1:
         if size < 8:
-            raise Refused(INVALID)
+            raise Refused(INVALID, "size", size)
         return kind, 8, size
     if end - place < 16:
         raise Refused("end of data")
@@ -441,7 +447,7 @@ def header(data, place, end):
     if large == 0:
         return kind, 16, None
     if large < 16:
-        raise Refused(INVALID)
+        raise Refused(INVALID, "size", large)
     return kind, 16, large
 
 
@@ -503,7 +509,7 @@ def read_all(kind, data, start, wanted):
 def miss(kind, found):
     for needed in NEEDED.get(kind, ()):
         if needed not in found:
-            raise Refused(f"{shown(needed)} not found")
+            raise Refused(INVALID if kind in ENTRIES else f"{shown(needed)} not found")
     if kind == b"stbl" and not found.keys() & {b"stco", b"co64"}:
         raise Refused("stco and co64 not found")
 

@@ -2,7 +2,7 @@
 
 import re
 
-SUBJECTS = ("file", "report")
+SUBJECTS = ("file", "report", "box")
 
 
 def without_comment(line):
@@ -58,18 +58,46 @@ def bytes_of(words, named):
     return bytes(out)
 
 
+def changed(data, words, named):
+    """A subject's bytes with others written over them: `01 at 8, 'free' at 60`. What follows isn't looked
+    at."""
+    data = bytearray(data)
+    while "at" in words:
+        at = words.index("at")
+        part, place = bytes_of(words[:at], named), words[at + 1]
+        offset = int(place.rstrip(","))
+        data[offset:offset + len(part)] = part
+        words = words[at + 2:] if place.endswith(",") else []
+    return bytes(data)
+
+
+def question_bytes(data, words, named):
+    """The bytes that a question asks of: its subject's, or these cut or changed."""
+    for index, word in enumerate(words):
+        if words[index:index + 2] == ["cut", "to"]:
+            return data[:int(words[index + 2])]
+        if word == "with":
+            return changed(data, words[index + 1:], named)
+    return data
+
+
 def files_in(path, most):
-    """The files that the cases of a file of cases ask of, each with its case: those of at most so many
-    bytes."""
-    named, case, seen = {}, "", set()
+    """The files that the cases of a file of cases ask of, of at most so many bytes: each with its case, and
+    what it is: a `file`, a `box` alone, or bytes `changed` by a question."""
+    named, case, seen, data, subject = {}, "", set(), None, None
     for item in items(path.read_text()):
         word, *rest = item.split()
-        if word == "let":
-            named[rest[0]] = bytes_of(rest[2:], named)
-        elif word == "case":
+        question, is_answer, _ = item.partition(" =")
+        if word == "case":
             case = " ".join(rest)
-        elif word in SUBJECTS and " = " not in item:
-            data = bytes_of([w for w in rest if w != "''"], named)
-            if len(data) <= most and data not in seen:
-                seen.add(data)
-                yield case, data
+        elif word == "let":
+            named[rest[0]] = bytes_of(rest[2:], named)
+        elif not is_answer:
+            subject = word
+            data = bytes_of([w for w in rest if w != "''"], named) if word in SUBJECTS else None
+        if word in ("case", "let") or data is None:
+            continue
+        asked = question_bytes(data, question.split(), named) if is_answer else data
+        if len(asked) <= most and asked not in seen:
+            seen.add(asked)
+            yield case, asked, "changed" if is_answer else "box" if subject == "box" else "file"

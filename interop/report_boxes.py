@@ -73,12 +73,16 @@ def is_tail(kind, payload, start):
 
 
 def own_refusal(kind, payload):
-    """Why a box of boxes is refused, if that is for itself: for a child that it lacks, or for its version."""
+    """Why a box of boxes is refused, if that is for itself: for fields before its children that aren't whole, for
+    a child that it lacks, or for its version."""
+    if len(payload) < (4 if kind == b"meta" else children_start(kind, payload) or 0):
+        return INVALID
     try:
         read(kind, payload)
     except Refused as refused:
         words = str(refused)
-        lacks = [f"{shown(child)} not found" for child in READ[kind]] + ["stco and co64 not found"]
+        lacks = [f"{shown(child)} not found" for child in READ[kind]]
+        lacks += ["stco and co64 not found"] if kind == b"stbl" else []
         if words in lacks or words.startswith(f"{shown(kind)} version"):
             return words
     return None

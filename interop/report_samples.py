@@ -40,6 +40,8 @@ class Movie:
                     raise Refused("end of data")
                 payload = data[place + front:place + size]
                 boxes[kind] = read(kind, payload)
+                if kind == b"moov":
+                    self.moov = payload
                 if kind == b"moof":
                     self.moofs.append((place, boxes[kind]))
             place += size
@@ -68,7 +70,7 @@ class Track:
     def __init__(self, movie, number, trak, trex):
         self.movie, self.id, self.trak, self.trex = movie, number, trak, trex
         self.mdia = trak[b"mdia"][-1]
-        self.timescale = self.mdia[b"mdhd"][-1]["timescale"]
+        self.timescale, self.letters = self.mdia[b"mdhd"][-1]["timescale"], self.mdia[b"mdhd"][-1]["language"]
         self.stbl = self.mdia[b"minf"][-1][b"stbl"][-1]
         table = lambda kind: self.stbl[kind][-1]["entries"] if kind in self.stbl else None
         self.stsc, self.stts, self.ctts, self.stss = map(table, (b"stsc", b"stts", b"ctts", b"stss"))
@@ -232,6 +234,16 @@ def listed(track, first, count):
             break
         rows.append((number, place))
     return rows, None
+
+
+def number_at(track, rows, ticks):
+    """The number of the last of all samples of a track that is decoded at or before a time, or of the first;
+    None where their times fall, or where some aren't known."""
+    starts = [place.start for _, place in rows]
+    runs = track.in_fragments(1) if track.trafs else []
+    if not rows or len(rows) != track.count + sum(count for _, count in runs) or starts != sorted(starts):
+        return None
+    return max([n for n, place in rows if place.start <= ticks], default=1)
 
 
 def text(movie, number, first=1, count=1 << 32):

@@ -1,12 +1,14 @@
 """What mp4_inspect tracks says of a file, written again from the file's bytes: names of codecs by RFC 6381,
 sums over the samples one by one, and the rest as the boxes have it."""
 
+import re
+
 from box_grammar import Refused
 from report_texts import MOST, clock_of, code, grouped, whole
 
-# More samples aren't summed up here; a track with a language of Macintosh isn't tried, whose names are a
-# table of Apple's.
+# More samples aren't summed up here. A language of Macintosh isn't compared, whose names are a table of Apple's.
 MOST_SAMPLES = 3000
+UNCOMPARED = "a language of Macintosh"
 UNKNOWN = (0, (1 << 32) - 1, MOST)
 FREQUENCIES = (96000, 88200, 64000, 48000, 44100, 32000, 24000, 22050, 16000, 12000, 11025, 8000, 7350)
 CHANNELS = {1: 1, 2: 2, 3: 3, 4: 4, 5: 5, 6: 6, 7: 8}
@@ -79,7 +81,7 @@ def pictures_of(track, kind, entry):
 
 def language_of(characters):
     if characters[0] == "`":
-        raise Untried
+        return UNCOMPARED
     if characters == "\x7f" * 3:
         return "und"
     return characters if all("a" <= c <= "z" for c in characters) else None
@@ -112,6 +114,11 @@ def samples_of(track):
                 return rows
         rows.append((number, place))
     return rows
+
+
+def past_end(track, file_size):
+    """The samples that don't lie whole in the file."""
+    return [(n, place) for n, place in samples_of(track) if place.offset + place.size > file_size]
 
 
 def range_of(track):
@@ -152,7 +159,7 @@ def report(track, file_size):
     kind, entry = entry_of(track)
     handler = track.mdia[b"hdlr"][-1]["handler_type"]
     is_video = handler == b"vide"
-    language = language_of(track.mdia[b"mdhd"][-1]["language"])
+    language = language_of(track.letters)
     rows = samples_of(track)
     header = track.mdia[b"mdhd"][-1]["duration"]
     ticks = range_of(track) if track.trafs or header in UNKNOWN else header
@@ -160,7 +167,7 @@ def report(track, file_size):
     size = min(sum(place.size for _, place in rows) * 8, MOST)
     sync = [place.start for _, place in rows if place.is_sync]
     gaps = [max(0, after - before) for before, after in zip(sync, sync[1:])]
-    past = [(n, place) for n, place in rows if place.offset + place.size > file_size]
+    past = past_end(track, file_size)
     edts = track.trak[b"edts"][-1] if b"edts" in track.trak else {}
     duration = within(ticks * 1000 // track.timescale) if ticks is not None and track.timescale else None
     return [
@@ -232,6 +239,23 @@ def track_text(r):
         noun = "sample" if count == 1 else "samples"
         line("past the end", f"{grouped(count)} {noun}, from sample {grouped(first)} at byte {grouped(place)}")
     return "\n".join(lines) + "\n"
+
+
+def known_text(movie, said):
+    """What is said of the tracks, without the names of languages of Macintosh."""
+    parts = re.split(r"^(?=track )", said, flags=re.MULTILINE)
+    for index, number in enumerate(sorted(movie.tracks), 1):
+        if index < len(parts) and language_of(movie.tracks[number].letters) == UNCOMPARED:
+            parts[index] = re.sub(r"(?<=  language      ).*", UNCOMPARED, parts[index])
+    return "".join(parts)
+
+
+def known_json(movie, document):
+    tracks = document and dict(document).get("tracks")
+    for track, number in zip(tracks or (), sorted(movie.tracks)):
+        if language_of(movie.tracks[number].letters) == UNCOMPARED:
+            track[:] = [(name, UNCOMPARED if name == "language" else said) for name, said in track]
+    return document
 
 
 def text(movie):
