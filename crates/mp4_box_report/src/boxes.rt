@@ -3,7 +3,7 @@
 use crate::walk::{BrokenPlace, FoundBox, Step, Walk};
 use crate::wave::refused_in_wave;
 use mp4_codec::{BoxType, Error, FourCC};
-use mp4_faults::{first_fault_in, reads_child, refusal_of};
+use mp4_faults::{bytes_before_children, first_fault_in, reads_child, refusal_of};
 use mp4_fields::{Field, Listing, fields_of, has_fields};
 use mp4_readable::{Code, Whole, reason_text};
 use mp4_source::{ByteSource, FileError};
@@ -66,12 +66,21 @@ fn is_own_refusal(name: BoxType, error: &Error) -> bool {
     }
 }
 
+/// Whether the fields that a box of this type has before the boxes in it pass its end.
+fn are_fields_cut(name: BoxType, payload: &[u8]) -> bool {
+    match bytes_before_children(name, payload) {
+        Some(fields) => fields > payload.len() as u64,
+        None => true,
+    }
+}
+
 /// What is known of the payload of a box of boxes. Refused by `OutOfMemory` alone.
 fn container_looked_at(alloc: Global, name: BoxType, payload: &[u8]) -> mp4_codec::Result<Looked> {
     let refusal = refusal_of(alloc, name, payload)?;
+    let is_cut = are_fields_cut(name, payload);
     Ok(Looked {
         fields: None,
-        refusal: refusal.filter(|error| is_own_refusal(name, error)),
+        refusal: refusal.filter(|error| is_cut || is_own_refusal(name, error)),
     })
 }
 
