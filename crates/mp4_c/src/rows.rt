@@ -44,8 +44,8 @@ fn last_sync(rows: &[SampleRow], count: usize) -> usize
     k
 }
 
-/// The number of the last row up to number `k` from which decoding can begin; 0 where there is none. The rows are looked
-/// at one by one, from number `k` on backwards.
+/// The number of the last row up to number `k` from which decoding can begin; 0 where there is none. The rows are
+/// looked at one by one, from number `k` on backwards.
 #[unsafe(no_mangle)]
 pub extern "C" fn mp4_c_sync_row_at_or_before(
     rows: &[SampleRow],

@@ -77,7 +77,8 @@ impl<K: Key, V> KeyedItems<K, V> {
         self.items.get(&key)
     }
 
-    /// Holds the value at the key, and drops the one that was held there. Where memory runs out the value itself is dropped.
+    /// Holds the value at the key, and drops the one that was held there. Where memory runs out the value itself is
+    /// dropped.
     pub fn insert(&mut self, key: K, value: V) -> std::result::Result<(), AllocError>
     where
         V: Drop,

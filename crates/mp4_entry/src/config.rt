@@ -66,8 +66,8 @@ fn check_avc(config: &AvcConfig) -> Result<()>
 impl MediaConfig {
     /// Whether an entry of it can be written.
     ///
-    /// `Unrepresentable` for a sequence parameter set of AVC video under 4 bytes, which hasn't its profile and level, or
-    /// over 65,535, then for a picture parameter set over 65,535 bytes; and for a type of sound that isn't 1 to 30,
+    /// `Unrepresentable` for a sequence parameter set of AVC video under 4 bytes, which hasn't its profile and level,
+    /// or over 65,535, then for a picture parameter set over 65,535 bytes; and for a type of sound that isn't 1 to 30,
     /// which has no place in its five bits. Nothing else is refused.
     pub fn check(&self) -> Result<()>
         ensures { Checks result (media_refusal self.now) }

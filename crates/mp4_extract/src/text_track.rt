@@ -231,8 +231,8 @@ impl SubtitleReader {
     ///
     /// `Sample` where the file's tables refuse the sample, where it doesn't lie whole in the file, where its times have
     /// no milliseconds (`ZeroTimescale`, or `TooLarge(Value)` past 64 bits), where its text passes its end or isn't
-    /// encoded as it should be; `Read` where the source refuses a sample that lies in the file; `OutOfMemory` only where
-    /// there is a sample.
+    /// encoded as it should be; `Read` where the source refuses a sample that lies in the file; `OutOfMemory` only
+    /// where there is a sample.
     pub fn next<S: ByteSource + Drop>(
         &mut self,
         file: &mut Mp4File<S>,

@@ -48,9 +48,9 @@ runs_by times time i = nat_le (slice_index times (length times - 1 - i)) time
 abbrev pub in_run_by : PlacedRun → ℕ → ℕ → Bool
 in_run_by p time j = decoded_by time (at_run_sample p.run p.defaults p.at j).time
 
--- So many times are compared for the last sample that is decoded at or before a time, of those whose numbers are below an
--- end: those of a search by halves among the times that are kept of runs; and where a run begins so early, those of one
--- among the samples of the last such run, and one reading more, of how many samples come before it.
+-- So many times are compared for the last sample that is decoded at or before a time, of those whose numbers are below
+-- an end: those of a search by halves among the times that are kept of runs; and where a run begins so early, those of
+-- one among the samples of the last such run, and one reading more, of how many samples come before it.
 pub record IsCountByTime (runs : List PlacedRun) (times : List ℕ) (end time n : ℕ) : Type 0 where
   pub none : ArePartedAt (runs_by times time) (length times) 0 → n ≡ asked_in (runs_by times time) (length times)
   pub some : (r : ℕ) (p : PlacedRun) → ArePartedAt (runs_by times time) (length times) (r + 1)

@@ -83,8 +83,8 @@ fn first_start(at: RunStart) -> RunStart
 
 /// Sample `j` of the run of an entry, if it has so many.
 ///
-/// Where it is the only one it is in the entry: neither its fragment nor its run is looked at, which are three loads, each
-/// after the one before.
+/// Where it is the only one it is in the entry: neither its fragment nor its run is looked at, which are three loads,
+/// each after the one before.
 #[inline(always)]
 fn run_sample_at(
     trafs: &[TrafBox],

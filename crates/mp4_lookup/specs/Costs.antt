@@ -104,17 +104,17 @@ comparisons_of t k =
 abbrev pub times_by : List ℕ → ℕ → ℕ → Bool
 times_by times time i = nat_le (slice_index times i) time
 
--- So many times are compared for the last sample of the movie box that is decoded at or before a time: those of a search
--- by halves among the ticks before each run of stts, and where a run begins so early, one reading more, of how many
--- samples come before it.
+-- So many times are compared for the last sample of the movie box that is decoded at or before a time: those of a
+-- search by halves among the ticks before each run of stts, and where a run begins so early, one reading more, of how
+-- many samples come before it.
 pub record IsCountInTable (times : List ℕ) (time n : ℕ) : Type 0 where
   pub none : ArePartedAt (times_by times time) (length times) 0 → n ≡ asked_in (times_by times time) (length times)
   pub some : (r : ℕ) → ArePartedAt (times_by times time) (length times) (r + 1)
       → n ≡ asked_in (times_by times time) (length times) + 1
   pub few : n ≤ digits (length times) + 1
 
--- So many times are compared for the last sample of a track that is decoded at or before a time: those of its fragments,
--- and where none of them is decoded so early, those of the movie box. The count stops at 2^32 - 1.
+-- So many times are compared for the last sample of a track that is decoded at or before a time: those of its
+-- fragments, and where none of them is decoded so early, those of the movie box. The count stops at 2^32 - 1.
 pub record IsCountByTrackTime (t : Mp4Track) (time n : ℕ) : Type 0 where
   pub added : ℕ
   pub in_runs : IsCountByTime (track_runs t) t.seek.times.latest_first.items

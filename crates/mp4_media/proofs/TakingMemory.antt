@@ -1,5 +1,6 @@
 -- Where memory may be requested when a file is opened: at a box that is read, after boxes without a fault.
-use Rattle.std.proofs.Common.{◌≡◌, ◌∙◌, ◌⊎◌, inl, inr, ℕ, ◌+◌, ◌-◌, ◌≤◌, ◌<◌, List, [], ◌∷◌, ◌++◌, length, Option, Some, None, Ok, Err}
+use Rattle.std.proofs.Common.{◌≡◌, ◌∙◌, ◌⊎◌, inl, inr, ℕ, ◌+◌, ◌-◌, ◌≤◌, ◌<◌, List, [], ◌∷◌, ◌++◌, length, Option, Some}
+use Rattle.std.proofs.Common.{None, Ok, Err}
 use Rattle.std.proofs.Common.{refl, sym, ap, subst, arith}
 use Rattle.mp4_codec.specs.Cause.{◌>>=◌}
 use Rattle.mp4_codec.specs.Cursor.{Cursor, here, header_at}

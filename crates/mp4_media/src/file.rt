@@ -205,12 +205,12 @@ impl<S: ByteSource + Drop> Mp4File<S> {
         Ok(Some(place))
     }
 
-    /// The bytes of a sample whose place is known, as those of a track's [`samples`](mp4_lookup::Mp4Track::samples) are,
-    /// read into the buffer, over what it held. The buffer grows where it has no room for them, and holds any bytes after
-    /// an error. No table is looked at.
+    /// The bytes of a sample whose place is known, as those of a track's [`samples`](mp4_lookup::Mp4Track::samples)
+    /// are, read into the buffer, over what it held. The buffer grows where it has no room for them, and holds any
+    /// bytes after an error. No table is looked at.
     ///
-    /// `EndOfData` where they don't lie whole within the source, and `OutOfMemory` only where they do and the buffer has
-    /// no room for them. `Io` where the source refuses to read them.
+    /// `EndOfData` where they don't lie whole within the source, and `OutOfMemory` only where they do and the buffer
+    /// has no room for them. `Io` where the source refuses to read them.
     pub fn read_place_into(
         &mut self,
         place: Place,

@@ -35,8 +35,8 @@ const MDIR: u32 = 0x6d646972;
 ///
 /// Four zero bytes and then the children, or, as QuickTime writes it, the children alone, of which the first is `hdlr`.
 /// A payload below four bytes is `InvalidData`, and one of neither form `UnsupportedBoxVersion(MetaBox, v)`, where v is
-/// its first byte. The first refused `hdlr` in file order is the next answer, then `InvalidData` for a broken tail, then
-/// `BoxNotFound(HdlrBox)`, then, with handler `mdir` alone, the first refused `ilst`.
+/// its first byte. The first refused `hdlr` in file order is the next answer, then `InvalidData` for a broken tail,
+/// then `BoxNotFound(HdlrBox)`, then, with handler `mdir` alone, the first refused `ilst`.
 #[derive(Debug, PartialEq, Eq, Drop)]
 pub enum MetaBox {
     /// Metadata of handler `mdir`, as iTunes writes it. It is written with a default `hdlr` of that handler type.

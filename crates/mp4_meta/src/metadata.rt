@@ -22,13 +22,14 @@ pub trait Metadata {
     // What is held at each key.
     ghost held: { Self → List (Option IlstItemBox) };
 
-    /// The title, whatever its data type: each maximal piece that is not UTF-8 is U+FFFD. Only `OutOfMemory` is refused.
+    /// The title, whatever its data type: each maximal piece that is not UTF-8 is U+FFFD. Only `OutOfMemory` is
+    /// refused.
     fn title(&self) -> Result<Option<CowStr<'_, Global>>>
         ensures { Answers (option_map cow_str_bytes) result (Ok (title_of (held self.now))) };
 
-    /// The year of release. A value of data type `Binary` of four bytes is their big-endian number. A value of data type
-    /// `Text` of a plus, which may be missing, and one or more ASCII digits is their number, where it has 32 bits. Of all
-    /// other values there is none.
+    /// The year of release. A value of data type `Binary` of four bytes is their big-endian number. A value of data
+    /// type `Text` of a plus, which may be missing, and one or more ASCII digits is their number, where it has 32 bits.
+    /// Of all other values there is none.
     fn year(&self) -> Option<u32>
         ensures { result ≡ year_of (held self.now) };
 

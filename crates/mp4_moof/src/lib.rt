@@ -1,5 +1,5 @@
-//! The boxes of movie fragments (ISO/IEC 14496-12, 8.8): `moof`, `traf`, `mvex` of the movie box and the leaves in them, and the
-//! event message (ISO/IEC 23009-1, 5.10.3).
+//! The boxes of movie fragments (ISO/IEC 14496-12, 8.8): `moof`, `traf`, `mvex` of the movie box and the leaves in
+//! them, and the event message (ISO/IEC 23009-1, 5.10.3).
 #![tactic(auto)]
 
 mod emsg;

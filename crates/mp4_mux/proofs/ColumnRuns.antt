@@ -1,5 +1,6 @@
 -- The runs of the values of a column, run after run, and what other tables say of them.
-use Rattle.std.proofs.Common.{◌≡◌, ℕ, zero, suc, ◌+◌, ◌<◌, ◌≤◌, Bool, true, false, not, cond, List, [], ◌∷◌, ◌++◌, length}
+use Rattle.std.proofs.Common.{◌≡◌, ℕ, zero, suc, ◌+◌, ◌<◌, ◌≤◌, Bool, true, false, not, cond, List, [], ◌∷◌, ◌++◌}
+use Rattle.std.proofs.Common.{length}
 use Rattle.std.proofs.Common.{replicate, get_or, drop, fold, max, refl, sym, ap, ◌∙◌, append_assoc, arith, ◌==◌, eq-eqb}
 use Rattle.std.specs.List.{list_all, count_by}
 use Rattle.std.proofs.lemmas.List.{drop_more, drop_all, nil_from_length, append-nil, length-append, length-replicate}

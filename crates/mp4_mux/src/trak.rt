@@ -79,8 +79,8 @@ fn chunk_tables(
     Ok((stsc, stco, co64))
 }
 
-/// Both, or the first refusal. It is proved once, for any types: a function that owns tables at an end is slow to prove,
-/// since each of them is taken apart there.
+/// Both, or the first refusal. It is proved once, for any types: a function that owns tables at an end is slow to
+/// prove, since each of them is taken apart there.
 fn both<A: Drop, B: Drop>(first: Result<A>, second: Result<B>) -> Result<(A, B)>
     ensures { (a : A) (b : B) → Answers (λ x. x) first (Ok a) → Answers (λ x. x) second (Ok b)
         → Answers (λ x. x) result (Ok (a, b)) }

@@ -141,8 +141,8 @@ impl<'a, R: Files> NewFile<'a, R> {
         }
     }
 
-    /// Gives the file its name where all of it is written, else removes it; what it was written to must be closed. It is
-    /// an error where it can't get its name; then it is removed.
+    /// Gives the file its name where all of it is written, else removes it; what it was written to must be closed. It
+    /// is an error where it can't get its name; then it is removed.
     pub fn finish(self, is_whole: bool) -> io::Result<()> {
         let NewFile { rt, place } = self;
         match place {

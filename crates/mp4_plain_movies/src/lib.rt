@@ -1,5 +1,5 @@
-//! What tests compare with: calls of a writer as plain data, the movie that they make and tables of tracks encoded byte by
-//! byte, without the library's boxes; bytes encoded as text, boxes that are no box of a file, numbers at random, and
+//! What tests compare with: calls of a writer as plain data, the movie that they make and tables of tracks encoded byte
+//! by byte, without the library's boxes; bytes encoded as text, boxes that are no box of a file, numbers at random, and
 //! whether values are equal. Nothing here knows the writer, the lookup or the reader.
 #![tactic(auto)]
 

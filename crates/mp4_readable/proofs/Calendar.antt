@@ -2,7 +2,8 @@
 use Rattle.std.proofs.Common.{◌≡◌, ℕ, ◌+◌, ◌-◌, ◌*◌, ◌/◌, ◌^◌, ◌<◌, ◌≤◌, zero, suc, ◌⊎◌, true, refl, sym, arith}
 use Rattle.std.proofs.lemmas.Bool.Decides.{nat_tests}
 use Rattle.mp4_readable.specs.declared.date.MarchDay.{MarchDay}
-use Rattle.mp4_readable.specs.Calendar.{days_of_february, days_of_march_years, days_of_month, days_of_months, days_of_year, days_of_years}
+use Rattle.mp4_readable.specs.Calendar.{days_of_february, days_of_march_years, days_of_month, days_of_months}
+use Rattle.mp4_readable.specs.Calendar.{days_of_year, days_of_years}
 use Rattle.mp4_readable.specs.Calendar.{IsDayAfter, IsMarchDayAfter, is_leap_year}
 
 -- the days of so many years that begin in March, in closed form

@@ -72,7 +72,8 @@ goes_on [] more (line ∷ lines) kept is = absurd (omega (arith, ap length is, l
 goes_on (byte ∷ text) more lines kept is =
     one_byte_more byte text more (goes_on text more) (is_feed byte) refl lines kept is
 
--- The lines of a text that goes on are those that end in it, and then those of what is after the last line feed and the rest.
+-- The lines of a text that goes on are those that end in it, and then those of what is after the last line feed and the
+-- rest.
 pub lines_go_on : (text more : List ℕ) (lines : List (List ℕ)) (kept : List ℕ) → lines_of text ≡ lines ++ kept ∷ []
     → lines_of (text ++ more) ≡ lines ++ lines_of (kept ++ more)
 unfolding lines_of

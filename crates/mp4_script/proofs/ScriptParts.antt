@@ -12,7 +12,8 @@ use Rattle.mp4_media.specs.declared.write_error.WriteError.{WriteError}
 use Rattle.mp4_media.specs.declared.write_error.WriteError.TheVariants.{Mp4, Io, Failed}
 use Rattle.mp4_media.proofs.WritingToSinks.{counted_whole, known_whole}
 use Rattle.mp4_script.specs.Lines.{lines_of}
-use Rattle.mp4_script.specs.Script.{ScriptCause, script_cause_of, at_end, line_step, run_from, run_all, ended_movie, RanOutAt}
+use Rattle.mp4_script.specs.Script.{ScriptCause, script_cause_of, at_end, line_step, run_from, run_all, ended_movie}
+use Rattle.mp4_script.specs.Script.{RanOutAt}
 use Rattle.mp4_script.specs.Script.{◌>>=◌}
 use Rattle.mp4_script.specs.ScriptSink.{AnswersInSink, MayRefuse, IsToldAs, IsToldIn, next_number, IsAfter, IsReached}
 use Rattle.mp4_script.specs.ScriptSink.{IsFirstFault, IsFirstRefusal, IsEndRefusal, AnswersPart, AnswersEnd}

@@ -18,8 +18,8 @@ use Rattle.mp4_script.specs.declared.script_writer.ScriptWriteFault.TheVariants.
 abbrev pub MayRefuse : Bool → ℕ → Type 0
 MayRefuse can_refuse len = len < 2 ^ 63 → IsTrue can_refuse
 
--- After a line the writer may have the state that the answer says; or it is refused so, or memory ran out in the way that
--- is given; or the line is at no fault, and the sink refused, which it may here.
+-- After a line the writer may have the state that the answer says; or it is refused so, or memory ran out in the way
+-- that is given; or the line is at no fault, and the sink refused, which it may here.
 abbrev pub AnswersInSink : {X : Type 0} → (ScriptFault → Type 0) → Type 0 → KeptMovie
     → Result X ScriptWriteFault → Result WriterState ScriptCause → Type 0
 AnswersInSink ran_out Refuses after (Ok x) answer = (next : WriterState) × (answer ≡ Ok next) × (MayHold after next)
@@ -103,8 +103,8 @@ pub record IsEndRefusal (script : List ℕ) (begun : WriterState) (can_refuse : 
   pub no_fault : end_cause next ≡ None
   pub may_refuse : MayRefuse can_refuse (length (whole_of next))
 
--- What the end of a script is answered: the sink has the movie's bytes, where these are known, and as many; or the movie's
--- fault is told, or memory ran out, or the sink refused.
+-- What the end of a script is answered: the sink has the movie's bytes, where these are known, and as many; or the
+-- movie's fault is told, or memory ran out, or the sink refused.
 abbrev pub AnswersEnd : {S : Type 0} → List ℕ → WriterState → (S → Option (List ℕ)) → (S → ℕ) → Bool
     → Result S ScriptWriteFault → Type 0
 AnswersEnd script begun contents len can_refuse (Ok sink) =

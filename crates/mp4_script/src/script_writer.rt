@@ -165,8 +165,8 @@ impl<S: ByteSink + Drop> ScriptWriter<S> {
     }
 
     /// Runs the lines that end in the next part of the script, and keeps the beginning of the next line. The first line
-    /// at fault is the answer, as [`crate::run_script`] says; `Sink` where the sink refuses. After either, nothing is said
-    /// of a later call.
+    /// at fault is the answer, as [`crate::run_script`] says; `Sink` where the sink refuses. After either, nothing is
+    /// said of a later call.
     pub fn write(&mut self, part: &[u8]) -> Result<(), ScriptWriteFault>
         ensures answer { (script : List ℕ) (st : WriterState)
             → IsAfter script st self.old.writer self.old.lines self.old.line.items

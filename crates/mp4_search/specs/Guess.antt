@@ -1,5 +1,5 @@
--- Where a search by a guess begins: on the straight line from the first to the last of some numbers that rise, where they
--- lie near it.
+-- Where a search by a guess begins: on the straight line from the first to the last of some numbers that rise, where
+-- they lie near it.
 use Rattle.std.specs.Prelude.{ℕ, zero, suc, ◌+◌, ◌-◌, ◌*◌, ◌/◌, ◌%◌, ◌^◌, ◌==◌, nat_le, nat_lt, min, max, List, length}
 use Rattle.std.specs.Prelude.{Bool, if◌then◌else◌, slice_index, Option, Some, None, option_map}
 use Rattle.mp4_search.specs.Digits.{digits}

@@ -1,5 +1,6 @@
 -- Search among indexes of which the first have something that all others lack.
-use Rattle.std.specs.Prelude.{◌≡◌, ℕ, zero, suc, ◌+◌, ◌-◌, ◌/◌, ◌<◌, ◌≤◌, nat_lt, Bool, true, false, Option, MatchOption}
+use Rattle.std.specs.Prelude.{◌≡◌, ℕ, zero, suc, ◌+◌, ◌-◌, ◌/◌, ◌<◌, ◌≤◌, nat_lt, Bool, true, false, Option}
+use Rattle.std.specs.Prelude.{MatchOption}
 use Rattle.std.specs.Prelude.{if◌then◌else◌}
 
 -- of the first n indexes, those before one that has it have it too

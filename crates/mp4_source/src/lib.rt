@@ -1,5 +1,5 @@
-//! Where the bytes of an MP4 file are read from: memory, or a file of any size through a window of fixed size. And where
-//! they are written to: memory, or a file of any size through a buffer of fixed size.
+//! Where the bytes of an MP4 file are read from: memory, or a file of any size through a window of fixed size. And
+//! where they are written to: memory, or a file of any size through a buffer of fixed size.
 #![tactic(auto)]
 
 mod block;

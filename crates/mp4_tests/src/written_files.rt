@@ -61,8 +61,8 @@ fn bytes_of(mut sink: FileSink) -> std::result::Result<Vec<u8>, SinkError> {
     Ok(sink.into_inner().into_inner())
 }
 
-/// Makes the calls of a list and mostly an end of a writer to a file and of the model. Whether all answers and the bytes
-/// are alike.
+/// Makes the calls of a list and mostly an end of a writer to a file and of the model. Whether all answers and the
+/// bytes are alike.
 fn list_is_alike(alloc: Global, pool: &[u8], seed: u64) -> std::result::Result<bool, WriteError> {
     let mut random = Random::new(seed);
     let habits = Habits::new(pool, &mut random);
