@@ -222,7 +222,7 @@ start_is_told P cause none e fault told refuses =
     by Failed (Script f) told never = absurd told
     by Failed (Sink x) told never = absurd never
 
--- memory ran out in the call of a line, or for the line
+-- out of memory in the call of a line, or for the line
 pub as_memory : {X : Type 0} (number : ℕ) (line : List ℕ) (P : Type 0) (after : KeptMovie)
     (result : Result X ScriptWriteFault) (answer : Result WriterState ScriptCause)
     → AnswersInSink (RanOutAt number line) P after result answer
@@ -308,7 +308,7 @@ module _ (script : List ℕ) (begun : WriterState) (writer : KeptMovie) (count :
           by None e = tt
           by (Some bytes) e = known_whole ended (with_end next) bytes may (sym e)
 
-      -- where it isn't, its cause is told, or the sink refused
+      -- where it isn't, its cause is the answer, or the sink refused
       pub end_is_told : {S : Type 0} (contents : S → Option (List ℕ)) (len : S → ℕ) (last : KeptMovie)
           → MayHold last next → last.media.can_refuse ≡ writer.media.can_refuse → (e : WriteError)
           (fault : ScriptWriteFault) → IsToldAs (λ e. End e) e fault

@@ -18,7 +18,7 @@ use Rattle.mp4_script.specs.declared.script_writer.ScriptWriteFault.TheVariants.
 abbrev pub MayRefuse : Bool → ℕ → Type 0
 MayRefuse can_refuse len = len < 2 ^ 63 → IsTrue can_refuse
 
--- After a line the writer may have the state that the answer says; or it is refused so, or memory ran out in the way
+-- After a line the writer may have the state that the answer says; or it is refused so, or it is out of memory in the way
 -- that is given; or the line is at no fault, and the sink refused, which it may here.
 abbrev pub AnswersInSink : {X : Type 0} → (ScriptFault → Type 0) → Type 0 → KeptMovie
     → Result X ScriptWriteFault → Result WriterState ScriptCause → Type 0
@@ -26,7 +26,7 @@ AnswersInSink ran_out Refuses after (Ok x) answer = (next : WriterState) × (ans
 AnswersInSink ran_out Refuses after (Err (Script fault)) answer = ran_out fault ⊎ (answer ≡ Err (script_cause_of fault))
 AnswersInSink ran_out Refuses after (Err (Sink e)) answer = Refuses × ((next : WriterState) × (answer ≡ Ok next))
 
--- a writer's error, told as a script's; one of the sink stays one
+-- a writer's error as that of a script; one of the sink stays one
 abbrev pub IsToldAs : (Error → ScriptFault) → WriteError → ScriptWriteFault → Type 0
 IsToldAs tell (Mp4 e) (Script fault) = fault ≡ tell e
 IsToldAs tell (Mp4 e) (Sink refused) = ⊥
@@ -64,7 +64,7 @@ pub record IsReached (script : List ℕ) (begun : WriterState) (number : ℕ) (l
   pub counted : number ≡ length before + 1
   pub others : more ≡ length after
 
--- A line of a script is at fault, of which so much was written: memory ran out, or it has a line feed and is refused.
+-- A line of a script is at fault, of which so much was written: out of memory, or it has a line feed and is refused.
 pub record IsFirstFault (script : List ℕ) (begun : WriterState) (fault : ScriptFault) : Type 0 where
   pub number : ℕ
   pub line : List ℕ
@@ -92,7 +92,7 @@ AnswersPart script begun writer count kept (Ok x) = IsAfter script begun writer 
 AnswersPart script begun writer count kept (Err e) =
     IsToldIn e (IsFirstFault script begun) (IsFirstRefusal script begun writer.media.can_refuse)
 
--- memory ran out at a line, or where the movie was ended
+-- out of memory at a line, or where the movie was ended
 abbrev pub RanOutOfMemory : ScriptFault → Type 0
 RanOutOfMemory fault = (fault ≡ End OutOfMemory) ⊎ ((number : ℕ) × (fault ≡ Refused number OutOfMemory))
 
@@ -104,7 +104,7 @@ pub record IsEndRefusal (script : List ℕ) (begun : WriterState) (can_refuse : 
   pub may_refuse : MayRefuse can_refuse (length (whole_of next))
 
 -- What the end of a script is answered: the sink has the movie's bytes, where these are known, and as many; or the
--- movie's fault is told, or memory ran out, or the sink refused.
+-- movie's fault is the answer, or out of memory, or the sink refused.
 abbrev pub AnswersEnd : {S : Type 0} → List ℕ → WriterState → (S → Option (List ℕ)) → (S → ℕ) → Bool
     → Result S ScriptWriteFault → Type 0
 AnswersEnd script begun contents len can_refuse (Ok sink) =

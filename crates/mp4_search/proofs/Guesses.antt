@@ -1,5 +1,6 @@
 -- Whether numbers lie near a line, place after place, and how many numbers a search by it compares.
-use Rattle.std.proofs.Common.{◌≡◌, ℕ, zero, suc, ◌+◌, ◌-◌, ◌<◌, ◌≤◌, List, length, true, false, refl, sym, arith}
+use Rattle.std.proofs.Common.{◌≡◌, ◌∙◌, ℕ, zero, suc, ◌+◌, ◌-◌, ◌/◌, ◌<◌, ◌≤◌, List, length, true, false, refl, sym, ap}
+use Rattle.std.proofs.Common.{arith}
 use Rattle.std.specs.Prelude.{Some, None}
 use Rattle.std.proofs.lemmas.Bool.{le-leb, lt-leb}
 use Rattle.mp4_search.specs.Guess.{expected_in, is_near, line_of, spread_place, strays, strays_among}
@@ -33,15 +34,22 @@ strays_grow line numbers (suc more) n =
     let e : suc more + n ≡ suc (more + n) = omega arith in
     rw e (omega (arith, strays_grow line numbers more n))
 
--- where two stray, they aren't near at more places
+-- where one more strays than a quarter of all, they aren't near
 pub far_from : (line : Line) (numbers : List ℕ) (n count place : ℕ) → n < count
     → place ≡ spread_place (length numbers) (n + 1) → strays line numbers place ≡ true
-    → strays_among line numbers n ≡ 1 → is_near line numbers count ≡ false
-far_from line numbers n count place h e k one =
+    → strays_among line numbers n ≡ count / 4 → is_near line numbers count ≡ false
+far_from line numbers n count place h e k quarter =
     let parts : count - (n + 1) + (n + 1) ≡ count = omega (arith, h) in
     let grown : strays_among line numbers (n + 1) ≤ strays_among line numbers count =
     rw (sym parts) (strays_grow line numbers (count - (n + 1)) (n + 1)) in
-    lt-leb _ 1 (omega (arith, grown, one_more line numbers n place e k, one))
+    lt-leb _ (count / 4) (omega (arith, grown, one_more line numbers n place e k, quarter))
+
+-- where no more than a quarter of all stray, they are
+pub near_to : (line : Line) (numbers : List ℕ) (n count few : ℕ) → n ≡ count → strays_among line numbers n ≡ few
+    → few ≤ count / 4 → is_near line numbers count ≡ true
+near_to line numbers n count few whole is le =
+    let same : strays_among line numbers count ≡ few = ap (λ (k : ℕ). strays_among line numbers k) (sym whole) ∙ is in
+    le-leb _ (count / 4) (omega (arith, same, le))
 
 -- few numbers have no line
 few_none : (numbers : List ℕ) → length numbers ≤ 7 → line_of numbers ≡ None

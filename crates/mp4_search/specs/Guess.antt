@@ -45,12 +45,12 @@ strays_among line numbers zero = 0
 strays_among line numbers (suc n) =
     strays_among line numbers n + (if strays line numbers (spread_place (length numbers) (suc n)) then 1 else 0)
 
--- whether they lie near it at all but one of them
+-- whether they lie near it at all but a quarter of them
 abbrev pub is_near : Line → List ℕ → ℕ → Bool
-is_near line numbers n = nat_le (strays_among line numbers n) 1
+is_near line numbers n = nat_le (strays_among line numbers n) (n / 4)
 
--- The line from the first to the last, where the numbers are more than seven, and lie near it at all but one of about
--- as many places as the root of how many they are.
+-- The line from the first to the last, where the numbers are more than seven, and lie near it at all but a quarter of
+-- about as many places as the root of how many they are.
 unfoldable pub line_of : List ℕ → Option Line
 line_of numbers =
     if nat_le (length numbers) 7 then None else

@@ -70,22 +70,22 @@ impl Line {
         Line { first, places }
     }
 
-    /// Whether the numbers lie near the line at all but one of so many places, spread over all. Where a single one is
-    /// far from it, as one long sample among many alike makes it, most guesses are good all the same.
+    /// Whether the numbers lie near the line at three quarters at least of so many places, spread over all. Where some
+    /// are far from it, as long samples among many alike make them, most guesses are good all the same.
     fn is_near(self, numbers: &[u32], count: u32) -> bool
         requires some { 0 < length numbers.now }
         requires small { self.places ≤ 2 ^ 32 + 1 }
         ensures { result ≡ is_near self numbers.now count }
     {
         let mut looked = 0;
-        let mut has_strayed = false;
+        let mut strayed = 0;
         while looked < count {
             looked += 1;
             if self.strays(numbers, place_at(numbers.len(), looked.wrapping_mul(STEP))) {
-                if has_strayed {
+                if strayed == count / 4 {
                     return false;
                 }
-                has_strayed = true;
+                strayed += 1;
             }
         }
         true

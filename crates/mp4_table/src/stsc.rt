@@ -143,7 +143,9 @@ fn check_runs(fields: &mut Fields, count: u32) -> Result<()>
 {
     let mut before: Option<StscEntry> = None;
     for _ in 0..count {
-        let entry = StscEntry::read(fields, 0)?;
+        let Ok(entry) = StscEntry::read(fields, 0) else {
+            return Err(Error::InvalidData("a list passes the end"));
+        };
         let first_sample = first_sample_after(before, entry.first_chunk)?;
         before = Some(StscEntry {
             first_sample,
