@@ -1,12 +1,11 @@
 -- Runs of chunks, numbered one after the other as a loop does, without a list of them.
-use Rattle.std.proofs.Common.{◌≡◌, ℕ, zero, suc, ◌+◌, ◌-◌, ◌*◌, ◌^◌, ◌<◌, ◌≤◌, Bool, true, false, cond, ltb, List}
-use Rattle.std.proofs.Common.{[], ◌∷◌}
+use Rattle.std.proofs.Common.{◌≡◌, ℕ, suc, ◌+◌, ◌-◌, ◌*◌, ◌^◌, ◌<◌, ◌≤◌, Bool, true, false, cond, ltb, List}
+use Rattle.std.proofs.Common.{◌∷◌}
 use Rattle.std.proofs.Common.{Option, Some, None, Result, Ok, Err, refl, sym, ap, ◌∙◌, arith}
 use Rattle.mp4_codec.specs.Cause.{Cause, invalid_data, ◌>>=◌, fault_of}
 use Rattle.mp4_codec.specs.Bytes.{list_at}
 use Rattle.mp4_codec.specs.Blocks.{block-is_block, is_block-has_length}
 use Rattle.mp4_codec.specs.FieldLaws.{list-refuses}
-use Rattle.mp4_codec.specs.Early.{takes_memory, refused_at_once}
 use Rattle.mp4_codec.proofs.EarlyLaws.{fault-is, no_fault-early}
 use Rattle.mp4_table.specs.declared.stsc.StscEntry.{StscEntry}
 use Rattle.mp4_table.specs.Stsc.{with_first_sample, stsc_entry_in, stsc_entry_at, first_sample_after}

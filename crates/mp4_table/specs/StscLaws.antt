@@ -7,7 +7,7 @@ use Rattle.std.proofs.lemmas.Bool.{le-ltb, ltb-false}
 use Rattle.std.proofs.lemmas.List.Concat.{flat_map-cons}
 use Rattle.std.proofs.lemmas.List.{length-map, drop-drop}
 use Rattle.mp4_codec.specs.Cause.{Cause, invalid_data, ◌>>=◌}
-use Rattle.mp4_codec.specs.Bytes.{number, ◌⧺◌}
+use Rattle.mp4_codec.specs.Bytes.{◌⧺◌}
 use Rattle.mp4_codec.specs.FieldLaws.{block_again, take-number, drop-number, number_back}
 use Rattle.mp4_codec.specs.FieldLaws.{length-number, length-then}
 use Rattle.mp4_codec.specs.Steps.{ok_is, both_steps}
