@@ -146,6 +146,18 @@ impl<S: ByteSource + Drop> Mp4File<S> {
         source
     }
 
+    /// The source and the movie.
+    pub fn into_parts(self) -> (S, Movie)
+        ensures { result ≡ (self.source, self.movie) }
+    {
+        let Mp4File {
+            source,
+            len: _,
+            movie,
+        } = self;
+        (source, movie)
+    }
+
     /// How many bytes the source had when the file was opened.
     pub fn source_len(&self) -> u64
         ensures len { result ≡ self.now.len }

@@ -228,9 +228,13 @@ impl Movie {
             .ok_or(Error::TrakNotFound(track_id))
     }
 
-    /// Where sample `k` of the track with this id lies; `TrakNotFound` where there is no such track.
+    /// Where sample `k` of the track with this id lies, in bytes from the file's first one, and when it is decoded and
+    /// shown, in ticks of the track's timescale; samples are numbered from 1. Whether it lies whole in the file isn't
+    /// asked.
+    ///
+    /// `TrakNotFound` where there is no such track, then the errors of [`Mp4Track::locate_by_guess`].
     #[tactic(auto, unfolding(crate::specs::Reading::located_in))]
-    pub(crate) fn place(&self, track_id: u32, k: u32) -> Result<Option<SamplePlace>>
+    pub fn place(&self, track_id: u32, k: u32) -> Result<Option<SamplePlace>>
         ensures { Gives (λ p. option_map place_of p) result (located_in self.now.tracks track_id k) }
     {
         self.track(track_id)?.locate_by_guess(k)
