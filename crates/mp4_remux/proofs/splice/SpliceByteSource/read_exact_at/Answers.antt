@@ -1,0 +1,62 @@
+use Rattle.std.proofs.Common.{◌+◌, ◌-◌, ◌≤◌, length, take, drop, subst, refl, sym, arith, ap, ◌∙◌, rules}
+use Rattle.mp4_source.specs.Answers.{IsLength}
+use Rattle.mp4_remux.specs.Splice.{Follow}
+use Rattle.mp4_remux.proofs.Pieces.{past_end, length_kept, more_bytes, all_bytes}
+use Rattle.mp4_remux.proofs.splice.SpliceByteSource.read_exact_at.Goals.{then-place-self-via-then-place-self}
+use Rattle.mp4_remux.proofs.splice.SpliceByteSource.read_exact_at.Goals.{then-place-self-via-else-place-self+then-self-place}
+use Rattle.mp4_remux.proofs.splice.SpliceByteSource.read_exact_at.Goals as goal
+
+pub returns-then-place-self-clause-err : goal.returns-then-place-self-clause-err
+returns-then-place-self-clause-err g c =
+    let s = c.args.self.now in
+    past_end (g.S.ByteSource.contents s.source) s.made.items s.pieces.items s.source_len s.len c.args.place
+    (length c.args.buf.now) (g.S.ByteSource.can_refuse s.source) s.measured s.follow
+    (elim c.then-place-self.branch [
+      then-place-self-via-then-place-self w ↦ omega (arith, w.if-place-self.true)
+      | then-place-self-via-else-place-self+then-self-place w ↦
+        omega (arith, w.if-place-self.false, w.if-self-place.true)
+    ])
+
+pub loop-filled-preserved : goal.loop-filled-preserved
+loop-filled-preserved g c = record {
+  room =
+      let fits : c.loop-filled.filled + c.min-count.result ≤ length c.loop-filled.buf =
+      omega (arith, c.min-count.ensures, c.loop-filled.invariant.room) in
+      let kept = length_kept c.loop-filled.filled c.min-count.result c.loop-filled.buf c.read_piece.new.part fits
+      (omega (arith, c.read_piece.auto.part)) in
+      omega (arith, kept, c.loop-filled.invariant.room);
+  whole = refl;
+  upto = omega (arith, c.min-count.ensures);
+  place = refl;
+  within = c.loop-filled.invariant.within;
+  len = c.loop-filled.invariant.len;
+  source_len = c.loop-filled.invariant.source_len;
+  made = c.loop-filled.invariant.made;
+  pieces = c.loop-filled.invariant.pieces;
+  contents = c.read_piece.ensures.contents ∙ c.loop-filled.invariant.contents;
+  can_refuse = c.read_piece.ensures.can_refuse ∙ c.loop-filled.invariant.can_refuse;
+  bytes =
+      let s = c.args.self.now in
+      let p = c.piece_at-skipped.result.0 in
+      let skipped = c.piece_at-skipped.result.1 in
+      let filled = c.loop-filled.filled in
+      let count = c.min-count.result in
+      more_bytes (g.S.ByteSource.contents s.source) s.made.items s.pieces.items s.source_len s.len c.args.place filled
+      count (filled + count - filled)
+      (length (take (filled + count - filled) (drop filled c.loop-filled.buf))) p skipped c.loop-filled.buf c.read_piece.new.part s.measured
+      (rw (c.loop-filled.invariant.source_len, c.loop-filled.invariant.made, c.loop-filled.invariant.pieces)
+      at c.piece_at-skipped.ensures)
+      (omega (arith, c.min-count.ensures, c.piece_at-skipped.ensures.inside))
+      (omega (arith, c.loop-filled.invariant.upto, c.loop-filled.invariant.room))
+      (omega (arith, c.read_piece.auto.part)) (omega (arith, c.read_piece.auto.part))
+      (rw (c.loop-filled.invariant.contents, c.deref.ensures.value, c.loop-filled.invariant.made)
+      at c.in_ok-read_piece.ensures.value)
+      c.loop-filled.invariant.bytes;
+}
+
+pub returns-clause-value : goal.returns-clause-value
+returns-clause-value g c =
+    let s = c.args.self.now in
+    all_bytes (g.S.ByteSource.contents s.source) s.made.items s.pieces.items s.source_len s.len c.args.place
+    c.loop-filled.filled (length c.args.buf.now) c.loop-filled.buf s.measured s.follow c.loop-filled.invariant.within
+    c.loop-filled.invariant.room (omega (arith, c.loop-filled.invariant.upto)) c.loop-filled.invariant.bytes

@@ -1,0 +1,56 @@
+-- The bytes of a source in pieces, with others between them.
+use Rattle.std.specs.Prelude.{◌≡◌, ◌+◌, ◌≤◌, ◌<◌, ℕ, List, [], ◌∷◌, length, take, drop, Option, Some, None}
+use Rattle.std.specs.List.{flat_map}
+use Rattle.std.proofs.Props.{props}
+use mathlib.Core.HLevel.{×_prop}
+use Rattle.mp4_remux.specs.declared.piece.Origin.{Origin}
+use Rattle.mp4_remux.specs.declared.piece.Origin.TheVariants.{Kept, Made}
+use Rattle.mp4_remux.specs.declared.piece.Piece.{Piece}
+
+-- of the two it is the one that the piece is of
+abbrev pub of_origin : {A : Type 0} → Origin → A → A → A
+of_origin Kept source made = source
+of_origin Made source made = made
+
+-- the bytes of a piece
+abbrev pub piece_bytes : List ℕ → List ℕ → Piece → List ℕ
+piece_bytes source made p = take p.len (drop p.place (of_origin p.origin source made))
+
+-- the bytes of pieces, one after the other
+unfoldable pub spliced : List ℕ → List ℕ → List Piece → List ℕ
+spliced source made pieces = flat_map (piece_bytes source made) pieces
+
+-- Pieces follow each other from a place of the splice to another: each begins where the one before ends, has a byte, and
+-- lies whole in what it is of, the source or the bytes that were made, which have so many bytes.
+unfoldable pub Follow : ℕ → ℕ → ℕ → List Piece → ℕ → Type 0
+Follow source_len made_len start [] end = end ≡ start
+Follow source_len made_len start (p ∷ ps) end =
+    (p.at ≡ start) × ((0 < p.len) × ((p.place + p.len ≤ of_origin p.origin source_len made_len)
+    × Follow source_len made_len (start + p.len) ps end))
+
+-- A place of the splice is in this piece, after so many bytes of it; so the bytes from there on are the piece's.
+pub record IsPieceAt (source_len made_len : ℕ) (pieces : List Piece) (place : ℕ) (p : Piece) (skipped : ℕ) : Type 0
+    where
+  pub there : p.at + skipped ≡ place
+  pub inside : skipped < p.len
+  pub within : p.place + p.len ≤ of_origin p.origin source_len made_len
+  pub bytes : (source made : List ℕ) (n : ℕ) → length source ≡ source_len → length made ≡ made_len
+      → skipped + n ≤ p.len → take n (drop place (spliced source made pieces))
+      ≡ take n (drop (p.place + skipped) (of_origin p.origin source made))
+
+-- The n bytes of the splice from this place on are those of the source from another on.
+pub record IsOriginOf (source_len made_len : ℕ) (pieces : List Piece) (made : List ℕ) (place n origin : ℕ) : Type 0
+    where
+  pub within : origin + n ≤ source_len
+  pub bytes : (source : List ℕ) → length source ≡ source_len → length made ≡ made_len
+      → take n (drop place (spliced source made pieces)) ≡ take n (drop origin source)
+
+pub Follow-prop : (source_len made_len start : ℕ) (pieces : List Piece) (end : ℕ)
+    → IsProp (Follow source_len made_len start pieces end)
+unfolding Follow
+Follow-prop source_len made_len start [] end = hlevel props
+Follow-prop source_len made_len start (p ∷ ps) end =
+    let there : IsProp (p.at ≡ start) = hlevel props in
+    let some : IsProp (0 < p.len) = hlevel props in
+    let within : IsProp (p.place + p.len ≤ of_origin p.origin source_len made_len) = hlevel props in
+    ×_prop there (×_prop some (×_prop within (Follow-prop source_len made_len (start + p.len) ps end)))
