@@ -1,5 +1,5 @@
 -- The bytes of a source in pieces, with others between them.
-use Rattle.std.specs.Prelude.{◌≡◌, ◌+◌, ◌≤◌, ◌<◌, ℕ, List, [], ◌∷◌, length, take, drop, Option, Some, None}
+use Rattle.std.specs.Prelude.{◌≡◌, ◌+◌, ◌≤◌, ◌<◌, ℕ, List, [], ◌∷◌, length, take, drop}
 use Rattle.std.specs.List.{flat_map}
 use Rattle.std.proofs.Props.{props}
 use mathlib.Core.HLevel.{×_prop}

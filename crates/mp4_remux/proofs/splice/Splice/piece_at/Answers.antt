@@ -2,7 +2,7 @@ use Rattle.std.proofs.Common.{leb, rules, sym, subst, arith, ◌-◌, ◌≤◌,
 use Rattle.std.proofs.lemmas.List.Sorted.{IsPartitionPoint-from_clause, IsPartitionedBy-leb}
 use Rattle.mp4_remux.specs.declared.piece.Piece.{Piece}
 use Rattle.mp4_remux.specs.Splice.{IsPieceAt}
-use Rattle.mp4_remux.proofs.Pieces.{rise, some_before, last_before, begins, is_piece}
+use Rattle.mp4_remux.proofs.Pieces.{rise, some_before, begins, is_piece}
 use Rattle.mp4_remux.proofs.splice.Splice.piece_at.Goals as goal
 
 pub overflow_sub-after : goal.overflow_sub-after

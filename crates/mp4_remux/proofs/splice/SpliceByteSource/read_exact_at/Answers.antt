@@ -1,6 +1,4 @@
-use Rattle.std.proofs.Common.{◌+◌, ◌-◌, ◌≤◌, length, take, drop, subst, refl, sym, arith, ap, ◌∙◌, rules}
-use Rattle.mp4_source.specs.Answers.{IsLength}
-use Rattle.mp4_remux.specs.Splice.{Follow}
+use Rattle.std.proofs.Common.{◌+◌, ◌-◌, ◌≤◌, length, take, drop, refl, arith, ◌∙◌}
 use Rattle.mp4_remux.proofs.Pieces.{past_end, length_kept, more_bytes, all_bytes}
 use Rattle.mp4_remux.proofs.splice.SpliceByteSource.read_exact_at.Goals.{then-place-self-via-then-place-self}
 use Rattle.mp4_remux.proofs.splice.SpliceByteSource.read_exact_at.Goals.{then-place-self-via-else-place-self+then-self-place}

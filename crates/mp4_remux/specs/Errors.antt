@@ -1,0 +1,35 @@
+-- Why a movie isn't rewritten.
+use Rattle.std.specs.Prelude.{◌≡◌, Bool, IsTrue}
+use Rattle.mp4_codec.specs.declared.error.Error.TheVariants.{OutOfMemory}
+use Rattle.mp4_source.specs.declared.error.SourceError.{SourceError}
+use Rattle.mp4_source.specs.declared.error.SourceError.TheVariants.{OutOfMemory as no_memory, Io as refused}
+use Rattle.mp4_source.specs.declared.sink_error.SinkError.{SinkError}
+use Rattle.mp4_source.specs.declared.sink_error.SinkError.TheVariants.{OutOfMemory as no_room, Io as sink_refused}
+use Rattle.mp4_source.specs.declared.file_error.FileError.{FileError}
+use Rattle.mp4_source.specs.declared.file_error.FileError.TheVariants.{Mp4 as of_mp4, Io as file_refused}
+use Rattle.mp4_remux.specs.declared.error.RemuxError.{RemuxError}
+use Rattle.mp4_remux.specs.declared.error.RemuxError.TheVariants.{Mp4, Read, Write, Twice, SaysPlaces, Differs}
+
+-- an error of a file that is read
+abbrev pub of_file : FileError → RemuxError
+of_file (of_mp4 e) = Mp4 e
+of_file (file_refused e) = Read e
+
+-- an error of a source
+abbrev pub of_source : SourceError → RemuxError
+of_source no_memory = Mp4 OutOfMemory
+of_source (refused e) = Read e
+
+-- an error of a sink
+abbrev pub of_sink : SinkError → RemuxError
+of_sink no_room = Mp4 OutOfMemory
+of_sink (sink_refused e) = Write e
+
+-- Bytes aren't copied: out of memory, or the source refused, which can; or the sink, which can.
+abbrev pub CopyFails : Type 0 → Bool → RemuxError → Type 0
+CopyFails SourceRefuses sink_refuses (Mp4 e) = e ≡ OutOfMemory
+CopyFails SourceRefuses sink_refuses (Read e) = SourceRefuses
+CopyFails SourceRefuses sink_refuses (Write e) = IsTrue sink_refuses
+CopyFails SourceRefuses sink_refuses (Twice name) = ⊥
+CopyFails SourceRefuses sink_refuses (SaysPlaces name place) = ⊥
+CopyFails SourceRefuses sink_refuses (Differs track number) = ⊥
