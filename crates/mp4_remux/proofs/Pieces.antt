@@ -102,6 +102,17 @@ module _ (source_len made_len : ℕ) where
       next_begins (q ∷ ps) (start + p.len) end i d f.1.1.1 (omega (arith, lt))
       ∙ ap (λ k. (slice_index_or (p ∷ q ∷ ps) k d).at) on
 
+-- one piece more
+pub follow_more : (source_len made_len : ℕ) (ps : List Piece) (p : Piece) (start end : ℕ)
+    → Follow source_len made_len start ps end → p.at ≡ end → 0 < p.len
+    → p.place + p.len ≤ of_origin p.origin source_len made_len
+    → Follow source_len made_len start (ps ++ p ∷ []) (end + p.len)
+unfolding Follow
+follow_more source_len made_len [] p start end f at some within =
+    (omega (arith, at, f), (some, (within, omega (arith, f))))
+follow_more source_len made_len (q ∷ qs) p start end f at some within =
+    (f.0, (f.1.0, (f.1.1.0, follow_more source_len made_len qs p (start + q.len) end f.1.1.1 at some within)))
+
 -- THE BYTES FROM A PLACE ON
 
 module _ (source made : List ℕ) where

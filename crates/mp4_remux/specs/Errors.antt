@@ -8,7 +8,8 @@ use Rattle.mp4_source.specs.declared.sink_error.SinkError.TheVariants.{OutOfMemo
 use Rattle.mp4_source.specs.declared.file_error.FileError.{FileError}
 use Rattle.mp4_source.specs.declared.file_error.FileError.TheVariants.{Mp4 as of_mp4, Io as file_refused}
 use Rattle.mp4_remux.specs.declared.error.RemuxError.{RemuxError}
-use Rattle.mp4_remux.specs.declared.error.RemuxError.TheVariants.{Mp4, Read, Write, Twice, SaysPlaces, Differs}
+use Rattle.mp4_remux.specs.declared.error.RemuxError.TheVariants.{Mp4, Read, Write, Twice, SaysPlaces}
+use Rattle.mp4_remux.specs.declared.error.RemuxError.TheVariants.{OtherTracks, Differs}
 
 -- an error of a file that is read
 abbrev pub of_file : FileError → RemuxError
@@ -32,4 +33,5 @@ CopyFails SourceRefuses sink_refuses (Read e) = SourceRefuses
 CopyFails SourceRefuses sink_refuses (Write e) = IsTrue sink_refuses
 CopyFails SourceRefuses sink_refuses (Twice name) = ⊥
 CopyFails SourceRefuses sink_refuses (SaysPlaces name place) = ⊥
+CopyFails SourceRefuses sink_refuses OtherTracks = ⊥
 CopyFails SourceRefuses sink_refuses (Differs track number) = ⊥

@@ -1,2 +1,4 @@
 pub mod Errors
+pub mod Remuxed
+pub mod Same
 pub mod Splice

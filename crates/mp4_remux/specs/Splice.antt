@@ -38,11 +38,11 @@ pub record IsPieceAt (source_len made_len : ℕ) (pieces : List Piece) (place : 
       → skipped + n ≤ p.len → take n (drop place (spliced source made pieces))
       ≡ take n (drop (p.place + skipped) (of_origin p.origin source made))
 
--- The n bytes of the splice from this place on are those of the source from another on.
-pub record IsOriginOf (source_len made_len : ℕ) (pieces : List Piece) (made : List ℕ) (place n origin : ℕ) : Type 0
-    where
+-- The n bytes of the splice from this place on are there, and those of the source from another on.
+pub record IsPartOfBoth (source_len len : ℕ) (made : List ℕ) (pieces : List Piece) (place origin n : ℕ) : Type 0 where
+  pub there : place + n ≤ len
   pub within : origin + n ≤ source_len
-  pub bytes : (source : List ℕ) → length source ≡ source_len → length made ≡ made_len
+  pub bytes : (source : List ℕ) → length source ≡ source_len
       → take n (drop place (spliced source made pieces)) ≡ take n (drop origin source)
 
 pub Follow-prop : (source_len made_len start : ℕ) (pieces : List Piece) (end : ℕ)

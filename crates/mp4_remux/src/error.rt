@@ -29,6 +29,9 @@ pub enum RemuxError {
     /// A box of this type, which begins at this byte, says places of the file that would be wrong afterwards.
     #[error("a box {0} at byte {1} says places of the file, which would be wrong")]
     SaysPlaces(BoxType, u64),
+    /// The tracks would be others.
+    #[error("the tracks would be others")]
+    OtherTracks,
     /// This sample of the track with this id wouldn't be read as before: a table or a fragment says its place in a way
     /// that isn't rewritten.
     #[error("sample {1} of track {0} would not be read as before")]

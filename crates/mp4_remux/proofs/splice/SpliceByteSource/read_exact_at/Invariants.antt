@@ -9,15 +9,12 @@ invariant-loop-filled g l = record {
   whole : l.n ≡ length l.fn.buf;
   upto : l.filled ≤ l.n;
   place : l.place ≡ l.fn.place;
-  within : l.fn.place + l.n ≤ l.fn.self.len;
-  len : l.self.len ≡ l.fn.self.len;
-  source_len : l.self.source_len ≡ l.fn.self.source_len;
-  made : l.self.made ≡ l.fn.self.made;
-  pieces : l.self.pieces ≡ l.fn.self.pieces;
+  within : l.fn.place + l.n ≤ l.fn.self.layout.len;
+  layout : l.self.layout ≡ l.fn.self.layout;
   contents : g.S.ByteSource.contents l.self.source ≡ g.S.ByteSource.contents l.fn.self.source;
   can_refuse : g.S.ByteSource.can_refuse l.self.source ≡ g.S.ByteSource.can_refuse l.fn.self.source;
   bytes : IfSome (g.S.ByteSource.contents l.fn.self.source) (λ xs. take l.filled l.buf
-      ≡ take l.filled (drop l.fn.place (spliced xs l.fn.self.made.items l.fn.self.pieces.items)));
+      ≡ take l.filled (drop l.fn.place (spliced xs l.fn.self.layout.made.items l.fn.self.layout.pieces.items)));
 }
 
 abbrev pub decreases-loop-filled : goal.decreases-loop-filled

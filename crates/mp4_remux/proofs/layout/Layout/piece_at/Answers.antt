@@ -3,10 +3,10 @@ use Rattle.std.proofs.lemmas.List.Sorted.{IsPartitionPoint-from_clause, IsPartit
 use Rattle.mp4_remux.specs.declared.piece.Piece.{Piece}
 use Rattle.mp4_remux.specs.Splice.{IsPieceAt}
 use Rattle.mp4_remux.proofs.Pieces.{rise, some_before, begins, is_piece}
-use Rattle.mp4_remux.proofs.splice.Splice.piece_at.Goals as goal
+use Rattle.mp4_remux.proofs.layout.Layout.piece_at.Goals as goal
 
 pub overflow_sub-after : goal.overflow_sub-after
-overflow_sub-after g c =
+overflow_sub-after c =
     let ps = c.args.self.now.pieces.items in
     let follow = c.args.self.now.follow in
     let parted = IsPartitionedBy-leb (λ (p : Piece). p.at) ps c.args.place (rise _ _ ps 0 _ follow) in
@@ -16,7 +16,7 @@ overflow_sub-after g c =
     (rw c.deref.ensures.value at c.partition_point-after.ensures.bound) point
 
 pub index-piece-requires : goal.index-piece-requires
-index-piece-requires g c =
+index-piece-requires c =
     let ps = c.args.self.now.pieces.items in
     let follow = c.args.self.now.follow in
     let parted = IsPartitionedBy-leb (λ (p : Piece). p.at) ps c.args.place (rise _ _ ps 0 _ follow) in
@@ -27,7 +27,7 @@ index-piece-requires g c =
     omega (arith, some, c.partition_point-after.ensures.bound, c.deref.ensures.len)
 
 pub overflow_sub-result : goal.overflow_sub-result
-overflow_sub-result g c =
+overflow_sub-result c =
     let ps = c.args.self.now.pieces.items in
     let follow = c.args.self.now.follow in
     let parted = IsPartitionedBy-leb (λ (p : Piece). p.at) ps c.args.place (rise _ _ ps 0 _ follow) in
@@ -38,7 +38,7 @@ overflow_sub-result g c =
     subst (λ (p : Piece). p.at ≤ c.args.place) (sym c.index-piece.ensures) at
 
 pub returns : goal.returns
-returns g c =
+returns c =
     let ps = c.args.self.now.pieces.items in
     let follow = c.args.self.now.follow in
     let parted = IsPartitionedBy-leb (λ (p : Piece). p.at) ps c.args.place (rise _ _ ps 0 _ follow) in

@@ -1,0 +1,185 @@
+-- A sample that is at one place of a file and at another of its splice is read as before.
+use Rattle.std.proofs.Common.{◌≡◌, ◌∙◌, ℕ, zero, suc, ◌+◌, ◌≤◌, ◌<◌, ◌^◌, List, [], ◌∷◌, length, map, take, drop, Option, None, Some, Ok}
+use Rattle.std.proofs.Common.{ℤ, Bool, nat_lt, true, false, option_map, refl, sym, ap, subst, arith}
+use Rattle.std.proofs.lemmas.Bool.{le-ltb, ltb-true, ltb-false}
+use Rattle.std.specs.Prelude.{slice_get, slice_index_or}
+use Rattle.mp4_codec.specs.Cause.{◌>>=◌}
+use Rattle.mp4_boxes.specs.declared.trak.TrakBox.{TrakBox}
+use Rattle.mp4_lookup.specs.declared.track.Mp4Track.{Mp4Track}
+use Rattle.mp4_lookup.specs.Tracks.{answer_at, sample_at}
+use Rattle.mp4_lookup.specs.TrackRuns.{track_runs}
+use Rattle.mp4_lookup.specs.Rates.{sample_count_of}
+use Rattle.mp4_samples.specs.declared.sample.Place.{Place}
+use Rattle.mp4_samples.specs.Samples.{TimedSample, read_in, read_at}
+use Rattle.mp4_media.specs.declared.movie.Movie.{Movie}
+use Rattle.mp4_media.specs.FileBoxes.{opened_movie}
+use Rattle.mp4_media.specs.MovieTracks.{AreTracks, at_id, opened_track}
+use Rattle.mp4_media.specs.Reading.{located_in, sample_count_in, track_or}
+use Rattle.mp4_remux.specs.declared.piece.Piece.{Piece}
+use Rattle.mp4_remux.specs.Remuxed.{count_of, read_of}
+use Rattle.mp4_remux.specs.Same.{IsSamePlace, IsNumberAsBefore, IsTrackAsBefore}
+use Rattle.mp4_remux.specs.Splice.{spliced, Follow, IsPartOfBoth}
+use Rattle.mp4_remux.proofs.Pieces.{length-spliced}
+
+-- WHAT IS READ OF AN OPENED MOVIE
+
+module _ (m : Movie) (are : AreTracks m.moov m.moofs m.moof_places m.tracks) (id : ℕ) where
+  -- what is read at a number is what is at its place
+  pub read_there : (file : List ℕ) (k : ℕ)
+      → read_of file (opened_movie m) id k ≡ (located_in m.tracks id k >>= read_in file)
+  unfolding read_of located_in sample_at
+  read_there file k = rw (sym (are id)) (by (at_id m.tracks id))
+    where
+      by : (o : Option Mp4Track)
+          → (track_or id (option_map opened_track o) >>= λ t. sample_at file t.trak t.trafs t.runs k)
+          ≡ ((track_or id o >>= λ t. answer_at t.trak t.trafs (track_runs t) k) >>= read_in file)
+      by None = refl
+      by (Some t) = refl
+
+  -- how many samples a track has
+  pub counted_there : count_of (opened_movie m) id ≡ sample_count_in m.tracks id
+  unfolding count_of sample_count_in
+  counted_there = rw (sym (are id)) (by (at_id m.tracks id))
+    where
+      by : (o : Option Mp4Track)
+          → (track_or id (option_map opened_track o) >>= λ t. sample_count_of t.trak t.runs)
+          ≡ (track_or id o >>= λ t. sample_count_of t.trak (track_runs t))
+      by None = refl
+      by (Some t) = refl
+
+-- A SAMPLE AT TWO PLACES
+
+-- a place of which so many bytes are there
+read_within : (file : List ℕ) (p : Place) → p.offset + p.size ≤ length file
+    → read_in file (Some p) ≡ Ok (Some (read_at file p))
+read_within file p fits = rw (le-ltb (length file) (p.offset + p.size) fits) refl
+
+abbrev sample_with : ℕ → List ℕ → ℕ → ℤ → Bool → TimedSample
+sample_with start bytes duration offset sync = record {
+  start_time = start;
+  sample = record { bytes = bytes; duration = duration; rendering_offset = offset; is_sync = sync };
+}
+
+same_sample : (a b : ℕ) (xs ys : List ℕ) (c d : ℕ) (e f : ℤ) (g h : Bool) → a ≡ b → xs ≡ ys → c ≡ d → e ≡ f → g ≡ h
+    → sample_with a xs c e g ≡ sample_with b ys d f h
+same_sample a b xs ys c d e f g h ab xy cd ef gh = rw (ab, xy, cd, ef, gh) refl
+
+module _ (source_len len : ℕ) (made : List ℕ) (pieces : List Piece) (f : Follow source_len (length made) 0 pieces len)
+  where
+    pub same_place : (p q : Place) → q.size ≡ p.size → q.start_time ≡ p.start_time → q.duration ≡ p.duration
+        → q.rendering_offset ≡ p.rendering_offset → q.is_sync ≡ p.is_sync
+        → IsPartOfBoth source_len len made pieces q.offset p.offset p.size → IsSamePlace source_len made pieces p q
+    same_place p q size start duration offset sync both = λ source long.
+        let whole = length-spliced source made pieces 0 len
+        (subst (λ n. Follow n (length made) 0 pieces len) (sym long) f) in
+        let there = read_within (spliced source made pieces) q (omega (arith, size, whole, both.there)) in
+        let bytes : take q.size (drop q.offset (spliced source made pieces)) ≡ take p.size (drop p.offset source) =
+        ap (λ n. take n (drop q.offset (spliced source made pieces))) size ∙ both.bytes source long in (
+          read_at source p,
+          (
+            read_within source p (omega (arith, long, both.within)),
+            there
+                ∙ ap (λ (s : TimedSample). Ok (Some s)) (same_sample q.start_time p.start_time
+                (take q.size (drop q.offset (spliced source made pieces))) (take p.size (drop p.offset source))
+                q.duration p.duration q.rendering_offset p.rendering_offset q.is_sync p.is_sync
+                start bytes duration offset sync),
+          ),
+        )
+
+-- THE IDS
+
+-- lists of equally many boxes, of which those at each number have the same id, have the same ids
+pub same_ids : (bs cs : List TrakBox) (d : TrakBox) → length cs ≡ length bs
+    → ((i : ℕ) → i < length bs → (slice_index_or cs i d).tkhd.track_id ≡ (slice_index_or bs i d).tkhd.track_id)
+    → map (λ (t : TrakBox). t.tkhd.track_id) cs ≡ map (λ (t : TrakBox). t.tkhd.track_id) bs
+same_ids [] [] d e same = refl
+same_ids [] (a ∷ cs) d e same = absurd (omega (arith, e))
+same_ids (b ∷ bs) [] d e same = absurd (omega (arith, e))
+same_ids (b ∷ bs) (a ∷ cs) d e same =
+    rw (same 0 (omega arith)) (ap (λ (ids : List ℕ). b.tkhd.track_id ∷ ids)
+    (same_ids bs cs d (omega (arith, e)) (λ i lt. same (suc i) (omega (arith, lt)))))
+
+same_none : (cs bs : List TrakBox) → length cs ≡ length bs → bs ≡ []
+    → map (λ (t : TrakBox). t.tkhd.track_id) cs ≡ map (λ (t : TrakBox). t.tkhd.track_id) bs
+same_none [] bs e none = rw none refl
+same_none (c ∷ cs) bs e none = absurd (omega (arith, e, ap length none))
+
+-- the same, where all of them were looked at
+pub same_boxes : {bs cs : List TrakBox} (before after : List TrakBox) (n : ℕ) → bs ≡ before → cs ≡ after
+    → length cs ≡ length bs → n ≡ length bs
+    → ((d : TrakBox) (i : ℕ) → i < n → (slice_index_or cs i d).tkhd.track_id ≡ (slice_index_or bs i d).tkhd.track_id)
+    → map (λ (t : TrakBox). t.tkhd.track_id) after ≡ map (λ (t : TrakBox). t.tkhd.track_id) before
+same_boxes {bs} {cs} before after n was is e whole same = rw (sym was, sym is) (by bs refl)
+  where
+    by : (list : List TrakBox) → bs ≡ list
+        → map (λ (t : TrakBox). t.tkhd.track_id) cs ≡ map (λ (t : TrakBox). t.tkhd.track_id) bs
+    by [] none = same_none cs bs e none
+    by (d ∷ ds) some = same_ids bs cs d e (λ i lt. same d i (omega (arith, lt, whole)))
+
+-- what is there at a number is what is read there
+pub got : {X : Type 0} (xs : List X) (i : ℕ) (x d : X) → slice_get xs i ≡ Some x → slice_index_or xs i d ≡ x
+got [] i x d e = absurd cc
+got (y ∷ ys) zero x d e = cc
+got (y ∷ ys) (suc i) x d e = got ys i x d e
+
+pub got_within : {X : Type 0} (xs : List X) (i : ℕ) (x : X) → slice_get xs i ≡ Some x → i < length xs
+got_within [] i x e = absurd cc
+got_within (y ∷ ys) zero x e = omega arith
+got_within (y ∷ ys) (suc i) x e = omega (arith, got_within ys i x e)
+
+-- A TRACK
+
+module _ (source_len : ℕ) (made : List ℕ) (pieces : List Piece) (b a : Movie) (id : ℕ) where
+  abbrev pub NumberAsBefore : ℕ → Bool → Type 0
+  NumberAsBefore k there = IsNumberAsBefore source_len made pieces (opened_movie b) (opened_movie a) id k there
+
+  -- the numbers up to this one have the same samples
+  abbrev pub AreAsBefore : ℕ → Type 0
+  AreAsBefore count = (k : ℕ) → 1 ≤ k → k ≤ count → NumberAsBefore k true
+
+  pub none_yet : AreAsBefore 0
+  none_yet k some le = absurd (omega (arith, some, le))
+
+  pub one_more : (count : ℕ) → AreAsBefore count → NumberAsBefore (count + 1) true → AreAsBefore (count + 1)
+  one_more count upto next k some le = by (nat_lt count k) refl
+    where
+      by : (c : Bool) → nat_lt count k ≡ c → NumberAsBefore k true
+      by true lt =
+          let last : count + 1 ≡ k = omega (arith, ltb-true count k lt, le) in
+          subst (λ n. NumberAsBefore n true) last next
+      by false ge = upto k some (ltb-false count k ge)
+
+  module _ (were : AreTracks b.moov b.moofs b.moof_places b.tracks)
+      (are : AreTracks a.moov a.moofs a.moof_places a.tracks)
+    where
+      -- neither has a sample at a number
+      pub none_there : (k : ℕ) → located_in b.tracks id k ≡ Ok None → located_in a.tracks id k ≡ Ok None
+          → NumberAsBefore k false
+      none_there k was is = λ source long. (
+        read_there b were id source k ∙ ap (λ r. r >>= read_in source) was,
+        read_there a are id (spliced source made pieces) k ∙ ap (λ r. r >>= read_in (spliced source made pieces)) is,
+      )
+
+      -- both have the same
+      pub both_there : (k : ℕ) (p q : Place) → located_in b.tracks id k ≡ Ok (Some p)
+          → located_in a.tracks id k ≡ Ok (Some q) → IsSamePlace source_len made pieces p q → NumberAsBefore k true
+      both_there k p q was is same = λ source long.
+          let s = same source long in (
+            s.0,
+            (
+              read_there b were id source k ∙ ap (λ r. r >>= read_in source) was ∙ s.1.0,
+              read_there a are id (spliced source made pieces) k
+                  ∙ ap (λ r. r >>= read_in (spliced source made pieces)) is ∙ s.1.1,
+            ),
+          )
+
+      pub track_as_before : (count n : ℕ) → AreAsBefore count
+          → (count + 1 < 2 ^ 32 → NumberAsBefore (count + 1) false)
+          → sample_count_in b.tracks id ≡ Ok n → sample_count_in a.tracks id ≡ Ok n
+          → IsTrackAsBefore source_len made pieces (opened_movie b) (opened_movie a) id
+      track_as_before count n upto past was is = λ source long. record {
+        count = count;
+        same = λ k some le. upto k some le source long;
+        none = λ lt. past lt source long;
+        counted = counted_there a are id ∙ is ∙ sym was ∙ sym (counted_there b were id);
+      }

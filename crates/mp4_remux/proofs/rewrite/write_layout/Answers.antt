@@ -1,0 +1,29 @@
+use Rattle.std.proofs.Common.{ℕ, List, Option, IfSome, sym, subst, ◌∙◌}
+use Rattle.mp4_codec.specs.Cursor.{here}
+use Rattle.mp4_media.specs.FileBoxes.{opened_movie}
+use Rattle.mp4_media.specs.FileGrammar.{IsFile}
+use Rattle.mp4_remux.proofs.Rewriting.{on_ok, measured_after, same_splice, writes_remuxed}
+use Rattle.mp4_remux.proofs.rewrite.write_layout.Goals as goal
+
+pub copy_all-requires : goal.copy_all-requires
+copy_all-requires g c =
+    measured_after (g.S.ByteSource.contents c.args.source) _ c.args.layout.now c.len-len.result c.requires.len
+    (c.in_ok-splice.ensures.contents
+    ∙ same_splice g.S.ByteSource.contents c.new-splice.result.source c.args.source c.new-splice.result.layout
+    c.in_ok-try_clone.field-0 c.args.layout.now c.new-splice.ensures.source c.new-splice.ensures.layout
+    c.in_ok-try_clone.ensures.made c.in_ok-try_clone.ensures.pieces)
+    c.len-len.ensures
+
+pub returns : goal.returns
+returns g c =
+    on_ok c.copy_all.result c.copy_all.ensures.ok
+    (writes_remuxed (g.S.ByteSource.contents c.args.source) _ (g.K.ByteSink.contents c.args.sink.now) _ c.args.layout.now
+    c.args.before.now c.in_ok-splice.after c.len-len.result c.requires.len c.requires.opened
+    (c.in_ok-splice.ensures.contents
+    ∙ same_splice g.S.ByteSource.contents c.new-splice.result.source c.args.source c.new-splice.result.layout
+    c.in_ok-try_clone.field-0 c.args.layout.now c.new-splice.ensures.source c.new-splice.ensures.layout
+    c.in_ok-try_clone.ensures.made c.in_ok-try_clone.ensures.pieces)
+    c.len-len.ensures
+    (subst (λ (known : Option (List ℕ)). IfSome known (λ ys. IsFile c.len-len.result (here ys 0)
+    (opened_movie c.in_ok-splice.after))) (sym c.in_ok-splice.ensures.contents) c.in_ok-splice.ensures.file)
+    c.in_ok-check_same.ensures.ids c.in_ok-check_same.ensures.tracks)

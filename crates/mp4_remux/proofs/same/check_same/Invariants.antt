@@ -1,0 +1,18 @@
+use Rattle.std.proofs.Common.{◌-◌, ◌≡◌, ◌≤◌, ◌<◌, ℕ, Some, length, slice_get}
+use Rattle.mp4_boxes.specs.declared.trak.TrakBox.{TrakBox}
+use Rattle.mp4_media.specs.FileBoxes.{opened_movie}
+use Rattle.mp4_remux.specs.Same.{IsTrackAsBefore}
+use Rattle.mp4_remux.proofs.same.check_same.Given as goal
+
+-- the tracks that were looked at are as before
+abbrev pub invariant-loop-i : goal.invariant-loop-i
+invariant-loop-i l = record {
+  upto : l.i ≤ length l.traks;
+  traks : l.traks ≡ l.fn.before.moov.traks;
+  same : (t : TrakBox) (j : ℕ) → j < l.i → slice_get l.fn.before.moov.traks j ≡ Some t
+      → IsTrackAsBefore l.fn.layout.source_len l.fn.layout.made.items l.fn.layout.pieces.items
+      (opened_movie l.fn.before) (opened_movie l.fn.after) t.tkhd.track_id;
+}
+
+abbrev pub decreases-loop-i : goal.decreases-loop-i
+decreases-loop-i l = length l.traks - l.i

@@ -1,0 +1,14 @@
+use Rattle.std.proofs.Common.{◌-◌, ◌≤◌}
+use Rattle.mp4_remux.proofs.Sameness.{AreAsBefore}
+use Rattle.mp4_remux.proofs.same.check_track.Given as goal
+
+-- the numbers up to this one have the same samples
+abbrev pub invariant-loop-k : goal.invariant-loop-k
+invariant-loop-k l = record {
+  upto : l.k ≤ 4294967295;
+  same : AreAsBefore l.layout.source_len l.layout.made.items l.layout.pieces.items l.before l.after
+      l.track_id l.k;
+}
+
+abbrev pub decreases-loop-k : goal.decreases-loop-k
+decreases-loop-k l = 4294967295 - l.k

@@ -1,0 +1,58 @@
+-- A movie rewritten: every sample of every track is read as before.
+use Rattle.std.specs.Prelude.{◌≡◌, ◌+◌, ◌≤◌, ◌<◌, ◌^◌, ℕ, Bool, true, false, List, length, map, slice_get, Option, Some, None, Result, Ok}
+use Rattle.mp4_codec.specs.Cause.{Cause, ◌>>=◌}
+use Rattle.mp4_codec.specs.Cursor.{here}
+use Rattle.mp4_boxes.specs.declared.trak.TrakBox.{TrakBox}
+use Rattle.mp4_boxes.specs.declared.moov.MoovBox.{MoovBox}
+use Rattle.mp4_lookup.specs.Rates.{sample_count_of}
+use Rattle.mp4_lookup.specs.Tracks.{sample_at}
+use Rattle.mp4_samples.specs.Samples.{TimedSample}
+use Rattle.mp4_source.specs.Sink.{IsAppended}
+use Rattle.mp4_media.specs.FileBoxes.{OpenedFile}
+use Rattle.mp4_media.specs.FileGrammar.{IsFile}
+use Rattle.mp4_media.specs.MovieTracks.{track_at}
+use Rattle.mp4_media.specs.Reading.{track_or}
+
+-- the ids of a movie's tracks, in the order of their boxes (ISO/IEC 14496-12, 8.3.2)
+abbrev pub ids_of : MoovBox → List ℕ
+ids_of moov = map (λ (t : TrakBox). t.tkhd.track_id) moov.traks
+
+-- what is read at number k of the track with this id, in a file that was opened so
+unfoldable pub read_of : List ℕ → OpenedFile → ℕ → ℕ → Result (Option TimedSample) Cause
+read_of file opened id k =
+    track_or id (track_at opened.moov opened.moofs opened.moof_places id)
+    >>= λ t. sample_at file t.trak t.trafs t.runs k
+
+-- how many samples that track has
+unfoldable pub count_of : OpenedFile → ℕ → Result ℕ Cause
+count_of opened id =
+    track_or id (track_at opened.moov opened.moofs opened.moof_places id) >>= λ t. sample_count_of t.trak t.runs
+
+-- at number k both files have this sample, or neither has one
+abbrev pub IsSameNumber : List ℕ → List ℕ → OpenedFile → OpenedFile → ℕ → ℕ → Bool → Type 0
+IsSameNumber before after opened rewritten id k true =
+    (s : TimedSample) × ((read_of before opened id k ≡ Ok (Some s)) × (read_of after rewritten id k ≡ Ok (Some s)))
+IsSameNumber before after opened rewritten id k false =
+    (read_of before opened id k ≡ Ok None) × (read_of after rewritten id k ≡ Ok None)
+
+-- The track with this id is read from one file as from the other: the same samples at the numbers from 1 on, with their
+-- bytes, times and marks, and then none; and both have equally many.
+pub record IsSameTrack (before after : List ℕ) (opened rewritten : OpenedFile) (id : ℕ) : Type 0 where
+  pub count : ℕ
+  pub same : (k : ℕ) → 1 ≤ k → k ≤ count → IsSameNumber before after opened rewritten id k true
+  pub none : count + 1 < 2 ^ 32 → IsSameNumber before after opened rewritten id (count + 1) false
+  pub counted : count_of rewritten id ≡ count_of opened id
+
+-- The one file is the other rewritten: both are files, with tracks of the same ids, and each is read as before.
+pub record IsRemuxed (before after : List ℕ) : Type 0 where
+  pub opened : OpenedFile
+  pub rewritten : OpenedFile
+  pub opens : IsFile (length before) (here before 0) opened
+  pub opens_after : IsFile (length after) (here after 0) rewritten
+  pub ids : ids_of rewritten.moov ≡ ids_of opened.moov
+  pub tracks : (t : TrakBox) (i : ℕ) → slice_get opened.moov.traks i ≡ Some t
+      → IsSameTrack before after opened rewritten t.tkhd.track_id
+
+-- After the bytes that a sink had come those of the file rewritten, where they are known.
+abbrev pub WritesRemuxed : List ℕ → Option (List ℕ) → Option (List ℕ) → Type 0
+WritesRemuxed before had has = (after : List ℕ) × (IsAppended had has after × IsRemuxed before after)

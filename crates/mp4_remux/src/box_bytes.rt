@@ -1,0 +1,58 @@
+//! Boxes as bytes, whatever is in them.
+
+ghost use Rattle.std.specs.Prelude.{◌≡◌, ◌+◌, ◌≤◌, ◌<◌, List, length, take, IfSome, IfOk};
+
+use mp4_codec::{BoxHeader, BoxType, ByteCursor, Error, HEADER_SIZE, Limit, OPEN_END, Result};
+use std::alloc::AllocError;
+
+/// A box with which some bytes begin.
+#[derive(Clone, Copy)]
+pub(crate) struct BoxBytes<'a> {
+    pub name: BoxType,
+    /// Its header, of 8 bytes or 16.
+    pub header: &'a [u8],
+    pub payload: &'a [u8],
+    /// The bytes after it.
+    pub after: &'a [u8],
+}
+
+/// The box with which bytes begin; none where they begin with no whole one (ISO/IEC 14496-12, 4.2).
+pub(crate) fn first_box(bytes: &[u8]) -> Option<BoxBytes>
+    ensures after { IfSome result (λ b. length b.after.now < length bytes.now) }
+    ensures header { IfSome result (λ b. 8 ≤ length b.header.now) }
+{
+    let mut cursor = ByteCursor::new(bytes);
+    let Ok(header) = BoxHeader::read(&mut cursor) else {
+        return None;
+    };
+    let from = cursor.position();
+    let len = bytes.len() as u64;
+    if header.size == OPEN_END || from > len || header.size - HEADER_SIZE > len - from {
+        return None;
+    }
+    let (head, rest) = bytes.split_at(from as usize);
+    let (payload, after) = rest.split_at((header.size - HEADER_SIZE) as usize);
+    Some(BoxBytes {
+        name: header.name,
+        header: head,
+        payload,
+        after,
+    })
+}
+
+/// Writes the size of a box, all of whose bytes these are, into its header, which has so many bytes: 8, or 16 where the
+/// size has 64 bits. `TooLarge(BoxSize)` where it doesn't fit.
+pub(crate) fn put_size(bytes: &mut [u8], header: usize) -> Result<()> {
+    let size = bytes.len() as u64;
+    if header >= 16 && bytes.len() >= 16 {
+        bytes[8..16].copy_from_slice(&size.to_be_bytes());
+        return Ok(());
+    }
+    let Ok(size) = u32::try_from(size) else {
+        return Err(Error::TooLarge(Limit::BoxSize));
+    };
+    if bytes.len() >= 4 {
+        bytes[..4].copy_from_slice(&size.to_be_bytes());
+    }
+    Ok(())
+}

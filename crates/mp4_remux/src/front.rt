@@ -1,0 +1,207 @@
+//! The movie box moved to the front.
+
+ghost use Rattle.std.specs.Prelude.{◌≡◌, ℕ, List, IfSome, IfOk, OnOk};
+ghost use Rattle.mp4_remux.specs.Remuxed.{WritesRemuxed};
+
+use crate::chunk_offsets::{Move, with_moves};
+use crate::error::RemuxError;
+use crate::layout::Layout;
+use crate::piece::{Origin, Piece};
+use crate::places::{check_box, check_top_level};
+use crate::rewrite::{open_whole, write_layout};
+use crate::top_level::{TopBox, top_boxes};
+use mp4_codec::{BoxType, Error, Limit};
+use mp4_source::{ByteSink, ByteSource, read_into};
+use std::alloc::Global;
+
+/// The only box of a type; `Twice` where there are two.
+fn only_box(boxes: &[TopBox], name: BoxType) -> Result<Option<TopBox>, RemuxError> {
+    let mut found: Option<TopBox> = None;
+    for one in boxes {
+        if one.name == name {
+            if let Some(_) = found {
+                return Err(RemuxError::Twice(name));
+            }
+            found = Some(*one);
+        }
+    }
+    Ok(found)
+}
+
+/// Whether no data comes before the movie box, which begins at this place.
+fn is_in_front(boxes: &[TopBox], movie: u64) -> bool {
+    for one in boxes {
+        if one.name == BoxType::MdatBox && one.place < movie {
+            return false;
+        }
+    }
+    true
+}
+
+/// Adds bytes after those of the pieces before; none where there are none.
+fn push_piece(pieces: &mut Vec<Piece>, origin: Origin, place: u64, end: u64) -> Result<(), RemuxError> {
+    if end <= place {
+        return Ok(());
+    }
+    let at = match pieces.last() {
+        Some(last) => last.at.saturating_add(last.len),
+        None => 0,
+    };
+    pieces.push(Piece {
+        at,
+        origin,
+        place,
+        len: end - place,
+    })?;
+    Ok(())
+}
+
+/// A file of `len` bytes with its file type first and a movie box of `movie_len` bytes next, then all else in its order.
+fn front_pieces(
+    alloc: Global,
+    file_type: TopBox,
+    movie: TopBox,
+    movie_len: u64,
+    len: u64,
+) -> Result<Vec<Piece>, RemuxError> {
+    let mut pieces = Vec::new(alloc);
+    let first = file_type.place.min(movie.place);
+    let between = file_type.end.min(movie.end);
+    let second = file_type.place.max(movie.place);
+    let after = file_type.end.max(movie.end);
+    push_piece(&mut pieces, Origin::Kept, file_type.place, file_type.end)?;
+    push_piece(&mut pieces, Origin::Made, 0, movie_len)?;
+    push_piece(&mut pieces, Origin::Kept, 0, first)?;
+    push_piece(&mut pieces, Origin::Kept, between, second)?;
+    push_piece(&mut pieces, Origin::Kept, after, len)?;
+    Ok(pieces)
+}
+
+/// Where the bytes of the file are by such pieces.
+fn moves_of(alloc: Global, pieces: &[Piece]) -> Result<Vec<Move>, RemuxError> {
+    let mut moves = Vec::with_capacity(alloc, pieces.len())?;
+    for piece in pieces {
+        match piece.origin {
+            Origin::Kept => moves.push(Move {
+                from: piece.place,
+                end: piece.place + piece.len,
+                to: piece.at,
+            })?,
+            Origin::Made => {}
+        }
+    }
+    Ok(moves)
+}
+
+/// The bytes of a movie box, as they are when it is in front, and the pieces of that file. Its chunk offsets are those of
+/// where the data is then, which hangs on the length of the box: a table that becomes `co64` makes it longer.
+fn plan_front(
+    alloc: Global,
+    movie_bytes: &[u8],
+    file_type: TopBox,
+    movie: TopBox,
+    len: u64,
+    tries: usize,
+) -> Result<(Vec<u8>, Vec<Piece>), RemuxError> {
+    let mut movie_len = movie_bytes.len() as u64;
+    for _ in 0..tries {
+        let pieces = front_pieces(alloc, file_type, movie, movie_len, len)?;
+        let moves = moves_of(alloc, &pieces)?;
+        let made = with_moves(alloc, movie_bytes, &moves)?;
+        if made.len() as u64 == movie_len {
+            return Ok((made, pieces));
+        }
+        movie_len = made.len() as u64;
+    }
+    Err(RemuxError::Mp4(Error::TooLarge(Limit::BoxSize)))
+}
+
+/// The file as it is.
+fn plan_nothing(alloc: Global, len: u64) -> Result<(Vec<u8>, Vec<Piece>), RemuxError> {
+    let mut pieces = Vec::new(alloc);
+    push_piece(&mut pieces, Origin::Kept, 0, len)?;
+    Ok((Vec::new(alloc), pieces))
+}
+
+/// The bytes of a box, in which no box says places.
+fn checked_bytes<S: ByteSource>(alloc: Global, source: &mut S, one: TopBox) -> Result<Vec<u8>, RemuxError>
+    ensures contents { S.contents source.new ≡ S.contents source.old }
+{
+    let mut bytes = Vec::new(alloc);
+    let len = one.end.saturating_sub(one.place);
+    read_into(source, one.place, len as usize, &mut bytes)?;
+    check_box(&bytes, one.place)?;
+    Ok(bytes)
+}
+
+/// Checks that no metadata of the file itself says places.
+fn check_metadata<S: ByteSource>(alloc: Global, source: &mut S, boxes: &[TopBox]) -> Result<(), RemuxError>
+    ensures contents { S.contents source.new ≡ S.contents source.old }
+{
+    for one in boxes {
+        if one.name == BoxType::MetaBox {
+            checked_bytes(alloc, source, *one)?;
+        }
+    }
+    Ok(())
+}
+
+/// The layout of a file with its movie box in front, of a movie with so many tracks.
+fn plan<S: ByteSource + Drop>(
+    alloc: Global,
+    source: S,
+    len: u64,
+    tracks: usize,
+) -> Result<(S, Layout), RemuxError>
+    ensures contents { IfOk result (λ x. S.contents x.0 ≡ S.contents source) }
+    ensures source_len { IfOk result (λ x. x.1.source_len ≡ len) }
+{
+    let (source, boxes) = top_boxes(alloc, source, len)?;
+    let mut source = source;
+    let file_type = only_box(&boxes, BoxType::FtypBox)?;
+    let movie = only_box(&boxes, BoxType::MoovBox)?;
+    let (made, pieces) = match (file_type, movie) {
+        (Some(file_type), Some(movie)) if !is_in_front(&boxes, movie.place) => {
+            check_top_level(&boxes)?;
+            check_metadata(alloc, &mut source, &boxes)?;
+            let bytes = checked_bytes(alloc, &mut source, movie)?;
+            plan_front(alloc, &bytes, file_type, movie, len, tracks.saturating_add(2))?
+        }
+        _ => plan_nothing(alloc, len)?,
+    };
+    let Some(layout) = Layout::new(len, made, pieces) else {
+        return Err(RemuxError::OtherTracks);
+    };
+    Ok((source, layout))
+}
+
+/// Writes a movie to a sink with its movie box before its data, as players want it that begin before they have the whole
+/// file: the file type, the movie box, then all other boxes in their order (ISO/IEC 14496-12, 6.2.3). Of the movie box
+/// the chunk offsets are others, 64 bits wide where one passes 32; every other byte of the file is there as it was. A
+/// file whose movie box is before its data already is written as it is.
+///
+/// The file is opened and each sample of each track is looked up, in the file and in what would be written, before a byte
+/// is. In memory are the movie's tables, the bytes of its movie box twice, and a block of 1 MiB.
+///
+/// Refused as [`mp4_media::Mp4File::open`], and as [`mp4_media::Mp4File::read_sample`] where a sample isn't found. Where the
+/// movie box has to move: `Twice` for two file types or two movie boxes; `SaysPlaces` for a box that says places of the
+/// file which aren't rewritten: `moof`, `mfra`, `sidx`, or an `iloc` or `saio` in the movie box or in the file's metadata;
+/// `Differs` where a sample wouldn't be read as before. `Read` where the source refuses, `Write` where the sink does; then
+/// the sink may have some first bytes of the file.
+pub fn move_to_front<S: ByteSource + Drop, K: ByteSink>(
+    alloc: Global,
+    source: S,
+    sink: &mut K,
+) -> Result<(), RemuxError>
+    ensures { OnOk result (IfSome (S.contents source) (λ xs.
+        WritesRemuxed xs (K.contents sink.old) (K.contents sink.new))) }
+{
+    let mut source = source;
+    let len = match source.len() {
+        Ok(len) => len,
+        Err(refused) => return Err(RemuxError::Read(refused)),
+    };
+    let (source, before) = open_whole(alloc, source, len)?;
+    let (source, layout) = plan(alloc, source, len, before.moov.traks.len())?;
+    write_layout(alloc, source, &before, &layout, sink)
+}

@@ -1,0 +1,92 @@
+//! Boxes that say places of a file in a way that isn't rewritten.
+
+ghost use Rattle.std.specs.Prelude.{◌≤◌};
+
+use crate::box_bytes::{BoxBytes, first_box};
+use crate::error::RemuxError;
+use crate::top_level::TopBox;
+use mp4_codec::BoxType;
+
+/// `iloc`, where the items of metadata are (ISO/IEC 14496-12, 8.11.3).
+const ITEM_LOCATIONS: u32 = 0x696c_6f63;
+
+/// `saio`, where the information is that comes with samples (8.7.9).
+const SAMPLE_INFORMATION: u32 = 0x7361_696f;
+
+/// `mfra`, where movie fragments are (8.8.9).
+const FRAGMENT_PLACES: u32 = 0x6d66_7261;
+
+/// `sidx`, where segments are (8.16.3).
+const SEGMENT_PLACES: u32 = 0x7369_6478;
+
+/// How many boxes are entered, one in the other, at most: none that says places is deeper in a movie box.
+const DEEPEST: usize = 8;
+
+/// Whether boxes that say places may be in one of this type.
+fn is_entered(name: BoxType) -> bool {
+    match name {
+        BoxType::MoovBox
+        | BoxType::TrakBox
+        | BoxType::MdiaBox
+        | BoxType::MinfBox
+        | BoxType::StblBox
+        | BoxType::UdtaBox
+        | BoxType::MetaBox => true,
+        _ => false,
+    }
+}
+
+/// Whether a box of this type says places.
+fn says_places(name: BoxType) -> bool {
+    let code = u32::from(name);
+    code == ITEM_LOCATIONS || code == SAMPLE_INFORMATION
+}
+
+/// The bytes in which the children of a box are: those of `meta` come after its version and flags, which files of
+/// QuickTime leave out.
+fn children_of<'a>(one: &BoxBytes<'a>) -> &'a [u8] {
+    if one.name == BoxType::MetaBox && one.payload.len() >= 4 {
+        if let Some(_) = first_box(&one.payload[4..]) {
+            return &one.payload[4..];
+        }
+    }
+    one.payload
+}
+
+/// The first box among these bytes, or in one of them, that says places.
+fn find_in(bytes: &[u8], level: usize) -> Option<BoxType>
+    requires { level ≤ 8 }
+{
+    let mut rest = bytes;
+    while let Some(one) = first_box(rest) {
+        if says_places(one.name) {
+            return Some(one.name);
+        }
+        if level < DEEPEST && is_entered(one.name) {
+            if let Some(name) = find_in(children_of(&one), level + 1) {
+                return Some(name);
+            }
+        }
+        rest = one.after;
+    }
+    None
+}
+
+/// Checks that no box in this one, whose bytes begin at this place, says places that would be wrong.
+pub(crate) fn check_box(bytes: &[u8], place: u64) -> Result<(), RemuxError> {
+    match find_in(bytes, 0) {
+        Some(name) => Err(RemuxError::SaysPlaces(name, place)),
+        None => Ok(()),
+    }
+}
+
+/// Checks that no box of the file is one that says places of others, or a movie fragment.
+pub(crate) fn check_top_level(boxes: &[TopBox]) -> Result<(), RemuxError> {
+    for one in boxes {
+        let code = u32::from(one.name);
+        if code == FRAGMENT_PLACES || code == SEGMENT_PLACES || one.name == BoxType::MoofBox {
+            return Err(RemuxError::SaysPlaces(one.name, one.place));
+        }
+    }
+    Ok(())
+}

@@ -1,0 +1,59 @@
+//! A layout of a file, compared with it and written.
+
+ghost use Rattle.std.specs.Prelude.{◌≡◌, ℕ, List, IfOk, IfSome, OnOk, length};
+ghost use Rattle.mp4_source.specs.Answers.{IsLength};
+ghost use Rattle.mp4_source.specs.Sink.{IsAppended};
+ghost use Rattle.mp4_media.specs.FileBoxes.{opened_movie};
+ghost use Rattle.mp4_media.specs.FileGrammar.{IsFile};
+ghost use Rattle.mp4_media.specs.MovieTracks.{AreTracks};
+ghost use Rattle.mp4_codec.specs.Cursor.{here};
+ghost use Rattle.mp4_remux.specs.Remuxed.{WritesRemuxed};
+
+use crate::copy::copy_all;
+use crate::error::RemuxError;
+use crate::layout::Layout;
+use crate::same::check_same;
+use crate::splice::Splice;
+use mp4_media::{Movie, Mp4File};
+use mp4_source::{ByteSink, ByteSource};
+use std::alloc::Global;
+
+/// The movie of a file of `len` bytes, and the source that it was opened from.
+pub(crate) fn open_whole<S: ByteSource + Drop>(
+    alloc: Global,
+    source: S,
+    len: u64,
+) -> Result<(S, Movie), RemuxError>
+    ensures file { IfOk result (λ x. IfSome (S.contents source) (λ xs.
+        IsFile len (here xs 0) (opened_movie x.1))) }
+    ensures tracks { IfOk result (λ x. AreTracks x.1.moov x.1.moofs x.1.moof_places x.1.tracks) }
+    ensures contents { IfOk result (λ x. S.contents x.0 ≡ S.contents source) }
+    ensures can_refuse { IfOk result (λ x. S.can_refuse x.0 ≡ S.can_refuse source) }
+{
+    let file = Mp4File::open(alloc, source, 0, len)?;
+    Ok(file.into_parts())
+}
+
+/// Writes the file that a layout says, where every sample of every track is read from it as before; else nothing is
+/// written.
+pub(crate) fn write_layout<S: ByteSource + Drop, K: ByteSink>(
+    alloc: Global,
+    source: S,
+    before: &Movie,
+    layout: &Layout,
+    sink: &mut K,
+) -> Result<(), RemuxError>
+    requires len { IsLength (S.contents source) layout.now.source_len }
+    requires tracks { AreTracks before.now.moov before.now.moofs before.now.moof_places before.now.tracks }
+    requires opened { IfSome (S.contents source) (λ xs.
+        IsFile (length xs) (here xs 0) (opened_movie before.now)) }
+    ensures { OnOk result (IfSome (S.contents source) (λ xs.
+        WritesRemuxed xs (K.contents sink.old) (K.contents sink.new))) }
+{
+    let splice = Splice::new(source, layout.try_clone(alloc)?);
+    let len = layout.len();
+    let (mut splice, after) = open_whole(alloc, splice, len)?;
+    check_same(before, &after, layout)?;
+    drop(after);
+    copy_all(alloc, &mut splice, len, sink)
+}
