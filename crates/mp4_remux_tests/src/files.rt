@@ -1,0 +1,48 @@
+//! The files of the tests, as plain bytes.
+
+use mp4_plain_movies::movie_bytes::{EMPTY_MOVIE, FULL_MOVIE};
+use std::alloc::{AllocError, Global};
+
+/// How many bytes the file type has.
+pub const FILE_TYPE: usize = 32;
+
+/// The samples "abc", "def" and "gh", from place 48 of a file on.
+pub const DATA: [u8; 24] = *b"\0\0\0\x18mdat\0\0\0\x08wideabcdefgh";
+
+/// A box that no reader knows.
+pub const UNKNOWN: [u8; 12] = *b"\0\0\0\x0cabcd\x01\x02\x03\x04";
+
+/// A file type.
+pub fn file_type() -> &'static [u8] {
+    &EMPTY_MOVIE[..FILE_TYPE]
+}
+
+/// The parts, one after the other.
+pub fn joined(alloc: Global, parts: &[&[u8]]) -> Result<Vec<u8>, AllocError> {
+    let mut bytes = Vec::new(alloc);
+    for part in parts {
+        bytes.extend_from_slice(part)?;
+    }
+    Ok(bytes)
+}
+
+/// A file of one track of three samples whose movie box comes after its data.
+pub fn data_first(alloc: Global) -> Result<Vec<u8>, AllocError> {
+    joined(alloc, &[file_type(), &DATA, &FULL_MOVIE])
+}
+
+/// Where the two chunk offsets of the movie box are in it, of 4 bytes each.
+const OFFSETS: usize = 635;
+
+/// The movie box of that track, whose chunks begin at these places.
+pub fn movie_with(alloc: Global, first: u32, second: u32) -> Result<Vec<u8>, AllocError> {
+    joined(
+        alloc,
+        &[
+            &FULL_MOVIE[..OFFSETS],
+            &first.to_be_bytes(),
+            &second.to_be_bytes(),
+            &FULL_MOVIE[OFFSETS + 8..],
+        ],
+    )
+}
