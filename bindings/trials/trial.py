@@ -44,6 +44,15 @@ def fault_lines(source):
     return [""]
 
 
+def reason_lines(source):
+    """The same, and what it is that is invalid."""
+    try:
+        maqelsun.Movie(source).close()
+    except maqelsun.Error as refused:
+        return [f"{refused}: {refused.reason}" if refused.reason else str(refused)]
+    return [""]
+
+
 def digits(value):
     """Bytes in digits; a full stop for none."""
     return value.hex() or "."
@@ -203,6 +212,7 @@ def main():
     commands = {
         "list": lambda: each_file(file_lines),
         "faults": lambda: each_file(fault_lines),
+        "reasons": lambda: each_file(reason_lines),
         "facts": lambda: each_file(fact_lines),
         "write": write_movie,
         "large": list_large,

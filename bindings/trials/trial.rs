@@ -56,6 +56,14 @@ fn fault_line(file: &[u8]) -> String {
     Movie::open(file).err().map_or("\n".to_owned(), |refused| format!("{refused}\n"))
 }
 
+/// The same, and what it is that is invalid.
+fn reason_line(file: &[u8]) -> String {
+    match Movie::open(file).err() {
+        Some(maqelsun::Error::InvalidData(text)) => format!("invalid data: {text}\n"),
+        refused => refused.map_or("\n".to_owned(), |refused| format!("{refused}\n")),
+    }
+}
+
 /// Bytes in digits; a full stop for none.
 fn digits(bytes: &[u8]) -> String {
     match bytes {
@@ -344,11 +352,12 @@ fn run() -> Outcome<()> {
     match words[..] {
         ["list"] => each_file(file_lines),
         ["faults"] => each_file(fault_line),
+        ["reasons"] => each_file(reason_line),
         ["facts"] => each_file(facts),
         ["write", out] => write_movie(out),
         ["large", file] => list_large(file),
         ["threads", file] => list_by_threads(file),
-        _ => Err("list | faults | facts | write OUT | large FILE | threads FILE".into()),
+        _ => Err("list | faults | reasons | facts | write OUT | large FILE | threads FILE".into()),
     }
 }
 
