@@ -1,6 +1,6 @@
 /* example FILE          lists the tracks of an MP4 file
- * example FILE TRACK    lists the samples of a track, a line each: its number, offset and size in bytes, start, duration
- *                       and rendering offset in ticks of the track, and 1 for a sync sample or 0
+ * example FILE TRACK    lists the samples of a track, a line each: its number, offset and size in bytes, start,
+ *                       duration and rendering offset in ticks of the track, and 1 for a sync sample or 0
  */
 #include "mp4.h"
 
