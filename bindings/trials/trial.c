@@ -8,8 +8,7 @@
  *   trial nulls            nothing where NULL is refused in place of each pointer to what is there, and by each call
  *   trial words            the words of each refusal
  *   trial write OUT        makes the movie of a script from standard input
- *   trial large FILE       the samples of a file; on standard error the microseconds and the KiB of the file that it
- *                          took
+ *   trial large FILE       the samples of a file; on standard error the microseconds and the KiB of memory that it took
  */
 #define _GNU_SOURCE
 #include "mp4.h"
@@ -588,23 +587,23 @@ static uint64_t microseconds(void) {
     return (uint64_t)now.tv_sec * 1000000 + (uint64_t)now.tv_nsec / 1000;
 }
 
-/* How many KiB of mapped files this process holds in memory. */
-static long mapped_kib(void) {
+/* How many KiB this process holds in memory, those of mapped files among them. */
+static long resident_kib(void) {
     char line[256];
     long kib = -1;
     FILE *status = fopen("/proc/self/status", "r");
-    while (status && fgets(line, sizeof line, status)) sscanf(line, "RssFile: %ld", &kib);
+    while (status && fgets(line, sizeof line, status)) sscanf(line, "VmRSS: %ld", &kib);
     if (status) fclose(status);
     return kib;
 }
 
 static void list_large(const char *name) {
-    long before = mapped_kib();
+    long before = resident_kib();
     uint64_t begun = microseconds();
     file from = map_file(name);
     list_file(from);
     uint64_t taken = microseconds() - begun;
-    fprintf(stderr, "%llu %ld\n", (unsigned long long)taken, mapped_kib() - before);
+    fprintf(stderr, "%llu %ld\n", (unsigned long long)taken, resident_kib() - before);
     unmap(from);
 }
 

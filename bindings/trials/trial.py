@@ -170,22 +170,21 @@ def write_movie(name):
         out.write(movie)
 
 
-def mapped_kib():
-    """How many KiB of mapped files this process holds in memory."""
+def resident_kib():
+    """How many KiB this process holds in memory, those of mapped files among them."""
     with open("/proc/self/status", encoding="ascii") as status:
-        return next(int(line.split()[1]) for line in status if line.startswith("RssFile:"))
+        return next(int(line.split()[1]) for line in status if line.startswith("VmRSS:"))
 
 
 def list_large(name):
-    """The samples of a file; on standard error the microseconds and the KiB of mapped files it
-    took."""
+    """The samples of a file; on standard error the microseconds and the KiB of memory it took."""
     fault_lines(b"")  # the first call loads code, which isn't of the file
-    before = mapped_kib()
+    before = resident_kib()
     begun = time.monotonic()
     with maqelsun.Movie(name) as movie:
         lines = [line for track in movie.tracks for line in sample_lines(movie, track)]
         taken = int((time.monotonic() - begun) * 1000000)
-        print(taken, mapped_kib() - before, file=sys.stderr)
+        print(taken, resident_kib() - before, file=sys.stderr)
     print("\n".join(lines))
 
 

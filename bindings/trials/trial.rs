@@ -258,23 +258,23 @@ fn write_movie(name: &str) -> Outcome<()> {
     Ok(fs::write(name, writer.finish()?)?)
 }
 
-/// How many KiB of mapped files this process holds in memory.
-fn mapped_kib() -> Outcome<i64> {
+/// How many KiB this process holds in memory, those of mapped files among them.
+fn resident_kib() -> Outcome<i64> {
     let status = fs::read_to_string("/proc/self/status")?;
-    let line = status.lines().find_map(|line| line.strip_prefix("RssFile:"));
-    let words = line.ok_or("there is no RssFile")?.split_whitespace().next();
-    Ok(words.ok_or("there is no RssFile")?.parse()?)
+    let line = status.lines().find_map(|line| line.strip_prefix("VmRSS:"));
+    let words = line.ok_or("there is no VmRSS")?.split_whitespace().next();
+    Ok(words.ok_or("there is no VmRSS")?.parse()?)
 }
 
-/// The samples of a file; on standard error the microseconds and the KiB of mapped files it took.
+/// The samples of a file; on standard error the microseconds and the KiB of memory it took.
 fn list_large(name: &str) -> Outcome<()> {
     fault_line(b""); // the first call loads code, which isn't of the file
-    let before = mapped_kib()?;
+    let before = resident_kib()?;
     let begun = Instant::now();
     let mapped = mapping::Mapping::of(&fs::File::open(name)?)?;
     let lines = file_lines(mapped.bytes());
     let taken = begun.elapsed();
-    eprintln!("{} {}", taken.as_micros(), mapped_kib()? - before);
+    eprintln!("{} {}", taken.as_micros(), resident_kib()? - before);
     print!("{lines}");
     Ok(())
 }
