@@ -79,19 +79,21 @@ static int print_sample(struct file file, uint32_t number, const mp4_sample *sam
 /* Prints the lines of the samples of a track, some at a time, up to the first that isn't there. */
 static int print_samples(struct file file, uint32_t track_id) {
     static mp4_sample samples[SAMPLES];
-    uint64_t first = 1;
-    while (first <= UINT32_MAX) {
-        mp4_answer answer = mp4_samples(file.bytes, file.size, track_id, (uint32_t)first, samples, SAMPLES);
-        if (answer.code && !answer.count) {
-            print_refusal(stderr, 0, &answer);
-            return 1;
-        }
+    mp4_answer answer = mp4_samples(file.bytes, file.size, track_id, 1, NULL, 0);
+    uint64_t count = answer.count, first = 1;
+    if (answer.code) {
+        print_refusal(stderr, 0, &answer);
+        return 1;
+    }
+    while (first <= count) {
+        size_t room = count - first < SAMPLES ? (size_t)(count - first) + 1 : SAMPLES;
+        answer = mp4_samples(file.bytes, file.size, track_id, (uint32_t)first, samples, room);
         for (uint64_t k = 0; k < answer.filled; k++)
             if (!print_sample(file, (uint32_t)(first + k), &samples[k])) return 0;
         first += answer.filled;
-        if (answer.filled == SAMPLES) continue;
+        if (answer.filled == room) continue;
         if (answer.code) print_refusal(stdout, (uint32_t)first, &answer);
-        else if (first <= answer.count) printf("%" PRIu64 " none\n", first);
+        else printf("%" PRIu64 " none\n", first);
         return 0;
     }
     return 0;

@@ -351,7 +351,8 @@ static inline mp4_answer mp4_tracks(const void *file, size_t size, mp4_track *tr
 
 /* The samples of a track from number first on, as far as there are samples and room, in one pass over its tables. count
  * is how many samples the track has. After a refusal, filled says how many samples before it were filled in; the next
- * one is what was refused.
+ * one is what was refused. Where stsz gives all samples one size, and counts fewer than its other tables hold, those
+ * after count are filled in too if there is room: so make room for no more than there are from first to count.
  *
  * These rows are the index of the track, since none that owns memory crosses to C: 40 bytes for each sample, and the
  * time of opening the file once more and of one pass. Kept, they find a sample by its number as row number - 1, and

@@ -317,6 +317,25 @@ static void compare_rows(file from, const mp4_track *track) {
     free(rows);
 }
 
+static void print_at(file from, const mp4_track *track, uint64_t time) {
+    uint32_t number = 0;
+    mp4_answer answer = mp4_sample_at(from.bytes, from.size, track->id, time, &number);
+    print_number("at", time, answer, number);
+}
+
+/* The samples that are found when the first ones begin, and a tick before and after that. */
+static void print_first(file from, const mp4_track *track) {
+    mp4_sample rows[8];
+    mp4_answer answer = mp4_samples(from.bytes, from.size, track->id, 1, rows, 8);
+    uint64_t count = answer.filled < answer.count ? answer.filled : answer.count;
+    for (uint64_t k = 0; k < count && mp4_sample_bytes(from.bytes, from.size, &rows[k]); k++) {
+        uint64_t start = rows[k].start_time;
+        if (start > 0) print_at(from, track, start - 1);
+        print_at(from, track, start);
+        if (start < UINT64_MAX) print_at(from, track, start + 1);
+    }
+}
+
 /* The samples that are found at the edges of a track's times and numbers, and beside them. */
 static void print_found(file from, const mp4_track *track) {
     uint64_t times[] = {0, 1, 2, 3, 5, 10, 20, 50, 100, 200, 500, 1000, 2000, 5000, 10000, 20000, 50000, 100000,
@@ -324,11 +343,8 @@ static void print_found(file from, const mp4_track *track) {
     uint32_t last = track->has_sample_count ? track->sample_count : 0;
     uint32_t numbers[] = {0, 1, 2, last, last + 1, UINT32_MAX};
     uint32_t number;
-    for (size_t k = 0; k < sizeof times / sizeof *times; k++) {
-        number = 0;
-        mp4_answer answer = mp4_sample_at(from.bytes, from.size, track->id, times[k], &number);
-        print_number("at", times[k], answer, number);
-    }
+    for (size_t k = 0; k < sizeof times / sizeof *times; k++) print_at(from, track, times[k]);
+    if (track->has_sample_count) print_first(from, track);
     for (size_t k = 0; k < sizeof numbers / sizeof *numbers; k++) {
         number = 0;
         mp4_answer answer = mp4_sync_sample_at_or_before(from.bytes, from.size, track->id, numbers[k], &number);

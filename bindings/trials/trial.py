@@ -1,5 +1,6 @@
 """What scripts/callers asks of the library from Python: trial.c says what each command does."""
 
+import itertools
 import sys
 import threading
 import time
@@ -79,6 +80,15 @@ def answered(call, shown, *words):
         return refused
 
 
+def first_times(movie, track):
+    """When the first samples of a track begin."""
+    try:
+        for sample in itertools.islice(movie.samples(track.id), 8):
+            yield sample.start_time
+    except maqelsun.Error:
+        return
+
+
 def track_lines(movie, track):
     """What a file says of a track, as trial.c prints it."""
     entry = track.sample_entry and digits(track.sample_entry.encode("latin-1"))
@@ -97,6 +107,9 @@ def track_lines(movie, track):
     few = [0, 1, 2, 3, 5, 10, 20, 50, 100, 200, 500, 1000, 2000, 5000, 10000, 20000, 50000, 100000]
     for time_in_ticks in [*few, max(track.duration - 1, 0), track.duration, 2**64 - 1]:
         yield f"at {time_in_ticks} {answered(movie.sample_at, marked, track.id, time_in_ticks)}"
+    for start in first_times(movie, track):
+        for time_in_ticks in range(max(start - 1, 0), min(start + 2, 2**64)):
+            yield f"at {time_in_ticks} {answered(movie.sample_at, marked, track.id, time_in_ticks)}"
     last = track.sample_count or 0
     for number in [0, 1, 2, last, (last + 1) % 2**32, 2**32 - 1]:
         found = answered(movie.sync_sample_at_or_before, marked, track.id, number)

@@ -134,6 +134,12 @@ fn found_lines(movie: &Movie<&[u8]>, track: &Track) -> String {
     for time in few.into_iter().chain([duration.saturating_sub(1), duration, u64::MAX]) {
         lines += &answer_line("at", time, movie.sample_at(id, time), marked);
     }
+    let first = movie.samples(id).into_iter().flatten().map_while(Result::ok).take(8);
+    for start in first.map(|sample| sample.start_time) {
+        for time in start.saturating_sub(1)..=start.saturating_add(1) {
+            lines += &answer_line("at", time, movie.sample_at(id, time), marked);
+        }
+    }
     for number in [0, 1, 2, last, last.wrapping_add(1), u32::MAX] {
         let sync = movie.sync_sample_at_or_before(id, number);
         lines += &answer_line("sync", number.into(), sync, marked);
