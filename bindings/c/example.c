@@ -51,7 +51,9 @@ static void print_track(const mp4_track *track) {
     printf("track %" PRIu32 " %.4s", track->id, (const char *)track->handler);
     printf(" %.4s", track->has_sample_entry ? (const char *)track->sample_entry : "-");
     printf(" %" PRIu32 " %" PRIu64, track->timescale, track->duration);
-    printf(" %" PRIu32 " %.3s\n", track->sample_count, (const char *)track->language);
+    if (track->has_sample_count) printf(" %" PRIu32, track->sample_count);
+    else printf(" -");
+    printf(" %.3s\n", (const char *)track->language);
 }
 
 static int print_tracks(struct file file) {
