@@ -1,6 +1,6 @@
 /* example FILE          lists the tracks of an MP4 file
- * example FILE TRACK    lists the samples of a track, a line each: its number, offset and size in bytes, start, duration
- *                       and rendering offset in ticks of the track, and 1 for a sync sample or 0
+ * example FILE TRACK    lists the samples of a track, a line each: its number, offset and size in bytes, start,
+ *                       duration and rendering offset in ticks of the track, and 1 for a sync sample or 0
  */
 #include "mp4.h"
 
@@ -51,7 +51,9 @@ static void print_track(const mp4_track *track) {
     printf("track %" PRIu32 " %.4s", track->id, (const char *)track->handler);
     printf(" %.4s", track->has_sample_entry ? (const char *)track->sample_entry : "-");
     printf(" %" PRIu32 " %" PRIu64, track->timescale, track->duration);
-    printf(" %" PRIu32 " %.3s\n", track->sample_count, (const char *)track->language);
+    if (track->has_sample_count) printf(" %" PRIu32, track->sample_count);
+    else printf(" -");
+    printf(" %.3s\n", (const char *)track->language);
 }
 
 static int print_tracks(struct file file) {
@@ -79,19 +81,21 @@ static int print_sample(struct file file, uint32_t number, const mp4_sample *sam
 /* Prints the lines of the samples of a track, some at a time, up to the first that isn't there. */
 static int print_samples(struct file file, uint32_t track_id) {
     static mp4_sample samples[SAMPLES];
-    uint64_t first = 1;
-    while (first <= UINT32_MAX) {
-        mp4_answer answer = mp4_samples(file.bytes, file.size, track_id, (uint32_t)first, samples, SAMPLES);
-        if (answer.code && !answer.count) {
-            print_refusal(stderr, 0, &answer);
-            return 1;
-        }
+    mp4_answer answer = mp4_samples(file.bytes, file.size, track_id, 1, NULL, 0);
+    uint64_t count = answer.count, first = 1;
+    if (answer.code) {
+        print_refusal(stderr, 0, &answer);
+        return 1;
+    }
+    while (first <= count) {
+        size_t room = count - first < SAMPLES ? (size_t)(count - first) + 1 : SAMPLES;
+        answer = mp4_samples(file.bytes, file.size, track_id, (uint32_t)first, samples, room);
         for (uint64_t k = 0; k < answer.filled; k++)
             if (!print_sample(file, (uint32_t)(first + k), &samples[k])) return 0;
         first += answer.filled;
-        if (answer.filled == SAMPLES) continue;
+        if (answer.filled == room) continue;
         if (answer.code) print_refusal(stdout, (uint32_t)first, &answer);
-        else if (first <= answer.count) printf("%" PRIu64 " none\n", first);
+        else printf("%" PRIu64 " none\n", first);
         return 0;
     }
     return 0;

@@ -5,7 +5,8 @@
  *
  * - A file is bytes in memory: read, or mapped, so that of a large file only what a call reads is loaded. No call but
  *   mp4_write and mp4_sample_bytes looks at the bytes of samples.
- * - One call does one job. Nothing is kept between calls: there is no handle, and nothing to free.
+ * - One call does one job. Nothing is kept between calls: there is no handle, and nothing to free. So each call that is
+ *   given a file opens it anew; the rows of a track, which the caller keeps, are its index (mp4_samples).
  * - Each call answers a struct mp4_answer: its code is MP4_OK or says why the call was refused. No bytes of a file make
  *   a call crash, read outside of what it was given, or run forever.
  * - An array is a pointer and a number of elements. The pointer of an array of no elements may be NULL. A NULL pointer
@@ -321,8 +322,8 @@ static inline mp4_answer mp4_null_pointer_(void) {
     return answer;
 }
 
-/* The version of the library. Where it isn't MP4_VERSION, the archive isn't the one of this header, and what its structs
- * are is not known. */
+/* The version of the library. Where it isn't MP4_VERSION, the archive isn't the one of this header, and what its
+ * structs are is not known. */
 static inline uint32_t mp4_version(void) {
     return mp4_c_version();
 }
@@ -350,10 +351,16 @@ static inline mp4_answer mp4_tracks(const void *file, size_t size, mp4_track *tr
 
 /* The samples of a track from number first on, as far as there are samples and room, in one pass over its tables. count
  * is how many samples the track has. After a refusal, filled says how many samples before it were filled in; the next
- * one is what was refused.
+ * one is what was refused. Where stsz gives all samples one size, and counts fewer than its other tables hold, those
+ * after count are filled in too if there is room: so make room for no more than there are from first to count.
  *
- * Ask for the samples of a file that isn't yours in blocks: a few hundred bytes may say that a track has 2^32 - 1,
- * which are 172 GB of rows.
+ * These rows are the index of the track, since none that owns memory crosses to C: 40 bytes for each sample, and the
+ * time of opening the file once more and of one pass. Kept, they find a sample by its number as row number - 1, and
+ * mp4_row_at and mp4_sync_row_at_or_before look among them.
+ *
+ * A few hundred bytes may say that a track has 2^32 - 1 samples, which are 172 GB of rows. So of a file that isn't yours
+ * make room for at most size / 4 rows, as many as there are where each sample has a size of its own in the file, and
+ * ask for those after them in blocks.
  *
  * MP4_TRAK_NOT_FOUND where there is no such track; MP4_TOO_LARGE where it has more than 2^32 - 1 samples. */
 static inline mp4_answer mp4_samples(const void *file, size_t size, uint32_t track_id, uint32_t first,
@@ -466,9 +473,10 @@ static inline mp4_answer mp4_error_text(const mp4_answer *answer, uint8_t *bytes
     return mp4_c_error_text(answer, MP4_POINTER_(uint8_t, bytes, spare), room);
 }
 
-/* Why mp4_open refuses a file, in words as those of mp4_error_text; where the code is MP4_INVALID_DATA, they are followed
- * by a colon and what it is that is invalid: "invalid data: a box is larger than the file". The file is opened once more
- * for it. 120 bytes are enough. Of a file that opens they are "no error". */
+/* Why mp4_open refuses a file, in words as those of mp4_error_text; where the code is MP4_INVALID_DATA, they are
+ * followed by a colon and what it is that is invalid: "invalid data: a box is larger than the file". The file is opened
+ * once more for it, and where that is out of memory, the words say so, or the answer does. 120 bytes are enough. Of a
+ * file that opens they are "no error". */
 static inline mp4_answer mp4_open_error_text(const void *file, size_t size, uint8_t *bytes, size_t room) {
     uint64_t spare[1] = {0};
     if (MP4_IS_NULL_(file, size) || MP4_IS_NULL_(bytes, room)) return mp4_null_pointer_();

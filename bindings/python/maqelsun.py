@@ -231,10 +231,11 @@ class Error(Exception):
     """Why a call was refused. Its text is that of the program ``mp4_tool``.
 
     ``code`` says why, and of a file that doesn't open by ``INVALID_DATA``, ``reason`` what it is that
-    is invalid, as "a box is larger than the file"; else it is empty. ``box_type``, ``second_box_type``, ``track_id``, ``number`` and ``limit`` are
-    what the refusal names, or empty and 0. After a refused :func:`write`, ``part`` says what was
-    refused, "movie", "track", "sample" or "end", and ``index`` which one, from 0 on. It can be
-    pickled and copied, so a process of a pool may raise it.
+    is invalid, as "a box is larger than the file"; else it is empty. ``box_type``,
+    ``second_box_type``, ``track_id``, ``number`` and ``limit`` are what the refusal names, or empty
+    and 0. After a refused :func:`write`, ``part`` says what was refused, "movie", "track", "sample"
+    or "end", and ``index`` which one, from 0 on. It can be pickled and copied, so a process of a pool
+    may raise it.
     """
 
     def __init__(self, answer: "_Answer", reason: str = ""):
@@ -793,7 +794,9 @@ class Movie:
         for each sample, and stays when the movie is closed.
 
         :class:`Error` where a sample can't be found. A few hundred bytes may say that a track has
-        2**32 - 1 samples: of a file that isn't yours, look at ``sample_count`` before.
+        2**32 - 1 samples, which would be 172 GB: of a file that isn't yours, look before whether its
+        ``sample_count`` is at most a fourth of the file's bytes, as it is where each sample has a size
+        of its own there.
         """
         rows = self._rows(self.track(track_id))
         if rows.refusal is not None:

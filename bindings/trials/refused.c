@@ -3,9 +3,10 @@
  *
  *   refused < NAMES        each call on each file that a line of standard input names
  *
- * A call whose request is refused has to answer MP4_OUT_OF_MEMORY and to fill in nothing, or, where it does without, what it
- * answers with all memory. A line for each call says how many of its requests were refused; the status is 0 where each call
- * answered so and each had a request.
+ * A call whose request is refused has to answer MP4_OUT_OF_MEMORY and to fill in nothing, or, where it does without,
+ * what it answers with all memory. What mp4_open_error_text says may be that its own opening was out of memory. A line
+ * for each call says how many of its requests were refused; the status is 0 where each call answered so and each had a
+ * request.
  */
 #define _GNU_SOURCE
 #include "mp4.h"
@@ -44,6 +45,7 @@ typedef struct trial {
     mp4_track tracks[16];
     mp4_sample samples[64];
     uint32_t number;
+    size_t room;
     uint8_t bytes[65536];
 } trial;
 
@@ -97,7 +99,13 @@ static mp4_answer write_movie(trial *t) {
         samples[k].duration = 500 + k;
         samples[k].is_sync = k < 3;
     }
-    return mp4_write(&movie, brands, 2, tracks, 3, samples, 6, t->file, t->size, t->bytes, sizeof t->bytes);
+    return mp4_write(&movie, brands, 2, tracks, 3, samples, 6, t->file, t->size, t->bytes, t->room);
+}
+
+/* How many bytes it would have. */
+static mp4_answer count_movie(trial *t) {
+    t->room = 0;
+    return write_movie(t);
 }
 
 static mp4_answer say_error(trial *t) {
@@ -130,27 +138,48 @@ static call calls[] = {
     {"mp4_metadata", read_title, 0},
     {"mp4_parameter_set", read_parameter_set, 0},
     {"mp4_write", write_movie, 0},
+    {"mp4_write without room", count_movie, 0},
     {"mp4_error_text", say_error, 0},
     {"mp4_open_error_text", say_why, 0},
 };
 
-/* One call whose n-th request is refused, and what it makes of a trial that was filled with ones. */
-static mp4_answer run(const call *c, trial *t, unsigned long n) {
+/* A trial over a file in which nothing is filled in: it is full of ones. */
+static void reset(trial *t) {
     const uint8_t *file = t->file;
     size_t size = t->size;
     memset(t, 1, sizeof *t);
     t->file = file;
     t->size = size;
+    t->room = sizeof t->bytes;
+}
+
+/* One call whose n-th request is refused, and what it makes of a trial. */
+static mp4_answer run(const call *c, trial *t, unsigned long n) {
+    reset(t);
     requests = 0;
     refused = n;
     watching = 1;
     mp4_answer answer = c->make(t);
     watching = 0;
+    t->room = sizeof t->bytes;
     return answer;
 }
 
 static int is_same(const trial *a, const trial *b) {
     return memcmp(a, b, sizeof *a) == 0;
+}
+
+/* Whether an answer says in words that memory ran out, and nothing else was filled in. */
+static int says_so(const mp4_answer *answer, const trial *t, trial *untouched) {
+    static const char words[] = "out of memory";
+    size_t count = sizeof words - 1;
+    mp4_answer said;
+    memset(&said, 0, sizeof said);
+    said.count = said.filled = count;
+    memcpy(untouched->bytes, words, count);
+    int says = memcmp(answer, &said, sizeof said) == 0 && is_same(t, untouched);
+    reset(untouched);
+    return says;
 }
 
 /* Refuses each request of a call in turn, and says whether it answered each as it has to. */
@@ -166,7 +195,8 @@ static int try_call(call *c, trial *whole, trial *now, trial *untouched) {
         none.index = answer.index;
         int is_out_of_memory = memcmp(&answer, &none, sizeof answer) == 0 && is_same(now, untouched);
         int does_without = memcmp(&answer, &expected, sizeof answer) == 0 && is_same(now, whole);
-        if (!is_out_of_memory && !does_without) {
+        int gives_words = c->make == say_why && says_so(&answer, now, untouched);
+        if (!is_out_of_memory && !does_without && !gives_words) {
             printf("%s: request %lu of %lu refused, and the answer is %u\n", c->name, n, all, answer.code);
             return 0;
         }
@@ -183,9 +213,9 @@ static int try_file(const char *name) {
     if (!from) return 0;
     size_t size = fread(bytes, 1, sizeof bytes, from);
     fclose(from);
-    memset(&untouched, 1, sizeof untouched);
     whole.file = now.file = untouched.file = bytes;
     whole.size = now.size = untouched.size = size;
+    reset(&untouched);
     for (size_t k = 0; k < sizeof calls / sizeof *calls; k++) {
         if (!try_call(&calls[k], &whole, &now, &untouched)) return 0;
     }

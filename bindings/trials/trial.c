@@ -2,11 +2,13 @@
  *
  *   trial list             the samples of each file that a line of standard input names
  *   trial faults           why each of these files doesn't open, or an empty line
- *   trial facts            all that each of these files says of its movie, its tracks and its work, and the samples that
- *                          are found at the edges of times and numbers
+ *   trial reasons          the same, and what it is that is invalid
+ *   trial facts            all that each of these files says of its movie, its tracks and its work, and the samples
+ *                          that are found at the edges of times and numbers
  *   trial nulls            nothing where NULL is refused in place of each pointer to what is there, and by each call
+ *   trial words            the words of each refusal
  *   trial write OUT        makes the movie of a script from standard input
- *   trial large FILE       the samples of a file; on standard error the microseconds and the KiB of the file that it took
+ *   trial large FILE       the samples of a file; on standard error the microseconds and the KiB of memory that it took
  */
 #define _GNU_SOURCE
 #include "mp4.h"
@@ -73,6 +75,78 @@ static void print_text(mp4_answer answer) {
     char text[80];
     mp4_answer said = mp4_error_text(&answer, (uint8_t *)text, sizeof text);
     printf("%.*s\n", (int)said.filled, text);
+}
+
+/* A call that fills in elements of one size. What else it is asked with is behind a pointer. */
+typedef mp4_answer (*filling_call)(const void *asked, void *elements, size_t room);
+
+/* What stands in each byte of a room before a call. */
+enum { UNTOUCHED = 0xa5 };
+
+static int are_untouched(const uint8_t *bytes, size_t size) {
+    while (size > 0 && *bytes == UNTOUCHED) bytes++, size--;
+    return size == 0;
+}
+
+/* Prints a mark where a call fills a room otherwise than it should: none, less than all, just all or more. Of a list as
+ * many elements are filled in as have room, and of bytes all or none. What lies after them isn't touched. */
+static void try_rooms(const char *name, filling_call call, const void *asked, size_t size, int is_list) {
+    mp4_answer none = call(asked, NULL, 0);
+    uint64_t count = none.count;
+    if (none.code != MP4_OK || count > 200000) return;
+    size_t bytes = ((size_t)count + 2) * size;
+    uint8_t *whole = room_for(count + 2, size), *part = room_for(count + 2, size);
+    memset(whole, UNTOUCHED, bytes);
+    mp4_answer all = call(asked, whole, (size_t)count + 2);
+    uint64_t rooms[] = {0, 1, count / 2, count ? count - 1 : 0, count, count + 1};
+    for (size_t k = 0; k < sizeof rooms / sizeof *rooms; k++) {
+        size_t room = (size_t)rooms[k];
+        memset(part, UNTOUCHED, bytes);
+        mp4_answer answer = call(asked, room ? part : NULL, room);
+        uint64_t filled = room < all.filled ? (is_list ? room : 0) : all.filled;
+        size_t end = (size_t)filled * size;
+        uint32_t code = room > all.filled ? all.code : MP4_OK;
+        if (answer.count != all.count || answer.filled != filled || (is_list && answer.code != code) ||
+            memcmp(part, whole, end) != 0 || !are_untouched(part + end, bytes - end)) {
+            printf("(%s: a room for %llu of %llu isn't filled as it should be)\n", name, (unsigned long long)room,
+                   (unsigned long long)count);
+        }
+    }
+    free(whole);
+    free(part);
+}
+
+static mp4_answer brands_call(const void *asked, void *elements, size_t room) {
+    const file *from = asked;
+    return mp4_brands(from->bytes, from->size, elements, room);
+}
+
+static mp4_answer tracks_call(const void *asked, void *elements, size_t room) {
+    const file *from = asked;
+    return mp4_tracks(from->bytes, from->size, elements, room);
+}
+
+static mp4_answer words_call(const void *asked, void *elements, size_t room) {
+    return mp4_error_text(asked, elements, room);
+}
+
+static mp4_answer reason_call(const void *asked, void *elements, size_t room) {
+    const file *from = asked;
+    return mp4_open_error_text(from->bytes, from->size, elements, room);
+}
+
+/* The samples of a track from a number on. */
+typedef struct later_samples {
+    file from;
+    uint32_t track_id, first;
+} later_samples;
+
+static mp4_answer samples_call(const void *asked, void *elements, size_t room) {
+    const later_samples *later = asked;
+    mp4_answer answer = mp4_samples(later->from.bytes, later->from.size, later->track_id, later->first, elements, room);
+    /* how many there are from there on */
+    if (later->first > 1) answer.count -= answer.count < later->first ? answer.count : later->first - 1;
+    return answer;
 }
 
 /* The samples of a track, a line each, as `mp4_tool samples` prints them. */
@@ -243,6 +317,25 @@ static void compare_rows(file from, const mp4_track *track) {
     free(rows);
 }
 
+static void print_at(file from, const mp4_track *track, uint64_t time) {
+    uint32_t number = 0;
+    mp4_answer answer = mp4_sample_at(from.bytes, from.size, track->id, time, &number);
+    print_number("at", time, answer, number);
+}
+
+/* The samples that are found when the first ones begin, and a tick before and after that. */
+static void print_first(file from, const mp4_track *track) {
+    mp4_sample rows[8];
+    mp4_answer answer = mp4_samples(from.bytes, from.size, track->id, 1, rows, 8);
+    uint64_t count = answer.filled < answer.count ? answer.filled : answer.count;
+    for (uint64_t k = 0; k < count && mp4_sample_bytes(from.bytes, from.size, &rows[k]); k++) {
+        uint64_t start = rows[k].start_time;
+        if (start > 0) print_at(from, track, start - 1);
+        print_at(from, track, start);
+        if (start < UINT64_MAX) print_at(from, track, start + 1);
+    }
+}
+
 /* The samples that are found at the edges of a track's times and numbers, and beside them. */
 static void print_found(file from, const mp4_track *track) {
     uint64_t times[] = {0, 1, 2, 3, 5, 10, 20, 50, 100, 200, 500, 1000, 2000, 5000, 10000, 20000, 50000, 100000,
@@ -250,11 +343,8 @@ static void print_found(file from, const mp4_track *track) {
     uint32_t last = track->has_sample_count ? track->sample_count : 0;
     uint32_t numbers[] = {0, 1, 2, last, last + 1, UINT32_MAX};
     uint32_t number;
-    for (size_t k = 0; k < sizeof times / sizeof *times; k++) {
-        number = 0;
-        mp4_answer answer = mp4_sample_at(from.bytes, from.size, track->id, times[k], &number);
-        print_number("at", times[k], answer, number);
-    }
+    for (size_t k = 0; k < sizeof times / sizeof *times; k++) print_at(from, track, times[k]);
+    if (track->has_sample_count) print_first(from, track);
     for (size_t k = 0; k < sizeof numbers / sizeof *numbers; k++) {
         number = 0;
         mp4_answer answer = mp4_sync_sample_at_or_before(from.bytes, from.size, track->id, numbers[k], &number);
@@ -267,9 +357,7 @@ static void print_brands(file from, uint64_t count) {
     mp4_brand *brands = room_for(count, sizeof *brands);
     mp4_answer answer = mp4_brands(from.bytes, from.size, brands, count);
     printf("brands");
-    if (answer.filled != count || mp4_brands(from.bytes, from.size, brands, count / 2).filled != count / 2) {
-        printf(" (not filled)");
-    }
+    if (answer.filled != count || answer.count != count) printf(" (not filled)");
     for (uint64_t k = 0; k < count; k++) print_digits(brands[k].code, 4);
     printf("\n");
     free(brands);
@@ -293,7 +381,14 @@ static void print_facts(file from) {
     for (uint32_t key = MP4_TITLE; key <= MP4_SUMMARY; key++) print_bytes(from, metadata_call, "metadata", 0, key);
     mp4_track *tracks = room_for(movie.track_count, sizeof *tracks);
     answer = mp4_tracks(from.bytes, from.size, tracks, movie.track_count);
+    if (answer.filled != movie.track_count) printf("(not filled)\n");
+    try_rooms("mp4_brands", brands_call, &from, sizeof(mp4_brand), 1);
+    try_rooms("mp4_tracks", tracks_call, &from, sizeof(mp4_track), 1);
     for (uint64_t k = 0; k < answer.filled; k++) {
+        for (uint32_t first = 1; first <= 3; first += 2) {
+            later_samples later = {from, tracks[k].id, first};
+            try_rooms("mp4_samples", samples_call, &later, sizeof(mp4_sample), 1);
+        }
         print_track(&tracks[k]);
         print_bytes(from, set_call, "set", tracks[k].id, MP4_SEQUENCE_SET);
         print_bytes(from, set_call, "set", tracks[k].id, MP4_PICTURE_SET);
@@ -307,6 +402,15 @@ static void print_fault(file from) {
     mp4_answer answer = mp4_open(from.bytes, from.size, &movie);
     if (answer.code != MP4_OK) print_text(answer);
     else printf("\n");
+}
+
+/* Why a file doesn't open, and what it is that is invalid; an empty line for one that opens. */
+static void print_reason(file from) {
+    char text[120];
+    mp4_answer said = mp4_open_error_text(from.bytes, from.size, (uint8_t *)text, sizeof text);
+    try_rooms("mp4_open_error_text", reason_call, &from, 1, 0);
+    if (said.filled == 8 && memcmp(text, "no error", 8) == 0) printf("\n");
+    else printf("%.*s\n", (int)said.filled, text);
 }
 
 /* Does something with each file that a line of standard input names, after a line with its name. */
@@ -406,15 +510,30 @@ static void write_movie(const char *name) {
     free(line);
     mp4_answer answer = mp4_write(&movie, brands, 4, tracks.rows, tracks.count, samples.rows, samples.count, data.rows,
                                   data.count, NULL, 0);
-    uint8_t *bytes = room_for(answer.count, 1);
-    answer = mp4_write(&movie, brands, 4, tracks.rows, tracks.count, samples.rows, samples.count, data.rows, data.count,
-                       bytes, answer.count);
     if (answer.code != MP4_OK) {
         print_text(answer);
         exit(1);
     }
+    size_t size = (size_t)answer.count;
+    uint8_t *bytes = room_for(answer.count + 1, 1);
+    memset(bytes, UNTOUCHED, size + 1);
+    for (size_t room = size - 1; room <= size + 1; room += 2) {
+        answer = mp4_write(&movie, brands, 4, tracks.rows, tracks.count, samples.rows, samples.count, data.rows,
+                           data.count, bytes, room);
+        uint64_t filled = room < size ? 0 : size;
+        if (answer.code != MP4_OK || answer.count != size || answer.filled != filled ||
+            !are_untouched(bytes + filled, size + 1 - filled)) {
+            give_up("a room isn't filled as it should be");
+        }
+    }
+    memset(bytes, UNTOUCHED, size + 1);
+    answer = mp4_write(&movie, brands, 4, tracks.rows, tracks.count, samples.rows, samples.count, data.rows, data.count,
+                       bytes, size);
+    if (answer.code != MP4_OK || bytes[size] != UNTOUCHED) give_up("a movie isn't written");
     FILE *out = fopen(name, "wb");
-    if (!out || fwrite(bytes, 1, answer.filled, out) != answer.filled || fclose(out) != 0) give_up("a file isn't written");
+    if (!out || fwrite(bytes, 1, answer.filled, out) != answer.filled || fclose(out) != 0) {
+        give_up("a file isn't written");
+    }
     free(bytes);
     free(tracks.rows);
     free(samples.rows);
@@ -484,23 +603,23 @@ static uint64_t microseconds(void) {
     return (uint64_t)now.tv_sec * 1000000 + (uint64_t)now.tv_nsec / 1000;
 }
 
-/* How many KiB of mapped files this process holds in memory. */
-static long mapped_kib(void) {
+/* How many KiB this process holds in memory, those of mapped files among them. */
+static long resident_kib(void) {
     char line[256];
     long kib = -1;
     FILE *status = fopen("/proc/self/status", "r");
-    while (status && fgets(line, sizeof line, status)) sscanf(line, "RssFile: %ld", &kib);
+    while (status && fgets(line, sizeof line, status)) sscanf(line, "VmRSS: %ld", &kib);
     if (status) fclose(status);
     return kib;
 }
 
 static void list_large(const char *name) {
-    long before = mapped_kib();
+    long before = resident_kib();
     uint64_t begun = microseconds();
     file from = map_file(name);
     list_file(from);
     uint64_t taken = microseconds() - begun;
-    fprintf(stderr, "%llu %ld\n", (unsigned long long)taken, mapped_kib() - before);
+    fprintf(stderr, "%llu %ld\n", (unsigned long long)taken, resident_kib() - before);
     unmap(from);
 }
 
@@ -509,6 +628,7 @@ static void print_words(void) {
     mp4_answer answer = {.track_id = 7, .number = 12, .box_type = "stts", .second_box_type = "mvex"};
     for (answer.code = MP4_OK; answer.code <= MP4_NULL_POINTER + 1; answer.code++) {
         if (answer.code != MP4_TOO_LARGE) print_text(answer);
+        try_rooms("mp4_error_text", words_call, &answer, 1, 0);
     }
     answer.code = MP4_TOO_LARGE;
     for (answer.limit = 0; answer.limit <= MP4_LIMIT_VALUE + 1; answer.limit++) print_text(answer);
@@ -524,6 +644,8 @@ int main(int count, char **words) {
         each_file(list_file);
     } else if (count == 2 && strcmp(command, "faults") == 0) {
         each_file(print_fault);
+    } else if (count == 2 && strcmp(command, "reasons") == 0) {
+        each_file(print_reason);
     } else if (count == 2 && strcmp(command, "facts") == 0) {
         each_file(print_facts);
     } else if (count == 2 && strcmp(command, "nulls") == 0) {
@@ -535,7 +657,7 @@ int main(int count, char **words) {
     } else if (count == 3 && strcmp(command, "large") == 0) {
         list_large(words[2]);
     } else {
-        give_up("list | faults | facts | nulls | words | write OUT | large FILE");
+        give_up("list | faults | reasons | facts | nulls | words | write OUT | large FILE");
     }
     return 0;
 }

@@ -1,5 +1,6 @@
 """What scripts/callers asks of the library from Python: trial.c says what each command does."""
 
+import itertools
 import sys
 import threading
 import time
@@ -44,6 +45,15 @@ def fault_lines(source):
     return [""]
 
 
+def reason_lines(source):
+    """The same, and what it is that is invalid."""
+    try:
+        maqelsun.Movie(source).close()
+    except maqelsun.Error as refused:
+        return [f"{refused}: {refused.reason}" if refused.reason else str(refused)]
+    return [""]
+
+
 def digits(value):
     """Bytes in digits; a full stop for none."""
     return value.hex() or "."
@@ -70,6 +80,15 @@ def answered(call, shown, *words):
         return refused
 
 
+def first_times(movie, track):
+    """When the first samples of a track begin."""
+    try:
+        for sample in itertools.islice(movie.samples(track.id), 8):
+            yield sample.start_time
+    except maqelsun.Error:
+        return
+
+
 def track_lines(movie, track):
     """What a file says of a track, as trial.c prints it."""
     entry = track.sample_entry and digits(track.sample_entry.encode("latin-1"))
@@ -88,6 +107,9 @@ def track_lines(movie, track):
     few = [0, 1, 2, 3, 5, 10, 20, 50, 100, 200, 500, 1000, 2000, 5000, 10000, 20000, 50000, 100000]
     for time_in_ticks in [*few, max(track.duration - 1, 0), track.duration, 2**64 - 1]:
         yield f"at {time_in_ticks} {answered(movie.sample_at, marked, track.id, time_in_ticks)}"
+    for start in first_times(movie, track):
+        for time_in_ticks in range(max(start - 1, 0), min(start + 2, 2**64)):
+            yield f"at {time_in_ticks} {answered(movie.sample_at, marked, track.id, time_in_ticks)}"
     last = track.sample_count or 0
     for number in [0, 1, 2, last, (last + 1) % 2**32, 2**32 - 1]:
         found = answered(movie.sync_sample_at_or_before, marked, track.id, number)
@@ -161,22 +183,21 @@ def write_movie(name):
         out.write(movie)
 
 
-def mapped_kib():
-    """How many KiB of mapped files this process holds in memory."""
+def resident_kib():
+    """How many KiB this process holds in memory, those of mapped files among them."""
     with open("/proc/self/status", encoding="ascii") as status:
-        return next(int(line.split()[1]) for line in status if line.startswith("RssFile:"))
+        return next(int(line.split()[1]) for line in status if line.startswith("VmRSS:"))
 
 
 def list_large(name):
-    """The samples of a file; on standard error the microseconds and the KiB of mapped files it
-    took."""
+    """The samples of a file; on standard error the microseconds and the KiB of memory it took."""
     fault_lines(b"")  # the first call loads code, which isn't of the file
-    before = mapped_kib()
+    before = resident_kib()
     begun = time.monotonic()
     with maqelsun.Movie(name) as movie:
         lines = [line for track in movie.tracks for line in sample_lines(movie, track)]
         taken = int((time.monotonic() - begun) * 1000000)
-        print(taken, mapped_kib() - before, file=sys.stderr)
+        print(taken, resident_kib() - before, file=sys.stderr)
     print("\n".join(lines))
 
 
@@ -203,6 +224,7 @@ def main():
     commands = {
         "list": lambda: each_file(file_lines),
         "faults": lambda: each_file(fault_lines),
+        "reasons": lambda: each_file(reason_lines),
         "facts": lambda: each_file(fact_lines),
         "write": write_movie,
         "large": list_large,

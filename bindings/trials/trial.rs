@@ -56,6 +56,14 @@ fn fault_line(file: &[u8]) -> String {
     Movie::open(file).err().map_or("\n".to_owned(), |refused| format!("{refused}\n"))
 }
 
+/// The same, and what it is that is invalid.
+fn reason_line(file: &[u8]) -> String {
+    match Movie::open(file).err() {
+        Some(maqelsun::Error::InvalidData(text)) => format!("invalid data: {text}\n"),
+        refused => refused.map_or("\n".to_owned(), |refused| format!("{refused}\n")),
+    }
+}
+
 /// Bytes in digits; a full stop for none.
 fn digits(bytes: &[u8]) -> String {
     match bytes {
@@ -125,6 +133,12 @@ fn found_lines(movie: &Movie<&[u8]>, track: &Track) -> String {
     ];
     for time in few.into_iter().chain([duration.saturating_sub(1), duration, u64::MAX]) {
         lines += &answer_line("at", time, movie.sample_at(id, time), marked);
+    }
+    let first = movie.samples(id).into_iter().flatten().map_while(Result::ok).take(8);
+    for start in first.map(|sample| sample.start_time) {
+        for time in start.saturating_sub(1)..=start.saturating_add(1) {
+            lines += &answer_line("at", time, movie.sample_at(id, time), marked);
+        }
     }
     for number in [0, 1, 2, last, last.wrapping_add(1), u32::MAX] {
         let sync = movie.sync_sample_at_or_before(id, number);
@@ -250,23 +264,23 @@ fn write_movie(name: &str) -> Outcome<()> {
     Ok(fs::write(name, writer.finish()?)?)
 }
 
-/// How many KiB of mapped files this process holds in memory.
-fn mapped_kib() -> Outcome<i64> {
+/// How many KiB this process holds in memory, those of mapped files among them.
+fn resident_kib() -> Outcome<i64> {
     let status = fs::read_to_string("/proc/self/status")?;
-    let line = status.lines().find_map(|line| line.strip_prefix("RssFile:"));
-    let words = line.ok_or("there is no RssFile")?.split_whitespace().next();
-    Ok(words.ok_or("there is no RssFile")?.parse()?)
+    let line = status.lines().find_map(|line| line.strip_prefix("VmRSS:"));
+    let words = line.ok_or("there is no VmRSS")?.split_whitespace().next();
+    Ok(words.ok_or("there is no VmRSS")?.parse()?)
 }
 
-/// The samples of a file; on standard error the microseconds and the KiB of mapped files it took.
+/// The samples of a file; on standard error the microseconds and the KiB of memory it took.
 fn list_large(name: &str) -> Outcome<()> {
     fault_line(b""); // the first call loads code, which isn't of the file
-    let before = mapped_kib()?;
+    let before = resident_kib()?;
     let begun = Instant::now();
     let mapped = mapping::Mapping::of(&fs::File::open(name)?)?;
     let lines = file_lines(mapped.bytes());
     let taken = begun.elapsed();
-    eprintln!("{} {}", taken.as_micros(), mapped_kib()? - before);
+    eprintln!("{} {}", taken.as_micros(), resident_kib()? - before);
     print!("{lines}");
     Ok(())
 }
@@ -344,11 +358,12 @@ fn run() -> Outcome<()> {
     match words[..] {
         ["list"] => each_file(file_lines),
         ["faults"] => each_file(fault_line),
+        ["reasons"] => each_file(reason_line),
         ["facts"] => each_file(facts),
         ["write", out] => write_movie(out),
         ["large", file] => list_large(file),
         ["threads", file] => list_by_threads(file),
-        _ => Err("list | faults | facts | write OUT | large FILE | threads FILE".into()),
+        _ => Err("list | faults | reasons | facts | write OUT | large FILE | threads FILE".into()),
     }
 }
 

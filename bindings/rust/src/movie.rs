@@ -248,7 +248,9 @@ impl<B: AsRef<[u8]>> Movie<B> {
     /// known and each sample is found at once. It is made the first time, and kept.
     ///
     /// It takes 40 bytes for each sample that is there. A few hundred bytes may say that a track has
-    /// 2^32 - 1: of a file that isn't yours, look at [`Movie::sample_count`] before.
+    /// 2^32 - 1, which would be 172 GB: of a file that isn't yours, look before whether its
+    /// [`Movie::sample_count`] is at most a fourth of the file's bytes, as it is where each sample has
+    /// a size of its own there.
     pub fn sample_list(&self, track_id: u32) -> Result<SampleList<'_>> {
         Ok(SampleList::new(self.file(), self.rows_of(track_id)?))
     }
