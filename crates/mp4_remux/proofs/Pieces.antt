@@ -149,8 +149,12 @@ module _ (source made : List ℕ) where
   length-spliced [] start end f = omega (arith, f)
   length-spliced (p ∷ ps) start end f =
       let long = length-piece source made p f.1.1.0 in
-      omega (arith, length-append (piece_bytes source made p) (spliced source made ps), long,
-      length-spliced ps (start + p.len) end f.1.1.1)
+      omega (
+        arith,
+        length-append (piece_bytes source made p) (spliced source made ps),
+        long,
+        length-spliced ps (start + p.len) end f.1.1.1,
+      )
 
 -- what a splice says of its length, where its bytes are known
 pub counted : (known : Option (List ℕ)) (made : List ℕ) (ps : List Piece) (source_len end : ℕ) → IsLength known source_len
@@ -186,9 +190,16 @@ pub length_kept : (filled count : ℕ) (before part : List ℕ) → filled + cou
     → length (put_mid filled (filled + count - filled) before part) ≡ length before
 length_kept filled count before part fits long =
     let k = filled + count - filled in
-    omega (arith, fits, long, length-append (take filled before) (part ++ post_of filled k before),
-    length-append part (post_of filled k before), length-take filled before,
-    length-drop k (drop filled before), length-drop filled before)
+    omega (
+      arith,
+      fits,
+      long,
+      length-append (take filled before) (part ++ post_of filled k before),
+      length-append part (post_of filled k before),
+      length-take filled before,
+      length-drop k (drop filled before),
+      length-drop filled before,
+    )
 
 -- the bytes from a place on, with those of a piece more
 pub more_bytes : (known : Option (List ℕ)) (made : List ℕ) (ps : List Piece) (source_len end place filled count k m : ℕ)

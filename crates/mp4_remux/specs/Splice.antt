@@ -30,13 +30,13 @@ Follow source_len made_len start (p ∷ ps) end =
 
 -- A place of the splice is in this piece, after so many bytes of it; so the bytes from there on are the piece's.
 pub record IsPieceAt (source_len made_len : ℕ) (pieces : List Piece) (place : ℕ) (p : Piece) (skipped : ℕ) : Type 0
-    where
-  pub there : p.at + skipped ≡ place
-  pub inside : skipped < p.len
-  pub within : p.place + p.len ≤ of_origin p.origin source_len made_len
-  pub bytes : (source made : List ℕ) (n : ℕ) → length source ≡ source_len → length made ≡ made_len
-      → skipped + n ≤ p.len → take n (drop place (spliced source made pieces))
-      ≡ take n (drop (p.place + skipped) (of_origin p.origin source made))
+  where
+    pub there : p.at + skipped ≡ place
+    pub inside : skipped < p.len
+    pub within : p.place + p.len ≤ of_origin p.origin source_len made_len
+    pub bytes : (source made : List ℕ) (n : ℕ) → length source ≡ source_len → length made ≡ made_len
+        → skipped + n ≤ p.len → take n (drop place (spliced source made pieces))
+        ≡ take n (drop (p.place + skipped) (of_origin p.origin source made))
 
 -- The n bytes of the splice from this place on are there, and those of the source from another on.
 pub record IsPartOfBoth (source_len len : ℕ) (made : List ℕ) (pieces : List Piece) (place origin n : ℕ) : Type 0 where

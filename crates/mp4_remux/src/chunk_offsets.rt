@@ -108,7 +108,12 @@ fn put_table(table: &BoxBytes, moves: &[Move], out: &mut Vec<u8>) -> Result<(), 
 
 /// Adds the boxes that these bytes hold, of which those at this level are `AROUND[level]` or have the offsets, as they are
 /// when all is moved; and the bytes after them.
-fn put_boxes(bytes: &[u8], level: usize, moves: &[Move], out: &mut Vec<u8>) -> Result<(), RemuxError>
+fn put_boxes(
+    bytes: &[u8],
+    level: usize,
+    moves: &[Move],
+    out: &mut Vec<u8>,
+) -> Result<(), RemuxError>
     requires { level ≤ 5 }
 {
     let mut rest = bytes;

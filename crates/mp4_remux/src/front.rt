@@ -39,7 +39,12 @@ fn is_in_front(boxes: &[TopBox], movie: u64) -> bool {
 }
 
 /// Adds bytes after those of the pieces before; none where there are none.
-fn push_piece(pieces: &mut Vec<Piece>, origin: Origin, place: u64, end: u64) -> Result<(), RemuxError> {
+fn push_piece(
+    pieces: &mut Vec<Piece>,
+    origin: Origin,
+    place: u64,
+    end: u64,
+) -> Result<(), RemuxError> {
     if end <= place {
         return Ok(());
     }
@@ -124,7 +129,11 @@ fn plan_nothing(alloc: Global, len: u64) -> Result<(Vec<u8>, Vec<Piece>), RemuxE
 }
 
 /// The bytes of a box, in which no box says places.
-fn checked_bytes<S: ByteSource>(alloc: Global, source: &mut S, one: TopBox) -> Result<Vec<u8>, RemuxError>
+fn checked_bytes<S: ByteSource>(
+    alloc: Global,
+    source: &mut S,
+    one: TopBox,
+) -> Result<Vec<u8>, RemuxError>
     ensures contents { S.contents source.new ≡ S.contents source.old }
 {
     let mut bytes = Vec::new(alloc);
@@ -135,7 +144,11 @@ fn checked_bytes<S: ByteSource>(alloc: Global, source: &mut S, one: TopBox) -> R
 }
 
 /// Checks that no metadata of the file itself says places.
-fn check_metadata<S: ByteSource>(alloc: Global, source: &mut S, boxes: &[TopBox]) -> Result<(), RemuxError>
+fn check_metadata<S: ByteSource>(
+    alloc: Global,
+    source: &mut S,
+    boxes: &[TopBox],
+) -> Result<(), RemuxError>
     ensures contents { S.contents source.new ≡ S.contents source.old }
 {
     for one in boxes {
@@ -165,7 +178,14 @@ fn plan<S: ByteSource + Drop>(
             check_top_level(&boxes)?;
             check_metadata(alloc, &mut source, &boxes)?;
             let bytes = checked_bytes(alloc, &mut source, movie)?;
-            plan_front(alloc, &bytes, file_type, movie, len, tracks.saturating_add(2))?
+            plan_front(
+                alloc,
+                &bytes,
+                file_type,
+                movie,
+                len,
+                tracks.saturating_add(2),
+            )?
         }
         _ => plan_nothing(alloc, len)?,
     };

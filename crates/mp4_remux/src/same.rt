@@ -102,11 +102,7 @@ fn have_same_ids(before: &Movie, after: &Movie) -> bool
 }
 
 /// Checks that a movie which is opened from a layout has the tracks that it has in its file, with the same samples.
-pub(crate) fn check_same(
-    before: &Movie,
-    after: &Movie,
-    layout: &Layout,
-) -> Result<(), RemuxError>
+pub(crate) fn check_same(before: &Movie, after: &Movie, layout: &Layout) -> Result<(), RemuxError>
     requires before { AreTracks before.now.moov before.now.moofs before.now.moof_places before.now.tracks }
     requires after { AreTracks after.now.moov after.now.moofs after.now.moof_places after.now.tracks }
     ensures ids { OnOk result (ids_of after.now.moov ≡ ids_of before.now.moov) }

@@ -34,9 +34,16 @@ pub(crate) fn top_boxes<S: ByteSource + Drop>(
         let end = if header.size == OPEN_END {
             len
         } else {
-            cursor.position().saturating_add(header.size - HEADER_SIZE).min(len)
+            cursor
+                .position()
+                .saturating_add(header.size - HEADER_SIZE)
+                .min(len)
         };
-        boxes.push(TopBox { name: header.name, place, end })?;
+        boxes.push(TopBox {
+            name: header.name,
+            place,
+            end,
+        })?;
         place = end;
     }
     let (source, _) = cursor.into_parts();

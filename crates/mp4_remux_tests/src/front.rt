@@ -76,7 +76,10 @@ fn widens_offsets(alloc: Global) -> Result<bool, RemuxError> {
     let data = 32 + hole;
     let first = (data + 16) as u32;
     let movie = movie_with(alloc, first, first + 6)?;
-    let head = joined(alloc, &[file_type(), b"\0\0\0\x01free", &hole.to_be_bytes()])?;
+    let head = joined(
+        alloc,
+        &[file_type(), b"\0\0\0\x01free", &hole.to_be_bytes()],
+    )?;
     let tail = joined(alloc, &[&DATA, &movie])?;
     let file = Zeros::new(&head, &tail, data);
     let mut out = FirstBytes::new(alloc, 1 << 20);
@@ -87,10 +90,12 @@ fn widens_offsets(alloc: Global) -> Result<bool, RemuxError> {
     box_of_offsets.extend_from_slice(&movie[643..])?;
     let is_full = matches!(answer, Err(RemuxError::Write(_)));
     let written = out.bytes.as_slice();
-    Ok(is_full
-        && starts_with(written, 32, b"\0\0\x03\x5fmoov")
-        && starts_with(written, 32 + 619, &box_of_offsets)
-        && starts_with(written, 32 + 863, &head[32..]))
+    Ok(
+        is_full
+            && starts_with(written, 32, b"\0\0\x03\x5fmoov")
+            && starts_with(written, 32 + 619, &box_of_offsets)
+            && starts_with(written, 32 + 863, &head[32..]),
+    )
 }
 
 #[test]

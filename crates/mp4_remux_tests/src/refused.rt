@@ -25,12 +25,20 @@ fn with_box(alloc: Global, one: &[u8]) -> Result<Vec<u8>, RemuxError> {
 fn refuses_places(alloc: Global) -> Result<bool, RemuxError> {
     let mfra = refusal_of(alloc, &with_box(alloc, b"\0\0\0\x08mfra")?);
     let sidx = refusal_of(alloc, &with_box(alloc, b"\0\0\0\x08sidx")?);
-    let iloc = refusal_of(alloc, &with_box(alloc, b"\0\0\0\x14meta\0\0\0\0\0\0\0\x08iloc")?);
-    let free = refusal_of(alloc, &with_box(alloc, b"\0\0\0\x14meta\0\0\0\0\0\0\0\x08abcd")?);
-    Ok(matches!(mfra, (Some(RemuxError::SaysPlaces(_, 911)), 0))
-        && matches!(sidx, (Some(RemuxError::SaysPlaces(_, 911)), 0))
-        && matches!(iloc, (Some(RemuxError::SaysPlaces(_, 911)), 0))
-        && matches!(free, (None, 931)))
+    let iloc = refusal_of(
+        alloc,
+        &with_box(alloc, b"\0\0\0\x14meta\0\0\0\0\0\0\0\x08iloc")?,
+    );
+    let free = refusal_of(
+        alloc,
+        &with_box(alloc, b"\0\0\0\x14meta\0\0\0\0\0\0\0\x08abcd")?,
+    );
+    Ok(
+        matches!(mfra, (Some(RemuxError::SaysPlaces(_, 911)), 0))
+            && matches!(sidx, (Some(RemuxError::SaysPlaces(_, 911)), 0))
+            && matches!(iloc, (Some(RemuxError::SaysPlaces(_, 911)), 0))
+            && matches!(free, (None, 931)),
+    )
 }
 
 #[test]
@@ -41,10 +49,18 @@ fn boxes_that_say_places_are_refused(rt: HostRuntime) {
 /// Whether two boxes are refused of which a movie has one.
 fn refuses_two(alloc: Global) -> Result<bool, RemuxError> {
     let movie = movie_with(alloc, 48, 54)?;
-    let movies = refusal_of(alloc, &joined(alloc, &[file_type(), &DATA, &movie, &movie])?);
-    let types = refusal_of(alloc, &joined(alloc, &[file_type(), &DATA, &movie, file_type()])?);
-    Ok(matches!(movies, (Some(RemuxError::Twice(BoxType::MoovBox)), 0))
-        && matches!(types, (Some(RemuxError::Twice(BoxType::FtypBox)), 0)))
+    let movies = refusal_of(
+        alloc,
+        &joined(alloc, &[file_type(), &DATA, &movie, &movie])?,
+    );
+    let types = refusal_of(
+        alloc,
+        &joined(alloc, &[file_type(), &DATA, &movie, file_type()])?,
+    );
+    Ok(
+        matches!(movies, (Some(RemuxError::Twice(BoxType::MoovBox)), 0))
+            && matches!(types, (Some(RemuxError::Twice(BoxType::FtypBox)), 0)),
+    )
 }
 
 #[test]
@@ -59,9 +75,17 @@ fn refuses_lost_samples(alloc: Global) -> Result<bool, RemuxError> {
     let inside = movie_with(alloc, 48, 100)?;
     let inside = refusal_of(alloc, &joined(alloc, &[file_type(), &DATA, &inside])?);
     let none = refusal_of(alloc, b"\0\0\0\x08free");
-    Ok(matches!(past, (Some(RemuxError::Differs(1, 3)), 0))
-        && matches!(inside, (Some(RemuxError::Differs(1, 3)), 0))
-        && matches!(none, (Some(RemuxError::Mp4(Error::BoxNotFound(BoxType::FtypBox))), 0)))
+    Ok(
+        matches!(past, (Some(RemuxError::Differs(1, 3)), 0))
+            && matches!(inside, (Some(RemuxError::Differs(1, 3)), 0))
+            && matches!(
+                none,
+                (
+                    Some(RemuxError::Mp4(Error::BoxNotFound(BoxType::FtypBox))),
+                    0
+                )
+            ),
+    )
 }
 
 #[test]

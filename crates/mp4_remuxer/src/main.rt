@@ -22,11 +22,7 @@ fn arguments(rt: &HostRuntime) -> mp4_media::Result<Vec<String>> {
 }
 
 /// A run with the arguments of the process.
-fn run_process(
-    rt: &HostRuntime,
-    out: &mut Vec<u8>,
-    err: &mut Vec<u8>,
-) -> mp4_media::Result<u8> {
+fn run_process(rt: &HostRuntime, out: &mut Vec<u8>, err: &mut Vec<u8>) -> mp4_media::Result<u8> {
     let arguments = arguments(rt)?;
     run(rt, rt.alloc(), arguments.as_slice(), out, err)
 }
