@@ -1,5 +1,5 @@
 -- Why a movie isn't rewritten.
-use Rattle.std.specs.Prelude.{◌≡◌, Bool, IsTrue}
+use Rattle.std.specs.Prelude.{◌≡◌, ⊤, Bool, IsTrue}
 use Rattle.mp4_codec.specs.declared.error.Error.TheVariants.{OutOfMemory}
 use Rattle.mp4_source.specs.declared.error.SourceError.{SourceError}
 use Rattle.mp4_source.specs.declared.error.SourceError.TheVariants.{OutOfMemory as no_memory, Io as refused}
@@ -35,3 +35,13 @@ CopyFails SourceRefuses sink_refuses (Twice name) = ⊥
 CopyFails SourceRefuses sink_refuses (SaysPlaces name place) = ⊥
 CopyFails SourceRefuses sink_refuses OtherTracks = ⊥
 CopyFails SourceRefuses sink_refuses (Differs track number) = ⊥
+
+-- a refusal that is neither of memory nor of the source nor of the sink
+abbrev pub IsNamed : RemuxError → Type 0
+IsNamed (Mp4 e) = e ≡ OutOfMemory → ⊥
+IsNamed (Read e) = ⊥
+IsNamed (Write e) = ⊥
+IsNamed (Twice name) = ⊤
+IsNamed (SaysPlaces name place) = ⊤
+IsNamed OtherTracks = ⊤
+IsNamed (Differs track number) = ⊤

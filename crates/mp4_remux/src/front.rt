@@ -1,6 +1,7 @@
 //! The movie box moved to the front.
 
-ghost use Rattle.std.specs.Prelude.{◌≡◌, ℕ, List, IfSome, IfOk, OnOk};
+ghost use Rattle.std.specs.Prelude.{◌≡◌, ℕ, List, IfSome, IfErr, IfOk, OnOk};
+ghost use Rattle.mp4_remux.specs.Errors.{IsNamed};
 ghost use Rattle.mp4_remux.specs.Remuxed.{WritesRemuxed};
 
 use crate::chunk_offsets::{Move, with_moves};
@@ -213,8 +214,9 @@ pub fn move_to_front<S: ByteSource + Drop, K: ByteSink>(
     source: S,
     sink: &mut K,
 ) -> Result<(), RemuxError>
-    ensures { OnOk result (IfSome (S.contents source) (λ xs.
+    ensures written { OnOk result (IfSome (S.contents source) (λ xs.
         WritesRemuxed xs (K.contents sink.old) (K.contents sink.new))) }
+    ensures kept { IfErr result (λ e. IsNamed e → K.contents sink.new ≡ K.contents sink.old) }
 {
     let mut source = source;
     let len = match source.len() {

@@ -1,12 +1,13 @@
 //! A layout of a file, compared with it and written.
 
-ghost use Rattle.std.specs.Prelude.{◌≡◌, ℕ, List, IfOk, IfSome, OnOk, length};
+ghost use Rattle.std.specs.Prelude.{◌≡◌, ℕ, List, IfErr, IfOk, IfSome, OnOk, length};
 ghost use Rattle.mp4_source.specs.Answers.{IsLength};
 ghost use Rattle.mp4_source.specs.Sink.{IsAppended};
 ghost use Rattle.mp4_media.specs.FileBoxes.{opened_movie};
 ghost use Rattle.mp4_media.specs.FileGrammar.{IsFile};
 ghost use Rattle.mp4_media.specs.MovieTracks.{AreTracks};
 ghost use Rattle.mp4_codec.specs.Cursor.{here};
+ghost use Rattle.mp4_remux.specs.Errors.{IsNamed};
 ghost use Rattle.mp4_remux.specs.Remuxed.{WritesRemuxed};
 
 use crate::copy::copy_all;
@@ -47,8 +48,9 @@ pub(crate) fn write_layout<S: ByteSource + Drop, K: ByteSink>(
     requires tracks { AreTracks before.now.moov before.now.moofs before.now.moof_places before.now.tracks }
     requires opened { IfSome (S.contents source) (λ xs.
         IsFile (length xs) (here xs 0) (opened_movie before.now)) }
-    ensures { OnOk result (IfSome (S.contents source) (λ xs.
+    ensures written { OnOk result (IfSome (S.contents source) (λ xs.
         WritesRemuxed xs (K.contents sink.old) (K.contents sink.new))) }
+    ensures kept { IfErr result (λ e. IsNamed e → K.contents sink.new ≡ K.contents sink.old) }
 {
     let splice = Splice::new(source, layout.try_clone(alloc)?);
     let len = layout.len();
