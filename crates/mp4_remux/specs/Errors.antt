@@ -1,5 +1,5 @@
 -- Why a movie isn't rewritten.
-use Rattle.std.specs.Prelude.{◌≡◌, ⊤, Bool, IsTrue}
+use Rattle.std.specs.Prelude.{◌≡◌, ⊤, ℕ, Bool, IsTrue, List, Option, IfSome}
 use Rattle.mp4_codec.specs.declared.error.Error.TheVariants.{OutOfMemory}
 use Rattle.mp4_source.specs.declared.error.SourceError.{SourceError}
 use Rattle.mp4_source.specs.declared.error.SourceError.TheVariants.{OutOfMemory as no_memory, Io as refused}
@@ -45,3 +45,17 @@ IsNamed (Twice name) = ⊤
 IsNamed (SaysPlaces name place) = ⊤
 IsNamed OtherTracks = ⊤
 IsNamed (Differs track number) = ⊤
+
+-- a refusal of the source is one only where it refuses, and one of the sink only where that does
+abbrev pub IsRefusalOf : Type 0 → Type 0 → RemuxError → Type 0
+IsRefusalOf SourceRefuses SinkRefuses (Mp4 e) = ⊤
+IsRefusalOf SourceRefuses SinkRefuses (Read e) = SourceRefuses
+IsRefusalOf SourceRefuses SinkRefuses (Write e) = SinkRefuses
+IsRefusalOf SourceRefuses SinkRefuses (Twice name) = ⊤
+IsRefusalOf SourceRefuses SinkRefuses (SaysPlaces name place) = ⊤
+IsRefusalOf SourceRefuses SinkRefuses OtherTracks = ⊤
+IsRefusalOf SourceRefuses SinkRefuses (Differs track number) = ⊤
+
+-- where the bytes of a source are known, it refuses only if it can
+abbrev pub MayRefuse : Option (List ℕ) → Bool → Type 0
+MayRefuse known can_refuse = IfSome known (λ _. IsTrue can_refuse)

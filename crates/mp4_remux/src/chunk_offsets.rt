@@ -1,6 +1,7 @@
 //! A movie box with other chunk offsets (ISO/IEC 14496-12, 8.7.5): all its other bytes stay.
 
-ghost use Rattle.std.specs.Prelude.{◌≤◌};
+ghost use Rattle.std.specs.Prelude.{◌≤◌, IfErr};
+ghost use Rattle.mp4_remux.specs.Errors.{IsRefusalOf};
 
 use crate::box_bytes::{BoxBytes, first_box, put_size};
 use crate::error::RemuxError;
@@ -85,7 +86,9 @@ fn needs_64_bits(entries: &[u8], size: usize, moves: &[Move]) -> bool
 }
 
 /// Adds a table of chunk offsets as they are when all is moved: `stco` becomes `co64` where one passes 32 bits.
-fn put_table(table: &BoxBytes, moves: &[Move], out: &mut Vec<u8>) -> Result<(), RemuxError> {
+fn put_table(table: &BoxBytes, moves: &[Move], out: &mut Vec<u8>) -> Result<(), RemuxError>
+    ensures refused { IfErr result (IsRefusalOf ⊥ ⊥) }
+{
     let size = entry_size(table.name);
     let (entries, after) = entries_in(table.payload, size);
     let is_wide = size == 8 || needs_64_bits(entries, size, moves);
@@ -115,6 +118,7 @@ fn put_boxes(
     out: &mut Vec<u8>,
 ) -> Result<(), RemuxError>
     requires { level ≤ 5 }
+    ensures refused { IfErr result (IsRefusalOf ⊥ ⊥) }
 {
     let mut rest = bytes;
     while let Some(one) = first_box(rest) {
@@ -142,11 +146,9 @@ fn put_boxes(
 }
 
 /// The bytes of a movie box as they are when all is moved.
-pub(crate) fn with_moves(
-    alloc: Global,
-    movie: &[u8],
-    moves: &[Move],
-) -> Result<Vec<u8>, RemuxError> {
+pub(crate) fn with_moves(alloc: Global, movie: &[u8], moves: &[Move]) -> Result<Vec<u8>, RemuxError>
+    ensures refused { IfErr result (IsRefusalOf ⊥ ⊥) }
+{
     let mut out = Vec::with_capacity(alloc, movie.len())?;
     put_boxes(movie, 0, moves, &mut out)?;
     Ok(out)

@@ -1,12 +1,13 @@
 //! The movie box moved to the front.
 
-ghost use Rattle.std.specs.Prelude.{◌≡◌, ℕ, List, IfSome, IfErr, IfOk, OnOk};
-ghost use Rattle.mp4_remux.specs.Errors.{IsNamed};
+ghost use Rattle.std.specs.Prelude.{◌≡◌, ℕ, List, IfSome, IfErr, IfOk, OnOk, IsTrue};
+ghost use Rattle.mp4_source.specs.Answers.{IsLength};
+ghost use Rattle.mp4_remux.specs.Errors.{IsNamed, IsRefusalOf, MayRefuse};
 ghost use Rattle.mp4_remux.specs.Remuxed.{WritesRemuxed};
 
 use crate::chunk_offsets::{Move, with_moves};
 use crate::error::RemuxError;
-use crate::layout::Layout;
+use crate::layout::{Layout, fits};
 use crate::piece::{Origin, Piece};
 use crate::places::{check_box, check_top_level};
 use crate::rewrite::{open_whole, write_layout};
@@ -16,7 +17,9 @@ use mp4_source::{ByteSink, ByteSource, read_into};
 use std::alloc::Global;
 
 /// The only box of a type; `Twice` where there are two.
-fn only_box(boxes: &[TopBox], name: BoxType) -> Result<Option<TopBox>, RemuxError> {
+fn only_box(boxes: &[TopBox], name: BoxType) -> Result<Option<TopBox>, RemuxError>
+    ensures refused { IfErr result (IsRefusalOf ⊥ ⊥) }
+{
     let mut found: Option<TopBox> = None;
     for one in boxes {
         if one.name == name {
@@ -45,7 +48,9 @@ fn push_piece(
     origin: Origin,
     place: u64,
     end: u64,
-) -> Result<(), RemuxError> {
+) -> Result<(), RemuxError>
+    ensures refused { IfErr result (IsRefusalOf ⊥ ⊥) }
+{
     if end <= place {
         return Ok(());
     }
@@ -69,7 +74,9 @@ fn front_pieces(
     movie: TopBox,
     movie_len: u64,
     len: u64,
-) -> Result<Vec<Piece>, RemuxError> {
+) -> Result<Vec<Piece>, RemuxError>
+    ensures refused { IfErr result (IsRefusalOf ⊥ ⊥) }
+{
     let mut pieces = Vec::new(alloc);
     let first = file_type.place.min(movie.place);
     let between = file_type.end.min(movie.end);
@@ -84,7 +91,9 @@ fn front_pieces(
 }
 
 /// Where the bytes of the file are by such pieces.
-fn moves_of(alloc: Global, pieces: &[Piece]) -> Result<Vec<Move>, RemuxError> {
+fn moves_of(alloc: Global, pieces: &[Piece]) -> Result<Vec<Move>, RemuxError>
+    ensures refused { IfErr result (IsRefusalOf ⊥ ⊥) }
+{
     let mut moves = Vec::with_capacity(alloc, pieces.len())?;
     for piece in pieces {
         match piece.origin {
@@ -108,7 +117,9 @@ fn plan_front(
     movie: TopBox,
     len: u64,
     tries: usize,
-) -> Result<(Vec<u8>, Vec<Piece>), RemuxError> {
+) -> Result<(Vec<u8>, Vec<Piece>), RemuxError>
+    ensures refused { IfErr result (IsRefusalOf ⊥ ⊥) }
+{
     let mut movie_len = movie_bytes.len() as u64;
     for _ in 0..tries {
         let pieces = front_pieces(alloc, file_type, movie, movie_len, len)?;
@@ -123,7 +134,9 @@ fn plan_front(
 }
 
 /// The file as it is.
-fn plan_nothing(alloc: Global, len: u64) -> Result<(Vec<u8>, Vec<Piece>), RemuxError> {
+fn plan_nothing(alloc: Global, len: u64) -> Result<(Vec<u8>, Vec<Piece>), RemuxError>
+    ensures refused { IfErr result (IsRefusalOf ⊥ ⊥) }
+{
     let mut pieces = Vec::new(alloc);
     push_piece(&mut pieces, Origin::Kept, 0, len)?;
     Ok((Vec::new(alloc), pieces))
@@ -133,13 +146,20 @@ fn plan_nothing(alloc: Global, len: u64) -> Result<(Vec<u8>, Vec<Piece>), RemuxE
 fn checked_bytes<S: ByteSource>(
     alloc: Global,
     source: &mut S,
+    len: u64,
     one: TopBox,
 ) -> Result<Vec<u8>, RemuxError>
+    requires { IsLength (S.contents source.old) len }
     ensures contents { S.contents source.new ≡ S.contents source.old }
+    ensures can_refuse { S.can_refuse source.new ≡ S.can_refuse source.old }
+    ensures refused { IfErr result (IsRefusalOf (MayRefuse (S.contents source.old) (S.can_refuse source.old)) ⊥) }
 {
+    let size = one.end.saturating_sub(one.place);
+    if !fits(one.place, size, len) {
+        return Err(RemuxError::Mp4(Error::EndOfData));
+    }
     let mut bytes = Vec::new(alloc);
-    let len = one.end.saturating_sub(one.place);
-    read_into(source, one.place, len as usize, &mut bytes)?;
+    read_into(source, one.place, size as usize, &mut bytes)?;
     check_box(&bytes, one.place)?;
     Ok(bytes)
 }
@@ -148,13 +168,17 @@ fn checked_bytes<S: ByteSource>(
 fn check_metadata<S: ByteSource>(
     alloc: Global,
     source: &mut S,
+    len: u64,
     boxes: &[TopBox],
 ) -> Result<(), RemuxError>
+    requires { IsLength (S.contents source.old) len }
     ensures contents { S.contents source.new ≡ S.contents source.old }
+    ensures can_refuse { S.can_refuse source.new ≡ S.can_refuse source.old }
+    ensures refused { IfErr result (IsRefusalOf (MayRefuse (S.contents source.old) (S.can_refuse source.old)) ⊥) }
 {
     for one in boxes {
         if one.name == BoxType::MetaBox {
-            checked_bytes(alloc, source, *one)?;
+            checked_bytes(alloc, source, len, *one)?;
         }
     }
     Ok(())
@@ -167,8 +191,11 @@ fn plan<S: ByteSource + Drop>(
     len: u64,
     tracks: usize,
 ) -> Result<(S, Layout), RemuxError>
+    requires { IsLength (S.contents source) len }
     ensures contents { IfOk result (λ x. S.contents x.0 ≡ S.contents source) }
+    ensures can_refuse { IfOk result (λ x. S.can_refuse x.0 ≡ S.can_refuse source) }
     ensures source_len { IfOk result (λ x. x.1.source_len ≡ len) }
+    ensures refused { IfErr result (IsRefusalOf (MayRefuse (S.contents source) (S.can_refuse source)) ⊥) }
 {
     let (source, boxes) = top_boxes(alloc, source, len)?;
     let mut source = source;
@@ -177,8 +204,8 @@ fn plan<S: ByteSource + Drop>(
     let (made, pieces) = match (file_type, movie) {
         (Some(file_type), Some(movie)) if !is_in_front(&boxes, movie.place) => {
             check_top_level(&boxes)?;
-            check_metadata(alloc, &mut source, &boxes)?;
-            let bytes = checked_bytes(alloc, &mut source, movie)?;
+            check_metadata(alloc, &mut source, len, &boxes)?;
+            let bytes = checked_bytes(alloc, &mut source, len, movie)?;
             plan_front(
                 alloc,
                 &bytes,
@@ -217,6 +244,8 @@ pub fn move_to_front<S: ByteSource + Drop, K: ByteSink>(
     ensures written { OnOk result (IfSome (S.contents source) (λ xs.
         WritesRemuxed xs (K.contents sink.old) (K.contents sink.new))) }
     ensures kept { IfErr result (λ e. IsNamed e → K.contents sink.new ≡ K.contents sink.old) }
+    ensures refused { IfErr result (IsRefusalOf (MayRefuse (S.contents source) (S.can_refuse source))
+        (IsTrue (K.can_refuse sink.old))) }
 {
     let mut source = source;
     let len = match source.len() {

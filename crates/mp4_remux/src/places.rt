@@ -1,6 +1,7 @@
 //! Boxes that say places of a file in a way that isn't rewritten.
 
-ghost use Rattle.std.specs.Prelude.{◌≤◌};
+ghost use Rattle.std.specs.Prelude.{◌≤◌, IfErr};
+ghost use Rattle.mp4_remux.specs.Errors.{IsRefusalOf};
 
 use crate::box_bytes::{BoxBytes, first_box};
 use crate::error::RemuxError;
@@ -73,7 +74,9 @@ fn find_in(bytes: &[u8], level: usize) -> Option<BoxType>
 }
 
 /// Checks that no box in this one, whose bytes begin at this place, says places that would be wrong.
-pub(crate) fn check_box(bytes: &[u8], place: u64) -> Result<(), RemuxError> {
+pub(crate) fn check_box(bytes: &[u8], place: u64) -> Result<(), RemuxError>
+    ensures refused { IfErr result (IsRefusalOf ⊥ ⊥) }
+{
     match find_in(bytes, 0) {
         Some(name) => Err(RemuxError::SaysPlaces(name, place)),
         None => Ok(()),
@@ -81,7 +84,9 @@ pub(crate) fn check_box(bytes: &[u8], place: u64) -> Result<(), RemuxError> {
 }
 
 /// Checks that no box of the file is one that says places of others, or a movie fragment.
-pub(crate) fn check_top_level(boxes: &[TopBox]) -> Result<(), RemuxError> {
+pub(crate) fn check_top_level(boxes: &[TopBox]) -> Result<(), RemuxError>
+    ensures refused { IfErr result (IsRefusalOf ⊥ ⊥) }
+{
     for one in boxes {
         let code = u32::from(one.name);
         if code == FRAGMENT_PLACES || code == SEGMENT_PLACES || one.name == BoxType::MoofBox {

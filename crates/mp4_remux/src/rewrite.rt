@@ -1,13 +1,13 @@
 //! A layout of a file, compared with it and written.
 
-ghost use Rattle.std.specs.Prelude.{◌≡◌, ℕ, List, IfErr, IfOk, IfSome, OnOk, length};
+ghost use Rattle.std.specs.Prelude.{◌≡◌, ℕ, List, IfErr, IfOk, IfSome, IsTrue, OnOk, length};
 ghost use Rattle.mp4_source.specs.Answers.{IsLength};
 ghost use Rattle.mp4_source.specs.Sink.{IsAppended};
 ghost use Rattle.mp4_media.specs.FileBoxes.{opened_movie};
 ghost use Rattle.mp4_media.specs.FileGrammar.{IsFile};
 ghost use Rattle.mp4_media.specs.MovieTracks.{AreTracks};
 ghost use Rattle.mp4_codec.specs.Cursor.{here};
-ghost use Rattle.mp4_remux.specs.Errors.{IsNamed};
+ghost use Rattle.mp4_remux.specs.Errors.{IsNamed, IsRefusalOf, MayRefuse};
 ghost use Rattle.mp4_remux.specs.Remuxed.{WritesRemuxed};
 
 use crate::copy::copy_all;
@@ -30,6 +30,7 @@ pub(crate) fn open_whole<S: ByteSource + Drop>(
     ensures tracks { IfOk result (λ x. AreTracks x.1.moov x.1.moofs x.1.moof_places x.1.tracks) }
     ensures contents { IfOk result (λ x. S.contents x.0 ≡ S.contents source) }
     ensures can_refuse { IfOk result (λ x. S.can_refuse x.0 ≡ S.can_refuse source) }
+    ensures refused { IfErr result (IsRefusalOf (MayRefuse (S.contents source) (S.can_refuse source)) ⊥) }
 {
     let file = Mp4File::open(alloc, source, 0, len)?;
     Ok(file.into_parts())
@@ -51,6 +52,8 @@ pub(crate) fn write_layout<S: ByteSource + Drop, K: ByteSink>(
     ensures written { OnOk result (IfSome (S.contents source) (λ xs.
         WritesRemuxed xs (K.contents sink.old) (K.contents sink.new))) }
     ensures kept { IfErr result (λ e. IsNamed e → K.contents sink.new ≡ K.contents sink.old) }
+    ensures refused { IfErr result (IsRefusalOf (MayRefuse (S.contents source) (S.can_refuse source))
+        (IsTrue (K.can_refuse sink.old))) }
 {
     let splice = Splice::new(source, layout.try_clone(alloc)?);
     let len = layout.len();

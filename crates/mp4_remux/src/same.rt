@@ -1,10 +1,11 @@
 //! Whether every sample is read as before.
 
-ghost use Rattle.std.specs.Prelude.{◌≡◌, ◌↔◌, ℕ, Some, IfOk, OnOk, IsTrue, slice_get};
+ghost use Rattle.std.specs.Prelude.{◌≡◌, ◌↔◌, ℕ, Some, IfErr, IfOk, OnOk, IsTrue, slice_get};
 ghost use Rattle.mp4_boxes.specs.declared.trak.TrakBox.{TrakBox};
 ghost use Rattle.mp4_samples.specs.Places.{place_of};
 ghost use Rattle.mp4_media.specs.FileBoxes.{opened_movie};
 ghost use Rattle.mp4_media.specs.MovieTracks.{AreTracks};
+ghost use Rattle.mp4_remux.specs.Errors.{IsRefusalOf};
 ghost use Rattle.mp4_remux.specs.Remuxed.{ids_of};
 ghost use Rattle.mp4_remux.specs.Same.{IsSamePlace, IsNumberAsBefore, IsTrackAsBefore};
 
@@ -39,8 +40,9 @@ fn check_sample(
 ) -> Result<bool, RemuxError>
     requires before { AreTracks before.now.moov before.now.moofs before.now.moof_places before.now.tracks }
     requires after { AreTracks after.now.moov after.now.moofs after.now.moof_places after.now.tracks }
-    ensures { IfOk result (λ there. IsNumberAsBefore layout.now.source_len layout.now.made.items
+    ensures same { IfOk result (λ there. IsNumberAsBefore layout.now.source_len layout.now.made.items
         layout.now.pieces.items (opened_movie before.now) (opened_movie after.now) track_id k there) }
+    ensures refused { IfErr result (IsRefusalOf ⊥ ⊥) }
 {
     let Some(kept) = before.place(track_id, k)? else {
         return match after.place(track_id, k)? {
@@ -66,8 +68,9 @@ fn check_track(
 ) -> Result<(), RemuxError>
     requires before { AreTracks before.now.moov before.now.moofs before.now.moof_places before.now.tracks }
     requires after { AreTracks after.now.moov after.now.moofs after.now.moof_places after.now.tracks }
-    ensures { OnOk result (IsTrackAsBefore layout.now.source_len layout.now.made.items
+    ensures same { OnOk result (IsTrackAsBefore layout.now.source_len layout.now.made.items
         layout.now.pieces.items (opened_movie before.now) (opened_movie after.now) track_id) }
+    ensures refused { IfErr result (IsRefusalOf ⊥ ⊥) }
 {
     if after.sample_count(track_id)? != before.sample_count(track_id)? {
         return Err(RemuxError::OtherTracks);
@@ -109,6 +112,7 @@ pub(crate) fn check_same(before: &Movie, after: &Movie, layout: &Layout) -> Resu
     ensures tracks { OnOk result ((t : TrakBox) (i : ℕ) → slice_get before.now.moov.traks i ≡ Some t
         → IsTrackAsBefore layout.now.source_len layout.now.made.items layout.now.pieces.items
         (opened_movie before.now) (opened_movie after.now) t.tkhd.track_id) }
+    ensures refused { IfErr result (IsRefusalOf ⊥ ⊥) }
 {
     if !have_same_ids(before, after) {
         return Err(RemuxError::OtherTracks);

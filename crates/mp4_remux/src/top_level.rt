@@ -1,7 +1,7 @@
 //! The boxes of a file, by their places.
 
 ghost use Rattle.std.specs.Prelude.{◌≡◌, ◌≤◌, ◌<◌, length, slice_index, IfOk, IfErr, IsTrue};
-ghost use Rattle.mp4_source.specs.Answers.{IsLength};
+ghost use Rattle.mp4_remux.specs.Errors.{IsRefusalOf, MayRefuse};
 
 use crate::error::RemuxError;
 use mp4_codec::{BoxType, HEADER_SIZE, OPEN_END};
@@ -24,6 +24,7 @@ pub(crate) fn top_boxes<S: ByteSource + Drop>(
 ) -> Result<(S, Vec<TopBox>), RemuxError>
     ensures contents { IfOk result (λ x. S.contents x.0 ≡ S.contents source) }
     ensures can_refuse { IfOk result (λ x. S.can_refuse x.0 ≡ S.can_refuse source) }
+    ensures refused { IfErr result (IsRefusalOf (MayRefuse (S.contents source) (S.can_refuse source)) ⊥) }
 {
     let mut boxes = Vec::new(alloc);
     let mut cursor = SourceCursor::new(alloc, source, 0)?;

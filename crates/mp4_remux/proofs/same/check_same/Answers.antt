@@ -30,7 +30,7 @@ loop-i-preserved c =
         ∙ got traks c.loop-i.i t trak here in
         subst (λ (b : TrakBox). IsTrackAsBefore c.args.layout.now.source_len c.args.layout.now.made.items
         c.args.layout.now.pieces.items (opened_movie c.args.before.now) (opened_movie c.args.after.now) b.tkhd.track_id)
-        same c.in_ok-check_track.ensures
+        same c.in_ok-check_track.ensures.same
 
 pub returns-clause-tracks : goal.returns-clause-tracks
 returns-clause-tracks c = λ t i there.

@@ -3,15 +3,15 @@ use Rattle.mp4_samples.specs.Places.{place_of}
 use Rattle.mp4_remux.proofs.Sameness.{none_there, both_there}
 use Rattle.mp4_remux.proofs.same.check_sample.Goals as goal
 
-pub returns-in-None : goal.returns-in-None
-returns-in-None c =
+pub returns-in-None-clause-same : goal.returns-in-None-clause-same
+returns-in-None-clause-same c =
     let l = c.args.layout.now in
     none_there l.source_len l.made.items l.pieces.items c.args.before.now c.args.after.now c.args.track_id
     c.requires.before c.requires.after c.args.k (rw c.in_default.is at c.in_ok-kept.ensures)
     (rw c.in-None.is at c.in_ok-place.ensures)
 
-pub returns : goal.returns
-returns c =
+pub returns-clause-same : goal.returns-clause-same
+returns-clause-same c =
     let l = c.args.layout.now in
     both_there l.source_len l.made.items l.pieces.items c.args.before.now c.args.after.now c.args.track_id
     c.requires.before c.requires.after c.args.k (place_of c.in-Some.kept) (place_of c.in-Some-3.moved)

@@ -2,12 +2,12 @@ use Rattle.std.proofs.Common.{arith}
 use Rattle.mp4_remux.proofs.Sameness.{one_more, track_as_before}
 use Rattle.mp4_remux.proofs.same.check_track.Goals as goal
 
-pub returns-then-not-branch : goal.returns-then-not-branch
-returns-then-not-branch c =
+pub returns-then-not-branch-clause-same : goal.returns-then-not-branch-clause-same
+returns-then-not-branch-clause-same c =
     let l = c.args.layout.now in
     track_as_before l.source_len l.made.items l.pieces.items c.args.before.now c.args.after.now c.args.track_id
     c.requires.before c.requires.after c.loop-k.k c.in_ok-sample_count-2.field-0 c.loop-k.invariant.same
-    (λ _. rw c.if-not-branch.true at c.in_ok-check_sample.ensures) c.in_ok-sample_count-2.ensures
+    (λ _. rw c.if-not-branch.true at c.in_ok-check_sample.ensures.same) c.in_ok-sample_count-2.ensures
     (rw c.if-branch.false at c.in_ok-sample_count.ensures)
 
 pub loop-k-preserved : goal.loop-k-preserved
@@ -17,11 +17,11 @@ loop-k-preserved c =
       upto = omega arith;
       same =
           one_more l.source_len l.made.items l.pieces.items c.args.before.now c.args.after.now c.args.track_id c.loop-k.k
-          c.loop-k.invariant.same (rw c.if-not-branch.false at c.in_ok-check_sample.ensures);
+          c.loop-k.invariant.same (rw c.if-not-branch.false at c.in_ok-check_sample.ensures.same);
     }
 
-pub returns : goal.returns
-returns c =
+pub returns-clause-same : goal.returns-clause-same
+returns-clause-same c =
     let l = c.args.layout.now in
     track_as_before l.source_len l.made.items l.pieces.items c.args.before.now c.args.after.now c.args.track_id
     c.requires.before c.requires.after c.loop-k.k c.in_ok-sample_count-2.field-0 c.loop-k.invariant.same
