@@ -11,6 +11,7 @@ use Rattle.mp4_media.specs.FileBoxes.{opened_movie}
 use Rattle.mp4_media.specs.FileGrammar.{IsFile}
 use Rattle.mp4_remux.specs.declared.error.RemuxError.{RemuxError}
 use Rattle.mp4_remux.specs.declared.layout.Layout.{Layout}
+use Rattle.mp4_remux.specs.Front.{IsFront, WritesFront}
 use Rattle.mp4_remux.specs.Remuxed.{WritesRemuxed, ids_of}
 use Rattle.mp4_remux.specs.Same.{IsTrackAsBefore}
 use Rattle.mp4_remux.specs.Splice.{spliced}
@@ -44,7 +45,7 @@ pub writes_remuxed : (known known_after had has : Option (List ℕ)) (l : Layout
     → ((t : TrakBox) (i : ℕ) → slice_get before.moov.traks i ≡ Some t
     → IsTrackAsBefore l.source_len l.made.items l.pieces.items (opened_movie before) (opened_movie after)
     t.tkhd.track_id)
-    → IfSome known_after (λ ys. IsAppended had has ys) → IfSome known (λ xs. WritesRemuxed xs had has)
+    → IfSome known_after (λ ys. IsAppended had has ys) → IfSome known (λ xs. WritesRemuxed xs (spliced xs l.made.items l.pieces.items) had has)
 writes_remuxed None known_after had has l before after len measured opens is whole opens_after ids tracks written = tt
 writes_remuxed (Some xs) known_after had has l before after len measured opens is whole opens_after ids tracks written =
     let ys = spliced xs l.made.items l.pieces.items in
@@ -53,16 +54,24 @@ writes_remuxed (Some xs) known_after had has l before after len measured opens i
     let file = subst (λ (k : Option (List ℕ)). IfSome k (λ zs. IsFile len (here zs 0) (opened_movie after))) is
     opens_after in
     let appended = subst (λ (k : Option (List ℕ)). IfSome k (λ zs. IsAppended had has zs)) is written in (
-      ys,
-      (
-        appended,
-        record {
-          opened = opened_movie before;
-          rewritten = opened_movie after;
-          opens = opens;
-          opens_after = subst (λ n. IsFile n (here ys 0) (opened_movie after)) long file;
-          ids = ids;
-          tracks = λ t i there. tracks t i there xs (sym measured);
-        },
-      ),
+      appended,
+      record {
+        opened = opened_movie before;
+        rewritten = opened_movie after;
+        opens = opens;
+        opens_after = subst (λ n. IsFile n (here ys 0) (opened_movie after)) long file;
+        ids = ids;
+        tracks = λ t i there. tracks t i there xs (sym measured);
+      },
     )
+
+-- what is written is that file, and has its movie box in front
+pub writes_front : (known read : Option (List ℕ)) (l : Layout) (had has : Option (List ℕ)) → read ≡ known
+    → IfSome known (λ xs. IsFront xs (spliced xs l.made.items l.pieces.items))
+    → IfSome read (λ xs. WritesRemuxed xs (spliced xs l.made.items l.pieces.items) had has)
+    → IfSome known (λ xs. WritesFront xs had has)
+writes_front None read l had has same front written = tt
+writes_front (Some xs) read l had has same front written =
+    let w = subst (λ (k : Option (List ℕ)). IfSome k (λ xs. WritesRemuxed xs (spliced xs l.made.items l.pieces.items)
+    had has)) same written in
+    (spliced xs l.made.items l.pieces.items, (w.0, (w.1, front)))

@@ -1,4 +1,5 @@
 pub mod Errors
+pub mod Front
 pub mod Remuxed
 pub mod Same
 pub mod Splice

@@ -53,6 +53,6 @@ pub record IsRemuxed (before after : List ℕ) : Type 0 where
   pub tracks : (t : TrakBox) (i : ℕ) → slice_get opened.moov.traks i ≡ Some t
       → IsSameTrack before after opened rewritten t.tkhd.track_id
 
--- After the bytes that a sink had come those of the file rewritten, where they are known.
-abbrev pub WritesRemuxed : List ℕ → Option (List ℕ) → Option (List ℕ) → Type 0
-WritesRemuxed before had has = (after : List ℕ) × (IsAppended had has after × IsRemuxed before after)
+-- After the bytes that a sink had come these, which are those of the file rewritten.
+abbrev pub WritesRemuxed : List ℕ → List ℕ → Option (List ℕ) → Option (List ℕ) → Type 0
+WritesRemuxed before after had has = IsAppended had has after × IsRemuxed before after

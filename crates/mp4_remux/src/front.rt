@@ -1,9 +1,11 @@
 //! The movie box moved to the front.
 
-ghost use Rattle.std.specs.Prelude.{◌≡◌, ℕ, List, IfSome, IfErr, IfOk, OnOk, IsTrue};
+ghost use Rattle.std.specs.Prelude.{◌≡◌, ◌++◌, ℕ, List, length, IfSome, IfErr, IfOk, OnOk, IsTrue};
 ghost use Rattle.mp4_source.specs.Answers.{IsLength};
 ghost use Rattle.mp4_remux.specs.Errors.{IsNamed, IsRefusalOf, MayRefuse};
-ghost use Rattle.mp4_remux.specs.Remuxed.{WritesRemuxed};
+ghost use Rattle.mp4_media.specs.FileGrammar.{between};
+ghost use Rattle.mp4_remux.specs.Front.{in_front, IsBoxOf, IsFront, WritesFront};
+ghost use Rattle.mp4_remux.specs.Splice.{of_origin, spliced};
 
 use crate::chunk_offsets::{Move, with_moves};
 use crate::error::RemuxError;
@@ -12,8 +14,8 @@ use crate::piece::{Origin, Piece};
 use crate::places::{check_box, check_top_level};
 use crate::rewrite::{open_whole, write_layout};
 use crate::top_level::{TopBox, top_boxes};
-use mp4_codec::{BoxType, Error, Limit};
-use mp4_source::{ByteSink, ByteSource, read_into};
+use mp4_codec::{BoxType, Error, HEADER_SIZE, Limit, is_equal};
+use mp4_source::{ByteSink, ByteSource, SourceCursor, read_into};
 use std::alloc::Global;
 
 /// The only box of a type; `Twice` where there are two.
@@ -49,6 +51,8 @@ fn push_piece(
     place: u64,
     end: u64,
 ) -> Result<(), RemuxError>
+    ensures bytes { OnOk result ((source made : List ℕ) → spliced source made pieces.new.items
+        ≡ spliced source made pieces.old.items ++ between (of_origin origin source made) place end) }
     ensures refused { IfErr result (IsRefusalOf ⊥ ⊥) }
 {
     if end <= place {
@@ -75,6 +79,8 @@ fn front_pieces(
     movie_len: u64,
     len: u64,
 ) -> Result<Vec<Piece>, RemuxError>
+    ensures bytes { IfOk result (λ ps. (source made : List ℕ) → length source ≡ len → length made ≡ movie_len
+        → spliced source made ps.items ≡ in_front source file_type movie made) }
     ensures refused { IfErr result (IsRefusalOf ⊥ ⊥) }
 {
     let mut pieces = Vec::new(alloc);
@@ -118,6 +124,8 @@ fn plan_front(
     len: u64,
     tries: usize,
 ) -> Result<(Vec<u8>, Vec<Piece>), RemuxError>
+    ensures bytes { IfOk result (λ x. (source : List ℕ) → length source ≡ len
+        → spliced source x.0.items x.1.items ≡ in_front source file_type movie x.0.items) }
     ensures refused { IfErr result (IsRefusalOf ⊥ ⊥) }
 {
     let mut movie_len = movie_bytes.len() as u64;
@@ -133,13 +141,28 @@ fn plan_front(
     Err(RemuxError::Mp4(Error::TooLarge(Limit::BoxSize)))
 }
 
-/// The file as it is.
-fn plan_nothing(alloc: Global, len: u64) -> Result<(Vec<u8>, Vec<Piece>), RemuxError>
-    ensures refused { IfErr result (IsRefusalOf ⊥ ⊥) }
+/// The source, where a box of this type begins and ends there as its header says.
+fn check_header<S: ByteSource + Drop>(
+    alloc: Global,
+    source: S,
+    len: u64,
+    name: BoxType,
+    one: TopBox,
+) -> Result<S, RemuxError>
+    requires { IsLength (S.contents source) len }
+    ensures header { IfOk result (λ _. IfSome (S.contents source) (λ xs. IsBoxOf xs name one)) }
+    ensures contents { IfOk result (λ s. S.contents s ≡ S.contents source) }
+    ensures can_refuse { IfOk result (λ s. S.can_refuse s ≡ S.can_refuse source) }
+    ensures refused { IfErr result (IsRefusalOf (MayRefuse (S.contents source) (S.can_refuse source)) ⊥) }
 {
-    let mut pieces = Vec::new(alloc);
-    push_piece(&mut pieces, Origin::Kept, 0, len)?;
-    Ok((Vec::new(alloc), pieces))
+    let mut cursor = SourceCursor::new(alloc, source, one.place)?;
+    let header = cursor.read_header()?;
+    let end = cursor.position().checked_add(header.size.saturating_sub(HEADER_SIZE));
+    if !is_equal(&header.name, &name) || end != Some(one.end) || one.end > len {
+        return Err(RemuxError::Mp4(Error::EndOfData));
+    }
+    let (source, _) = cursor.into_parts();
+    Ok(source)
 }
 
 /// The bytes of a box, in which no box says places.
@@ -184,7 +207,59 @@ fn check_metadata<S: ByteSource>(
     Ok(())
 }
 
-/// The layout of a file with its movie box in front, of a movie with so many tracks.
+/// The source, and the layout of its file as it is.
+fn plan_nothing<S: ByteSource + Drop>(
+    alloc: Global,
+    source: S,
+    len: u64,
+) -> Result<(S, Layout), RemuxError>
+    requires { IsLength (S.contents source) len }
+    ensures source { IfOk result (λ x. x.0 ≡ source) }
+    ensures source_len { IfOk result (λ x. x.1.source_len ≡ len) }
+    ensures front { IfOk result (λ x. IfSome (S.contents source) (λ xs.
+        IsFront xs (spliced xs x.1.made.items x.1.pieces.items))) }
+    ensures refused { IfErr result (IsRefusalOf ⊥ ⊥) }
+{
+    let mut pieces = Vec::new(alloc);
+    push_piece(&mut pieces, Origin::Kept, 0, len)?;
+    let Some(layout) = Layout::new(len, Vec::new(alloc), pieces) else {
+        return Err(RemuxError::OtherTracks);
+    };
+    Ok((source, layout))
+}
+
+/// The source, and the layout of its file with the movie box in front, of a movie with so many tracks.
+fn plan_moved<S: ByteSource + Drop>(
+    alloc: Global,
+    source: S,
+    len: u64,
+    boxes: &[TopBox],
+    file_type: TopBox,
+    movie: TopBox,
+    tracks: usize,
+) -> Result<(S, Layout), RemuxError>
+    requires { IsLength (S.contents source) len }
+    ensures contents { IfOk result (λ x. S.contents x.0 ≡ S.contents source) }
+    ensures can_refuse { IfOk result (λ x. S.can_refuse x.0 ≡ S.can_refuse source) }
+    ensures source_len { IfOk result (λ x. x.1.source_len ≡ len) }
+    ensures front { IfOk result (λ x. IfSome (S.contents source) (λ xs.
+        IsFront xs (spliced xs x.1.made.items x.1.pieces.items))) }
+    ensures refused { IfErr result (IsRefusalOf (MayRefuse (S.contents source) (S.can_refuse source)) ⊥) }
+{
+    let source = check_header(alloc, source, len, BoxType::FtypBox, file_type)?;
+    let mut source = check_header(alloc, source, len, BoxType::MoovBox, movie)?;
+    check_top_level(boxes)?;
+    check_metadata(alloc, &mut source, len, boxes)?;
+    let bytes = checked_bytes(alloc, &mut source, len, movie)?;
+    let tries = tracks.saturating_add(2);
+    let (made, pieces) = plan_front(alloc, &bytes, file_type, movie, len, tries)?;
+    let Some(layout) = Layout::new(len, made, pieces) else {
+        return Err(RemuxError::OtherTracks);
+    };
+    Ok((source, layout))
+}
+
+/// The source, and the layout that is to be written of its file, of a movie with so many tracks.
 fn plan<S: ByteSource + Drop>(
     alloc: Global,
     source: S,
@@ -195,32 +270,19 @@ fn plan<S: ByteSource + Drop>(
     ensures contents { IfOk result (λ x. S.contents x.0 ≡ S.contents source) }
     ensures can_refuse { IfOk result (λ x. S.can_refuse x.0 ≡ S.can_refuse source) }
     ensures source_len { IfOk result (λ x. x.1.source_len ≡ len) }
+    ensures front { IfOk result (λ x. IfSome (S.contents source) (λ xs.
+        IsFront xs (spliced xs x.1.made.items x.1.pieces.items))) }
     ensures refused { IfErr result (IsRefusalOf (MayRefuse (S.contents source) (S.can_refuse source)) ⊥) }
 {
     let (source, boxes) = top_boxes(alloc, source, len)?;
-    let mut source = source;
     let file_type = only_box(&boxes, BoxType::FtypBox)?;
     let movie = only_box(&boxes, BoxType::MoovBox)?;
-    let (made, pieces) = match (file_type, movie) {
+    match (file_type, movie) {
         (Some(file_type), Some(movie)) if !is_in_front(&boxes, movie.place) => {
-            check_top_level(&boxes)?;
-            check_metadata(alloc, &mut source, len, &boxes)?;
-            let bytes = checked_bytes(alloc, &mut source, len, movie)?;
-            plan_front(
-                alloc,
-                &bytes,
-                file_type,
-                movie,
-                len,
-                tracks.saturating_add(2),
-            )?
+            plan_moved(alloc, source, len, &boxes, file_type, movie, tracks)
         }
-        _ => plan_nothing(alloc, len)?,
-    };
-    let Some(layout) = Layout::new(len, made, pieces) else {
-        return Err(RemuxError::OtherTracks);
-    };
-    Ok((source, layout))
+        _ => plan_nothing(alloc, source, len),
+    }
 }
 
 /// Writes a movie to a sink with its movie box before its data, as players want it that begin before they have the whole
@@ -242,7 +304,7 @@ pub fn move_to_front<S: ByteSource + Drop, K: ByteSink>(
     sink: &mut K,
 ) -> Result<(), RemuxError>
     ensures written { OnOk result (IfSome (S.contents source) (λ xs.
-        WritesRemuxed xs (K.contents sink.old) (K.contents sink.new))) }
+        WritesFront xs (K.contents sink.old) (K.contents sink.new))) }
     ensures kept { IfErr result (λ e. IsNamed e → K.contents sink.new ≡ K.contents sink.old) }
     ensures refused { IfErr result (IsRefusalOf (MayRefuse (S.contents source) (S.can_refuse source))
         (IsTrue (K.can_refuse sink.old))) }

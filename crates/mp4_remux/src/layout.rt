@@ -50,7 +50,9 @@ fn end_of(pieces: &[Piece], source_len: u64, made_len: u64) -> Option<u64>
 impl Layout {
     /// A layout of a file of so many bytes. None where the pieces don't follow each other, or one passes what it is of.
     pub fn new(source_len: u64, made: Vec<u8>, pieces: Vec<Piece>) -> Option<Self>
-        ensures { IfSome result (λ l. l.source_len ≡ source_len) }
+        ensures source_len { IfSome result (λ l. l.source_len ≡ source_len) }
+        ensures made { IfSome result (λ l. l.made.items ≡ made.items) }
+        ensures pieces { IfSome result (λ l. l.pieces.items ≡ pieces.items) }
     {
         let len = end_of(&pieces, source_len, made.len() as u64)?;
         Some(Layout {

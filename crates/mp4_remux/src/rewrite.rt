@@ -9,6 +9,7 @@ ghost use Rattle.mp4_media.specs.MovieTracks.{AreTracks};
 ghost use Rattle.mp4_codec.specs.Cursor.{here};
 ghost use Rattle.mp4_remux.specs.Errors.{IsNamed, IsRefusalOf, MayRefuse};
 ghost use Rattle.mp4_remux.specs.Remuxed.{WritesRemuxed};
+ghost use Rattle.mp4_remux.specs.Splice.{spliced};
 
 use crate::copy::copy_all;
 use crate::error::RemuxError;
@@ -50,7 +51,8 @@ pub(crate) fn write_layout<S: ByteSource + Drop, K: ByteSink>(
     requires opened { IfSome (S.contents source) (λ xs.
         IsFile (length xs) (here xs 0) (opened_movie before.now)) }
     ensures written { OnOk result (IfSome (S.contents source) (λ xs.
-        WritesRemuxed xs (K.contents sink.old) (K.contents sink.new))) }
+        WritesRemuxed xs (spliced xs layout.now.made.items layout.now.pieces.items)
+        (K.contents sink.old) (K.contents sink.new))) }
     ensures kept { IfErr result (λ e. IsNamed e → K.contents sink.new ≡ K.contents sink.old) }
     ensures refused { IfErr result (IsRefusalOf (MayRefuse (S.contents source) (S.can_refuse source))
         (IsTrue (K.can_refuse sink.old))) }

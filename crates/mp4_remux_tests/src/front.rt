@@ -63,9 +63,17 @@ fn what_is_in_front_is_moved_once(rt: HostRuntime) {
     check(&rt, is_stable(rt.alloc()));
 }
 
+/// The bytes from a place on; none where there are fewer.
+fn rest_from(bytes: &[u8], place: usize) -> &[u8] {
+    if place <= bytes.len() {
+        return &bytes[place..];
+    }
+    &[]
+}
+
 /// Whether these bytes are there from a place on.
 fn starts_with(bytes: &[u8], place: usize, part: &[u8]) -> bool {
-    place <= bytes.len() && bytes[place..].starts_with(part)
+    rest_from(bytes, place).starts_with(part)
 }
 
 /// Whether a table of chunk offsets has 64 bits where one of them passes 32 when the movie box is before the data: its
@@ -87,14 +95,14 @@ fn widens_offsets(alloc: Global) -> Result<bool, RemuxError> {
     let wide = (data + 16 + 863).to_be_bytes();
     let next = (data + 22 + 863).to_be_bytes();
     let mut box_of_offsets = joined(alloc, &[b"\0\0\0\x20co64\0\0\0\0\0\0\0\x02", &wide, &next])?;
-    box_of_offsets.extend_from_slice(&movie[643..])?;
+    box_of_offsets.extend_from_slice(rest_from(&movie, 643))?;
     let is_full = matches!(answer, Err(RemuxError::Write(_)));
     let written = out.bytes.as_slice();
     Ok(
         is_full
             && starts_with(written, 32, b"\0\0\x03\x5fmoov")
             && starts_with(written, 32 + 619, &box_of_offsets)
-            && starts_with(written, 32 + 863, &head[32..]),
+            && starts_with(written, 32 + 863, rest_from(&head, 32)),
     )
 }
 

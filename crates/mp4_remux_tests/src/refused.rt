@@ -96,12 +96,12 @@ fn samples_that_would_be_lost_are_refused(rt: HostRuntime) {
 /// Whether each read of a source is refused in turn, and the answer is that it can't be read.
 fn refuses_each_read(alloc: Global) -> Result<bool, RemuxError> {
     let file = data_first(alloc)?;
-    let mut refused = 0;
+    let mut refused: u32 = 0;
     for n in 1..1000 {
         let mut out = Vec::new(alloc);
         match move_to_front(alloc, Refusing::new(&file, n), &mut out) {
             Ok(()) => return Ok(refused > 3 && out.len() == file.len()),
-            Err(RemuxError::Read(_)) => refused += 1,
+            Err(RemuxError::Read(_)) => refused = refused.saturating_add(1),
             Err(_) => return Ok(false),
         }
     }
