@@ -157,7 +157,9 @@ fn check_header<S: ByteSource + Drop>(
 {
     let mut cursor = SourceCursor::new(alloc, source, one.place)?;
     let header = cursor.read_header()?;
-    let end = cursor.position().checked_add(header.size.saturating_sub(HEADER_SIZE));
+    let end = cursor
+        .position()
+        .checked_add(header.size.saturating_sub(HEADER_SIZE));
     if !is_equal(&header.name, &name) || end != Some(one.end) || one.end > len {
         return Err(RemuxError::Mp4(Error::EndOfData));
     }

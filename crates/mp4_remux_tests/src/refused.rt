@@ -18,7 +18,9 @@ fn refusal_of(alloc: Global, file: &[u8]) -> (Option<RemuxError>, usize) {
 /// The file of one track with another box after its movie.
 fn with_box(alloc: Global, one: &[u8]) -> Result<Vec<u8>, RemuxError> {
     let movie = movie_with(alloc, 48, 54)?;
-    Ok(joined(alloc, &[file_type(), &DATA, &movie, one])?)
+    let mut bytes = joined(alloc, &[file_type(), &DATA, &movie])?;
+    bytes.extend_from_slice(one)?;
+    Ok(bytes)
 }
 
 /// Whether boxes that say places of the file are refused, before a byte is written.
