@@ -8,7 +8,7 @@ use Rattle.mp4_remux.specs.declared.top_level.TopBox.{TopBox}
 use Rattle.mp4_codec.specs.declared.box_type.BoxType.TheVariants.{FtypBox as ftyp, MoovBox as moov}
 use Rattle.mp4_source.specs.Answers.{IsLength}
 use Rattle.mp4_remux.specs.declared.layout.Layout.{Layout}
-use Rattle.mp4_remux.specs.Front.{in_front, IsBoxOf, IsFront, as_it_is, moved}
+use Rattle.mp4_remux.specs.Front.{in_front, IsBoxOf, IsMoved}
 use Rattle.mp4_remux.specs.Splice.{piece_bytes, spliced}
 
 -- five parts, one added after the other
@@ -65,24 +65,21 @@ pub no_pieces : (source made : List ℕ) (ps : List Piece) → ps ≡ [] → spl
 unfolding spliced
 no_pieces source made ps none = rw none refl
 
--- one piece of all bytes is the file as it is
-pub as_it_was : (known : Option (List ℕ)) (len : ℕ) (l : Layout) (made : List ℕ) (before ps : List Piece)
-    → IsLength known len → l.made.items ≡ made → l.pieces.items ≡ ps → before ≡ []
-    → ((source made : List ℕ) → spliced source made ps ≡ spliced source made before ++ between source 0 len)
-    → IfSome known (λ xs. IsFront xs (spliced xs l.made.items l.pieces.items))
-as_it_was None len l made before ps measured is_made is_ps none all = tt
-as_it_was (Some xs) len l made before ps measured is_made is_ps none all =
-    as_it_is (ap (λ (qs : List Piece). spliced xs l.made.items qs) is_ps ∙ all xs l.made.items
-    ∙ ap (λ (ys : List ℕ). ys ++ between xs 0 len) (no_pieces xs l.made.items before none)
-    ∙ whole xs len (sym measured))
-
 -- a layout with the bytes of a file with its movie box in front
 pub was_moved : (known : Option (List ℕ)) (len : ℕ) (l : Layout) (made : List ℕ) (ps : List Piece)
     (one other : TopBox) → IsLength known len → l.made.items ≡ made → l.pieces.items ≡ ps
     → IfSome known (λ xs. IsBoxOf xs ftyp one) → IfSome known (λ xs. IsBoxOf xs moov other)
     → ((source : List ℕ) → length source ≡ len → spliced source made ps ≡ in_front source one other made)
-    → IfSome known (λ xs. IsFront xs (spliced xs l.made.items l.pieces.items))
+    → IfSome known (λ xs. IsMoved xs (spliced xs l.made.items l.pieces.items))
 was_moved None len l made ps one other measured is_made is_ps first second all = tt
 was_moved (Some xs) len l made ps one other measured is_made is_ps first second all =
-    moved one other made first second (ap (λ (qs : List Piece). spliced xs l.made.items qs) is_ps
-    ∙ ap (λ (m : List ℕ). spliced xs m ps) is_made ∙ all xs (sym measured))
+    record {
+      file_type = one;
+      movie = other;
+      made = made;
+      has_file_type = first;
+      has_movie = second;
+      bytes =
+          ap (λ (qs : List Piece). spliced xs l.made.items qs) is_ps
+          ∙ ap (λ (m : List ℕ). spliced xs m ps) is_made ∙ all xs (sym measured);
+    }

@@ -1,5 +1,5 @@
 -- A sample that is at one place of a file and at another of its splice is read as before.
-use Rattle.std.proofs.Common.{◌≡◌, ◌∙◌, ℕ, zero, suc, ◌+◌, ◌≤◌, ◌<◌, ◌^◌, List, [], ◌∷◌, length, map, take, drop, Option, None, Some, Ok}
+use Rattle.std.proofs.Common.{◌≡◌, ◌∙◌, ℕ, zero, suc, ◌+◌, ◌≤◌, ◌<◌, List, [], ◌∷◌, length, map, take, drop, Option, None, Some, Ok}
 use Rattle.std.proofs.Common.{ℤ, Bool, nat_lt, true, false, option_map, refl, sym, ap, subst, arith}
 use Rattle.std.proofs.lemmas.Bool.{le-ltb, ltb-true, ltb-false}
 use Rattle.std.specs.Prelude.{slice_get, slice_index_or}
@@ -174,12 +174,12 @@ module _ (source_len : ℕ) (made : List ℕ) (pieces : List Piece) (b a : Movie
           )
 
       pub track_as_before : (count n : ℕ) → AreAsBefore count
-          → (count + 1 < 2 ^ 32 → NumberAsBefore (count + 1) false)
+          → NumberAsBefore (count + 1) false
           → sample_count_in b.tracks id ≡ Ok n → sample_count_in a.tracks id ≡ Ok n
           → IsTrackAsBefore source_len made pieces (opened_movie b) (opened_movie a) id
       track_as_before count n upto past was is = λ source long. record {
         count = count;
         same = λ k some le. upto k some le source long;
-        none = λ lt. past lt source long;
+        none = past source long;
         counted = counted_there a are id ∙ is ∙ sym was ∙ sym (counted_there b were id);
       }

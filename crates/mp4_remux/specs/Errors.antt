@@ -9,7 +9,7 @@ use Rattle.mp4_source.specs.declared.file_error.FileError.{FileError}
 use Rattle.mp4_source.specs.declared.file_error.FileError.TheVariants.{Mp4 as of_mp4, Io as file_refused}
 use Rattle.mp4_remux.specs.declared.error.RemuxError.{RemuxError}
 use Rattle.mp4_remux.specs.declared.error.RemuxError.TheVariants.{Mp4, Read, Write, Twice, SaysPlaces}
-use Rattle.mp4_remux.specs.declared.error.RemuxError.TheVariants.{OtherTracks, Differs}
+use Rattle.mp4_remux.specs.declared.error.RemuxError.TheVariants.{TooManySamples, OtherTracks, Differs}
 
 -- an error of a file that is read
 abbrev pub of_file : FileError → RemuxError
@@ -33,6 +33,7 @@ CopyFails SourceRefuses sink_refuses (Read e) = SourceRefuses
 CopyFails SourceRefuses sink_refuses (Write e) = IsTrue sink_refuses
 CopyFails SourceRefuses sink_refuses (Twice name) = ⊥
 CopyFails SourceRefuses sink_refuses (SaysPlaces name place) = ⊥
+CopyFails SourceRefuses sink_refuses (TooManySamples track) = ⊥
 CopyFails SourceRefuses sink_refuses OtherTracks = ⊥
 CopyFails SourceRefuses sink_refuses (Differs track number) = ⊥
 
@@ -43,6 +44,7 @@ IsNamed (Read e) = ⊥
 IsNamed (Write e) = ⊥
 IsNamed (Twice name) = ⊤
 IsNamed (SaysPlaces name place) = ⊤
+IsNamed (TooManySamples track) = ⊤
 IsNamed OtherTracks = ⊤
 IsNamed (Differs track number) = ⊤
 
@@ -53,6 +55,7 @@ IsRefusalOf SourceRefuses SinkRefuses (Read e) = SourceRefuses
 IsRefusalOf SourceRefuses SinkRefuses (Write e) = SinkRefuses
 IsRefusalOf SourceRefuses SinkRefuses (Twice name) = ⊤
 IsRefusalOf SourceRefuses SinkRefuses (SaysPlaces name place) = ⊤
+IsRefusalOf SourceRefuses SinkRefuses (TooManySamples track) = ⊤
 IsRefusalOf SourceRefuses SinkRefuses OtherTracks = ⊤
 IsRefusalOf SourceRefuses SinkRefuses (Differs track number) = ⊤
 

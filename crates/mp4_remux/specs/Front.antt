@@ -23,15 +23,21 @@ in_front bytes one other made =
     ++ (between bytes (min one.end other.end) (max one.place other.place)
     ++ between bytes (max one.end other.end) (length bytes))))
 
--- The one file is the other as it is, or with its file type first and a movie box next: of the movie box the bytes may
--- be others, all else is there in its order.
+-- The one file is the other with its file type first and a movie box next: of the movie box the bytes may be others, all
+-- else is there in its order.
+pub record IsMoved (before after : List ℕ) : Type 0 where
+  pub file_type : TopBox
+  pub movie : TopBox
+  pub made : List ℕ
+  pub has_file_type : IsBoxOf before ftyp file_type
+  pub has_movie : IsBoxOf before moov movie
+  pub bytes : after ≡ in_front before file_type movie made
+
+-- The one file is the other as it is, or with its movie box in front, where each sample is read as before.
 pub data IsFront (before after : List ℕ) : Type 0 where
   as_it_is : after ≡ before → IsFront before after
-  moved : (file_type movie : TopBox) (made : List ℕ) → IsBoxOf before ftyp file_type → IsBoxOf before moov movie
-      → after ≡ in_front before file_type movie made → IsFront before after
+  moved : IsMoved before after → IsRemuxed before after → IsFront before after
 
--- After the bytes that a sink had come those of a file with its movie box in front, of which each sample is read as
--- before.
+-- After the bytes that a sink had come those of a file with its movie box in front.
 abbrev pub WritesFront : List ℕ → Option (List ℕ) → Option (List ℕ) → Type 0
-WritesFront before had has =
-    (after : List ℕ) × (IsAppended had has after × (IsRemuxed before after × IsFront before after))
+WritesFront before had has = (after : List ℕ) × (IsAppended had has after × IsFront before after)

@@ -1,5 +1,5 @@
 -- A movie rewritten: every sample of every track is read as before.
-use Rattle.std.specs.Prelude.{◌≡◌, ◌+◌, ◌≤◌, ◌<◌, ◌^◌, ℕ, Bool, true, false, List, length, map, slice_get, Option, Some, None, Result, Ok}
+use Rattle.std.specs.Prelude.{◌≡◌, ◌+◌, ◌≤◌, ℕ, Bool, true, false, List, length, map, slice_get, Option, Some, None, Result, Ok}
 use Rattle.mp4_codec.specs.Cause.{Cause, ◌>>=◌}
 use Rattle.mp4_codec.specs.Cursor.{here}
 use Rattle.mp4_boxes.specs.declared.trak.TrakBox.{TrakBox}
@@ -40,7 +40,7 @@ IsSameNumber before after opened rewritten id k false =
 pub record IsSameTrack (before after : List ℕ) (opened rewritten : OpenedFile) (id : ℕ) : Type 0 where
   pub count : ℕ
   pub same : (k : ℕ) → 1 ≤ k → k ≤ count → IsSameNumber before after opened rewritten id k true
-  pub none : count + 1 < 2 ^ 32 → IsSameNumber before after opened rewritten id (count + 1) false
+  pub none : IsSameNumber before after opened rewritten id (count + 1) false
   pub counted : count_of rewritten id ≡ count_of opened id
 
 -- The one file is the other rewritten: both are files, with tracks of the same ids, and each is read as before.

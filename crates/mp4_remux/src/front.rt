@@ -4,14 +4,15 @@ ghost use Rattle.std.specs.Prelude.{◌≡◌, ◌++◌, ℕ, List, length, IfSo
 ghost use Rattle.mp4_source.specs.Answers.{IsLength};
 ghost use Rattle.mp4_remux.specs.Errors.{IsNamed, IsRefusalOf, MayRefuse};
 ghost use Rattle.mp4_media.specs.FileGrammar.{between};
-ghost use Rattle.mp4_remux.specs.Front.{in_front, IsBoxOf, IsFront, WritesFront};
+ghost use Rattle.mp4_remux.specs.Front.{in_front, IsBoxOf, IsMoved, WritesFront};
 ghost use Rattle.mp4_remux.specs.Splice.{of_origin, spliced};
 
 use crate::chunk_offsets::{Move, with_moves};
+use crate::copy::copy_all;
 use crate::error::RemuxError;
 use crate::layout::{Layout, fits};
 use crate::piece::{Origin, Piece};
-use crate::places::{check_box, check_top_level};
+use crate::places::{MORE_METADATA, check_box, check_top_level};
 use crate::rewrite::{open_whole, write_layout};
 use crate::top_level::{TopBox, top_boxes};
 use mp4_codec::{BoxType, Error, HEADER_SIZE, Limit, is_equal};
@@ -34,14 +35,18 @@ fn only_box(boxes: &[TopBox], name: BoxType) -> Result<Option<TopBox>, RemuxErro
     Ok(found)
 }
 
-/// Whether no data comes before the movie box, which begins at this place.
-fn is_in_front(boxes: &[TopBox], movie: u64) -> bool {
+/// Whether no data comes before the last movie box, which counts.
+fn is_in_front(boxes: &[TopBox]) -> bool {
+    let mut has_data = false;
+    let mut is_in_front = true;
     for one in boxes {
-        if one.name == BoxType::MdatBox && one.place < movie {
-            return false;
+        match one.name {
+            BoxType::MdatBox => has_data = true,
+            BoxType::MoovBox => is_in_front = !has_data,
+            _ => {}
         }
     }
-    true
+    is_in_front
 }
 
 /// Adds bytes after those of the pieces before; none where there are none.
@@ -202,32 +207,11 @@ fn check_metadata<S: ByteSource>(
     ensures refused { IfErr result (IsRefusalOf (MayRefuse (S.contents source.old) (S.can_refuse source.old)) ⊥) }
 {
     for one in boxes {
-        if one.name == BoxType::MetaBox {
+        if one.name == BoxType::MetaBox || u32::from(one.name) == MORE_METADATA {
             checked_bytes(alloc, source, len, *one)?;
         }
     }
     Ok(())
-}
-
-/// The source, and the layout of its file as it is.
-fn plan_nothing<S: ByteSource + Drop>(
-    alloc: Global,
-    source: S,
-    len: u64,
-) -> Result<(S, Layout), RemuxError>
-    requires { IsLength (S.contents source) len }
-    ensures source { IfOk result (λ x. x.0 ≡ source) }
-    ensures source_len { IfOk result (λ x. x.1.source_len ≡ len) }
-    ensures front { IfOk result (λ x. IfSome (S.contents source) (λ xs.
-        IsFront xs (spliced xs x.1.made.items x.1.pieces.items))) }
-    ensures refused { IfErr result (IsRefusalOf ⊥ ⊥) }
-{
-    let mut pieces = Vec::new(alloc);
-    push_piece(&mut pieces, Origin::Kept, 0, len)?;
-    let Some(layout) = Layout::new(len, Vec::new(alloc), pieces) else {
-        return Err(RemuxError::OtherTracks);
-    };
-    Ok((source, layout))
 }
 
 /// The source, and the layout of its file with the movie box in front, of a movie with so many tracks.
@@ -245,7 +229,7 @@ fn plan_moved<S: ByteSource + Drop>(
     ensures can_refuse { IfOk result (λ x. S.can_refuse x.0 ≡ S.can_refuse source) }
     ensures source_len { IfOk result (λ x. x.1.source_len ≡ len) }
     ensures front { IfOk result (λ x. IfSome (S.contents source) (λ xs.
-        IsFront xs (spliced xs x.1.made.items x.1.pieces.items))) }
+        IsMoved xs (spliced xs x.1.made.items x.1.pieces.items))) }
     ensures refused { IfErr result (IsRefusalOf (MayRefuse (S.contents source) (S.can_refuse source)) ⊥) }
 {
     let source = check_header(alloc, source, len, BoxType::FtypBox, file_type)?;
@@ -261,30 +245,33 @@ fn plan_moved<S: ByteSource + Drop>(
     Ok((source, layout))
 }
 
-/// The source, and the layout that is to be written of its file, of a movie with so many tracks.
+/// The source, and the layout that is to be written of its file, of a movie with so many tracks; none where that is the
+/// file as it is.
 fn plan<S: ByteSource + Drop>(
     alloc: Global,
     source: S,
     len: u64,
     tracks: usize,
-) -> Result<(S, Layout), RemuxError>
+) -> Result<(S, Option<Layout>), RemuxError>
     requires { IsLength (S.contents source) len }
     ensures contents { IfOk result (λ x. S.contents x.0 ≡ S.contents source) }
     ensures can_refuse { IfOk result (λ x. S.can_refuse x.0 ≡ S.can_refuse source) }
-    ensures source_len { IfOk result (λ x. x.1.source_len ≡ len) }
-    ensures front { IfOk result (λ x. IfSome (S.contents source) (λ xs.
-        IsFront xs (spliced xs x.1.made.items x.1.pieces.items))) }
+    ensures source_len { IfOk result (λ x. IfSome x.1 (λ l. l.source_len ≡ len)) }
+    ensures moved { IfOk result (λ x. IfSome x.1 (λ l. IfSome (S.contents source) (λ xs.
+        IsMoved xs (spliced xs l.made.items l.pieces.items)))) }
     ensures refused { IfErr result (IsRefusalOf (MayRefuse (S.contents source) (S.can_refuse source)) ⊥) }
 {
     let (source, boxes) = top_boxes(alloc, source, len)?;
+    if is_in_front(&boxes) {
+        return Ok((source, None));
+    }
     let file_type = only_box(&boxes, BoxType::FtypBox)?;
     let movie = only_box(&boxes, BoxType::MoovBox)?;
-    match (file_type, movie) {
-        (Some(file_type), Some(movie)) if !is_in_front(&boxes, movie.place) => {
-            plan_moved(alloc, source, len, &boxes, file_type, movie, tracks)
-        }
-        _ => plan_nothing(alloc, source, len),
-    }
+    let (Some(file_type), Some(movie)) = (file_type, movie) else {
+        return Err(RemuxError::OtherTracks);
+    };
+    let (source, layout) = plan_moved(alloc, source, len, &boxes, file_type, movie, tracks)?;
+    Ok((source, Some(layout)))
 }
 
 /// Writes a movie to a sink with its movie box before its data, as players want it that begin before they have the whole
@@ -292,14 +279,17 @@ fn plan<S: ByteSource + Drop>(
 /// the chunk offsets are others, 64 bits wide where one passes 32; every other byte of the file is there as it was. A
 /// file whose movie box is before its data already is written as it is.
 ///
-/// The file is opened and each sample of each track is looked up, in the file and in what would be written, before a byte
-/// is. In memory are the movie's tables, the bytes of its movie box twice, and a block of 1 MiB.
+/// The file is opened. Where its movie box has to move, each sample of each track is looked up before a byte is written, in
+/// the file and in what would be written. In memory are then the movie's tables twice, the bytes of its movie box twice,
+/// and a block of 1 MiB.
 ///
-/// Refused as [`mp4_media::Mp4File::open`], and as [`mp4_media::Mp4File::read_sample`] where a sample isn't found. Where the
-/// movie box has to move: `Twice` for two file types or two movie boxes; `SaysPlaces` for a box that says places of the
-/// file which aren't rewritten: `moof`, `mfra`, `sidx`, or an `iloc` or `saio` in the movie box or in the file's metadata;
-/// `Differs` where a sample wouldn't be read as before. `Read` where the source refuses, `Write` where the sink does; then
-/// the sink may have some first bytes of the file.
+/// Refused as [`mp4_media::Mp4File::open`]. Where the movie box has to move, also as [`mp4_media::Mp4File::read_sample`]
+/// where a sample isn't found, and: `Twice` for two file types or two movie boxes; `SaysPlaces` for a box that says places
+/// which aren't rewritten: `moof`, `mfra`, `sidx`, an `iloc` or `saio` in the movie box or in the file's metadata, or a
+/// `dref` that says that samples are in another file; `TooManySamples` where the tracks have more than the file has bytes;
+/// `Differs` where a sample wouldn't be read as before. `Read` where the source refuses, `Write` where the sink does: then
+/// the sink may have some first bytes of the file. A refusal that is none of memory, source or sink leaves the sink as it
+/// was.
 pub fn move_to_front<S: ByteSource + Drop, K: ByteSink>(
     alloc: Global,
     source: S,
@@ -318,5 +308,9 @@ pub fn move_to_front<S: ByteSource + Drop, K: ByteSink>(
     };
     let (source, before) = open_whole(alloc, source, len)?;
     let (source, layout) = plan(alloc, source, len, before.moov.traks.len())?;
+    let Some(layout) = layout else {
+        let mut source = source;
+        return copy_all(alloc, &mut source, len, sink);
+    };
     write_layout(alloc, source, &before, &layout, sink)
 }

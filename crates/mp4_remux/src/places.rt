@@ -20,6 +20,9 @@ const FRAGMENT_PLACES: u32 = 0x6d66_7261;
 /// `sidx`, where segments are (8.16.3).
 const SEGMENT_PLACES: u32 = 0x7369_6478;
 
+/// `meco`, which has more metadata (8.11.7).
+pub(crate) const MORE_METADATA: u32 = 0x6d65_636f;
+
 /// How many boxes are entered, one in the other, at most: none that says places is deeper in a movie box.
 const DEEPEST: usize = 8;
 
@@ -31,16 +34,36 @@ fn is_entered(name: BoxType) -> bool {
         | BoxType::MdiaBox
         | BoxType::MinfBox
         | BoxType::StblBox
+        | BoxType::DinfBox
         | BoxType::UdtaBox
         | BoxType::MetaBox => true,
-        _ => false,
+        _ => u32::from(name) == MORE_METADATA,
     }
 }
 
-/// Whether a box of this type says places.
-fn says_places(name: BoxType) -> bool {
-    let code = u32::from(name);
-    code == ITEM_LOCATIONS || code == SAMPLE_INFORMATION
+/// Whether the samples of a `dref` are in another file: where one of its entries lacks the flag that says that they are
+/// in this one (8.7.2).
+fn is_elsewhere(data_references: &[u8]) -> bool {
+    let mut rest = match data_references.len() >= 8 {
+        true => &data_references[8..],
+        false => &[],
+    };
+    while let Some(entry) = first_box(rest) {
+        match entry.payload.get(3) {
+            Some(flags) if *flags % 2 == 1 => {}
+            _ => return true,
+        }
+        rest = entry.after;
+    }
+    false
+}
+
+/// Whether a box says places that aren't rewritten.
+fn says_places(one: &BoxBytes) -> bool {
+    let code = u32::from(one.name);
+    code == ITEM_LOCATIONS
+        || code == SAMPLE_INFORMATION
+        || one.name == BoxType::DrefBox && is_elsewhere(one.payload)
 }
 
 /// The bytes in which the children of a box are: those of `meta` come after its version and flags, which files of
@@ -60,7 +83,7 @@ fn find_in(bytes: &[u8], level: usize) -> Option<BoxType>
 {
     let mut rest = bytes;
     while let Some(one) = first_box(rest) {
-        if says_places(one.name) {
+        if says_places(&one) {
             return Some(one.name);
         }
         if level < DEEPEST && is_entered(one.name) {

@@ -1,6 +1,6 @@
 //! Whether every sample is read as before.
 
-ghost use Rattle.std.specs.Prelude.{◌≡◌, ◌↔◌, ℕ, Some, IfErr, IfOk, OnOk, IsTrue, slice_get};
+ghost use Rattle.std.specs.Prelude.{◌≡◌, ◌↔◌, ◌-◌, ◌<◌, ◌≤◌, ◌^◌, ℕ, Some, IfErr, IfOk, OnOk, IsTrue, slice_get};
 ghost use Rattle.mp4_boxes.specs.declared.trak.TrakBox.{TrakBox};
 ghost use Rattle.mp4_samples.specs.Places.{place_of};
 ghost use Rattle.mp4_media.specs.FileBoxes.{opened_movie};
@@ -13,6 +13,9 @@ use crate::error::RemuxError;
 use crate::layout::Layout;
 use mp4_codec::is_equal;
 use mp4_media::{Movie, SamplePlace};
+
+/// How many samples are compared at most: as many as have numbers, less one.
+const MOST_SAMPLES: u64 = u32::MAX as u64 - 1;
 
 /// Whether a sample that is opened from a layout is one of its file.
 fn is_same(layout: &Layout, before: &SamplePlace, after: &SamplePlace) -> bool
@@ -59,30 +62,33 @@ fn check_sample(
     Ok(true)
 }
 
-/// Checks that a track has the same samples before and after.
-fn check_track(
+/// How many samples a track has, which are the same before and after. `TooManySamples` where they are more than `most`.
+fn count_same(
     before: &Movie,
     after: &Movie,
     layout: &Layout,
     track_id: u32,
-) -> Result<(), RemuxError>
+    most: u32,
+) -> Result<u32, RemuxError>
     requires before { AreTracks before.now.moov before.now.moofs before.now.moof_places before.now.tracks }
     requires after { AreTracks after.now.moov after.now.moofs after.now.moof_places after.now.tracks }
+    requires most { most < 2 ^ 32 - 1 }
     ensures same { OnOk result (IsTrackAsBefore layout.now.source_len layout.now.made.items
         layout.now.pieces.items (opened_movie before.now) (opened_movie after.now) track_id) }
+    ensures few { IfOk result (λ count. count ≤ most) }
     ensures refused { IfErr result (IsRefusalOf ⊥ ⊥) }
 {
     if after.sample_count(track_id)? != before.sample_count(track_id)? {
         return Err(RemuxError::OtherTracks);
     }
     let mut k = 0;
-    while k < u32::MAX {
+    while k <= most {
         if !check_sample(before, after, layout, track_id, k + 1)? {
-            return Ok(());
+            return Ok(k);
         }
         k += 1;
     }
-    Ok(())
+    Err(RemuxError::TooManySamples(track_id))
 }
 
 /// Whether two movies have tracks of the same ids, in the same order.
@@ -105,6 +111,7 @@ fn have_same_ids(before: &Movie, after: &Movie) -> bool
 }
 
 /// Checks that a movie which is opened from a layout has the tracks that it has in its file, with the same samples.
+/// `TooManySamples` where they are more than the file has bytes, so that a small file takes no long time.
 pub(crate) fn check_same(before: &Movie, after: &Movie, layout: &Layout) -> Result<(), RemuxError>
     requires before { AreTracks before.now.moov before.now.moofs before.now.moof_places before.now.tracks }
     requires after { AreTracks after.now.moov after.now.moofs after.now.moof_places after.now.tracks }
@@ -118,9 +125,10 @@ pub(crate) fn check_same(before: &Movie, after: &Movie, layout: &Layout) -> Resu
         return Err(RemuxError::OtherTracks);
     }
     let traks = before.moov.traks.as_slice();
+    let mut left = layout.source_len().min(MOST_SAMPLES) as u32;
     let mut i = 0;
     while i < traks.len() {
-        check_track(before, after, layout, traks[i].tkhd.track_id)?;
+        left -= count_same(before, after, layout, traks[i].tkhd.track_id, left)?;
         i += 1;
     }
     Ok(())

@@ -52,6 +52,18 @@ fn a_movie_box_in_front_stays(rt: HostRuntime) {
     check(&rt, keeps_a_front(rt.alloc()));
 }
 
+/// Whether a file in front stays as it is whatever its samples are, and also with two file types.
+fn keeps_any_front(alloc: Global) -> Result<bool, RemuxError> {
+    let cut = movie_with(alloc, 903, 100_000)?;
+    let cut = joined(alloc, &[file_type(), &cut, &DATA, file_type()])?;
+    Ok(front_of(alloc, &cut)? == cut)
+}
+
+#[test]
+fn a_cut_movie_in_front_stays(rt: HostRuntime) {
+    check(&rt, keeps_any_front(rt.alloc()));
+}
+
 /// Whether a front is its own front.
 fn is_stable(alloc: Global) -> Result<bool, RemuxError> {
     let front = front_of(alloc, &data_first(alloc)?)?;

@@ -95,6 +95,25 @@ fn samples_that_would_be_lost_are_refused(rt: HostRuntime) {
     check(&rt, refuses_lost_samples(rt.alloc()));
 }
 
+/// Whether a movie is refused whose data reference says that its samples are in another file.
+fn refuses_samples_elsewhere(alloc: Global) -> Result<bool, RemuxError> {
+    let mut movie = movie_with(alloc, 48, 54)?;
+    let Some(flags) = movie.get_mut(424) else {
+        return Ok(false);
+    };
+    *flags = 0;
+    let elsewhere = refusal_of(alloc, &joined(alloc, &[file_type(), &DATA, &movie])?);
+    Ok(matches!(
+        elsewhere,
+        (Some(RemuxError::SaysPlaces(BoxType::DrefBox, 56)), 0)
+    ))
+}
+
+#[test]
+fn samples_of_another_file_are_refused(rt: HostRuntime) {
+    check(&rt, refuses_samples_elsewhere(rt.alloc()));
+}
+
 /// Whether each read of a source is refused in turn, and the answer is that it can't be read.
 fn refuses_each_read(alloc: Global) -> Result<bool, RemuxError> {
     let file = data_first(alloc)?;

@@ -3,19 +3,32 @@
 use crate::faults::Fault;
 use std::alloc::Global;
 use std::fs;
-use std::fs::{Metadata, OpenFile};
+use std::fs::Metadata;
 use std::os::unix::fs::MetadataExt;
 use std::rt::Files;
 
-/// The file of this name, opened to be read at any place; what is no regular file, as a pipe, can't be.
-pub fn open<'a, R: Files>(rt: &R, name: &'a str) -> Result<R::File, Fault<'a>> {
-    let Ok(file) = fs::open(rt, name) else {
-        return Err(Fault::CannotRead(name));
-    };
-    match file.metadata() {
-        Ok(metadata) if metadata.is_file() => Ok(file),
-        _ => Err(Fault::CannotRead(name)),
+/// Whether a name is that of a regular file.
+fn is_regular<R: Files>(rt: &R, name: &str) -> bool {
+    match fs::metadata(rt, name) {
+        Ok(metadata) => metadata.is_file(),
+        Err(_) => false,
     }
+}
+
+/// The file of this name, opened to be read at any place. What is no regular file, as a pipe, can't be, and isn't opened.
+pub fn open<'a, R: Files>(rt: &R, name: &'a str) -> Result<R::File, Fault<'a>> {
+    if !is_regular(rt, name) {
+        return Err(Fault::CannotRead(name));
+    }
+    match fs::open(rt, name) {
+        Ok(file) => Ok(file),
+        Err(_) => Err(Fault::CannotRead(name)),
+    }
+}
+
+/// Whether a name is that of something that is no regular file, as a pipe, which can't be written.
+pub fn is_special<R: Files>(rt: &R, name: &str) -> bool {
+    fs::metadata(rt, name).is_ok() && !is_regular(rt, name)
 }
 
 /// Whether two files are one, by their device and number; `None` where the system gives them no numbers.

@@ -1,7 +1,7 @@
 //! A run of the program.
 
 use crate::faults::{Fault, fault_of, no_memory};
-use crate::files::{is_same_file, open};
+use crate::files::{is_same_file, is_special, open};
 use mp4_media::{ByteSink, SeekSink, SeekSource};
 use mp4_new_file::NewFile;
 use mp4_remux::move_to_front;
@@ -45,6 +45,9 @@ fn faststart<'a>(
     let file = open(rt, read)?;
     if is_same_file(rt, alloc, read, written) {
         return Err(Fault::SameFile(written));
+    }
+    if is_special(rt, written) {
+        return Err(Fault::CannotWrite(written));
     }
     let Ok((new, out)) = NewFile::create(rt, alloc, "mp4_remux", written) else {
         return Err(Fault::CannotWrite(written));

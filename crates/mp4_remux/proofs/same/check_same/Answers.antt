@@ -11,6 +11,7 @@ pub loop-i-preserved : goal.loop-i-preserved
 loop-i-preserved c =
     record {
       upto = omega arith;
+      few = omega (arith, c.loop-i.invariant.few);
       traks = c.loop-i.invariant.traks;
       same = λ t j lt there. by t j lt there (nat_lt j c.loop-i.i) refl;
     }
@@ -30,7 +31,7 @@ loop-i-preserved c =
         ∙ got traks c.loop-i.i t trak here in
         subst (λ (b : TrakBox). IsTrackAsBefore c.args.layout.now.source_len c.args.layout.now.made.items
         c.args.layout.now.pieces.items (opened_movie c.args.before.now) (opened_movie c.args.after.now) b.tkhd.track_id)
-        same c.in_ok-check_track.ensures.same
+        same c.in_ok-left.ensures.same
 
 pub returns-clause-tracks : goal.returns-clause-tracks
 returns-clause-tracks c = λ t i there.

@@ -1,14 +1,15 @@
-use Rattle.std.proofs.Common.{◌-◌, ◌≤◌}
+use Rattle.std.proofs.Common.{◌-◌, ◌+◌, ◌≡◌, ◌≤◌}
 use Rattle.mp4_remux.proofs.Sameness.{AreAsBefore}
-use Rattle.mp4_remux.proofs.same.check_track.Given as goal
+use Rattle.mp4_remux.proofs.same.count_same.Given as goal
 
 -- the numbers up to this one have the same samples
 abbrev pub invariant-loop-k : goal.invariant-loop-k
 invariant-loop-k l = record {
-  upto : l.k ≤ 4294967295;
+  upto : l.k ≤ l.most + 1;
+  most : l.most ≡ l.fn.most;
   same : AreAsBefore l.layout.source_len l.layout.made.items l.layout.pieces.items l.before l.after
       l.track_id l.k;
 }
 
 abbrev pub decreases-loop-k : goal.decreases-loop-k
-decreases-loop-k l = 4294967295 - l.k
+decreases-loop-k l = l.most + 1 - l.k

@@ -1,13 +1,13 @@
 use Rattle.std.proofs.Common.{arith}
 use Rattle.mp4_remux.proofs.Sameness.{one_more, track_as_before}
-use Rattle.mp4_remux.proofs.same.check_track.Goals as goal
+use Rattle.mp4_remux.proofs.same.count_same.Goals as goal
 
 pub returns-then-not-branch-clause-same : goal.returns-then-not-branch-clause-same
 returns-then-not-branch-clause-same c =
     let l = c.args.layout.now in
     track_as_before l.source_len l.made.items l.pieces.items c.args.before.now c.args.after.now c.args.track_id
     c.requires.before c.requires.after c.loop-k.k c.in_ok-sample_count-2.field-0 c.loop-k.invariant.same
-    (λ _. rw c.if-not-branch.true at c.in_ok-check_sample.ensures.same) c.in_ok-sample_count-2.ensures
+    (rw c.if-not-branch.true at c.in_ok-check_sample.ensures.same) c.in_ok-sample_count-2.ensures
     (rw c.if-branch.false at c.in_ok-sample_count.ensures)
 
 pub loop-k-preserved : goal.loop-k-preserved
@@ -15,15 +15,8 @@ loop-k-preserved c =
     let l = c.args.layout.now in
     record {
       upto = omega arith;
+      most = c.loop-k.invariant.most;
       same =
           one_more l.source_len l.made.items l.pieces.items c.args.before.now c.args.after.now c.args.track_id c.loop-k.k
           c.loop-k.invariant.same (rw c.if-not-branch.false at c.in_ok-check_sample.ensures.same);
     }
-
-pub returns-clause-same : goal.returns-clause-same
-returns-clause-same c =
-    let l = c.args.layout.now in
-    track_as_before l.source_len l.made.items l.pieces.items c.args.before.now c.args.after.now c.args.track_id
-    c.requires.before c.requires.after c.loop-k.k c.in_ok-sample_count-2.field-0 c.loop-k.invariant.same
-    (λ lt. absurd (omega (arith, lt, c.loop-k-test.false))) c.in_ok-sample_count-2.ensures
-    (rw c.if-branch.false at c.in_ok-sample_count.ensures)
