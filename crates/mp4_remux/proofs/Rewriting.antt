@@ -11,7 +11,6 @@ use Rattle.mp4_media.specs.FileBoxes.{opened_movie}
 use Rattle.mp4_media.specs.FileGrammar.{IsFile}
 use Rattle.mp4_remux.specs.declared.error.RemuxError.{RemuxError}
 use Rattle.mp4_remux.specs.declared.layout.Layout.{Layout}
-use Rattle.mp4_remux.specs.Front.{IsMoved, WritesFront, as_it_is, moved}
 use Rattle.mp4_remux.specs.Remuxed.{WritesRemuxed, ids_of}
 use Rattle.mp4_remux.specs.Same.{IsTrackAsBefore}
 use Rattle.mp4_remux.specs.Splice.{spliced}
@@ -64,21 +63,3 @@ writes_remuxed (Some xs) known_after had has l before after len measured opens i
         tracks = λ t i there. tracks t i there xs (sym measured);
       },
     )
-
--- what is written is that file, and has its movie box in front
-pub writes_front : (known read : Option (List ℕ)) (l : Layout) (had has : Option (List ℕ)) → read ≡ known
-    → IfSome known (λ xs. IsMoved xs (spliced xs l.made.items l.pieces.items))
-    → IfSome read (λ xs. WritesRemuxed xs (spliced xs l.made.items l.pieces.items) had has)
-    → IfSome known (λ xs. WritesFront xs had has)
-writes_front None read l had has same front written = tt
-writes_front (Some xs) read l had has same front written =
-    let w = subst (λ (k : Option (List ℕ)). IfSome k (λ xs. WritesRemuxed xs (spliced xs l.made.items l.pieces.items)
-    had has)) same written in
-    (spliced xs l.made.items l.pieces.items, (w.0, moved front w.1))
-
--- what is written is the file as it is
-pub writes_as_it_is : (known read had has : Option (List ℕ)) → read ≡ known
-    → IfSome read (λ xs. IsAppended had has xs) → IfSome known (λ xs. WritesFront xs had has)
-writes_as_it_is None read had has same written = tt
-writes_as_it_is (Some xs) read had has same written =
-    (xs, (subst (λ (k : Option (List ℕ)). IfSome k (λ ys. IsAppended had has ys)) same written, as_it_is refl))
