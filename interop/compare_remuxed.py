@@ -55,8 +55,8 @@ class Trial:
         self.program, self.out = program, folder / "out"
         self.files = self.compared = self.differed = self.samples = self.packets = 0
         self.refused, self.damage = Counter(), Counter()
-        self.others = {name: Counter() for name in ("mp4_remux", "ffmpeg", "qt-faststart")}
-        self.missing = {name: Counter() for name in self.others}
+        self.tools = {name: Counter() for name in ("mp4_remux", "ffmpeg", "qt-faststart")}
+        self.missing = {name: Counter() for name in self.tools}
         self.slowest = 0
 
     def note(self, name, found):
@@ -96,25 +96,47 @@ class Trial:
         self.samples += count
         self.note(name, found)
 
-    def beside(self, tool, name, path, data, words, out):
-        """Counts what another tool makes of a file whose movie box has to move."""
-        counts = self.others[tool]
+    def counted(self, tool, path, data, out):
+        """Counts what a tool made of a file whose movie box has to move; where it refused to, there is no file."""
+        counts = self.tools[tool]
         counts["tried"] += 1
-        if words:
-            out.unlink(missing_ok=True)
-            status, _, _, _ = ran(words)
-            if status or not out.exists():
-                counts["refused"] += 1
-                return
+        if not out.exists():
+            counts["refused"] += 1
+            return
         written = out.read_bytes()
-        if not has_to_move(written):
-            counts["in front"] += 1
+        is_kept = not differences(data, written)
+        counts["in front"] += not has_to_move(written)
         counts["bytes"] += len(written) - len(data)
-        counts["as it was but for chunk offsets"] += not differences(data, written)
-        counts["other packets"] += tool != "mp4_remux" and probed(path) != probed(out)
+        counts["kept"] += is_kept
+        counts["wrong places"] += is_kept and bool(says_places(data))
+        counts["read otherwise"] += probed(path) != probed(out)
         missing = lost(data, written)
         counts["boxes missing"] += bool(missing)
-        self.missing[tool].update({each for each in missing})
+        self.missing[tool].update(set(missing))
+
+    def beside(self, path, data):
+        """Counts what the program made of a file whose movie box has to move, and what the other tools make of it."""
+        self.counted("mp4_remux", path, data, self.out)
+        other = self.out.with_name(f"other{path.suffix}")
+        copied = ["-map", "0", "-c", "copy", "-movflags", "+faststart", other]
+        for tool, words in (
+                ("ffmpeg", ["ffmpeg", "-v", "error", "-nostdin", "-y", "-i", path, *copied]),
+                ("qt-faststart", ["qt-faststart", path, other])):
+            other.unlink(missing_ok=True)
+            if ran(words)[0]:
+                other.unlink(missing_ok=True)
+            self.counted(tool, path, data, other)
+
+    def say_tools(self):
+        """Prints what each tool refused, kept and lost of the files whose movie box has to move."""
+        for tool, counts in self.tools.items():
+            print(f"{tool}: of {counts['tried']} files whose movie box has to move {counts['refused']} refused, "
+                  f"{counts['in front']} with it in front, {counts['kept']} of them as they were but for chunk offsets "
+                  f"({counts['wrong places']} with a box that says places which are wrong now), "
+                  f"{counts['read otherwise']} that ffprobe reads otherwise, "
+                  f"{counts['boxes missing']} without boxes that were there, {counts['bytes']:+} bytes")
+            for path, count in self.missing[tool].most_common(12):
+                print(f"    without {path}: {count}")
 
     def file(self, path):
         name, data = path.name, path.read_bytes()
@@ -124,18 +146,13 @@ class Trial:
         if written is None:
             self.refused[error] += 1
             self.note(name, [] if has_to_move(data) and says_places(data) else [f"refused: {error}"])
-            return
-        self.bytes_and_samples(name, data, written)
-        before = probed(path)
-        self.packets += len(before.get("packets", ()))
-        self.note(name, [] if before == probed(self.out) else ["ffprobe reads something else"])
-        if not has_to_move(data):
-            return
-        self.beside("mp4_remux", name, path, data, None, self.out)
-        other = self.out.with_name(f"other{path.suffix}")
-        copied = ["-map", "0", "-c", "copy", "-movflags", "+faststart", other]
-        self.beside("ffmpeg", name, path, data, ["ffmpeg", "-v", "error", "-nostdin", "-y", "-i", path, *copied], other)
-        self.beside("qt-faststart", name, path, data, ["qt-faststart", path, other], other)
+        else:
+            self.bytes_and_samples(name, data, written)
+            before = probed(path)
+            self.packets += len(before.get("packets", ()))
+            self.note(name, [] if before == probed(self.out) else ["ffprobe reads something else"])
+        if has_to_move(data):
+            self.beside(path, data)
 
     def damaged_file(self, name, data):
         path = self.out.with_name("damaged.mp4")
@@ -169,14 +186,7 @@ def main(program, folder, names):
           f"{trial.samples} samples")
     for reason, count in trial.refused.most_common():
         print(f"refused, {count} times: {reason}")
-    for tool, counts in trial.others.items():
-        print(f"{tool}: of {counts['tried']} whose movie box has to move {counts['refused']} refused, "
-              f"{counts['in front']} with it in front, "
-              f"{counts['as it was but for chunk offsets']} as they were but for chunk offsets, "
-              f"{counts['other packets']} with other packets, {counts['boxes missing']} without boxes that were there, "
-              f"{counts['bytes']:+} bytes")
-        for path, count in trial.missing[tool].most_common(12):
-            print(f"    without {path}: {count}")
+    trial.say_tools()
     files = [(pathlib.Path(name).name, pathlib.Path(name).read_bytes()) for name in names]
     small = [(name, data) for name, data in files if len(data) <= MOST_BYTES]
     for number in range(DAMAGED if small else 0):

@@ -38,8 +38,8 @@ def boxes_in(data, begin=0, end=None):
 
 
 def only(boxes, name):
-    """The first box of a type, or None."""
-    return next((box for box in boxes if box.type == name), None)
+    """The box of a type, or None. Of several the last counts, as docs/FORMAT.md says; the standard has no such files."""
+    return next((box for box in reversed(list(boxes)) if box.type == name), None)
 
 
 def has_to_move(data):
