@@ -176,28 +176,32 @@ def samples_of(data, boxes):
 
 
 def tracks_of(data):
-    """The samples of each track of the movie box, in order."""
+    """The samples of each track of the movie box, by its id. Of tracks with one id the last counts."""
     movie = only(boxes_in(data), "moov")
-    if movie is None:
-        return
-    for track in boxes_in(data, movie.inside, movie.end):
-        inner = track
+    found = {}
+    for track in boxes_in(data, movie.inside, movie.end) if movie else ():
+        header = only(boxes_in(data, track.inside, track.end), "tkhd") if track.type == "trak" else None
+        inner = track if header else None
         for name in AROUND[2:]:
-            inner = inner and only(boxes_in(data, inner.inside, inner.end), name) if track.type == "trak" else None
+            inner = inner and only(boxes_in(data, inner.inside, inner.end), name)
         if inner:
-            yield samples_of(data, list(boxes_in(data, inner.inside, inner.end)))
+            place = header.inside + (20 if data[header.inside] == 1 else 12)
+            found[data[place:place + 4]] = samples_of(data, list(boxes_in(data, inner.inside, inner.end)))
+    return found
 
 
 def sample_differences(data, other):
     """How many samples there are, and the first whose bytes are in the file and not read of the other."""
     count = 0
-    for track, (old, new) in enumerate(zip(tracks_of(data), tracks_of(other)), 1):
+    tracks, others = tracks_of(data), tracks_of(other)
+    for track, old in tracks.items():
+        new = others.get(track, [])
         if len(old) != len(new):
-            return count, [f"{len(new)} samples of trak {track} in place of {len(old)}"]
+            return count, [f"{len(new)} samples of track {int.from_bytes(track, 'big')} in place of {len(old)}"]
         for number, ((place, size), (new_place, new_size)) in enumerate(zip(old, new), 1):
             count += 1
             if place + size <= len(data) and data[place:place + size] != other[new_place:new_place + new_size]:
-                return count, [f"sample {number} of trak {track} has other bytes"]
+                return count, [f"sample {number} of track {int.from_bytes(track, 'big')} has other bytes"]
     return count, []
 
 
