@@ -38,7 +38,7 @@ def boxes_in(data, begin=0, end=None):
 
 
 def only(boxes, name):
-    """The box of a type, or None. Of several the last counts, as docs/FORMAT.md says; the standard has no such files."""
+    """The box of a type, or None. Of several the last counts (docs/FORMAT.md); the standard has no such files."""
     return next((box for box in reversed(list(boxes)) if box.type == name), None)
 
 
