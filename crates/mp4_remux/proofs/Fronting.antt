@@ -1,5 +1,6 @@
 -- The bytes of a file with its movie box in front, as pieces make them.
-use Rattle.std.proofs.Common.{◌≡◌, ◌∙◌, ℕ, ◌-◌, ◌≤◌, List, [], ◌++◌, length, take, drop, refl, sym, ap, arith, append_assoc}
+use Rattle.std.proofs.Common.{◌≡◌, ◌∙◌, ℕ, ◌-◌, ◌≤◌, List, [], ◌++◌, length, take, drop, refl, sym, ap, arith}
+use Rattle.std.proofs.Common.{append_assoc}
 use Rattle.std.proofs.Common.{◌∷◌, min, max, take_all, Option, None, Some, IfSome}
 use Rattle.std.proofs.lemmas.List.{append-nil}
 use Rattle.mp4_media.specs.FileGrammar.{between}
@@ -12,8 +13,8 @@ use Rattle.mp4_remux.specs.Front.{in_front, IsBoxOf, IsMoved}
 use Rattle.mp4_remux.specs.Splice.{piece_bytes, spliced}
 
 -- five parts, one added after the other
-pub five_parts : {A B C D E F : List ℕ} (a b c d e : List ℕ) → A ≡ [] → B ≡ A ++ a → C ≡ B ++ b → D ≡ C ++ c → E ≡ D ++ d
-    → F ≡ E ++ e → F ≡ a ++ (b ++ (c ++ (d ++ e)))
+pub five_parts : {A B C D E F : List ℕ} (a b c d e : List ℕ) → A ≡ [] → B ≡ A ++ a → C ≡ B ++ b → D ≡ C ++ c
+    → E ≡ D ++ d → F ≡ E ++ e → F ≡ a ++ (b ++ (c ++ (d ++ e)))
 five_parts a b c d e none one two three four five =
     five ∙ ap (λ (xs : List ℕ). xs ++ e) (four ∙ ap (λ (xs : List ℕ). xs ++ d) (three
     ∙ ap (λ (xs : List ℕ). xs ++ c) (two ∙ ap (λ (xs : List ℕ). xs ++ b) (one

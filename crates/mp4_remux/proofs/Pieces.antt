@@ -1,6 +1,7 @@
 -- Where the bytes of pieces are in their splice.
 use Rattle.std.proofs.Common.{◌≡◌, ◌∙◌, ℕ, zero, suc, ◌+◌, ◌-◌, ◌<◌, ◌≤◌, List, [], ◌∷◌, ◌++◌, length, take, drop}
-use Rattle.std.proofs.Common.{refl, sym, ap, subst, arith, take-add, take-take, take_all, drop-drop, Bool, true, false, leb, nat_lt}
+use Rattle.std.proofs.Common.{refl, sym, ap, subst, arith, take-add, take-take, take_all, drop-drop, Bool, true}
+use Rattle.std.proofs.Common.{false, leb, nat_lt}
 use Rattle.std.proofs.Common.{Option, None, Some, option_map, IfSome}
 use Rattle.std.proofs.lemmas.Bool.{leb-true, leb-false, ltb-true, ltb-false}
 use Rattle.std.proofs.lemmas.List.{length-take, length-drop, length-append, drop-take, take-append-le, drop-append-le}
@@ -157,7 +158,8 @@ module _ (source made : List ℕ) where
       )
 
 -- what a splice says of its length, where its bytes are known
-pub counted : (known : Option (List ℕ)) (made : List ℕ) (ps : List Piece) (source_len end : ℕ) → IsLength known source_len
+pub counted : (known : Option (List ℕ)) (made : List ℕ) (ps : List Piece) (source_len end : ℕ)
+    → IsLength known source_len
     → Follow source_len (length made) 0 ps end
     → IfSome (option_map (λ xs. spliced xs made ps) known) (λ xs. end ≡ length xs)
 counted None made ps source_len end measured f = tt

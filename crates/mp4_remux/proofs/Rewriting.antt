@@ -44,7 +44,8 @@ pub writes_remuxed : (known known_after had has : Option (List ℕ)) (l : Layout
     → ((t : TrakBox) (i : ℕ) → slice_get before.moov.traks i ≡ Some t
     → IsTrackAsBefore l.source_len l.made.items l.pieces.items (opened_movie before) (opened_movie after)
     t.tkhd.track_id)
-    → IfSome known_after (λ ys. IsAppended had has ys) → IfSome known (λ xs. WritesRemuxed xs (spliced xs l.made.items l.pieces.items) had has)
+    → IfSome known_after (λ ys. IsAppended had has ys)
+    → IfSome known (λ xs. WritesRemuxed xs (spliced xs l.made.items l.pieces.items) had has)
 writes_remuxed None known_after had has l before after len measured opens is whole opens_after ids tracks written = tt
 writes_remuxed (Some xs) known_after had has l before after len measured opens is whole opens_after ids tracks written =
     let ys = spliced xs l.made.items l.pieces.items in

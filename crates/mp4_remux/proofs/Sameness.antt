@@ -1,5 +1,6 @@
 -- A sample that is at one place of a file and at another of its splice is read as before.
-use Rattle.std.proofs.Common.{◌≡◌, ◌∙◌, ℕ, zero, suc, ◌+◌, ◌≤◌, ◌<◌, List, [], ◌∷◌, length, map, take, drop, Option, None, Some, Ok}
+use Rattle.std.proofs.Common.{◌≡◌, ◌∙◌, ℕ, zero, suc, ◌+◌, ◌≤◌, ◌<◌, List, [], ◌∷◌, length, map, take, drop}
+use Rattle.std.proofs.Common.{Option, None, Some, Ok}
 use Rattle.std.proofs.Common.{ℤ, Bool, nat_lt, true, false, option_map, refl, sym, ap, subst, arith}
 use Rattle.std.proofs.lemmas.Bool.{le-ltb, ltb-true, ltb-false}
 use Rattle.std.specs.Prelude.{slice_get, slice_index_or}

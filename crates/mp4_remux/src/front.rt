@@ -120,7 +120,7 @@ fn moves_of(alloc: Global, pieces: &[Piece]) -> Result<Vec<Move>, RemuxError>
 }
 
 /// The bytes of a movie box, as they are when it is in front, and the pieces of that file. Its chunk offsets are those of
-/// where the data is then, which hangs on the length of the box: a table that becomes `co64` makes it longer.
+/// where the data is then, which depends on the length of the box: a table that becomes `co64` makes it longer.
 fn plan_front(
     alloc: Global,
     movie_bytes: &[u8],
