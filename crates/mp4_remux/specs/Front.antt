@@ -23,8 +23,8 @@ in_front bytes one other made =
     ++ (between bytes (min one.end other.end) (max one.place other.place)
     ++ between bytes (max one.end other.end) (length bytes))))
 
--- The one file is the other with its file type first and a movie box next: of the movie box the bytes may be others, all
--- else is there in its order.
+-- The one file is the other with its file type first and a movie box next: of the movie box the bytes may be others,
+-- all else is there in its order.
 pub record IsMoved (before after : List ℕ) : Type 0 where
   pub file_type : TopBox
   pub movie : TopBox

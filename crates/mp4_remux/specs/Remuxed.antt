@@ -1,5 +1,6 @@
 -- A movie rewritten: every sample of every track is read as before.
-use Rattle.std.specs.Prelude.{◌≡◌, ◌+◌, ◌≤◌, ℕ, Bool, true, false, List, length, map, slice_get, Option, Some, None, Result, Ok}
+use Rattle.std.specs.Prelude.{◌≡◌, ◌+◌, ◌≤◌, ℕ, Bool, true, false, List, length, map, slice_get, Option, Some, None}
+use Rattle.std.specs.Prelude.{Result, Ok}
 use Rattle.mp4_codec.specs.Cause.{Cause, ◌>>=◌}
 use Rattle.mp4_codec.specs.Cursor.{here}
 use Rattle.mp4_boxes.specs.declared.trak.TrakBox.{TrakBox}

@@ -20,8 +20,8 @@ piece_bytes source made p = take p.len (drop p.place (of_origin p.origin source 
 unfoldable pub spliced : List ℕ → List ℕ → List Piece → List ℕ
 spliced source made pieces = flat_map (piece_bytes source made) pieces
 
--- Pieces follow each other from a place of the splice to another: each begins where the one before ends, has a byte, and
--- lies whole in what it is of, the source or the bytes that were made, which have so many bytes.
+-- Pieces follow each other from a place of the splice to another: each begins where the one before ends, has a byte,
+-- and lies whole in what it is of, the source or the bytes that were made, which have so many bytes.
 unfoldable pub Follow : ℕ → ℕ → ℕ → List Piece → ℕ → Type 0
 Follow source_len made_len start [] end = end ≡ start
 Follow source_len made_len start (p ∷ ps) end =

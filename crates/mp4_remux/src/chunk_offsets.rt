@@ -109,8 +109,8 @@ fn put_table(table: &BoxBytes, moves: &[Move], out: &mut Vec<u8>) -> Result<(), 
     Ok(())
 }
 
-/// Adds the boxes that these bytes hold, of which those at this level are `AROUND[level]` or have the offsets, as they are
-/// when all is moved; and the bytes after them.
+/// Adds the boxes that these bytes hold, of which those at this level are `AROUND[level]` or have the offsets, as they
+/// are when all is moved; and the bytes after them.
 fn put_boxes(
     bytes: &[u8],
     level: usize,

@@ -12,8 +12,8 @@ use std::alloc::Global;
 /// How many bytes are copied at once: 1 MiB.
 const BLOCK: u64 = 1 << 20;
 
-/// Adds all bytes of a source, of which there are `len`, to a sink, and lets it hand them on: block after block, so that
-/// no more than a block of them is in memory.
+/// Adds all bytes of a source, of which there are `len`, to a sink, and lets it hand them on: block after block, so
+/// that no more than a block of them is in memory.
 pub(crate) fn copy_all<S: ByteSource, K: ByteSink>(
     alloc: Global,
     source: &mut S,

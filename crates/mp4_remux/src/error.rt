@@ -29,8 +29,8 @@ pub enum RemuxError {
     /// A box of this type, which begins at this byte, says places of the file that would be wrong afterwards.
     #[error("a box {0} at byte {1} says places of the file, which would be wrong")]
     SaysPlaces(BoxType, u64),
-    /// The track with this id has more samples than are compared: with those of the tracks before it, more than the file
-    /// has bytes.
+    /// The track with this id has more samples than are compared: with those of the tracks before it, more than the
+    /// file has bytes.
     #[error("track {0} has more samples than the file has bytes")]
     TooManySamples(u32),
     /// The tracks would be others.

@@ -76,7 +76,8 @@ fn push_piece(
     Ok(())
 }
 
-/// A file of `len` bytes with its file type first and a movie box of `movie_len` bytes next, then all else in its order.
+/// A file of `len` bytes with its file type first and a movie box of `movie_len` bytes next, then all else in its
+/// order.
 fn front_pieces(
     alloc: Global,
     file_type: TopBox,
@@ -119,8 +120,8 @@ fn moves_of(alloc: Global, pieces: &[Piece]) -> Result<Vec<Move>, RemuxError>
     Ok(moves)
 }
 
-/// The bytes of a movie box, as they are when it is in front, and the pieces of that file. Its chunk offsets are those of
-/// where the data is then, which depends on the length of the box: a table that becomes `co64` makes it longer.
+/// The bytes of a movie box, as they are when it is in front, and the pieces of that file. Its chunk offsets are those
+/// of where the data is then, which depends on the length of the box: a table that becomes `co64` makes it longer.
 fn plan_front(
     alloc: Global,
     movie_bytes: &[u8],
@@ -274,22 +275,22 @@ fn plan<S: ByteSource + Drop>(
     Ok((source, Some(layout)))
 }
 
-/// Writes a movie to a sink with its movie box before its data, as players want it that begin before they have the whole
-/// file: the file type, the movie box, then all other boxes in their order (ISO/IEC 14496-12, 6.2.3). Of the movie box
-/// the chunk offsets are others, 64 bits wide where one passes 32; every other byte of the file is there as it was. A
-/// file whose movie box is before its data already is written as it is.
+/// Writes a movie to a sink with its movie box before its data, as players want it that begin before they have the
+/// whole file: the file type, the movie box, then all other boxes in their order (ISO/IEC 14496-12, 6.2.3). Of the
+/// movie box the chunk offsets are others, 64 bits wide where one passes 32; every other byte of the file is there as
+/// it was. A file whose movie box is before its data already is written as it is.
 ///
-/// The file is opened. Where its movie box has to move, each sample of each track is looked up before a byte is written, in
-/// the file and in what would be written. In memory are then the movie's tables twice, the bytes of its movie box twice,
-/// and a block of 1 MiB.
+/// The file is opened. Where its movie box has to move, each sample of each track is looked up before a byte is
+/// written, in the file and in what would be written. In memory are then the movie's tables twice, the bytes of its
+/// movie box twice, and a block of 1 MiB.
 ///
-/// Refused as [`mp4_media::Mp4File::open`]. Where the movie box has to move, also as [`mp4_media::Mp4File::read_sample`]
-/// where a sample isn't found, and: `Twice` for two file types or two movie boxes; `SaysPlaces` for a box that says places
-/// which aren't rewritten: `moof`, `mfra`, `sidx`, an `iloc` or `saio` in the movie box or in the file's metadata, or a
-/// `dref` that says that samples are in another file; `TooManySamples` where the tracks have more than the file has bytes;
-/// `Differs` where a sample wouldn't be read as before. `Read` where the source refuses, `Write` where the sink does: then
-/// the sink may have some first bytes of the file. A refusal that is none of memory, source or sink leaves the sink as it
-/// was.
+/// Refused as [`mp4_media::Mp4File::open`]. Where the movie box has to move, also as
+/// [`mp4_media::Mp4File::read_sample`] where a sample isn't found, and: `Twice` for two file types or two movie boxes;
+/// `SaysPlaces` for a box that says places which aren't rewritten: `moof`, `mfra`, `sidx`, an `iloc` or `saio` in the
+/// movie box or in the file's metadata, or a `dref` that says that samples are in another file; `TooManySamples` where
+/// the tracks have more than the file has bytes; `Differs` where a sample wouldn't be read as before. `Read` where the
+/// source refuses, `Write` where the sink does: then the sink may have some first bytes of the file. A refusal that is
+/// none of memory, source or sink leaves the sink as it was.
 pub fn move_to_front<S: ByteSource + Drop, K: ByteSink>(
     alloc: Global,
     source: S,

@@ -12,8 +12,8 @@ use mp4_source::ByteSource;
 use std::io;
 use std::io::ErrorKind;
 
-/// A source whose bytes are those of another as a layout says, which are read where they lie. Where the bytes of the one
-/// are known, those of the other are.
+/// A source whose bytes are those of another as a layout says, which are read where they lie. Where the bytes of the
+/// one are known, those of the other are.
 #[derive(Drop)]
 pub(crate) struct Splice<S: ByteSource> {
     source: S,

@@ -16,7 +16,8 @@ pub(crate) struct TopBox {
     pub end: u64,
 }
 
-/// The source, and the boxes of its file of `len` bytes, in their order. One whose end is open, or passes the file's, ends with the file.
+/// The source, and the boxes of its file of `len` bytes, in their order. One whose end is open, or passes the file's,
+/// ends with the file.
 pub(crate) fn top_boxes<S: ByteSource + Drop>(
     alloc: Global,
     source: S,

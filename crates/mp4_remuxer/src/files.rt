@@ -15,7 +15,8 @@ fn is_regular<R: Files>(rt: &R, name: &str) -> bool {
     }
 }
 
-/// The file of this name, opened to be read at any place. What is no regular file, as a pipe, can't be, and isn't opened.
+/// The file of this name, opened to be read at any place. What is no regular file, as a pipe, can't be, and isn't
+/// opened.
 pub fn open<'a, R: Files>(rt: &R, name: &'a str) -> Result<R::File, Fault<'a>> {
     if !is_regular(rt, name) {
         return Err(Fault::CannotRead(name));

@@ -6,6 +6,7 @@ returns-clause-bytes c = λ source made long_source long_made.
     front_bytes source made c.args.file_type c.args.movie c.min-first.result c.min-between.result c.max-second.result
     c.max-after.result c.args.len c.args.movie_len c.min-first.ensures c.min-between.ensures c.max-second.ensures
     c.max-after.ensures long_source long_made
-    (no_pieces source made c.new-pieces.result.items c.new-pieces.ensures.items) (c.in_ok-push_piece.ensures.bytes source made)
+    (no_pieces source made c.new-pieces.result.items c.new-pieces.ensures.items) (c.in_ok-push_piece.ensures.bytes
+    source made)
     (c.in_ok-push_piece-2.ensures.bytes source made) (c.in_ok-push_piece-3.ensures.bytes source made)
     (c.in_ok-push_piece-4.ensures.bytes source made) (c.in_ok-push_piece-5.ensures.bytes source made)

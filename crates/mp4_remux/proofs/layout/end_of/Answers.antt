@@ -24,5 +24,6 @@ loop-i-preserved c =
       follow =
           subst (λ n. Follow c.args.source_len c.args.made_len 0 (take (c.loop-i.i + 1) ps) n)
           (sym c.in_ok-end.ensures.1)
-          (subst (λ qs. Follow c.args.source_len c.args.made_len 0 qs (c.loop-i.end + p.len)) (sym (front ∙ last)) more);
+          (subst (λ qs. Follow c.args.source_len c.args.made_len 0 qs (c.loop-i.end + p.len)) (sym (front ∙ last))
+          more);
     }

@@ -17,7 +17,8 @@ copy_all-requires g c =
 pub returns-clause-written : goal.returns-clause-written
 returns-clause-written g c =
     on_ok c.copy_all.result c.copy_all.ensures.ok
-    (writes_remuxed (g.S.ByteSource.contents c.args.source) _ (g.K.ByteSink.contents c.args.sink.now) _ c.args.layout.now
+    (writes_remuxed (g.S.ByteSource.contents c.args.source) _ (g.K.ByteSink.contents c.args.sink.now) _
+    c.args.layout.now
     c.args.before.now c.in_ok-splice.after c.len-len.result c.requires.len c.requires.opened
     (c.in_ok-splice.ensures.contents
     ∙ same_splice g.S.ByteSource.contents c.new-splice.result.source c.args.source c.new-splice.result.layout

@@ -1,4 +1,5 @@
-use Rattle.std.proofs.Common.{ℕ, ◌≡◌, ◌+◌, ◌<◌, Bool, true, false, nat_lt, refl, ap, subst, arith, ◌∙◌, length, List, Some}
+use Rattle.std.proofs.Common.{ℕ, ◌≡◌, ◌+◌, ◌<◌, Bool, true, false, nat_lt, refl, ap, subst, arith, ◌∙◌, length, List}
+use Rattle.std.proofs.Common.{Some}
 use Rattle.std.proofs.lemmas.Bool.{ltb-true, ltb-false}
 use Rattle.std.specs.Prelude.{slice_get, slice_index_or}
 use Rattle.mp4_boxes.specs.declared.trak.TrakBox.{TrakBox}

@@ -17,6 +17,7 @@ loop-k-preserved c =
       upto = omega arith;
       most = c.loop-k.invariant.most;
       same =
-          one_more l.source_len l.made.items l.pieces.items c.args.before.now c.args.after.now c.args.track_id c.loop-k.k
+          one_more l.source_len l.made.items l.pieces.items c.args.before.now c.args.after.now c.args.track_id
+          c.loop-k.k
           c.loop-k.invariant.same (rw c.if-not-branch.false at c.in_ok-check_sample.ensures.same);
     }

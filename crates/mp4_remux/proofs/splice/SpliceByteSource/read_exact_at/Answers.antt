@@ -12,7 +12,8 @@ returns-then-not-fits-clause-err g c =
     let refuted : c.args.place + length c.args.buf.now ≤ c.len.result → ⊥ =
     λ le. false-not-true (c.if-not-fits.ensures.1 le) in
     past_end (g.S.ByteSource.contents s.source) l.made.items l.pieces.items l.source_len l.len c.args.place
-    (length c.args.buf.now) (g.S.ByteSource.can_refuse s.source) s.measured l.follow (omega (arith, c.len.ensures, refuted))
+    (length c.args.buf.now) (g.S.ByteSource.can_refuse s.source) s.measured l.follow (omega (arith, c.len.ensures,
+    refuted))
 
 pub loop-filled-preserved : goal.loop-filled-preserved
 loop-filled-preserved g c = record {
@@ -38,7 +39,8 @@ loop-filled-preserved g c = record {
       let count = c.min-count.result in
       more_bytes (g.S.ByteSource.contents s.source) l.made.items l.pieces.items l.source_len l.len c.args.place filled
       count (filled + count - filled)
-      (length (take (filled + count - filled) (drop filled c.loop-filled.buf))) p skipped c.loop-filled.buf c.read_piece.new.part s.measured
+      (length (take (filled + count - filled) (drop filled c.loop-filled.buf))) p skipped c.loop-filled.buf
+      c.read_piece.new.part s.measured
       (rw c.loop-filled.invariant.layout at c.piece_at-skipped.ensures)
       (omega (arith, c.min-count.ensures, c.piece_at-skipped.ensures.inside))
       (omega (arith, c.loop-filled.invariant.upto, c.loop-filled.invariant.room))
