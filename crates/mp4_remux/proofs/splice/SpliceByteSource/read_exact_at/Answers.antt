@@ -12,8 +12,11 @@ returns-then-not-fits-clause-err g c =
     let refuted : c.args.place + length c.args.buf.now ≤ c.len.result → ⊥ =
     λ le. false-not-true (c.if-not-fits.ensures.1 le) in
     past_end (g.S.ByteSource.contents s.source) l.made.items l.pieces.items l.source_len l.len c.args.place
-    (length c.args.buf.now) (g.S.ByteSource.can_refuse s.source) s.measured l.follow (omega (arith, c.len.ensures,
-    refuted))
+    (length c.args.buf.now) (g.S.ByteSource.can_refuse s.source) s.measured l.follow (omega (
+      arith,
+      c.len.ensures,
+      refuted,
+    ))
 
 pub loop-filled-preserved : goal.loop-filled-preserved
 loop-filled-preserved g c = record {
