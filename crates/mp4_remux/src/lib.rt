@@ -1,7 +1,8 @@
-//! Movies rewritten, with every sample as it was: the movie box moved to the front.
+//! Movies rewritten, with every sample as it was: the movie box moved to the front; and a check of what was written.
 #![tactic(auto)]
 
 mod box_bytes;
+mod check;
 mod chunk_offsets;
 mod copy;
 mod error;
@@ -14,5 +15,6 @@ mod same;
 mod splice;
 mod top_level;
 
+pub use check::check_samples;
 pub use error::RemuxError;
 pub use front::move_to_front;
