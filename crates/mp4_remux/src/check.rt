@@ -1,13 +1,11 @@
 //! Whether every sample of a file that was written is that of another.
 
 use crate::error::RemuxError;
+use crate::same::most_samples;
 use mp4_codec::{Error, is_equal};
 use mp4_media::{Mp4File, SamplePlace};
 use mp4_source::{ByteSource, FileError};
 use std::alloc::Global;
-
-/// How many samples are compared at most: as many as have numbers, less one.
-const MOST_SAMPLES: u64 = u32::MAX as u64 - 1;
 
 /// The file that a source is.
 fn open_file<S: ByteSource + Drop>(alloc: Global, source: S) -> Result<Mp4File<S>, RemuxError> {
@@ -134,7 +132,7 @@ pub fn check_samples<S: ByteSource + Drop, T: ByteSource + Drop>(
     if after.moov.traks.len() != ids.len() {
         return Err(RemuxError::OtherTracks);
     }
-    let mut left = before.source_len().min(MOST_SAMPLES) as u32;
+    let mut left = most_samples(before.source_len());
     let mut i = 0;
     while i < ids.len() {
         left -= count_checked(alloc, &mut before, &mut after, ids[i], left)?;

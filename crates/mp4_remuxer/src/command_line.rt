@@ -13,6 +13,10 @@ use std::fmt::Write;
 pub enum Unclear {
     /// clap's message, which is that of `--help` too.
     Message(Error),
+    /// `--keep` has something that is no id of a track.
+    NoId,
+    /// `--keep` has this id twice.
+    SameIds(u32),
     /// Standard output is to be checked.
     CheckOfOutput,
     /// There is no command.
@@ -35,6 +39,12 @@ impl fmt::Display for Unclear {
     fn fmt<W: fmt::Write>(&self, f: &mut fmt::Formatter<W>) -> fmt::Result {
         match self {
             Unclear::Message(error) => write!(f, "{error}"),
+            Unclear::NoId => {
+                f.write_str(
+                    "error: --keep takes ids of tracks, as 1,3: numbers from 1 to 4294967295\n",
+                )
+            }
+            Unclear::SameIds(id) => writeln!(f, "error: --keep has {id} twice"),
             Unclear::CheckOfOutput => {
                 f.write_str("error: --check reads OUT again, and standard output can't be\n")
             }
@@ -48,27 +58,64 @@ impl Unclear {
     pub fn is_mistake(&self) -> bool {
         match self {
             Unclear::Message(error) => error.use_stderr(),
-            Unclear::CheckOfOutput | Unclear::NoCommand => true,
+            Unclear::NoId | Unclear::SameIds(_) | Unclear::CheckOfOutput | Unclear::NoCommand =>
+                true,
         }
     }
 }
 
+/// The id of a track in a word of digits.
+fn id_in(word: &str) -> Result<u32, Unclear> {
+    if !word.bytes().all(|byte| byte.is_ascii_digit()) {
+        return Err(Unclear::NoId);
+    }
+    match word.parse::<u32>() {
+        Ok(id) if id > 0 => Ok(id),
+        _ => Err(Unclear::NoId),
+    }
+}
+
+/// The ids of tracks in a text, with commas between them; none twice.
+fn ids_in(alloc: Global, text: &str) -> Result<Vec<u32>, Unclear> {
+    let mut ids = Vec::new(alloc);
+    for word in text.split(',') {
+        let id = id_in(word)?;
+        if ids.contains(&id) {
+            return Err(Unclear::SameIds(id));
+        }
+        if ids.push(id).is_err() {
+            return Err(Unclear::from(AllocError));
+        }
+    }
+    Ok(ids)
+}
+
 /// What a command of this kind makes of a file. Each argument that is required was given.
-fn task_in(kind: Kind) -> Task {
+fn task_in(alloc: Global, kind: Kind, arguments: &ArgMatches<'_>) -> Result<Task, Unclear> {
     match kind {
-        Kind::Faststart => Task::Front,
+        Kind::Faststart => Ok(Task::Front),
+        Kind::Gather => Ok(Task::Gather),
+        Kind::Tracks => {
+            let ids = ids_in(alloc, arguments.get_str("keep").unwrap_or(""))?;
+            Ok(Task::Tracks(ids))
+        }
     }
 }
 
 /// The request of a command of this kind with these arguments.
-fn request_of<'a>(kind: Kind, arguments: &ArgMatches<'a>) -> Result<Request<'a>, Unclear> {
+fn request_of<'a>(
+    alloc: Global,
+    kind: Kind,
+    arguments: &ArgMatches<'a>,
+) -> Result<Request<'a>, Unclear> {
     let written = arguments.get_str("out").unwrap_or("");
     let check = arguments.get_flag("check");
     if check && written == STANDARD_STREAM {
         return Err(Unclear::CheckOfOutput);
     }
+    let task = task_in(alloc, kind, arguments)?;
     Ok(Request {
-        task: task_in(kind),
+        task,
         read: arguments.get_str("in").unwrap_or(""),
         written,
         check,
@@ -84,7 +131,7 @@ pub fn request_in<'a>(alloc: Global, words: &'a [String]) -> Result<Request<'a>,
         return Err(Unclear::NoCommand);
     };
     match Kind::named(name) {
-        Some(kind) => request_of(kind, arguments),
+        Some(kind) => request_of(alloc, kind, arguments),
         None => Err(Unclear::NoCommand),
     }
 }

@@ -8,6 +8,8 @@ use std::alloc::{AllocError, Global};
 enum Argument {
     /// A word at its place.
     Word(&'static str, &'static str, &'static str),
+    /// An option with a text that has to be there.
+    TextOption(&'static str, &'static str, &'static str),
     /// An option without a value.
     Flag(&'static str, &'static str),
 }
@@ -29,7 +31,18 @@ const CHECK: Argument = Argument::Flag(
     "Read OUT again, and compare each sample with that of IN, before OUT gets its name",
 );
 
-static FASTSTART: [Argument; 3] = [IN, OUT, CHECK];
+static REWRITE: [Argument; 3] = [IN, OUT, CHECK];
+
+static TRACKS: [Argument; 4] = [
+    IN,
+    OUT,
+    Argument::TextOption(
+        "keep",
+        "IDS",
+        "The ids of the tracks that are kept, as 1,3; `mp4_inspect tracks IN` shows them",
+    ),
+    CHECK,
+];
 
 /// An argument with a value.
 fn with_value<'a>(alloc: Global, id: &'a str, value: &'a str, help: &'a str) -> Arg<'a> {
@@ -43,6 +56,9 @@ impl Argument {
     fn arg<'a>(self, alloc: Global) -> Arg<'a> {
         match self {
             Argument::Word(id, value, help) => with_value(alloc, id, value, help).required(true),
+            Argument::TextOption(id, value, help) => {
+                with_value(alloc, id, value, help).long(id).required(true)
+            }
             Argument::Flag(id, help) => {
                 Arg::new(alloc, id)
                     .long(id)
@@ -65,9 +81,11 @@ struct Help<'a> {
 #[derive(Clone, Copy)]
 pub enum Kind {
     Faststart,
+    Gather,
+    Tracks,
 }
 
-static KINDS: [Kind; 1] = [Kind::Faststart];
+static KINDS: [Kind; 3] = [Kind::Faststart, Kind::Gather, Kind::Tracks];
 
 impl Kind {
     /// The kind of this name.
@@ -87,12 +105,23 @@ impl Kind {
                 about: "Puts the movie box before the data, so that a player can begin before it has the whole file",
                 example: "Example: mp4_remux faststart film.mp4 film-front.mp4",
             },
+            Kind::Gather => Help {
+                name: "gather",
+                about: "Makes of a file of movie fragments one whose samples are in the tables of its movie box",
+                example: "Example: mp4_remux gather recording.mp4 film.mp4",
+            },
+            Kind::Tracks => Help {
+                name: "tracks",
+                about: "Keeps some tracks alone, with their data; fragments are gathered",
+                example: "Example: mp4_remux tracks film.mp4 sound.mp4 --keep 2",
+            },
         }
     }
 
     fn arguments(self) -> &'static [Argument] {
         match self {
-            Kind::Faststart => &FASTSTART,
+            Kind::Faststart | Kind::Gather => &REWRITE,
+            Kind::Tracks => &TRACKS,
         }
     }
 }

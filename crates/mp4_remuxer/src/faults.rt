@@ -4,7 +4,8 @@ use mp4_box_report::WhyReport;
 use mp4_media::{Error, FileError, SourceError};
 use mp4_readable::Reason;
 use mp4_remux::RemuxError;
-use std::alloc::AllocError;
+use std::alloc::{AllocError, Global};
+use std::fmt::Write;
 use std::io;
 use std::io::ErrorKind;
 use thiserror::Error as ThisError;
@@ -33,6 +34,9 @@ pub enum Fault {
     /// A sample or the file itself is refused, or memory ran out.
     #[error("{}", Reason(.0))]
     Movie(#[from] Error),
+    /// The file has no track with this id, but those of these words.
+    #[error("there is no track {0}: {1}")]
+    NoTrack(u32, String),
     /// The file doesn't open.
     #[error("{0}")]
     Broken(WhyReport),
@@ -90,6 +94,14 @@ impl From<AllocError> for Fault {
 }
 
 impl Fault {
+    /// Why the file that was written can't be read again.
+    pub fn of_written(error: SourceError) -> Fault {
+        match error {
+            SourceError::OutOfMemory => Fault::Movie(Error::OutOfMemory),
+            SourceError::Io(error) => Fault::CannotWrite(error),
+        }
+    }
+
     /// Why a file can't be written: where it had no memory, that is why.
     pub fn of_writing(error: io::Error) -> Fault {
         if error.kind() == ErrorKind::OutOfMemory {
@@ -144,5 +156,34 @@ impl Fault {
             Some(error) => error.kind() == ErrorKind::BrokenPipe,
             None => false,
         }
+    }
+}
+
+/// How many tracks are named at most where one is asked for that isn't there.
+const MOST_NAMED: usize = 20;
+
+/// Which tracks a file has, in words.
+fn track_words(alloc: Global, ids: Vec<u32>) -> Result<String, AllocError> {
+    let mut ids = ids;
+    ids.sort()?;
+    let mut words = String::new(alloc);
+    for (index, id) in ids.iter().take(MOST_NAMED).enumerate() {
+        let before = if index == 0 { "the tracks are " } else { ", " };
+        write!(words, "{before}{id}")?;
+    }
+    if ids.is_empty() {
+        words.push_str("there are no tracks")?;
+    }
+    if ids.len() > MOST_NAMED {
+        words.push_str(", ..")?;
+    }
+    Ok(words)
+}
+
+/// The fault of a file that has no track with an id, but those with others.
+pub fn no_track(alloc: Global, id: u32, ids: Vec<u32>) -> Fault {
+    match track_words(alloc, ids) {
+        Ok(words) => Fault::NoTrack(id, words),
+        Err(AllocError) => Fault::Movie(Error::OutOfMemory),
     }
 }

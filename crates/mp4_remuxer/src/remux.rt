@@ -1,6 +1,6 @@
 //! Files that are rewritten.
 
-use crate::faults::Fault;
+use crate::faults::{Fault, no_track};
 use crate::files::{is_same_file, is_special, open};
 use crate::pipe_sink::PipeSink;
 use crate::progress::{Progress, Watched};
@@ -8,7 +8,7 @@ use crate::request::{Request, Task};
 use mp4_box_report::why_of;
 use mp4_media::{ByteSink, ByteSource, Error, Mp4File, SeekSink, SeekSource, SourceError, Window};
 use mp4_new_file::NewFile;
-use mp4_remux::{RemuxError, check_samples, move_to_front};
+use mp4_remux::{RemuxError, check_samples, choose, gather, move_to_front};
 use std::alloc::Global;
 use std::io::{Read, Seek, Write};
 use std::rt::{Clock, Files};
@@ -30,6 +30,8 @@ fn write_movie<S: ByteSource + Drop, K: ByteSink>(
 ) -> Result<(), RemuxError> {
     match task {
         Task::Front => move_to_front(alloc, source, sink),
+        Task::Gather => gather(alloc, source, sink),
+        Task::Tracks(ids) => choose(alloc, source, sink, ids.as_slice()),
     }
 }
 
@@ -45,17 +47,6 @@ fn all_ids<S: ByteSource + Drop>(alloc: Global, source: S) -> Result<Vec<u32>, F
     Ok(ids)
 }
 
-/// The ids of the tracks that a task keeps.
-fn kept_ids<S: ByteSource + Drop>(
-    alloc: Global,
-    source: S,
-    task: &Task,
-) -> Result<Vec<u32>, Fault> {
-    match task {
-        Task::Front => all_ids(alloc, source),
-    }
-}
-
 /// Compares each sample of a file that was written with that of the file that was read.
 fn check_written<S: ByteSource + Drop, F: Read + Seek + Drop>(
     alloc: Global,
@@ -64,14 +55,20 @@ fn check_written<S: ByteSource + Drop, F: Read + Seek + Drop>(
     task: &Task,
 ) -> Result<(), Fault> {
     let mut source = source;
-    let ids = kept_ids(alloc, &mut source, task)?;
-    let before = Window::new(alloc, source)?;
     let after = match Window::new(alloc, SeekSource::new(written)) {
         Ok(after) => after,
-        Err(SourceError::OutOfMemory) => return Err(Fault::Movie(Error::OutOfMemory)),
-        Err(SourceError::Io(error)) => return Err(Fault::CannotWrite(error)),
+        Err(error) => return Err(Fault::of_written(error)),
     };
-    check_samples(alloc, before, after, ids.as_slice()).map_err(Fault::of_check)
+    let checked = match task {
+        Task::Tracks(ids) => {
+            check_samples(alloc, Window::new(alloc, source)?, after, ids.as_slice())
+        }
+        Task::Front | Task::Gather => {
+            let ids = all_ids(alloc, &mut source)?;
+            check_samples(alloc, Window::new(alloc, source)?, after, ids.as_slice())
+        }
+    };
+    checked.map_err(Fault::of_check)
 }
 
 /// Writes what is asked for to a regular file, which may be read again, and answers how many bytes that has.
@@ -141,9 +138,6 @@ fn write_request<R: Files, S: ByteSource + Drop, O: Write>(
 
 /// Where the file of a source that a movie's error comes of is broken; the error itself where that isn't found.
 fn place_of<S: ByteSource + Drop>(alloc: Global, source: S, error: Error) -> Fault {
-    if matches!(error, Error::OutOfMemory) {
-        return Fault::Movie(error);
-    }
     match why_of(alloc, source) {
         Ok(Some(report)) => Fault::Broken(report),
         Ok(None) => Fault::Movie(error),
@@ -151,9 +145,15 @@ fn place_of<S: ByteSource + Drop>(alloc: Global, source: S, error: Error) -> Fau
     }
 }
 
-/// A fault, with the place where the file of a source is broken that doesn't open.
-fn with_place<S: ByteSource + Drop>(alloc: Global, source: S, fault: Fault) -> Fault {
+/// A fault of a source: with the place where its file is broken that doesn't open, and with the tracks that it has
+/// where one isn't there.
+fn with_words<S: ByteSource + Drop>(alloc: Global, source: S, fault: Fault) -> Fault {
     match fault {
+        Fault::Movie(Error::OutOfMemory) => fault,
+        Fault::Movie(Error::TrakNotFound(id)) => match all_ids(alloc, source) {
+            Ok(ids) => no_track(alloc, id, ids),
+            Err(other) => other,
+        },
         Fault::Movie(error) => place_of(alloc, source, error),
         fault => fault,
     }
@@ -178,6 +178,6 @@ pub fn remux<R: Files + Clock + Eprint, O: Write>(
     source.finish();
     match answer {
         Ok(len) => Ok(len),
-        Err(fault) => Err(with_place(host.alloc, &mut source, fault)),
+        Err(fault) => Err(with_words(host.alloc, &mut source, fault)),
     }
 }

@@ -8,6 +8,10 @@ use crate::files::STANDARD_STREAM;
 pub enum Task {
     /// With its movie box in front.
     Front,
+    /// With the samples of its fragments in tables.
+    Gather,
+    /// With the tracks of these ids alone.
+    Tracks(Vec<u32>),
 }
 
 /// A task, and the names of the file that is read and of the one that is written.
