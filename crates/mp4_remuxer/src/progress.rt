@@ -2,7 +2,7 @@
 
 ghost use Rattle.std.specs.Prelude.{◌≡◌, ◌+◌, ◌<◌, ◌≤◌, IfOk, IfErr, OnOk, OnErr};
 
-use mp4_media::ByteSource;
+use mp4_media::{ByteSource, SourceError};
 use mp4_readable::Grouped;
 use std::io;
 use std::rt::Clock;
@@ -99,9 +99,17 @@ impl<'a, R: Clock + Eprint, S: ByteSource> ByteSource for Watched<'a, R, S> {
     }
 
     fn read_exact_at(&mut self, place: u64, buf: &mut [u8]) -> io::Result<()> {
-        let n = buf.len();
-        self.source.read_exact_at(place, buf)?;
+        self.progress.note(buf.len());
+        self.source.read_exact_at(place, buf)
+    }
+
+    fn part<'r>(
+        &'r mut self,
+        place: u64,
+        n: usize,
+        room: &'r mut Vec<u8>,
+    ) -> Result<&'r [u8], SourceError> {
         self.progress.note(n);
-        Ok(())
+        self.source.part(place, n, room)
     }
 }
