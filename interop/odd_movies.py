@@ -144,7 +144,7 @@ def tables_alone():
     yield "one_in_the_other", file_of(text(1, [S(0, 100), S(10, 20), S(5, 300), S(0, 100), S(99, 2), S(0, 1)]))
     yield "same_samples", file_of(text(1, LINE), text(2, LINE), text(3, LINE[3:5]))
     yield "no_samples", file_of(text(1, []), text(2, LINE), text(3, []))
-    yield "no_bytes", file_of(text(1, [S(0, 0), S(7, 0), S(4, 4), S(100, 0), S(5000, 0)]), text(2, LINE))
+    yield "no_bytes", file_of(text(1, [S(0, 0), S(7, 0), S(4, 4), S(100, 0), S(2047, 0)]), text(2, LINE))
     yield "between", file_of(text(1, [S(0, 10), S(20, 10), S(40, 10)]), text(2, [S(10, 10), S(30, 10), S(50, 10)]))
     yield "offsets_below_0", file_of(text(1, [S(0, 4, 10, -10), S(4, 4, 10, 5, False), S(8, 4, 0, 0, False)]))
     yield "descriptions", file_of(text(
