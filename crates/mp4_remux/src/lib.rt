@@ -4,7 +4,6 @@
 
 mod box_bytes;
 mod check;
-mod choose;
 mod chosen;
 mod chunk_offsets;
 mod copy;
@@ -15,12 +14,14 @@ mod fragment_boxes;
 mod frame;
 mod front;
 mod header_box;
+mod kept;
 mod layout;
 mod moves;
 mod movie_box;
 mod piece;
-mod pieces;
+mod piece_list;
 mod places;
+mod rebuild;
 mod references;
 mod rewrite;
 mod same;
@@ -29,6 +30,6 @@ mod top_level;
 mod track_tables;
 
 pub use check::check_samples;
-pub use choose::{choose, gather};
 pub use error::RemuxError;
 pub use front::move_to_front;
+pub use rebuild::{choose, gather};
