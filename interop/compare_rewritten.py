@@ -5,6 +5,8 @@ import json
 import os
 import pathlib
 import random
+import re
+import shutil
 import struct
 import sys
 from collections import Counter
@@ -19,6 +21,10 @@ from rewritten import has_fragments, rewritten_differences  # noqa: E402
 
 DAMAGED = int(os.environ.get("DAMAGED", 2000))
 SEED = 6
+
+# A buffer as GStreamer's fakesink tells it, and how many tracks of a kind are asked for.
+BUFFER = re.compile(rb"chain .*?\((\d+) bytes, dts: ([^,]+), pts: ([^,]+), duration: [^,]+, .* flags: [0-9a-f]+ ([^,]*), meta")
+MOST_PADS = 4
 
 # What the reader of this folder can't make of bytes that are damaged.
 UNREADABLE = (struct.error, IndexError, KeyError, AttributeError, MemoryError)
@@ -65,6 +71,24 @@ def decoded(path):
     return status, error.count(b"\n")
 
 
+def buffers(path):
+    """What GStreamer's reader hands on of each picture and sound track: of each buffer its bytes, its times, and whether
+    it is a key frame. None where there is no GStreamer here."""
+    if not shutil.which("gst-launch-1.0"):
+        return None
+    found = []
+    for kind in ("video", "audio"):
+        for number in range(MOST_PADS):
+            _, out, _, _ = ran(["timeout", "20", "gst-launch-1.0", "-v", "filesrc", f"location={path}", "!", "qtdemux",
+                                "name=reader", f"reader.{kind}_{number}", "!", "queue", "!", "fakesink", "silent=false",
+                                "sync=false"])
+            rows = BUFFER.findall(out)
+            if not rows:
+                break
+            found.append([(size, decoded_at, shown_at, b"delta-unit" in flags) for size, decoded_at, shown_at, flags in rows])
+    return found
+
+
 def reason_of(data, keep):
     """Why a whole file may be refused; None where it may not."""
     for path in paths(data):
@@ -97,7 +121,7 @@ def choices(numbers):
 class Trial:
     def __init__(self, program, folder):
         self.program, self.out = program, folder / "out"
-        self.files = self.compared = self.differed = self.samples = self.packets = 0
+        self.files = self.compared = self.differed = self.samples = self.packets = self.buffers = 0
         self.refused, self.damage = Counter(), Counter()
         self.tools = {name: Counter() for name in ("mp4_remux", "ffmpeg")}
         self.missing = {name: Counter() for name in self.tools}
@@ -165,6 +189,16 @@ class Trial:
         counts["boxes missing"] += bool(gone)
         self.missing[tool].update(set(gone))
 
+    def played(self, name, path):
+        """Compares what GStreamer reads."""
+        before, after = buffers(path), buffers(self.out)
+        if before is None:
+            return
+        self.buffers += sum(map(len, before))
+        found = [f"GStreamer reads {len(new)} buffers of {len(old)} of its {k}. track"
+                 for k, (old, new) in enumerate(zip(before, after), 1) if old != new]
+        self.note(name, found if len(before) == len(after) else [f"GStreamer reads {len(after)} tracks of {len(before)}"])
+
     def beside(self, path, data):
         """Counts what the program made of a file of fragments, and what ffmpeg makes of it."""
         self.counted("mp4_remux", path, data, self.out)
@@ -203,6 +237,7 @@ class Trial:
             if words == ["gather"]:
                 if written is not None:
                     self.note(name, [] if decoded(path) == decoded(self.out) else ["ffmpeg decodes it otherwise"])
+                    self.played(name, path)
                 if has_fragments(data):
                     self.beside(path, data)
         self.note(path.name, [] if path.read_bytes() == data else ["the file that is read is another now"])
@@ -234,7 +269,8 @@ def main(program, folder, names):
     trial, chance = Trial(program, folder), random.Random(SEED)
     for name in names:
         trial.file(pathlib.Path(name))
-    print(f"{trial.files} files, {sum(trial.refused.values())} runs refused; {trial.packets} packets, {trial.samples} samples")
+    print(f"{trial.files} files, {sum(trial.refused.values())} runs refused; {trial.packets} packets, {trial.samples} samples, "
+          f"{trial.buffers} buffers of GStreamer")
     for reason, count in trial.refused.most_common():
         print(f"refused, {count} times: {reason}")
     trial.say_tools()

@@ -146,10 +146,10 @@ class Comparison:
             self.note("the movie's duration isn't that of its longest track")
 
     def durations(self, number, old, new, duration):
-        """The media lasts as long as its samples, the track as its edits; an edit that lasts to the end of the media
-        in a file of fragments, which says 0, says what is left of it (8.6.6)."""
+        """The media lasts until its last sample was shown (8.4.2), the track as its edits; an edit that lasts to the end
+        of the media in a file of fragments, which says 0, says what is left of it (8.6.6)."""
         samples = samples_in(self.other)[number]
-        media = sum(each.duration for each in samples)
+        media = max((each.start + max(0, each.offset) + each.duration for each in samples), default=0)
         header = inside(self.other, new, "mdia", "mdhd")
         if header_parts(self.other, header)[1] != media:
             self.note(f"track {number}: the duration of its media isn't that of its samples")

@@ -84,8 +84,8 @@ fn check_sample<S: ByteSource + Drop, T: ByteSource + Drop>(
     Ok(true)
 }
 
-/// How many samples a track has, which are the same in both files. `TooManySamples` where they are more than `most`,
-/// which is less than 2^32 - 1.
+/// How many samples a track has, which are the same in both files. None are looked up where it says that it has none.
+/// `TooManySamples` where they are more than `most`, which is less than 2^32 - 1.
 fn count_checked<S: ByteSource + Drop, T: ByteSource + Drop>(
     alloc: Global,
     before: &mut Mp4File<S>,
@@ -98,6 +98,9 @@ fn count_checked<S: ByteSource + Drop, T: ByteSource + Drop>(
         Ok(written) if written == count => {}
         Ok(_) => return Err(RemuxError::OtherTracks),
         Err(error) => return Err(of_written(RemuxError::from(error), RemuxError::OtherTracks)),
+    }
+    if count == 0 {
+        return Ok(0);
     }
     let mut read = Vec::new(alloc);
     let mut written = Vec::new(alloc);
