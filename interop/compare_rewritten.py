@@ -250,7 +250,7 @@ class Trial:
         path.write_bytes(data)
         self.files += 1
         try:
-            numbers = [number for number, _ in tracks_in(data)]
+            numbers = list(dict.fromkeys(number for number, _ in tracks_in(data)))
         except UNREADABLE:
             numbers = []
         keep = chance.choice(choices(numbers)) if numbers and chance.random() < 0.5 else numbers
