@@ -9,7 +9,10 @@ use Rattle.mp4_codec.specs.Bytes.{coded}
 use Rattle.mp4_codec.specs.Cause.{Cause, end_of_data, out_of_memory, invalid_data, box_not_found, box2_not_found}
 use Rattle.mp4_codec.specs.Cause.{trak_not_found, box_in_trak_not_found, box_in_traf_not_found, box_in_stbl_not_found}
 use Rattle.mp4_codec.specs.Cause.{entry_in_stbl_not_found, entry_in_trun_not_found, unsupported_version, ended}
-use Rattle.mp4_codec.specs.Cause.{zero_timescale, too_large, unrepresentable}
+use Rattle.mp4_codec.specs.Cause.{zero_timescale, too_large, unrepresentable, cause_of}
+use Rattle.mp4_remux.specs.declared.error.RemuxError.{RemuxError}
+use Rattle.mp4_remux.specs.declared.error.RemuxError.TheVariants.{Mp4, Read, Write, Twice, SaysPlaces}
+use Rattle.mp4_remux.specs.declared.error.RemuxError.TheVariants.{TooManySamples, OtherTracks, Differs}
 use Rattle.mp4_c.specs.declared.answer.Answer.{Answer}
 
 -- an answer with this code that names nothing
@@ -68,3 +71,14 @@ refused ended = plain 13
 refused zero_timescale = plain 14
 refused (too_large l) = record (plain 15) { limit = limit_number l }
 refused unrepresentable = plain 16
+
+-- the answer of a call that doesn't rewrite a movie which is in memory: there neither a source nor a sink refuses
+abbrev pub not_remuxed : RemuxError → Answer
+not_remuxed (Mp4 e) = refused (cause_of e)
+not_remuxed (Read e) = refused out_of_memory
+not_remuxed (Write e) = refused out_of_memory
+not_remuxed (Twice t) = of_box 20 0 t 0
+not_remuxed (SaysPlaces t place) = record (of_box 21 0 t 0) { index = place }
+not_remuxed (TooManySamples id) = record (plain 22) { track_id = id }
+not_remuxed OtherTracks = plain 23
+not_remuxed (Differs id k) = record (plain 24) { track_id = id; number = k }
