@@ -1,4 +1,4 @@
-"""Tests of the module: movies that are written and read."""
+"""Tests of the module: movies that are written, read and rewritten."""
 
 import copy
 import mmap
@@ -14,7 +14,7 @@ from concurrent.futures import ProcessPoolExecutor
 from unittest import mock
 
 import maqelsun
-from maqelsun import Code, Error, Limit, Movie, NewSample, NewTrack, OutOfMemory, write
+from maqelsun import Code, Error, Limit, Movie, NewSample, NewTrack, OutOfMemory, move_to_front, write
 
 
 def numbers(count, **movie):
@@ -447,6 +447,44 @@ class Writing(unittest.TestCase):
         samples = [NewSample(1, b"x", 1 + k % 2, k % 2) for k in range(3000)]
         movie = Movie(write([NewTrack("tx3g", 1)], samples))
         self.assertEqual(len(list(movie.samples(1))), 3000)
+
+
+class Rewriting(unittest.TestCase):
+    """Movies that are rewritten, and what refuses them."""
+
+    refused = Reading.refused
+
+    def test_a_movie_box_that_moved_has_the_samples_that_it_had(self):
+        file = numbers(2000)
+        moved = move_to_front(file)
+        self.assertLess(file.index(b"mdat"), file.index(b"moov"))
+        self.assertLess(moved.index(b"moov"), moved.index(b"mdat"))
+        before, after = Movie(file), Movie(moved)
+        texts = [[movie.read(sample) for sample in movie.samples(1)] for movie in (before, after)]
+        self.assertEqual(texts[0], texts[1])
+        self.assertEqual(move_to_front(moved), moved)
+
+    def test_each_kind_of_bytes_is_rewritten(self):
+        file = numbers(3)
+        moved = move_to_front(file)
+        room = bytearray(file)
+        for source in [room, memoryview(file)]:
+            self.assertEqual(move_to_front(source), moved)
+        room.append(0)  # it isn't held any more
+        with self.assertRaises(TypeError):
+            move_to_front("film.mp4")
+
+    def test_a_refused_file_says_why(self):
+        file = numbers(3)
+        head = file[: file.index(b"mdat") - 4]
+        self.assertEqual(self.refused("two boxes ftyp", move_to_front, file + head).code, Code.TWICE)
+        text = f"a box sidx at byte {len(file)} says places of the file, which would be wrong"
+        refused = self.refused(text, move_to_front, file + boxed(b"sidx", bytes(24)))
+        self.assertEqual((refused.code, refused.box_type), (Code.SAYS_PLACES, b"sidx"))
+        self.assertEqual(refused.index, len(file))
+        refused = self.refused("invalid data", move_to_front, b"\0\0\1\0free")
+        self.assertEqual(refused.reason, "a box is larger than the file")
+        self.assertEqual(self.refused("ftyp not found", move_to_front, b"").reason, "")
 
 
 if __name__ == "__main__":

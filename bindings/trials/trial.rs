@@ -264,6 +264,23 @@ fn write_movie(name: &str) -> Outcome<()> {
     Ok(fs::write(name, writer.finish()?)?)
 }
 
+/// Moves the movie box of each file that a line of standard input names to the front: what comes of
+/// the file of line K is the file K of the folder.
+fn move_files(folder: &str) -> Outcome<()> {
+    for (line, name) in (1..).zip(io::stdin().lines()) {
+        let name = name?;
+        println!("{name}");
+        match maqelsun::move_to_front(&fs::read(&name)?) {
+            Ok(moved) => {
+                fs::write(format!("{folder}/{line}"), &moved)?;
+                println!("wrote {} bytes", moved.len());
+            }
+            Err(refused) => println!("{refused}"),
+        }
+    }
+    Ok(())
+}
+
 /// How many KiB this process holds in memory, those of mapped files among them.
 fn resident_kib() -> Outcome<i64> {
     let status = fs::read_to_string("/proc/self/status")?;
@@ -360,10 +377,15 @@ fn run() -> Outcome<()> {
         ["faults"] => each_file(fault_line),
         ["reasons"] => each_file(reason_line),
         ["facts"] => each_file(facts),
+        ["front", folder] => move_files(folder),
         ["write", out] => write_movie(out),
         ["large", file] => list_large(file),
         ["threads", file] => list_by_threads(file),
-        _ => Err("list | faults | reasons | facts | write OUT | large FILE | threads FILE".into()),
+        _ => {
+            let commands =
+                "list | faults | reasons | facts | front FOLDER | write OUT | large FILE";
+            Err(format!("{commands} | threads FILE").into())
+        }
     }
 }
 

@@ -65,6 +65,7 @@ extern "C" {
         out: *mut u8,
         room: usize,
     ) -> Answer;
+    fn mp4_c_move_to_front(file: *const u8, size: usize, out: *mut u8, room: usize) -> Answer;
     fn mp4_c_open_error_text(file: *const u8, size: usize, bytes: *mut u8, room: usize) -> Answer;
     #[cfg(test)]
     fn mp4_c_error_text(answer: *const Answer, bytes: *mut u8, room: usize) -> Answer;
@@ -140,6 +141,12 @@ pub(crate) fn write(parts: Parts, out: &mut [u8]) -> Answer {
             out.len(),
         )
     }
+}
+
+/// A file with its movie box before its data, if all of it fits.
+pub(crate) fn move_to_front(file: &[u8], out: &mut [u8]) -> Answer {
+    // SAFETY: both slices are what the library asks for.
+    unsafe { mp4_c_move_to_front(file.as_ptr(), file.len(), out.as_mut_ptr(), out.len()) }
 }
 
 /// Why a file doesn't open, in words.

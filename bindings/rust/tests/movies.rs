@@ -1,9 +1,9 @@
-//! Movies that are written and read.
+//! Movies that are written, read and rewritten.
 
 use maqelsun::{
-    read_mp4, AacConfig, AudioObjectType, AvcConfig, ChannelConfig, Error, FourCC, Limit,
-    MediaConfig, MediaType, Metadata, Movie, MovieConfig, Part, PictureSize, Sample, TrackConfig,
-    TrackType, Writer,
+    move_to_front, read_mp4, AacConfig, AudioObjectType, AvcConfig, ChannelConfig, Error, FourCC,
+    Limit, MediaConfig, MediaType, Metadata, Movie, MovieConfig, Part, PictureSize, Sample,
+    TrackConfig, TrackType, Writer,
 };
 use std::io::ErrorKind;
 use std::sync::Arc;
@@ -450,4 +450,36 @@ fn the_header_says_when_a_movie_was_made() {
     assert_eq!((movie.creation_time(), movie.modification_time()), (3_000_000_000, 7));
     assert_eq!(movie.header_version(), 0);
     assert_eq!(movie.track(1).unwrap().time_of(1500), Ok(Duration::from_millis(1500)));
+}
+
+/// Where a box of this type begins for the first time.
+fn place_of(file: &[u8], kind: &[u8; 4]) -> usize {
+    file.windows(4).position(|bytes| bytes == kind).unwrap() - 4
+}
+
+#[test]
+fn a_movie_box_that_moved_has_the_samples_that_it_had() {
+    let file = numbers(2000);
+    let moved = move_to_front(&file).unwrap();
+    assert!(place_of(&file, b"mdat") < place_of(&file, b"moov"));
+    assert!(place_of(&moved, b"moov") < place_of(&moved, b"mdat"));
+    let (before, after) = (Movie::open(&file).unwrap(), Movie::open(&moved).unwrap());
+    let texts = |movie: &Movie<_>| -> Vec<Vec<u8>> {
+        movie.samples(1).unwrap().map(|sample| sample.unwrap().bytes.to_vec()).collect()
+    };
+    assert_eq!(texts(&after), texts(&before));
+    assert_eq!(move_to_front(&moved), Ok(moved.clone()));
+}
+
+#[test]
+fn a_refused_move_says_why() {
+    let file = numbers(3);
+    let ftyp = FourCC::from(*b"ftyp");
+    let twice = [&file[..], &file[..place_of(&file, b"mdat")]].concat();
+    assert_eq!(move_to_front(&twice), Err(Error::Twice(ftyp)));
+    let index = [&file[..], &boxed(b"sidx", &[0; 24])].concat();
+    let sidx = FourCC::from(*b"sidx");
+    assert_eq!(move_to_front(&index), Err(Error::SaysPlaces(sidx, file.len() as u64)));
+    let larger = Error::InvalidData("a box is larger than the file");
+    assert_eq!(move_to_front(b"\0\0\x01\0free"), Err(larger));
 }
