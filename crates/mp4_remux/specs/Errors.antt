@@ -10,6 +10,7 @@ use Rattle.mp4_source.specs.declared.file_error.FileError.TheVariants.{Mp4 as of
 use Rattle.mp4_remux.specs.declared.error.RemuxError.{RemuxError}
 use Rattle.mp4_remux.specs.declared.error.RemuxError.TheVariants.{Mp4, Read, Write, Twice, SaysPlaces}
 use Rattle.mp4_remux.specs.declared.error.RemuxError.TheVariants.{TooManySamples, OtherTracks, Differs}
+use Rattle.mp4_remux.specs.declared.error.RemuxError.TheVariants.{SaysOfSamples, StartsElsewhere, SameIds}
 
 -- an error of a file that is read
 abbrev pub of_file : FileError → RemuxError
@@ -34,6 +35,9 @@ CopyFails SourceRefuses sink_refuses (Write e) = IsTrue sink_refuses
 CopyFails SourceRefuses sink_refuses (Twice name) = ⊥
 CopyFails SourceRefuses sink_refuses (SaysPlaces name place) = ⊥
 CopyFails SourceRefuses sink_refuses (TooManySamples track) = ⊥
+CopyFails SourceRefuses sink_refuses (SaysOfSamples name place) = ⊥
+CopyFails SourceRefuses sink_refuses (StartsElsewhere track number) = ⊥
+CopyFails SourceRefuses sink_refuses SameIds = ⊥
 CopyFails SourceRefuses sink_refuses OtherTracks = ⊥
 CopyFails SourceRefuses sink_refuses (Differs track number) = ⊥
 
@@ -45,6 +49,9 @@ IsNamed (Write e) = ⊥
 IsNamed (Twice name) = ⊤
 IsNamed (SaysPlaces name place) = ⊤
 IsNamed (TooManySamples track) = ⊤
+IsNamed (SaysOfSamples name place) = ⊤
+IsNamed (StartsElsewhere track number) = ⊤
+IsNamed SameIds = ⊤
 IsNamed OtherTracks = ⊤
 IsNamed (Differs track number) = ⊤
 
@@ -56,6 +63,9 @@ IsRefusalOf SourceRefuses SinkRefuses (Write e) = SinkRefuses
 IsRefusalOf SourceRefuses SinkRefuses (Twice name) = ⊤
 IsRefusalOf SourceRefuses SinkRefuses (SaysPlaces name place) = ⊤
 IsRefusalOf SourceRefuses SinkRefuses (TooManySamples track) = ⊤
+IsRefusalOf SourceRefuses SinkRefuses (SaysOfSamples name place) = ⊤
+IsRefusalOf SourceRefuses SinkRefuses (StartsElsewhere track number) = ⊤
+IsRefusalOf SourceRefuses SinkRefuses SameIds = ⊤
 IsRefusalOf SourceRefuses SinkRefuses OtherTracks = ⊤
 IsRefusalOf SourceRefuses SinkRefuses (Differs track number) = ⊤
 

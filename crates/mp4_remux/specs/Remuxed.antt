@@ -1,5 +1,6 @@
 -- A movie rewritten: every sample of every track is read as before.
-use Rattle.std.specs.Prelude.{◌≡◌, ◌+◌, ◌≤◌, ℕ, Bool, true, false, List, length, map, slice_get, Option, Some, None}
+use Rattle.std.specs.Prelude.{◌≡◌, ◌+◌, ◌≤◌, ◌==◌, ℕ, Bool, true, false, if◌then◌else◌, Option, Some, None}
+use Rattle.std.specs.Prelude.{List, [], ◌∷◌, length, map, slice_get, list_any}
 use Rattle.std.specs.Prelude.{Result, Ok}
 use Rattle.mp4_codec.specs.Cause.{Cause, ◌>>=◌}
 use Rattle.mp4_codec.specs.Cursor.{here}
@@ -44,16 +45,22 @@ pub record IsSameTrack (before after : List ℕ) (opened rewritten : OpenedFile)
   pub none : IsSameNumber before after opened rewritten id (count + 1) false
   pub counted : count_of rewritten id ≡ count_of opened id
 
--- The one file is the other rewritten: both are files, with tracks of the same ids, and each is read as before.
-pub record IsRemuxed (before after : List ℕ) : Type 0 where
-  pub opened : OpenedFile
-  pub rewritten : OpenedFile
+-- of a list those that are among others, in its order
+unfoldable pub kept_of : List ℕ → List ℕ → List ℕ
+kept_of ids [] = []
+kept_of ids (x ∷ xs) = if list_any (λ y. y == x) ids then x ∷ kept_of ids xs else kept_of ids xs
+
+-- The one file is the other rewritten: both are files, the tracks of the rewritten one have these ids, it has no
+-- fragments, and each of its tracks is read from it as from the other.
+pub record IsRemuxed (before after : List ℕ) (opened rewritten : OpenedFile) (kept : List ℕ) : Type 0 where
   pub opens : IsFile (length before) (here before 0) opened
   pub opens_after : IsFile (length after) (here after 0) rewritten
-  pub ids : ids_of rewritten.moov ≡ ids_of opened.moov
-  pub tracks : (t : TrakBox) (i : ℕ) → slice_get opened.moov.traks i ≡ Some t
+  pub ids : ids_of rewritten.moov ≡ kept
+  pub unfragmented : rewritten.moofs ≡ []
+  pub tracks : (t : TrakBox) (i : ℕ) → slice_get rewritten.moov.traks i ≡ Some t
       → IsSameTrack before after opened rewritten t.tkhd.track_id
 
 -- After the bytes that a sink had come these, which are those of the file rewritten.
-abbrev pub WritesRemuxed : List ℕ → List ℕ → Option (List ℕ) → Option (List ℕ) → Type 0
-WritesRemuxed before after had has = IsAppended had has after × IsRemuxed before after
+abbrev pub WritesRemuxed : List ℕ → List ℕ → OpenedFile → List ℕ → Option (List ℕ) → Option (List ℕ) → Type 0
+WritesRemuxed before after opened kept had has = IsAppended had has after
+    × ((rewritten : OpenedFile) × IsRemuxed before after opened rewritten kept)

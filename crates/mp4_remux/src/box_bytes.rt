@@ -1,9 +1,10 @@
 //! Boxes as bytes, whatever is in them.
 
-ghost use Rattle.std.specs.Prelude.{◌≡◌, ◌+◌, ◌≤◌, ◌<◌, List, length, take, IfSome, IfOk};
+ghost use Rattle.std.specs.Prelude.{◌≡◌, ◌+◌, ◌≤◌, ◌<◌, List, length, take, IfSome, IfErr};
+ghost use Rattle.mp4_remux.specs.Errors.{IsRefusalOf};
 
+use crate::error::RemuxError;
 use mp4_codec::{BoxHeader, BoxType, ByteCursor, Error, HEADER_SIZE, Limit, OPEN_END, Result};
-use std::alloc::AllocError;
 
 /// A box with which some bytes begin.
 #[derive(Clone, Copy)]
@@ -53,6 +54,20 @@ pub(crate) fn put_size(bytes: &mut [u8], header: usize) -> Result<()> {
     };
     if bytes.len() >= 4 {
         bytes[..4].copy_from_slice(&size.to_be_bytes());
+    }
+    Ok(())
+}
+
+/// Ends a box that was begun at this place of a buffer, with a header of so many bytes: its size is written.
+pub(crate) fn end_box(
+    out: &mut Vec<u8>,
+    start: usize,
+    header: usize,
+) -> std::result::Result<(), RemuxError>
+    ensures refused { IfErr result (IsRefusalOf ⊥ ⊥) }
+{
+    if start <= out.len() {
+        put_size(&mut out[start..], header)?;
     }
     Ok(())
 }

@@ -33,6 +33,17 @@ pub enum RemuxError {
     /// file has bytes.
     #[error("track {0} has more samples than the file has bytes")]
     TooManySamples(u32),
+    /// A box of this type, in the box that begins at this byte, says something of each sample that the tables which are
+    /// made of fragments don't say.
+    #[error("a box {0} in the box at byte {1} says of samples what tables do not")]
+    SaysOfSamples(BoxType, u64),
+    /// This sample of the track with this id doesn't begin when the one before it ends, or the first at 0, and tables
+    /// can't say so.
+    #[error("sample {1} of track {0} does not begin when the one before it ends")]
+    StartsElsewhere(u32, u32),
+    /// Two tracks have one id.
+    #[error("two tracks have the same id")]
+    SameIds,
     /// The tracks would be others.
     #[error("the tracks would be others")]
     OtherTracks,

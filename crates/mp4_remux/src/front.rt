@@ -7,33 +7,21 @@ ghost use Rattle.mp4_media.specs.FileGrammar.{between};
 ghost use Rattle.mp4_remux.specs.Front.{in_front, IsBoxOf, IsMoved, WritesFront};
 ghost use Rattle.mp4_remux.specs.Splice.{of_origin, spliced};
 
-use crate::chunk_offsets::{Move, with_moves};
+use crate::chosen::all_ids;
 use crate::copy::copy_all;
 use crate::error::RemuxError;
-use crate::layout::{Layout, fits};
+use crate::frame::{check_header, check_metadata, checked_bytes, only_box};
+use crate::layout::Layout;
+use crate::moves::{Move, Moves};
+use crate::movie_box::{MovieEdit, edited};
 use crate::piece::{Origin, Piece};
-use crate::places::{MORE_METADATA, check_box, check_top_level};
-use crate::rewrite::{open_whole, write_layout};
+use crate::pieces::push_piece;
+use crate::places::check_top_level;
+use crate::rewrite::{open_source, write_layout};
 use crate::top_level::{TopBox, top_boxes};
-use mp4_codec::{BoxType, Error, HEADER_SIZE, Limit, is_equal};
-use mp4_source::{ByteSink, ByteSource, SourceCursor, read_into};
+use mp4_codec::{BoxType, Error, Limit};
+use mp4_source::{ByteSink, ByteSource};
 use std::alloc::Global;
-
-/// The only box of a type; `Twice` where there are two.
-fn only_box(boxes: &[TopBox], name: BoxType) -> Result<Option<TopBox>, RemuxError>
-    ensures refused { IfErr result (IsRefusalOf ⊥ ⊥) }
-{
-    let mut found: Option<TopBox> = None;
-    for one in boxes {
-        if one.name == name {
-            if let Some(_) = found {
-                return Err(RemuxError::Twice(name));
-            }
-            found = Some(*one);
-        }
-    }
-    Ok(found)
-}
 
 /// Whether no data comes before the last movie box, which counts.
 fn is_in_front(boxes: &[TopBox]) -> bool {
@@ -47,33 +35,6 @@ fn is_in_front(boxes: &[TopBox]) -> bool {
         }
     }
     is_in_front
-}
-
-/// Adds bytes after those of the pieces before; none where there are none.
-fn push_piece(
-    pieces: &mut Vec<Piece>,
-    origin: Origin,
-    place: u64,
-    end: u64,
-) -> Result<(), RemuxError>
-    ensures bytes { OnOk result ((source made : List ℕ) → spliced source made pieces.new.items
-        ≡ spliced source made pieces.old.items ++ between (of_origin origin source made) place end) }
-    ensures refused { IfErr result (IsRefusalOf ⊥ ⊥) }
-{
-    if end <= place {
-        return Ok(());
-    }
-    let at = match pieces.last() {
-        Some(last) => last.at.saturating_add(last.len),
-        None => 0,
-    };
-    pieces.push(Piece {
-        at,
-        origin,
-        place,
-        len: end - place,
-    })?;
-    Ok(())
 }
 
 /// A file of `len` bytes with its file type first and a movie box of `movie_len` bytes next, then all else in its
@@ -102,7 +63,7 @@ fn front_pieces(
     Ok(pieces)
 }
 
-/// Where the bytes of the file are by such pieces.
+/// Where the bytes of the file are by such pieces, in its order.
 fn moves_of(alloc: Global, pieces: &[Piece]) -> Result<Vec<Move>, RemuxError>
     ensures refused { IfErr result (IsRefusalOf ⊥ ⊥) }
 {
@@ -117,6 +78,7 @@ fn moves_of(alloc: Global, pieces: &[Piece]) -> Result<Vec<Move>, RemuxError>
             Origin::Made => {}
         }
     }
+    moves.sort_by_key(|one| one.from)?;
     Ok(moves)
 }
 
@@ -134,85 +96,22 @@ fn plan_front(
         → spliced source x.0.items x.1.items ≡ in_front source file_type movie x.0.items) }
     ensures refused { IfErr result (IsRefusalOf ⊥ ⊥) }
 {
+    let edit = MovieEdit::of_offsets(alloc);
     let mut movie_len = movie_bytes.len() as u64;
     for _ in 0..tries {
         let pieces = front_pieces(alloc, file_type, movie, movie_len, len)?;
-        let moves = moves_of(alloc, &pieces)?;
-        let made = with_moves(alloc, movie_bytes, &moves)?;
+        let list = moves_of(alloc, &pieces)?;
+        let moves = Moves {
+            list: &list,
+            base: 0,
+        };
+        let made = edited(alloc, movie_bytes, &edit, &moves)?;
         if made.len() as u64 == movie_len {
             return Ok((made, pieces));
         }
         movie_len = made.len() as u64;
     }
     Err(RemuxError::Mp4(Error::TooLarge(Limit::BoxSize)))
-}
-
-/// The source, where a box of this type begins and ends there as its header says.
-fn check_header<S: ByteSource + Drop>(
-    alloc: Global,
-    source: S,
-    len: u64,
-    name: BoxType,
-    one: TopBox,
-) -> Result<S, RemuxError>
-    requires { IsLength (S.contents source) len }
-    ensures header { IfOk result (λ _. IfSome (S.contents source) (λ xs. IsBoxOf xs name one)) }
-    ensures contents { IfOk result (λ s. S.contents s ≡ S.contents source) }
-    ensures can_refuse { IfOk result (λ s. S.can_refuse s ≡ S.can_refuse source) }
-    ensures refused { IfErr result (IsRefusalOf (MayRefuse (S.contents source) (S.can_refuse source)) ⊥) }
-{
-    let mut cursor = SourceCursor::new(alloc, source, one.place)?;
-    let header = cursor.read_header()?;
-    let end = cursor
-        .position()
-        .checked_add(header.size.saturating_sub(HEADER_SIZE));
-    if !is_equal(&header.name, &name) || end != Some(one.end) || one.end > len {
-        return Err(RemuxError::Mp4(Error::EndOfData));
-    }
-    let (source, _) = cursor.into_parts();
-    Ok(source)
-}
-
-/// The bytes of a box, in which no box says places.
-fn checked_bytes<S: ByteSource>(
-    alloc: Global,
-    source: &mut S,
-    len: u64,
-    one: TopBox,
-) -> Result<Vec<u8>, RemuxError>
-    requires { IsLength (S.contents source.old) len }
-    ensures contents { S.contents source.new ≡ S.contents source.old }
-    ensures can_refuse { S.can_refuse source.new ≡ S.can_refuse source.old }
-    ensures refused { IfErr result (IsRefusalOf (MayRefuse (S.contents source.old) (S.can_refuse source.old)) ⊥) }
-{
-    let size = one.end.saturating_sub(one.place);
-    if !fits(one.place, size, len) {
-        return Err(RemuxError::Mp4(Error::EndOfData));
-    }
-    let mut bytes = Vec::new(alloc);
-    read_into(source, one.place, size as usize, &mut bytes)?;
-    check_box(&bytes, one.place)?;
-    Ok(bytes)
-}
-
-/// Checks that no metadata of the file itself says places.
-fn check_metadata<S: ByteSource>(
-    alloc: Global,
-    source: &mut S,
-    len: u64,
-    boxes: &[TopBox],
-) -> Result<(), RemuxError>
-    requires { IsLength (S.contents source.old) len }
-    ensures contents { S.contents source.new ≡ S.contents source.old }
-    ensures can_refuse { S.can_refuse source.new ≡ S.can_refuse source.old }
-    ensures refused { IfErr result (IsRefusalOf (MayRefuse (S.contents source.old) (S.can_refuse source.old)) ⊥) }
-{
-    for one in boxes {
-        if one.name == BoxType::MetaBox || u32::from(one.name) == MORE_METADATA {
-            checked_bytes(alloc, source, len, *one)?;
-        }
-    }
-    Ok(())
 }
 
 /// The source, and the layout of its file with the movie box in front, of a movie with so many tracks.
@@ -237,7 +136,7 @@ fn plan_moved<S: ByteSource + Drop>(
     let mut source = check_header(alloc, source, len, BoxType::MoovBox, movie)?;
     check_top_level(boxes)?;
     check_metadata(alloc, &mut source, len, boxes)?;
-    let bytes = checked_bytes(alloc, &mut source, len, movie)?;
+    let bytes = checked_bytes(alloc, &mut source, len, movie, false)?;
     let tries = tracks.saturating_add(2);
     let (made, pieces) = plan_front(alloc, &bytes, file_type, movie, len, tries)?;
     let Some(layout) = Layout::new(len, made, pieces) else {
@@ -302,16 +201,12 @@ pub fn move_to_front<S: ByteSource + Drop, K: ByteSink>(
     ensures refused { IfErr result (IsRefusalOf (MayRefuse (S.contents source) (S.can_refuse source))
         (IsTrue (K.can_refuse sink.old))) }
 {
-    let mut source = source;
-    let len = match source.len() {
-        Ok(len) => len,
-        Err(refused) => return Err(RemuxError::Read(refused)),
-    };
-    let (source, before) = open_whole(alloc, source, len)?;
+    let (source, len, before) = open_source(alloc, source)?;
     let (source, layout) = plan(alloc, source, len, before.moov.traks.len())?;
     let Some(layout) = layout else {
         let mut source = source;
         return copy_all(alloc, &mut source, len, sink);
     };
-    write_layout(alloc, source, &before, &layout, sink)
+    let ids = all_ids(alloc, &before)?;
+    write_layout(alloc, source, &before, &layout, &ids, sink)
 }

@@ -1,18 +1,31 @@
-//! Movies rewritten, with every sample as it was: the movie box moved to the front.
+//! Movies rewritten, with every sample as it was: the movie box moved to the front, fragments gathered, tracks chosen.
 #![tactic(auto)]
 
 mod box_bytes;
+mod choose;
+mod chosen;
 mod chunk_offsets;
 mod copy;
+mod data;
+mod descriptions;
 mod error;
+mod fragment_boxes;
+mod frame;
 mod front;
+mod header_box;
 mod layout;
+mod moves;
+mod movie_box;
 mod piece;
+mod pieces;
 mod places;
+mod references;
 mod rewrite;
 mod same;
 mod splice;
 mod top_level;
+mod track_tables;
 
+pub use choose::{choose, gather};
 pub use error::RemuxError;
 pub use front::move_to_front;

@@ -5,6 +5,7 @@ ghost use Rattle.mp4_remux.specs.Errors.{IsRefusalOf};
 
 use crate::box_bytes::{BoxBytes, first_box};
 use crate::error::RemuxError;
+use crate::fragment_boxes::is_of_samples;
 use crate::top_level::TopBox;
 use mp4_codec::BoxType;
 
@@ -22,6 +23,15 @@ const SEGMENT_PLACES: u32 = 0x7369_6478;
 
 /// `meco`, which has more metadata (8.11.7).
 pub(crate) const MORE_METADATA: u32 = 0x6d65_636f;
+
+/// `ssix`, where the levels of a segment are (8.16.4).
+const SUBSEGMENT_PLACES: u32 = 0x7373_6978;
+
+/// `styp`, what specifications a segment follows (8.16.2).
+const SEGMENT_TYPE: u32 = 0x7374_7970;
+
+/// `prft`, when a movie fragment was made (8.16.5).
+const PRODUCER_TIME: u32 = 0x7072_6674;
 
 /// How many boxes are entered, one in the other, at most: none that says places is deeper in a movie box.
 const DEEPEST: usize = 8;
@@ -77,17 +87,18 @@ fn children_of<'a>(one: &BoxBytes<'a>) -> &'a [u8] {
     one.payload
 }
 
-/// The first box among these bytes, or in one of them, that says places.
-fn find_in(bytes: &[u8], level: usize) -> Option<BoxType>
+/// The first box among these bytes, or in one of them, that says places, or where tables are made, something of each
+/// sample.
+fn find_in(bytes: &[u8], level: usize, is_gathered: bool) -> Option<BoxType>
     requires { level ≤ 8 }
 {
     let mut rest = bytes;
     while let Some(one) = first_box(rest) {
-        if says_places(&one) {
+        if says_places(&one) || is_gathered && is_of_samples(one.name) {
             return Some(one.name);
         }
         if level < DEEPEST && is_entered(one.name) {
-            if let Some(name) = find_in(children_of(&one), level + 1) {
+            if let Some(name) = find_in(children_of(&one), level + 1, is_gathered) {
                 return Some(name);
             }
         }
@@ -96,14 +107,27 @@ fn find_in(bytes: &[u8], level: usize) -> Option<BoxType>
     None
 }
 
-/// Checks that no box in this one, whose bytes begin at this place, says places that would be wrong.
-pub(crate) fn check_box(bytes: &[u8], place: u64) -> Result<(), RemuxError>
+/// Checks that no box in this one, whose bytes begin at this place, says places that would be wrong, or where tables are
+/// made, something of each sample that they don't say.
+pub(crate) fn check_box(bytes: &[u8], place: u64, is_gathered: bool) -> Result<(), RemuxError>
     ensures refused { IfErr result (IsRefusalOf ⊥ ⊥) }
 {
-    match find_in(bytes, 0) {
+    match find_in(bytes, 0, is_gathered) {
+        Some(name) if is_of_samples(name) => Err(RemuxError::SaysOfSamples(name, place)),
         Some(name) => Err(RemuxError::SaysPlaces(name, place)),
         None => Ok(()),
     }
+}
+
+/// Whether a box goes with the fragments of a movie, or is where the data of its samples is.
+pub(crate) fn is_of_fragments(name: BoxType) -> bool {
+    let code = u32::from(name);
+    name == BoxType::MoofBox
+        || code == FRAGMENT_PLACES
+        || code == SEGMENT_PLACES
+        || code == SUBSEGMENT_PLACES
+        || code == SEGMENT_TYPE
+        || code == PRODUCER_TIME
 }
 
 /// Checks that no box of the file is one that says places of others, or a movie fragment.

@@ -37,13 +37,36 @@ pub(crate) fn open_whole<S: ByteSource + Drop>(
     Ok(file.into_parts())
 }
 
-/// Writes the file that a layout says, where every sample of every track is read from it as before; else nothing is
-/// written.
+/// The source, how many bytes it has, and the movie of its file.
+pub(crate) fn open_source<S: ByteSource + Drop>(
+    alloc: Global,
+    source: S,
+) -> Result<(S, u64, Movie), RemuxError>
+    ensures len { IfOk result (λ x. IsLength (S.contents source) x.1.0) }
+    ensures file { IfOk result (λ x. IfSome (S.contents source) (λ xs.
+        IsFile (length xs) (here xs 0) (opened_movie x.1.1))) }
+    ensures tracks { IfOk result (λ x. AreTracks x.1.1.moov x.1.1.moofs x.1.1.moof_places x.1.1.tracks) }
+    ensures contents { IfOk result (λ x. S.contents x.0 ≡ S.contents source) }
+    ensures can_refuse { IfOk result (λ x. S.can_refuse x.0 ≡ S.can_refuse source) }
+    ensures refused { IfErr result (IsRefusalOf (MayRefuse (S.contents source) (S.can_refuse source)) ⊥) }
+{
+    let mut source = source;
+    let len = match source.len() {
+        Ok(len) => len,
+        Err(refused) => return Err(RemuxError::Read(refused)),
+    };
+    let (source, movie) = open_whole(alloc, source, len)?;
+    Ok((source, len, movie))
+}
+
+/// Writes the file that a layout says, where it has the tracks with these ids and no fragments, and every sample of them
+/// is read from it as before; else nothing is written.
 pub(crate) fn write_layout<S: ByteSource + Drop, K: ByteSink>(
     alloc: Global,
     source: S,
     before: &Movie,
     layout: &Layout,
+    ids: &[u32],
     sink: &mut K,
 ) -> Result<(), RemuxError>
     requires len { IsLength (S.contents source) layout.now.source_len }
@@ -60,7 +83,7 @@ pub(crate) fn write_layout<S: ByteSource + Drop, K: ByteSink>(
     let splice = Splice::new(source, layout.try_clone(alloc)?);
     let len = layout.len();
     let (mut splice, after) = open_whole(alloc, splice, len)?;
-    check_same(before, &after, layout)?;
+    check_same(before, &after, layout, ids)?;
     drop(after);
     copy_all(alloc, &mut splice, len, sink)
 }

@@ -91,18 +91,17 @@ fn count_same(
     Err(RemuxError::TooManySamples(track_id))
 }
 
-/// Whether two movies have tracks of the same ids, in the same order.
-fn have_same_ids(before: &Movie, after: &Movie) -> bool
-    ensures { IsTrue result → ids_of after.now.moov ≡ ids_of before.now.moov }
+/// Whether a movie has tracks of these ids, in this order.
+fn has_ids(movie: &Movie, ids: &[u32]) -> bool
+    ensures { IsTrue result → ids_of movie.now.moov ≡ ids.now }
 {
-    let before = before.moov.traks.as_slice();
-    let after = after.moov.traks.as_slice();
-    if before.len() != after.len() {
+    let traks = movie.moov.traks.as_slice();
+    if traks.len() != ids.len() {
         return false;
     }
     let mut i = 0;
-    while i < before.len() {
-        if before[i].tkhd.track_id != after[i].tkhd.track_id {
+    while i < traks.len() {
+        if traks[i].tkhd.track_id != ids[i] {
             return false;
         }
         i += 1;
@@ -110,22 +109,40 @@ fn have_same_ids(before: &Movie, after: &Movie) -> bool
     true
 }
 
-/// Checks that a movie which is opened from a layout has the tracks that it has in its file, with the same samples.
-/// `TooManySamples` where they are more than the file has bytes, so that a small file takes no long time.
-pub(crate) fn check_same(before: &Movie, after: &Movie, layout: &Layout) -> Result<(), RemuxError>
+/// How many samples of a file of so many bytes are compared at most: as many as it has bytes, so that a small file takes
+/// no long time.
+pub(crate) fn most_samples(len: u64) -> u32
+    ensures { result < 2 ^ 32 - 1 }
+{
+    len.min(MOST_SAMPLES) as u32
+}
+
+/// Checks that a movie which is opened from a layout has tracks of these ids and no fragments, and that each is read as
+/// in its file. `SameIds` where two of that have one id; `TooManySamples` where the samples are more than the file has
+/// bytes.
+pub(crate) fn check_same(
+    before: &Movie,
+    after: &Movie,
+    layout: &Layout,
+    ids: &[u32],
+) -> Result<(), RemuxError>
     requires before { AreTracks before.now.moov before.now.moofs before.now.moof_places before.now.tracks }
     requires after { AreTracks after.now.moov after.now.moofs after.now.moof_places after.now.tracks }
-    ensures ids { OnOk result (ids_of after.now.moov ≡ ids_of before.now.moov) }
-    ensures tracks { OnOk result ((t : TrakBox) (i : ℕ) → slice_get before.now.moov.traks i ≡ Some t
+    ensures ids { OnOk result (ids_of after.now.moov ≡ ids.now) }
+    ensures unfragmented { OnOk result (after.now.moofs ≡ []) }
+    ensures tracks { OnOk result ((t : TrakBox) (i : ℕ) → slice_get after.now.moov.traks i ≡ Some t
         → IsTrackAsBefore layout.now.source_len layout.now.made.items layout.now.pieces.items
         (opened_movie before.now) (opened_movie after.now) t.tkhd.track_id) }
     ensures refused { IfErr result (IsRefusalOf ⊥ ⊥) }
 {
-    if !have_same_ids(before, after) {
+    if before.tracks().len() < before.moov.traks.len() {
+        return Err(RemuxError::SameIds);
+    }
+    if !has_ids(after, ids) || !after.moofs.is_empty() {
         return Err(RemuxError::OtherTracks);
     }
-    let traks = before.moov.traks.as_slice();
-    let mut left = layout.source_len().min(MOST_SAMPLES) as u32;
+    let traks = after.moov.traks.as_slice();
+    let mut left = most_samples(layout.source_len());
     let mut i = 0;
     while i < traks.len() {
         left -= count_same(before, after, layout, traks[i].tkhd.track_id, left)?;

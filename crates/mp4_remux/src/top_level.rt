@@ -16,6 +16,13 @@ pub(crate) struct TopBox {
     pub end: u64,
 }
 
+impl TopBox {
+    /// How many bytes it has.
+    pub fn len(&self) -> u64 {
+        self.end.saturating_sub(self.place)
+    }
+}
+
 /// The source, and the boxes of its file of `len` bytes, in their order. One whose end is open, or passes the file's,
 /// ends with the file.
 pub(crate) fn top_boxes<S: ByteSource + Drop>(

@@ -1,0 +1,48 @@
+//! Tracks of a movie that are kept.
+
+ghost use Rattle.std.specs.Prelude.{◌≡◌, ◌↔◌, List, length, IfErr, IfOk, OnOk, IsTrue};
+ghost use Rattle.mp4_remux.specs.Errors.{IsRefusalOf};
+ghost use Rattle.mp4_remux.specs.Remuxed.{ids_of, kept_of};
+
+use crate::error::RemuxError;
+use mp4_media::Movie;
+use std::alloc::Global;
+
+/// The ids of all tracks, in the order of their boxes.
+pub(crate) fn all_ids(alloc: Global, movie: &Movie) -> Result<Vec<u32>, RemuxError>
+    ensures ids { IfOk result (λ ids. ids.items ≡ ids_of movie.now.moov) }
+    ensures refused { IfErr result (IsRefusalOf ⊥ ⊥) }
+{
+    let traks = movie.moov.traks.as_slice();
+    let mut all = Vec::with_capacity(alloc, traks.len())?;
+    for i in 0..traks.len() {
+        all.push(traks[i].tkhd.track_id)?;
+    }
+    Ok(all)
+}
+
+/// Those of the ids that are among these, in their order.
+fn kept_of(alloc: Global, all: &[u32], ids: &[u32]) -> Result<Vec<u32>, RemuxError>
+    ensures ids { IfOk result (λ kept. kept.items ≡ kept_of ids.now all.now) }
+    ensures refused { IfErr result (IsRefusalOf ⊥ ⊥) }
+{
+    let mut kept = Vec::new(alloc);
+    for i in 0..all.len() {
+        if ids.contains(&all[i]) {
+            kept.push(all[i])?;
+        }
+    }
+    Ok(kept)
+}
+
+/// The ids of the tracks that are to be kept, in the order of their boxes. `TrakNotFound` where one isn't there.
+pub(crate) fn kept_ids(alloc: Global, movie: &Movie, ids: &[u32]) -> Result<Vec<u32>, RemuxError>
+    ensures ids { IfOk result (λ kept. kept.items ≡ kept_of ids.now (ids_of movie.now.moov)) }
+    ensures refused { IfErr result (IsRefusalOf ⊥ ⊥) }
+{
+    for id in ids {
+        movie.track(*id)?;
+    }
+    let all = all_ids(alloc, movie)?;
+    kept_of(alloc, &all, ids)
+}

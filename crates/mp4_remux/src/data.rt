@@ -1,0 +1,124 @@
+//! The data of samples, closed up: what lies between it is left out.
+
+ghost use Rattle.std.specs.Prelude.{◌<◌, ◌≤◌, ◌-◌, ◌^◌, IfOk, IfErr};
+ghost use Rattle.mp4_remux.specs.Errors.{IsRefusalOf};
+
+use crate::error::RemuxError;
+use crate::moves::Move;
+use mp4_codec::Error;
+use mp4_media::{Movie, SamplePlace};
+use std::alloc::Global;
+
+/// Bytes of a file: the first, and the one after the last, by their places, which count from 0.
+#[derive(Debug, Clone, Copy)]
+pub(crate) struct Extent {
+    pub place: u64,
+    pub end: u64,
+}
+
+/// Adds bytes after those before: where they begin with the place after these or within them, as one with them.
+fn push_extent(extents: &mut Vec<Extent>, extent: Extent) -> Result<(), RemuxError>
+    ensures refused { IfErr result (IsRefusalOf ⊥ ⊥) }
+{
+    if let Some(last) = extents.pop() {
+        if last.place <= extent.place && extent.place <= last.end {
+            extents.push(Extent {
+                place: last.place,
+                end: last.end.max(extent.end),
+            })?;
+            return Ok(());
+        }
+        extents.push(last)?;
+    }
+    extents.push(extent)?;
+    Ok(())
+}
+
+/// The bytes of a sample; `EndOfData` where they pass 64 bits.
+fn extent_of(sample: &SamplePlace) -> Result<Extent, RemuxError>
+    ensures refused { IfErr result (IsRefusalOf ⊥ ⊥) }
+{
+    match sample.offset.checked_add(u64::from(sample.size)) {
+        Some(end) => Ok(Extent {
+            place: sample.offset,
+            end,
+        }),
+        None => Err(RemuxError::Mp4(Error::EndOfData)),
+    }
+}
+
+/// Adds the bytes of the samples of a track, and answers how many samples these are. `TooManySamples` where they are
+/// more than `most`.
+fn push_track(
+    movie: &Movie,
+    track_id: u32,
+    most: u32,
+    extents: &mut Vec<Extent>,
+) -> Result<u32, RemuxError>
+    requires most { most < 2 ^ 32 - 1 }
+    ensures few { IfOk result (λ count. count ≤ most) }
+    ensures refused { IfErr result (IsRefusalOf ⊥ ⊥) }
+{
+    let mut k = 0;
+    while k <= most {
+        let Some(sample) = movie.place(track_id, k + 1)? else {
+            return Ok(k);
+        };
+        let extent = extent_of(&sample)?;
+        if extent.place < extent.end {
+            push_extent(extents, extent)?;
+        }
+        k += 1;
+    }
+    Err(RemuxError::TooManySamples(track_id))
+}
+
+/// The bytes of the samples of these tracks, in the order of the file, those of two samples once. `TooManySamples`
+/// where the samples are more than `most`.
+pub(crate) fn data_of(
+    alloc: Global,
+    movie: &Movie,
+    ids: &[u32],
+    most: u32,
+) -> Result<Vec<Extent>, RemuxError>
+    requires most { most < 2 ^ 32 - 1 }
+    ensures refused { IfErr result (IsRefusalOf ⊥ ⊥) }
+{
+    let mut extents = Vec::new(alloc);
+    let mut left = most;
+    let mut i = 0;
+    while i < ids.len() {
+        left -= push_track(movie, ids[i], left, &mut extents)?;
+        i += 1;
+    }
+    extents.sort_by_key(|extent| extent.place)?;
+    joined(alloc, &extents)
+}
+
+/// Bytes that are in order, each once.
+fn joined(alloc: Global, extents: &[Extent]) -> Result<Vec<Extent>, RemuxError>
+    ensures refused { IfErr result (IsRefusalOf ⊥ ⊥) }
+{
+    let mut joined = Vec::new(alloc);
+    for extent in extents {
+        push_extent(&mut joined, *extent)?;
+    }
+    Ok(joined)
+}
+
+/// Where these bytes are when each follow those before, counted from the first of them.
+pub(crate) fn closed_up(alloc: Global, extents: &[Extent]) -> Result<Vec<Move>, RemuxError>
+    ensures refused { IfErr result (IsRefusalOf ⊥ ⊥) }
+{
+    let mut moves = Vec::with_capacity(alloc, extents.len())?;
+    let mut to: u64 = 0;
+    for extent in extents {
+        moves.push(Move {
+            from: extent.place,
+            end: extent.end,
+            to,
+        })?;
+        to = to.saturating_add(extent.end.saturating_sub(extent.place));
+    }
+    Ok(moves)
+}

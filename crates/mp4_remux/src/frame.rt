@@ -1,0 +1,211 @@
+//! The boxes of a file that is rewritten.
+
+ghost use Rattle.std.specs.Prelude.{◌≡◌, IfSome, IfErr, IfOk};
+ghost use Rattle.mp4_source.specs.Answers.{IsLength};
+ghost use Rattle.mp4_remux.specs.Errors.{IsRefusalOf, MayRefuse};
+ghost use Rattle.mp4_remux.specs.Front.{IsBoxOf};
+
+use crate::error::RemuxError;
+use crate::fragment_boxes::check_fragment;
+use crate::layout::fits;
+use crate::places::{MORE_METADATA, check_box, check_top_level, is_of_fragments};
+use crate::top_level::{TopBox, top_boxes};
+use mp4_codec::{BoxType, Error, HEADER_SIZE, is_equal};
+use mp4_source::{ByteSource, SourceCursor, read_into};
+use std::alloc::Global;
+
+/// The only box of a type; `Twice` where there are two.
+pub(crate) fn only_box(boxes: &[TopBox], name: BoxType) -> Result<Option<TopBox>, RemuxError>
+    ensures refused { IfErr result (IsRefusalOf ⊥ ⊥) }
+{
+    let mut found: Option<TopBox> = None;
+    for one in boxes {
+        if one.name == name {
+            if let Some(_) = found {
+                return Err(RemuxError::Twice(name));
+            }
+            found = Some(*one);
+        }
+    }
+    Ok(found)
+}
+
+/// The source, where a box of this type begins and ends there as its header says.
+pub(crate) fn check_header<S: ByteSource + Drop>(
+    alloc: Global,
+    source: S,
+    len: u64,
+    name: BoxType,
+    one: TopBox,
+) -> Result<S, RemuxError>
+    requires { IsLength (S.contents source) len }
+    ensures header { IfOk result (λ _. IfSome (S.contents source) (λ xs. IsBoxOf xs name one)) }
+    ensures contents { IfOk result (λ s. S.contents s ≡ S.contents source) }
+    ensures can_refuse { IfOk result (λ s. S.can_refuse s ≡ S.can_refuse source) }
+    ensures refused { IfErr result (IsRefusalOf (MayRefuse (S.contents source) (S.can_refuse source)) ⊥) }
+{
+    let mut cursor = SourceCursor::new(alloc, source, one.place)?;
+    let header = cursor.read_header()?;
+    let end = cursor
+        .position()
+        .checked_add(header.size.saturating_sub(HEADER_SIZE));
+    if !is_equal(&header.name, &name) || end != Some(one.end) || one.end > len {
+        return Err(RemuxError::Mp4(Error::EndOfData));
+    }
+    let (source, _) = cursor.into_parts();
+    Ok(source)
+}
+
+/// The bytes of a box.
+fn bytes_of<S: ByteSource>(
+    alloc: Global,
+    source: &mut S,
+    len: u64,
+    one: TopBox,
+) -> Result<Vec<u8>, RemuxError>
+    requires { IsLength (S.contents source.old) len }
+    ensures contents { S.contents source.new ≡ S.contents source.old }
+    ensures can_refuse { S.can_refuse source.new ≡ S.can_refuse source.old }
+    ensures refused { IfErr result (IsRefusalOf (MayRefuse (S.contents source.old) (S.can_refuse source.old)) ⊥) }
+{
+    let size = one.end.saturating_sub(one.place);
+    if !fits(one.place, size, len) {
+        return Err(RemuxError::Mp4(Error::EndOfData));
+    }
+    let mut bytes = Vec::new(alloc);
+    read_into(source, one.place, size as usize, &mut bytes)?;
+    Ok(bytes)
+}
+
+/// The bytes of a box, in which no box says places, or where fragments are gathered, something of each sample.
+pub(crate) fn checked_bytes<S: ByteSource>(
+    alloc: Global,
+    source: &mut S,
+    len: u64,
+    one: TopBox,
+    is_gathered: bool,
+) -> Result<Vec<u8>, RemuxError>
+    requires { IsLength (S.contents source.old) len }
+    ensures contents { S.contents source.new ≡ S.contents source.old }
+    ensures can_refuse { S.can_refuse source.new ≡ S.can_refuse source.old }
+    ensures refused { IfErr result (IsRefusalOf (MayRefuse (S.contents source.old) (S.can_refuse source.old)) ⊥) }
+{
+    let bytes = bytes_of(alloc, source, len, one)?;
+    check_box(&bytes, one.place, is_gathered)?;
+    Ok(bytes)
+}
+
+/// Checks that no metadata of the file itself says places.
+pub(crate) fn check_metadata<S: ByteSource>(
+    alloc: Global,
+    source: &mut S,
+    len: u64,
+    boxes: &[TopBox],
+) -> Result<(), RemuxError>
+    requires { IsLength (S.contents source.old) len }
+    ensures contents { S.contents source.new ≡ S.contents source.old }
+    ensures can_refuse { S.can_refuse source.new ≡ S.can_refuse source.old }
+    ensures refused { IfErr result (IsRefusalOf (MayRefuse (S.contents source.old) (S.can_refuse source.old)) ⊥) }
+{
+    for one in boxes {
+        if one.name == BoxType::MetaBox || u32::from(one.name) == MORE_METADATA {
+            checked_bytes(alloc, source, len, *one, false)?;
+        }
+    }
+    Ok(())
+}
+
+/// A file without the data of its samples.
+#[derive(Drop)]
+pub(crate) struct Frame {
+    pub file_type: TopBox,
+    /// The bytes of the movie box.
+    pub movie_bytes: Vec<u8>,
+    /// The boxes that stay beside these, in their order.
+    pub others: Vec<TopBox>,
+}
+
+impl Frame {
+    /// How many bytes come before the data, where the movie box has so many.
+    pub fn len_before_data(&self, movie_len: u64) -> u64 {
+        let mut len = movie_len.saturating_add(self.file_type.len());
+        for one in self.others.as_slice() {
+            len = len.saturating_add(one.len());
+        }
+        len
+    }
+}
+
+/// The boxes that stay beside the file type and the movie box: all but those of the data, and where the fragments are
+/// gathered, those that go with them.
+fn others_of(alloc: Global, boxes: &[TopBox], is_gathered: bool) -> Result<Vec<TopBox>, RemuxError>
+    ensures refused { IfErr result (IsRefusalOf ⊥ ⊥) }
+{
+    let mut others = Vec::new(alloc);
+    for one in boxes {
+        match one.name {
+            BoxType::FtypBox | BoxType::MoovBox | BoxType::MdatBox => {}
+            _ if is_gathered && is_of_fragments(one.name) => {}
+            _ => others.push(*one)?,
+        }
+    }
+    Ok(others)
+}
+
+/// Checks that all that the fragments say of samples is said by tables.
+fn check_fragments<S: ByteSource>(
+    alloc: Global,
+    source: &mut S,
+    len: u64,
+    boxes: &[TopBox],
+) -> Result<(), RemuxError>
+    requires { IsLength (S.contents source.old) len }
+    ensures contents { S.contents source.new ≡ S.contents source.old }
+    ensures can_refuse { S.can_refuse source.new ≡ S.can_refuse source.old }
+    ensures refused { IfErr result (IsRefusalOf (MayRefuse (S.contents source.old) (S.can_refuse source.old)) ⊥) }
+{
+    for one in boxes {
+        if one.name == BoxType::MoofBox {
+            let bytes = bytes_of(alloc, source, len, *one)?;
+            check_fragment(&bytes, one.place)?;
+        }
+    }
+    Ok(())
+}
+
+/// The source, and the boxes of its file of `len` bytes, whose fragments are to be gathered or which has none.
+pub(crate) fn read_frame<S: ByteSource + Drop>(
+    alloc: Global,
+    source: S,
+    len: u64,
+    is_gathered: bool,
+) -> Result<(S, Frame), RemuxError>
+    requires { IsLength (S.contents source) len }
+    ensures contents { IfOk result (λ x. S.contents x.0 ≡ S.contents source) }
+    ensures can_refuse { IfOk result (λ x. S.can_refuse x.0 ≡ S.can_refuse source) }
+    ensures refused { IfErr result (IsRefusalOf (MayRefuse (S.contents source) (S.can_refuse source)) ⊥) }
+{
+    let (source, boxes) = top_boxes(alloc, source, len)?;
+    let file_type = only_box(&boxes, BoxType::FtypBox)?;
+    let movie = only_box(&boxes, BoxType::MoovBox)?;
+    let (Some(file_type), Some(movie)) = (file_type, movie) else {
+        return Err(RemuxError::OtherTracks);
+    };
+    let mut source = source;
+    if is_gathered {
+        check_fragments(alloc, &mut source, len, &boxes)?;
+    } else {
+        check_top_level(&boxes)?;
+    }
+    check_metadata(alloc, &mut source, len, &boxes)?;
+    let movie_bytes = checked_bytes(alloc, &mut source, len, movie, is_gathered)?;
+    let others = others_of(alloc, &boxes, is_gathered)?;
+    Ok((
+        source,
+        Frame {
+            file_type,
+            movie_bytes,
+            others,
+        },
+    ))
+}

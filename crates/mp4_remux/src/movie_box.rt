@@ -1,0 +1,263 @@
+//! A movie box in which tables, durations and tracks are others: all its other bytes stay.
+
+ghost use Rattle.std.specs.Prelude.{◌≤◌, IfErr};
+ghost use Rattle.mp4_remux.specs.Errors.{IsRefusalOf};
+
+use crate::box_bytes::{BoxBytes, end_box, first_box};
+use crate::chunk_offsets::put_table;
+use crate::error::RemuxError;
+use crate::header_box::put_header;
+use crate::moves::Moves;
+use crate::references::put_references;
+use crate::track_tables::MadeTables;
+use mp4_codec::BoxType;
+use std::alloc::Global;
+
+/// `tref`, where the references of a track to others are (8.3.3).
+const REFERENCES: u32 = 0x7472_6566;
+
+/// `stz2`, which has the sizes of samples in few bits (8.7.3.3).
+const COMPACT_SIZES: u32 = 0x7374_7a32;
+
+/// A track's tables that were made, and how long it is.
+#[derive(Drop)]
+pub(crate) struct MadeTrack {
+    pub tables: MadeTables,
+    /// Ticks of the movie.
+    pub duration: u64,
+}
+
+/// What becomes of a track.
+#[derive(Drop)]
+pub(crate) enum TrackEdit {
+    /// It is left out.
+    Dropped,
+    /// It has its tables, with other chunk offsets.
+    Moved,
+    /// It has these tables.
+    Made(MadeTrack),
+}
+
+/// What is other in a movie box.
+#[derive(Drop)]
+pub(crate) struct MovieEdit {
+    /// What becomes of each track, in the order of their boxes; of those past them nothing but their chunk offsets.
+    pub tracks: Vec<TrackEdit>,
+    /// How long the movie is, in ticks of it, where its header says another duration.
+    pub duration: Option<u64>,
+    /// The tracks to which references stay, where some don't.
+    pub ids: Option<Vec<u32>>,
+    /// Whether nothing is said of fragments any more.
+    pub is_gathered: bool,
+}
+
+/// What becomes of a box.
+enum Step<'a> {
+    /// It stays as it is.
+    Keep,
+    /// It is left out.
+    Drop,
+    /// What it has in it is looked at.
+    Enter,
+    /// It is a table of chunk offsets.
+    Offsets,
+    /// It is a header with this duration, after so many bytes beside its times.
+    Header(usize, u64),
+    /// It is a `tref`, of which the references to these tracks stay.
+    References(&'a [u32]),
+    /// It stays, and these tables come after it.
+    Tables(&'a MadeTables),
+}
+
+impl MovieEdit {
+    /// Chunk offsets alone.
+    pub fn of_offsets(alloc: Global) -> Self {
+        MovieEdit {
+            tracks: Vec::new(alloc),
+            duration: None,
+            ids: None,
+            is_gathered: false,
+        }
+    }
+
+    /// Whether a track is left out, by its number among the boxes, which counts from 0.
+    fn is_dropped(&self, track: usize) -> bool {
+        match self.tracks.get(track) {
+            Some(TrackEdit::Dropped) => true,
+            _ => false,
+        }
+    }
+
+    /// What was made of a track, if its tables were.
+    fn made(&self, track: usize) -> Option<&MadeTrack> {
+        match self.tracks.get(track) {
+            Some(TrackEdit::Made(made)) => Some(made),
+            _ => None,
+        }
+    }
+
+    /// What becomes of a box in the movie box.
+    fn movie_step(&self, name: BoxType, track: usize) -> Step<'_> {
+        match name {
+            BoxType::MvhdBox => match self.duration {
+                Some(duration) => Step::Header(4, duration),
+                None => Step::Keep,
+            },
+            BoxType::MvexBox if self.is_gathered => Step::Drop,
+            BoxType::TrakBox if self.is_dropped(track) => Step::Drop,
+            BoxType::TrakBox => Step::Enter,
+            _ => Step::Keep,
+        }
+    }
+
+    /// What becomes of a box in that of a track.
+    fn track_step(&self, name: BoxType, track: usize) -> Step<'_> {
+        match name {
+            BoxType::MdiaBox => Step::Enter,
+            BoxType::TkhdBox => match self.made(track) {
+                Some(made) => Step::Header(8, made.duration),
+                None => Step::Keep,
+            },
+            _ => match &self.ids {
+                Some(ids) if u32::from(name) == REFERENCES => Step::References(ids.as_slice()),
+                _ => Step::Keep,
+            },
+        }
+    }
+
+    /// What becomes of a box in that of a track's media.
+    fn media_step(&self, name: BoxType, track: usize) -> Step<'_> {
+        match name {
+            BoxType::MinfBox => Step::Enter,
+            BoxType::MdhdBox => match self.made(track) {
+                Some(made) => Step::Header(4, made.tables.duration),
+                None => Step::Keep,
+            },
+            _ => Step::Keep,
+        }
+    }
+
+    /// What becomes of a box among a track's tables.
+    fn table_step(&self, name: BoxType, track: usize) -> Step<'_> {
+        match self.made(track) {
+            Some(made) => match name {
+                BoxType::StsdBox => Step::Tables(&made.tables),
+                _ if is_table(name) => Step::Drop,
+                _ => Step::Keep,
+            },
+            None => match name {
+                BoxType::StcoBox | BoxType::Co64Box => Step::Offsets,
+                _ => Step::Keep,
+            },
+        }
+    }
+
+    /// What becomes of a box at this level, which is 0 for the movie box.
+    fn step(&self, level: usize, name: BoxType, track: usize) -> Step<'_> {
+        match level {
+            0 if name == BoxType::MoovBox => Step::Enter,
+            1 => self.movie_step(name, track),
+            2 => self.track_step(name, track),
+            3 => self.media_step(name, track),
+            4 if name == BoxType::StblBox => Step::Enter,
+            5 => self.table_step(name, track),
+            _ => Step::Keep,
+        }
+    }
+}
+
+/// Whether a box is one of the tables that are made.
+fn is_table(name: BoxType) -> bool {
+    match name {
+        BoxType::SttsBox
+        | BoxType::CttsBox
+        | BoxType::StssBox
+        | BoxType::StscBox
+        | BoxType::StszBox
+        | BoxType::StcoBox
+        | BoxType::Co64Box => true,
+        _ => u32::from(name) == COMPACT_SIZES,
+    }
+}
+
+/// Adds a box as it is.
+fn put_whole(one: &BoxBytes, out: &mut Vec<u8>) -> Result<(), RemuxError>
+    ensures refused { IfErr result (IsRefusalOf ⊥ ⊥) }
+{
+    out.extend_from_slice(one.header)?;
+    out.extend_from_slice(one.payload)?;
+    Ok(())
+}
+
+/// Adds what becomes of a box that isn't entered.
+fn put_step(
+    alloc: Global,
+    one: &BoxBytes,
+    step: Step,
+    moves: &Moves,
+    out: &mut Vec<u8>,
+) -> Result<(), RemuxError>
+    ensures refused { IfErr result (IsRefusalOf ⊥ ⊥) }
+{
+    match step {
+        Step::Keep | Step::Enter => put_whole(one, out),
+        Step::Drop => Ok(()),
+        Step::Offsets => put_table(one, moves, out),
+        Step::Header(more, duration) => put_header(one, more, duration, out),
+        Step::References(ids) => put_references(one, ids, out),
+        Step::Tables(tables) => {
+            put_whole(one, out)?;
+            out.extend_from_slice(&tables.bytes)?;
+            tables.put_offsets(alloc, moves.base, out)
+        }
+    }
+}
+
+/// Adds what becomes of the boxes that these bytes hold, which are at this level, in the track of this number or, at
+/// level 1, from it on; and the bytes after them.
+fn put_boxes(
+    alloc: Global,
+    bytes: &[u8],
+    level: usize,
+    track: usize,
+    edit: &MovieEdit,
+    moves: &Moves,
+    out: &mut Vec<u8>,
+) -> Result<(), RemuxError>
+    requires { level ≤ 5 }
+    ensures refused { IfErr result (IsRefusalOf ⊥ ⊥) }
+{
+    let mut rest = bytes;
+    let mut track = track;
+    while let Some(one) = first_box(rest) {
+        match edit.step(level, one.name, track) {
+            Step::Enter if level < 5 => {
+                let start = out.len();
+                out.extend_from_slice(one.header)?;
+                put_boxes(alloc, one.payload, level + 1, track, edit, moves, out)?;
+                end_box(out, start, one.header.len())?;
+            }
+            step => put_step(alloc, &one, step, moves, out)?,
+        }
+        if level == 1 && one.name == BoxType::TrakBox {
+            track = track.saturating_add(1);
+        }
+        rest = one.after;
+    }
+    out.extend_from_slice(rest)?;
+    Ok(())
+}
+
+/// The bytes of a movie box as they become, where all is moved so.
+pub(crate) fn edited(
+    alloc: Global,
+    movie: &[u8],
+    edit: &MovieEdit,
+    moves: &Moves,
+) -> Result<Vec<u8>, RemuxError>
+    ensures refused { IfErr result (IsRefusalOf ⊥ ⊥) }
+{
+    let mut out = Vec::with_capacity(alloc, movie.len())?;
+    put_boxes(alloc, movie, 0, 0, edit, moves, &mut out)?;
+    Ok(out)
+}
