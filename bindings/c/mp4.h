@@ -4,7 +4,7 @@
  * memory on to malloc and free. C99 and C++11.
  *
  * - A file is bytes in memory: read, or mapped, so that of a large file only what a call reads is loaded. No call but
- *   mp4_move_to_front, mp4_write and mp4_sample_bytes looks at the bytes of samples.
+ *   mp4_move_to_front, mp4_gather, mp4_choose, mp4_write and mp4_sample_bytes looks at the bytes of samples.
  * - One call does one job. Nothing is kept between calls: there is no handle, and nothing to free. So each call that is
  *   given a file opens it anew; the rows of a track, which the caller keeps, are its index (mp4_samples).
  * - Each call answers a struct mp4_answer: its code is MP4_OK or says why the call was refused. No bytes of a file make
@@ -64,7 +64,11 @@ enum mp4_code {
                                         * byte at which it begins */
     MP4_TOO_MANY_SAMPLES = 22,         /* a track has more samples than are compared: track_id */
     MP4_OTHER_TRACKS = 23,             /* the tracks would be others */
-    MP4_DIFFERS = 24                   /* a sample would not be read as before: track_id, number */
+    MP4_DIFFERS = 24,                  /* a sample would not be read as before: track_id, number */
+    MP4_SAYS_OF_SAMPLES = 25,          /* a box says of samples what tables don't: box_type, and in index the byte at
+                                        * which the box around it begins */
+    MP4_STARTS_ELSEWHERE = 26,         /* a sample doesn't begin when the one before it ends: track_id, number */
+    MP4_SAME_IDS = 27                  /* two tracks have the same id */
 };
 
 /* What passes its limit, where the code is MP4_TOO_LARGE. */
@@ -95,7 +99,7 @@ typedef struct mp4_answer {
     uint64_t count;                    /* how many there are, whatever the room: brands, tracks, samples or bytes */
     uint64_t filled;                   /* how many were filled in */
     uint64_t index;                    /* which track or sample mp4_write was refused at, counted from 0; or the byte at
-                                        * which a box begins (MP4_SAYS_PLACES) */
+                                        * which a box begins (MP4_SAYS_PLACES, MP4_SAYS_OF_SAMPLES) */
     uint32_t code;                     /* enum mp4_code */
     uint32_t part;                     /* enum mp4_part */
     uint32_t limit;                    /* enum mp4_limit */
@@ -318,6 +322,9 @@ mp4_answer mp4_c_write(const mp4_new_movie *movie, const mp4_brand *brands, size
                        const mp4_new_track *tracks, size_t track_count, const mp4_sample *samples, size_t sample_count,
                        const uint8_t *data, size_t data_size, uint8_t *out, size_t room);
 mp4_answer mp4_c_move_to_front(const uint8_t *file, size_t size, uint8_t *out, size_t room);
+mp4_answer mp4_c_gather(const uint8_t *file, size_t size, uint8_t *out, size_t room);
+mp4_answer mp4_c_choose(const uint8_t *file, size_t size, const uint32_t *track_ids, size_t track_count, uint8_t *out,
+                        size_t room);
 mp4_answer mp4_c_error_text(const mp4_answer *answer, uint8_t *bytes, size_t room);
 mp4_answer mp4_c_open_error_text(const uint8_t *file, size_t size, uint8_t *bytes, size_t room);
 
@@ -494,6 +501,36 @@ static inline mp4_answer mp4_move_to_front(const void *file, size_t size, uint8_
                                room);
 }
 
+/* The file with all samples in its tables and none in fragments, if all of it fits: the file type, the movie box, the
+ * boxes that stay, and the bytes of the samples in the order of the file. A file that has no fragments, and no box that
+ * announces them (mvex), stays as it is. count is how many bytes there are, and filled is count, or 0 where they don't
+ * fit; then ask again with room for count bytes. The movie is made in memory, also where it is only counted.
+ *
+ * Refused as mp4_move_to_front is where the movie box has to move, and by MP4_SAYS_OF_SAMPLES for a box of a fragment
+ * that says of samples what tables don't; MP4_STARTS_ELSEWHERE for a sample that doesn't begin when the one before it
+ * ends, or a first one that doesn't begin at 0; MP4_SAME_IDS for two tracks of one id. After a refusal the room is as
+ * it was. */
+static inline mp4_answer mp4_gather(const void *file, size_t size, uint8_t *out, size_t room) {
+    uint64_t spare[1] = {0};
+    if (MP4_IS_NULL_(file, size) || MP4_IS_NULL_(out, room)) return mp4_null_pointer_();
+    return mp4_c_gather(MP4_POINTER_(const uint8_t, file, spare), size, MP4_POINTER_(uint8_t, out, spare), room);
+}
+
+/* The file with the tracks of these ids alone and with their samples, if all of it fits, as mp4_gather makes one of all
+ * tracks; in the order of the file, whatever that of the ids. References to tracks that aren't there any more are left
+ * out.
+ *
+ * Refused as mp4_gather is, and by MP4_TRAK_NOT_FOUND for an id that no track has. */
+static inline mp4_answer mp4_choose(const void *file, size_t size, const uint32_t *track_ids, size_t track_count,
+                                    uint8_t *out, size_t room) {
+    uint64_t spare[1] = {0};
+    if (MP4_IS_NULL_(file, size) || MP4_IS_NULL_(track_ids, track_count) || MP4_IS_NULL_(out, room)) {
+        return mp4_null_pointer_();
+    }
+    return mp4_c_choose(MP4_POINTER_(const uint8_t, file, spare), size, MP4_POINTER_(const uint32_t, track_ids, spare),
+                        track_count, MP4_POINTER_(uint8_t, out, spare), room);
+}
+
 /* What an answer says in words, in ASCII and without a zero at its end, if all of it fits. count is how many bytes it
  * has, and filled is count, or 0 where they don't fit. 90 bytes are enough for every answer of this library. */
 static inline mp4_answer mp4_error_text(const mp4_answer *answer, uint8_t *bytes, size_t room) {
@@ -524,7 +561,8 @@ static inline const char *mp4_strerror(uint32_t code) {
         "a version of a box is not supported", "writer ended", "timescale is zero", "too large", "unrepresentable",
         "no such metadata", "unknown choice", "null pointer", "two boxes of a type", "a box says places of the file",
         "a track has more samples than the file has bytes", "the tracks would be others",
-        "a sample would not be read as before"};
+        "a sample would not be read as before", "a box says of samples what tables do not",
+        "a sample does not begin when the one before it ends", "two tracks have the same id"};
     return code < sizeof words / sizeof *words ? words[code] : "an answer of another version";
 }
 

@@ -46,7 +46,7 @@ from typing import (
 
 __all__ = [
     "Code", "Error", "Limit", "Metadata", "Movie", "NewSample", "NewTrack", "OutOfMemory", "Sample",
-    "Samples", "Track", "move_to_front", "write",
+    "Samples", "Track", "choose", "gather", "move_to_front", "write",
 ]
 
 __version__ = "0.1.0"
@@ -158,6 +158,8 @@ def _library() -> ctypes.CDLL:
         "parameter_set": (*file, _u32, _u32, *room),
         "write": (pointer, pointer, size, pointer, size, pointer, size, *file, *room),
         "move_to_front": (*file, *room),
+        "gather": (*file, *room),
+        "choose": (*file, pointer, size, *room),
         "error_text": (pointer, *room),
         "open_error_text": (*file, *room),
     }
@@ -219,6 +221,13 @@ class Code(enum.IntEnum):
     """The tracks would be others."""
     DIFFERS = 24
     """A sample wouldn't be read as before: ``track_id``, ``number``."""
+    SAYS_OF_SAMPLES = 25
+    """A box says of samples what tables don't: ``box_type``, and ``index`` is the byte at which the
+    box around it begins."""
+    STARTS_ELSEWHERE = 26
+    """A sample doesn't begin when the one before it ends: ``track_id``, ``number``."""
+    SAME_IDS = 27
+    """Two tracks have the same id."""
 
 
 class Limit(enum.IntEnum):
@@ -247,7 +256,8 @@ class Error(Exception):
     is invalid, as "a box is larger than the file"; else it is empty. ``box_type``,
     ``second_box_type``, ``track_id``, ``number`` and ``limit`` are what the refusal names, or empty
     and 0. After a refused :func:`write`, ``part`` says what was refused, "movie", "track", "sample"
-    or "end", and ``index`` which one, from 0 on; with ``SAYS_PLACES`` ``index`` is a place in the file.
+    or "end", and ``index`` which one, from 0 on; with ``SAYS_PLACES`` and ``SAYS_OF_SAMPLES``
+    ``index`` is a place in the file.
     It can be pickled and copied, so a process of a pool may raise it.
     """
 
@@ -1031,15 +1041,16 @@ def write(
     return _all_bytes(likely, lambda *room: _library().mp4_c_write(*parts, *room))
 
 
-def _rewritten(name: str, file: BytesLike) -> bytes:
+def _rewritten(name: str, file: BytesLike, *words: object) -> bytes:
     """The bytes that a call makes of a file's."""
-    library, source = _library(), _Bytes(file)
+    function, source = getattr(_library(), "mp4_c_" + name), _Bytes(file)
     place = (source.address, source.size)
     try:
-        return _all_bytes(source.size, lambda *room: getattr(library, "mp4_c_" + name)(*place, *room))
+        return _all_bytes(source.size, lambda *room: function(*place, *words, *room))
     except Error as refused:
         if refused.code == Code.INVALID_DATA:
-            refused.reason = _reason_of(lambda *room: library.mp4_c_open_error_text(*place, *room))
+            ask = _library().mp4_c_open_error_text
+            refused.reason = _reason_of(lambda *room: ask(*place, *room))
         raise
     finally:
         source.release()
@@ -1057,3 +1068,27 @@ def move_to_front(file: BytesLike) -> bytes:
     that says places which aren't rewritten, as that of a fragment does (``SAYS_PLACES``).
     """
     return _rewritten("move_to_front", file)
+
+
+def gather(file: BytesLike) -> bytes:
+    """The file of these bytes with all samples in its tables and none in fragments: the file type, the
+    movie box, the boxes that stay, and the bytes of the samples in the order of the file. A file that
+    has no fragments, and no box that announces them (mvex), stays as it is.
+
+    :class:`Error` as for :func:`move_to_front` where the movie box has to move, for a box of a fragment
+    that says of samples what tables don't (``SAYS_OF_SAMPLES``), for a sample that doesn't begin when
+    the one before it ends, or a first one that doesn't begin at 0 (``STARTS_ELSEWHERE``), and for two
+    tracks of one id (``SAME_IDS``).
+    """
+    return _rewritten("gather", file)
+
+
+def choose(file: BytesLike, track_ids: Sequence[int]) -> bytes:
+    """The file of these bytes with the tracks of these ids alone and with their samples, as
+    :func:`gather` makes one of all tracks; in the order of the file, whatever that of the ids.
+    References to tracks that aren't there any more are left out.
+
+    :class:`Error` as for :func:`gather`, and for an id that no track has (``TRAK_NOT_FOUND``).
+    """
+    ids = _list_of(_u32, [_in_range("track_id", each, 32) for each in track_ids])
+    return _rewritten("choose", file, ids, len(track_ids))

@@ -14,7 +14,8 @@ from concurrent.futures import ProcessPoolExecutor
 from unittest import mock
 
 import maqelsun
-from maqelsun import Code, Error, Limit, Movie, NewSample, NewTrack, OutOfMemory, move_to_front, write
+from maqelsun import Code, Error, Limit, Movie, NewSample, NewTrack, OutOfMemory
+from maqelsun import choose, gather, move_to_front, write
 
 
 def numbers(count, **movie):
@@ -40,6 +41,20 @@ def with_metadata(*items):
     movie = file.index(b"moov") - 4
     file[movie : movie + 4] = struct.pack(">I", len(file) - movie)
     return bytes(file)
+
+
+def fragmented():
+    """A movie of one text track, whose two samples are in a fragment (ISO/IEC 14496-12, 8.8)."""
+    ids = boxed(b"mvex", boxed(b"trex", struct.pack(">6I", 0, 1, 1, 0, 0, 0)))
+    file = bytearray(write([NewTrack("tx3g")], []) + ids)
+    movie = file.index(b"moov") - 4
+    file[movie : movie + 4] = struct.pack(">I", len(file) - movie)
+    head = boxed(b"mfhd", struct.pack(">2I", 0, 1))
+    track = boxed(b"tfhd", struct.pack(">2I", 0x20000, 1))  # places count from the moof
+    rows = struct.pack(">4I", 500, 3, 700, 4)  # each has a duration and a size
+    run = boxed(b"trun", struct.pack(">3I", 0x301, 2, 92) + rows)
+    moof = boxed(b"moof", head + boxed(b"traf", track + run))
+    return bytes(file) + moof + boxed(b"mdat", b"onetwo.")
 
 
 class Reading(unittest.TestCase):
@@ -463,6 +478,28 @@ class Rewriting(unittest.TestCase):
         texts = [[movie.read(sample) for sample in movie.samples(1)] for movie in (before, after)]
         self.assertEqual(texts[0], texts[1])
         self.assertEqual(move_to_front(moved), moved)
+
+    def test_fragments_are_gathered(self):
+        file = fragmented()
+        film = gather(file)
+        for movie in (Movie(file), Movie(film)):
+            samples = [(movie.read(each), each.start_time) for each in movie.samples(1)]
+            self.assertEqual(samples, [(b"one", 0), (b"two.", 500)])
+        self.assertEqual((Movie(file).is_fragmented, Movie(film).is_fragmented), (True, False))
+        self.assertEqual(gather(numbers(3)), numbers(3))
+        self.assertEqual(self.refused("ftyp not found", gather, b"").reason, "")
+
+    def test_tracks_are_chosen(self):
+        samples = [NewSample(1 + k % 3, b"%d" % k, 1) for k in range(9)]
+        file = write([NewTrack("tx3g")] * 3, samples)
+        movie = Movie(choose(file, (3, 1)))
+        self.assertEqual([track.id for track in movie.tracks], [1, 3])
+        for track, texts in [(1, [b"0", b"3", b"6"]), (3, [b"2", b"5", b"8"])]:
+            self.assertEqual([movie.read(each) for each in movie.samples(track)], texts)
+        self.assertEqual(self.refused("trak[4] not found", choose, file, [1, 4]).track_id, 4)
+        self.assertEqual(Movie(choose(file, [])).tracks, [])
+        with self.assertRaises(OverflowError):
+            choose(file, [2**32])
 
     def test_each_kind_of_bytes_is_rewritten(self):
         file = numbers(3)

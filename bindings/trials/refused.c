@@ -111,6 +111,15 @@ static mp4_answer move_to_front(trial *t) {
     return mp4_move_to_front(t->file, t->size, t->bytes, sizeof t->bytes);
 }
 
+static mp4_answer gather(trial *t) {
+    return mp4_gather(t->file, t->size, t->bytes, sizeof t->bytes);
+}
+
+static mp4_answer choose(trial *t) {
+    static const uint32_t first = 1;
+    return mp4_choose(t->file, t->size, &first, 1, t->bytes, sizeof t->bytes);
+}
+
 static mp4_answer say_error(trial *t) {
     mp4_answer answer;
     memset(&answer, 0, sizeof answer);
@@ -143,6 +152,8 @@ static call calls[] = {
     {"mp4_write", write_movie, 0},
     {"mp4_write without room", count_movie, 0},
     {"mp4_move_to_front", move_to_front, 0},
+    {"mp4_gather", gather, 0},
+    {"mp4_choose", choose, 0},
     {"mp4_error_text", say_error, 0},
     {"mp4_open_error_text", say_why, 0},
 };

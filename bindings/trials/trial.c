@@ -9,6 +9,8 @@
  *   trial words            the words of each refusal
  *   trial front FOLDER     moves the movie box of each of these files to the front: what comes of the file of line K is
  *                          the file K of the folder
+ *   trial gather FOLDER    gathers the fragments of each of them likewise
+ *   trial choose FOLDER ID..   likewise the tracks of these ids, of which there are at most 8
  *   trial write OUT        makes the movie of a script from standard input
  *   trial large FILE       the samples of a file; on standard error the microseconds and the KiB of memory that it took
  */
@@ -131,6 +133,20 @@ static mp4_answer tracks_call(const void *asked, void *elements, size_t room) {
 static mp4_answer front_call(const void *asked, void *elements, size_t room) {
     const file *from = asked;
     return mp4_move_to_front(from->bytes, from->size, elements, room);
+}
+
+static mp4_answer gather_call(const void *asked, void *elements, size_t room) {
+    const file *from = asked;
+    return mp4_gather(from->bytes, from->size, elements, room);
+}
+
+/* The ids of the tracks that are chosen. */
+static uint32_t chosen[8];
+static size_t chosen_count;
+
+static mp4_answer choose_call(const void *asked, void *elements, size_t room) {
+    const file *from = asked;
+    return mp4_choose(from->bytes, from->size, chosen_count ? chosen : NULL, chosen_count, elements, room);
 }
 
 static mp4_answer words_call(const void *asked, void *elements, size_t room) {
@@ -475,6 +491,14 @@ static void rewrite_files(const char *name, filling_call call, const char *folde
     each_file(rewrite_file);
 }
 
+static void choose_tracks(const char *folder, char **ids, int count) {
+    if (count > 8) give_up("there are more than 8 ids");
+    for (chosen_count = 0; chosen_count < (size_t)count; chosen_count++) {
+        chosen[chosen_count] = (uint32_t)strtoul(ids[chosen_count], NULL, 10);
+    }
+    rewrite_files("mp4_choose", choose_call, folder);
+}
+
 static uint64_t add_bytes(list *data, const void *bytes, size_t size) {
     uint64_t start = data->count;
     memcpy(added(data, 1, size), bytes, size);
@@ -631,6 +655,13 @@ static void give_null(void) {
     is_refused("mp4_move_to_front", mp4_move_to_front(NULL, 1, NULL, 0));
     is_refused("mp4_move_to_front", mp4_move_to_front(&byte, 1, NULL, 1));
     is_answered("mp4_move_to_front", mp4_move_to_front(NULL, 0, NULL, 0));
+    is_refused("mp4_gather", mp4_gather(NULL, 1, NULL, 0));
+    is_refused("mp4_gather", mp4_gather(&byte, 1, NULL, 1));
+    is_answered("mp4_gather", mp4_gather(NULL, 0, NULL, 0));
+    is_refused("mp4_choose", mp4_choose(NULL, 1, NULL, 0, NULL, 0));
+    is_refused("mp4_choose", mp4_choose(&byte, 1, NULL, 1, NULL, 0));
+    is_refused("mp4_choose", mp4_choose(&byte, 1, NULL, 0, NULL, 1));
+    is_answered("mp4_choose", mp4_choose(NULL, 0, NULL, 0, NULL, 0));
     is_refused("mp4_row_at", mp4_row_at(NULL, 1, 0, &row));
     is_refused("mp4_row_at", mp4_row_at(NULL, 0, 0, NULL));
     is_answered("mp4_row_at", mp4_row_at(NULL, 0, 0, &row));
@@ -673,7 +704,7 @@ static void list_large(const char *name) {
 /* The words of each refusal, a line each, as it names these boxes, this track and this number. */
 static void print_words(void) {
     mp4_answer answer = {.index = 48, .track_id = 7, .number = 12, .box_type = "stts", .second_box_type = "mvex"};
-    for (answer.code = MP4_OK; answer.code <= MP4_DIFFERS + 1; answer.code++) {
+    for (answer.code = MP4_OK; answer.code <= MP4_SAME_IDS + 1; answer.code++) {
         if (answer.code != MP4_TOO_LARGE) print_text(answer);
         try_rooms("mp4_error_text", words_call, &answer, 1, 0);
     }
@@ -701,12 +732,17 @@ int main(int count, char **words) {
         print_words();
     } else if (count == 3 && strcmp(command, "front") == 0) {
         rewrite_files("mp4_move_to_front", front_call, words[2]);
+    } else if (count == 3 && strcmp(command, "gather") == 0) {
+        rewrite_files("mp4_gather", gather_call, words[2]);
+    } else if (count >= 3 && strcmp(command, "choose") == 0) {
+        choose_tracks(words[2], words + 3, count - 3);
     } else if (count == 3 && strcmp(command, "write") == 0) {
         write_movie(words[2]);
     } else if (count == 3 && strcmp(command, "large") == 0) {
         list_large(words[2]);
     } else {
-        give_up("list | faults | reasons | facts | nulls | words | front FOLDER | write OUT | large FILE");
+        give_up("list | faults | reasons | facts | nulls | words | front FOLDER | gather FOLDER | choose FOLDER ID.. | "
+                "write OUT | large FILE");
     }
     return 0;
 }

@@ -264,21 +264,30 @@ fn write_movie(name: &str) -> Outcome<()> {
     Ok(fs::write(name, writer.finish()?)?)
 }
 
-/// Moves the movie box of each file that a line of standard input names to the front: what comes of
-/// the file of line K is the file K of the folder.
-fn move_files(folder: &str) -> Outcome<()> {
+/// Rewrites each file that a line of standard input names: what comes of the file of line K is the
+/// file K of the folder.
+fn rewrite_files(
+    folder: &str,
+    rewrite: impl Fn(&[u8]) -> maqelsun::Result<Vec<u8>>,
+) -> Outcome<()> {
     for (line, name) in (1..).zip(io::stdin().lines()) {
         let name = name?;
         println!("{name}");
-        match maqelsun::move_to_front(&fs::read(&name)?) {
-            Ok(moved) => {
-                fs::write(format!("{folder}/{line}"), &moved)?;
-                println!("wrote {} bytes", moved.len());
+        match rewrite(&fs::read(&name)?) {
+            Ok(file) => {
+                fs::write(format!("{folder}/{line}"), &file)?;
+                println!("wrote {} bytes", file.len());
             }
             Err(refused) => println!("{refused}"),
         }
     }
     Ok(())
+}
+
+/// Chooses the tracks of these ids of each file likewise.
+fn choose_tracks(folder: &str, ids: &[&str]) -> Outcome<()> {
+    let ids = ids.iter().map(|id| Ok(id.parse()?)).collect::<Outcome<Vec<u32>>>()?;
+    rewrite_files(folder, |file| maqelsun::choose(file, &ids))
 }
 
 /// How many KiB this process holds in memory, those of mapped files among them.
@@ -377,14 +386,16 @@ fn run() -> Outcome<()> {
         ["faults"] => each_file(fault_line),
         ["reasons"] => each_file(reason_line),
         ["facts"] => each_file(facts),
-        ["front", folder] => move_files(folder),
+        ["front", folder] => rewrite_files(folder, maqelsun::move_to_front),
+        ["gather", folder] => rewrite_files(folder, maqelsun::gather),
+        ["choose", folder, ref ids @ ..] => choose_tracks(folder, ids),
         ["write", out] => write_movie(out),
         ["large", file] => list_large(file),
         ["threads", file] => list_by_threads(file),
         _ => {
-            let commands =
-                "list | faults | reasons | facts | front FOLDER | write OUT | large FILE";
-            Err(format!("{commands} | threads FILE").into())
+            let rewriting = "front FOLDER | gather FOLDER | choose FOLDER ID..";
+            let others = "write OUT | large FILE | threads FILE";
+            Err(format!("list | faults | reasons | facts | {rewriting} | {others}").into())
         }
     }
 }

@@ -77,9 +77,17 @@ pub enum Error {
     TooManySamples(u32),
     /// The tracks would be others.
     OtherTracks,
-    /// This sample of the track of this id wouldn't be read as before: a table or a fragment says its
-    /// place in a way that isn't rewritten.
+    /// This sample of the track of this id wouldn't be read as before: a table or a fragment says
+    /// its place in a way that isn't rewritten.
     Differs(u32, u32),
+    /// A box of this type, in the box that begins at this byte, says something of each sample that
+    /// the tables which are made of fragments don't say.
+    SaysOfSamples(FourCC, u64),
+    /// This sample of the track of this id doesn't begin when the one before it ends, or the first
+    /// at 0, and tables can't say so.
+    StartsElsewhere(u32, u32),
+    /// Two tracks have one id.
+    SameIds,
     /// A file couldn't be read or written. No call of the library answers it.
     IoError(io::ErrorKind),
     /// The library answered with a code that this crate doesn't know: it is newer.
@@ -189,6 +197,9 @@ impl Error {
             22 => Error::TooManySamples(track),
             23 => Error::OtherTracks,
             24 => Error::Differs(track, number),
+            25 => Error::SaysOfSamples(kind, answer.index),
+            26 => Error::StartsElsewhere(track, number),
+            27 => Error::SameIds,
             code => Error::Unknown(code),
         }
     }
@@ -310,6 +321,19 @@ impl fmt::Display for Error {
             Error::Differs(id, number) => {
                 write!(f, "sample {number} of track {id} would not be read as before")
             }
+            Error::SaysOfSamples(kind, place) => {
+                write!(
+                    f,
+                    "a box {kind} in the box at byte {place} says of samples what tables do not"
+                )
+            }
+            Error::StartsElsewhere(id, number) => {
+                write!(
+                    f,
+                    "sample {number} of track {id} does not begin when the one before it ends"
+                )
+            }
+            Error::SameIds => f.write_str("two tracks have the same id"),
             Error::IoError(kind) => write!(f, "{kind}"),
             Error::Unknown(code) => write!(f, "an answer of another version, code {code}"),
         }
@@ -332,7 +356,7 @@ mod tests {
 
     #[test]
     fn each_error_has_the_text_of_the_library() {
-        for code in (1..=16).chain(20..=24) {
+        for code in (1..=16).chain(20..=27) {
             for limit in 1..=6 {
                 let answer = Answer {
                     code,

@@ -2,8 +2,14 @@
 
 use crate::error::of_opening;
 use crate::ffi;
+use crate::layout::Answer;
 use crate::movie::all_rows;
 use crate::Result;
+
+/// What a call makes of a file. It is asked with as much room as the file has.
+fn rewritten(file: &[u8], ask: impl Fn(&mut [u8]) -> Answer) -> Result<Vec<u8>> {
+    all_rows(file.len() as u64, ask).map_err(|error| of_opening(error, file))
+}
 
 /// The file with its movie box before its data, as players want it that begin before they have the
 /// whole file: the file type, the movie box, then all other boxes in their order. Of the movie box
@@ -34,6 +40,56 @@ use crate::Result;
 /// # }
 /// ```
 pub fn move_to_front(file: &[u8]) -> Result<Vec<u8>> {
-    let moved = all_rows(file.len() as u64, |out: &mut [u8]| ffi::move_to_front(file, out));
-    moved.map_err(|error| of_opening(error, file))
+    rewritten(file, |out| ffi::move_to_front(file, out))
+}
+
+/// The file with all samples in its tables and none in fragments: the file type, the movie box, the
+/// boxes that stay, and the bytes of the samples in the order of the file. A file that has no
+/// fragments, and no box that announces them (`mvex`), stays as it is.
+///
+/// Refused as [`move_to_front`] is where the movie box has to move, and by
+/// [`SaysOfSamples`](crate::Error::SaysOfSamples) for a box of a fragment that says of samples what
+/// tables don't, [`StartsElsewhere`](crate::Error::StartsElsewhere) for a sample that doesn't begin
+/// when the one before it ends, or a first one that doesn't begin at 0, and
+/// [`SameIds`](crate::Error::SameIds).
+///
+/// ```no_run
+/// # fn main() -> Result<(), Box<dyn std::error::Error>> {
+/// let recording = std::fs::read("recording.mp4")?; // of fragments
+/// let film = maqelsun::gather(&recording)?;
+/// assert!(!maqelsun::Movie::open(&film)?.is_fragmented());
+/// std::fs::write("film.mp4", film)?;
+/// # Ok(())
+/// # }
+/// ```
+pub fn gather(file: &[u8]) -> Result<Vec<u8>> {
+    rewritten(file, |out| ffi::gather(file, out))
+}
+
+/// The file with the tracks of these ids alone and with their samples, as [`gather`] makes one of
+/// all tracks; in the order of the file, whatever that of the ids. References to tracks that aren't
+/// there any more are left out.
+///
+/// Refused as [`gather`] is, and by [`TrakNotFound`](crate::Error::TrakNotFound) for an id that no
+/// track has.
+///
+/// ```
+/// # fn main() -> Result<(), maqelsun::Error> {
+/// use maqelsun::{Movie, MovieConfig, TrackConfig, Writer};
+///
+/// let mut writer = Writer::new(&MovieConfig::default());
+/// let english = writer.add_track(&TrackConfig::text())?;
+/// let german = writer.add_track(&TrackConfig::text())?;
+/// writer.write_text(english, "first", 1000)?;
+/// writer.write_text(german, "zuerst", 1000)?;
+///
+/// let file = maqelsun::choose(&writer.finish()?, &[german])?;
+/// let movie = Movie::open(&file)?;
+/// assert_eq!(movie.tracks().iter().map(|track| track.id()).collect::<Vec<_>>(), [german]);
+/// assert_eq!(movie.read_sample(german, 1)?.unwrap().bytes, b"\0\x06zuerst");
+/// # Ok(())
+/// # }
+/// ```
+pub fn choose(file: &[u8], track_ids: &[u32]) -> Result<Vec<u8>> {
+    rewritten(file, |out| ffi::choose(file, track_ids, out))
 }

@@ -24,7 +24,7 @@ pub use by_time::{mp4_c_sample_at, mp4_c_sync_sample_at_or_before};
 pub use configs::{Brand, NewMovie, NewTrack};
 pub use metadata::{mp4_c_metadata, mp4_c_parameter_set};
 pub use movie::{MovieInfo, mp4_c_brands, mp4_c_open};
-pub use remuxed::mp4_c_move_to_front;
+pub use remuxed::{mp4_c_choose, mp4_c_gather, mp4_c_move_to_front};
 pub use rows::{mp4_c_row_at, mp4_c_sync_row_at_or_before};
 pub use samples::{SampleRow, mp4_c_samples};
 pub use text::{mp4_c_error_text, mp4_c_open_error_text};

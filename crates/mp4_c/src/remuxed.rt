@@ -1,13 +1,13 @@
 //! Movies that are rewritten.
 
-ghost use Rattle.std.specs.Prelude.{IfErr, IfOk};
+ghost use Rattle.std.specs.Prelude.{⊤, IfErr, IfOk};
 ghost use Rattle.mp4_remux.specs.Errors.{IsRefusalOf};
 ghost use Rattle.mp4_remux.specs.Front.{IsFront};
 ghost use Rattle.mp4_c.specs.RemuxedReply.{GaveMade, GaveRefusal, GaveRemuxed};
 
 use crate::answer::Answer;
 use crate::copied::copy_to_front;
-use mp4_remux::{RemuxError, move_to_front};
+use mp4_remux::{RemuxError, choose, gather, move_to_front};
 use std::alloc::Global;
 
 /// Hands out the bytes of a movie that was rewritten, or why it wasn't.
@@ -31,6 +31,24 @@ fn moved(alloc: Global, file: &[u8]) -> Result<Vec<u8>, RemuxError>
     Ok(bytes)
 }
 
+/// A file whose fragments are gathered.
+fn gathered(alloc: Global, file: &[u8]) -> Result<Vec<u8>, RemuxError>
+    ensures refused { IfErr result (IsRefusalOf ⊥ ⊥) }
+{
+    let mut bytes = Vec::with_capacity(alloc, file.len())?;
+    gather(alloc, file, &mut bytes)?;
+    Ok(bytes)
+}
+
+/// A file of the tracks with these ids.
+fn chosen(alloc: Global, file: &[u8], track_ids: &[u32]) -> Result<Vec<u8>, RemuxError>
+    ensures refused { IfErr result (IsRefusalOf ⊥ ⊥) }
+{
+    let mut bytes = Vec::new(alloc);
+    choose(alloc, file, &mut bytes, track_ids)?;
+    Ok(bytes)
+}
+
 /// Copies a file with its movie box before its data, where there is room for all of it, as [`move_to_front`] writes it.
 /// `count` is how many bytes it has, whatever the room, and `filled` is `count`, or 0 where they don't fit.
 ///
@@ -40,4 +58,31 @@ pub extern "C" fn mp4_c_move_to_front(alloc: Global, file: &[u8], room: &mut [u8
     ensures { GaveRemuxed (IsFront file.now) room.old room.new result }
 {
     copy_made(moved(alloc, file), room)
+}
+
+/// Copies a file whose samples are in its tables, and none in fragments, where there is room for all of it, as [`gather`]
+/// writes it. `count` is how many bytes it has, whatever the room, and `filled` is `count`, or 0 where they don't fit.
+///
+/// Refused as [`gather`] is, but for a source and a sink. The movie is made in memory, whatever the room.
+#[unsafe(no_mangle)]
+pub extern "C" fn mp4_c_gather(alloc: Global, file: &[u8], room: &mut [u8]) -> Answer
+    ensures { GaveRemuxed (λ _. ⊤) room.old room.new result }
+{
+    copy_made(gathered(alloc, file), room)
+}
+
+/// Copies a file of the tracks with these ids, where there is room for all of it, as [`choose`] writes it. `count` is how
+/// many bytes it has, whatever the room, and `filled` is `count`, or 0 where they don't fit.
+///
+/// Refused as [`choose`] is, but for a source and a sink. The movie is made in memory, whatever the room.
+#[unsafe(no_mangle)]
+pub extern "C" fn mp4_c_choose(
+    alloc: Global,
+    file: &[u8],
+    track_ids: &[u32],
+    room: &mut [u8],
+) -> Answer
+    ensures { GaveRemuxed (λ _. ⊤) room.old room.new result }
+{
+    copy_made(chosen(alloc, file, track_ids), room)
 }

@@ -78,6 +78,9 @@ fn remux_error_of(answer: &Answer) -> Option<RemuxError> {
         22 => Some(RemuxError::TooManySamples(id)),
         23 => Some(RemuxError::OtherTracks),
         24 => Some(RemuxError::Differs(id, answer.number)),
+        25 => Some(RemuxError::SaysOfSamples(name, answer.index)),
+        26 => Some(RemuxError::StartsElsewhere(id, answer.number)),
+        27 => Some(RemuxError::SameIds),
         _ => None,
     }
 }
