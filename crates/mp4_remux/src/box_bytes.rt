@@ -2,6 +2,7 @@
 
 ghost use Rattle.std.specs.Prelude.{◌≡◌, ◌+◌, ◌≤◌, ◌<◌, List, length, take, IfSome, IfErr};
 ghost use Rattle.mp4_remux.specs.Errors.{IsRefusalOf};
+ghost use Rattle.mp4_remux.specs.Kept.{IsFirstBox};
 
 use crate::error::RemuxError;
 use mp4_codec::{BoxHeader, BoxType, ByteCursor, Error, HEADER_SIZE, Limit, OPEN_END, Result};
@@ -19,6 +20,7 @@ pub(crate) struct BoxBytes<'a> {
 
 /// The box with which bytes begin; none where they begin with no whole one (ISO/IEC 14496-12, 4.2).
 pub(crate) fn first_box(bytes: &[u8]) -> Option<BoxBytes>
+    ensures first { IfSome result (λ b. IsFirstBox bytes.now b.name b.header.now b.payload.now b.after.now) }
     ensures after { IfSome result (λ b. length b.after.now < length bytes.now) }
     ensures header { IfSome result (λ b. 8 ≤ length b.header.now) }
 {

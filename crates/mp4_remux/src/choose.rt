@@ -1,6 +1,14 @@
 //! A movie of some of its tracks, and one whose fragments are gathered.
 
-ghost use Rattle.std.specs.Prelude.{◌≡◌, ◌<◌, ◌-◌, ◌^◌, List, length, IfSome, IfErr, IfOk, OnOk, IsTrue};
+ghost use Rattle.std.specs.Prelude.{◌≡◌, ◌<◌, ◌-◌, ◌^◌, ◌++◌, ◌↔◌, ℕ, List, [], length, None};
+ghost use Rattle.std.specs.Prelude.{IfSome, IfErr, IfOk, OnOk, IsTrue, IsFalse};
+ghost use Rattle.mp4_codec.specs.Cursor.{here};
+ghost use Rattle.mp4_media.specs.FileBoxes.{opened_movie};
+ghost use Rattle.mp4_media.specs.FileGrammar.{IsFile, between};
+ghost use Rattle.mp4_media.specs.MovieTracks.{AreTracks};
+ghost use Rattle.mp4_remux.specs.Gathered.{BeginsWith, WritesChosen, WritesGathered, WritesRebuilt};
+ghost use Rattle.mp4_remux.specs.Kept.{IsKept, of_tables, tracks};
+ghost use Rattle.mp4_remux.specs.Splice.{spliced};
 ghost use Rattle.mp4_source.specs.Answers.{IsLength};
 ghost use Rattle.mp4_remux.specs.Errors.{IsNamed, IsRefusalOf, MayRefuse};
 
@@ -9,6 +17,7 @@ use crate::copy::copy_all;
 use crate::data::{Extent, closed_up, data_of};
 use crate::error::RemuxError;
 use crate::frame::{Frame, read_frame};
+use crate::kept::is_kept;
 use crate::layout::Layout;
 use crate::moves::{Move, Moves};
 use crate::movie_box::{MadeTrack, MovieEdit, TrackEdit, edited};
@@ -16,6 +25,7 @@ use crate::piece::{Origin, Piece};
 use crate::pieces::push_piece;
 use crate::rewrite::{open_source, write_layout};
 use crate::same::most_samples;
+use crate::top_level::TopBox;
 use crate::track_tables::tables_of;
 use mp4_boxes::TrakBox;
 use mp4_codec::{BoxType, Error, HEADER_SIZE, Limit, put_u32, put_u64};
@@ -23,8 +33,30 @@ use mp4_media::Movie;
 use mp4_source::{ByteSink, ByteSource};
 use std::alloc::Global;
 
+/// The codes of the boxes that may be others in a movie box.
+const OF_TABLES: [u32; 13] = [
+    0x6d76_6578,
+    0x746b_6864,
+    0x6d64_6864,
+    0x7374_7473,
+    0x6374_7473,
+    0x7374_7373,
+    0x7374_7363,
+    0x7374_737a,
+    0x7374_7a32,
+    0x6d76_6864,
+    0x7472_6566,
+    0x7374_636f,
+    0x636f_3634,
+];
+
+/// The code of the boxes that may be left out.
+const TRACKS: [u32; 1] = [0x7472_616b];
+
 /// Whether samples of the movie are or may be in fragments.
-fn has_fragments(movie: &Movie) -> bool {
+fn has_fragments(movie: &Movie) -> bool
+    ensures { IsFalse result → (movie.now.moofs ≡ []) × (movie.now.moov.mvex ≡ None) }
+{
     movie.is_fragmented() || movie.moov.mvex.is_some()
 }
 
@@ -139,7 +171,32 @@ fn len_of(extents: &[Extent]) -> u64 {
     len
 }
 
-/// The pieces of a file with its movie box in front, then the other boxes that stay, and the data in one box.
+/// Adds the bytes of these boxes of the file.
+fn push_boxes(pieces: &mut Vec<Piece>, boxes: &[TopBox]) -> Result<(), RemuxError>
+    ensures more { OnOk result ((source made : List ℕ) → (more : List ℕ)
+        × (spliced source made pieces.new.items ≡ spliced source made pieces.old.items ++ more)) }
+    ensures refused { IfErr result (IsRefusalOf ⊥ ⊥) }
+{
+    for i in 0..boxes.len() {
+        push_piece(pieces, Origin::Kept, boxes[i].place, boxes[i].end)?;
+    }
+    Ok(())
+}
+
+/// Adds these bytes of the file.
+fn push_extents(pieces: &mut Vec<Piece>, extents: &[Extent]) -> Result<(), RemuxError>
+    ensures more { OnOk result ((source made : List ℕ) → (more : List ℕ)
+        × (spliced source made pieces.new.items ≡ spliced source made pieces.old.items ++ more)) }
+    ensures refused { IfErr result (IsRefusalOf ⊥ ⊥) }
+{
+    for i in 0..extents.len() {
+        push_piece(pieces, Origin::Kept, extents[i].place, extents[i].end)?;
+    }
+    Ok(())
+}
+
+/// The pieces of a file with its movie box of `movie_len` bytes after its file type, then the other boxes that stay, and
+/// the data in one box.
 fn data_pieces(
     alloc: Global,
     frame: &Frame,
@@ -147,52 +204,69 @@ fn data_pieces(
     made_len: u64,
     extents: &[Extent],
 ) -> Result<Vec<Piece>, RemuxError>
+    ensures bytes { IfOk result (λ ps. (source made : List ℕ) → (rest : List ℕ) × (spliced source made ps.items
+        ≡ between source frame.now.file_type.place frame.now.file_type.end ++ (between made 0 movie_len ++ rest))) }
     ensures refused { IfErr result (IsRefusalOf ⊥ ⊥) }
 {
     let mut pieces = Vec::new(alloc);
-    push_piece(
-        &mut pieces,
-        Origin::Kept,
-        frame.file_type.place,
-        frame.file_type.end,
-    )?;
+    let file_type = frame.file_type;
+    push_piece(&mut pieces, Origin::Kept, file_type.place, file_type.end)?;
     push_piece(&mut pieces, Origin::Made, 0, movie_len)?;
-    for one in frame.others.as_slice() {
-        push_piece(&mut pieces, Origin::Kept, one.place, one.end)?;
-    }
+    push_boxes(&mut pieces, &frame.others)?;
     push_piece(&mut pieces, Origin::Made, movie_len, made_len)?;
-    for extent in extents {
-        push_piece(&mut pieces, Origin::Kept, extent.place, extent.end)?;
-    }
+    push_extents(&mut pieces, extents)?;
     Ok(pieces)
 }
 
-/// The bytes of the movie box and of the header of the data, and the pieces of their file. The chunk offsets depend on
-/// the length of the movie box: a table that becomes `co64` makes it longer.
+/// The bytes of the movie box and of the header of the data, where the movie box has `movie_len` bytes; none where it
+/// has more or less, as a table that becomes `co64` makes it longer. `OtherTracks` where something else would be other
+/// in the movie box than may be.
+fn made_bytes(
+    alloc: Global,
+    frame: &Frame,
+    edit: &MovieEdit,
+    moves: &Moves,
+    header: &[u8],
+    movie_len: &mut u64,
+) -> Result<Option<Vec<u8>>, RemuxError>
+    ensures kept { IfOk result (λ x. IfSome x (λ made. (movie : List ℕ) × (made.items ≡ movie ++ header.now)
+        × ((length movie ≡ movie_len.new) × IsKept of_tables tracks frame.now.movie_bytes.items movie))) }
+    ensures refused { IfErr result (IsRefusalOf ⊥ ⊥) }
+{
+    let mut made = edited(alloc, &frame.movie_bytes, edit, moves)?;
+    let len = made.len() as u64;
+    if len != *movie_len {
+        *movie_len = len;
+        return Ok(None);
+    }
+    if !is_kept(&frame.movie_bytes, &made, &OF_TABLES, &TRACKS, 0) {
+        return Err(RemuxError::OtherTracks);
+    }
+    made.extend_from_slice(header)?;
+    Ok(Some(made))
+}
+
+/// The bytes of the movie box and of the header of the data, and the pieces of their file.
 fn plan_data(
     alloc: Global,
     frame: &Frame,
     edit: &MovieEdit,
     extents: &[Extent],
-    moves: &[Move],
+    list: &[Move],
 ) -> Result<(Vec<u8>, Vec<Piece>), RemuxError>
+    ensures begins { IfOk result (λ x. BeginsWith frame.now.file_type frame.now.movie_bytes.items x.0.items x.1.items) }
     ensures refused { IfErr result (IsRefusalOf ⊥ ⊥) }
 {
     let header = data_header(alloc, len_of(extents))?;
-    let header_len = header.len() as u64;
     let mut movie_len = frame.movie_bytes.len() as u64;
     for _ in 0..edit.tracks.len().saturating_add(3) {
-        let base = frame.len_before_data(movie_len).saturating_add(header_len);
-        let moves = Moves { list: moves, base };
-        let mut made = edited(alloc, &frame.movie_bytes, edit, &moves)?;
-        let len = made.len() as u64;
-        if len == movie_len {
-            made.extend_from_slice(&header)?;
-            let made_len = made.len() as u64;
-            let pieces = data_pieces(alloc, frame, movie_len, made_len, extents)?;
+        let before = frame.len_before_data(movie_len);
+        let base = before.saturating_add(header.len() as u64);
+        let moves = Moves { list, base };
+        if let Some(made) = made_bytes(alloc, frame, edit, &moves, &header, &mut movie_len)? {
+            let pieces = data_pieces(alloc, frame, movie_len, made.len() as u64, extents)?;
             return Ok((made, pieces));
         }
-        movie_len = len;
     }
     Err(RemuxError::Mp4(Error::TooLarge(Limit::BoxSize)))
 }
@@ -206,6 +280,8 @@ fn plan(
     len: u64,
 ) -> Result<Layout, RemuxError>
     ensures source_len { IfOk result (λ l. l.source_len ≡ len) }
+    ensures begins { IfOk result (λ l.
+        BeginsWith frame.now.file_type frame.now.movie_bytes.items l.made.items l.pieces.items) }
     ensures refused { IfErr result (IsRefusalOf ⊥ ⊥) }
 {
     let most = most_samples(len);
@@ -228,7 +304,12 @@ fn write_chosen<S: ByteSource + Drop, K: ByteSink>(
     ids: &[u32],
     sink: &mut K,
 ) -> Result<(), RemuxError>
-    requires { IsLength (S.contents source) len }
+    requires len { IsLength (S.contents source) len }
+    requires tracks { AreTracks movie.now.moov movie.now.moofs movie.now.moof_places movie.now.tracks }
+    requires opened { IfSome (S.contents source) (λ xs. IsFile (length xs) (here xs 0) (opened_movie movie.now)) }
+    ensures written { OnOk result (IfSome (S.contents source) (λ xs. WritesRebuilt xs (opened_movie movie.now) ids.now
+        (K.contents sink.old) (K.contents sink.new))) }
+    ensures kept { IfErr result (λ e. IsNamed e → K.contents sink.new ≡ K.contents sink.old) }
     ensures refused { IfErr result (IsRefusalOf (MayRefuse (S.contents source) (S.can_refuse source))
         (IsTrue (K.can_refuse sink.old))) }
 {
@@ -238,12 +319,34 @@ fn write_chosen<S: ByteSource + Drop, K: ByteSink>(
     write_layout(alloc, source, movie, &layout, ids, sink)
 }
 
-/// Writes a movie whose samples are in fragments as one whose samples are in its tables (ISO/IEC 14496-12, 8.6 to 8.8).
+/// Writes a movie whose samples are in fragments to a sink as one whose samples are in its tables (ISO/IEC 14496-12, 8.6
+/// to 8.8), also one that has both: the file type, the movie box, the other boxes in their order, and the data of all
+/// samples in that of the file, in one `mdat`. In the movie box each track has tables of its samples with the fewest
+/// entries, and the durations are those of the samples; `mvex` is left out, and every other byte of it is there as it was.
+/// A file without fragments, in which none may follow, is written as it is.
+///
+/// The boxes `moof`, `mfra`, `sidx`, `ssix`, `styp` and `prft` are left out, and bytes of `mdat` that are no sample's.
+/// Beside times, sizes, places, descriptions and sync marks nothing of what fragments say of a sample has a table here:
+/// flags of dependency and of priority are lost.
+///
+/// The file is opened, and each sample of each track is looked up before a byte is written, in the file and in what
+/// would be written. In memory are then the movie's tables twice and a block of 1 MiB.
+///
+/// Refused as [`mp4_media::Mp4File::open`], and as [`mp4_media::Mp4File::read_sample`] where a sample isn't found; and:
+/// `StartsElsewhere` where a sample doesn't begin when the one before it ends, or the first of a track at 0;
+/// `SaysOfSamples` for a box in a fragment or in the movie box that says more of samples than tables do (`senc`, `saiz`,
+/// `sbgp`, `sdtp` and the like, which are refused and never dropped); `Twice`, `SaysPlaces`, `TooManySamples`, `SameIds`
+/// and `Differs` as [`move_to_front`](crate::move_to_front). `Read` where the source refuses, `Write` where the sink
+/// does: then the sink may have some first bytes of the file. A refusal that is none of memory, source or sink leaves
+/// the sink as it was.
 pub fn gather<S: ByteSource + Drop, K: ByteSink>(
     alloc: Global,
     source: S,
     sink: &mut K,
 ) -> Result<(), RemuxError>
+    ensures written { OnOk result (IfSome (S.contents source) (λ xs.
+        WritesGathered xs (K.contents sink.old) (K.contents sink.new))) }
+    ensures kept { IfErr result (λ e. IsNamed e → K.contents sink.new ≡ K.contents sink.old) }
     ensures refused { IfErr result (IsRefusalOf (MayRefuse (S.contents source) (S.can_refuse source))
         (IsTrue (K.can_refuse sink.old))) }
 {
@@ -256,17 +359,27 @@ pub fn gather<S: ByteSource + Drop, K: ByteSink>(
     write_chosen(alloc, source, len, &movie, &ids, sink)
 }
 
-/// Writes a movie of some of its tracks.
+/// Writes a movie to a sink with these of its tracks alone, by their ids, and with the data of their samples: the file
+/// type, the movie box, the other boxes in their order, and the data in the order of the file, in one `mdat`. In the
+/// movie box the other tracks are left out, and the references to them; the chunk offsets are others, and the movie is as
+/// long as the longest of its tracks. Every other byte of it is there as it was. Where the file has fragments, or says
+/// that they may follow, they are gathered as [`gather`] does.
+///
+/// The order of the ids makes no difference: tracks are in that of their boxes. `TrakNotFound` for an id that isn't there,
+/// and refused as [`gather`]; where the file has no fragments, by `SaysPlaces` also for `mfra` and `sidx`.
 pub fn choose<S: ByteSource + Drop, K: ByteSink>(
     alloc: Global,
     source: S,
     sink: &mut K,
     ids: &[u32],
 ) -> Result<(), RemuxError>
+    ensures written { OnOk result (IfSome (S.contents source) (λ xs.
+        WritesChosen xs ids.now (K.contents sink.old) (K.contents sink.new))) }
+    ensures kept { IfErr result (λ e. IsNamed e → K.contents sink.new ≡ K.contents sink.old) }
     ensures refused { IfErr result (IsRefusalOf (MayRefuse (S.contents source) (S.can_refuse source))
         (IsTrue (K.can_refuse sink.old))) }
 {
     let (source, len, movie) = open_source(alloc, source)?;
-    let ids = kept_ids(alloc, &movie, ids)?;
-    write_chosen(alloc, source, len, &movie, &ids, sink)
+    let kept = kept_ids(alloc, &movie, ids)?;
+    write_chosen(alloc, source, len, &movie, &kept, sink)
 }

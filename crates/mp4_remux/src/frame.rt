@@ -3,7 +3,9 @@
 ghost use Rattle.std.specs.Prelude.{◌≡◌, IfSome, IfErr, IfOk};
 ghost use Rattle.mp4_source.specs.Answers.{IsLength};
 ghost use Rattle.mp4_remux.specs.Errors.{IsRefusalOf, MayRefuse};
+ghost use Rattle.mp4_media.specs.FileGrammar.{between};
 ghost use Rattle.mp4_remux.specs.Front.{IsBoxOf};
+ghost use Rattle.mp4_remux.specs.Gathered.{IsFrameOf};
 
 use crate::error::RemuxError;
 use crate::fragment_boxes::check_fragment;
@@ -64,6 +66,8 @@ fn bytes_of<S: ByteSource>(
     one: TopBox,
 ) -> Result<Vec<u8>, RemuxError>
     requires { IsLength (S.contents source.old) len }
+    ensures bytes { IfOk result (λ bytes. IfSome (S.contents source.old) (λ xs.
+        bytes.items ≡ between xs one.place one.end)) }
     ensures contents { S.contents source.new ≡ S.contents source.old }
     ensures can_refuse { S.can_refuse source.new ≡ S.can_refuse source.old }
     ensures refused { IfErr result (IsRefusalOf (MayRefuse (S.contents source.old) (S.can_refuse source.old)) ⊥) }
@@ -86,6 +90,8 @@ pub(crate) fn checked_bytes<S: ByteSource>(
     is_gathered: bool,
 ) -> Result<Vec<u8>, RemuxError>
     requires { IsLength (S.contents source.old) len }
+    ensures bytes { IfOk result (λ bytes. IfSome (S.contents source.old) (λ xs.
+        bytes.items ≡ between xs one.place one.end)) }
     ensures contents { S.contents source.new ≡ S.contents source.old }
     ensures can_refuse { S.can_refuse source.new ≡ S.can_refuse source.old }
     ensures refused { IfErr result (IsRefusalOf (MayRefuse (S.contents source.old) (S.can_refuse source.old)) ⊥) }
@@ -119,6 +125,7 @@ pub(crate) fn check_metadata<S: ByteSource>(
 #[derive(Drop)]
 pub(crate) struct Frame {
     pub file_type: TopBox,
+    pub movie: TopBox,
     /// The bytes of the movie box.
     pub movie_bytes: Vec<u8>,
     /// The boxes that stay beside these, in their order.
@@ -173,6 +180,27 @@ fn check_fragments<S: ByteSource>(
     Ok(())
 }
 
+/// Checks that the boxes beside the movie box say nothing that would be wrong or lost.
+fn check_others<S: ByteSource>(
+    alloc: Global,
+    source: &mut S,
+    len: u64,
+    boxes: &[TopBox],
+    is_gathered: bool,
+) -> Result<(), RemuxError>
+    requires { IsLength (S.contents source.old) len }
+    ensures contents { S.contents source.new ≡ S.contents source.old }
+    ensures can_refuse { S.can_refuse source.new ≡ S.can_refuse source.old }
+    ensures refused { IfErr result (IsRefusalOf (MayRefuse (S.contents source.old) (S.can_refuse source.old)) ⊥) }
+{
+    if is_gathered {
+        check_fragments(alloc, source, len, boxes)?;
+    } else {
+        check_top_level(boxes)?;
+    }
+    check_metadata(alloc, source, len, boxes)
+}
+
 /// The source, and the boxes of its file of `len` bytes, whose fragments are to be gathered or which has none.
 pub(crate) fn read_frame<S: ByteSource + Drop>(
     alloc: Global,
@@ -183,6 +211,8 @@ pub(crate) fn read_frame<S: ByteSource + Drop>(
     requires { IsLength (S.contents source) len }
     ensures contents { IfOk result (λ x. S.contents x.0 ≡ S.contents source) }
     ensures can_refuse { IfOk result (λ x. S.can_refuse x.0 ≡ S.can_refuse source) }
+    ensures frame { IfOk result (λ x. IfSome (S.contents source) (λ xs.
+        IsFrameOf xs x.1.file_type x.1.movie x.1.movie_bytes.items)) }
     ensures refused { IfErr result (IsRefusalOf (MayRefuse (S.contents source) (S.can_refuse source)) ⊥) }
 {
     let (source, boxes) = top_boxes(alloc, source, len)?;
@@ -191,19 +221,16 @@ pub(crate) fn read_frame<S: ByteSource + Drop>(
     let (Some(file_type), Some(movie)) = (file_type, movie) else {
         return Err(RemuxError::OtherTracks);
     };
-    let mut source = source;
-    if is_gathered {
-        check_fragments(alloc, &mut source, len, &boxes)?;
-    } else {
-        check_top_level(&boxes)?;
-    }
-    check_metadata(alloc, &mut source, len, &boxes)?;
+    let source = check_header(alloc, source, len, BoxType::FtypBox, file_type)?;
+    let mut source = check_header(alloc, source, len, BoxType::MoovBox, movie)?;
+    check_others(alloc, &mut source, len, &boxes, is_gathered)?;
     let movie_bytes = checked_bytes(alloc, &mut source, len, movie, is_gathered)?;
     let others = others_of(alloc, &boxes, is_gathered)?;
     Ok((
         source,
         Frame {
             file_type,
+            movie,
             movie_bytes,
             others,
         },

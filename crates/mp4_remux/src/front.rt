@@ -1,16 +1,18 @@
 //! The movie box moved to the front.
 
-ghost use Rattle.std.specs.Prelude.{◌≡◌, ◌++◌, ℕ, List, length, IfSome, IfErr, IfOk, OnOk, IsTrue};
+ghost use Rattle.std.specs.Prelude.{◌≡◌, ◌++◌, ℕ, List, length, IfSome, IfErr, IfNone, IfOk, OnOk, IsTrue, []};
 ghost use Rattle.mp4_source.specs.Answers.{IsLength};
 ghost use Rattle.mp4_remux.specs.Errors.{IsNamed, IsRefusalOf, MayRefuse};
 ghost use Rattle.mp4_media.specs.FileGrammar.{between};
-ghost use Rattle.mp4_remux.specs.Front.{in_front, IsBoxOf, IsMoved, WritesFront};
+ghost use Rattle.mp4_remux.specs.Front.{in_front, IsMoved, IsMovieFirst, NoMovieAfterData, WritesFront};
+ghost use Rattle.mp4_remux.specs.Kept.{IsKept, offsets};
 ghost use Rattle.mp4_remux.specs.Splice.{of_origin, spliced};
 
 use crate::chosen::all_ids;
 use crate::copy::copy_all;
 use crate::error::RemuxError;
 use crate::frame::{check_header, check_metadata, checked_bytes, only_box};
+use crate::kept::is_kept;
 use crate::layout::Layout;
 use crate::moves::{Move, Moves};
 use crate::movie_box::{MovieEdit, edited};
@@ -23,18 +25,25 @@ use mp4_codec::{BoxType, Error, Limit};
 use mp4_source::{ByteSink, ByteSource};
 use std::alloc::Global;
 
-/// Whether no data comes before the last movie box, which counts.
-fn is_in_front(boxes: &[TopBox]) -> bool {
+/// The codes of the boxes that may be others in a movie box: `stco` and `co64`.
+const OFFSETS: [u32; 2] = [0x7374_636f, 0x636f_3634];
+
+/// Whether no movie box comes after data.
+fn is_in_front(boxes: &[TopBox]) -> bool
+    ensures { IsTrue result → NoMovieAfterData boxes.now }
+{
     let mut has_data = false;
-    let mut is_in_front = true;
-    for one in boxes {
-        match one.name {
-            BoxType::MdatBox => has_data = true,
-            BoxType::MoovBox => is_in_front = !has_data,
-            _ => {}
+    let mut i = 0;
+    while i < boxes.len() {
+        if boxes[i].name == BoxType::MdatBox {
+            has_data = true;
         }
+        if has_data && boxes[i].name == BoxType::MoovBox {
+            return false;
+        }
+        i += 1;
     }
-    is_in_front
+    true
 }
 
 /// A file of `len` bytes with its file type first and a movie box of `movie_len` bytes next, then all else in its
@@ -139,6 +148,9 @@ fn plan_moved<S: ByteSource + Drop>(
     let bytes = checked_bytes(alloc, &mut source, len, movie, false)?;
     let tries = tracks.saturating_add(2);
     let (made, pieces) = plan_front(alloc, &bytes, file_type, movie, len, tries)?;
+    if !is_kept(&bytes, &made, &OFFSETS, &[], 0) {
+        return Err(RemuxError::OtherTracks);
+    }
     let Some(layout) = Layout::new(len, made, pieces) else {
         return Err(RemuxError::OtherTracks);
     };
@@ -157,6 +169,7 @@ fn plan<S: ByteSource + Drop>(
     ensures contents { IfOk result (λ x. S.contents x.0 ≡ S.contents source) }
     ensures can_refuse { IfOk result (λ x. S.can_refuse x.0 ≡ S.can_refuse source) }
     ensures source_len { IfOk result (λ x. IfSome x.1 (λ l. l.source_len ≡ len)) }
+    ensures first { IfOk result (λ x. IfNone x.1 (IfSome (S.contents source) IsMovieFirst)) }
     ensures moved { IfOk result (λ x. IfSome x.1 (λ l. IfSome (S.contents source) (λ xs.
         IsMoved xs (spliced xs l.made.items l.pieces.items)))) }
     ensures refused { IfErr result (IsRefusalOf (MayRefuse (S.contents source) (S.can_refuse source)) ⊥) }

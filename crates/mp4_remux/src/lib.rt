@@ -13,6 +13,7 @@ mod fragment_boxes;
 mod frame;
 mod front;
 mod header_box;
+mod kept;
 mod layout;
 mod moves;
 mod movie_box;

@@ -1,7 +1,10 @@
 //! The boxes of a file, by their places.
 
 ghost use Rattle.std.specs.Prelude.{◌≡◌, ◌≤◌, ◌<◌, length, slice_index, IfOk, IfErr, IsTrue};
+ghost use Rattle.std.specs.Prelude.{IfSome};
+ghost use Rattle.mp4_source.specs.Answers.{IsLength};
 ghost use Rattle.mp4_remux.specs.Errors.{IsRefusalOf, MayRefuse};
+ghost use Rattle.mp4_remux.specs.Front.{AreBoxes};
 
 use crate::error::RemuxError;
 use mp4_codec::{BoxType, HEADER_SIZE, OPEN_END};
@@ -30,6 +33,8 @@ pub(crate) fn top_boxes<S: ByteSource + Drop>(
     source: S,
     len: u64,
 ) -> Result<(S, Vec<TopBox>), RemuxError>
+    requires { IsLength (S.contents source) len }
+    ensures boxes { IfOk result (λ x. IfSome (S.contents source) (λ xs. AreBoxes xs 0 x.1.items)) }
     ensures contents { IfOk result (λ x. S.contents x.0 ≡ S.contents source) }
     ensures can_refuse { IfOk result (λ x. S.can_refuse x.0 ≡ S.can_refuse source) }
     ensures refused { IfErr result (IsRefusalOf (MayRefuse (S.contents source) (S.can_refuse source)) ⊥) }

@@ -1,5 +1,5 @@
 use Rattle.std.proofs.Common.{◌-◌, length}
-use Rattle.mp4_remux.proofs.chunk_offsets.+put_boxes.Given as goal
+use Rattle.mp4_remux.proofs.movie_box.+put_boxes.Given as goal
 
 abbrev pub decreases-put_boxes : goal.decreases-put_boxes
 decreases-put_boxes a = 5 - a.level

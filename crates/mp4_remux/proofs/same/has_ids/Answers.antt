@@ -1,6 +1,6 @@
 use Rattle.std.proofs.Common.{arith}
 use Rattle.mp4_remux.proofs.Sameness.{same_boxes}
-use Rattle.mp4_remux.proofs.same.have_same_ids.Goals as goal
+use Rattle.mp4_remux.proofs.same.has_ids.Goals as goal
 
 pub returns : goal.returns
 returns c = λ is.

@@ -1,6 +1,6 @@
 use Rattle.std.proofs.Common.{◌-◌, ◌≡◌, ◌≤◌, ◌<◌, ℕ, length, slice_index_or}
 use Rattle.mp4_boxes.specs.declared.trak.TrakBox.{TrakBox}
-use Rattle.mp4_remux.proofs.same.have_same_ids.Given as goal
+use Rattle.mp4_remux.proofs.same.has_ids.Given as goal
 
 -- the ids that were looked at are the same
 abbrev pub invariant-loop-i : goal.invariant-loop-i

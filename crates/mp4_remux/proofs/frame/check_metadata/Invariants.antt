@@ -1,5 +1,5 @@
 use Rattle.std.proofs.Common.{◌≡◌}
-use Rattle.mp4_remux.proofs.front.check_metadata.Given as goal
+use Rattle.mp4_remux.proofs.frame.check_metadata.Given as goal
 
 -- the source has the bytes that it had, and can refuse only if it could
 abbrev pub invariant-loop-one : goal.invariant-loop-one
