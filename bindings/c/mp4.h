@@ -15,7 +15,7 @@
  *   `filled` how many were filled in. Ask with room 0 to know how many there are.
  * - What is filled in must not overlap what the call reads, nor what another thread reads or writes. Otherwise any
  *   number of threads may call at once, also on one file.
- * - A call takes about 36 KB of stack.
+ * - A call takes about 38 KB of stack.
  * - Not from a signal handler, and not in a forked child of a process with threads: the library calls malloc and free.
  * - Tracks have ids; samples are numbered from 1. Times and durations are in ticks: those of a track in ticks of its
  *   timescale, that of a movie in ticks of the movie's.

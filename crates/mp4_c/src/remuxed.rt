@@ -1,8 +1,9 @@
 //! Movies that are rewritten.
 
-ghost use Rattle.std.specs.Prelude.{⊤, IfErr, IfOk};
+ghost use Rattle.std.specs.Prelude.{IfErr, IfOk};
 ghost use Rattle.mp4_remux.specs.Errors.{IsRefusalOf};
 ghost use Rattle.mp4_remux.specs.Front.{IsFront};
+ghost use Rattle.mp4_remux.specs.Gathered.{IsChosen, IsGathered};
 ghost use Rattle.mp4_c.specs.RemuxedReply.{GaveMade, GaveRefusal, GaveRemuxed};
 
 use crate::answer::Answer;
@@ -33,6 +34,7 @@ fn moved(alloc: Global, file: &[u8]) -> Result<Vec<u8>, RemuxError>
 
 /// A file whose fragments are gathered.
 fn gathered(alloc: Global, file: &[u8]) -> Result<Vec<u8>, RemuxError>
+    ensures gathered { IfOk result (λ bytes. IsGathered file.now bytes.items) }
     ensures refused { IfErr result (IsRefusalOf ⊥ ⊥) }
 {
     let mut bytes = Vec::with_capacity(alloc, file.len())?;
@@ -42,6 +44,7 @@ fn gathered(alloc: Global, file: &[u8]) -> Result<Vec<u8>, RemuxError>
 
 /// A file of the tracks with these ids.
 fn chosen(alloc: Global, file: &[u8], track_ids: &[u32]) -> Result<Vec<u8>, RemuxError>
+    ensures chosen { IfOk result (λ bytes. IsChosen file.now bytes.items track_ids.now) }
     ensures refused { IfErr result (IsRefusalOf ⊥ ⊥) }
 {
     let mut bytes = Vec::new(alloc);
@@ -66,7 +69,7 @@ pub extern "C" fn mp4_c_move_to_front(alloc: Global, file: &[u8], room: &mut [u8
 /// Refused as [`gather`] is, but for a source and a sink. The movie is made in memory, whatever the room.
 #[unsafe(no_mangle)]
 pub extern "C" fn mp4_c_gather(alloc: Global, file: &[u8], room: &mut [u8]) -> Answer
-    ensures { GaveRemuxed (λ _. ⊤) room.old room.new result }
+    ensures { GaveRemuxed (IsGathered file.now) room.old room.new result }
 {
     copy_made(gathered(alloc, file), room)
 }
@@ -82,7 +85,7 @@ pub extern "C" fn mp4_c_choose(
     track_ids: &[u32],
     room: &mut [u8],
 ) -> Answer
-    ensures { GaveRemuxed (λ _. ⊤) room.old room.new result }
+    ensures { GaveRemuxed (λ bytes. IsChosen file.now bytes track_ids.now) room.old room.new result }
 {
     copy_made(chosen(alloc, file, track_ids), room)
 }
