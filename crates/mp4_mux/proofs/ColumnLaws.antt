@@ -76,6 +76,17 @@ module _ {X : Type 0} where
   values_in-runs runs last =
       values_in runs last [] ∙ ap (λ vs. values_of runs ++ vs) (append-nil (replicate last.count last.value))
 
+  -- a run that is empty, with one value
+  pub replicate-first : (last : Run X) (v : X) → last.count ≡ 0
+      → replicate 1 v ≡ replicate last.count last.value ++ v ∷ []
+  replicate-first last v none = rw none refl
+
+  -- a run with one more of its value
+  pub replicate-next : (last : Run X) (v : X) → last.value ≡ v
+      → replicate (last.count + 1) last.value ≡ replicate last.count last.value ++ v ∷ []
+  replicate-next last v same =
+      sym (replicate_more last.count last.value) ∙ ap (λ x. replicate last.count last.value ++ x ∷ []) same
+
   module _ (runs : List (Run X)) (last : Run X) (v : X) where
     -- one more value, as a longer last run
     pub values-longer : (r : Run X) → replicate r.count r.value ≡ replicate last.count last.value ++ v ∷ []

@@ -9,6 +9,7 @@ use Rattle.mp4_samples.specs.Samples.{Sample}
 use Rattle.mp4_mux.specs.SampleInfos.{IsInRangeSampleInfo}
 use Rattle.mp4_mux.specs.declared.sample_info.SampleInfo.{SampleInfo}
 use Rattle.mp4_mux.specs.declared.chunk_place.ChunkPlace.{ChunkPlace}
+use Rattle.mp4_mux.specs.declared.durations.Durations.{Durations}
 use Rattle.mp4_mux.specs.TrackHeaders.{media_duration, movie_duration}
 use Rattle.mp4_mux.specs.Writing.{info_of}
 use Rattle.mp4_mux.specs.Building.{TrackFields, IsTrack, building_of, sample_at, samples_in, pushed, popped, closed}
@@ -17,13 +18,14 @@ use Rattle.mp4_mux.proofs.SampleLaws.{sum_by-push, media_duration-push, movie_du
 use Rattle.mp4_mux.proofs.SampleLaws.{samples_in-push}
 use Rattle.mp4_mux.proofs.SampleLaws.{length-samples_in, media_duration-small, all-push, all-init}
 
--- the fields with one more sample, of which the tables say this and which has these bytes
-abbrev pub with_push : TrackFields → SampleInfo → List ℕ → ℕ → TrackFields
-with_push f i b more = record f {
+-- the fields with one more sample, of which the tables say this, which has these bytes and is so long
+abbrev pub with_push : TrackFields → SampleInfo → List ℕ → Durations → TrackFields
+with_push f i b d = record f {
   samples = f.samples ++ i ∷ [];
   bytes = f.bytes ++ b;
-  pending_duration = f.pending_duration + i.duration;
-  durations = record { media = f.durations.media + i.duration; movie = f.durations.movie + more };
+  pending_duration = f.pending_duration + d.media;
+  durations = record { media = f.durations.media + d.media; movie = f.durations.movie + d.movie };
+  last = d;
 }
 
 whole_sample : (s : Sample) → sample_at (info_of s) s.bytes ≡ s
@@ -57,11 +59,11 @@ module _ (f : TrackFields) (h : IsTrack f) where
             sum_by-drop (λ (s : SampleInfo). s.duration) f.closed_count f.samples,
           )
 
-      pub is_track-push : (b : List ℕ) (more : ℕ) → i.size ≡ length b
-          → more ≡ i.duration * f.movie_timescale / f.config.timescale
-          → movie_duration f.movie_timescale f.config.timescale f.samples + more < 2 ^ 64
-          → IsTrack (with_push f i b more)
-      is_track-push b more e m room = record {
+      pub is_track-push : (b : List ℕ) (d : Durations) → i.size ≡ length b → d.media ≡ i.duration
+          → d.movie ≡ i.duration * f.movie_timescale / f.config.timescale
+          → movie_duration f.movie_timescale f.config.timescale f.samples + d.movie < 2 ^ 64
+          → IsTrack (with_push f i b d)
+      is_track-push b d e same m room = record {
         accepted = h.accepted;
         clock = h.clock;
         within = omega (arith, length_push f.samples i, h.within);
@@ -83,15 +85,16 @@ module _ (f : TrackFields) (h : IsTrack f) where
         media = omega (arith, media_duration-push f.samples i, h.media);
         movie = omega (arith, movie_duration-push f.movie_timescale f.config.timescale f.samples i, h.movie, m);
         fits = omega (arith, h.movie);
+        converted = rw same m;
         few = h.few;
         counted = h.counted;
         some_per_chunk = h.some_per_chunk;
       }
 
   -- what fields say with one more sample: it is pending
-  pub view-push : (i : SampleInfo) (s : Sample) (more : ℕ) → i ≡ info_of s
-      → building_of (with_push f i s.bytes more) ≡ pushed (building_of f) s
-  view-push i s more e =
+  pub view-push : (i : SampleInfo) (s : Sample) (d : Durations) → i ≡ info_of s
+      → building_of (with_push f i s.bytes d) ≡ pushed (building_of f) s
+  view-push i s d e =
       let rest = drop f.closed_count f.samples in
       let same : samples_in (drop f.closed_count (f.samples ++ i ∷ [])) (f.bytes ++ s.bytes)
       ≡ samples_in rest f.bytes ++ s ∷ [] =
@@ -165,6 +168,7 @@ module _ (f : TrackFields) (h : IsTrack f) (is : List SampleInfo) (i : SampleInf
     media = omega (arith, last_media);
     movie = omega (arith, last_movie, m);
     fits = omega (arith, h.fits);
+    converted = h.converted;
     few = h.few;
     counted = h.counted;
     some_per_chunk = h.some_per_chunk;
@@ -241,6 +245,7 @@ module _ (f : TrackFields) (h : IsTrack f) where
       media = h.media;
       movie = h.movie;
       fits = h.fits;
+      converted = h.converted;
       few = omega (arith, length_push f.chunks c, h.few, pending-count);
       counted = omega (
         arith,

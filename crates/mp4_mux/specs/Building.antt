@@ -79,6 +79,8 @@ pub record TrackFields : Type 0 where
   pub bytes : List ℕ
   pub pending_duration : ℕ
   pub durations : Durations
+  -- how long the sample that was pushed last is
+  pub last : Durations
   -- how many samples are in chunks
   pub closed_count : ℕ
 
@@ -105,6 +107,7 @@ pub record IsTrack (f : TrackFields) : Type 0 where
   pub media : f.durations.media ≡ media_duration f.samples
   pub movie : f.durations.movie ≡ movie_duration f.movie_timescale f.config.timescale f.samples
   pub fits : f.durations.movie < 2 ^ 64
+  pub converted : f.last.movie ≡ f.last.media * f.movie_timescale / f.config.timescale
   pub few : length f.chunks ≤ f.closed_count
   pub counted : sum_by (λ c. c.count) f.chunks ≡ f.closed_count
   pub some_per_chunk : All (λ c. 1 ≤ c.count) f.chunks

@@ -12,6 +12,7 @@ fields_of w =
       bytes = w.pending.items;
       pending_duration = w.pending_duration;
       durations = w.durations;
+      last = w.last;
       closed_count = w.closed;
     }
 

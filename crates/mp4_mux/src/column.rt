@@ -1,7 +1,7 @@
 //! A list of values of one kind, in little memory.
 
 ghost use Rattle.std.specs.Prelude.{◌≡◌, ◌≤◌, ◌<◌, ◌-◌, ◌^◌, [], ◌∷◌, ◌++◌, List, length, OnOk, OnErr};
-ghost use Rattle.std.specs.Prelude.{slice_index_or, replicate, IfSome, IfNone};
+ghost use Rattle.std.specs.Prelude.{slice_index_or};
 ghost use Rattle.mp4_mux.specs.declared.column.Run.{Run};
 ghost use Rattle.mp4_mux.specs.Columns.{values_of, runs_in};
 ghost use Rattle.mp4_mux.specs.ColumnFields.{IsColumn};
@@ -73,13 +73,28 @@ impl<T: ExactEq + Copy> Column<T> {
         ensures ok { OnOk result (values_of self.new ≡ values_of self.old ++ value ∷ []) }
         ensures err { OnErr result (self.new ≡ self.old) }
     {
+        if self.each.is_empty() && self.last.count > 0 && self.last.value == value {
+            self.last.count += 1;
+            self.len += 1;
+            return Ok(());
+        }
+        self.push_other(value)
+    }
+
+    /// The same, for a value that isn't one more of the last run.
+    #[inline(never)]
+    fn push_other(&mut self, value: T) -> Result<(), AllocError>
+        requires { length (values_of self.old) < 2 ^ 32 - 1 }
+        ensures ok { OnOk result (values_of self.new ≡ values_of self.old ++ value ∷ []) }
+        ensures err { OnErr result (self.new ≡ self.old) }
+    {
         if !self.each.is_empty() {
             self.each.push(value)?;
             self.len += 1;
             return Ok(());
         }
-        if let Some(last) = longer(self.last, value) {
-            self.last = last;
+        if self.last.count == 0 {
+            self.last = Run { count: 1, value };
             self.len += 1;
             return Ok(());
         }
@@ -145,26 +160,6 @@ impl<T: ExactEq + Copy> Column<T> {
             value: self.each[index - self.runs.len() - 1],
         }
     }
-}
-
-/// The run with one more of this value, where that is its value or it has none yet.
-fn longer<T: ExactEq + Copy>(run: Run<T>, value: T) -> Option<Run<T>>
-    requires { run.count < 2 ^ 32 - 1 }
-    ensures some { IfSome result (λ r.
-        replicate r.count r.value ≡ replicate run.count run.value ++ value ∷ []) }
-    ensures count { IfSome result (λ r. 1 ≤ r.count) }
-    ensures none { IfNone result (1 ≤ run.count) }
-{
-    if run.count == 0 {
-        return Some(Run { count: 1, value });
-    }
-    if run.value == value {
-        return Some(Run {
-            count: run.count + 1,
-            value,
-        });
-    }
-    None
 }
 
 /// Whether so many runs of so many values are too many to keep one more.

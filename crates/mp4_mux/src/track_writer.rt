@@ -45,6 +45,8 @@ pub struct TrackWriter {
     /// How long these samples last, in ticks of the track.
     pending_duration: u64,
     durations: Durations,
+    /// How long the sample that was pushed last is: the next one mostly is as long, and isn't converted again.
+    last: Durations,
     /// How many samples are in chunks.
     closed: u32,
 }
@@ -84,6 +86,7 @@ impl TrackWriter {
             pending: Vec::new(alloc),
             pending_duration: 0,
             durations: Durations { media: 0, movie: 0 },
+            last: Durations { media: 0, movie: 0 },
             closed: 0,
         }
     }
@@ -95,6 +98,28 @@ fn movie_ticks(duration: u32, movie_timescale: u32, timescale: u32) -> u64
     ensures { result ≡ duration * movie_timescale / timescale }
 {
     duration as u64 * movie_timescale as u64 / timescale as u64
+}
+
+/// How long a sample of this duration is, given how long another one is, which is mostly the same.
+#[inline(always)]
+fn sample_durations(
+    last: Durations,
+    duration: u32,
+    movie_timescale: u32,
+    timescale: u32,
+) -> Durations
+    requires clock { 0 < timescale }
+    requires last { last.movie ≡ last.media * movie_timescale / timescale }
+    ensures media { result.media ≡ duration }
+    ensures movie { result.movie ≡ duration * movie_timescale / timescale }
+{
+    if last.media == duration as u64 {
+        return last;
+    }
+    Durations {
+        media: duration as u64,
+        movie: movie_ticks(duration, movie_timescale, timescale),
+    }
 }
 
 impl TrackWriter {
@@ -130,11 +155,16 @@ impl TrackWriter {
     fn has_room(&self, duration: u32) -> bool
         ensures { IsTrue result ↔ (ticks self.now duration < 2 ^ 64) }
     {
-        let more = movie_ticks(duration, self.movie_timescale, self.config.timescale);
-        more <= u64::MAX - self.durations.movie
+        let room = u64::MAX - self.durations.movie;
+        // A quotient is at most its dividend, so mostly there is nothing to divide.
+        if duration as u64 * self.movie_timescale as u64 <= room {
+            return true;
+        }
+        movie_ticks(duration, self.movie_timescale, self.config.timescale) <= room
     }
 
     /// Adds a sample, which is pending. An `Err` changes nothing.
+    #[inline(always)]
     pub(crate) fn push(&mut self, sample: &SampleRef) -> Result<(), AllocError>
         requires { room_cause self.old (lent_sample sample.now) ≡ None }
         ensures ok { OnOk result (self.new ≡ pushed self.old (lent_sample sample.now)) }
@@ -142,16 +172,21 @@ impl TrackWriter {
     {
         let info = info_of(sample);
         info.in_range();
-        let duration = info.duration as u64;
-        let movie = movie_ticks(info.duration, self.movie_timescale, self.config.timescale);
+        let durations = sample_durations(
+            self.last,
+            info.duration,
+            self.movie_timescale,
+            self.config.timescale,
+        );
         self.samples.push(info)?;
         if let Err(e) = self.pending.extend_from_slice(sample.bytes) {
             let _ = self.samples.pop();
             return Err(e);
         }
-        self.pending_duration += duration;
-        self.durations.media += duration;
-        self.durations.movie += movie;
+        self.pending_duration += durations.media;
+        self.durations.media += durations.media;
+        self.durations.movie += durations.movie;
+        self.last = durations;
         Ok(())
     }
 

@@ -9,7 +9,13 @@ use Rattle.mp4_remux.specs.declared.top_level.TopBox.{TopBox}
 use Rattle.mp4_codec.specs.declared.box_type.BoxType.TheVariants.{FtypBox as ftyp, MoovBox as moov}
 use Rattle.mp4_source.specs.Answers.{IsLength}
 use Rattle.mp4_remux.specs.declared.layout.Layout.{Layout}
-use Rattle.mp4_remux.specs.Front.{in_front, IsBoxOf, IsMoved}
+use Rattle.mp4_remux.specs.Front.{in_front, IsBoxOf, IsMoved, IsMovieFirst, WritesFront, as_it_is, moved}
+use Rattle.mp4_remux.specs.Kept.{IsKept, offsets}
+use Rattle.mp4_remux.specs.Remuxed.{IsRemuxed, WritesRemuxed, ids_of}
+use Rattle.std.proofs.Common.{Result, Ok, Err, OnOk, subst}
+use Rattle.mp4_source.specs.Sink.{IsAppended}
+use Rattle.mp4_media.specs.FileBoxes.{OpenedFile}
+use Rattle.mp4_remux.specs.declared.error.RemuxError.{RemuxError}
 use Rattle.mp4_remux.specs.Splice.{piece_bytes, spliced}
 
 -- five parts, one added after the other
@@ -68,19 +74,43 @@ no_pieces source made ps none = rw none refl
 
 -- a layout with the bytes of a file with its movie box in front
 pub was_moved : (known : Option (List ℕ)) (len : ℕ) (l : Layout) (made : List ℕ) (ps : List Piece)
-    (one other : TopBox) → IsLength known len → l.made.items ≡ made → l.pieces.items ≡ ps
+    (one other : TopBox) (bytes : List ℕ) → IsLength known len → l.made.items ≡ made → l.pieces.items ≡ ps
     → IfSome known (λ xs. IsBoxOf xs ftyp one) → IfSome known (λ xs. IsBoxOf xs moov other)
+    → IfSome known (λ xs. bytes ≡ between xs other.place other.end) → IsKept offsets [] bytes made
     → ((source : List ℕ) → length source ≡ len → spliced source made ps ≡ in_front source one other made)
     → IfSome known (λ xs. IsMoved xs (spliced xs l.made.items l.pieces.items))
-was_moved None len l made ps one other measured is_made is_ps first second all = tt
-was_moved (Some xs) len l made ps one other measured is_made is_ps first second all =
+was_moved None len l made ps one other bytes measured is_made is_ps first second movie k all = tt
+was_moved (Some xs) len l made ps one other bytes measured is_made is_ps first second movie k all =
     record {
       file_type = one;
       movie = other;
       made = made;
       has_file_type = first;
       has_movie = second;
+      kept = subst (λ (b : List ℕ). IsKept offsets [] b made) movie k;
       bytes =
           ap (λ (qs : List Piece). spliced xs l.made.items qs) is_ps
           ∙ ap (λ (m : List ℕ). spliced xs m ps) is_made ∙ all xs (sym measured);
     }
+
+-- a file whose movie box comes before its data is written as it is
+pub writes_as_it_is : (known had has : Option (List ℕ)) (r : Result (Unit {0}) RemuxError)
+    → OnOk r (IfSome known (λ xs. IsAppended had has xs)) → IfSome known IsMovieFirst
+    → OnOk r (IfSome known (λ xs. WritesFront xs had has))
+writes_as_it_is known had has (Err e) a f = tt
+writes_as_it_is None had has (Ok u) a f = tt
+writes_as_it_is (Some xs) had has (Ok u) a f = (xs, (a, as_it_is f refl))
+
+-- a file with its movie box in front is written
+pub writes_moved : (known had has : Option (List ℕ)) (r : Result (Unit {0}) RemuxError) (l : Layout)
+    (opened : OpenedFile) (ids : List ℕ)
+    → OnOk r (IfSome known (λ xs. WritesRemuxed xs (spliced xs l.made.items l.pieces.items) opened ids had has))
+    → IfSome known (λ xs. IsMoved xs (spliced xs l.made.items l.pieces.items)) → ids ≡ ids_of opened.moov
+    → OnOk r (IfSome known (λ xs. WritesFront xs had has))
+writes_moved known had has (Err e) l opened ids w m is = tt
+writes_moved None had has (Ok u) l opened ids w m is = tt
+writes_moved (Some xs) had has (Ok u) l opened ids w m is =
+    let ys = spliced xs l.made.items l.pieces.items in (
+      ys,
+      (w.0, moved opened w.1.0 m (subst (λ (kept : List ℕ). IsRemuxed xs ys opened w.1.0 kept) is w.1.1)),
+    )

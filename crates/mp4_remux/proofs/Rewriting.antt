@@ -1,6 +1,6 @@
 -- What is written by a layout whose samples are as before.
 use Rattle.std.proofs.Common.{◌≡◌, ◌∙◌, ℕ, List, length, Option, None, Some, Result, Ok, Err, option_map, IfSome, OnOk}
-use Rattle.std.proofs.Common.{refl, sym, subst}
+use Rattle.std.proofs.Common.{[], refl, sym, subst}
 use Rattle.std.specs.Prelude.{slice_get}
 use Rattle.mp4_boxes.specs.declared.trak.TrakBox.{TrakBox}
 use Rattle.mp4_codec.specs.Cursor.{here}
@@ -36,18 +36,20 @@ measured_after known known_after l len measured is whole =
     rw (is, whole) (counted known l.made.items l.pieces.items l.source_len l.len measured l.follow)
 
 pub writes_remuxed : (known known_after had has : Option (List ℕ)) (l : Layout) (before after : Movie) (len : ℕ)
-    → IsLength known l.source_len
+    (kept : List ℕ) → IsLength known l.source_len
     → IfSome known (λ xs. IsFile (length xs) (here xs 0) (opened_movie before))
     → known_after ≡ option_map (λ xs. spliced xs l.made.items l.pieces.items) known → len ≡ l.len
     → IfSome known_after (λ ys. IsFile len (here ys 0) (opened_movie after))
-    → ids_of after.moov ≡ ids_of before.moov
-    → ((t : TrakBox) (i : ℕ) → slice_get before.moov.traks i ≡ Some t
+    → ids_of after.moov ≡ kept → after.moofs ≡ []
+    → ((t : TrakBox) (i : ℕ) → slice_get after.moov.traks i ≡ Some t
     → IsTrackAsBefore l.source_len l.made.items l.pieces.items (opened_movie before) (opened_movie after)
     t.tkhd.track_id)
     → IfSome known_after (λ ys. IsAppended had has ys)
-    → IfSome known (λ xs. WritesRemuxed xs (spliced xs l.made.items l.pieces.items) had has)
-writes_remuxed None known_after had has l before after len measured opens is whole opens_after ids tracks written = tt
-writes_remuxed (Some xs) known_after had has l before after len measured opens is whole opens_after ids tracks written =
+    → IfSome known (λ xs. WritesRemuxed xs (spliced xs l.made.items l.pieces.items) (opened_movie before) kept had has)
+writes_remuxed None known_after had has l before after len kept measured opens is whole opens_after ids none tracks
+    written = tt
+writes_remuxed (Some xs) known_after had has l before after len kept measured opens is whole opens_after ids none tracks
+    written =
     let ys = spliced xs l.made.items l.pieces.items in
     let long : len ≡ length ys =
     whole ∙ counted (Some xs) l.made.items l.pieces.items l.source_len l.len measured l.follow in
@@ -55,12 +57,12 @@ writes_remuxed (Some xs) known_after had has l before after len measured opens i
     opens_after in
     let appended = subst (λ (k : Option (List ℕ)). IfSome k (λ zs. IsAppended had has zs)) is written in (
       appended,
+      opened_movie after,
       record {
-        opened = opened_movie before;
-        rewritten = opened_movie after;
         opens = opens;
         opens_after = subst (λ n. IsFile n (here ys 0) (opened_movie after)) long file;
         ids = ids;
+        unfragmented = none;
         tracks = λ t i there. tracks t i there xs (sym measured);
       },
     )

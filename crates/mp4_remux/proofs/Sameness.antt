@@ -89,33 +89,24 @@ module _ (source_len len : ℕ) (made : List ℕ) (pieces : List Piece) (f : Fol
 
 -- THE IDS
 
--- lists of equally many boxes, of which those at each number have the same id, have the same ids
-pub same_ids : (bs cs : List TrakBox) (d : TrakBox) → length cs ≡ length bs
-    → ((i : ℕ) → i < length bs → (slice_index_or cs i d).tkhd.track_id ≡ (slice_index_or bs i d).tkhd.track_id)
-    → map (λ (t : TrakBox). t.tkhd.track_id) cs ≡ map (λ (t : TrakBox). t.tkhd.track_id) bs
-same_ids [] [] d e same = refl
-same_ids [] (a ∷ cs) d e same = absurd (omega (arith, e))
-same_ids (b ∷ bs) [] d e same = absurd (omega (arith, e))
-same_ids (b ∷ bs) (a ∷ cs) d e same =
-    rw (same 0 (omega arith)) (ap (λ (ids : List ℕ). b.tkhd.track_id ∷ ids)
-    (same_ids bs cs d (omega (arith, e)) (λ i lt. same (suc i) (omega (arith, lt)))))
-
-same_none : (cs bs : List TrakBox) → length cs ≡ length bs → bs ≡ []
-    → map (λ (t : TrakBox). t.tkhd.track_id) cs ≡ map (λ (t : TrakBox). t.tkhd.track_id) bs
-same_none [] bs e none = rw none refl
-same_none (c ∷ cs) bs e none = absurd (omega (arith, e, ap length none))
+-- boxes that have these ids at each number have these ids
+same_ids : (bs : List TrakBox) (ids : List ℕ) → length bs ≡ length ids
+    → ((d : TrakBox) (n i : ℕ) → i < length bs → (slice_index_or bs i d).tkhd.track_id ≡ slice_index_or ids i n)
+    → map (λ (t : TrakBox). t.tkhd.track_id) bs ≡ ids
+same_ids [] [] e same = refl
+same_ids [] (n ∷ ns) e same = absurd (omega (arith, e))
+same_ids (b ∷ bs) [] e same = absurd (omega (arith, e))
+same_ids (b ∷ bs) (n ∷ ns) e same =
+    rw (same b n 0 (omega arith)) (ap (λ (ids : List ℕ). n ∷ ids)
+    (same_ids bs ns (omega (arith, e)) (λ d m i lt. same d m (suc i) (omega (arith, lt)))))
 
 -- the same, where all of them were looked at
-pub same_boxes : {bs cs : List TrakBox} (before after : List TrakBox) (n : ℕ) → bs ≡ before → cs ≡ after
-    → length cs ≡ length bs → n ≡ length bs
-    → ((d : TrakBox) (i : ℕ) → i < n → (slice_index_or cs i d).tkhd.track_id ≡ (slice_index_or bs i d).tkhd.track_id)
-    → map (λ (t : TrakBox). t.tkhd.track_id) after ≡ map (λ (t : TrakBox). t.tkhd.track_id) before
-same_boxes {bs} {cs} before after n was is e whole same = rw (sym was, sym is) (by bs refl)
-  where
-    by : (list : List TrakBox) → bs ≡ list
-        → map (λ (t : TrakBox). t.tkhd.track_id) cs ≡ map (λ (t : TrakBox). t.tkhd.track_id) bs
-    by [] none = same_none cs bs e none
-    by (d ∷ ds) some = same_ids bs cs d e (λ i lt. same d i (omega (arith, lt, whole)))
+pub have_ids : {bs : List TrakBox} (traks : List TrakBox) (ids : List ℕ) (n : ℕ) → bs ≡ traks
+    → length bs ≡ length ids → n ≡ length bs
+    → ((d : TrakBox) (m i : ℕ) → i < n → (slice_index_or bs i d).tkhd.track_id ≡ slice_index_or ids i m)
+    → map (λ (t : TrakBox). t.tkhd.track_id) traks ≡ ids
+have_ids {bs} traks ids n is e whole same =
+    rw (sym is) (same_ids bs ids e (λ d m i lt. same d m i (omega (arith, lt, whole))))
 
 -- what is there at a number is what is read there
 pub got : {X : Type 0} (xs : List X) (i : ℕ) (x d : X) → slice_get xs i ≡ Some x → slice_index_or xs i d ≡ x

@@ -1,5 +1,6 @@
 -- A movie box in which some boxes are others: all else is there, byte for byte and in its order (ISO/IEC 14496-12, 4.2).
-use Rattle.std.specs.Prelude.{◌≡◌, ◌+◌, ◌++◌, ◌==◌, ℕ, Bool, List, [], ◌∷◌, length, list_any, IsTrue, Ok}
+use Rattle.std.specs.Prelude.{◌≡◌, ◌+◌, ◌++◌, ◌==◌, ℕ, Bool, List, [], ◌∷◌, length, IsTrue, Ok}
+use Rattle.std.specs.List.{list_any}
 use Rattle.mp4_codec.specs.BoxType.{code_of}
 use Rattle.mp4_codec.specs.declared.box_type.BoxType.{BoxType}
 use Rattle.mp4_codec.specs.declared.box_type.BoxType.TheVariants.{MoovBox, TrakBox, MdiaBox, MinfBox, StblBox}
@@ -12,7 +13,7 @@ use Rattle.mp4_codec.specs.Cursor.{here, header_at}
 pub record IsFirstBox (bytes : List ℕ) (name : BoxType) (header payload after : List ℕ) : Type 0 where
   pub head : header_at (here bytes 0)
       ≡ Ok (record { name = name; size = 8 + length payload }, here bytes (length header))
-  pub bytes : bytes ≡ header ++ (payload ++ after)
+  pub all : bytes ≡ header ++ (payload ++ after)
 
 -- the type is one of those with these codes
 abbrev pub IsAmong : List ℕ → BoxType → Type 0

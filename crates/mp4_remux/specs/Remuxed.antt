@@ -1,6 +1,7 @@
 -- A movie rewritten: every sample of every track is read as before.
 use Rattle.std.specs.Prelude.{◌≡◌, ◌+◌, ◌≤◌, ◌==◌, ℕ, Bool, true, false, if◌then◌else◌, Option, Some, None}
-use Rattle.std.specs.Prelude.{List, [], ◌∷◌, length, map, slice_get, list_any}
+use Rattle.std.specs.Prelude.{List, [], ◌∷◌, length, map, slice_get}
+use Rattle.std.specs.List.{list_any}
 use Rattle.std.specs.Prelude.{Result, Ok}
 use Rattle.mp4_codec.specs.Cause.{Cause, ◌>>=◌}
 use Rattle.mp4_codec.specs.Cursor.{here}

@@ -13,12 +13,8 @@ pub(crate) fn all_ids(alloc: Global, movie: &Movie) -> Result<Vec<u32>, RemuxErr
     ensures ids { IfOk result (λ ids. ids.items ≡ ids_of movie.now.moov) }
     ensures refused { IfErr result (IsRefusalOf ⊥ ⊥) }
 {
-    let traks = movie.moov.traks.as_slice();
-    let mut all = Vec::with_capacity(alloc, traks.len())?;
-    for i in 0..traks.len() {
-        all.push(traks[i].tkhd.track_id)?;
-    }
-    Ok(all)
+    let traks = movie.moov.traks.iter();
+    Ok(traks.map(|trak| trak.tkhd.track_id).collect(alloc)?)
 }
 
 /// Those of the ids that are among these, in their order.

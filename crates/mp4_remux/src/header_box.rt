@@ -1,6 +1,6 @@
 //! Headers of a movie, its tracks and their media, with another duration (ISO/IEC 14496-12, 8.2.2, 8.3.2 and 8.4.2).
 
-ghost use Rattle.std.specs.Prelude.{IfErr};
+ghost use Rattle.std.specs.Prelude.{◌≤◌, length, IfErr};
 ghost use Rattle.mp4_remux.specs.Errors.{IsRefusalOf};
 
 use crate::box_bytes::{BoxBytes, end_box};

@@ -56,6 +56,20 @@ fn is_same_box(one: &BoxBytes, other: &BoxBytes) -> bool
     is_equal(&one.name, &other.name) && one.header == other.header && one.payload == other.payload
 }
 
+/// Whether two lists of bytes are the same.
+fn are_equal(one: &[u8], other: &[u8]) -> bool
+    ensures { IsTrue result → one.now ≡ other.now }
+{
+    one == other
+}
+
+/// Whether two boxes have boxes in them that may be others.
+fn are_entered(one: &BoxBytes, other: &BoxBytes) -> bool
+    ensures { IsTrue result → (one.now.name ≡ other.now.name) × IsAmong entered one.now.name }
+{
+    is_entered(one.name) && is_equal(&one.name, &other.name)
+}
+
 /// Whether the boxes of a movie box, or of one in it, are as they were, but for those with one of some codes, which may
 /// be others, and those with one of others, which may be left out.
 pub(crate) fn is_kept(
@@ -71,22 +85,23 @@ pub(crate) fn is_kept(
     let mut old = after_others(before, changing);
     let mut new = after_others(after, changing);
     while let Some(one) = first_box(old) {
-        let other = first_box(new);
-        if let Some(other) = other {
-            let is_inside = level < DEEPEST
-                && is_entered(one.name)
-                && is_equal(&one.name, &other.name)
-                && is_kept(one.payload, other.payload, changing, going, level + 1);
-            if is_inside || is_same_box(&one, &other) {
-                old = after_others(one.after, changing);
-                new = after_others(other.after, changing);
+        old = after_others(one.after, changing);
+        if let Some(other) = first_box(new) {
+            let rest = after_others(other.after, changing);
+            if is_same_box(&one, &other) {
+                new = rest;
                 continue;
+            }
+            if level < DEEPEST && are_entered(&one, &other) {
+                if is_kept(one.payload, other.payload, changing, going, level + 1) {
+                    new = rest;
+                    continue;
+                }
             }
         }
         if !is_among(going, one.name) {
             return false;
         }
-        old = after_others(one.after, changing);
     }
-    old == new
+    are_equal(old, new)
 }

@@ -2,7 +2,6 @@
 #![tactic(auto)]
 
 mod box_bytes;
-mod choose;
 mod chosen;
 mod chunk_offsets;
 mod copy;
@@ -18,8 +17,9 @@ mod layout;
 mod moves;
 mod movie_box;
 mod piece;
-mod pieces;
+mod piece_list;
 mod places;
+mod rebuild;
 mod references;
 mod rewrite;
 mod same;
@@ -27,6 +27,6 @@ mod splice;
 mod top_level;
 mod track_tables;
 
-pub use choose::{choose, gather};
 pub use error::RemuxError;
 pub use front::move_to_front;
+pub use rebuild::{choose, gather};

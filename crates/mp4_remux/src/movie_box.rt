@@ -61,8 +61,10 @@ enum Step<'a> {
     Enter,
     /// It is a table of chunk offsets.
     Offsets,
-    /// It is a header with this duration, after so many bytes beside its times.
-    Header(usize, u64),
+    /// It is a header of the movie or of media, with this duration.
+    Header(u64),
+    /// It is a header of a track, with this duration.
+    TrackHeader(u64),
     /// It is a `tref`, of which the references to these tracks stay.
     References(&'a [u32]),
     /// It stays, and these tables come after it.
@@ -100,7 +102,7 @@ impl MovieEdit {
     fn movie_step(&self, name: BoxType, track: usize) -> Step<'_> {
         match name {
             BoxType::MvhdBox => match self.duration {
-                Some(duration) => Step::Header(4, duration),
+                Some(duration) => Step::Header(duration),
                 None => Step::Keep,
             },
             BoxType::MvexBox if self.is_gathered => Step::Drop,
@@ -115,7 +117,7 @@ impl MovieEdit {
         match name {
             BoxType::MdiaBox => Step::Enter,
             BoxType::TkhdBox => match self.made(track) {
-                Some(made) => Step::Header(8, made.duration),
+                Some(made) => Step::TrackHeader(made.duration),
                 None => Step::Keep,
             },
             _ => match &self.ids {
@@ -130,7 +132,7 @@ impl MovieEdit {
         match name {
             BoxType::MinfBox => Step::Enter,
             BoxType::MdhdBox => match self.made(track) {
-                Some(made) => Step::Header(4, made.tables.duration),
+                Some(made) => Step::Header(made.tables.duration),
                 None => Step::Keep,
             },
             _ => Step::Keep,
@@ -203,7 +205,8 @@ fn put_step(
         Step::Keep | Step::Enter => put_whole(one, out),
         Step::Drop => Ok(()),
         Step::Offsets => put_table(one, moves, out),
-        Step::Header(more, duration) => put_header(one, more, duration, out),
+        Step::Header(duration) => put_header(one, 4, duration, out),
+        Step::TrackHeader(duration) => put_header(one, 8, duration, out),
         Step::References(ids) => put_references(one, ids, out),
         Step::Tables(tables) => {
             put_whole(one, out)?;

@@ -1,12 +1,12 @@
 //! The boxes of a file, by their places.
 
-ghost use Rattle.std.specs.Prelude.{◌≡◌, ◌≤◌, ◌<◌, length, slice_index, IfOk, IfErr, IsTrue};
-ghost use Rattle.std.specs.Prelude.{IfSome};
+ghost use Rattle.std.specs.Prelude.{◌≡◌, ◌+◌, ◌≤◌, ◌<◌, length, IfSome, IfOk, IfErr};
 ghost use Rattle.mp4_source.specs.Answers.{IsLength};
 ghost use Rattle.mp4_remux.specs.Errors.{IsRefusalOf, MayRefuse};
-ghost use Rattle.mp4_remux.specs.Front.{AreBoxes};
+ghost use Rattle.mp4_remux.specs.Front.{AreBoxes, IsTopBox, top_end};
 
 use crate::error::RemuxError;
+use crate::layout::fits;
 use mp4_codec::{BoxType, HEADER_SIZE, OPEN_END};
 use mp4_source::{ByteSource, SourceCursor};
 use std::alloc::Global;
@@ -26,6 +26,45 @@ impl TopBox {
     }
 }
 
+/// Where a box ends whose header ends there and says this size, in a file of `len` bytes: with the file where it says no
+/// end, or one past it.
+fn top_end(size: u64, from: u64, len: u64) -> u64
+    ensures { result ≡ top_end size from len }
+{
+    if size == OPEN_END {
+        return len;
+    }
+    from.saturating_add(size.saturating_sub(HEADER_SIZE))
+        .min(len)
+}
+
+/// The box that begins at a place of a file of `len` bytes.
+fn read_top<S: ByteSource + Drop>(
+    cursor: &mut SourceCursor<S>,
+    place: u64,
+    len: u64,
+) -> Result<TopBox, RemuxError>
+    requires len { IsLength (S.contents cursor.old.source) cursor.old.len }
+    requires measured { IsLength (S.contents cursor.old.source) len }
+    requires room { place + 8 ≤ len }
+    ensures top { IfOk result (λ b. IfSome (S.contents cursor.old.source) (λ xs. IsTopBox xs b)) }
+    ensures place { IfOk result (λ b. b.place ≡ place) }
+    ensures moved { IfOk result (λ b. place < b.end) }
+    ensures contents { S.contents cursor.new.source ≡ S.contents cursor.old.source }
+    ensures can_refuse { S.can_refuse cursor.new.source ≡ S.can_refuse cursor.old.source }
+    ensures same_len { cursor.new.len ≡ cursor.old.len }
+    ensures refused { IfErr result (IsRefusalOf
+        (MayRefuse (S.contents cursor.old.source) (S.can_refuse cursor.old.source)) ⊥) }
+{
+    cursor.set_position(place);
+    let header = cursor.read_header()?;
+    Ok(TopBox {
+        name: header.name,
+        place,
+        end: top_end(header.size, cursor.position(), len),
+    })
+}
+
 /// The source, and the boxes of its file of `len` bytes, in their order. One whose end is open, or passes the file's,
 /// ends with the file.
 pub(crate) fn top_boxes<S: ByteSource + Drop>(
@@ -42,23 +81,10 @@ pub(crate) fn top_boxes<S: ByteSource + Drop>(
     let mut boxes = Vec::new(alloc);
     let mut cursor = SourceCursor::new(alloc, source, 0)?;
     let mut place = 0;
-    while place < len && len - place >= HEADER_SIZE {
-        cursor.set_position(place);
-        let header = cursor.read_header()?;
-        let end = if header.size == OPEN_END {
-            len
-        } else {
-            cursor
-                .position()
-                .saturating_add(header.size - HEADER_SIZE)
-                .min(len)
-        };
-        boxes.push(TopBox {
-            name: header.name,
-            place,
-            end,
-        })?;
-        place = end;
+    while fits(place, HEADER_SIZE, len) {
+        let next = read_top(&mut cursor, place, len)?;
+        boxes.push(next)?;
+        place = next.end;
     }
     let (source, _) = cursor.into_parts();
     Ok((source, boxes))

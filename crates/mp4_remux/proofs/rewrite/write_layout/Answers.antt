@@ -19,7 +19,7 @@ returns-clause-written g c =
     on_ok c.copy_all.result c.copy_all.ensures.ok
     (writes_remuxed (g.S.ByteSource.contents c.args.source) _ (g.K.ByteSink.contents c.args.sink.now) _
     c.args.layout.now
-    c.args.before.now c.in_ok-splice.after c.len-len.result c.requires.len c.requires.opened
+    c.args.before.now c.in_ok-splice.after c.len-len.result _ c.requires.len c.requires.opened
     (c.in_ok-splice.ensures.contents
     ∙ same_splice g.S.ByteSource.contents c.new-splice.result.source c.args.source c.new-splice.result.layout
     c.in_ok-try_clone.field-0 c.args.layout.now c.new-splice.ensures.source c.new-splice.ensures.layout
@@ -27,4 +27,4 @@ returns-clause-written g c =
     c.len-len.ensures
     (subst (λ (known : Option (List ℕ)). IfSome known (λ ys. IsFile c.len-len.result (here ys 0)
     (opened_movie c.in_ok-splice.after))) (sym c.in_ok-splice.ensures.contents) c.in_ok-splice.ensures.file)
-    c.in_ok-check_same.ensures.ids c.in_ok-check_same.ensures.tracks)
+    c.in_ok-check_same.ensures.ids c.in_ok-check_same.ensures.unfragmented c.in_ok-check_same.ensures.tracks)

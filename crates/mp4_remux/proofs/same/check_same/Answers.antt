@@ -17,14 +17,14 @@ loop-i-preserved c =
       same = λ t j lt there. by t j lt there (nat_lt j c.loop-i.i) refl;
     }
   where
-    by : (t : TrakBox) (j : ℕ) → j < c.loop-i.i + 1 → slice_get c.args.before.now.moov.traks j ≡ Some t
+    by : (t : TrakBox) (j : ℕ) → j < c.loop-i.i + 1 → slice_get c.args.after.now.moov.traks j ≡ Some t
         → (b : Bool) → nat_lt j c.loop-i.i ≡ b → IsTrackAsBefore c.args.layout.now.source_len
         c.args.layout.now.made.items c.args.layout.now.pieces.items (opened_movie c.args.before.now)
         (opened_movie c.args.after.now) t.tkhd.track_id
     by t j lt there true is = c.loop-i.invariant.same t j (ltb-true j c.loop-i.i is) there
     by t j lt there false is =
         let last : j ≡ c.loop-i.i = omega (arith, lt, ltb-false j c.loop-i.i is) in
-        let traks = c.args.before.now.moov.traks in
+        let traks = c.args.after.now.moov.traks in
         let trak = c.index-traks-i.result in
         let here = subst (λ n. slice_get traks n ≡ Some t) last there in
         let same : slice_index_or c.as_slice-traks.result.now c.loop-i.i trak ≡ t =
@@ -36,6 +36,6 @@ loop-i-preserved c =
 
 pub returns-clause-tracks : goal.returns-clause-tracks
 returns-clause-tracks c = λ t i there.
-    let within = got_within c.args.before.now.moov.traks i t there in
+    let within = got_within c.args.after.now.moov.traks i t there in
     c.loop-i.invariant.same t i
     (omega (arith, within, ap length c.as_slice-traks.ensures, c.loop-i-test.false)) there

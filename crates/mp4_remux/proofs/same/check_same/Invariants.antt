@@ -9,8 +9,8 @@ abbrev pub invariant-loop-i : goal.invariant-loop-i
 invariant-loop-i l = record {
   upto : l.i ≤ length l.traks;
   few : l.left < 4294967295;
-  traks : l.traks ≡ l.fn.before.moov.traks;
-  same : (t : TrakBox) (j : ℕ) → j < l.i → slice_get l.fn.before.moov.traks j ≡ Some t
+  traks : l.traks ≡ l.fn.after.moov.traks;
+  same : (t : TrakBox) (j : ℕ) → j < l.i → slice_get l.fn.after.moov.traks j ≡ Some t
       → IsTrackAsBefore l.fn.layout.source_len l.fn.layout.made.items l.fn.layout.pieces.items
       (opened_movie l.fn.before) (opened_movie l.fn.after) t.tkhd.track_id;
 }

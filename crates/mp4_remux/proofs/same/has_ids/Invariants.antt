@@ -5,13 +5,13 @@ use Rattle.mp4_remux.proofs.same.has_ids.Given as goal
 -- the ids that were looked at are the same
 abbrev pub invariant-loop-i : goal.invariant-loop-i
 invariant-loop-i l = record {
-  many : length l.after ≡ length l.before;
-  upto : l.i ≤ length l.before;
-  were : l.before ≡ l.fn.before.moov.traks;
-  are : l.after ≡ l.fn.after.moov.traks;
-  same : (d : TrakBox) (j : ℕ) → j < l.i
-      → (slice_index_or l.after j d).tkhd.track_id ≡ (slice_index_or l.before j d).tkhd.track_id;
+  many : length l.traks ≡ length l.ids;
+  upto : l.i ≤ length l.traks;
+  are : l.traks ≡ l.fn.movie.moov.traks;
+  these : l.ids ≡ l.fn.ids;
+  same : (d : TrakBox) (n j : ℕ) → j < l.i
+      → (slice_index_or l.traks j d).tkhd.track_id ≡ slice_index_or l.ids j n;
 }
 
 abbrev pub decreases-loop-i : goal.decreases-loop-i
-decreases-loop-i l = length l.before - l.i
+decreases-loop-i l = length l.traks - l.i

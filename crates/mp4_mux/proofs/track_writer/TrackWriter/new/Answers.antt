@@ -1,4 +1,5 @@
-use Rattle.std.proofs.Common.{◌≤◌, refl, arith}
+use Rattle.std.proofs.Common.{ℕ, ◌/◌, ◌≤◌, refl, sym, ap, ◌∙◌, arith}
+use Rattle.std.proofs.Math.Nat.{zero-div, zero-mul}
 use Rattle.std.proofs.lemmas.List.Elements.{All-nil}
 use Rattle.mp4_mux.specs.declared.chunk_place.ChunkPlace.{ChunkPlace}
 use Rattle.mp4_mux.specs.TrackHeaders.{media_duration, movie_duration}
@@ -19,6 +20,8 @@ invariant_of-result c = rw (c.new.ensures, c.new-2.ensures.items, c.new-3.ensure
   media = refl;
   movie = refl;
   fits = omega arith;
+  converted = sym (ap (λ (n : ℕ). n / c.args.config.timescale) (zero-mul c.args.movie_timescale)
+      ∙ zero-div c.args.config.timescale);
   few = omega arith;
   counted = refl;
   some_per_chunk = All-nil (λ (x : ChunkPlace). 1 ≤ x.count);

@@ -21,6 +21,7 @@ pub overflow_add-self : goal.overflow_add-self
 overflow_add-self c =
     omega (
       arith,
+      c.sample_durations-durations.ensures.media,
       pending_room (fields_of c.self.inside) c.self.invariant c.info_of-info.result c.in_range.ensures
           (rw (← c.self.view_is) at (has_room c.args.self.now (lent_sample c.args.sample.now) c.requires).count),
     )
@@ -29,6 +30,7 @@ pub overflow_add-self-2 : goal.overflow_add-self-2
 overflow_add-self-2 c =
     omega (
       arith,
+      c.sample_durations-durations.ensures.media,
       media_room (fields_of c.self.inside) c.self.invariant c.info_of-info.result c.in_range.ensures
           (rw (← c.self.view_is) at (has_room c.args.self.now (lent_sample c.args.sample.now) c.requires).count),
     )
@@ -39,8 +41,9 @@ overflow_add-self-3 c =
     let has = has_room c.args.self.now (lent_sample c.args.sample.now) c.requires in
     let room = rw (← c.self.view_is) at has.duration in
     let lasts = ap (λ (j : SampleInfo). j.duration) c.info_of-info.ensures in
-    let fits : movie_duration w.movie_timescale w.config.timescale w.samples + c.movie_ticks-movie.result
-    < 2 ^ 64 = rw (c.movie_ticks-movie.ensures, lasts) room in
+    let fits : movie_duration w.movie_timescale w.config.timescale w.samples
+    + c.sample_durations-durations.result.movie < 2 ^ 64 =
+    rw (c.sample_durations-durations.ensures.movie, lasts) room in
     omega (arith, c.self.invariant.movie, fits)
 
 pub invariant_of-self-2 : goal.invariant_of-self-2
@@ -51,12 +54,12 @@ invariant_of-self-2 c =
     let lasts = ap (λ (j : SampleInfo). j.duration) c.info_of-info.ensures in
     rw (c.in_ok-push.ensures.ok, c.in_default.ensures.items)
     (is_track-push (fields_of c.self.inside) c.self.invariant i c.in_range.ensures
-    (rw (← c.self.view_is) at has.count) c.args.sample.now.bytes.now c.movie_ticks-movie.result
-    (ap (λ (j : SampleInfo). j.size) c.info_of-info.ensures) c.movie_ticks-movie.ensures
-    (rw (c.movie_ticks-movie.ensures, lasts) room))
+    (rw (← c.self.view_is) at has.count) c.args.sample.now.bytes.now c.sample_durations-durations.result
+    (ap (λ (j : SampleInfo). j.size) c.info_of-info.ensures) c.sample_durations-durations.ensures.media
+    c.sample_durations-durations.ensures.movie (rw (c.sample_durations-durations.ensures.movie, lasts) room))
 
 pub returns-clause-ok : goal.returns-clause-ok
 returns-clause-ok c =
     rw (← c.self.view_is, c.in_ok-push.ensures.ok, c.in_default.ensures.items)
     (view-push (fields_of c.self.inside) c.self.invariant c.info_of-info.result (lent_sample c.args.sample.now)
-    c.movie_ticks-movie.result c.info_of-info.ensures)
+    c.sample_durations-durations.result c.info_of-info.ensures)

@@ -2,7 +2,7 @@ use Rattle.std.proofs.Common.{List, ap, ◌∙◌}
 use Rattle.mp4_remux.specs.declared.piece.Piece.{Piece}
 use Rattle.mp4_remux.specs.Splice.{spliced}
 use Rattle.mp4_remux.proofs.Fronting.{spliced_more}
-use Rattle.mp4_remux.proofs.pieces.push_piece.Goals as goal
+use Rattle.mp4_remux.proofs.piece_list.push_piece.Goals as goal
 
 pub returns-clause-bytes : goal.returns-clause-bytes
 returns-clause-bytes c = λ source made.

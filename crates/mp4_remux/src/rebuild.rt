@@ -22,7 +22,8 @@ use crate::layout::Layout;
 use crate::moves::{Move, Moves};
 use crate::movie_box::{MadeTrack, MovieEdit, TrackEdit, edited};
 use crate::piece::{Origin, Piece};
-use crate::pieces::push_piece;
+use crate::piece_list::push_piece;
+
 use crate::rewrite::{open_source, write_layout};
 use crate::same::most_samples;
 use crate::top_level::TopBox;

@@ -1,0 +1,87 @@
+-- What is written of a movie whose tracks are chosen, or whose fragments are gathered.
+use Rattle.std.proofs.Common.{◌≡◌, ◌∙◌, ℕ, List, [], ◌++◌, length, take, drop, Option, None, Some, Result, Ok, Err, IfSome}
+use Rattle.std.proofs.Common.{OnOk, refl, sym, ap, subst}
+use Rattle.mp4_codec.specs.Cursor.{here}
+use Rattle.mp4_source.specs.Sink.{IsAppended}
+use Rattle.mp4_media.specs.FileBoxes.{OpenedFile}
+use Rattle.mp4_media.specs.FileGrammar.{IsFile, between}
+use Rattle.mp4_remux.specs.declared.error.RemuxError.{RemuxError}
+use Rattle.mp4_remux.specs.declared.layout.Layout.{Layout}
+use Rattle.mp4_remux.specs.declared.top_level.TopBox.{TopBox}
+use Rattle.mp4_remux.specs.Gathered.{IsFrameOf, BeginsWith, WritesRebuilt, WritesGathered, WritesChosen}
+use Rattle.mp4_remux.specs.Gathered.{as_it_is, gathered}
+use Rattle.mp4_remux.specs.Kept.{IsKept, of_tables, tracks}
+use Rattle.mp4_remux.specs.Remuxed.{IsRemuxed, WritesRemuxed, ids_of, kept_of}
+use Rattle.mp4_remux.specs.Splice.{spliced}
+
+-- a layout that begins with the file type and the movie box is written
+pub writes_rebuilt : (known had has : Option (List ℕ)) (r : Result (Unit {0}) RemuxError) (l : Layout)
+    (opened : OpenedFile) (ids : List ℕ) (file_type movie : TopBox) (movie_bytes : List ℕ)
+    → OnOk r (IfSome known (λ xs. WritesRemuxed xs (spliced xs l.made.items l.pieces.items) opened ids had has))
+    → IfSome known (λ xs. IsFrameOf xs file_type movie movie_bytes)
+    → BeginsWith file_type movie_bytes l.made.items l.pieces.items
+    → OnOk r (IfSome known (λ xs. WritesRebuilt xs opened ids had has))
+writes_rebuilt known had has (Err e) l opened ids file_type movie movie_bytes w f b = tt
+writes_rebuilt None had has (Ok u) l opened ids file_type movie movie_bytes w f b = tt
+writes_rebuilt (Some xs) had has (Ok u) l opened ids file_type movie movie_bytes w f b = (
+  spliced xs l.made.items l.pieces.items,
+  (
+    w.0,
+    (
+      record {
+        file_type = file_type;
+        movie = movie;
+        made = b.movie;
+        rest = (b.bytes xs).0;
+        has_file_type = f.has_file_type;
+        has_movie = f.has_movie;
+        kept = subst (λ (bytes : List ℕ). IsKept of_tables tracks bytes b.movie) f.movie_is b.kept;
+        bytes = (b.bytes xs).1;
+      },
+      w.1,
+    ),
+  ),
+)
+
+-- a file without fragments is written as it is
+pub writes_as_it_is : (known had has : Option (List ℕ)) (r : Result (Unit {0}) RemuxError) (opened : OpenedFile)
+    → OnOk r (IfSome known (λ xs. IsAppended had has xs))
+    → IfSome known (λ xs. IsFile (length xs) (here xs 0) opened) → opened.moofs ≡ [] → opened.moov.mvex ≡ None
+    → OnOk r (IfSome known (λ xs. WritesGathered xs had has))
+writes_as_it_is known had has (Err e) opened a f none no_more = tt
+writes_as_it_is None had has (Ok u) opened a f none no_more = tt
+writes_as_it_is (Some xs) had has (Ok u) opened a f none no_more = (xs, (a, as_it_is opened f none no_more refl))
+
+-- a file with all its tracks is one whose fragments are gathered
+pub writes_gathered : (known had has : Option (List ℕ)) (r : Result (Unit {0}) RemuxError) (opened : OpenedFile)
+    (ids : List ℕ) → OnOk r (IfSome known (λ xs. WritesRebuilt xs opened ids had has)) → ids ≡ ids_of opened.moov
+    → OnOk r (IfSome known (λ xs. WritesGathered xs had has))
+writes_gathered known had has (Err e) opened ids w is = tt
+writes_gathered None had has (Ok u) opened ids w is = tt
+writes_gathered (Some xs) had has (Ok u) opened ids w is = (
+  w.0,
+  (
+    w.1.0,
+    gathered opened w.1.1.1.0 w.1.1.0
+        (subst (λ (kept : List ℕ). IsRemuxed xs w.0 opened w.1.1.1.0 kept) is w.1.1.1.1),
+  ),
+)
+
+-- a file with the tracks of these ids is one of them
+pub writes_chosen : (known had has : Option (List ℕ)) (r : Result (Unit {0}) RemuxError) (opened : OpenedFile)
+    (kept ids : List ℕ) → OnOk r (IfSome known (λ xs. WritesRebuilt xs opened kept had has))
+    → kept ≡ kept_of ids (ids_of opened.moov) → OnOk r (IfSome known (λ xs. WritesChosen xs ids had has))
+writes_chosen known had has (Err e) opened kept ids w is = tt
+writes_chosen None had has (Ok u) opened kept ids w is = tt
+writes_chosen (Some xs) had has (Ok u) opened kept ids w is = (
+  w.0,
+  (
+    w.1.0,
+    record {
+      opened = opened;
+      rewritten = w.1.1.1.0;
+      rebuilt = w.1.1.0;
+      remuxed = subst (λ (kept : List ℕ). IsRemuxed xs w.0 opened w.1.1.1.0 kept) is w.1.1.1.1;
+    },
+  ),
+)
