@@ -502,25 +502,34 @@ static inline mp4_answer mp4_move_to_front(const void *file, size_t size, uint8_
 }
 
 /* The file with all samples in its tables and none in fragments, if all of it fits: the file type, the movie box, the
- * boxes that stay, and the bytes of the samples in the order of the file. A file that has no fragments, and no box that
- * announces them (mvex), stays as it is. count is how many bytes there are, and filled is count, or 0 where they don't
- * fit; then ask again with room for count bytes. The movie is made in memory, also where it is only counted.
+ * other boxes in their order, and the data of all samples in the order of the file, in one mdat. A file without
+ * fragments, in which none may follow, stays as it is. count is how many bytes there are, and filled is count, or 0
+ * where they don't fit; then ask again with room for count bytes. The movie is made in memory, also where it is only
+ * counted.
  *
- * Refused as mp4_move_to_front is where the movie box has to move, and by MP4_SAYS_OF_SAMPLES for a box of a fragment
- * that says of samples what tables don't; MP4_STARTS_ELSEWHERE for a sample that doesn't begin when the one before it
- * ends, or a first one that doesn't begin at 0; MP4_SAME_IDS for two tracks of one id. After a refusal the room is as
- * it was. */
+ * The boxes moof, mfra, sidx, ssix, styp, prft and mvex are left out, and bytes of mdat that are no sample's. Beside
+ * times, sizes, places, descriptions and sync marks nothing of what fragments say of a sample has a table here: flags
+ * of dependency and of priority are lost.
+ *
+ * Refused as mp4_open is, and as mp4_samples where a sample isn't found; and by MP4_STARTS_ELSEWHERE where a sample
+ * doesn't begin when the one before it ends, or the first of a track at 0; MP4_SAYS_OF_SAMPLES for a box in a fragment
+ * or in the movie box that says more of samples than tables do (senc, saiz, sbgp, sdtp and the like); MP4_SAME_IDS for
+ * two tracks of one id; and by MP4_TWICE, MP4_SAYS_PLACES, MP4_TOO_MANY_SAMPLES, MP4_TOO_LARGE, MP4_OTHER_TRACKS and
+ * MP4_DIFFERS as mp4_move_to_front is. After a refusal the room is as it was. */
 static inline mp4_answer mp4_gather(const void *file, size_t size, uint8_t *out, size_t room) {
     uint64_t spare[1] = {0};
     if (MP4_IS_NULL_(file, size) || MP4_IS_NULL_(out, room)) return mp4_null_pointer_();
     return mp4_c_gather(MP4_POINTER_(const uint8_t, file, spare), size, MP4_POINTER_(uint8_t, out, spare), room);
 }
 
-/* The file with the tracks of these ids alone and with their samples, if all of it fits, as mp4_gather makes one of all
- * tracks; in the order of the file, whatever that of the ids. References to tracks that aren't there any more are left
- * out.
+/* The file with the tracks of these ids alone and with the data of their samples, if all of it fits: the file type, the
+ * movie box, the other boxes in their order, and the data in the order of the file, in one mdat. In the movie box the
+ * other tracks are left out, and the references to them; the movie is as long as the longest of its tracks. The order
+ * of the ids makes no difference: tracks are in that of the file. Fragments are gathered, as by mp4_gather. count is how
+ * many bytes there are, and filled is count, or 0 where they don't fit.
  *
- * Refused as mp4_gather is, and by MP4_TRAK_NOT_FOUND for an id that no track has. */
+ * Refused as mp4_gather is, and by MP4_TRAK_NOT_FOUND for an id that no track has; where the file has no fragments, by
+ * MP4_SAYS_PLACES also for mfra and sidx. */
 static inline mp4_answer mp4_choose(const void *file, size_t size, const uint32_t *track_ids, size_t track_count,
                                     uint8_t *out, size_t room) {
     uint64_t spare[1] = {0};

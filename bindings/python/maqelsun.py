@@ -1057,36 +1057,42 @@ def _rewritten(name: str, file: BytesLike, *words: object) -> bytes:
 
 
 def move_to_front(file: BytesLike) -> bytes:
-    """The file of these bytes with its movie box before its data, as players want it that begin before
-    they have the whole file: the file type, the movie box, then all other boxes in their order. Of the
-    movie box the chunk offsets are others, 64 bits wide where one passes 32; every other byte is there
-    as it was. A file whose movie box is before its data already stays as it is.
+    """The file of these bytes with its movie box before its data, as players want it that begin
+    before they have the whole file: the file type, the movie box, then all other boxes in their
+    order. Of the movie box the chunk offsets are others, 64 bits wide where one passes 32; every
+    other byte is there as it was. A file whose movie box is before its data already stays as it is.
 
     :class:`Error` where the file doesn't open. Where the movie box has to move, each sample of each
-    track is looked up in the file and in what would be written: :class:`Error` where one isn't found,
-    or would be another (``DIFFERS``), for two file types or two movie boxes (``TWICE``), and for a box
-    that says places which aren't rewritten, as that of a fragment does (``SAYS_PLACES``).
+    track is looked up in the file and in what would be written: :class:`Error` where one isn't
+    found, or would be another (``DIFFERS``), for two file types or two movie boxes (``TWICE``), and
+    for a box that says places which aren't rewritten, as that of a fragment does (``SAYS_PLACES``).
     """
     return _rewritten("move_to_front", file)
 
 
 def gather(file: BytesLike) -> bytes:
-    """The file of these bytes with all samples in its tables and none in fragments: the file type, the
-    movie box, the boxes that stay, and the bytes of the samples in the order of the file. A file that
-    has no fragments, and no box that announces them (mvex), stays as it is.
+    """The file of these bytes with all samples in its tables and none in fragments: the file type,
+    the movie box, the other boxes in their order, and the data of all samples in the order of the
+    file, in one mdat. A file without fragments, in which none may follow, stays as it is.
 
-    :class:`Error` as for :func:`move_to_front` where the movie box has to move, for a box of a fragment
-    that says of samples what tables don't (``SAYS_OF_SAMPLES``), for a sample that doesn't begin when
-    the one before it ends, or a first one that doesn't begin at 0 (``STARTS_ELSEWHERE``), and for two
-    tracks of one id (``SAME_IDS``).
+    The boxes of fragments are left out, and bytes of mdat that are no sample's. Beside times,
+    sizes, places, descriptions and sync marks nothing of what fragments say of a sample has a table
+    here: flags of dependency and of priority are lost.
+
+    :class:`Error` where the file doesn't open or a sample isn't found; where a sample doesn't begin
+    when the one before it ends, or the first of a track at 0 (``STARTS_ELSEWHERE``), for a box that
+    says more of samples than tables do (``SAYS_OF_SAMPLES``), for two tracks of one id
+    (``SAME_IDS``), and else as :func:`move_to_front`.
     """
     return _rewritten("gather", file)
 
 
 def choose(file: BytesLike, track_ids: Sequence[int]) -> bytes:
-    """The file of these bytes with the tracks of these ids alone and with their samples, as
-    :func:`gather` makes one of all tracks; in the order of the file, whatever that of the ids.
-    References to tracks that aren't there any more are left out.
+    """The file of these bytes with the tracks of these ids alone and with the data of their
+    samples: the file type, the movie box, the other boxes in their order, and the data in the order
+    of the file, in one mdat. In the movie box the other tracks are left out, and the references to
+    them; the movie is as long as the longest of its tracks. The order of the ids makes no
+    difference: tracks are in that of the file. Fragments are gathered, as by :func:`gather`.
 
     :class:`Error` as for :func:`gather`, and for an id that no track has (``TRAK_NOT_FOUND``).
     """

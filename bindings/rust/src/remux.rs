@@ -44,14 +44,18 @@ pub fn move_to_front(file: &[u8]) -> Result<Vec<u8>> {
 }
 
 /// The file with all samples in its tables and none in fragments: the file type, the movie box, the
-/// boxes that stay, and the bytes of the samples in the order of the file. A file that has no
-/// fragments, and no box that announces them (`mvex`), stays as it is.
+/// other boxes in their order, and the data of all samples in the order of the file, in one `mdat`.
+/// A file without fragments, in which none may follow, stays as it is.
 ///
-/// Refused as [`move_to_front`] is where the movie box has to move, and by
-/// [`SaysOfSamples`](crate::Error::SaysOfSamples) for a box of a fragment that says of samples what
-/// tables don't, [`StartsElsewhere`](crate::Error::StartsElsewhere) for a sample that doesn't begin
-/// when the one before it ends, or a first one that doesn't begin at 0, and
-/// [`SameIds`](crate::Error::SameIds).
+/// The boxes of fragments are left out, and bytes of `mdat` that are no sample's. Beside times,
+/// sizes, places, descriptions and sync marks nothing of what fragments say of a sample has a table
+/// here: flags of dependency and of priority are lost.
+///
+/// Refused as [`Movie::open`](crate::Movie::open), and where a sample isn't found; and by
+/// [`StartsElsewhere`](crate::Error::StartsElsewhere) where a sample doesn't begin when the one
+/// before it ends, or the first of a track at 0,
+/// [`SaysOfSamples`](crate::Error::SaysOfSamples) for a box that says more of samples than tables
+/// do, [`SameIds`](crate::Error::SameIds), and else as [`move_to_front`].
 ///
 /// ```no_run
 /// # fn main() -> Result<(), Box<dyn std::error::Error>> {
@@ -66,9 +70,11 @@ pub fn gather(file: &[u8]) -> Result<Vec<u8>> {
     rewritten(file, |out| ffi::gather(file, out))
 }
 
-/// The file with the tracks of these ids alone and with their samples, as [`gather`] makes one of
-/// all tracks; in the order of the file, whatever that of the ids. References to tracks that aren't
-/// there any more are left out.
+/// The file with the tracks of these ids alone and with the data of their samples: the file type,
+/// the movie box, the other boxes in their order, and the data in the order of the file, in one
+/// `mdat`. In the movie box the other tracks are left out, and the references to them; the movie is
+/// as long as the longest of its tracks. The order of the ids makes no difference: tracks are in
+/// that of the file. Fragments are gathered, as by [`gather`].
 ///
 /// Refused as [`gather`] is, and by [`TrakNotFound`](crate::Error::TrakNotFound) for an id that no
 /// track has.
