@@ -23,7 +23,11 @@ def made() -> bytes:
     return maqelsun.write([maqelsun.NewTrack("tx3g")], lines)
 
 
-with maqelsun.Movie(made()) as opened:
+def first_track(file: maqelsun.BytesLike) -> bytes:
+    return maqelsun.choose(maqelsun.gather(maqelsun.move_to_front(file)), [1])
+
+
+with maqelsun.Movie(first_track(made())) as opened:
     total: int = sum(sizes(opened, 1))
     where: Optional[int] = opened.sample_at(1, 0)
     rows: memoryview = opened.table(1)

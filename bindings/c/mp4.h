@@ -4,7 +4,7 @@
  * memory on to malloc and free. C99 and C++11.
  *
  * - A file is bytes in memory: read, or mapped, so that of a large file only what a call reads is loaded. No call but
- *   mp4_write and mp4_sample_bytes looks at the bytes of samples.
+ *   mp4_move_to_front, mp4_gather, mp4_choose, mp4_write and mp4_sample_bytes looks at the bytes of samples.
  * - One call does one job. Nothing is kept between calls: there is no handle, and nothing to free. So each call that is
  *   given a file opens it anew; the rows of a track, which the caller keeps, are its index (mp4_samples).
  * - Each call answers a struct mp4_answer: its code is MP4_OK or says why the call was refused. No bytes of a file make
@@ -15,7 +15,7 @@
  *   `filled` how many were filled in. Ask with room 0 to know how many there are.
  * - What is filled in must not overlap what the call reads, nor what another thread reads or writes. Otherwise any
  *   number of threads may call at once, also on one file.
- * - A call takes about 36 KB of stack.
+ * - A call takes about 38 KB of stack.
  * - Not from a signal handler, and not in a forked child of a process with threads: the library calls malloc and free.
  * - Tracks have ids; samples are numbered from 1. Times and durations are in ticks: those of a track in ticks of its
  *   timescale, that of a movie in ticks of the movie's.
@@ -58,7 +58,17 @@ enum mp4_code {
     MP4_UNREPRESENTABLE = 16,          /* a value has no encoding in its field */
     MP4_NOT_PRESENT = 17,              /* the file has no such metadata */
     MP4_UNKNOWN_CHOICE = 18,           /* a number that isn't one of enum mp4_metadata_key or mp4_parameter_set_kind */
-    MP4_NULL_POINTER = 19              /* NULL for a struct, or for an array that has elements */
+    MP4_NULL_POINTER = 19,             /* NULL for a struct, or for an array that has elements */
+    MP4_TWICE = 20,                    /* there are two boxes of a type of which a movie has one: box_type */
+    MP4_SAYS_PLACES = 21,              /* a box says places of the file that would be wrong: box_type, and in index the
+                                        * byte at which it begins */
+    MP4_TOO_MANY_SAMPLES = 22,         /* a track has more samples than are compared: track_id */
+    MP4_OTHER_TRACKS = 23,             /* the tracks would be others */
+    MP4_DIFFERS = 24,                  /* a sample would not be read as before: track_id, number */
+    MP4_SAYS_OF_SAMPLES = 25,          /* a box says of samples what tables don't: box_type, and in index the byte at
+                                        * which the box around it begins */
+    MP4_STARTS_ELSEWHERE = 26,         /* a sample doesn't begin when the one before it ends: track_id, number */
+    MP4_SAME_IDS = 27                  /* two tracks have the same id */
 };
 
 /* What passes its limit, where the code is MP4_TOO_LARGE. */
@@ -88,12 +98,13 @@ enum mp4_parameter_set_kind { MP4_SEQUENCE_SET = 1, MP4_PICTURE_SET = 2 };
 typedef struct mp4_answer {
     uint64_t count;                    /* how many there are, whatever the room: brands, tracks, samples or bytes */
     uint64_t filled;                   /* how many were filled in */
-    uint64_t index;                    /* which track or sample mp4_write was refused at, counted from 0 */
+    uint64_t index;                    /* which track or sample mp4_write was refused at, counted from 0; or the byte at
+                                        * which a box begins (MP4_SAYS_PLACES, MP4_SAYS_OF_SAMPLES) */
     uint32_t code;                     /* enum mp4_code */
     uint32_t part;                     /* enum mp4_part */
     uint32_t limit;                    /* enum mp4_limit */
     uint32_t track_id;                 /* the track that a refusal names */
-    uint32_t number;                   /* the entry, or the version, that a refusal names */
+    uint32_t number;                   /* the entry, the version or the sample that a refusal names */
     uint8_t  box_type[4];              /* the box that a refusal names */
     uint8_t  second_box_type[4];       /* the other box that a refusal names */
     uint32_t reserved;
@@ -310,6 +321,10 @@ mp4_answer mp4_c_parameter_set(const uint8_t *file, size_t size, uint32_t track_
 mp4_answer mp4_c_write(const mp4_new_movie *movie, const mp4_brand *brands, size_t brand_count,
                        const mp4_new_track *tracks, size_t track_count, const mp4_sample *samples, size_t sample_count,
                        const uint8_t *data, size_t data_size, uint8_t *out, size_t room);
+mp4_answer mp4_c_move_to_front(const uint8_t *file, size_t size, uint8_t *out, size_t room);
+mp4_answer mp4_c_gather(const uint8_t *file, size_t size, uint8_t *out, size_t room);
+mp4_answer mp4_c_choose(const uint8_t *file, size_t size, const uint32_t *track_ids, size_t track_count, uint8_t *out,
+                        size_t room);
 mp4_answer mp4_c_error_text(const mp4_answer *answer, uint8_t *bytes, size_t room);
 mp4_answer mp4_c_open_error_text(const uint8_t *file, size_t size, uint8_t *bytes, size_t room);
 
@@ -465,8 +480,68 @@ static inline mp4_answer mp4_write(const mp4_new_movie *movie, const mp4_brand *
                        MP4_POINTER_(const uint8_t, data, spare), data_size, MP4_POINTER_(uint8_t, out, spare), room);
 }
 
+/* The file with its movie box before its data, as players want it that begin before they have the whole file, if all of
+ * it fits: the file type, the movie box, then all other boxes in their order. Of the movie box the chunk offsets are
+ * others, 64 bits wide where one passes 32; every other byte is there as it was. A file whose movie box is before its
+ * data already stays as it is. count is how many bytes there are, and filled is count, or 0 where they don't fit: room
+ * for size bytes is enough where no offset comes to pass 32 bits. The movie is made in memory, also where it is only
+ * counted.
+ *
+ * Refused as mp4_open is. Where the movie box has to move, each sample of each track is looked up in the file and in
+ * what would be written; then also refused as mp4_samples is where a sample isn't found, and: MP4_TWICE for two file
+ * types or two movie boxes; MP4_SAYS_PLACES for a box that says places which aren't rewritten: a moof, mfra or sidx, an
+ * iloc or saio in the movie box or in the file's metadata, or a dref that says that samples are in another file;
+ * MP4_TOO_MANY_SAMPLES where the tracks have more samples than the file has bytes; MP4_TOO_LARGE where the movie box
+ * passes its limit; MP4_OTHER_TRACKS and MP4_DIFFERS where a track or a sample wouldn't be read as before. After a
+ * refusal the room is as it was. */
+static inline mp4_answer mp4_move_to_front(const void *file, size_t size, uint8_t *out, size_t room) {
+    uint64_t spare[1] = {0};
+    if (MP4_IS_NULL_(file, size) || MP4_IS_NULL_(out, room)) return mp4_null_pointer_();
+    return mp4_c_move_to_front(MP4_POINTER_(const uint8_t, file, spare), size, MP4_POINTER_(uint8_t, out, spare),
+                               room);
+}
+
+/* The file with all samples in its tables and none in fragments, if all of it fits: the file type, the movie box, the
+ * other boxes in their order, and the data of all samples in the order of the file, in one mdat. A file without
+ * fragments, in which none may follow, stays as it is. count is how many bytes there are, and filled is count, or 0
+ * where they don't fit; then ask again with room for count bytes. The movie is made in memory, also where it is only
+ * counted.
+ *
+ * The boxes moof, mfra, sidx, ssix, styp, prft and mvex are left out, and bytes of mdat that are no sample's. Beside
+ * times, sizes, places, descriptions and sync marks nothing of what fragments say of a sample has a table here: flags
+ * of dependency and of priority are lost.
+ *
+ * Refused as mp4_open is, and as mp4_samples where a sample isn't found; and by MP4_STARTS_ELSEWHERE where a sample
+ * doesn't begin when the one before it ends, or the first of a track at 0; MP4_SAYS_OF_SAMPLES for a box in a fragment
+ * or in the movie box that says more of samples than tables do (senc, saiz, sbgp, sdtp and the like); MP4_SAME_IDS for
+ * two tracks of one id; and by MP4_TWICE, MP4_SAYS_PLACES, MP4_TOO_MANY_SAMPLES, MP4_TOO_LARGE, MP4_OTHER_TRACKS and
+ * MP4_DIFFERS as mp4_move_to_front is. After a refusal the room is as it was. */
+static inline mp4_answer mp4_gather(const void *file, size_t size, uint8_t *out, size_t room) {
+    uint64_t spare[1] = {0};
+    if (MP4_IS_NULL_(file, size) || MP4_IS_NULL_(out, room)) return mp4_null_pointer_();
+    return mp4_c_gather(MP4_POINTER_(const uint8_t, file, spare), size, MP4_POINTER_(uint8_t, out, spare), room);
+}
+
+/* The file with the tracks of these ids alone and with the data of their samples, if all of it fits: the file type, the
+ * movie box, the other boxes in their order, and the data in the order of the file, in one mdat. In the movie box the
+ * other tracks are left out, and the references to them; the movie is as long as the longest of its tracks. The order
+ * of the ids makes no difference: tracks are in that of the file. Fragments are gathered, as by mp4_gather. count is how
+ * many bytes there are, and filled is count, or 0 where they don't fit.
+ *
+ * Refused as mp4_gather is, and by MP4_TRAK_NOT_FOUND for an id that no track has; where the file has no fragments, by
+ * MP4_SAYS_PLACES also for mfra and sidx. */
+static inline mp4_answer mp4_choose(const void *file, size_t size, const uint32_t *track_ids, size_t track_count,
+                                    uint8_t *out, size_t room) {
+    uint64_t spare[1] = {0};
+    if (MP4_IS_NULL_(file, size) || MP4_IS_NULL_(track_ids, track_count) || MP4_IS_NULL_(out, room)) {
+        return mp4_null_pointer_();
+    }
+    return mp4_c_choose(MP4_POINTER_(const uint8_t, file, spare), size, MP4_POINTER_(const uint32_t, track_ids, spare),
+                        track_count, MP4_POINTER_(uint8_t, out, spare), room);
+}
+
 /* What an answer says in words, in ASCII and without a zero at its end, if all of it fits. count is how many bytes it
- * has, and filled is count, or 0 where they don't fit. 80 bytes are enough for every answer of this library. */
+ * has, and filled is count, or 0 where they don't fit. 90 bytes are enough for every answer of this library. */
 static inline mp4_answer mp4_error_text(const mp4_answer *answer, uint8_t *bytes, size_t room) {
     uint64_t spare[1] = {0};
     if (!answer || MP4_IS_NULL_(bytes, room)) return mp4_null_pointer_();
@@ -475,8 +550,8 @@ static inline mp4_answer mp4_error_text(const mp4_answer *answer, uint8_t *bytes
 
 /* Why mp4_open refuses a file, in words as those of mp4_error_text; where the code is MP4_INVALID_DATA, they are
  * followed by a colon and what it is that is invalid: "invalid data: a box is larger than the file". The file is opened
- * once more for it, and where that is out of memory, the words say so, or the answer does. 120 bytes are enough. Of a
- * file that opens they are "no error". */
+ * once more for it, and where that is out of memory, the answer is. 120 bytes are enough. Of a file that opens they are
+ * "no error". */
 static inline mp4_answer mp4_open_error_text(const void *file, size_t size, uint8_t *bytes, size_t room) {
     uint64_t spare[1] = {0};
     if (MP4_IS_NULL_(file, size) || MP4_IS_NULL_(bytes, room)) return mp4_null_pointer_();
@@ -493,7 +568,10 @@ static inline const char *mp4_strerror(uint32_t code) {
         "a box of a track fragment is not found", "a box of a sample table is not found",
         "an entry of a sample table is not found", "an entry of a track run is not found",
         "a version of a box is not supported", "writer ended", "timescale is zero", "too large", "unrepresentable",
-        "no such metadata", "unknown choice", "null pointer"};
+        "no such metadata", "unknown choice", "null pointer", "two boxes of a type", "a box says places of the file",
+        "a track has more samples than the file has bytes", "the tracks would be others",
+        "a sample would not be read as before", "a box says of samples what tables do not",
+        "a sample does not begin when the one before it ends", "two tracks have the same id"};
     return code < sizeof words / sizeof *words ? words[code] : "an answer of another version";
 }
 

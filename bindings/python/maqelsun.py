@@ -14,6 +14,7 @@ and needs nothing but Python 3.8.
 
     lines = [maqelsun.NewSample.text(1, "first", 1000), maqelsun.NewSample.text(1, "second", 1000)]
     file = maqelsun.write([maqelsun.NewTrack("tx3g")], lines)
+    file = maqelsun.move_to_front(file)
 
 The shared object ``libmaqelsun.so`` is looked for at the first call: where MAQELSUN_LIBRARY says,
 else beside this file, else where ``scripts/callers build`` of the repository leaves it.
@@ -45,7 +46,7 @@ from typing import (
 
 __all__ = [
     "Code", "Error", "Limit", "Metadata", "Movie", "NewSample", "NewTrack", "OutOfMemory", "Sample",
-    "Samples", "Track", "write",
+    "Samples", "Track", "choose", "gather", "move_to_front", "write",
 ]
 
 __version__ = "0.1.0"
@@ -156,6 +157,9 @@ def _library() -> ctypes.CDLL:
         "metadata": (*file, _u32, *room),
         "parameter_set": (*file, _u32, _u32, *room),
         "write": (pointer, pointer, size, pointer, size, pointer, size, *file, *room),
+        "move_to_front": (*file, *room),
+        "gather": (*file, *room),
+        "choose": (*file, pointer, size, *room),
         "error_text": (pointer, *room),
         "open_error_text": (*file, *room),
     }
@@ -206,6 +210,24 @@ class Code(enum.IntEnum):
     """A number that isn't one of a list of choices."""
     NULL_POINTER = 19
     """A pointer to nothing; no call of this module answers it."""
+    TWICE = 20
+    """There are two boxes of a type of which a movie has one: ``box_type``."""
+    SAYS_PLACES = 21
+    """A box says places of the file that would be wrong: ``box_type``, and ``index`` is the byte at
+    which it begins."""
+    TOO_MANY_SAMPLES = 22
+    """A track has more samples than are compared: ``track_id``."""
+    OTHER_TRACKS = 23
+    """The tracks would be others."""
+    DIFFERS = 24
+    """A sample wouldn't be read as before: ``track_id``, ``number``."""
+    SAYS_OF_SAMPLES = 25
+    """A box says of samples what tables don't: ``box_type``, and ``index`` is the byte at which the
+    box around it begins."""
+    STARTS_ELSEWHERE = 26
+    """A sample doesn't begin when the one before it ends: ``track_id``, ``number``."""
+    SAME_IDS = 27
+    """Two tracks have the same id."""
 
 
 class Limit(enum.IntEnum):
@@ -228,14 +250,15 @@ class Limit(enum.IntEnum):
 
 
 class Error(Exception):
-    """Why a call was refused. Its text is that of the program ``mp4_tool``.
+    """Why a call was refused. Its text is that of the programs ``mp4_tool`` and ``mp4_remux``.
 
     ``code`` says why, and of a file that doesn't open by ``INVALID_DATA``, ``reason`` what it is that
     is invalid, as "a box is larger than the file"; else it is empty. ``box_type``,
     ``second_box_type``, ``track_id``, ``number`` and ``limit`` are what the refusal names, or empty
     and 0. After a refused :func:`write`, ``part`` says what was refused, "movie", "track", "sample"
-    or "end", and ``index`` which one, from 0 on. It can be pickled and copied, so a process of a pool
-    may raise it.
+    or "end", and ``index`` which one, from 0 on; with ``SAYS_PLACES`` and ``SAYS_OF_SAMPLES``
+    ``index`` is a place in the file.
+    It can be pickled and copied, so a process of a pool may raise it.
     """
 
     def __init__(self, answer: "_Answer", reason: str = ""):
@@ -261,7 +284,7 @@ class OutOfMemory(Error, MemoryError):
 
 def _text_of(answer: "_Answer") -> str:
     """What an answer says in words."""
-    text = (_u8 * 80)()
+    text = (_u8 * 90)()
     filled = _library().mp4_c_error_text(ctypes.byref(answer), text, len(text)).filled
     return bytes(text[:filled]).decode("ascii")
 
@@ -449,6 +472,13 @@ def _all_rows(kind: type, guess: int, ask: Callable[..., "_Answer"]) -> list:
     """All rows that a call of the library gives."""
     rows, count = _filled(kind, guess, ask)
     return rows[:count]
+
+
+def _reason_of(ask: Callable[..., "_Answer"]) -> str:
+    """What it is that makes a file invalid, which doesn't open: the call is asked for the words."""
+    text = (_u8 * 120)()
+    filled = ask(text, len(text)).filled
+    return bytes(text[:filled]).decode("ascii").partition(": ")[2]
 
 
 def _all_bytes(guess: int, ask: Callable[..., "_Answer"]) -> bytes:
@@ -692,9 +722,7 @@ class Movie:
 
     def _reason(self) -> str:
         """What it is that makes the file invalid, which doesn't open."""
-        text = (_u8 * 120)()
-        filled = self._ask("open_error_text", text, len(text)).filled
-        return bytes(text[:filled]).decode("ascii").partition(": ")[2]
+        return _reason_of(lambda *room: self._ask("open_error_text", *room))
 
     def _ask(self, name: str, *words: object) -> "_Answer":
         """The library's answer to a question about the file."""
@@ -1011,3 +1039,62 @@ def write(
     parts += (new_samples, count, whole.address, whole.size)
     likely = 1024 + 4 * len(compatible_brands) + 1024 * len(tracks) + 40 * count + whole.size
     return _all_bytes(likely, lambda *room: _library().mp4_c_write(*parts, *room))
+
+
+def _rewritten(name: str, file: BytesLike, *words: object) -> bytes:
+    """The bytes that a call makes of a file's."""
+    function, source = getattr(_library(), "mp4_c_" + name), _Bytes(file)
+    place = (source.address, source.size)
+    try:
+        return _all_bytes(source.size, lambda *room: function(*place, *words, *room))
+    except Error as refused:
+        if refused.code == Code.INVALID_DATA:
+            ask = _library().mp4_c_open_error_text
+            refused.reason = _reason_of(lambda *room: ask(*place, *room))
+        raise
+    finally:
+        source.release()
+
+
+def move_to_front(file: BytesLike) -> bytes:
+    """The file of these bytes with its movie box before its data, as players want it that begin
+    before they have the whole file: the file type, the movie box, then all other boxes in their
+    order. Of the movie box the chunk offsets are others, 64 bits wide where one passes 32; every
+    other byte is there as it was. A file whose movie box is before its data already stays as it is.
+
+    :class:`Error` where the file doesn't open. Where the movie box has to move, each sample of each
+    track is looked up in the file and in what would be written: :class:`Error` where one isn't
+    found, or would be another (``DIFFERS``), for two file types or two movie boxes (``TWICE``), and
+    for a box that says places which aren't rewritten, as that of a fragment does (``SAYS_PLACES``).
+    """
+    return _rewritten("move_to_front", file)
+
+
+def gather(file: BytesLike) -> bytes:
+    """The file of these bytes with all samples in its tables and none in fragments: the file type,
+    the movie box, the other boxes in their order, and the data of all samples in the order of the
+    file, in one mdat. A file without fragments, in which none may follow, stays as it is.
+
+    The boxes of fragments are left out, and bytes of mdat that are no sample's. Beside times,
+    sizes, places, descriptions and sync marks nothing of what fragments say of a sample has a table
+    here: flags of dependency and of priority are lost.
+
+    :class:`Error` where the file doesn't open or a sample isn't found; where a sample doesn't begin
+    when the one before it ends, or the first of a track at 0 (``STARTS_ELSEWHERE``), for a box that
+    says more of samples than tables do (``SAYS_OF_SAMPLES``), for two tracks of one id
+    (``SAME_IDS``), and else as :func:`move_to_front`.
+    """
+    return _rewritten("gather", file)
+
+
+def choose(file: BytesLike, track_ids: Sequence[int]) -> bytes:
+    """The file of these bytes with the tracks of these ids alone and with the data of their
+    samples: the file type, the movie box, the other boxes in their order, and the data in the order
+    of the file, in one mdat. In the movie box the other tracks are left out, and the references to
+    them; the movie is as long as the longest of its tracks. The order of the ids makes no
+    difference: tracks are in that of the file. Fragments are gathered, as by :func:`gather`.
+
+    :class:`Error` as for :func:`gather`, and for an id that no track has (``TRAK_NOT_FOUND``).
+    """
+    ids = _list_of(_u32, [_in_range("track_id", each, 32) for each in track_ids])
+    return _rewritten("choose", file, ids, len(track_ids))

@@ -1,4 +1,4 @@
-"""Tests of the module: movies that are written and read."""
+"""Tests of the module: movies that are written, read and rewritten."""
 
 import copy
 import mmap
@@ -14,7 +14,8 @@ from concurrent.futures import ProcessPoolExecutor
 from unittest import mock
 
 import maqelsun
-from maqelsun import Code, Error, Limit, Movie, NewSample, NewTrack, OutOfMemory, write
+from maqelsun import Code, Error, Limit, Movie, NewSample, NewTrack, OutOfMemory
+from maqelsun import choose, gather, move_to_front, write
 
 
 def numbers(count, **movie):
@@ -40,6 +41,20 @@ def with_metadata(*items):
     movie = file.index(b"moov") - 4
     file[movie : movie + 4] = struct.pack(">I", len(file) - movie)
     return bytes(file)
+
+
+def fragmented():
+    """A movie of one text track, whose two samples are in a fragment (ISO/IEC 14496-12, 8.8)."""
+    ids = boxed(b"mvex", boxed(b"trex", struct.pack(">6I", 0, 1, 1, 0, 0, 0)))
+    file = bytearray(write([NewTrack("tx3g")], []) + ids)
+    movie = file.index(b"moov") - 4
+    file[movie : movie + 4] = struct.pack(">I", len(file) - movie)
+    head = boxed(b"mfhd", struct.pack(">2I", 0, 1))
+    track = boxed(b"tfhd", struct.pack(">2I", 0x20000, 1))  # places count from the moof
+    rows = struct.pack(">4I", 500, 3, 700, 4)  # each has a duration and a size
+    run = boxed(b"trun", struct.pack(">3I", 0x301, 2, 92) + rows)
+    moof = boxed(b"moof", head + boxed(b"traf", track + run))
+    return bytes(file) + moof + boxed(b"mdat", b"onetwo.")
 
 
 class Reading(unittest.TestCase):
@@ -447,6 +462,66 @@ class Writing(unittest.TestCase):
         samples = [NewSample(1, b"x", 1 + k % 2, k % 2) for k in range(3000)]
         movie = Movie(write([NewTrack("tx3g", 1)], samples))
         self.assertEqual(len(list(movie.samples(1))), 3000)
+
+
+class Rewriting(unittest.TestCase):
+    """Movies that are rewritten, and what refuses them."""
+
+    refused = Reading.refused
+
+    def test_a_movie_box_that_moved_has_the_samples_that_it_had(self):
+        file = numbers(2000)
+        moved = move_to_front(file)
+        self.assertLess(file.index(b"mdat"), file.index(b"moov"))
+        self.assertLess(moved.index(b"moov"), moved.index(b"mdat"))
+        before, after = Movie(file), Movie(moved)
+        texts = [[movie.read(sample) for sample in movie.samples(1)] for movie in (before, after)]
+        self.assertEqual(texts[0], texts[1])
+        self.assertEqual(move_to_front(moved), moved)
+
+    def test_fragments_are_gathered(self):
+        file = fragmented()
+        film = gather(file)
+        for movie in (Movie(file), Movie(film)):
+            samples = [(movie.read(each), each.start_time) for each in movie.samples(1)]
+            self.assertEqual(samples, [(b"one", 0), (b"two.", 500)])
+        self.assertEqual((Movie(file).is_fragmented, Movie(film).is_fragmented), (True, False))
+        self.assertEqual(gather(numbers(3)), numbers(3))
+        self.assertEqual(self.refused("ftyp not found", gather, b"").reason, "")
+
+    def test_tracks_are_chosen(self):
+        samples = [NewSample(1 + k % 3, b"%d" % k, 1) for k in range(9)]
+        file = write([NewTrack("tx3g")] * 3, samples)
+        movie = Movie(choose(file, (3, 1)))
+        self.assertEqual([track.id for track in movie.tracks], [1, 3])
+        for track, texts in [(1, [b"0", b"3", b"6"]), (3, [b"2", b"5", b"8"])]:
+            self.assertEqual([movie.read(each) for each in movie.samples(track)], texts)
+        self.assertEqual(self.refused("trak[4] not found", choose, file, [1, 4]).track_id, 4)
+        self.assertEqual(Movie(choose(file, [])).tracks, [])
+        with self.assertRaises(OverflowError):
+            choose(file, [2**32])
+
+    def test_each_kind_of_bytes_is_rewritten(self):
+        file = numbers(3)
+        moved = move_to_front(file)
+        room = bytearray(file)
+        for source in [room, memoryview(file)]:
+            self.assertEqual(move_to_front(source), moved)
+        room.append(0)  # it isn't held any more
+        with self.assertRaises(TypeError):
+            move_to_front("film.mp4")
+
+    def test_a_refused_file_says_why(self):
+        file = numbers(3)
+        head = file[: file.index(b"mdat") - 4]
+        self.assertEqual(self.refused("two boxes ftyp", move_to_front, file + head).code, Code.TWICE)
+        text = f"a box sidx at byte {len(file)} says places of the file, which would be wrong"
+        refused = self.refused(text, move_to_front, file + boxed(b"sidx", bytes(24)))
+        self.assertEqual((refused.code, refused.box_type), (Code.SAYS_PLACES, b"sidx"))
+        self.assertEqual(refused.index, len(file))
+        refused = self.refused("invalid data", move_to_front, b"\0\0\1\0free")
+        self.assertEqual(refused.reason, "a box is larger than the file")
+        self.assertEqual(self.refused("ftyp not found", move_to_front, b"").reason, "")
 
 
 if __name__ == "__main__":

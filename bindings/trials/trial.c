@@ -7,6 +7,10 @@
  *                          that are found at the edges of times and numbers
  *   trial nulls            nothing where NULL is refused in place of each pointer to what is there, and by each call
  *   trial words            the words of each refusal
+ *   trial front FOLDER     moves the movie box of each of these files to the front: what comes of the file of line K is
+ *                          the file K of the folder
+ *   trial gather FOLDER    gathers the fragments of each of them likewise
+ *   trial choose FOLDER ID..   likewise the tracks of these ids, of which there are at most 8
  *   trial write OUT        makes the movie of a script from standard input
  *   trial large FILE       the samples of a file; on standard error the microseconds and the KiB of memory that it took
  */
@@ -72,7 +76,7 @@ static void unmap(file mapped) {
 }
 
 static void print_text(mp4_answer answer) {
-    char text[80];
+    char text[90];
     mp4_answer said = mp4_error_text(&answer, (uint8_t *)text, sizeof text);
     printf("%.*s\n", (int)said.filled, text);
 }
@@ -124,6 +128,25 @@ static mp4_answer brands_call(const void *asked, void *elements, size_t room) {
 static mp4_answer tracks_call(const void *asked, void *elements, size_t room) {
     const file *from = asked;
     return mp4_tracks(from->bytes, from->size, elements, room);
+}
+
+static mp4_answer front_call(const void *asked, void *elements, size_t room) {
+    const file *from = asked;
+    return mp4_move_to_front(from->bytes, from->size, elements, room);
+}
+
+static mp4_answer gather_call(const void *asked, void *elements, size_t room) {
+    const file *from = asked;
+    return mp4_gather(from->bytes, from->size, elements, room);
+}
+
+/* The ids of the tracks that are chosen. */
+static uint32_t chosen[8];
+static size_t chosen_count;
+
+static mp4_answer choose_call(const void *asked, void *elements, size_t room) {
+    const file *from = asked;
+    return mp4_choose(from->bytes, from->size, chosen_count ? chosen : NULL, chosen_count, elements, room);
 }
 
 static mp4_answer words_call(const void *asked, void *elements, size_t room) {
@@ -428,6 +451,54 @@ static void each_file(void (*act)(file)) {
     free(name);
 }
 
+static void write_file(const char *name, const uint8_t *bytes, uint64_t size) {
+    FILE *out = fopen(name, "wb");
+    if (!out || fwrite(bytes, 1, size, out) != size || fclose(out) != 0) give_up("a file isn't written");
+}
+
+/* How files are rewritten, and where to. */
+static struct rewriting {
+    const char *name;
+    filling_call call;
+    const char *folder;
+    unsigned long line;
+} rewriting;
+
+/* Rewrites a file; says how many bytes it has then, or why it isn't. A refusal leaves the room as it was. */
+static void rewrite_file(file from) {
+    char name[4096];
+    uint8_t *bytes = room_for(from.size, 1);
+    memset(bytes, UNTOUCHED, from.size);
+    mp4_answer answer = rewriting.call(&from, bytes, from.size);
+    snprintf(name, sizeof name, "%s/%lu", rewriting.folder, ++rewriting.line);
+    if (answer.code != MP4_OK) {
+        print_text(answer);
+        if (answer.filled != 0 || !are_untouched(bytes, from.size)) printf("(%s: filled)\n", rewriting.name);
+    } else {
+        uint64_t count = answer.count;
+        free(bytes);
+        bytes = room_for(count, 1);
+        answer = rewriting.call(&from, bytes, count);
+        write_file(name, bytes, answer.filled);
+        printf("wrote %llu bytes\n", (unsigned long long)count);
+        try_rooms(rewriting.name, rewriting.call, &from, 1, 0);
+    }
+    free(bytes);
+}
+
+static void rewrite_files(const char *name, filling_call call, const char *folder) {
+    rewriting = (struct rewriting){name, call, folder, 0};
+    each_file(rewrite_file);
+}
+
+static void choose_tracks(const char *folder, char **ids, int count) {
+    if (count > 8) give_up("there are more than 8 ids");
+    for (chosen_count = 0; chosen_count < (size_t)count; chosen_count++) {
+        chosen[chosen_count] = (uint32_t)strtoul(ids[chosen_count], NULL, 10);
+    }
+    rewrite_files("mp4_choose", choose_call, folder);
+}
+
 static uint64_t add_bytes(list *data, const void *bytes, size_t size) {
     uint64_t start = data->count;
     memcpy(added(data, 1, size), bytes, size);
@@ -530,10 +601,7 @@ static void write_movie(const char *name) {
     answer = mp4_write(&movie, brands, 4, tracks.rows, tracks.count, samples.rows, samples.count, data.rows, data.count,
                        bytes, size);
     if (answer.code != MP4_OK || bytes[size] != UNTOUCHED) give_up("a movie isn't written");
-    FILE *out = fopen(name, "wb");
-    if (!out || fwrite(bytes, 1, answer.filled, out) != answer.filled || fclose(out) != 0) {
-        give_up("a file isn't written");
-    }
+    write_file(name, bytes, answer.filled);
     free(bytes);
     free(tracks.rows);
     free(samples.rows);
@@ -584,6 +652,16 @@ static void give_null(void) {
     is_refused("mp4_write", mp4_write(&movie, NULL, 0, NULL, 0, NULL, 0, NULL, 1, NULL, 0));
     is_refused("mp4_write", mp4_write(&movie, NULL, 0, NULL, 0, NULL, 0, NULL, 0, NULL, 1));
     is_answered("mp4_write", mp4_write(&movie, NULL, 0, NULL, 0, NULL, 0, NULL, 0, NULL, 0));
+    is_refused("mp4_move_to_front", mp4_move_to_front(NULL, 1, NULL, 0));
+    is_refused("mp4_move_to_front", mp4_move_to_front(&byte, 1, NULL, 1));
+    is_answered("mp4_move_to_front", mp4_move_to_front(NULL, 0, NULL, 0));
+    is_refused("mp4_gather", mp4_gather(NULL, 1, NULL, 0));
+    is_refused("mp4_gather", mp4_gather(&byte, 1, NULL, 1));
+    is_answered("mp4_gather", mp4_gather(NULL, 0, NULL, 0));
+    is_refused("mp4_choose", mp4_choose(NULL, 1, NULL, 0, NULL, 0));
+    is_refused("mp4_choose", mp4_choose(&byte, 1, NULL, 1, NULL, 0));
+    is_refused("mp4_choose", mp4_choose(&byte, 1, NULL, 0, NULL, 1));
+    is_answered("mp4_choose", mp4_choose(NULL, 0, NULL, 0, NULL, 0));
     is_refused("mp4_row_at", mp4_row_at(NULL, 1, 0, &row));
     is_refused("mp4_row_at", mp4_row_at(NULL, 0, 0, NULL));
     is_answered("mp4_row_at", mp4_row_at(NULL, 0, 0, &row));
@@ -625,8 +703,8 @@ static void list_large(const char *name) {
 
 /* The words of each refusal, a line each, as it names these boxes, this track and this number. */
 static void print_words(void) {
-    mp4_answer answer = {.track_id = 7, .number = 12, .box_type = "stts", .second_box_type = "mvex"};
-    for (answer.code = MP4_OK; answer.code <= MP4_NULL_POINTER + 1; answer.code++) {
+    mp4_answer answer = {.index = 48, .track_id = 7, .number = 12, .box_type = "stts", .second_box_type = "mvex"};
+    for (answer.code = MP4_OK; answer.code <= MP4_SAME_IDS + 1; answer.code++) {
         if (answer.code != MP4_TOO_LARGE) print_text(answer);
         try_rooms("mp4_error_text", words_call, &answer, 1, 0);
     }
@@ -652,12 +730,19 @@ int main(int count, char **words) {
         give_null();
     } else if (count == 2 && strcmp(command, "words") == 0) {
         print_words();
+    } else if (count == 3 && strcmp(command, "front") == 0) {
+        rewrite_files("mp4_move_to_front", front_call, words[2]);
+    } else if (count == 3 && strcmp(command, "gather") == 0) {
+        rewrite_files("mp4_gather", gather_call, words[2]);
+    } else if (count >= 3 && strcmp(command, "choose") == 0) {
+        choose_tracks(words[2], words + 3, count - 3);
     } else if (count == 3 && strcmp(command, "write") == 0) {
         write_movie(words[2]);
     } else if (count == 3 && strcmp(command, "large") == 0) {
         list_large(words[2]);
     } else {
-        give_up("list | faults | reasons | facts | nulls | words | write OUT | large FILE");
+        give_up("list | faults | reasons | facts | nulls | words | front FOLDER | gather FOLDER | choose FOLDER ID.. | "
+                "write OUT | large FILE");
     }
     return 0;
 }

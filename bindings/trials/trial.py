@@ -183,6 +183,23 @@ def write_movie(name):
         out.write(movie)
 
 
+def rewrite_files(folder, rewrite):
+    """Rewrites each file that a line of standard input names: what comes of the file of line K is the
+    file K of the folder."""
+    for line, name in enumerate(sys.stdin.read().splitlines(), 1):
+        print(name)
+        with open(name, "rb") as file:
+            source = file.read()
+        try:
+            rewritten = rewrite(source)
+        except maqelsun.Error as refused:
+            print(refused)
+            continue
+        with open(f"{folder}/{line}", "wb") as out:
+            out.write(rewritten)
+        print(f"wrote {len(rewritten)} bytes")
+
+
 def resident_kib():
     """How many KiB this process holds in memory, those of mapped files among them."""
     with open("/proc/self/status", encoding="ascii") as status:
@@ -226,6 +243,11 @@ def main():
         "faults": lambda: each_file(fault_lines),
         "reasons": lambda: each_file(reason_lines),
         "facts": lambda: each_file(fact_lines),
+        "front": lambda folder: rewrite_files(folder, maqelsun.move_to_front),
+        "gather": lambda folder: rewrite_files(folder, maqelsun.gather),
+        "choose": lambda folder, *ids: rewrite_files(
+            folder, lambda file: maqelsun.choose(file, list(map(int, ids)))
+        ),
         "write": write_movie,
         "large": list_large,
         "threads": list_by_threads,

@@ -264,6 +264,32 @@ fn write_movie(name: &str) -> Outcome<()> {
     Ok(fs::write(name, writer.finish()?)?)
 }
 
+/// Rewrites each file that a line of standard input names: what comes of the file of line K is the
+/// file K of the folder.
+fn rewrite_files(
+    folder: &str,
+    rewrite: impl Fn(&[u8]) -> maqelsun::Result<Vec<u8>>,
+) -> Outcome<()> {
+    for (line, name) in (1..).zip(io::stdin().lines()) {
+        let name = name?;
+        println!("{name}");
+        match rewrite(&fs::read(&name)?) {
+            Ok(file) => {
+                fs::write(format!("{folder}/{line}"), &file)?;
+                println!("wrote {} bytes", file.len());
+            }
+            Err(refused) => println!("{refused}"),
+        }
+    }
+    Ok(())
+}
+
+/// Chooses the tracks of these ids of each file likewise.
+fn choose_tracks(folder: &str, ids: &[&str]) -> Outcome<()> {
+    let ids = ids.iter().map(|id| Ok(id.parse()?)).collect::<Outcome<Vec<u32>>>()?;
+    rewrite_files(folder, |file| maqelsun::choose(file, &ids))
+}
+
 /// How many KiB this process holds in memory, those of mapped files among them.
 fn resident_kib() -> Outcome<i64> {
     let status = fs::read_to_string("/proc/self/status")?;
@@ -360,10 +386,17 @@ fn run() -> Outcome<()> {
         ["faults"] => each_file(fault_line),
         ["reasons"] => each_file(reason_line),
         ["facts"] => each_file(facts),
+        ["front", folder] => rewrite_files(folder, maqelsun::move_to_front),
+        ["gather", folder] => rewrite_files(folder, maqelsun::gather),
+        ["choose", folder, ref ids @ ..] => choose_tracks(folder, ids),
         ["write", out] => write_movie(out),
         ["large", file] => list_large(file),
         ["threads", file] => list_by_threads(file),
-        _ => Err("list | faults | reasons | facts | write OUT | large FILE | threads FILE".into()),
+        _ => {
+            let rewriting = "front FOLDER | gather FOLDER | choose FOLDER ID..";
+            let others = "write OUT | large FILE | threads FILE";
+            Err(format!("list | faults | reasons | facts | {rewriting} | {others}").into())
+        }
     }
 }
 

@@ -27,8 +27,8 @@ pub enum Limit {
     Value,
 }
 
-/// Why a call is refused. Its text, as [`Display`](fmt::Display) gives it, is that of the program
-/// `mp4_tool`.
+/// Why a call is refused. Its text, as [`Display`](fmt::Display) gives it, is that of the programs
+/// `mp4_tool` and `mp4_remux`.
 ///
 /// Numbers of samples and of entries count from 1, but for an entry of `avcC`, which counts from 0.
 #[derive(Clone, Copy, Debug, PartialEq, Eq, Hash)]
@@ -68,6 +68,26 @@ pub enum Error {
     TooLarge(Limit),
     /// A value has no encoding in its field.
     Unrepresentable,
+    /// There are two boxes of a type of which a movie has one.
+    Twice(FourCC),
+    /// A box of this type, which begins at this byte, says places of the file that would be wrong.
+    SaysPlaces(FourCC, u64),
+    /// The track of this id has more samples than are compared: with those of the tracks before it,
+    /// more than the file has bytes.
+    TooManySamples(u32),
+    /// The tracks would be others.
+    OtherTracks,
+    /// This sample of the track of this id wouldn't be read as before: a table or a fragment says
+    /// its place in a way that isn't rewritten.
+    Differs(u32, u32),
+    /// A box of this type, in the box that begins at this byte, says something of each sample that
+    /// the tables which are made of fragments don't say.
+    SaysOfSamples(FourCC, u64),
+    /// This sample of the track of this id doesn't begin when the one before it ends, or the first
+    /// at 0, and tables can't say so.
+    StartsElsewhere(u32, u32),
+    /// Two tracks have one id.
+    SameIds,
     /// A file couldn't be read or written. No call of the library answers it.
     IoError(io::ErrorKind),
     /// The library answered with a code that this crate doesn't know: it is newer.
@@ -172,6 +192,14 @@ impl Error {
             14 => Error::ZeroTimescale,
             15 => limit_of(answer.limit).map_or(Error::Unknown(15), Error::TooLarge),
             16 => Error::Unrepresentable,
+            20 => Error::Twice(kind),
+            21 => Error::SaysPlaces(kind, answer.index),
+            22 => Error::TooManySamples(track),
+            23 => Error::OtherTracks,
+            24 => Error::Differs(track, number),
+            25 => Error::SaysOfSamples(kind, answer.index),
+            26 => Error::StartsElsewhere(track, number),
+            27 => Error::SameIds,
             code => Error::Unknown(code),
         }
     }
@@ -279,6 +307,33 @@ impl fmt::Display for Error {
             Error::ZeroTimescale => f.write_str("timescale is zero"),
             Error::TooLarge(limit) => write!(f, "too large: {limit}"),
             Error::Unrepresentable => f.write_str("unrepresentable"),
+            Error::Twice(kind) => write!(f, "two boxes {kind}"),
+            Error::SaysPlaces(kind, place) => {
+                write!(
+                    f,
+                    "a box {kind} at byte {place} says places of the file, which would be wrong"
+                )
+            }
+            Error::TooManySamples(id) => {
+                write!(f, "track {id} has more samples than the file has bytes")
+            }
+            Error::OtherTracks => f.write_str("the tracks would be others"),
+            Error::Differs(id, number) => {
+                write!(f, "sample {number} of track {id} would not be read as before")
+            }
+            Error::SaysOfSamples(kind, place) => {
+                write!(
+                    f,
+                    "a box {kind} in the box at byte {place} says of samples what tables do not"
+                )
+            }
+            Error::StartsElsewhere(id, number) => {
+                write!(
+                    f,
+                    "sample {number} of track {id} does not begin when the one before it ends"
+                )
+            }
+            Error::SameIds => f.write_str("two tracks have the same id"),
             Error::IoError(kind) => write!(f, "{kind}"),
             Error::Unknown(code) => write!(f, "an answer of another version, code {code}"),
         }
@@ -293,7 +348,7 @@ mod tests {
 
     /// What the library says of an answer.
     fn text_of(answer: &Answer) -> String {
-        let mut text = vec![0; 80];
+        let mut text = vec![0; 90];
         let length = ffi::error_text(answer, &mut text).filled;
         text.truncate(length as usize);
         String::from_utf8(text).expect("it is ASCII")
@@ -301,13 +356,14 @@ mod tests {
 
     #[test]
     fn each_error_has_the_text_of_the_library() {
-        for code in 1..=16 {
+        for code in (1..=16).chain(20..=27) {
             for limit in 1..=6 {
                 let answer = Answer {
                     code,
                     limit,
                     track_id: 7,
                     number: 9,
+                    index: u64::MAX,
                     box_type: *b"stco",
                     second_box_type: *b"\xa9nam",
                     ..Answer::default()

@@ -65,6 +65,16 @@ extern "C" {
         out: *mut u8,
         room: usize,
     ) -> Answer;
+    fn mp4_c_move_to_front(file: *const u8, size: usize, out: *mut u8, room: usize) -> Answer;
+    fn mp4_c_gather(file: *const u8, size: usize, out: *mut u8, room: usize) -> Answer;
+    fn mp4_c_choose(
+        file: *const u8,
+        size: usize,
+        track_ids: *const u32,
+        track_count: usize,
+        out: *mut u8,
+        room: usize,
+    ) -> Answer;
     fn mp4_c_open_error_text(file: *const u8, size: usize, bytes: *mut u8, room: usize) -> Answer;
     #[cfg(test)]
     fn mp4_c_error_text(answer: *const Answer, bytes: *mut u8, room: usize) -> Answer;
@@ -140,6 +150,26 @@ pub(crate) fn write(parts: Parts, out: &mut [u8]) -> Answer {
             out.len(),
         )
     }
+}
+
+/// A file with its movie box before its data, if all of it fits.
+pub(crate) fn move_to_front(file: &[u8], out: &mut [u8]) -> Answer {
+    // SAFETY: both slices are what the library asks for.
+    unsafe { mp4_c_move_to_front(file.as_ptr(), file.len(), out.as_mut_ptr(), out.len()) }
+}
+
+/// A file with its samples in its tables, if all of it fits.
+pub(crate) fn gather(file: &[u8], out: &mut [u8]) -> Answer {
+    // SAFETY: both slices are what the library asks for.
+    unsafe { mp4_c_gather(file.as_ptr(), file.len(), out.as_mut_ptr(), out.len()) }
+}
+
+/// A file of the tracks with these ids, if all of it fits.
+pub(crate) fn choose(file: &[u8], track_ids: &[u32], out: &mut [u8]) -> Answer {
+    let (ids, count) = (track_ids.as_ptr(), track_ids.len());
+    let (room, out) = (out.len(), out.as_mut_ptr());
+    // SAFETY: the slices are what the library asks for.
+    unsafe { mp4_c_choose(file.as_ptr(), file.len(), ids, count, out, room) }
 }
 
 /// Why a file doesn't open, in words.

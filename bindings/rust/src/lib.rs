@@ -2,7 +2,8 @@
 //!
 //! The work is done by the static library `libmp4_c.a`, each function of which is proved before it
 //! is compiled: what is written is read back, and no bytes of a file make it crash. This crate
-//! calls it: a [`Movie`] is opened from the bytes of a file, a [`Writer`] makes the bytes of one.
+//! calls it: a [`Movie`] is opened from the bytes of a file, a [`Writer`] makes the bytes of one,
+//! and [`move_to_front`], [`gather`] and [`choose`] rewrite them.
 //! What is trusted beside the proofs is in `bindings/README.md`; how to come from the crate `mp4`
 //! is in `MIGRATION.md`.
 //!
@@ -33,6 +34,7 @@ mod ffi;
 mod four_cc;
 mod layout;
 mod movie;
+mod remux;
 mod sample_list;
 mod samples;
 mod sound;
@@ -43,6 +45,7 @@ pub use config::{AacConfig, AvcConfig, MediaConfig, MovieConfig, PictureSize, Tr
 pub use error::{Error, FinishError, Limit, Part, Result};
 pub use four_cc::FourCC;
 pub use movie::{read_mp4, Metadata, Movie};
+pub use remux::{choose, gather, move_to_front};
 pub use sample_list::{SampleList, SampleListIter};
 pub use samples::{Sample, Samples};
 pub use sound::{AudioObjectType, ChannelConfig, SampleFreqIndex};

@@ -1,9 +1,9 @@
-//! Movies that are written and read.
+//! Movies that are written, read and rewritten.
 
 use maqelsun::{
-    read_mp4, AacConfig, AudioObjectType, AvcConfig, ChannelConfig, Error, FourCC, Limit,
-    MediaConfig, MediaType, Metadata, Movie, MovieConfig, Part, PictureSize, Sample, TrackConfig,
-    TrackType, Writer,
+    choose, gather, move_to_front, read_mp4, AacConfig, AudioObjectType, AvcConfig, ChannelConfig,
+    Error, FourCC, Limit, MediaConfig, MediaType, Metadata, Movie, MovieConfig, Part, PictureSize,
+    Sample, TrackConfig, TrackType, Writer,
 };
 use std::io::ErrorKind;
 use std::sync::Arc;
@@ -450,4 +450,81 @@ fn the_header_says_when_a_movie_was_made() {
     assert_eq!((movie.creation_time(), movie.modification_time()), (3_000_000_000, 7));
     assert_eq!(movie.header_version(), 0);
     assert_eq!(movie.track(1).unwrap().time_of(1500), Ok(Duration::from_millis(1500)));
+}
+
+/// Where a box of this type begins for the first time.
+fn place_of(file: &[u8], kind: &[u8; 4]) -> usize {
+    file.windows(4).position(|bytes| bytes == kind).unwrap() - 4
+}
+
+#[test]
+fn a_movie_box_that_moved_has_the_samples_that_it_had() {
+    let file = numbers(2000);
+    let moved = move_to_front(&file).unwrap();
+    assert!(place_of(&file, b"mdat") < place_of(&file, b"moov"));
+    assert!(place_of(&moved, b"moov") < place_of(&moved, b"mdat"));
+    let (before, after) = (Movie::open(&file).unwrap(), Movie::open(&moved).unwrap());
+    let texts = |movie: &Movie<_>| -> Vec<Vec<u8>> {
+        movie.samples(1).unwrap().map(|sample| sample.unwrap().bytes.to_vec()).collect()
+    };
+    assert_eq!(texts(&after), texts(&before));
+    assert_eq!(move_to_front(&moved), Ok(moved.clone()));
+}
+
+/// A movie of one text track, whose two samples are in a fragment (ISO/IEC 14496-12, 8.8).
+fn fragmented() -> Vec<u8> {
+    let words = |numbers: &[u32]| numbers.iter().flat_map(|n| n.to_be_bytes()).collect::<Vec<u8>>();
+    let added = boxed(b"mvex", &boxed(b"trex", &words(&[0, 1, 1, 0, 0, 0])));
+    let mut file = numbers(0);
+    let movie = place_of(&file, b"moov");
+    let size = u32::try_from(file.len() - movie + added.len()).unwrap();
+    file[movie..movie + 4].copy_from_slice(&size.to_be_bytes());
+    let head = boxed(b"mfhd", &words(&[0, 1]));
+    let track = boxed(b"tfhd", &words(&[0x2_0000, 1])); // places count from the moof
+    let run = boxed(b"trun", &words(&[0x301, 2, 92, 500, 3, 700, 4])); // durations and sizes
+    let moof = boxed(b"moof", &[head, boxed(b"traf", &[track, run].concat())].concat());
+    [file, added, moof, boxed(b"mdat", b"onetwo.")].concat()
+}
+
+#[test]
+fn fragments_are_gathered() {
+    let file = fragmented();
+    let film = gather(&file).unwrap();
+    for file in [&file, &film] {
+        let movie = Movie::open(file).unwrap();
+        let samples: Vec<_> = movie.samples(1).unwrap().map(Result::unwrap).collect();
+        assert_eq!(samples.iter().map(|one| one.bytes).collect::<Vec<_>>(), [&b"one"[..], b"two."]);
+        assert_eq!(samples[1].start_time, 500);
+    }
+    assert!(Movie::open(&file).unwrap().is_fragmented());
+    assert!(!Movie::open(&film).unwrap().is_fragmented());
+    assert_eq!(gather(&film), Ok(film));
+}
+
+#[test]
+fn tracks_are_chosen() {
+    let mut writer = Writer::new(&MovieConfig::default());
+    for text in ["one", "two", "three"] {
+        let id = writer.add_track(&TrackConfig::text()).unwrap();
+        writer.write_text(id, text, 1000).unwrap();
+    }
+    let file = writer.finish().unwrap();
+    let chosen = choose(&file, &[3, 1]).unwrap();
+    let movie = Movie::open(&chosen).unwrap();
+    assert_eq!(movie.tracks().iter().map(|track| track.id()).collect::<Vec<_>>(), [1, 3]);
+    assert_eq!(movie.read_sample(3, 1).unwrap().unwrap().bytes, b"\0\x05three");
+    assert_eq!(choose(&file, &[1, 4]), Err(Error::TrakNotFound(4)));
+}
+
+#[test]
+fn a_refused_move_says_why() {
+    let file = numbers(3);
+    let ftyp = FourCC::from(*b"ftyp");
+    let twice = [&file[..], &file[..place_of(&file, b"mdat")]].concat();
+    assert_eq!(move_to_front(&twice), Err(Error::Twice(ftyp)));
+    let index = [&file[..], &boxed(b"sidx", &[0; 24])].concat();
+    let sidx = FourCC::from(*b"sidx");
+    assert_eq!(move_to_front(&index), Err(Error::SaysPlaces(sidx, file.len() as u64)));
+    let larger = Error::InvalidData("a box is larger than the file");
+    assert_eq!(move_to_front(b"\0\0\x01\0free"), Err(larger));
 }

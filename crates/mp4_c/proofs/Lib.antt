@@ -3,3 +3,4 @@ pub mod SampleRows
 pub mod TrackRows
 pub mod Writing
 pub mod Refusals
+pub mod Remuxing

@@ -9,7 +9,11 @@ use Rattle.mp4_codec.specs.Bytes.{coded}
 use Rattle.mp4_codec.specs.Cause.{Cause, end_of_data, out_of_memory, invalid_data, box_not_found, box2_not_found}
 use Rattle.mp4_codec.specs.Cause.{trak_not_found, box_in_trak_not_found, box_in_traf_not_found, box_in_stbl_not_found}
 use Rattle.mp4_codec.specs.Cause.{entry_in_stbl_not_found, entry_in_trun_not_found, unsupported_version, ended}
-use Rattle.mp4_codec.specs.Cause.{zero_timescale, too_large, unrepresentable}
+use Rattle.mp4_codec.specs.Cause.{zero_timescale, too_large, unrepresentable, cause_of}
+use Rattle.mp4_remux.specs.declared.error.RemuxError.{RemuxError}
+use Rattle.mp4_remux.specs.declared.error.RemuxError.TheVariants.{Mp4, Read, Write, Twice, SaysPlaces}
+use Rattle.mp4_remux.specs.declared.error.RemuxError.TheVariants.{TooManySamples, OtherTracks, Differs}
+use Rattle.mp4_remux.specs.declared.error.RemuxError.TheVariants.{SaysOfSamples, StartsElsewhere, SameIds}
 use Rattle.mp4_c.specs.declared.answer.Answer.{Answer}
 
 -- an answer with this code that names nothing
@@ -50,6 +54,14 @@ abbrev pub of_box : (code track_id : ℕ) → BoxType → ℕ → Answer
 of_box code track_id t number =
     record (plain code) { track_id = track_id; number = number; box_type = code_bytes t }
 
+-- a refusal that names a box, and the byte at which it or the box around it begins
+abbrev pub of_place : ℕ → BoxType → ℕ → Answer
+of_place code t place = record (plain code) { index = place; box_type = code_bytes t }
+
+-- a refusal that names a sample
+abbrev pub of_sample : (code track_id k : ℕ) → Answer
+of_sample code track_id k = record (plain code) { track_id = track_id; number = k }
+
 -- the answer of a call that is refused for a cause: the number of the cause, and what it names
 abbrev pub refused : Cause → Answer
 refused end_of_data = plain 1
@@ -68,3 +80,17 @@ refused ended = plain 13
 refused zero_timescale = plain 14
 refused (too_large l) = record (plain 15) { limit = limit_number l }
 refused unrepresentable = plain 16
+
+-- the answer of a call that doesn't rewrite a movie which is in memory: there neither a source nor a sink refuses
+abbrev pub not_remuxed : RemuxError → Answer
+not_remuxed (Mp4 e) = refused (cause_of e)
+not_remuxed (Read e) = refused out_of_memory
+not_remuxed (Write e) = refused out_of_memory
+not_remuxed (Twice t) = of_box 20 0 t 0
+not_remuxed (SaysPlaces t place) = of_place 21 t place
+not_remuxed (TooManySamples id) = record (plain 22) { track_id = id }
+not_remuxed OtherTracks = plain 23
+not_remuxed (Differs id k) = of_sample 24 id k
+not_remuxed (SaysOfSamples t place) = of_place 25 t place
+not_remuxed (StartsElsewhere id k) = of_sample 26 id k
+not_remuxed SameIds = plain 27

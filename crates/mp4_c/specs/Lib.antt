@@ -14,4 +14,5 @@ pub mod TrackConfigs
 pub mod Written
 pub mod Refusals
 pub mod WrittenReply
+pub mod RemuxedReply
 pub mod ErrorText

@@ -2,9 +2,11 @@
 
 ghost use Rattle.std.specs.Prelude.{◌≡◌};
 ghost use Rattle.mp4_codec.specs.Cause.{cause_of, trak_not_found};
-ghost use Rattle.mp4_c.specs.Answers.{code_bytes, done, limit_number, of_box, plain, refused};
+ghost use Rattle.mp4_c.specs.Answers.{code_bytes, done, limit_number, not_remuxed, of_box, of_place};
+ghost use Rattle.mp4_c.specs.Answers.{of_sample, plain, refused};
 
 use mp4_media::{BoxType, Error, FourCC, Limit};
+use mp4_remux::RemuxError;
 
 /// The code where a file has no such metadata.
 pub const NOT_PRESENT: u32 = 17;
@@ -23,7 +25,8 @@ pub struct Answer {
     pub count: u64,
     /// How many were filled in.
     pub filled: u64,
-    /// Which track or sample a writing was refused at, counted from 0.
+    /// Which track or sample a writing was refused at, counted from 0; or the byte at which a box begins that a movie
+    /// isn't rewritten for.
     pub index: u64,
     /// 0, or the number of a refusal.
     pub code: u32,
@@ -33,7 +36,7 @@ pub struct Answer {
     pub limit: u32,
     /// The track that a refusal names.
     pub track_id: u32,
-    /// The entry, or the version, that a refusal names.
+    /// The entry, the version or the sample that a refusal names.
     pub number: u32,
     /// The box that a refusal names.
     pub box_type: [u8; 4],
@@ -142,6 +145,28 @@ impl Answer {
         }
     }
 
+    /// A refusal that names a box, and the byte at which it or the box around it begins.
+    fn of_place(code: u32, box_type: BoxType, place: u64) -> Answer
+        ensures { result ≡ of_place code box_type place }
+    {
+        Answer {
+            index: place,
+            box_type: code_bytes(box_type),
+            ..Answer::plain(code)
+        }
+    }
+
+    /// A refusal that names a sample.
+    fn of_sample(code: u32, track_id: u32, number: u32) -> Answer
+        ensures { result ≡ of_sample code track_id number }
+    {
+        Answer {
+            track_id,
+            number,
+            ..Answer::plain(code)
+        }
+    }
+
     /// A refusal: the number of an error, and what it names.
     pub fn refused(error: &Error) -> Answer
         ensures { result ≡ refused (cause_of error.now) }
@@ -163,6 +188,25 @@ impl Answer {
             Error::ZeroTimescale => Answer::plain(14),
             Error::TooLarge(limit) => Answer::of_limit(15, *limit),
             Error::Unrepresentable(_) => Answer::plain(16),
+        }
+    }
+
+    /// A refusal to rewrite a movie that is in memory, as what is written of it is: there neither a source nor a sink
+    /// refuses.
+    pub fn not_remuxed(error: &RemuxError) -> Answer
+        ensures { result ≡ not_remuxed error.now }
+    {
+        match error {
+            RemuxError::Mp4(error) => Answer::refused(error),
+            RemuxError::Read(_) | RemuxError::Write(_) => Answer::refused(&Error::OutOfMemory),
+            RemuxError::Twice(t) => Answer::of_box(20, 0, *t, 0),
+            RemuxError::SaysPlaces(t, place) => Answer::of_place(21, *t, *place),
+            RemuxError::TooManySamples(id) => Answer::of_track(22, *id),
+            RemuxError::OtherTracks => Answer::plain(23),
+            RemuxError::Differs(id, k) => Answer::of_sample(24, *id, *k),
+            RemuxError::SaysOfSamples(t, place) => Answer::of_place(25, *t, *place),
+            RemuxError::StartsElsewhere(id, k) => Answer::of_sample(26, *id, *k),
+            RemuxError::SameIds => Answer::plain(27),
         }
     }
 

@@ -6,6 +6,7 @@ use crate::answer::{Answer, NOT_PRESENT, NULL_POINTER, UNKNOWN_CHOICE};
 use crate::copied::copy_to_front;
 use crate::opened_file::opened;
 use mp4_media::{BoxType, Error, Limit};
+use mp4_remux::RemuxError;
 use std::alloc::{AllocError, Global};
 
 /// The limit of a number.
@@ -67,6 +68,23 @@ fn error_of(answer: &Answer) -> Option<Error> {
     }
 }
 
+/// Why a movie isn't rewritten, by an answer; None for another answer.
+fn remux_error_of(answer: &Answer) -> Option<RemuxError> {
+    let id = answer.track_id;
+    let name = box_type_of(answer.box_type);
+    match answer.code {
+        20 => Some(RemuxError::Twice(name)),
+        21 => Some(RemuxError::SaysPlaces(name, answer.index)),
+        22 => Some(RemuxError::TooManySamples(id)),
+        23 => Some(RemuxError::OtherTracks),
+        24 => Some(RemuxError::Differs(id, answer.number)),
+        25 => Some(RemuxError::SaysOfSamples(name, answer.index)),
+        26 => Some(RemuxError::StartsElsewhere(id, answer.number)),
+        27 => Some(RemuxError::SameIds),
+        _ => None,
+    }
+}
+
 /// The words of an answer without an error.
 fn plain_words(code: u32) -> &'static str {
     match code {
@@ -81,6 +99,20 @@ fn plain_words(code: u32) -> &'static str {
 /// The words of an error.
 fn words_of(alloc: Global, error: &Error) -> std::result::Result<String, AllocError> {
     format!(in alloc; "{error}")
+}
+
+/// The words of an answer; None for one without an error.
+fn words_of_answer(
+    alloc: Global,
+    answer: &Answer,
+) -> Option<std::result::Result<String, AllocError>> {
+    if let Some(error) = error_of(answer) {
+        return Some(words_of(alloc, &error));
+    }
+    match remux_error_of(answer) {
+        Some(error) => Some(format!(in alloc; "{error}")),
+        None => None,
+    }
 }
 
 /// Hands out the words of an error.
@@ -110,6 +142,7 @@ pub extern "C" fn mp4_c_open_error_text(alloc: Global, file: &[u8], room: &mut [
 {
     match opened(alloc, file) {
         Ok(_) => copy_to_front(plain_words(0).as_bytes(), room),
+        Err(Error::OutOfMemory) => Answer::refused(&Error::OutOfMemory),
         Err(error) => copy_words(reason_of(alloc, &error), room),
     }
 }
@@ -120,8 +153,8 @@ pub extern "C" fn mp4_c_open_error_text(alloc: Global, file: &[u8], room: &mut [
 pub extern "C" fn mp4_c_error_text(alloc: Global, answer: &Answer, room: &mut [u8]) -> Answer
     ensures { GaveWords room.old room.new result }
 {
-    match error_of(answer) {
-        Some(error) => copy_words(words_of(alloc, &error), room),
+    match words_of_answer(alloc, answer) {
+        Some(words) => copy_words(words, room),
         None => copy_to_front(plain_words(answer.code).as_bytes(), room),
     }
 }

@@ -9,6 +9,7 @@ mod chunk_offsets;
 mod copy;
 mod data;
 mod descriptions;
+mod edits;
 mod error;
 mod fragment_boxes;
 mod frame;
