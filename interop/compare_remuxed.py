@@ -69,14 +69,15 @@ class Trial:
     def made(self, name, path):
         """The file that the program makes of another; None where it refuses to."""
         self.out.unlink(missing_ok=True)
-        status, said, error, took = ran([self.program, "faststart", path, self.out], LONGEST)
+        status, said, error, took = ran([self.program, "faststart", path, self.out, "--check"], LONGEST)
+        begin = f"mp4_remux: {path}: ".encode()
         self.slowest = max(self.slowest, took)
         found = []
         if status not in (0, 1):
             found.append(f"status {status}")
         if took > MOST_TIME:
             found.append(f"it takes {took:.1f} seconds")
-        if status == 1 and (said or error.count(b"\n") != 1 or not error.startswith(b"mp4_remux: ")):
+        if status == 1 and (said or error.count(b"\n") != 1 or not error.startswith(begin)):
             found.append(f"it says {said!r} and {error!r}")
         if self.out.exists() != (status == 0):
             found.append(f"status {status}, but a file is {'' if self.out.exists() else 'not '}there")
@@ -88,7 +89,7 @@ class Trial:
         if status == 0 and said != f"wrote {len(written or b'')} bytes\n".encode():
             found.append(f"it says {said!r} of {len(written or b'')} bytes")
         self.note(name, found)
-        return written, error.decode("utf-8", "replace").strip().removeprefix("mp4_remux: ")
+        return written, error.removeprefix(begin).decode("utf-8", "replace").strip()
 
     def bytes_and_samples(self, name, data, written):
         self.note(name, differences(data, written))

@@ -50,6 +50,7 @@ fn new_file_beside<R: Files>(
     for number in 0..TRIES {
         let aside = name_aside(alloc, program, name, number).map_err(no_memory)?;
         match OpenOptions::new()
+            .read(true)
             .write(true)
             .create_new(true)
             .open(rt, aside.as_str())
@@ -85,8 +86,8 @@ fn check_old<F: OpenFile>(old: Option<&Metadata>, file: &F) -> io::Result<()> {
 }
 
 impl<'a, R: Files> NewFile<'a, R> {
-    /// A file of this name, and what its bytes are to be written to. Until it is whole it has a name in the same folder
-    /// that begins with a point and the name of the program.
+    /// A file of this name, and what its bytes are to be written to, and can be read of again where it is a regular
+    /// file. Until it is whole it has a name in the same folder that begins with a point and the name of the program.
     ///
     /// It is an error where no file can be made in its folder, or where what has the name must not be written.
     pub fn create(

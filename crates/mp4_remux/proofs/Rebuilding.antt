@@ -1,18 +1,54 @@
 -- What is written of a movie whose tracks are chosen, or whose fragments are gathered.
 use Rattle.std.proofs.Common.{◌≡◌, ◌∙◌, ℕ, List, [], ◌++◌, length, take, drop, Option, None, Some, Result, Ok, Err, IfSome}
-use Rattle.std.proofs.Common.{OnOk, refl, sym, ap, subst}
+use Rattle.std.proofs.Common.{OnOk, refl, sym, ap, subst, arith, ◌∷◌, ◌-◌, append_assoc}
 use Rattle.mp4_codec.specs.Cursor.{here}
 use Rattle.mp4_source.specs.Sink.{IsAppended}
 use Rattle.mp4_media.specs.FileBoxes.{OpenedFile}
 use Rattle.mp4_media.specs.FileGrammar.{IsFile, between}
 use Rattle.mp4_remux.specs.declared.error.RemuxError.{RemuxError}
 use Rattle.mp4_remux.specs.declared.layout.Layout.{Layout}
+use Rattle.mp4_remux.specs.declared.piece.Piece.{Piece}
 use Rattle.mp4_remux.specs.declared.top_level.TopBox.{TopBox}
 use Rattle.mp4_remux.specs.Gathered.{IsFrameOf, BeginsWith, WritesRebuilt, WritesGathered, WritesChosen}
 use Rattle.mp4_remux.specs.Gathered.{as_it_is, gathered}
 use Rattle.mp4_remux.specs.Kept.{IsKept, of_tables, tracks}
 use Rattle.mp4_remux.specs.Remuxed.{IsRemuxed, WritesRemuxed, ids_of, kept_of}
 use Rattle.mp4_remux.specs.Splice.{spliced}
+
+-- a piece was added to what was more
+pub then_more : (first before after : List Piece) (bytes : List ℕ → List ℕ → List ℕ)
+    → ((source made : List ℕ) → (more : List ℕ) × (spliced source made before ≡ spliced source made first ++ more))
+    → ((source made : List ℕ) → spliced source made after ≡ spliced source made before ++ bytes source made)
+    → (source made : List ℕ) → (more : List ℕ) × (spliced source made after ≡ spliced source made first ++ more)
+then_more first before after bytes upto then source made =
+    let m = upto source made in (
+      m.0 ++ bytes source made,
+      then source made ∙ ap (λ (xs : List ℕ). xs ++ bytes source made) m.1
+          ∙ append_assoc (spliced source made first) m.0 (bytes source made),
+    )
+
+-- the first of two lists
+front_of : (xs ys : List ℕ) → take (length xs) (xs ++ ys) ≡ xs
+front_of [] ys = refl
+front_of (x ∷ xs) ys = ap (λ (zs : List ℕ). x ∷ zs) (front_of xs ys)
+
+-- a layout of such pieces begins with a movie box that is as it was
+pub begins_with : (file_type : TopBox) (movie_bytes made header movie : List ℕ) (pieces : List Piece) (len : ℕ)
+    → made ≡ movie ++ header → length movie ≡ len → IsKept of_tables tracks movie_bytes movie
+    → ((source made : List ℕ) → (rest : List ℕ) × (spliced source made pieces
+    ≡ between source file_type.place file_type.end ++ (between made 0 len ++ rest)))
+    → BeginsWith file_type movie_bytes made pieces
+begins_with file_type movie_bytes made header movie pieces len is long kept all =
+    record {
+      movie = movie;
+      kept = kept;
+      bytes = λ source.
+          let a = all source made in
+          let first : take (len - 0) made ≡ movie =
+          ap (λ n. take n made) (omega (arith, long)) ∙ ap (λ (xs : List ℕ). take (length movie) xs) is
+          ∙ front_of movie header in
+          (a.0, a.1 ∙ ap (λ (m : List ℕ). between source file_type.place file_type.end ++ (m ++ a.0)) first);
+    }
 
 -- a layout that begins with the file type and the movie box is written
 pub writes_rebuilt : (known had has : Option (List ℕ)) (r : Result (Unit {0}) RemuxError) (l : Layout)

@@ -57,12 +57,14 @@ writes_remuxed (Some xs) known_after had has l before after len kept measured op
     opens_after in
     let appended = subst (λ (k : Option (List ℕ)). IfSome k (λ zs. IsAppended had has zs)) is written in (
       appended,
-      opened_movie after,
-      record {
-        opens = opens;
-        opens_after = subst (λ n. IsFile n (here ys 0) (opened_movie after)) long file;
-        ids = ids;
-        unfragmented = none;
-        tracks = λ t i there. tracks t i there xs (sym measured);
-      },
+      (
+        opened_movie after,
+        record {
+          opens = opens;
+          opens_after = subst (λ n. IsFile n (here ys 0) (opened_movie after)) long file;
+          ids = ids;
+          unfragmented = none;
+          tracks = λ t i there. tracks t i there xs (sym measured);
+        },
+      ),
     )

@@ -1,6 +1,6 @@
 -- A sample that is at one place of a file and at another of its splice is read as before.
 use Rattle.std.proofs.Common.{◌≡◌, ◌∙◌, ℕ, zero, suc, ◌+◌, ◌≤◌, ◌<◌, List, [], ◌∷◌, length, map, take, drop}
-use Rattle.std.proofs.Common.{Option, None, Some, Ok}
+use Rattle.std.proofs.Common.{Option, None, Some, Ok, inl, inr}
 use Rattle.std.proofs.Common.{ℤ, Bool, nat_lt, true, false, option_map, refl, sym, ap, subst, arith}
 use Rattle.std.proofs.lemmas.Bool.{le-ltb, ltb-true, ltb-false}
 use Rattle.std.specs.Prelude.{slice_get, slice_index_or}
@@ -172,6 +172,16 @@ module _ (source_len : ℕ) (made : List ℕ) (pieces : List Piece) (b a : Movie
       track_as_before count n upto past was is = λ source long. record {
         count = count;
         same = λ k some le. upto k some le source long;
-        none = past source long;
+        none = inr (past source long);
+        counted = counted_there a are id ∙ is ∙ sym was ∙ sym (counted_there b were id);
+      }
+
+      -- a track that says that it has no samples
+      pub empty_track : sample_count_in b.tracks id ≡ Ok 0 → sample_count_in a.tracks id ≡ Ok 0
+          → IsTrackAsBefore source_len made pieces (opened_movie b) (opened_movie a) id
+      empty_track was is = λ source long. record {
+        count = 0;
+        same = λ k some le. absurd (omega (arith, some, le));
+        none = inl (refl, counted_there b were id ∙ was);
         counted = counted_there a are id ∙ is ∙ sym was ∙ sym (counted_there b were id);
       }

@@ -1,5 +1,7 @@
 -- All boxes of a file, one after the other.
-use Rattle.std.proofs.Common.{◌≡◌, ◌+◌, ◌<◌, ◌++◌, ◌∷◌, [], ℕ, List, length, Option, None, Some, IfSome, arith, subst, sym}
+use Rattle.std.proofs.Common.{◌≡◌, ◌+◌, ◌<◌, ◌++◌, ◌∷◌, [], ℕ, List, length, Option, None, Some, IfSome, arith, subst, sym, refl}
+use Rattle.std.proofs.Common.{◌≤◌, Bool, true, false, IsTrue, nat_lt}
+use Rattle.std.proofs.lemmas.Bool.{ltb-true, ltb-false}
 use Rattle.std.proofs.Common.{append_assoc}
 use Rattle.std.proofs.lemmas.List.{append-nil}
 use Rattle.mp4_source.specs.Answers.{IsLength}
@@ -16,6 +18,14 @@ one_more None boxes b place all there top = tt
 one_more (Some xs) boxes b place all there top = λ bs after.
     subst (λ (list : List TopBox). AreBoxes xs 0 list) (sym (append_assoc boxes (b ∷ []) bs))
     (all (b ∷ bs) (there, (top, after)))
+
+-- what isn't within is past the end
+pub past_end : (n len : ℕ) (fits : Bool) → fits ≡ false → (n ≤ len → IsTrue fits) → len < n
+past_end n len fits isnt within = by (nat_lt len n) refl
+  where
+    by : (b : Bool) → nat_lt len n ≡ b → len < n
+    by true is = ltb-true len n is
+    by false is = let t : IsTrue false = subst IsTrue isnt (within (ltb-false len n is)) in absurd cc
 
 -- where no header has room any more, all boxes are there
 pub all_boxes : (known : Option (List ℕ)) (len place : ℕ) (boxes : List TopBox) → IsLength known len → len < place + 8

@@ -4,7 +4,7 @@ use Rattle.std.specs.List.{list_any}
 use Rattle.mp4_codec.specs.BoxType.{code_of}
 use Rattle.mp4_codec.specs.declared.box_type.BoxType.{BoxType}
 use Rattle.mp4_codec.specs.declared.box_type.BoxType.TheVariants.{MoovBox, TrakBox, MdiaBox, MinfBox, StblBox}
-use Rattle.mp4_codec.specs.declared.box_type.BoxType.TheVariants.{MvhdBox, TkhdBox, MdhdBox, MvexBox}
+use Rattle.mp4_codec.specs.declared.box_type.BoxType.TheVariants.{EdtsBox, MvhdBox, TkhdBox, MdhdBox, MvexBox}
 use Rattle.mp4_codec.specs.declared.box_type.BoxType.TheVariants.{SttsBox, CttsBox, StssBox, StscBox, StszBox}
 use Rattle.mp4_codec.specs.declared.box_type.BoxType.TheVariants.{StcoBox, Co64Box}
 use Rattle.mp4_codec.specs.Cursor.{here, header_at}
@@ -52,9 +52,10 @@ offsets = code_of StcoBox ∷ code_of Co64Box ∷ []
 abbrev pub of_tracks : List ℕ
 of_tracks = code_of MvhdBox ∷ 0x74726566 ∷ offsets
 
--- all tables of samples ('stz2' too, 8.7.3.3), all headers with durations, references, and what is said of fragments
+-- edit lists, all tables of samples ('stz2' too, 8.7.3.3), all headers with durations, references, and what is said of
+-- fragments
 abbrev pub of_tables : List ℕ
-of_tables = code_of MvexBox ∷ code_of TkhdBox ∷ code_of MdhdBox ∷ code_of SttsBox ∷ code_of CttsBox
+of_tables = code_of EdtsBox ∷ code_of MvexBox ∷ code_of TkhdBox ∷ code_of MdhdBox ∷ code_of SttsBox ∷ code_of CttsBox
     ∷ code_of StssBox ∷ code_of StscBox ∷ code_of StszBox ∷ 0x73747a32 ∷ of_tracks
 
 -- tracks

@@ -1,5 +1,5 @@
 -- A movie rewritten: every sample of every track is read as before.
-use Rattle.std.specs.Prelude.{◌≡◌, ◌+◌, ◌≤◌, ◌==◌, ℕ, Bool, true, false, if◌then◌else◌, Option, Some, None}
+use Rattle.std.specs.Prelude.{◌≡◌, ◌+◌, ◌≤◌, ◌==◌, ℕ, Bool, true, false, if◌then◌else◌, ◌⊎◌, Option, Some, None}
 use Rattle.std.specs.Prelude.{List, [], ◌∷◌, length, map, slice_get}
 use Rattle.std.specs.List.{list_any}
 use Rattle.std.specs.Prelude.{Result, Ok}
@@ -39,11 +39,11 @@ IsSameNumber before after opened rewritten id k false =
     (read_of before opened id k ≡ Ok None) × (read_of after rewritten id k ≡ Ok None)
 
 -- The track with this id is read from one file as from the other: the same samples at the numbers from 1 on, with their
--- bytes, times and marks, and then none; and both have equally many.
+-- bytes, times and marks, and then none, or there are none as the track says; and both have equally many.
 pub record IsSameTrack (before after : List ℕ) (opened rewritten : OpenedFile) (id : ℕ) : Type 0 where
   pub count : ℕ
   pub same : (k : ℕ) → 1 ≤ k → k ≤ count → IsSameNumber before after opened rewritten id k true
-  pub none : IsSameNumber before after opened rewritten id (count + 1) false
+  pub none : ((count ≡ 0) × (count_of opened id ≡ Ok 0)) ⊎ IsSameNumber before after opened rewritten id (count + 1) false
   pub counted : count_of rewritten id ≡ count_of opened id
 
 -- of a list those that are among others, in its order

@@ -13,8 +13,12 @@ pub(crate) fn all_ids(alloc: Global, movie: &Movie) -> Result<Vec<u32>, RemuxErr
     ensures ids { IfOk result (λ ids. ids.items ≡ ids_of movie.now.moov) }
     ensures refused { IfErr result (IsRefusalOf ⊥ ⊥) }
 {
-    let traks = movie.moov.traks.iter();
-    Ok(traks.map(|trak| trak.tkhd.track_id).collect(alloc)?)
+    let traks = movie.moov.traks.as_slice();
+    let mut all = Vec::with_capacity(alloc, traks.len())?;
+    for i in 0..traks.len() {
+        all.push(traks[i].tkhd.track_id)?;
+    }
+    Ok(all)
 }
 
 /// Those of the ids that are among these, in their order.
@@ -24,9 +28,11 @@ fn kept_of(alloc: Global, all: &[u32], ids: &[u32]) -> Result<Vec<u32>, RemuxErr
 {
     let mut kept = Vec::new(alloc);
     for i in 0..all.len() {
-        if ids.contains(&all[i]) {
-            kept.push(all[i])?;
+        let id = all[i];
+        if !ids.contains(&id) {
+            continue;
         }
+        kept.push(id)?;
     }
     Ok(kept)
 }

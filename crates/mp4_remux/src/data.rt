@@ -5,6 +5,7 @@ ghost use Rattle.mp4_remux.specs.Errors.{IsRefusalOf};
 
 use crate::error::RemuxError;
 use crate::moves::Move;
+use crate::same::place_of_any;
 use mp4_codec::Error;
 use mp4_media::{Movie, SamplePlace};
 use std::alloc::Global;
@@ -61,7 +62,7 @@ fn push_track(
 {
     let mut k = 0;
     while k <= most {
-        let Some(sample) = movie.place(track_id, k + 1)? else {
+        let Some(sample) = place_of_any(movie, track_id, k + 1)? else {
             return Ok(k);
         };
         let extent = extent_of(&sample)?;

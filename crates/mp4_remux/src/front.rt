@@ -18,7 +18,6 @@ use crate::moves::{Move, Moves};
 use crate::movie_box::{MovieEdit, edited};
 use crate::piece::{Origin, Piece};
 use crate::piece_list::push_piece;
-
 use crate::places::check_top_level;
 use crate::rewrite::{open_source, write_layout};
 use crate::top_level::{TopBox, top_boxes};

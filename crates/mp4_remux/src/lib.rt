@@ -1,12 +1,15 @@
-//! Movies rewritten, with every sample as it was: the movie box moved to the front, fragments gathered, tracks chosen.
+//! Movies rewritten, with every sample as it was: the movie box moved to the front, fragments gathered, tracks chosen; and
+//! a check of what was written.
 #![tactic(auto)]
 
 mod box_bytes;
+mod check;
 mod chosen;
 mod chunk_offsets;
 mod copy;
 mod data;
 mod descriptions;
+mod edits;
 mod error;
 mod fragment_boxes;
 mod frame;
@@ -27,6 +30,7 @@ mod splice;
 mod top_level;
 mod track_tables;
 
+pub use check::check_samples;
 pub use error::RemuxError;
 pub use front::move_to_front;
 pub use rebuild::{choose, gather};

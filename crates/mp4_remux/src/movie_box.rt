@@ -5,6 +5,7 @@ ghost use Rattle.mp4_remux.specs.Errors.{IsRefusalOf};
 
 use crate::box_bytes::{BoxBytes, end_box, first_box};
 use crate::chunk_offsets::put_table;
+use crate::edits::{ShownTime, put_edits};
 use crate::error::RemuxError;
 use crate::header_box::put_header;
 use crate::moves::Moves;
@@ -23,8 +24,7 @@ const COMPACT_SIZES: u32 = 0x7374_7a32;
 #[derive(Drop)]
 pub(crate) struct MadeTrack {
     pub tables: MadeTables,
-    /// Ticks of the movie.
-    pub duration: u64,
+    pub shown: ShownTime,
 }
 
 /// What becomes of a track.
@@ -65,6 +65,8 @@ enum Step<'a> {
     Header(u64),
     /// It is a header of a track, with this duration.
     TrackHeader(u64),
+    /// It is an `edts` whose last edit lasts so long.
+    Edits(u64),
     /// It is a `tref`, of which the references to these tracks stay.
     References(&'a [u32]),
     /// It stays, and these tables come after it.
@@ -98,6 +100,11 @@ impl MovieEdit {
         }
     }
 
+    /// How long the last edit of a track is, where that is other than its edit list says.
+    fn last_edit(&self, track: usize) -> Option<u64> {
+        self.made(track)?.shown.last
+    }
+
     /// What becomes of a box in the movie box.
     fn movie_step(&self, name: BoxType, track: usize) -> Step<'_> {
         match name {
@@ -117,7 +124,11 @@ impl MovieEdit {
         match name {
             BoxType::MdiaBox => Step::Enter,
             BoxType::TkhdBox => match self.made(track) {
-                Some(made) => Step::TrackHeader(made.duration),
+                Some(made) => Step::TrackHeader(made.shown.total),
+                None => Step::Keep,
+            },
+            BoxType::EdtsBox => match self.last_edit(track) {
+                Some(last) => Step::Edits(last),
                 None => Step::Keep,
             },
             _ => match &self.ids {
@@ -207,6 +218,7 @@ fn put_step(
         Step::Offsets => put_table(one, moves, out),
         Step::Header(duration) => put_header(one, 4, duration, out),
         Step::TrackHeader(duration) => put_header(one, 8, duration, out),
+        Step::Edits(last) => put_edits(one, last, out),
         Step::References(ids) => put_references(one, ids, out),
         Step::Tables(tables) => {
             put_whole(one, out)?;

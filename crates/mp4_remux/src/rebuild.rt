@@ -15,6 +15,7 @@ ghost use Rattle.mp4_remux.specs.Errors.{IsNamed, IsRefusalOf, MayRefuse};
 use crate::chosen::{all_ids, kept_ids};
 use crate::copy::copy_all;
 use crate::data::{Extent, closed_up, data_of};
+use crate::edits::shown_time;
 use crate::error::RemuxError;
 use crate::frame::{Frame, read_frame};
 use crate::kept::is_kept;
@@ -23,7 +24,6 @@ use crate::moves::{Move, Moves};
 use crate::movie_box::{MadeTrack, MovieEdit, TrackEdit, edited};
 use crate::piece::{Origin, Piece};
 use crate::piece_list::push_piece;
-
 use crate::rewrite::{open_source, write_layout};
 use crate::same::most_samples;
 use crate::top_level::TopBox;
@@ -35,7 +35,8 @@ use mp4_source::{ByteSink, ByteSource};
 use std::alloc::Global;
 
 /// The codes of the boxes that may be others in a movie box.
-const OF_TABLES: [u32; 13] = [
+const OF_TABLES: [u32; 14] = [
+    0x6564_7473,
     0x6d76_6578,
     0x746b_6864,
     0x6d64_6864,
@@ -61,18 +62,6 @@ fn has_fragments(movie: &Movie) -> bool
     movie.is_fragmented() || movie.moov.mvex.is_some()
 }
 
-/// A duration in ticks of the movie, rounded up, as one in ticks of a track.
-fn movie_ticks(duration: u64, movie_timescale: u32, timescale: u32) -> u64 {
-    if timescale == 0 {
-        return 0;
-    }
-    let timescale = u64::from(timescale);
-    let movie_timescale = u64::from(movie_timescale);
-    let whole = (duration / timescale).saturating_mul(movie_timescale);
-    let rest = (duration % timescale) * movie_timescale;
-    whole.saturating_add(rest.div_ceil(timescale))
-}
-
 /// What becomes of a track that is kept: its tables are made where the movie may have fragments.
 fn track_edit(
     alloc: Global,
@@ -92,8 +81,8 @@ fn track_edit(
         base: 0,
     };
     let tables = tables_of(alloc, movie, trak.tkhd.track_id, &moves, most)?;
-    let duration = movie_ticks(tables.duration, movie.timescale(), trak.mdia.mdhd.timescale);
-    Ok(TrackEdit::Made(MadeTrack { tables, duration }))
+    let shown = shown_time(trak, tables.duration, movie.timescale());
+    Ok(TrackEdit::Made(MadeTrack { tables, shown }))
 }
 
 /// How long a track is then, in ticks of the movie.
@@ -101,7 +90,7 @@ fn duration_of(edit: &TrackEdit, trak: &TrakBox) -> u64 {
     match edit {
         TrackEdit::Dropped => 0,
         TrackEdit::Moved => trak.tkhd.duration,
-        TrackEdit::Made(made) => made.duration,
+        TrackEdit::Made(made) => made.shown.total,
     }
 }
 
@@ -323,12 +312,14 @@ fn write_chosen<S: ByteSource + Drop, K: ByteSink>(
 /// Writes a movie whose samples are in fragments to a sink as one whose samples are in its tables (ISO/IEC 14496-12, 8.6
 /// to 8.8), also one that has both: the file type, the movie box, the other boxes in their order, and the data of all
 /// samples in that of the file, in one `mdat`. In the movie box each track has tables of its samples with the fewest
-/// entries, and the durations are those of the samples; `mvex` is left out, and every other byte of it is there as it was.
+/// entries, the durations are those of the samples or of the edits, and an edit of duration 0 at the end of its list, which
+/// lasts as long as there are fragments, gets its own; `mvex` is left out, and every other byte of it is there as it was.
 /// A file without fragments, in which none may follow, is written as it is.
 ///
 /// The boxes `moof`, `mfra`, `sidx`, `ssix`, `styp` and `prft` are left out, and bytes of `mdat` that are no sample's.
 /// Beside times, sizes, places, descriptions and sync marks nothing of what fragments say of a sample has a table here:
-/// flags of dependency and of priority are lost.
+/// flags of dependency and of priority are lost, and an `emsg` of version 0 counts from a segment that isn't there any
+/// more.
 ///
 /// The file is opened, and each sample of each track is looked up before a byte is written, in the file and in what
 /// would be written. In memory are then the movie's tables twice and a block of 1 MiB.

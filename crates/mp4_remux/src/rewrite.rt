@@ -42,10 +42,10 @@ pub(crate) fn open_source<S: ByteSource + Drop>(
     alloc: Global,
     source: S,
 ) -> Result<(S, u64, Movie), RemuxError>
-    ensures len { IfOk result (λ x. IsLength (S.contents source) x.1.0) }
+    ensures len { IfOk result (λ x. IsLength (S.contents source) x.1) }
     ensures file { IfOk result (λ x. IfSome (S.contents source) (λ xs.
-        IsFile (length xs) (here xs 0) (opened_movie x.1.1))) }
-    ensures tracks { IfOk result (λ x. AreTracks x.1.1.moov x.1.1.moofs x.1.1.moof_places x.1.1.tracks) }
+        IsFile (length xs) (here xs 0) (opened_movie x.2))) }
+    ensures tracks { IfOk result (λ x. AreTracks x.2.moov x.2.moofs x.2.moof_places x.2.tracks) }
     ensures contents { IfOk result (λ x. S.contents x.0 ≡ S.contents source) }
     ensures can_refuse { IfOk result (λ x. S.can_refuse x.0 ≡ S.can_refuse source) }
     ensures refused { IfErr result (IsRefusalOf (MayRefuse (S.contents source) (S.can_refuse source)) ⊥) }
@@ -74,7 +74,7 @@ pub(crate) fn write_layout<S: ByteSource + Drop, K: ByteSink>(
     requires opened { IfSome (S.contents source) (λ xs.
         IsFile (length xs) (here xs 0) (opened_movie before.now)) }
     ensures written { OnOk result (IfSome (S.contents source) (λ xs.
-        WritesRemuxed xs (spliced xs layout.now.made.items layout.now.pieces.items)
+        WritesRemuxed xs (spliced xs layout.now.made.items layout.now.pieces.items) (opened_movie before.now) ids.now
         (K.contents sink.old) (K.contents sink.new))) }
     ensures kept { IfErr result (λ e. IsNamed e → K.contents sink.new ≡ K.contents sink.old) }
     ensures refused { IfErr result (IsRefusalOf (MayRefuse (S.contents source) (S.can_refuse source))

@@ -62,6 +62,32 @@ fn check_sample(
     Ok(true)
 }
 
+/// Whether the first sample of a track can't be looked up.
+fn is_nowhere(movie: &Movie, track_id: u32) -> bool {
+    match movie.place(track_id, 1) {
+        Ok(_) => false,
+        Err(_) => true,
+    }
+}
+
+/// Where sample `k` of a track is; none where the track says that it has no samples, and its tables are too empty to be
+/// looked into.
+pub(crate) fn place_of_any(
+    movie: &Movie,
+    track_id: u32,
+    k: u32,
+) -> Result<Option<SamplePlace>, RemuxError>
+    ensures refused { IfErr result (IsRefusalOf ⊥ ⊥) }
+{
+    let place = movie.place(track_id, k);
+    if let Err(_) = place {
+        if k == 1 && movie.sample_count(track_id)? == 0 {
+            return Ok(None);
+        }
+    }
+    Ok(place?)
+}
+
 /// How many samples a track has, which are the same before and after. `TooManySamples` where they are more than `most`.
 fn count_same(
     before: &Movie,
@@ -78,8 +104,12 @@ fn count_same(
     ensures few { IfOk result (λ count. count ≤ most) }
     ensures refused { IfErr result (IsRefusalOf ⊥ ⊥) }
 {
-    if after.sample_count(track_id)? != before.sample_count(track_id)? {
+    let count = before.sample_count(track_id)?;
+    if after.sample_count(track_id)? != count {
         return Err(RemuxError::OtherTracks);
+    }
+    if count == 0 && is_nowhere(before, track_id) && is_nowhere(after, track_id) {
+        return Ok(0);
     }
     let mut k = 0;
     while k <= most {

@@ -6,6 +6,7 @@ ghost use Rattle.mp4_remux.specs.Errors.{IsRefusalOf};
 use crate::descriptions::Descriptions;
 use crate::error::RemuxError;
 use crate::moves::Moves;
+use crate::same::place_of_any;
 use mp4_boxes::MoovBox;
 use mp4_codec::{SharedItems, WriteBox};
 use mp4_media::{Movie, SamplePlace};
@@ -34,6 +35,8 @@ struct SampleTables {
     chunks: Vec<Chunk>,
     /// How long the samples last, in ticks of the track.
     duration: u64,
+    /// When the last of them that is shown has been shown.
+    shown: u64,
     /// Where the last chunk ends.
     end: u64,
 }
@@ -44,7 +47,7 @@ pub(crate) struct MadeTables {
     pub bytes: Vec<u8>,
     /// Where each chunk begins, counted from the first byte of the data.
     pub chunks: Vec<u64>,
-    /// How long the samples last, in ticks of the track.
+    /// How long the track is, in ticks of it: until the last sample that is shown has been shown (8.4.2.3).
     pub duration: u64,
 }
 
@@ -57,6 +60,7 @@ impl SampleTables {
             sync_samples: Vec::new(alloc),
             chunks: Vec::new(alloc),
             duration: 0,
+            shown: 0,
             end: 0,
         }
     }
@@ -81,6 +85,7 @@ impl SampleTables {
         push_chunk(&mut self.chunks, place, begins, description)?;
         self.end = place.saturating_add(u64::from(sample.size));
         self.duration = self.duration.saturating_add(u64::from(sample.duration));
+        self.shown = self.shown.max(end_of(sample));
         Ok(())
     }
 
@@ -94,7 +99,8 @@ impl SampleTables {
             sizes,
             sync_samples,
             chunks,
-            duration,
+            duration: _,
+            shown,
             end: _,
         } = self;
         let mut bytes = Vec::new(alloc);
@@ -106,8 +112,19 @@ impl SampleTables {
         Ok(MadeTables {
             bytes,
             chunks: chunks.iter().map(|chunk| chunk.place).collect(alloc)?,
-            duration,
+            duration: shown,
         })
+    }
+}
+
+/// When a sample has been shown.
+fn end_of(sample: &SamplePlace) -> u64 {
+    let decoded = sample.start_time.saturating_add(u64::from(sample.duration));
+    let offset = u64::from(sample.rendering_offset.unsigned_abs());
+    if sample.rendering_offset < 0 {
+        decoded.saturating_sub(offset)
+    } else {
+        decoded.saturating_add(offset)
     }
 }
 
@@ -253,7 +270,7 @@ fn put_chunks(alloc: Global, chunks: &[Chunk], out: &mut Vec<u8>) -> Result<(), 
 fn put_sizes(alloc: Global, sizes: Vec<u32>, out: &mut Vec<u8>) -> Result<(), RemuxError>
     ensures refused { IfErr result (IsRefusalOf ⊥ ⊥) }
 {
-    let sample_count = sizes.len() as u32;
+    let sample_count = u32::try_from(sizes.len()).unwrap_or(u32::MAX);
     let first = sizes.first().copied().unwrap_or(0);
     let is_one = first != 0 && sizes.iter().all(|size| *size == first);
     let listed = if is_one { Vec::new(alloc) } else { sizes };
@@ -323,7 +340,7 @@ pub(crate) fn tables_of(
     let mut tables = SampleTables::new(alloc);
     let mut k = 0;
     while k <= most {
-        let Some(sample) = movie.place(track_id, k + 1)? else {
+        let Some(sample) = place_of_any(movie, track_id, k + 1)? else {
             return tables.into_bytes(alloc);
         };
         k += 1;

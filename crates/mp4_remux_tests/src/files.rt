@@ -46,3 +46,10 @@ pub fn movie_with(alloc: Global, first: u32, second: u32) -> Result<Vec<u8>, All
         ],
     )
 }
+
+/// The same file with its movie box in front.
+pub fn front(alloc: Global) -> Result<Vec<u8>, AllocError> {
+    let before_samples = 32 + 855 + 16;
+    let movie = movie_with(alloc, before_samples, before_samples + 6)?;
+    joined(alloc, &[file_type(), &movie, &DATA])
+}

@@ -5,6 +5,8 @@
 #[cfg(test)]
 mod asserts;
 #[cfg(test)]
+mod checked;
+#[cfg(test)]
 mod files;
 #[cfg(test)]
 mod front;

@@ -1,47 +1,50 @@
 //! Rewrites MP4 files, with every sample as it was.
 #![tactic(auto)]
 
+mod command_line;
+mod commands;
 mod faults;
 mod files;
+mod pipe_sink;
+mod progress;
+mod remux;
+mod request;
 mod run;
 
-use crate::run::run;
+use crate::remux::Host;
+use crate::run::{FAULT, SUCCESS, WRONG_ARGUMENTS, run_words};
+use std::io::{ErrorKind, IsTerminal};
 use std::process::ExitCode;
 use std::{env, io};
 
-/// The arguments after the program's name. Where one of them isn't UTF-8 the answer is an empty list, which is no
-/// command.
-fn arguments(rt: &HostRuntime) -> mp4_media::Result<Vec<String>> {
-    match env::args(rt) {
-        Ok(args) => Ok(args.skip(1).collect(rt.alloc())?),
-        Err(error) if error.kind() == io::ErrorKind::OutOfMemory => {
-            Err(mp4_media::Error::OutOfMemory)
+/// A run with the words of the command line, the program's name first.
+fn run_process(rt: &HostRuntime) -> io::Result<u8> {
+    let words: Vec<String> = env::args(rt)?.collect(rt.alloc())?;
+    let host = Host {
+        rt,
+        alloc: rt.alloc(),
+        is_terminal: rt.stderr().is_terminal(),
+    };
+    run_words(&host, words.as_slice(), &mut rt.stdout(), &mut rt.stderr())
+}
+
+/// Says why there was no run, or why it ended, and answers the status. A closed pipe is no error.
+fn print_error(rt: &HostRuntime, error: &io::Error) -> u8 {
+    let (said, status) = match error.kind() {
+        ErrorKind::BrokenPipe => return SUCCESS,
+        ErrorKind::OutOfMemory => ("mp4_remux: out of memory", FAULT),
+        ErrorKind::InvalidData | ErrorKind::InvalidInput => {
+            ("error: an argument isn't UTF-8", WRONG_ARGUMENTS)
         }
-        Err(_) => Ok(Vec::new(rt.alloc())),
-    }
-}
-
-/// A run with the arguments of the process.
-fn run_process(rt: &HostRuntime, out: &mut Vec<u8>, err: &mut Vec<u8>) -> mp4_media::Result<u8> {
-    let arguments = arguments(rt)?;
-    run(rt, rt.alloc(), arguments.as_slice(), out, err)
-}
-
-/// Prints what a run wrote.
-fn print(rt: &HostRuntime, out: &[u8], err: &[u8]) -> io::Result<()> {
-    rt.stderr().write_all(err)?;
-    rt.stdout().write_all(out)
+        _ => ("mp4_remux: standard output: cannot write", FAULT),
+    };
+    let _ = eprintln!(rt; "{said}");
+    status
 }
 
 fn main(rt: HostRuntime) -> ExitCode {
-    let mut out = Vec::new(rt.alloc());
-    let mut err = Vec::new(rt.alloc());
-    let Ok(status) = run_process(&rt, &mut out, &mut err) else {
-        let _ = rt.stderr().write_all(b"mp4_remux: out of memory\n");
-        return ExitCode::FAILURE;
-    };
-    match print(&rt, out.as_slice(), err.as_slice()) {
-        Ok(()) => ExitCode::from(status),
-        Err(_) => ExitCode::FAILURE,
+    match run_process(&rt) {
+        Ok(status) => ExitCode::from(status),
+        Err(error) => ExitCode::from(print_error(&rt, &error)),
     }
 }

@@ -1,106 +1,74 @@
 //! A run of the program.
 
-use crate::faults::{Fault, fault_of, no_memory};
-use crate::files::{is_same_file, is_special, open};
-use mp4_media::{ByteSink, SeekSink, SeekSource};
-use mp4_new_file::NewFile;
-use mp4_remux::move_to_front;
-use std::alloc::Global;
-use std::io::{Read, Seek, Write};
-use std::rt::Files;
+use crate::command_line::{Unclear, request_in};
+use crate::faults::Fault;
+use crate::remux::{Host, remux};
+use crate::request::Request;
+use std::io;
+use std::io::Write;
+use std::rt::{Clock, Files};
 
-const USAGE: &str = "usage: mp4_remux faststart IN OUT\n";
+/// The status of a run that succeeded.
+pub const SUCCESS: u8 = 0;
 
-const SUCCESS: u8 = 0;
+/// The status of a run whose file is at fault, or can't be read or written.
+pub const FAULT: u8 = 1;
 
-const FAULT: u8 = 1;
+/// The status of a run whose arguments are wrong.
+pub const WRONG_ARGUMENTS: u8 = 2;
 
-const WRONG_ARGUMENTS: u8 = 2;
-
-/// Writes a file with its movie box in front to another, and answers how many bytes that has.
-fn write_front<'a, F: Read + Seek + Drop, W: Write + Seek + Drop>(
-    alloc: Global,
-    file: F,
-    out: W,
-    read: &'a str,
-    written: &'a str,
-) -> Result<u64, Fault<'a>> {
-    let Ok(mut sink) = SeekSink::new(alloc, out) else {
-        return Err(no_memory());
-    };
-    match move_to_front(alloc, SeekSource::new(file), &mut sink) {
-        Ok(()) => Ok(sink.len()),
-        Err(error) => Err(fault_of(error, read, written)),
+/// Prints why a file isn't rewritten, and answers the status. A closed pipe is no fault.
+fn print_fault<E: Write>(request: &Request, fault: &Fault, err: &mut E) -> io::Result<u8> {
+    if fault.is_closed_pipe() {
+        return Ok(SUCCESS);
     }
+    let name = request.name_of(fault.subject());
+    writeln!(err, "mp4_remux: {name}: {fault}")?;
+    if fault.is_of_arguments() {
+        return Ok(WRONG_ARGUMENTS);
+    }
+    Ok(FAULT)
 }
 
-/// Writes the file `read` with its movie box in front to the file `written`, which gets its name when it is whole: else
-/// what has the name isn't touched. What has it and is no regular file isn't written.
-fn faststart<'a>(
-    rt: &impl Files,
-    alloc: Global,
-    read: &'a str,
-    written: &'a str,
-) -> Result<u64, Fault<'a>> {
-    let file = open(rt, read)?;
-    if is_same_file(rt, alloc, read, written) {
-        return Err(Fault::SameFile(written));
+/// Prints why words are no request, or the help that they ask for, and answers the status.
+fn print_unclear<O: Write, E: Write>(
+    unclear: &Unclear,
+    out: &mut O,
+    err: &mut E,
+) -> io::Result<u8> {
+    if unclear.is_mistake() {
+        write!(err, "{unclear}")?;
+        return Ok(WRONG_ARGUMENTS);
     }
-    if is_special(rt, written) {
-        return Err(Fault::CannotWrite(written));
-    }
-    let Ok((new, out)) = NewFile::create(rt, alloc, "mp4_remux", written) else {
-        return Err(Fault::CannotWrite(written));
-    };
-    let made = match new.is_regular() {
-        true => write_front(alloc, file, out, read, written),
-        false => Err(Fault::CannotWrite(written)),
-    };
-    let named = new.finish(made.is_ok());
-    let len = made?;
-    match named {
-        Ok(()) => Ok(len),
-        Err(_) => Err(Fault::CannotWrite(written)),
-    }
+    write!(out, "{unclear}")?;
+    out.flush()?;
+    Ok(SUCCESS)
 }
 
-/// Adds what a run says to `out`, or the message of its fault to `err`, and answers the status.
-fn report(
-    alloc: Global,
-    answer: Result<u64, Fault>,
-    out: &mut Vec<u8>,
-    err: &mut Vec<u8>,
-) -> mp4_media::Result<u8> {
-    match answer {
-        Ok(len) => {
-            let line = format!(in alloc; "wrote {len} bytes\n")?;
-            out.extend_from_slice(line.as_bytes())?;
-            Ok(SUCCESS)
-        }
-        Err(fault) => {
-            let line = format!(in alloc; "mp4_remux: {fault}\n")?;
-            err.extend_from_slice(line.as_bytes())?;
-            Ok(FAULT)
-        }
+/// Prints how many bytes were written, unless they were printed.
+fn print_length<O: Write>(request: &Request, len: u64, out: &mut O) -> io::Result<u8> {
+    if !request.is_printed() {
+        writeln!(out, "wrote {len} bytes")?;
+        out.flush()?;
     }
+    Ok(SUCCESS)
 }
 
-/// A run with these arguments: what it prints is added to `out` and `err`, and the answer is the status of the process.
-pub fn run(
-    rt: &impl Files,
-    alloc: Global,
-    arguments: &[String],
-    out: &mut Vec<u8>,
-    err: &mut Vec<u8>,
-) -> mp4_media::Result<u8> {
-    match arguments {
-        [command, read, written] if command.as_str() == "faststart" => {
-            let answer = faststart(rt, alloc, read.as_str(), written.as_str());
-            report(alloc, answer, out, err)
-        }
-        _ => {
-            err.extend_from_slice(USAGE.as_bytes())?;
-            Ok(WRONG_ARGUMENTS)
-        }
+/// A whole run with these words, of which the first is the program's name. The answer is the status: 0, 1 after a
+/// fault, or 2 where the arguments are wrong. What a run says of faults is written to `err`.
+///
+/// Refused where `err` refuses, or `out` refuses help or what is said of a file that was written.
+pub fn run_words<R: Files + Clock + Eprint, O: Write, E: Write>(
+    host: &Host<R>,
+    words: &[String],
+    out: &mut O,
+    err: &mut E,
+) -> io::Result<u8> {
+    match request_in(host.alloc, words) {
+        Ok(request) => match remux(host, &request, out) {
+            Ok(len) => print_length(&request, len, out),
+            Err(fault) => print_fault(&request, &fault, err),
+        },
+        Err(unclear) => print_unclear(&unclear, out, err),
     }
 }

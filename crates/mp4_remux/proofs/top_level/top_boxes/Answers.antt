@@ -1,5 +1,4 @@
-use Rattle.std.proofs.Common.{arith}
-use Rattle.mp4_remux.proofs.TopBoxes.{one_more, all_boxes}
+use Rattle.mp4_remux.proofs.TopBoxes.{one_more, past_end, all_boxes}
 use Rattle.mp4_remux.proofs.top_level.top_boxes.Goals as goal
 
 pub loop-cursor-preserved : goal.loop-cursor-preserved
@@ -18,4 +17,4 @@ loop-cursor-preserved g c =
 pub returns-clause-boxes : goal.returns-clause-boxes
 returns-clause-boxes g c =
     all_boxes (g.S.ByteSource.contents c.args.source) c.args.len c.loop-cursor.place c.loop-cursor.boxes.items c.requires
-    ? c.loop-cursor.invariant.all
+    (past_end _ _ c.fits.result c.loop-cursor-test.false c.fits.ensures.1) c.loop-cursor.invariant.all
