@@ -1,5 +1,5 @@
 -- Movie boxes that are as they were, but for some boxes.
-use Rattle.std.proofs.Common.{◌≡◌, ℕ, List, subst, sym}
+use Rattle.std.proofs.Common.{◌≡◌, ℕ, List, subst}
 use Rattle.mp4_codec.specs.declared.box_type.BoxType.{BoxType}
 use Rattle.mp4_remux.specs.Kept.{IsAmong, IsFirstBox, IsKept, entered, same, next, inside}
 

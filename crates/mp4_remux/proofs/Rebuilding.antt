@@ -1,6 +1,6 @@
 -- What is written of a movie whose tracks are chosen, or whose fragments are gathered.
-use Rattle.std.proofs.Common.{◌≡◌, ◌∙◌, ℕ, List, [], ◌++◌, length, take, drop, Option, None, Some, Result, Ok, Err, IfSome}
-use Rattle.std.proofs.Common.{OnOk, refl, sym, ap, subst, arith, ◌∷◌, ◌-◌, append_assoc}
+use Rattle.std.proofs.Common.{◌≡◌, ◌∙◌, ℕ, List, [], ◌++◌, length, take, Option, None, Some, Result, Ok, Err, IfSome}
+use Rattle.std.proofs.Common.{OnOk, refl, ap, subst, arith, ◌∷◌, ◌-◌, append_assoc}
 use Rattle.mp4_codec.specs.Cursor.{here}
 use Rattle.mp4_source.specs.Sink.{IsAppended}
 use Rattle.mp4_media.specs.FileBoxes.{OpenedFile}

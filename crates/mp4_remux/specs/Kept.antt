@@ -1,5 +1,5 @@
 -- A movie box in which some boxes are others: all else is there, byte for byte and in its order (ISO/IEC 14496-12, 4.2).
-use Rattle.std.specs.Prelude.{◌≡◌, ◌+◌, ◌++◌, ◌==◌, ℕ, Bool, List, [], ◌∷◌, length, IsTrue, Ok}
+use Rattle.std.specs.Prelude.{◌≡◌, ◌+◌, ◌++◌, ◌==◌, ℕ, List, [], ◌∷◌, length, IsTrue, Ok}
 use Rattle.std.specs.List.{list_any}
 use Rattle.mp4_codec.specs.BoxType.{code_of}
 use Rattle.mp4_codec.specs.declared.box_type.BoxType.{BoxType}

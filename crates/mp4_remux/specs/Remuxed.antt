@@ -65,3 +65,12 @@ pub record IsRemuxed (before after : List ℕ) (opened rewritten : OpenedFile) (
 abbrev pub WritesRemuxed : List ℕ → List ℕ → OpenedFile → List ℕ → Option (List ℕ) → Option (List ℕ) → Type 0
 WritesRemuxed before after opened kept had has = IsAppended had has after
     × ((rewritten : OpenedFile) × IsRemuxed before after opened rewritten kept)
+
+-- Both are files, and the tracks with these ids are read from the one as from the other, which has no more.
+pub record IsChecked (before after ids : List ℕ) : Type 0 where
+  pub opened : OpenedFile
+  pub rewritten : OpenedFile
+  pub opens : IsFile (length before) (here before 0) opened
+  pub opens_after : IsFile (length after) (here after 0) rewritten
+  pub as_many : length rewritten.moov.traks ≡ length ids
+  pub tracks : (id i : ℕ) → slice_get ids i ≡ Some id → IsSameTrack before after opened rewritten id

@@ -1,5 +1,16 @@
 //! Whether every sample of a file that was written is that of another.
 
+ghost use Rattle.std.specs.Prelude.{◌≡◌, ◌≤◌, ◌<◌, ◌-◌, ◌^◌, ℕ, Some, length, option_map, slice_get};
+ghost use Rattle.std.specs.Prelude.{IfErr, IfOk, IfSome, Ok, OnOk, IsTrue};
+ghost use Rattle.mp4_codec.specs.Cursor.{here};
+ghost use Rattle.mp4_codec.specs.declared.error.Error.TheVariants.{OutOfMemory};
+ghost use Rattle.mp4_media.specs.FileBoxes.{opened_movie};
+ghost use Rattle.mp4_media.specs.FileGrammar.{IsFile};
+ghost use Rattle.mp4_media.specs.MovieTracks.{AreTracks};
+ghost use Rattle.mp4_media.specs.Reading.{sample_in, sample_there};
+ghost use Rattle.mp4_remux.specs.Errors.{IsRefusalOf, MayRefuse};
+ghost use Rattle.mp4_remux.specs.Remuxed.{IsChecked, IsSameNumber, IsSameTrack};
+
 use crate::error::RemuxError;
 use crate::same::most_samples;
 use mp4_codec::{Error, is_equal};
@@ -8,7 +19,15 @@ use mp4_source::{ByteSource, FileError};
 use std::alloc::Global;
 
 /// The file that a source is.
-fn open_file<S: ByteSource + Drop>(alloc: Global, source: S) -> Result<Mp4File<S>, RemuxError> {
+fn open_file<S: ByteSource + Drop>(alloc: Global, source: S) -> Result<Mp4File<S>, RemuxError>
+    ensures file { IfOk result (λ f. IfSome (S.contents source) (λ xs.
+        IsFile (length xs) (here xs 0) (opened_movie f.movie))) }
+    ensures tracks { IfOk result (λ f.
+        AreTracks f.movie.moov f.movie.moofs f.movie.moof_places f.movie.tracks) }
+    ensures contents { IfOk result (λ f. S.contents f.source ≡ S.contents source) }
+    ensures can_refuse { IfOk result (λ f. S.can_refuse f.source ≡ S.can_refuse source) }
+    ensures refused { IfErr result (IsRefusalOf (MayRefuse (S.contents source) (S.can_refuse source)) ⊥) }
+{
     let mut source = source;
     let len = match source.len() {
         Ok(len) => len,
@@ -18,20 +37,21 @@ fn open_file<S: ByteSource + Drop>(alloc: Global, source: S) -> Result<Mp4File<S
     Ok(file)
 }
 
-/// An error of the file that was written: where it isn't of memory or of its source, `otherwise` is the answer.
-fn of_written(error: RemuxError, otherwise: RemuxError) -> RemuxError {
-    match error {
-        RemuxError::Read(refused) => RemuxError::Write(refused),
-        RemuxError::Mp4(Error::OutOfMemory) => RemuxError::Mp4(Error::OutOfMemory),
-        _ => otherwise,
-    }
-}
-
-/// The file that was written, of a source.
-fn open_written<S: ByteSource + Drop>(alloc: Global, source: S) -> Result<Mp4File<S>, RemuxError> {
+/// The file that was written, of a source. Where it isn't one, the tracks are others.
+fn open_written<S: ByteSource + Drop>(alloc: Global, source: S) -> Result<Mp4File<S>, RemuxError>
+    ensures file { IfOk result (λ f. IfSome (S.contents source) (λ xs.
+        IsFile (length xs) (here xs 0) (opened_movie f.movie))) }
+    ensures tracks { IfOk result (λ f.
+        AreTracks f.movie.moov f.movie.moofs f.movie.moof_places f.movie.tracks) }
+    ensures contents { IfOk result (λ f. S.contents f.source ≡ S.contents source) }
+    ensures can_refuse { IfOk result (λ f. S.can_refuse f.source ≡ S.can_refuse source) }
+    ensures refused { IfErr result (IsRefusalOf ⊥ (MayRefuse (S.contents source) (S.can_refuse source))) }
+{
     match open_file(alloc, source) {
         Ok(file) => Ok(file),
-        Err(error) => Err(of_written(error, RemuxError::OtherTracks)),
+        Err(RemuxError::Read(refused)) => Err(RemuxError::Write(refused)),
+        Err(RemuxError::Mp4(Error::OutOfMemory)) => Err(RemuxError::Mp4(Error::OutOfMemory)),
+        Err(_) => Err(RemuxError::OtherTracks),
     }
 }
 
@@ -41,23 +61,35 @@ fn read_written<S: ByteSource + Drop>(
     track_id: u32,
     k: u32,
     buffer: &mut Vec<u8>,
-) -> Result<Option<SamplePlace>, RemuxError> {
+) -> Result<Option<SamplePlace>, RemuxError>
+    ensures answer { IfOk result (λ p. IfSome (S.contents after.old.source) (λ ys.
+        sample_in ys after.old.movie.tracks track_id k ≡ Ok (option_map (sample_there buffer.new.items) p))) }
+    ensures movie { after.new.movie ≡ after.old.movie }
+    ensures contents { S.contents after.new.source ≡ S.contents after.old.source }
+    ensures can_refuse { S.can_refuse after.new.source ≡ S.can_refuse after.old.source }
+    ensures refused { IfErr result
+        (IsRefusalOf ⊥ (MayRefuse (S.contents after.old.source) (S.can_refuse after.old.source))) }
+{
     match after.read_sample_into(track_id, k, buffer) {
         Ok(sample) => Ok(sample),
-        Err(error) => {
-            let error = RemuxError::from(error);
-            Err(of_written(error, RemuxError::Differs(track_id, k)))
-        }
+        Err(FileError::Io(refused)) => Err(RemuxError::Write(refused)),
+        Err(FileError::Mp4(Error::OutOfMemory)) => Err(RemuxError::Mp4(Error::OutOfMemory)),
+        Err(FileError::Mp4(_)) => Err(RemuxError::Differs(track_id, k)),
     }
 }
 
-/// Whether two samples have the same size, times and marks.
-fn is_same_sample(before: &SamplePlace, after: &SamplePlace) -> bool {
-    after.size == before.size
-        && after.start_time == before.start_time
-        && after.duration == before.duration
-        && is_equal(&after.rendering_offset, &before.rendering_offset)
-        && is_equal(&after.is_sync, &before.is_sync)
+/// Whether two samples of these bytes are the same, with their times and marks.
+fn is_same_sample(before: &SamplePlace, after: &SamplePlace, read: &[u8], written: &[u8]) -> bool
+    ensures { IsTrue result → sample_there written.now after.now ≡ sample_there read.now before.now }
+{
+    if after.start_time != before.start_time
+        || after.duration != before.duration
+        || !is_equal(&after.rendering_offset, &before.rendering_offset)
+        || !is_equal(&after.is_sync, &before.is_sync)
+    {
+        return false;
+    }
+    written == read
 }
 
 /// Whether sample `k` of a track is there, the same in both files; else it is an error. Its bytes are read into the two
@@ -69,35 +101,75 @@ fn check_sample<S: ByteSource + Drop, T: ByteSource + Drop>(
     k: u32,
     read: &mut Vec<u8>,
     written: &mut Vec<u8>,
-) -> Result<bool, RemuxError> {
+) -> Result<bool, RemuxError>
+    requires before { AreTracks before.old.movie.moov before.old.movie.moofs before.old.movie.moof_places
+        before.old.movie.tracks }
+    requires after { AreTracks after.old.movie.moov after.old.movie.moofs after.old.movie.moof_places
+        after.old.movie.tracks }
+    ensures same { IfOk result (λ there. IfSome (S.contents before.old.source) (λ xs.
+        IfSome (T.contents after.old.source) (λ ys. IsSameNumber xs ys (opened_movie before.old.movie)
+        (opened_movie after.old.movie) track_id k there))) }
+    ensures movie { before.new.movie ≡ before.old.movie }
+    ensures movie_after { after.new.movie ≡ after.old.movie }
+    ensures contents { S.contents before.new.source ≡ S.contents before.old.source }
+    ensures contents_after { T.contents after.new.source ≡ T.contents after.old.source }
+    ensures can_refuse { S.can_refuse before.new.source ≡ S.can_refuse before.old.source }
+    ensures can_refuse_after { T.can_refuse after.new.source ≡ T.can_refuse after.old.source }
+    ensures refused { IfErr result
+        (IsRefusalOf (MayRefuse (S.contents before.old.source) (S.can_refuse before.old.source))
+        (MayRefuse (T.contents after.old.source) (T.can_refuse after.old.source))) }
+{
     let kept = before.read_sample_into(track_id, k, read)?;
     let moved = read_written(after, track_id, k, written)?;
-    let (Some(kept), Some(moved)) = (kept, moved) else {
-        return match (kept, moved) {
-            (None, None) => Ok(false),
-            _ => Err(RemuxError::Differs(track_id, k)),
+    let Some(kept) = kept else {
+        return match moved {
+            None => Ok(false),
+            Some(_) => Err(RemuxError::Differs(track_id, k)),
         };
     };
-    if !is_same_sample(&kept, &moved) || read.as_slice() != written.as_slice() {
+    let Some(moved) = moved else {
+        return Err(RemuxError::Differs(track_id, k));
+    };
+    if !is_same_sample(&kept, &moved, read.as_slice(), written.as_slice()) {
         return Err(RemuxError::Differs(track_id, k));
     }
     Ok(true)
 }
 
 /// How many samples a track has, which are the same in both files. None are looked up where it says that it has none.
-/// `TooManySamples` where they are more than `most`, which is less than 2^32 - 1.
+/// `TooManySamples` where they are more than `most`.
 fn count_checked<S: ByteSource + Drop, T: ByteSource + Drop>(
     alloc: Global,
     before: &mut Mp4File<S>,
     after: &mut Mp4File<T>,
     track_id: u32,
     most: u32,
-) -> Result<u32, RemuxError> {
+) -> Result<u32, RemuxError>
+    requires before { AreTracks before.old.movie.moov before.old.movie.moofs before.old.movie.moof_places
+        before.old.movie.tracks }
+    requires after { AreTracks after.old.movie.moov after.old.movie.moofs after.old.movie.moof_places
+        after.old.movie.tracks }
+    requires most { most < 2 ^ 32 - 1 }
+    ensures same { OnOk result (IfSome (S.contents before.old.source) (λ xs.
+        IfSome (T.contents after.old.source) (λ ys. IsSameTrack xs ys (opened_movie before.old.movie)
+        (opened_movie after.old.movie) track_id))) }
+    ensures few { IfOk result (λ count. count ≤ most) }
+    ensures movie { before.new.movie ≡ before.old.movie }
+    ensures movie_after { after.new.movie ≡ after.old.movie }
+    ensures contents { S.contents before.new.source ≡ S.contents before.old.source }
+    ensures contents_after { T.contents after.new.source ≡ T.contents after.old.source }
+    ensures can_refuse { S.can_refuse before.new.source ≡ S.can_refuse before.old.source }
+    ensures can_refuse_after { T.can_refuse after.new.source ≡ T.can_refuse after.old.source }
+    ensures refused { IfErr result
+        (IsRefusalOf (MayRefuse (S.contents before.old.source) (S.can_refuse before.old.source))
+        (MayRefuse (T.contents after.old.source) (T.can_refuse after.old.source))) }
+{
     let count = before.sample_count(track_id)?;
-    match after.sample_count(track_id) {
-        Ok(written) if written == count => {}
-        Ok(_) => return Err(RemuxError::OtherTracks),
-        Err(error) => return Err(of_written(RemuxError::from(error), RemuxError::OtherTracks)),
+    let Ok(written_count) = after.sample_count(track_id) else {
+        return Err(RemuxError::OtherTracks);
+    };
+    if written_count != count {
+        return Err(RemuxError::OtherTracks);
     }
     if count == 0 {
         return Ok(0);
@@ -129,7 +201,12 @@ pub fn check_samples<S: ByteSource + Drop, T: ByteSource + Drop>(
     before: S,
     after: T,
     ids: &[u32],
-) -> Result<(), RemuxError> {
+) -> Result<(), RemuxError>
+    ensures same { OnOk result (IfSome (S.contents before) (λ xs. IfSome (T.contents after) (λ ys.
+        IsChecked xs ys ids.now))) }
+    ensures refused { IfErr result (IsRefusalOf (MayRefuse (S.contents before) (S.can_refuse before))
+        (MayRefuse (T.contents after) (T.can_refuse after))) }
+{
     let mut before = open_file(alloc, before)?;
     let mut after = open_written(alloc, after)?;
     if after.moov.traks.len() != ids.len() {
@@ -138,7 +215,8 @@ pub fn check_samples<S: ByteSource + Drop, T: ByteSource + Drop>(
     let mut left = most_samples(before.source_len());
     let mut i = 0;
     while i < ids.len() {
-        left -= count_checked(alloc, &mut before, &mut after, ids[i], left)?;
+        let id = ids[i];
+        left -= count_checked(alloc, &mut before, &mut after, id, left)?;
         i += 1;
     }
     Ok(())

@@ -10,6 +10,7 @@ mod checked;
 mod files;
 #[cfg(test)]
 mod front;
+mod gathered;
 #[cfg(test)]
 mod refused;
 #[cfg(test)]

@@ -1,0 +1,41 @@
+use Rattle.std.proofs.Common.{arith, ◌∙◌, IfSome, ap, sym, length}
+use Rattle.mp4_media.specs.declared.movie.Movie.{Movie}
+use Rattle.mp4_media.specs.FileBoxes.{opened_movie}
+use Rattle.mp4_remux.specs.Remuxed.{IsSameTrack}
+use Rattle.mp4_remux.proofs.Sameness.{got_within}
+use Rattle.mp4_remux.proofs.Checking.{checked, id_more}
+use Rattle.mp4_remux.proofs.check.check_samples.Goals as goal
+
+pub loop-i-preserved : goal.loop-i-preserved
+loop-i-preserved g c =
+    let inv = c.loop-i.invariant in
+    let track = c.in_ok-left.ensures in
+    let before = c.in_ok-before.before in
+    let after = c.in_ok-after.after in
+    record {
+      upto = omega (arith, c.loop-i-test.true);
+      few = omega (arith, inv.few);
+      ids = inv.ids;
+      movie = track.movie ∙ inv.movie;
+      movie_after = track.movie_after ∙ inv.movie_after;
+      contents = track.contents ∙ inv.contents;
+      contents_after = track.contents_after ∙ inv.contents_after;
+      can_refuse = track.can_refuse ∙ inv.can_refuse;
+      can_refuse_after = track.can_refuse_after ∙ inv.can_refuse_after;
+      same =
+          id_more c.args.ids.now (λ id. IfSome (g.S.ByteSource.contents before.source) (λ xs.
+          IfSome (g.T.ByteSource.contents after.source) (λ ys.
+          IsSameTrack xs ys (opened_movie before.movie) (opened_movie after.movie) id))) c.loop-i.i inv.same
+          (rw (inv.movie, inv.movie_after, inv.contents, inv.contents_after) at track.same);
+    }
+
+pub returns-clause-same : goal.returns-clause-same
+returns-clause-same g c =
+    let inv = c.loop-i.invariant in
+    let before = c.in_ok-before in
+    let after = c.in_ok-after in
+    checked before.before.movie after.after.movie (g.S.ByteSource.contents c.args.before)
+    (g.T.ByteSource.contents c.args.after) c.args.ids.now before.ensures.file after.ensures.file
+    (ap (λ (m : Movie). length m.moov.traks) (sym c.deref.ensures) ∙ sym c.len.ensures.value ∙ c.if-len-ids.false)
+    (λ id i there. rw (before.ensures.contents, after.ensures.contents)
+    at (inv.same id i (omega (arith, got_within c.args.ids.now i id there, c.loop-i-test.false)) there))

@@ -1,0 +1,45 @@
+use Rattle.std.proofs.Common.{arith, Ok, ap, ◌∙◌}
+use Rattle.mp4_remux.proofs.Checking.{one_more, track_is_read, empty_is_read}
+use Rattle.mp4_remux.proofs.check.count_checked.Goals as goal
+
+pub returns-then-count-eq0-clause-same : goal.returns-then-count-eq0-clause-same
+returns-then-count-eq0-clause-same g c =
+    let was = rw c.deref.ensures at c.in_ok-count.ensures in
+    let is = rw c.deref-2.ensures at c.in-Ok.ensures in
+    empty_is_read c.args.before.now.movie c.args.after.now.movie c.args.track_id
+    (g.S.ByteSource.contents c.args.before.now.source) (g.T.ByteSource.contents c.args.after.now.source)
+    c.requires.before c.requires.after (was ∙ ap Ok c.if-count-eq0.true)
+    (is ∙ ap Ok (c.if-written_count-count.false ∙ c.if-count-eq0.true))
+
+pub returns-then-not-branch-clause-same : goal.returns-then-not-branch-clause-same
+returns-then-not-branch-clause-same g c =
+    let inv = c.loop-k.invariant in
+    let was = rw c.deref.ensures at c.in_ok-count.ensures in
+    let is = rw c.deref-2.ensures at c.in-Ok.ensures in
+    track_is_read c.args.before.now.movie c.args.after.now.movie c.args.track_id
+    (g.S.ByteSource.contents c.args.before.now.source) (g.T.ByteSource.contents c.args.after.now.source)
+    c.requires.before c.requires.after c.loop-k.k c.in_ok-count.count inv.same
+    (rw (inv.movie, inv.movie_after, inv.contents, inv.contents_after, c.if-not-branch.true)
+    at c.in_ok-check_sample.ensures.same)
+    was (is ∙ ap Ok c.if-written_count-count.false)
+
+pub loop-k-preserved : goal.loop-k-preserved
+loop-k-preserved g c =
+    let inv = c.loop-k.invariant in
+    let sample = c.in_ok-check_sample.ensures in
+    record {
+      upto = omega arith;
+      most = inv.most;
+      same =
+          one_more c.args.before.now.movie c.args.after.now.movie c.args.track_id
+          (g.S.ByteSource.contents c.args.before.now.source) (g.T.ByteSource.contents c.args.after.now.source)
+          c.loop-k.k inv.same
+          (rw (inv.movie, inv.movie_after, inv.contents, inv.contents_after, c.if-not-branch.false) at sample.same);
+      id = inv.id;
+      movie = sample.movie ∙ inv.movie;
+      movie_after = sample.movie_after ∙ inv.movie_after;
+      contents = sample.contents ∙ inv.contents;
+      contents_after = sample.contents_after ∙ inv.contents_after;
+      can_refuse = sample.can_refuse ∙ inv.can_refuse;
+      can_refuse_after = sample.can_refuse_after ∙ inv.can_refuse_after;
+    }

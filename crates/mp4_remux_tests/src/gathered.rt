@@ -1,0 +1,169 @@
+//! Movies whose fragments are gathered, and movies of some of their tracks.
+
+use crate::asserts::check;
+use crate::files::{DATA, UNKNOWN, data_first, file_type, joined, movie_with};
+use mp4_media::{Error, read_mp4};
+use mp4_plain_movies::movie_bytes::FULL_MOVIE;
+use mp4_remux::{RemuxError, check_samples, choose, gather};
+use std::alloc::Global;
+
+/// The defaults of the track's fragments.
+const DEFAULTS: [u8; 40] =
+    *b"\0\0\0\x28mvex\0\0\0\x20trex\0\0\0\0\0\0\0\x01\0\0\0\x01\0\0\0\0\0\0\0\0\0\0\0\0";
+
+/// The samples "ijkl", of 500 ticks, and "m", of 600, in a fragment of track 1.
+const FRAGMENT: [u8; 113] = *b"\0\0\0\x64moof\0\0\0\x10mfhd\0\0\0\0\0\0\0\x01\0\0\0\x4ctraf\
+    \0\0\0\x10tfhd\0\x02\0\0\0\0\0\x01\0\0\0\x10tfdt\0\0\0\0\0\0\x05\xdc\
+    \0\0\0\x24trun\0\0\x03\x01\0\0\0\x02\0\0\0\x6c\0\0\x01\xf4\0\0\0\x04\0\0\x02\x58\0\0\0\x01\
+    \0\0\0\x0dmdatijklm";
+
+/// The place of the last byte of the fragment's time.
+const TIME: usize = 63;
+
+/// The place of the name of the box with that time.
+const TIME_BOX: usize = 52;
+
+/// A file of one track with three samples in its tables, in a movie box that says that fragments may follow, then these
+/// boxes.
+fn fragmented(alloc: Global, rest: &[&[u8]]) -> Result<Vec<u8>, RemuxError> {
+    let samples = 32 + 855 + 40 + 16;
+    let movie = movie_with(alloc, samples, samples + 6)?;
+    let size = b"\0\0\x03\x7f";
+    let mut file = joined(alloc, &[file_type(), size, &movie[4..], &DEFAULTS, &DATA])?;
+    for part in rest {
+        file.extend_from_slice(part)?;
+    }
+    Ok(file)
+}
+
+/// What a file is with its fragments gathered.
+fn gathered(alloc: Global, file: &[u8]) -> Result<Vec<u8>, RemuxError> {
+    let mut out = Vec::new(alloc);
+    gather(alloc, file, &mut out)?;
+    Ok(out)
+}
+
+/// Whether a file has these bytes somewhere.
+fn has(file: &[u8], part: &[u8]) -> bool {
+    file.windows(part.len()).any(|window| window == part)
+}
+
+/// Whether the samples of the tables and of a fragment are in one chunk and in tables with the fewest entries.
+fn makes_tables(alloc: Global) -> Result<bool, RemuxError> {
+    let file = gathered(alloc, &fragmented(alloc, &[&UNKNOWN, &FRAGMENT])?)?;
+    Ok(
+        has(
+            &file,
+            b"\0\0\0\x20stts\0\0\0\0\0\0\0\x02\0\0\0\x04\0\0\x01\xf4\0\0\0\x01\0\0\x02\x58",
+        ) && has(
+            &file,
+            b"\0\0\0\x1cstsc\0\0\0\0\0\0\0\x01\0\0\0\x01\0\0\0\x05\0\0\0\x01",
+        ) && has(&file, b"\0\0\0\x14stco\0\0\0\0\0\0\0\x01")
+            && file.ends_with(b"\0\0\0\x0cabcd\x01\x02\x03\x04\0\0\0\x15mdatabcdefghijklm")
+            && !has(&file, b"moof")
+            && !has(&file, b"mvex")
+            && !has(&file, b"ctts"),
+    )
+}
+
+#[test]
+fn fragments_become_tables(rt: HostRuntime) {
+    check(&rt, makes_tables(rt.alloc()));
+}
+
+/// Whether the samples of a gathered file are those of its fragments.
+fn keeps_samples(alloc: Global) -> Result<bool, RemuxError> {
+    let file = fragmented(alloc, &[&FRAGMENT])?;
+    let out = gathered(alloc, &file)?;
+    check_samples(alloc, file.as_slice(), out.as_slice(), &[1])?;
+    let mut reader = read_mp4(alloc, &out)?;
+    let Some(last) = reader.read_sample(1, 5)? else {
+        return Ok(false);
+    };
+    let none = reader.read_sample(1, 6)?;
+    Ok(
+        last.start_time == 2000
+            && last.duration == 600
+            && last.bytes.as_slice() == b"m".as_slice()
+            && matches!(none, None),
+    )
+}
+
+#[test]
+fn gathered_samples_are_those_of_the_fragments(rt: HostRuntime) {
+    check(&rt, keeps_samples(rt.alloc()));
+}
+
+/// Whether a file without fragments stays as it is, and a gathered one too.
+fn gathers_once(alloc: Global) -> Result<bool, RemuxError> {
+    let plain = data_first(alloc)?;
+    let out = gathered(alloc, &fragmented(alloc, &[&FRAGMENT])?)?;
+    Ok(gathered(alloc, &plain)? == plain && gathered(alloc, &out)? == out)
+}
+
+#[test]
+fn a_file_without_fragments_stays(rt: HostRuntime) {
+    check(&rt, gathers_once(rt.alloc()));
+}
+
+/// Why a file isn't gathered in which one byte of the fragment is another.
+fn refusal_with(alloc: Global, place: usize, byte: u8) -> Result<Option<RemuxError>, RemuxError> {
+    let mut fragment = FRAGMENT;
+    if let Some(old) = fragment.get_mut(place) {
+        *old = byte;
+    }
+    let file = fragmented(alloc, &[&fragment])?;
+    let mut out = Vec::new(alloc);
+    let refused = gather(alloc, file.as_slice(), &mut out).err();
+    Ok(if out.is_empty() { refused } else { None })
+}
+
+/// Whether a gap between samples, and a box that says more of samples than tables do, are refused.
+fn refuses_what_tables_lack(alloc: Global) -> Result<bool, RemuxError> {
+    let gap = refusal_with(alloc, TIME, 0xdd)?;
+    let other = refusal_with(alloc, TIME_BOX, b's')?;
+    Ok(
+        matches!(gap, Some(RemuxError::StartsElsewhere(1, 4)))
+            && matches!(other, Some(RemuxError::SaysOfSamples(_, 967))),
+    )
+}
+
+#[test]
+fn what_tables_cannot_say_is_refused(rt: HostRuntime) {
+    check(&rt, refuses_what_tables_lack(rt.alloc()));
+}
+
+/// Whether a movie of its only track has its data after it, without what is between; and a track that isn't there is
+/// refused.
+fn keeps_a_track(alloc: Global) -> Result<bool, RemuxError> {
+    let file = data_first(alloc)?;
+    let mut out = Vec::new(alloc);
+    choose(alloc, file.as_slice(), &mut out, &[1])?;
+    let movie = movie_with(alloc, 32 + 855 + 8, 32 + 855 + 14)?;
+    let expected = joined(alloc, &[file_type(), &movie, b"\0\0\0\x10mdatabcdefgh"])?;
+    let mut none = Vec::new(alloc);
+    let other = choose(alloc, file.as_slice(), &mut none, &[7]);
+    Ok(
+        out == expected
+            && none.is_empty()
+            && matches!(other, Err(RemuxError::Mp4(Error::TrakNotFound(7)))),
+    )
+}
+
+#[test]
+fn a_chosen_track_has_its_data_alone(rt: HostRuntime) {
+    check(&rt, keeps_a_track(rt.alloc()));
+}
+
+/// Whether a movie without its only track has a movie box without one, and no data.
+fn drops_a_track(alloc: Global) -> Result<bool, RemuxError> {
+    let file = data_first(alloc)?;
+    let mut out = Vec::new(alloc);
+    choose(alloc, file.as_slice(), &mut out, &[])?;
+    Ok(!has(&out, b"trak") && !has(&out, b"mdat") && has(&FULL_MOVIE, b"trak"))
+}
+
+#[test]
+fn a_track_that_is_not_chosen_is_left_out(rt: HostRuntime) {
+    check(&rt, drops_a_track(rt.alloc()));
+}
