@@ -23,8 +23,12 @@ DAMAGED = int(os.environ.get("DAMAGED", 2000))
 SEED = 6
 
 # A buffer as GStreamer's fakesink tells it, and how many tracks of a kind are asked for.
-BUFFER = re.compile(rb"chain .*?\((\d+) bytes, dts: ([^,]+), pts: ([^,]+), duration: [^,]+, .* flags: [0-9a-f]+ ([^,]*), meta")
+BUFFER = re.compile(rb"chain .*?\((\d+) bytes, dts: ([^,]+), pts: ([^,]+), .* flags: [0-9a-f]+ ([^,]*), meta")
 MOST_PADS = 4
+
+# The boxes in a fragment that say no more of samples than tables do, and those elsewhere that say more.
+OF_RUNS = ("mfhd", "traf", "tfhd", "tfdt", "trun", "free", "skip")
+OF_SAMPLES = ("sdtp", "stdp", "padb", "saiz", "senc")
 
 # A file that ffprobe reads otherwise than the standard says: it begins each run without a place of its own at the movie
 # fragment, and not after the run before it (8.8.8).
@@ -42,8 +46,9 @@ def probed(path):
     said = json.loads(out or b"{}")
     tracks = {}
     for stream in said.get("streams", ()):
-        about = [stream.get(name) for name in ("codec_name", "codec_tag", "width", "height", "sample_rate", "time_base")]
-        tracks[stream["index"]] = (int(stream.get("id", "0"), 0), about + [stream.get("tags", {}).get("language")], [], [])
+        names = ("codec_name", "codec_tag", "width", "height", "sample_rate", "time_base")
+        about = [*map(stream.get, names), stream.get("tags", {}).get("language")]
+        tracks[stream["index"]] = (int(stream.get("id", "0"), 0), about, [], [])
     for packet in said.get("packets", ()):
         _, _, packets, times = tracks[packet["stream_index"]]
         packets.append((packet.get("data_hash"), packet["flags"][0]))
@@ -74,13 +79,14 @@ def packet_differences(path, other, keep, shifted):
 
 def decoded(path):
     """Whether ffmpeg fails to decode a file, and of how much it complains."""
-    status, _, error, _ = ran(["ffmpeg", "-v", "error", "-nostdin", "-i", path, "-map", "0:v?", "-map", "0:a?", "-f", "null", "-"])
+    words = ["-map", "0:v?", "-map", "0:a?", "-f", "null", "-"]
+    status, _, error, _ = ran(["ffmpeg", "-v", "error", "-nostdin", "-i", path, *words])
     return status != 0, error.count(b"\n")
 
 
 def buffers(path):
-    """What GStreamer's reader hands on of each picture and sound track: of each buffer its bytes, its times, and whether
-    it is a key frame. None where there is no GStreamer here."""
+    """What GStreamer's reader hands on of each picture and sound track: of each buffer its bytes, its times, and
+    whether it is a key frame. None where there is no GStreamer here."""
     if not shutil.which("gst-launch-1.0"):
         return None
     found = []
@@ -92,7 +98,7 @@ def buffers(path):
             rows = BUFFER.findall(out)
             if not rows:
                 break
-            found.append([(size, decoded_at, shown_at, b"delta-unit" in flags) for size, decoded_at, shown_at, flags in rows])
+            found.append([(*row[:3], b"delta-unit" in row[3]) for row in rows])
     return found
 
 
@@ -108,11 +114,12 @@ def reason_of(data, keep):
         name = path.rpartition("/")[2]
         if name in ("saio", "iloc") or name in ("sidx", "mfra") and not has_fragments(data):
             return "places"
-        if has_fragments(data) and (name in ("sdtp", "stdp", "padb", "saiz", "senc") or path.startswith("moof/") and name not in (
-                "moof", "mfhd", "traf", "tfhd", "tfdt", "trun", "free", "skip")):
+        is_more = path.startswith("moof/") and name not in OF_RUNS or name in OF_SAMPLES
+        if has_fragments(data) and is_more:
             return "says of samples"
     samples = samples_in(data)
-    if any(says_more(data, track) for _, track in tracks_in(data)) or max(map(len, samples.values()), default=0) > len(data):
+    most = max(map(len, samples.values()), default=0)
+    if most > len(data) or any(says_more(data, track) for _, track in tracks_in(data)):
         return "counts"
     for number in keep if has_fragments(data) else ():
         end = 0
@@ -205,9 +212,9 @@ class Trial:
         self.missing[tool].update(set(gone))
 
     def played(self, name, path, data):
-        """Compares what GStreamer reads: no buffer may be lost. Of a track with edits it leaves out the last, as it does of
-        ffmpeg's own files whose edits say how long they last; and uncompressed sound it hands on by chunks, so of that the
-        bytes are counted."""
+        """Compares what GStreamer reads: no buffer may be lost. Of a track with edits it leaves out the last, as it
+        does of ffmpeg's own files whose edits say how long they last; and uncompressed sound it hands on by chunks,
+        so of that the bytes are counted."""
         before, after = buffers(path), buffers(self.out)
         if before is None:
             return
@@ -219,7 +226,9 @@ class Trial:
             is_same = new[:len(old)] == old or has_edits and old[:-1] == new
             if not is_same and not (is_raw and sum(int(row[0]) for row in old) == sum(int(row[0]) for row in new)):
                 found.append(f"GStreamer reads {len(new)} buffers of {len(old)} of its {k}. track")
-        self.note(name, found if len(before) == len(after) else [f"GStreamer reads {len(after)} tracks of {len(before)}"])
+        if len(before) != len(after):
+            found = [f"GStreamer reads {len(after)} tracks of {len(before)}"]
+        self.note(name, found)
 
     def beside(self, path, data):
         """Counts what the program made of a file of fragments, and what ffmpeg makes of it."""
@@ -232,9 +241,9 @@ class Trial:
 
     def say_tools(self):
         for tool, counts in self.tools.items():
-            print(f"{tool}: of {counts['tried']} files of fragments {counts['refused']} refused, {counts['samples kept']} with "
-                  f"every sample as it was, {counts['kept']} with all else too, {counts['boxes missing']} without boxes that "
-                  "were there")
+            print(f"{tool}: of {counts['tried']} files of fragments {counts['refused']} refused, "
+                  f"{counts['samples kept']} with every sample as it was, {counts['kept']} with all else too, "
+                  f"{counts['boxes missing']} without boxes that were there")
             for path, count in self.missing[tool].most_common(12):
                 print(f"    without {path}: {count}")
 
@@ -292,8 +301,8 @@ def main(program, folder, names):
     trial, chance = Trial(program, folder), random.Random(SEED)
     for name in names:
         trial.file(pathlib.Path(name))
-    print(f"{trial.files} files, {sum(trial.refused.values())} runs refused; {trial.packets} packets, {trial.samples} samples, "
-          f"{trial.buffers} buffers of GStreamer")
+    print(f"{trial.files} files, {sum(trial.refused.values())} runs refused; {trial.packets} packets, "
+          f"{trial.samples} samples, {trial.buffers} buffers of GStreamer")
     for reason, count in trial.refused.most_common():
         print(f"refused, {count} times: {reason}")
     trial.say_tools()

@@ -188,15 +188,19 @@ def with_fragments():
         extends=trex)
     yield "own_description", fragmented(
         [text(1, [], descriptions=3), text(2, [])],
-        [(moof(first(1, rows, flags=0x20002, fields=words(number))), DATA[number:number + 20]) for number in (3, 1, 2, 2)],
+        [(moof(first(1, rows, flags=0x20002, fields=words(number))), DATA[number:number + 20])
+         for number in (3, 1, 2, 2)],
         extends=extends(1, 2, description=2))
-    yield "both", file_of(text(1, LINE), text(2, LINE), extends=trex, after=moof(first(1, rows)) + box("mdat", DATA[:20]))
+    yield "both", file_of(
+        text(1, LINE), text(2, LINE), extends=trex, after=moof(first(1, rows)) + box("mdat", DATA[:20]))
     yield "both_descriptions", file_of(
-        text(1, [S(4 * k, 4, 10, 0, True, k % 2 + 1) for k in range(4)], descriptions=2), extends=extends(1, description=2),
+        text(1, [S(4 * k, 4, 10, 0, True, k % 2 + 1) for k in range(4)], descriptions=2),
+        extends=extends(1, description=2),
         after=moof(first(1, rows)) + box("mdat", DATA[:20]) +
         moof(first(1, rows, flags=0x20002, fields=words(1))) + box("mdat", DATA[:20]))
     yield "times", fragmented(none, [(moof(first(1, rows, time=50 * k)), DATA[:20]) for k in range(4)], extends=trex)
-    yield "no_time_between", fragmented(none, [(moof(first(1, rows, time=60 * k)), DATA[:20]) for k in range(2)], extends=trex)
+    yield "no_time_between", fragmented(
+        none, [(moof(first(1, rows, time=60 * k)), DATA[:20]) for k in range(2)], extends=trex)
     yield "later_beginning", fragmented(none, [(moof(first(1, rows, time=7)), DATA[:20])], extends=trex)
     yield "empty_fragment", fragmented(none, [(moof(lambda data: traf(1, [])), b""), (moof(first(1, rows)), DATA[:20])],
                                        extends=trex)

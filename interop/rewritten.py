@@ -44,11 +44,17 @@ def edits_in(data, track):
             for k in range(min(count, (box.end - box.inside - 8) // size))]
 
 
+def references_of(data, box):
+    """The references of a track to others (8.3.3), of its box: pairs of a kind and an id."""
+    found = []
+    for kind in boxes_in(data, box.inside, box.end) if box else ():
+        numbers = data[kind.inside:kind.inside + (kind.end - kind.inside) // 4 * 4]
+        found += [(kind.type, number) for (number,) in struct.iter_unpack(">I", numbers)]
+    return found
+
+
 def references_in(data, track):
-    """The references of a track to others (8.3.3): pairs of a kind and an id."""
-    box = inside(data, track, "tref")
-    return [(kind.type, number) for kind in (boxes_in(data, box.inside, box.end) if box else ())
-            for (number,) in struct.iter_unpack(">I", data[kind.inside:kind.inside + (kind.end - kind.inside) // 4 * 4])]
+    return references_of(data, inside(data, track, "tref"))
 
 
 class Comparison:
@@ -83,16 +89,11 @@ class Comparison:
             if path == "moov" and (box.type == "trak" and track_ids.get(box.begin) not in self.keep
                                    or box.type == "mvex" and self.is_gathered):
                 continue
-            if box.type == "tref" and not [1 for _, number in self.references(box) if number in self.keep]:
+            if box.type == "tref" and not any(number in self.keep for _, number in references_of(self.data, box)):
                 continue
             if self.is_gathered and path.endswith("/stbl") and box.type in TABLES:
                 continue
             yield box
-
-    def references(self, box):
-        return [(kind.type, number) for kind in boxes_in(self.data, box.inside, box.end)
-                for (number,) in struct.iter_unpack(
-                    ">I", self.data[kind.inside:kind.inside + (kind.end - kind.inside) // 4 * 4])]
 
     def boxes(self, before, after, level, path):
         """Compares the boxes in one, of which some are others."""
@@ -142,12 +143,13 @@ class Comparison:
             longest = max(longest, duration)
             if self.is_gathered:
                 self.durations(number, old[number], new[number], duration)
-        if (self.is_gathered or self.drops) and header_parts(self.other, inside(self.other, movie, "mvhd"))[1] != longest:
+        lasts = header_parts(self.other, inside(self.other, movie, "mvhd"))[1]
+        if (self.is_gathered or self.drops) and lasts != longest:
             self.note("the movie's duration isn't that of its longest track")
 
     def durations(self, number, old, new, duration):
-        """The media lasts until its last sample was shown (8.4.2), the track as its edits; an edit that lasts to the end
-        of the media in a file of fragments, which says 0, says what is left of it (8.6.6)."""
+        """The media lasts until its last sample was shown (8.4.2), the track as its edits; an edit that lasts to the
+        end of the media in a file of fragments, which says 0, says what is left of it (8.6.6)."""
         samples = samples_in(self.other)[number]
         media = max((max(0, each.start + each.offset + each.duration) for each in samples), default=0)
         header = inside(self.other, new, "mdia", "mdhd")
@@ -156,8 +158,9 @@ class Comparison:
         movie_header = inside(self.other, only(boxes_in(self.other), "moov"), "mvhd")
         ticks, scale = self.timescale(movie_header), self.timescale(header)
         before, after = edits_in(self.data, old), edits_in(self.other, new)
-        expected = [(-(-(media - time) * ticks // scale) if lasts == 0 and time >= 0 and k == len(before) else lasts, time)
-                    for k, (lasts, time) in enumerate(before, 1)]
+        expected = list(before)
+        if before and before[-1][0] == 0 and before[-1][1] >= 0:
+            expected[-1] = (-(-(media - before[-1][1]) * ticks // scale), before[-1][1])
         if after != expected:
             self.note(f"track {number}: its edits are {after} and not {expected}")
         whole = sum(lasts for lasts, _ in after) if after else -(-media * ticks // scale)
