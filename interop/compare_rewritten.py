@@ -140,6 +140,12 @@ def choices(numbers):
     return unique
 
 
+def is_among(rows, others):
+    """Whether rows are there, in their order, among others."""
+    left = iter(others)
+    return all(row in left for row in rows)
+
+
 class Trial:
     def __init__(self, program, folder):
         self.program, self.out = program, folder / "out"
@@ -213,18 +219,21 @@ class Trial:
 
     def played(self, name, path, data):
         """Compares what GStreamer reads: no buffer may be lost. Of a track with edits it leaves out the last, as it
-        does of ffmpeg's own files whose edits say how long they last; and uncompressed sound it hands on by chunks,
-        so of that the bytes are counted."""
+        does of ffmpeg's own files whose edits say how long they last; it shifts times where offsets are below 0; and
+        uncompressed sound it hands on by chunks, so of that the bytes are counted."""
         before, after = buffers(path), buffers(self.out)
         if before is None:
             return
         self.buffers += sum(map(len, before))
         has_edits = any(edits_in(data, track) for _, track in tracks_in(data))
+        samples = [each for track in samples_in(data).values() for each in track]
+        is_raw = len({each.size for each in samples}) == 1
         found = []
         for k, (old, new) in enumerate(zip(before, after), 1):
-            is_raw = len({each.size for samples in samples_in(data).values() for each in samples}) == 1
-            is_same = new[:len(old)] == old or has_edits and old[:-1] == new
-            if not is_same and not (is_raw and sum(int(row[0]) for row in old) == sum(int(row[0]) for row in new)):
+            if any(each.offset < 0 for each in samples):
+                old, new = [(row[0], row[3]) for row in old], [(row[0], row[3]) for row in new]
+            is_there = is_among(old, new) or has_edits and is_among(old[:-1], new)
+            if not is_there and not (is_raw and sum(int(row[0]) for row in old) == sum(int(row[0]) for row in new)):
                 found.append(f"GStreamer reads {len(new)} buffers of {len(old)} of its {k}. track")
         if len(before) != len(after):
             found = [f"GStreamer reads {len(after)} tracks of {len(before)}"]
