@@ -1,8 +1,8 @@
 //! How far a long run is.
 
-ghost use Rattle.std.specs.Prelude.{◌≡◌, ◌+◌, ◌<◌, ◌≤◌, IfOk, IfErr, OnOk, OnErr};
+ghost use Rattle.std.specs.Prelude.{◌≡◌, ℕ, ◌+◌, ◌<◌, ◌≤◌, ◌^◌, IfOk, IfErr, OnOk, OnErr};
 
-use mp4_media::{ByteSource, SourceError};
+use mp4_media::{ByteSink, ByteSource, SinkError, SourceError};
 use mp4_readable::Grouped;
 use std::io;
 use std::rt::Clock;
@@ -14,21 +14,27 @@ const QUIET_SECONDS: u64 = 1;
 /// What is written over a line, so that nothing of it is left: as many blanks as it has characters at most.
 const BLANKS: &str = "                                            ";
 
-/// Says on a terminal how many bytes were read, in a run that takes more than a second.
+/// Clears the line of a terminal that said how far a run is, where one is there.
+pub fn clear_line<R: Eprint>(rt: &R, is_terminal: bool) {
+    if is_terminal {
+        let _ = eprint!(rt; "\r{BLANKS}\r");
+    }
+}
+
+/// Says on a terminal how many bytes are done, in a run that takes more than a second.
 #[derive(Drop)]
 pub struct Progress<'a, R> {
     rt: &'a R,
+    /// What is done with the bytes.
+    done: &'static str,
     /// When the last line was written, or the run began; `None` where nothing is to be written.
     last: Option<Instant>,
-    /// Whether a line is there.
-    has_line: bool,
-    /// How many bytes were read.
-    read: u64,
+    count: u64,
 }
 
 impl<'a, R: Clock + Eprint> Progress<'a, R> {
-    /// A run that begins now, on a terminal or not.
-    pub fn new(rt: &'a R, is_terminal: bool) -> Self {
+    /// A run that begins now, on a terminal or not, in which so is done with bytes.
+    pub fn new(rt: &'a R, is_terminal: bool, done: &'static str) -> Self {
         let last = if is_terminal {
             Instant::now(rt).ok()
         } else {
@@ -36,60 +42,43 @@ impl<'a, R: Clock + Eprint> Progress<'a, R> {
         };
         Progress {
             rt,
+            done,
             last,
-            has_line: false,
-            read: 0,
+            count: 0,
         }
     }
 
-    /// Counts bytes that were read, and says how many there are, where a second has passed.
+    /// Counts bytes, and says how many there are, where a second has passed.
     fn note(&mut self, n: usize) {
         let Some(last) = self.last else {
             return;
         };
-        self.read = self.read.saturating_add(n as u64);
+        self.count = self.count.saturating_add(n as u64);
         match last.elapsed(self.rt) {
             Ok(passed) if passed.as_secs() >= QUIET_SECONDS => {}
             _ => return,
         }
-        let read = Grouped(self.read);
-        let _ = eprint!(self.rt; "\r{read} bytes read");
-        self.has_line = true;
+        let count = Grouped(self.count);
+        let done = self.done;
+        let _ = eprint!(self.rt; "\r{count} bytes {done}");
         self.last = Instant::now(self.rt).ok();
-    }
-
-    /// Clears the line, where one is there. Nothing is said any more.
-    fn finish(&mut self) {
-        if self.has_line {
-            let _ = eprint!(self.rt; "\r{BLANKS}\r");
-        }
-        self.has_line = false;
-        self.last = None;
     }
 }
 
 /// A source that says how much of it was read.
 #[derive(Drop)]
-pub struct Watched<'a, R, S> {
+pub struct WatchedSource<'a, R, S> {
     source: S,
     progress: Progress<'a, R>,
 }
 
-impl<'a, R: Clock + Eprint, S: ByteSource> Watched<'a, R, S> {
-    pub fn new(source: S, progress: Progress<'a, R>) -> Self
-    where
-        S: Drop,
-    {
-        Watched { source, progress }
-    }
-
-    /// Clears what was said. Nothing is said any more.
-    pub fn finish(&mut self) {
-        self.progress.finish();
+impl<'a, R: Clock + Eprint, S: ByteSource> WatchedSource<'a, R, S> {
+    pub fn new(source: S, progress: Progress<'a, R>) -> Self {
+        WatchedSource { source, progress }
     }
 }
 
-impl<'a, R: Clock + Eprint, S: ByteSource> ByteSource for Watched<'a, R, S> {
+impl<'a, R: Clock + Eprint, S: ByteSource> ByteSource for WatchedSource<'a, R, S> {
     ghost contents = { λ s. S.contents s.source };
 
     ghost can_refuse = { λ s. S.can_refuse s.source };
@@ -112,4 +101,52 @@ impl<'a, R: Clock + Eprint, S: ByteSource> ByteSource for Watched<'a, R, S> {
         self.progress.note(n);
         self.source.part(place, n, room)
     }
+}
+
+/// A sink that says how much was written to it.
+#[derive(Drop)]
+pub struct WatchedSink<'a, R, K> {
+    sink: K,
+    progress: Progress<'a, R>,
+}
+
+impl<'a, R: Clock + Eprint, K: ByteSink> WatchedSink<'a, R, K> {
+    pub fn new(sink: K, progress: Progress<'a, R>) -> Self {
+        WatchedSink { sink, progress }
+    }
+
+    /// The sink.
+    pub fn into_inner(self) -> K {
+        let WatchedSink { sink, progress: _ } = self;
+        sink
+    }
+}
+
+impl<'a, R: Clock + Eprint, K: ByteSink> ByteSink for WatchedSink<'a, R, K> {
+    ghost contents = { λ s. K.contents s.sink };
+
+    ghost len = { λ s. K.len s.sink };
+
+    ghost waiting = { λ s. K.waiting s.sink };
+
+    ghost can_refuse = { λ s. K.can_refuse s.sink };
+
+    fn len(&self) -> u64 {
+        ByteSink::len(&self.sink)
+    }
+
+    fn append(&mut self, bytes: &[u8]) -> Result<(), SinkError> {
+        self.progress.note(bytes.len());
+        ByteSink::append(&mut self.sink, bytes)
+    }
+
+    fn overwrite(&mut self, place: u64, bytes: &[u8]) -> io::Result<()> {
+        ByteSink::overwrite(&mut self.sink, place, bytes)
+    }
+
+    fn flush(&mut self) -> io::Result<()> {
+        ByteSink::flush(&mut self.sink)
+    }
+
+    ghost counted = { λ s. K.counted s.sink };
 }
