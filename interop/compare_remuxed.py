@@ -21,7 +21,7 @@ SEED = 5
 MOST_BYTES = 60_000
 # The time of the processor that a run may take, in seconds, and how long it is waited for at most.
 MOST_TIME = 1
-LONGEST = 20
+LONGEST = 120
 
 
 def ran(words, limit=None):

@@ -146,7 +146,7 @@ class Fragments:
         (count,) = struct.unpack_from(">I", self.data, run.inside + 4)
         said, at = optional(self.data, run.inside + 8, flags, ((1, "data", "i"), (4, "first", "I")))
         place = base + said["data"] if "data" in said else place
-        for number in range(min(count, MOST_SAMPLES)):
+        for number in range(max(0, min(count, MOST_SAMPLES - len(samples)))):
             own, at = optional(self.data, at, flags, (
                 (0x100, "duration", "I"), (0x200, "size", "I"), (0x400, "flags", "I"),
                 (0x800, "offset", "i" if version else "I")))

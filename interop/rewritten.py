@@ -149,7 +149,7 @@ class Comparison:
         """The media lasts until its last sample was shown (8.4.2), the track as its edits; an edit that lasts to the end
         of the media in a file of fragments, which says 0, says what is left of it (8.6.6)."""
         samples = samples_in(self.other)[number]
-        media = max((each.start + max(0, each.offset) + each.duration for each in samples), default=0)
+        media = max((max(0, each.start + each.offset + each.duration) for each in samples), default=0)
         header = inside(self.other, new, "mdia", "mdhd")
         if header_parts(self.other, header)[1] != media:
             self.note(f"track {number}: the duration of its media isn't that of its samples")

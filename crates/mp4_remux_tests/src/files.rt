@@ -47,6 +47,20 @@ pub fn movie_with(alloc: Global, first: u32, second: u32) -> Result<Vec<u8>, All
     )
 }
 
+/// The movie box of that track without what it says of fragments, whose chunks begin at these places.
+pub fn movie_of_tables(alloc: Global, first: u32, second: u32) -> Result<Vec<u8>, AllocError> {
+    joined(
+        alloc,
+        &[
+            b"\0\0\x03\x2f",
+            &FULL_MOVIE[4..OFFSETS],
+            &first.to_be_bytes(),
+            &second.to_be_bytes(),
+            &FULL_MOVIE[OFFSETS + 48..],
+        ],
+    )
+}
+
 /// The same file with its movie box in front.
 pub fn front(alloc: Global) -> Result<Vec<u8>, AllocError> {
     let before_samples = 32 + 855 + 16;

@@ -1,15 +1,11 @@
 //! Movies whose fragments are gathered, and movies of some of their tracks.
 
 use crate::asserts::check;
-use crate::files::{DATA, UNKNOWN, data_first, file_type, joined, movie_with};
+use crate::files::{DATA, UNKNOWN, data_first, file_type, joined, movie_of_tables, movie_with};
 use mp4_media::{Error, read_mp4};
 use mp4_plain_movies::movie_bytes::FULL_MOVIE;
 use mp4_remux::{RemuxError, check_samples, choose, gather};
 use std::alloc::Global;
-
-/// The defaults of the track's fragments.
-const DEFAULTS: [u8; 40] =
-    *b"\0\0\0\x28mvex\0\0\0\x20trex\0\0\0\0\0\0\0\x01\0\0\0\x01\0\0\0\0\0\0\0\0\0\0\0\0";
 
 /// The samples "ijkl", of 500 ticks, and "m", of 600, in a fragment of track 1.
 const FRAGMENT: [u8; 113] = *b"\0\0\0\x64moof\0\0\0\x10mfhd\0\0\0\0\0\0\0\x01\0\0\0\x4ctraf\
@@ -23,17 +19,22 @@ const TIME: usize = 63;
 /// The place of the name of the box with that time.
 const TIME_BOX: usize = 52;
 
-/// A file of one track with three samples in its tables, in a movie box that says that fragments may follow, then these
+/// A file of one track with three samples in its tables, whose movie box says that fragments may follow, then these
 /// boxes.
 fn fragmented(alloc: Global, rest: &[&[u8]]) -> Result<Vec<u8>, RemuxError> {
-    let samples = 32 + 855 + 40 + 16;
+    let samples = 32 + 855 + 16;
     let movie = movie_with(alloc, samples, samples + 6)?;
-    let size = b"\0\0\x03\x7f";
-    let mut file = joined(alloc, &[file_type(), size, &movie[4..], &DEFAULTS, &DATA])?;
+    let mut file = joined(alloc, &[file_type(), &movie, &DATA])?;
     for part in rest {
         file.extend_from_slice(part)?;
     }
     Ok(file)
+}
+
+/// A file of that movie box, after its data.
+fn file_of_tables(alloc: Global) -> Result<Vec<u8>, RemuxError> {
+    let movie = movie_of_tables(alloc, 48, 54)?;
+    Ok(joined(alloc, &[file_type(), &DATA, &movie])?)
 }
 
 /// What a file is with its fragments gathered.
@@ -96,7 +97,7 @@ fn gathered_samples_are_those_of_the_fragments(rt: HostRuntime) {
 
 /// Whether a file without fragments stays as it is, and a gathered one too.
 fn gathers_once(alloc: Global) -> Result<bool, RemuxError> {
-    let plain = data_first(alloc)?;
+    let plain = file_of_tables(alloc)?;
     let out = gathered(alloc, &fragmented(alloc, &[&FRAGMENT])?)?;
     Ok(gathered(alloc, &plain)? == plain && gathered(alloc, &out)? == out)
 }
@@ -124,7 +125,7 @@ fn refuses_what_tables_lack(alloc: Global) -> Result<bool, RemuxError> {
     let other = refusal_with(alloc, TIME_BOX, b's')?;
     Ok(
         matches!(gap, Some(RemuxError::StartsElsewhere(1, 4)))
-            && matches!(other, Some(RemuxError::SaysOfSamples(_, 967))),
+            && matches!(other, Some(RemuxError::SaysOfSamples(_, 911))),
     )
 }
 
@@ -136,10 +137,10 @@ fn what_tables_cannot_say_is_refused(rt: HostRuntime) {
 /// Whether a movie of its only track has its data after it, without what is between; and a track that isn't there is
 /// refused.
 fn keeps_a_track(alloc: Global) -> Result<bool, RemuxError> {
-    let file = data_first(alloc)?;
+    let file = file_of_tables(alloc)?;
     let mut out = Vec::new(alloc);
     choose(alloc, file.as_slice(), &mut out, &[1])?;
-    let movie = movie_with(alloc, 32 + 855 + 8, 32 + 855 + 14)?;
+    let movie = movie_of_tables(alloc, 32 + 815 + 8, 32 + 815 + 14)?;
     let expected = joined(alloc, &[file_type(), &movie, b"\0\0\0\x10mdatabcdefgh"])?;
     let mut none = Vec::new(alloc);
     let other = choose(alloc, file.as_slice(), &mut none, &[7]);
