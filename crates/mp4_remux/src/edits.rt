@@ -36,7 +36,7 @@ fn is_empty(entry: &ElstEntry) -> bool {
     entry.media_time == u64::MAX || entry.media_time == u64::from(u32::MAX)
 }
 
-/// How long all edits last, but for one that lasts to the end of the media.
+/// How long all these edits last.
 fn sum_of(entries: &[ElstEntry]) -> u64 {
     let mut sum: u64 = 0;
     for entry in entries {
@@ -45,27 +45,47 @@ fn sum_of(entries: &[ElstEntry]) -> u64 {
     sum
 }
 
-/// How long a track is shown whose media last so long, in its ticks. An edit of duration 0 at the end of its list lasts
-/// to the end of the media with all fragments.
-pub(crate) fn shown_time(trak: &TrakBox, duration: u64, movie_timescale: u32) -> ShownTime {
-    let timescale = trak.mdia.mdhd.timescale;
-    let entries = match &trak.edts {
+/// The edits of a track, in the order in which they are shown.
+fn edits_of(trak: &TrakBox) -> &[ElstEntry] {
+    match &trak.edts {
         Some(edts) => match &edts.elst {
             Some(elst) => elst.entries.as_slice(),
             None => &[],
         },
         None => &[],
-    };
-    let Some(last) = entries.last() else {
+    }
+}
+
+/// Whether an edit lasts to the end of media that last so long with all fragments, in ticks of the track: it has no
+/// duration, or ends with the media of the movie box alone, as where a recording was broken off.
+fn lasts_to_the_end(last: &ElstEntry, trak: &TrakBox, duration: u64, movie_timescale: u32) -> bool {
+    if is_empty(last) {
+        return false;
+    }
+    if last.segment_duration == 0 {
+        return true;
+    }
+    let header = &trak.mdia.mdhd;
+    let shown = header.duration.saturating_sub(last.media_time);
+    let shown = movie_ticks(shown, movie_timescale, header.timescale);
+    0 < header.duration
+        && header.duration < duration
+        && shown <= last.segment_duration.saturating_add(1)
+}
+
+/// How long a track is shown whose media last so long, in its ticks.
+pub(crate) fn shown_time(trak: &TrakBox, duration: u64, movie_timescale: u32) -> ShownTime {
+    let timescale = trak.mdia.mdhd.timescale;
+    let Some((last, before)) = edits_of(trak).split_last() else {
         return ShownTime {
             total: movie_ticks(duration, movie_timescale, timescale),
             last: None,
         };
     };
-    let sum = sum_of(entries);
-    if last.segment_duration != 0 || is_empty(last) {
+    let sum = sum_of(before);
+    if !lasts_to_the_end(last, trak, duration, movie_timescale) {
         return ShownTime {
-            total: sum,
+            total: sum.saturating_add(last.segment_duration),
             last: None,
         };
     }

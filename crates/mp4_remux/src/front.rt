@@ -200,9 +200,9 @@ fn plan<S: ByteSource + Drop>(
 /// [`mp4_media::Mp4File::read_sample`] where a sample isn't found, and: `Twice` for two file types or two movie boxes;
 /// `SaysPlaces` for a box that says places which aren't rewritten: `moof`, `mfra`, `sidx`, an `iloc` or `saio` in the
 /// movie box or in the file's metadata, or a `dref` that says that samples are in another file; `TooManySamples` where
-/// the tracks have more than the file has bytes; `Differs` where a sample wouldn't be read as before. `Read` where the
-/// source refuses, `Write` where the sink does: then the sink may have some first bytes of the file. A refusal that is
-/// none of memory, source or sink leaves the sink as it was.
+/// the tracks have more than the file has bytes; `SameIds` where two tracks have one id; `Differs` where a sample
+/// wouldn't be read as before. `Read` where the source refuses, `Write` where the sink does: then the sink may have
+/// some first bytes of the file. A refusal that is none of memory, source or sink leaves the sink as it was.
 pub fn move_to_front<S: ByteSource + Drop, K: ByteSink>(
     alloc: Global,
     source: S,

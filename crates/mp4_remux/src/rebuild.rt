@@ -309,12 +309,12 @@ fn write_chosen<S: ByteSource + Drop, K: ByteSink>(
     write_layout(alloc, source, movie, &layout, ids, sink)
 }
 
-/// Writes a movie whose samples are in fragments to a sink as one whose samples are in its tables (ISO/IEC 14496-12, 8.6
-/// to 8.8), also one that has both: the file type, the movie box, the other boxes in their order, and the data of all
-/// samples in that of the file, in one `mdat`. In the movie box each track has tables of its samples with the fewest
-/// entries, the durations are those of the samples or of the edits, and an edit of duration 0 at the end of its list, which
-/// lasts as long as there are fragments, gets its own; `mvex` is left out, and every other byte of it is there as it was.
-/// A file without fragments, in which none may follow, is written as it is.
+/// Writes a movie whose samples are in fragments to a sink as one whose samples are in its tables (ISO/IEC 14496-12,
+/// 8.6 to 8.8), also one that has both: the file type, the movie box, the other boxes in their order, and the data of
+/// all samples in that of the file, in one `mdat`. In the movie box each track has tables of its samples with the
+/// fewest entries, the durations are those of the samples or of the edits, and an edit that lasts to the end of the
+/// media, fragments and all, gets its own; `mvex` is left out, and every other byte of it is there as it was. A file
+/// without fragments, in which none may follow, is written as it is.
 ///
 /// The boxes `moof`, `mfra`, `sidx`, `ssix`, `styp` and `prft` are left out, and bytes of `mdat` that are no sample's.
 /// Beside times, sizes, places, descriptions and sync marks nothing of what fragments say of a sample has a table here:
@@ -357,8 +357,11 @@ pub fn gather<S: ByteSource + Drop, K: ByteSink>(
 /// long as the longest of its tracks. Every other byte of it is there as it was. Where the file has fragments, or says
 /// that they may follow, they are gathered as [`gather`] does.
 ///
-/// The order of the ids makes no difference: tracks are in that of their boxes. `TrakNotFound` for an id that isn't there,
-/// and refused as [`gather`]; where the file has no fragments, by `SaysPlaces` also for `mfra` and `sidx`.
+/// The order of the ids makes no difference: tracks are in that of their boxes. Samples that name a track by the index of
+/// a reference, as those of hint tracks do, may name another where references before it are left out.
+///
+/// `TrakNotFound` for an id that isn't there, and refused as [`gather`]; where the file has no fragments, by
+/// `SaysPlaces` also for `mfra` and `sidx`.
 pub fn choose<S: ByteSource + Drop, K: ByteSink>(
     alloc: Global,
     source: S,
