@@ -181,6 +181,9 @@ def with_fragments():
         lambda data: traf(1, [run(rows, "dsf", data)]),
         lambda data: traf(2, [run(rows[:3], "dsf", data + 20)])), DATA[:40])] * 3, extends=trex)
     yield "runs", fragmented(none, [(moof(lambda data: traf(1, [
+        run(rows, "ds", data), run(rows[:2], "s", data + 20), run([], "s", data), run(rows[:1], "dso", data + 2)])),
+        DATA[:40])], extends=trex)
+    yield "runs_without_places", fragmented(none, [(moof(lambda data: traf(1, [
         run(rows, "ds", data), run(rows[:2], "s"), run([], "s"), run(rows[:1], "dso", data + 2)])), DATA[:40])],
         extends=trex)
     yield "own_description", fragmented(
@@ -204,7 +207,7 @@ def with_fragments():
         [text(1, [], more=edits((20, 10), version=1)), text(2, [])], [(moof(first(1, rows)), DATA[:20])], extends=trex)
     yield "long_time", fragmented(
         [text(1, []), text(2, [])],
-        [(moof(first(1, [S(0, 4, 0xffffffff)] * 3)), DATA[:20])] * 2, extends=trex)
+        [(moof(first(1, [S(0, 4, 0x7fffffff)] * 3)), DATA[:20])] * 2, extends=trex)
     yield "dependencies", file_of(text(1, LINE), extends=trex, after=moof(first(1, rows, more=full(
         "sdtp", 0, 0, bytes(5)))) + box("mdat", DATA[:20]))
     yield "extends_alone", file_of(text(1, LINE), text(2, LINE[::-1]), extends=trex)
