@@ -149,7 +149,8 @@ class Comparison:
 
     def durations(self, number, old, new, duration):
         """The media lasts until its last sample was shown (8.4.2), the track as its edits; an edit that lasts to the
-        end of the media in a file of fragments, which says 0, says what is left of it (8.6.6)."""
+        end of the media in a file of fragments, which says 0 (8.6.6) or ends with the movie box's own media, says what
+        is left of it."""
         samples = samples_in(self.other)[number]
         media = max((max(0, each.start + each.offset + each.duration) for each in samples), default=0)
         header = inside(self.other, new, "mdia", "mdhd")
@@ -158,9 +159,13 @@ class Comparison:
         movie_header = inside(self.other, only(boxes_in(self.other), "moov"), "mvhd")
         ticks, scale = self.timescale(movie_header), self.timescale(header)
         before, after = edits_in(self.data, old), edits_in(self.other, new)
+        own = header_parts(self.data, inside(self.data, old, "mdia", "mdhd"))[1]
         expected = list(before)
-        if before and before[-1][0] == 0 and before[-1][1] >= 0:
-            expected[-1] = (-(-(media - before[-1][1]) * ticks // scale), before[-1][1])
+        if before and before[-1][1] >= 0:
+            lasts, time = before[-1]
+            to_own_end = max(0, -(-(own - time) * ticks // scale))
+            if lasts == 0 or 0 < own < media and to_own_end <= lasts + 1:
+                expected[-1] = (max(0, -(-(media - time) * ticks // scale)), time)
         if after != expected:
             self.note(f"track {number}: its edits are {after} and not {expected}")
         whole = sum(lasts for lasts, _ in after) if after else -(-media * ticks // scale)

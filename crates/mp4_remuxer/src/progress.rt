@@ -21,20 +21,26 @@ pub fn clear_line<R: Eprint>(rt: &R, is_terminal: bool) {
     }
 }
 
+/// What is done with bytes.
+#[derive(Clone, Copy)]
+pub enum Step {
+    Write,
+    Check,
+}
+
 /// Says on a terminal how many bytes are done, in a run that takes more than a second.
 #[derive(Drop)]
 pub struct Progress<'a, R> {
     rt: &'a R,
-    /// What is done with the bytes.
-    done: &'static str,
+    step: Step,
     /// When the last line was written, or the run began; `None` where nothing is to be written.
     last: Option<Instant>,
     count: u64,
 }
 
 impl<'a, R: Clock + Eprint> Progress<'a, R> {
-    /// A run that begins now, on a terminal or not, in which so is done with bytes.
-    pub fn new(rt: &'a R, is_terminal: bool, done: &'static str) -> Self {
+    /// A run that begins now, on a terminal or not.
+    pub fn new(rt: &'a R, is_terminal: bool, step: Step) -> Self {
         let last = if is_terminal {
             Instant::now(rt).ok()
         } else {
@@ -42,7 +48,7 @@ impl<'a, R: Clock + Eprint> Progress<'a, R> {
         };
         Progress {
             rt,
-            done,
+            step,
             last,
             count: 0,
         }
@@ -59,8 +65,10 @@ impl<'a, R: Clock + Eprint> Progress<'a, R> {
             _ => return,
         }
         let count = Grouped(self.count);
-        let done = self.done;
-        let _ = eprint!(self.rt; "\r{count} bytes {done}");
+        let _ = match self.step {
+            Step::Write => eprint!(self.rt; "\r{count} bytes written"),
+            Step::Check => eprint!(self.rt; "\r{count} bytes checked"),
+        };
         self.last = Instant::now(self.rt).ok();
     }
 }

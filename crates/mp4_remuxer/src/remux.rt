@@ -3,7 +3,7 @@
 use crate::faults::{Fault, no_track};
 use crate::files::{is_same_file, is_special, open};
 use crate::pipe_sink::PipeSink;
-use crate::progress::{Progress, WatchedSink, WatchedSource, clear_line};
+use crate::progress::{Progress, Step, WatchedSink, WatchedSource, clear_line};
 use crate::request::{Request, Task};
 use mp4_box_report::why_of;
 use mp4_media::{ByteSink, ByteSource, Error, Mp4File, SeekSink, SeekSource, SourceError, Window};
@@ -55,7 +55,7 @@ fn check_written<R: Clock + Eprint, S: ByteSource + Drop, F: Read + Seek + Drop>
     task: &Task,
 ) -> Result<(), Fault> {
     let mut source = source;
-    let progress = Progress::new(host.rt, host.is_terminal, "checked");
+    let progress = Progress::new(host.rt, host.is_terminal, Step::Check);
     let written = WatchedSource::new(SeekSource::new(written), progress);
     let after = match Window::new(host.alloc, written) {
         Ok(after) => after,
@@ -83,7 +83,7 @@ fn write_file<R: Clock + Eprint, S: ByteSource + Drop, F: Read + Write + Seek + 
     request: &Request,
 ) -> Result<u64, Fault> {
     let mut source = source;
-    let progress = Progress::new(host.rt, host.is_terminal, "written");
+    let progress = Progress::new(host.rt, host.is_terminal, Step::Write);
     let mut sink = WatchedSink::new(SeekSink::new(host.alloc, file)?, progress);
     write_movie(host.alloc, &mut source, &request.task, &mut sink)?;
     let len = ByteSink::len(&sink);
@@ -101,7 +101,7 @@ fn write_in_order<R: Clock + Eprint, S: ByteSource + Drop, W: Write + Drop>(
     out: W,
     request: &Request,
 ) -> Result<u64, Fault> {
-    let progress = Progress::new(host.rt, host.is_terminal, "written");
+    let progress = Progress::new(host.rt, host.is_terminal, Step::Write);
     let mut sink = WatchedSink::new(PipeSink::new(out), progress);
     write_movie(host.alloc, source, &request.task, &mut sink)?;
     Ok(ByteSink::len(&sink))
