@@ -125,10 +125,12 @@ fn copy_words(words: std::result::Result<String, AllocError>, room: &mut [u8]) -
     }
 }
 
-/// The words that say why a file doesn't open: those of the error, and after a colon the text of `InvalidData`.
+/// The words that say why a file doesn't open: those of the error, and after a colon the text of `InvalidData`. None
+/// where memory for opening it was refused.
 fn reason_of(alloc: Global, error: &Error) -> std::result::Result<String, AllocError> {
     match error {
         Error::InvalidData(text) => format!(in alloc; "{error}: {text}"),
+        Error::OutOfMemory => Err(AllocError),
         _ => words_of(alloc, error),
     }
 }
@@ -142,7 +144,6 @@ pub extern "C" fn mp4_c_open_error_text(alloc: Global, file: &[u8], room: &mut [
 {
     match opened(alloc, file) {
         Ok(_) => copy_to_front(plain_words(0).as_bytes(), room),
-        Err(Error::OutOfMemory) => Answer::refused(&Error::OutOfMemory),
         Err(error) => copy_words(reason_of(alloc, &error), room),
     }
 }
