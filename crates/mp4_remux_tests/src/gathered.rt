@@ -46,7 +46,12 @@ fn gathered(alloc: Global, file: &[u8]) -> Result<Vec<u8>, RemuxError> {
 
 /// Whether a file has these bytes somewhere.
 fn has(file: &[u8], part: &[u8]) -> bool {
-    file.windows(part.len()).any(|window| window == part)
+    for i in 0..file.len() {
+        if file[i..].starts_with(part) {
+            return true;
+        }
+    }
+    false
 }
 
 /// Whether the samples of the tables and of a fragment are in one chunk and in tables with the fewest entries.

@@ -10,6 +10,7 @@ mod checked;
 mod files;
 #[cfg(test)]
 mod front;
+#[cfg(test)]
 mod gathered;
 #[cfg(test)]
 mod refused;

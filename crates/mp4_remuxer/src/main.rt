@@ -6,14 +6,13 @@ mod commands;
 mod faults;
 mod files;
 mod pipe_sink;
-mod progress;
 mod remux;
 mod request;
 mod run;
 
 use crate::remux::Host;
 use crate::run::{FAULT, SUCCESS, WRONG_ARGUMENTS, run_words};
-use std::io::{ErrorKind, IsTerminal};
+use std::io::ErrorKind;
 use std::process::ExitCode;
 use std::{env, io};
 
@@ -23,7 +22,6 @@ fn run_process(rt: &HostRuntime) -> io::Result<u8> {
     let host = Host {
         rt,
         alloc: rt.alloc(),
-        is_terminal: rt.stderr().is_terminal(),
     };
     run_words(&host, words.as_slice(), &mut rt.stdout(), &mut rt.stderr())
 }

@@ -6,7 +6,7 @@ use crate::remux::{Host, remux};
 use crate::request::Request;
 use std::io;
 use std::io::Write;
-use std::rt::{Clock, Files};
+use std::rt::Files;
 
 /// The status of a run that succeeded.
 pub const SUCCESS: u8 = 0;
@@ -58,7 +58,7 @@ fn print_length<O: Write>(request: &Request, len: u64, out: &mut O) -> io::Resul
 /// fault, or 2 where the arguments are wrong. What a run says of faults is written to `err`.
 ///
 /// Refused where `err` refuses, or `out` refuses help or what is said of a file that was written.
-pub fn run_words<R: Files + Clock + Eprint, O: Write, E: Write>(
+pub fn run_words<R: Files, O: Write, E: Write>(
     host: &Host<R>,
     words: &[String],
     out: &mut O,
