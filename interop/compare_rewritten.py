@@ -17,7 +17,7 @@ from compare_remuxed import LONGEST, MOST_BYTES, MOST_TIME, changed, ran  # noqa
 from damage import damaged  # noqa: E402
 from movie_samples import inside, samples_in, tracks_in  # noqa: E402
 from remuxed import boxes_in, lost, paths  # noqa: E402
-from rewritten import edits_in, has_fragments, rewritten_differences  # noqa: E402
+from rewritten import OF_FRAGMENTS, TABLES, edits_in, has_fragments, rewritten_differences  # noqa: E402
 
 DAMAGED = int(os.environ.get("DAMAGED", 2000))
 SEED = 6
@@ -198,7 +198,8 @@ class Trial:
         self.note(name, found)
 
     def counted(self, tool, path, data, out):
-        """Counts what a tool made of a file of fragments; where it refused to, there is no file."""
+        """Counts what a tool made of a file of fragments; where it refused to, there is no file. The boxes of fragments
+        and of tables aren't missed."""
         counts = self.tools[tool]
         counts["tried"] += 1
         if not out.exists():
@@ -212,8 +213,8 @@ class Trial:
                   for of, tracks in ((data, before), (written, after))]
         counts["samples kept"] += values[0] == values[1]
         counts["kept"] += not found
-        gone = [box for box in lost(data, written) if box.split("/")[0] not in (
-            "moof", "mdat", "sidx", "mfra", "styp", "prft") and not box.startswith("moov/mvex")]
+        made = (*OF_FRAGMENTS, "mdat", "mvex", *TABLES)
+        gone = [box for box in lost(data, written) if not set(box.split("/")) & {*made}]
         counts["boxes missing"] += bool(gone)
         self.missing[tool].update(set(gone))
 
@@ -252,7 +253,7 @@ class Trial:
         for tool, counts in self.tools.items():
             print(f"{tool}: of {counts['tried']} files of fragments {counts['refused']} refused, "
                   f"{counts['samples kept']} with every sample as it was, {counts['kept']} with all else too, "
-                  f"{counts['boxes missing']} without boxes that were there")
+                  f"{counts['boxes missing']} without boxes that were there beside these")
             for path, count in self.missing[tool].most_common(12):
                 print(f"    without {path}: {count}")
 
