@@ -63,8 +63,9 @@ pub extern "C" fn mp4_c_move_to_front(alloc: Global, file: &[u8], room: &mut [u8
     copy_made(moved(alloc, file), room)
 }
 
-/// Copies a file whose samples are in its tables, and none in fragments, where there is room for all of it, as [`gather`]
-/// writes it. `count` is how many bytes it has, whatever the room, and `filled` is `count`, or 0 where they don't fit.
+/// Copies a file whose samples are in its tables, and none in fragments, where there is room for all of it, as
+/// [`gather`] writes it. `count` is how many bytes it has, whatever the room, and `filled` is `count`, or 0 where they
+/// don't fit.
 ///
 /// Refused as [`gather`] is, but for a source and a sink. The movie is made in memory, whatever the room.
 #[unsafe(no_mangle)]
@@ -74,8 +75,8 @@ pub extern "C" fn mp4_c_gather(alloc: Global, file: &[u8], room: &mut [u8]) -> A
     copy_made(gathered(alloc, file), room)
 }
 
-/// Copies a file of the tracks with these ids, where there is room for all of it, as [`choose`] writes it. `count` is how
-/// many bytes it has, whatever the room, and `filled` is `count`, or 0 where they don't fit.
+/// Copies a file of the tracks with these ids, where there is room for all of it, as [`choose`] writes it. `count` is
+/// how many bytes it has, whatever the room, and `filled` is `count`, or 0 where they don't fit.
 ///
 /// Refused as [`choose`] is, but for a source and a sink. The movie is made in memory, whatever the room.
 #[unsafe(no_mangle)]

@@ -5,5 +5,6 @@ use Rattle.mp4_c.proofs.remuxed.mp4_c_choose.Goals as goal
 
 pub returns : goal.returns
 returns c =
-    gave (λ v. v.items) (λ bytes. IsChosen c.args.file.now bytes c.args.track_ids.now) c.chosen.result _ _ _ c.chosen.ensures.chosen c.chosen.ensures.refused
-    c.copy_made.ensures.made c.copy_made.ensures.refused
+    gave (λ v. v.items) (λ bytes. IsChosen c.args.file.now bytes c.args.track_ids.now) c.chosen.result _ _ _
+    c.chosen.ensures.chosen
+    c.chosen.ensures.refused c.copy_made.ensures.made c.copy_made.ensures.refused
