@@ -35,7 +35,7 @@ OF_SAMPLES = ("sdtp", "stdp", "padb", "saiz", "senc")
 NOT_PROBED = "odd_runs_without_places.mp4"
 
 # What the reader of this folder can't make of bytes that are damaged.
-UNREADABLE = (struct.error, IndexError, KeyError, AttributeError, MemoryError)
+UNREADABLE = (struct.error, IndexError, KeyError, AttributeError, MemoryError, ZeroDivisionError)
 
 
 def probed(path):
@@ -228,7 +228,7 @@ class Trial:
         self.buffers += sum(map(len, before))
         has_edits = any(edits_in(data, track) for _, track in tracks_in(data))
         samples = [each for track in samples_in(data).values() for each in track]
-        is_raw = len({each.size for each in samples}) == 1
+        is_raw = len({each.size for each in samples[:-1]}) == 1
         found = []
         for k, (old, new) in enumerate(zip(before, after), 1):
             if any(each.offset < 0 for each in samples):

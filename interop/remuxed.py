@@ -69,8 +69,12 @@ def kept_pieces(data, movie_len):
 
 
 def moved(pieces, place):
-    """Where a byte of the file is then; one that isn't kept stays."""
-    return next((new + place - begin for begin, end, new in pieces if begin <= place < end), place)
+    """Where a byte of the file is then; for one that isn't kept, which no sample has, the end of those before it."""
+    before = [piece for piece in pieces if piece[0] <= place]
+    if not before:
+        return 0
+    begin, end, new = max(before)
+    return new + min(place, end) - begin
 
 
 def offsets_in(data, box):

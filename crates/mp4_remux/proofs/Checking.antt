@@ -14,11 +14,12 @@ use Rattle.mp4_media.specs.FileBoxes.{opened_movie}
 use Rattle.mp4_media.specs.FileGrammar.{IsFile}
 use Rattle.mp4_media.specs.MovieTracks.{AreTracks, at_id, opened_track}
 use Rattle.mp4_media.specs.Reading.{sample_count_in, sample_in, sample_there, track_or}
-use Rattle.mp4_remux.specs.Remuxed.{IsChecked, IsSameNumber, IsSameTrack, read_of}
+use Rattle.mp4_remux.specs.Reads.{read_of}
+use Rattle.mp4_remux.specs.Remuxed.{IsChecked, IsSameNumber, IsSameTrack}
 use Rattle.mp4_remux.proofs.Sameness.{counted_there, got}
 
 -- what is read of an opened movie is what its tracks have
-read_in_there : (m : Movie) → AreTracks m.moov m.moofs m.moof_places m.tracks → (id : ℕ) (file : List ℕ) (k : ℕ)
+pub read_in_there : (m : Movie) → AreTracks m.moov m.moofs m.moof_places m.tracks → (id : ℕ) (file : List ℕ) (k : ℕ)
     → read_of file (opened_movie m) id k ≡ sample_in file m.tracks id k
 unfolding read_of sample_in
 read_in_there m are id file k = rw (sym (are id)) (by (at_id m.tracks id))

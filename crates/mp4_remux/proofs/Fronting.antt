@@ -10,6 +10,7 @@ use Rattle.mp4_codec.specs.declared.box_type.BoxType.TheVariants.{FtypBox as fty
 use Rattle.mp4_source.specs.Answers.{IsLength}
 use Rattle.mp4_remux.specs.declared.layout.Layout.{Layout}
 use Rattle.mp4_remux.specs.Front.{in_front, IsBoxOf, IsMoved, IsMovieFirst, WritesFront, as_it_is, moved}
+use Rattle.mp4_remux.specs.declared.made.Made.TheVariants.{Offsets}
 use Rattle.mp4_remux.specs.Kept.{IsKept, offsets}
 use Rattle.mp4_remux.specs.Remuxed.{IsRemuxed, WritesRemuxed, ids_of}
 use Rattle.std.proofs.Common.{Result, Ok, Err, OnOk, subst}
@@ -104,7 +105,8 @@ writes_as_it_is (Some xs) had has (Ok u) a f = (xs, (a, as_it_is f refl))
 -- a file with its movie box in front is written
 pub writes_moved : (known had has : Option (List ℕ)) (r : Result (Unit {0}) RemuxError) (l : Layout)
     (opened : OpenedFile) (ids : List ℕ)
-    → OnOk r (IfSome known (λ xs. WritesRemuxed xs (spliced xs l.made.items l.pieces.items) opened ids had has))
+    → OnOk r (IfSome known (λ xs. WritesRemuxed xs (spliced xs l.made.items l.pieces.items) opened Offsets ids had
+    has))
     → IfSome known (λ xs. IsMoved xs (spliced xs l.made.items l.pieces.items)) → ids ≡ ids_of opened.moov
     → OnOk r (IfSome known (λ xs. WritesFront xs had has))
 writes_moved known had has (Err e) l opened ids w m is = tt
@@ -112,5 +114,5 @@ writes_moved None had has (Ok u) l opened ids w m is = tt
 writes_moved (Some xs) had has (Ok u) l opened ids w m is =
     let ys = spliced xs l.made.items l.pieces.items in (
       ys,
-      (w.0, moved opened w.1.0 m (subst (λ (kept : List ℕ). IsRemuxed xs ys opened w.1.0 kept) is w.1.1)),
+      (w.0, moved opened w.1.0 m (subst (λ (kept : List ℕ). IsRemuxed xs ys opened w.1.0 kept) is w.1.1.0)),
     )

@@ -9,9 +9,13 @@ use Rattle.mp4_remux.specs.declared.error.RemuxError.{RemuxError}
 use Rattle.mp4_remux.specs.declared.layout.Layout.{Layout}
 use Rattle.mp4_remux.specs.declared.piece.Piece.{Piece}
 use Rattle.mp4_remux.specs.declared.top_level.TopBox.{TopBox}
-use Rattle.mp4_remux.specs.Gathered.{IsFrameOf, BeginsWith, WritesRebuilt, WritesGathered, WritesChosen}
+use Rattle.mp4_remux.specs.Gathered.{IsFrameOf, BeginsWith, IsRebuilt, WritesRebuilt, WritesGathered, WritesChosen}
 use Rattle.mp4_remux.specs.Gathered.{as_it_is, gathered}
-use Rattle.mp4_remux.specs.Kept.{IsKept, of_tables, tracks}
+use Rattle.mp4_remux.specs.declared.made.Made.{Made}
+use Rattle.mp4_remux.specs.declared.made.Made.TheVariants.{Tables}
+use Rattle.mp4_remux.specs.Headers.{DurationsOf, changed_by, made_of}
+use Rattle.mp4_remux.specs.Kept.{IsKept, tracks}
+use Rattle.mp4_remux.specs.Reads.{AreThere}
 use Rattle.mp4_remux.specs.Remuxed.{IsRemuxed, WritesRemuxed, ids_of, kept_of}
 use Rattle.mp4_remux.specs.Splice.{spliced}
 
@@ -33,12 +37,12 @@ front_of [] ys = refl
 front_of (x ∷ xs) ys = ap (λ (zs : List ℕ). x ∷ zs) (front_of xs ys)
 
 -- a layout of such pieces begins with a movie box that is as it was
-pub begins_with : (file_type : TopBox) (movie_bytes made header movie : List ℕ) (pieces : List Piece) (len : ℕ)
-    → made ≡ movie ++ header → length movie ≡ len → IsKept of_tables tracks movie_bytes movie
+pub begins_with : (what : Made) (file_type : TopBox) (movie_bytes made header movie : List ℕ) (pieces : List Piece) (len : ℕ)
+    → made ≡ movie ++ header → length movie ≡ len → IsKept (changed_by what) tracks movie_bytes movie
     → ((source made : List ℕ) → (rest : List ℕ) × (spliced source made pieces
     ≡ between source file_type.place file_type.end ++ (between made 0 len ++ rest)))
-    → BeginsWith file_type movie_bytes made pieces
-begins_with file_type movie_bytes made header movie pieces len is long kept all =
+    → BeginsWith what file_type movie_bytes made pieces
+begins_with what file_type movie_bytes made header movie pieces len is long kept all =
     record {
       movie = movie;
       kept = kept;
@@ -53,9 +57,10 @@ begins_with file_type movie_bytes made header movie pieces len is long kept all 
 -- a layout that begins with the file type and the movie box is written
 pub writes_rebuilt : (known had has : Option (List ℕ)) (r : Result (Unit {0}) RemuxError) (l : Layout)
     (opened : OpenedFile) (ids : List ℕ) (file_type movie : TopBox) (movie_bytes : List ℕ)
-    → OnOk r (IfSome known (λ xs. WritesRemuxed xs (spliced xs l.made.items l.pieces.items) opened ids had has))
+    → OnOk r (IfSome known (λ xs. WritesRemuxed xs (spliced xs l.made.items l.pieces.items) opened (made_of opened) ids
+    had has))
     → IfSome known (λ xs. IsFrameOf xs file_type movie movie_bytes)
-    → BeginsWith file_type movie_bytes l.made.items l.pieces.items
+    → BeginsWith (made_of opened) file_type movie_bytes l.made.items l.pieces.items
     → OnOk r (IfSome known (λ xs. WritesRebuilt xs opened ids had has))
 writes_rebuilt known had has (Err e) l opened ids file_type movie movie_bytes w f b = tt
 writes_rebuilt None had has (Ok u) l opened ids file_type movie movie_bytes w f b = tt
@@ -71,7 +76,7 @@ writes_rebuilt (Some xs) had has (Ok u) l opened ids file_type movie movie_bytes
         rest = (b.bytes xs).0;
         has_file_type = f.has_file_type;
         has_movie = f.has_movie;
-        kept = subst (λ (bytes : List ℕ). IsKept of_tables tracks bytes b.movie) f.movie_is b.kept;
+        kept = subst (λ (bytes : List ℕ). IsKept (changed_by (made_of opened)) tracks bytes b.movie) f.movie_is b.kept;
         bytes = (b.bytes xs).1;
       },
       w.1,
@@ -91,33 +96,37 @@ writes_as_it_is (Some xs) had has (Ok u) opened a f none no_more = (xs, (a, as_i
 -- a file with all its tracks is one whose fragments are gathered
 pub writes_gathered : (known had has : Option (List ℕ)) (r : Result (Unit {0}) RemuxError) (opened : OpenedFile)
     (ids : List ℕ) → OnOk r (IfSome known (λ xs. WritesRebuilt xs opened ids had has)) → ids ≡ ids_of opened.moov
-    → OnOk r (IfSome known (λ xs. WritesGathered xs had has))
-writes_gathered known had has (Err e) opened ids w is = tt
-writes_gathered None had has (Ok u) opened ids w is = tt
-writes_gathered (Some xs) had has (Ok u) opened ids w is = (
+    → made_of opened ≡ Tables → OnOk r (IfSome known (λ xs. WritesGathered xs had has))
+writes_gathered known had has (Err e) opened ids w is all = tt
+writes_gathered None had has (Ok u) opened ids w is all = tt
+writes_gathered (Some xs) had has (Ok u) opened ids w is all = (
   w.0,
   (
     w.1.0,
-    gathered opened w.1.1.1.0 w.1.1.0
-        (subst (λ (kept : List ℕ). IsRemuxed xs w.0 opened w.1.1.1.0 kept) is w.1.1.1.1),
+    gathered opened w.1.1.1.0 (subst (λ made. IsRebuilt made xs w.0) all w.1.1.0)
+        (subst (λ (kept : List ℕ). IsRemuxed xs w.0 opened w.1.1.1.0 kept) is w.1.1.1.1.0)
+        (subst (λ made. DurationsOf made w.1.1.1.0) all w.1.1.1.1.1),
   ),
 )
 
 -- a file with the tracks of these ids is one of them
-pub writes_chosen : (known had has : Option (List ℕ)) (r : Result (Unit {0}) RemuxError) (opened : OpenedFile)
+pub writes_chosen : {A : Type 0} (known had has : Option (List ℕ)) (r : Result A RemuxError) (opened : OpenedFile)
     (kept ids : List ℕ) → OnOk r (IfSome known (λ xs. WritesRebuilt xs opened kept had has))
-    → kept ≡ kept_of ids (ids_of opened.moov) → OnOk r (IfSome known (λ xs. WritesChosen xs ids had has))
-writes_chosen known had has (Err e) opened kept ids w is = tt
-writes_chosen None had has (Ok u) opened kept ids w is = tt
-writes_chosen (Some xs) had has (Ok u) opened kept ids w is = (
+    → kept ≡ kept_of ids (ids_of opened.moov) → AreThere opened ids
+    → OnOk r (IfSome known (λ xs. WritesChosen xs ids had has))
+writes_chosen known had has (Err e) opened kept ids w is there = tt
+writes_chosen None had has (Ok u) opened kept ids w is there = tt
+writes_chosen (Some xs) had has (Ok u) opened kept ids w is there = (
   w.0,
   (
     w.1.0,
     record {
       opened = opened;
       rewritten = w.1.1.1.0;
+      there = there;
       rebuilt = w.1.1.0;
-      remuxed = subst (λ (kept : List ℕ). IsRemuxed xs w.0 opened w.1.1.1.0 kept) is w.1.1.1.1;
+      durations = w.1.1.1.1.1;
+      remuxed = subst (λ (kept : List ℕ). IsRemuxed xs w.0 opened w.1.1.1.0 kept) is w.1.1.1.1.0;
     },
   ),
 )

@@ -11,6 +11,8 @@ use Rattle.mp4_media.specs.FileBoxes.{opened_movie}
 use Rattle.mp4_media.specs.FileGrammar.{IsFile}
 use Rattle.mp4_remux.specs.declared.error.RemuxError.{RemuxError}
 use Rattle.mp4_remux.specs.declared.layout.Layout.{Layout}
+use Rattle.mp4_remux.specs.declared.made.Made.{Made}
+use Rattle.mp4_remux.specs.Headers.{DurationsOf, KeepsHeaders}
 use Rattle.mp4_remux.specs.Remuxed.{WritesRemuxed, ids_of}
 use Rattle.mp4_remux.specs.Same.{IsTrackAsBefore}
 use Rattle.mp4_remux.specs.Splice.{spliced}
@@ -36,7 +38,7 @@ measured_after known known_after l len measured is whole =
     rw (is, whole) (counted known l.made.items l.pieces.items l.source_len l.len measured l.follow)
 
 pub writes_remuxed : (known known_after had has : Option (List ℕ)) (l : Layout) (before after : Movie) (len : ℕ)
-    (kept : List ℕ) → IsLength known l.source_len
+    (made : Made) (kept : List ℕ) → IsLength known l.source_len
     → IfSome known (λ xs. IsFile (length xs) (here xs 0) (opened_movie before))
     → known_after ≡ option_map (λ xs. spliced xs l.made.items l.pieces.items) known → len ≡ l.len
     → IfSome known_after (λ ys. IsFile len (here ys 0) (opened_movie after))
@@ -44,12 +46,14 @@ pub writes_remuxed : (known known_after had has : Option (List ℕ)) (l : Layout
     → ((t : TrakBox) (i : ℕ) → slice_get after.moov.traks i ≡ Some t
     → IsTrackAsBefore l.source_len l.made.items l.pieces.items (opened_movie before) (opened_movie after)
     t.tkhd.track_id)
+    → KeepsHeaders (opened_movie before) (opened_movie after) → DurationsOf made (opened_movie after)
     → IfSome known_after (λ ys. IsAppended had has ys)
-    → IfSome known (λ xs. WritesRemuxed xs (spliced xs l.made.items l.pieces.items) (opened_movie before) kept had has)
-writes_remuxed None known_after had has l before after len kept measured opens is whole opens_after ids none tracks
-    written = tt
-writes_remuxed (Some xs) known_after had has l before after len kept measured opens is whole opens_after ids none tracks
-    written =
+    → IfSome known (λ xs. WritesRemuxed xs (spliced xs l.made.items l.pieces.items) (opened_movie before) made kept had
+    has)
+writes_remuxed None known_after had has l before after len made kept measured opens is whole opens_after ids none tracks
+    headers durations written = tt
+writes_remuxed (Some xs) known_after had has l before after len made kept measured opens is whole opens_after ids none
+    tracks headers durations written =
     let ys = spliced xs l.made.items l.pieces.items in
     let long : len ≡ length ys =
     whole ∙ counted (Some xs) l.made.items l.pieces.items l.source_len l.len measured l.follow in
@@ -59,12 +63,16 @@ writes_remuxed (Some xs) known_after had has l before after len kept measured op
       appended,
       (
         opened_movie after,
-        record {
-          opens = opens;
-          opens_after = subst (λ n. IsFile n (here ys 0) (opened_movie after)) long file;
-          ids = ids;
-          unfragmented = none;
-          tracks = λ t i there. tracks t i there xs (sym measured);
-        },
+        (
+          record {
+            opens = opens;
+            opens_after = subst (λ n. IsFile n (here ys 0) (opened_movie after)) long file;
+            ids = ids;
+            unfragmented = none;
+            headers = headers;
+            tracks = λ t i there. tracks t i there xs (sym measured);
+          },
+          durations,
+        ),
       ),
     )

@@ -17,7 +17,7 @@ use Rattle.mp4_media.specs.FileBoxes.{opened_movie}
 use Rattle.mp4_media.specs.MovieTracks.{AreTracks, at_id, opened_track}
 use Rattle.mp4_media.specs.Reading.{located_in, sample_count_in, track_or}
 use Rattle.mp4_remux.specs.declared.piece.Piece.{Piece}
-use Rattle.mp4_remux.specs.Remuxed.{count_of, read_of}
+use Rattle.mp4_remux.specs.Reads.{count_of, place_in, read_of}
 use Rattle.mp4_remux.specs.Same.{IsSamePlace, IsNumberAsBefore, IsTrackAsBefore}
 use Rattle.mp4_remux.specs.Splice.{spliced, Follow, IsPartOfBoth}
 use Rattle.mp4_remux.proofs.Pieces.{length-spliced}
@@ -34,6 +34,17 @@ module _ (m : Movie) (are : AreTracks m.moov m.moofs m.moof_places m.tracks) (id
       by : (o : Option Mp4Track)
           → (track_or id (option_map opened_track o) >>= λ t. sample_at file t.trak t.trafs t.runs k)
           ≡ ((track_or id o >>= λ t. answer_at t.trak t.trafs (track_runs t) k) >>= read_in file)
+      by None = refl
+      by (Some t) = refl
+
+  -- where a sample is
+  pub placed_there : (k : ℕ) → place_in (opened_movie m) id k ≡ located_in m.tracks id k
+  unfolding place_in located_in
+  placed_there k = rw (sym (are id)) (by (at_id m.tracks id))
+    where
+      by : (o : Option Mp4Track)
+          → (track_or id (option_map opened_track o) >>= λ t. answer_at t.trak t.trafs t.runs k)
+          ≡ (track_or id o >>= λ t. answer_at t.trak t.trafs (track_runs t) k)
       by None = refl
       by (Some t) = refl
 

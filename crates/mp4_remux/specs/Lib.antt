@@ -1,7 +1,10 @@
+pub mod Alike
 pub mod Errors
 pub mod Front
 pub mod Gathered
+pub mod Headers
 pub mod Kept
+pub mod Reads
 pub mod Remuxed
 pub mod Same
 pub mod Splice

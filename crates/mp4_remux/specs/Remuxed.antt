@@ -2,34 +2,21 @@
 use Rattle.std.specs.Prelude.{◌≡◌, ◌+◌, ◌≤◌, ◌==◌, ℕ, Bool, true, false, if◌then◌else◌, ◌⊎◌, Option, Some, None}
 use Rattle.std.specs.Prelude.{List, [], ◌∷◌, length, map, slice_get}
 use Rattle.std.specs.List.{list_any}
-use Rattle.std.specs.Prelude.{Result, Ok}
-use Rattle.mp4_codec.specs.Cause.{Cause, ◌>>=◌}
+use Rattle.std.specs.Prelude.{Ok}
 use Rattle.mp4_codec.specs.Cursor.{here}
 use Rattle.mp4_boxes.specs.declared.trak.TrakBox.{TrakBox}
 use Rattle.mp4_boxes.specs.declared.moov.MoovBox.{MoovBox}
-use Rattle.mp4_lookup.specs.Rates.{sample_count_of}
-use Rattle.mp4_lookup.specs.Tracks.{sample_at}
 use Rattle.mp4_samples.specs.Samples.{TimedSample}
 use Rattle.mp4_source.specs.Sink.{IsAppended}
 use Rattle.mp4_media.specs.FileBoxes.{OpenedFile}
 use Rattle.mp4_media.specs.FileGrammar.{IsFile}
-use Rattle.mp4_media.specs.MovieTracks.{track_at}
-use Rattle.mp4_media.specs.Reading.{track_or}
+use Rattle.mp4_remux.specs.declared.made.Made.{Made}
+use Rattle.mp4_remux.specs.Headers.{DurationsOf, KeepsHeaders}
+use Rattle.mp4_remux.specs.Reads.{count_of, read_of}
 
 -- the ids of a movie's tracks, in the order of their boxes (ISO/IEC 14496-12, 8.3.2)
 abbrev pub ids_of : MoovBox → List ℕ
 ids_of moov = map (λ (t : TrakBox). t.tkhd.track_id) moov.traks
-
--- what is read at number k of the track with this id, in a file that was opened so
-unfoldable pub read_of : List ℕ → OpenedFile → ℕ → ℕ → Result (Option TimedSample) Cause
-read_of file opened id k =
-    track_or id (track_at opened.moov opened.moofs opened.moof_places id)
-    >>= λ t. sample_at file t.trak t.trafs t.runs k
-
--- how many samples that track has
-unfoldable pub count_of : OpenedFile → ℕ → Result ℕ Cause
-count_of opened id =
-    track_or id (track_at opened.moov opened.moofs opened.moof_places id) >>= λ t. sample_count_of t.trak t.runs
 
 -- at number k both files have this sample, or neither has one
 abbrev pub IsSameNumber : List ℕ → List ℕ → OpenedFile → OpenedFile → ℕ → ℕ → Bool → Type 0
@@ -52,19 +39,21 @@ kept_of ids [] = []
 kept_of ids (x ∷ xs) = if list_any (λ y. y == x) ids then x ∷ kept_of ids xs else kept_of ids xs
 
 -- The one file is the other rewritten: both are files, the tracks of the rewritten one have these ids, it has no
--- fragments, and each of its tracks is read from it as from the other.
+-- fragments, its headers say what they did, but for durations, and each of its tracks is read from it as from the other.
 pub record IsRemuxed (before after : List ℕ) (opened rewritten : OpenedFile) (kept : List ℕ) : Type 0 where
   pub opens : IsFile (length before) (here before 0) opened
   pub opens_after : IsFile (length after) (here after 0) rewritten
   pub ids : ids_of rewritten.moov ≡ kept
   pub unfragmented : rewritten.moofs ≡ []
+  pub headers : KeepsHeaders opened rewritten
   pub tracks : (t : TrakBox) (i : ℕ) → slice_get rewritten.moov.traks i ≡ Some t
       → IsSameTrack before after opened rewritten t.tkhd.track_id
 
--- After the bytes that a sink had come these, which are those of the file rewritten.
-abbrev pub WritesRemuxed : List ℕ → List ℕ → OpenedFile → List ℕ → Option (List ℕ) → Option (List ℕ) → Type 0
-WritesRemuxed before after opened kept had has = IsAppended had has after
-    × ((rewritten : OpenedFile) × IsRemuxed before after opened rewritten kept)
+-- After the bytes that a sink had come these, which are those of the file rewritten, with the durations of what was
+-- made.
+abbrev pub WritesRemuxed : List ℕ → List ℕ → OpenedFile → Made → List ℕ → Option (List ℕ) → Option (List ℕ) → Type 0
+WritesRemuxed before after opened made kept had has = IsAppended had has after
+    × ((rewritten : OpenedFile) × (IsRemuxed before after opened rewritten kept × DurationsOf made rewritten))
 
 -- Both are files, and the tracks with these ids are read from the one as from the other, which has no more.
 pub record IsChecked (before after ids : List ℕ) : Type 0 where

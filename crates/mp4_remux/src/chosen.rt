@@ -1,7 +1,10 @@
 //! Tracks of a movie that are kept.
 
 ghost use Rattle.std.specs.Prelude.{◌≡◌, ◌↔◌, List, length, IfErr, IfOk, OnOk, IsTrue};
+ghost use Rattle.mp4_media.specs.FileBoxes.{opened_movie};
+ghost use Rattle.mp4_media.specs.MovieTracks.{AreTracks};
 ghost use Rattle.mp4_remux.specs.Errors.{IsRefusalOf};
+ghost use Rattle.mp4_remux.specs.Reads.{AreThere};
 ghost use Rattle.mp4_remux.specs.Remuxed.{ids_of, kept_of};
 
 use crate::error::RemuxError;
@@ -37,14 +40,28 @@ fn kept_of(alloc: Global, all: &[u32], ids: &[u32]) -> Result<Vec<u32>, RemuxErr
     Ok(kept)
 }
 
+/// Checks that a movie has tracks with these ids. `TrakNotFound` where one isn't there.
+fn check_ids(movie: &Movie, ids: &[u32]) -> Result<(), RemuxError>
+    requires { AreTracks movie.now.moov movie.now.moofs movie.now.moof_places movie.now.tracks }
+    ensures there { OnOk result (AreThere (opened_movie movie.now) ids.now) }
+    ensures refused { IfErr result (IsRefusalOf ⊥ ⊥) }
+{
+    let mut i = 0;
+    while i < ids.len() {
+        movie.track(ids[i])?;
+        i += 1;
+    }
+    Ok(())
+}
+
 /// The ids of the tracks that are to be kept, in the order of their boxes. `TrakNotFound` where one isn't there.
 pub(crate) fn kept_ids(alloc: Global, movie: &Movie, ids: &[u32]) -> Result<Vec<u32>, RemuxError>
+    requires { AreTracks movie.now.moov movie.now.moofs movie.now.moof_places movie.now.tracks }
+    ensures there { OnOk result (AreThere (opened_movie movie.now) ids.now) }
     ensures ids { IfOk result (λ kept. kept.items ≡ kept_of ids.now (ids_of movie.now.moov)) }
     ensures refused { IfErr result (IsRefusalOf ⊥ ⊥) }
 {
-    for id in ids {
-        movie.track(*id)?;
-    }
+    check_ids(movie, ids)?;
     let all = all_ids(alloc, movie)?;
     kept_of(alloc, &all, ids)
 }

@@ -9,8 +9,8 @@ use crate::error::RemuxError;
 use mp4_source::{ByteSink, ByteSource, read_into};
 use std::alloc::Global;
 
-/// How many bytes are copied at once: 1 MiB.
-const BLOCK: u64 = 1 << 20;
+/// How many bytes are copied at once: 128 KiB, which stay in a processor's cache until they are written.
+const BLOCK: u64 = 1 << 17;
 
 /// Adds all bytes of a source, of which there are `len`, to a sink, and lets it hand them on: block after block, so
 /// that no more than a block of them is in memory.

@@ -6,7 +6,6 @@ ghost use Rattle.mp4_remux.specs.Errors.{IsRefusalOf};
 use crate::error::RemuxError;
 use crate::moves::Move;
 use crate::same::place_of_any;
-use mp4_codec::Error;
 use mp4_media::{Movie, SamplePlace};
 use std::alloc::Global;
 
@@ -35,24 +34,24 @@ fn push_extent(extents: &mut Vec<Extent>, extent: Extent) -> Result<(), RemuxErr
     Ok(())
 }
 
-/// The bytes of a sample; `EndOfData` where they pass 64 bits.
-fn extent_of(sample: &SamplePlace) -> Result<Extent, RemuxError>
-    ensures refused { IfErr result (IsRefusalOf ⊥ ⊥) }
-{
-    match sample.offset.checked_add(u64::from(sample.size)) {
-        Some(end) => Ok(Extent {
-            place: sample.offset,
-            end,
-        }),
-        None => Err(RemuxError::Mp4(Error::EndOfData)),
+/// The bytes of a sample; none where they pass the end of a file of `len` bytes.
+fn extent_of(sample: &SamplePlace, len: u64) -> Option<Extent> {
+    let end = sample.offset.checked_add(u64::from(sample.size))?;
+    if end > len {
+        return None;
     }
+    Some(Extent {
+        place: sample.offset,
+        end,
+    })
 }
 
-/// Adds the bytes of the samples of a track, and answers how many samples these are. `TooManySamples` where they are
-/// more than `most`.
+/// Adds the bytes of the samples of a track in a file of `len` bytes, and answers how many samples these are. `Differs`
+/// for one that isn't whole in the file, `TooManySamples` where they are more than `most`.
 fn push_track(
     movie: &Movie,
     track_id: u32,
+    len: u64,
     most: u32,
     extents: &mut Vec<Extent>,
 ) -> Result<u32, RemuxError>
@@ -65,7 +64,9 @@ fn push_track(
         let Some(sample) = place_of_any(movie, track_id, k + 1)? else {
             return Ok(k);
         };
-        let extent = extent_of(&sample)?;
+        let Some(extent) = extent_of(&sample, len) else {
+            return Err(RemuxError::Differs(track_id, k + 1));
+        };
         if extent.place < extent.end {
             push_extent(extents, extent)?;
         }
@@ -74,12 +75,13 @@ fn push_track(
     Err(RemuxError::TooManySamples(track_id))
 }
 
-/// The bytes of the samples of these tracks, in the order of the file, those of two samples once. `TooManySamples`
-/// where the samples are more than `most`.
+/// The bytes of the samples of these tracks in a file of `len` bytes, in its order, those of two samples once. `Differs`
+/// for a sample that isn't whole in the file, `TooManySamples` where they are more than `most`.
 pub(crate) fn data_of(
     alloc: Global,
     movie: &Movie,
     ids: &[u32],
+    len: u64,
     most: u32,
 ) -> Result<Vec<Extent>, RemuxError>
     requires most { most < 2 ^ 32 - 1 }
@@ -89,7 +91,7 @@ pub(crate) fn data_of(
     let mut left = most;
     let mut i = 0;
     while i < ids.len() {
-        left -= push_track(movie, ids[i], left, &mut extents)?;
+        left -= push_track(movie, ids[i], len, left, &mut extents)?;
         i += 1;
     }
     extents.sort_by_key(|extent| extent.place)?;

@@ -1,7 +1,8 @@
 //! Edit lists of tracks whose tables are made (ISO/IEC 14496-12, 8.6.6).
 
-ghost use Rattle.std.specs.Prelude.{length, IfErr};
+ghost use Rattle.std.specs.Prelude.{◌≡◌, length, IfErr};
 ghost use Rattle.mp4_remux.specs.Errors.{IsRefusalOf};
+ghost use Rattle.mp4_remux.specs.Headers.{edits_of_box};
 
 use crate::box_bytes::{BoxBytes, end_box, first_box};
 use crate::error::RemuxError;
@@ -46,7 +47,9 @@ fn sum_of(entries: &[ElstEntry]) -> u64 {
 }
 
 /// The edits of a track, in the order in which they are shown.
-fn edits_of(trak: &TrakBox) -> &[ElstEntry] {
+pub(crate) fn edits_of(trak: &TrakBox) -> &[ElstEntry]
+    ensures { result.now ≡ edits_of_box trak.now.edts }
+{
     match &trak.edts {
         Some(edts) => match &edts.elst {
             Some(elst) => elst.entries.as_slice(),

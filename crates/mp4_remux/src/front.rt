@@ -14,6 +14,7 @@ use crate::error::RemuxError;
 use crate::frame::{check_header, check_metadata, checked_bytes, only_box};
 use crate::kept::is_kept;
 use crate::layout::Layout;
+use crate::made::{Made, OFFSETS};
 use crate::moves::{Move, Moves};
 use crate::movie_box::{MovieEdit, edited};
 use crate::piece::{Origin, Piece};
@@ -24,9 +25,6 @@ use crate::top_level::{TopBox, top_boxes};
 use mp4_codec::{BoxType, Error, Limit};
 use mp4_source::{ByteSink, ByteSource};
 use std::alloc::Global;
-
-/// The codes of the boxes that may be others in a movie box: `stco` and `co64`.
-const OFFSETS: [u32; 2] = [0x7374_636f, 0x636f_3634];
 
 /// Whether no movie box comes after data.
 fn is_in_front(boxes: &[TopBox]) -> bool
@@ -194,7 +192,7 @@ fn plan<S: ByteSource + Drop>(
 ///
 /// The file is opened. Where its movie box has to move, each sample of each track is looked up before a byte is
 /// written, in the file and in what would be written. In memory are then the movie's tables twice, the bytes of its
-/// movie box twice, and a block of 1 MiB.
+/// movie box twice, and a block of 128 KiB.
 ///
 /// Refused as [`mp4_media::Mp4File::open`]. Where the movie box has to move, also as
 /// [`mp4_media::Mp4File::read_sample`] where a sample isn't found, and: `Twice` for two file types or two movie boxes;
@@ -221,5 +219,5 @@ pub fn move_to_front<S: ByteSource + Drop, K: ByteSink>(
         return copy_all(alloc, &mut source, len, sink);
     };
     let ids = all_ids(alloc, &before)?;
-    write_layout(alloc, source, &before, &layout, &ids, sink)
+    write_layout(alloc, source, &before, &layout, &ids, Made::Offsets, sink)
 }

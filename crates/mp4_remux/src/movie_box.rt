@@ -15,7 +15,7 @@ use mp4_codec::BoxType;
 use std::alloc::Global;
 
 /// `tref`, where the references of a track to others are (8.3.3).
-const REFERENCES: u32 = 0x7472_6566;
+pub(crate) const REFERENCES: u32 = 0x7472_6566;
 
 /// `stz2`, which has the sizes of samples in few bits (8.7.3.3).
 const COMPACT_SIZES: u32 = 0x7374_7a32;

@@ -7,7 +7,9 @@ ghost use Rattle.mp4_media.specs.FileBoxes.{opened_movie};
 ghost use Rattle.mp4_media.specs.FileGrammar.{IsFile, between};
 ghost use Rattle.mp4_media.specs.MovieTracks.{AreTracks};
 ghost use Rattle.mp4_remux.specs.Gathered.{BeginsWith, WritesChosen, WritesGathered, WritesRebuilt};
-ghost use Rattle.mp4_remux.specs.Kept.{IsKept, of_tables, tracks};
+ghost use Rattle.mp4_remux.specs.Headers.{changed_by, made_of};
+ghost use Rattle.mp4_remux.specs.Kept.{IsKept, tracks};
+ghost use Rattle.mp4_remux.specs.declared.made.Made.TheVariants.{Tables};
 ghost use Rattle.mp4_remux.specs.Splice.{spliced};
 ghost use Rattle.mp4_source.specs.Answers.{IsLength};
 ghost use Rattle.mp4_remux.specs.Errors.{IsNamed, IsRefusalOf, MayRefuse};
@@ -18,8 +20,9 @@ use crate::data::{Extent, closed_up, data_of};
 use crate::edits::shown_time;
 use crate::error::RemuxError;
 use crate::frame::{Frame, read_frame};
-use crate::kept::is_kept;
 use crate::layout::Layout;
+use crate::left_out::{LeftOut, references_left_out};
+use crate::made::Made;
 use crate::moves::{Move, Moves};
 use crate::movie_box::{MadeTrack, MovieEdit, TrackEdit, edited};
 use crate::piece::{Origin, Piece};
@@ -34,32 +37,22 @@ use mp4_media::Movie;
 use mp4_source::{ByteSink, ByteSource};
 use std::alloc::Global;
 
-/// The codes of the boxes that may be others in a movie box.
-const OF_TABLES: [u32; 14] = [
-    0x6564_7473,
-    0x6d76_6578,
-    0x746b_6864,
-    0x6d64_6864,
-    0x7374_7473,
-    0x6374_7473,
-    0x7374_7373,
-    0x7374_7363,
-    0x7374_737a,
-    0x7374_7a32,
-    0x6d76_6864,
-    0x7472_6566,
-    0x7374_636f,
-    0x636f_3634,
-];
-
-/// The code of the boxes that may be left out.
-const TRACKS: [u32; 1] = [0x7472_616b];
-
 /// Whether samples of the movie are or may be in fragments.
 fn has_fragments(movie: &Movie) -> bool
-    ensures { IsFalse result → (movie.now.moofs ≡ []) × (movie.now.moov.mvex ≡ None) }
+    ensures none { IsFalse result → (movie.now.moofs ≡ []) × (movie.now.moov.mvex ≡ None) }
+    ensures some { IsTrue result → made_of (opened_movie movie.now) ≡ Tables }
 {
     movie.is_fragmented() || movie.moov.mvex.is_some()
+}
+
+/// What is made anew where tracks are chosen.
+fn made_of(movie: &Movie) -> Made
+    ensures { result ≡ made_of (opened_movie movie.now) }
+{
+    if has_fragments(movie) {
+        return Made::Tables;
+    }
+    Made::Tracks
 }
 
 /// What becomes of a track that is kept: its tables are made where the movie may have fragments.
@@ -118,14 +111,11 @@ fn edit_of(
         edit.tracks.push(one)?;
     }
     edit.is_gathered = has_fragments(movie);
-    let drops = kept < edit.tracks.len();
-    if drops {
+    edit.duration = Some(duration);
+    if kept < edit.tracks.len() {
         let mut references = Vec::with_capacity(alloc, ids.len())?;
         references.extend_from_slice(ids)?;
         edit.ids = Some(references);
-    }
-    if drops || edit.is_gathered {
-        edit.duration = Some(duration);
     }
     Ok(edit)
 }
@@ -217,10 +207,11 @@ fn made_bytes(
     edit: &MovieEdit,
     moves: &Moves,
     header: &[u8],
+    what: Made,
     movie_len: &mut u64,
 ) -> Result<Option<Vec<u8>>, RemuxError>
     ensures kept { IfOk result (λ x. IfSome x (λ made. (movie : List ℕ) × (made.items ≡ movie ++ header.now)
-        × ((length movie ≡ movie_len.new) × IsKept of_tables tracks frame.now.movie_bytes.items movie))) }
+        × ((length movie ≡ movie_len.new) × IsKept (changed_by what) tracks frame.now.movie_bytes.items movie))) }
     ensures refused { IfErr result (IsRefusalOf ⊥ ⊥) }
 {
     let mut made = edited(alloc, &frame.movie_bytes, edit, moves)?;
@@ -229,7 +220,7 @@ fn made_bytes(
         *movie_len = len;
         return Ok(None);
     }
-    if !is_kept(&frame.movie_bytes, &made, &OF_TABLES, &TRACKS, 0) {
+    if !what.keeps(&frame.movie_bytes, &made) {
         return Err(RemuxError::OtherTracks);
     }
     made.extend_from_slice(header)?;
@@ -243,8 +234,10 @@ fn plan_data(
     edit: &MovieEdit,
     extents: &[Extent],
     list: &[Move],
+    what: Made,
 ) -> Result<(Vec<u8>, Vec<Piece>), RemuxError>
-    ensures begins { IfOk result (λ x. BeginsWith frame.now.file_type frame.now.movie_bytes.items x.0.items x.1.items) }
+    ensures begins { IfOk result (λ x.
+        BeginsWith what frame.now.file_type frame.now.movie_bytes.items x.0.items x.1.items) }
     ensures refused { IfErr result (IsRefusalOf ⊥ ⊥) }
 {
     let header = data_header(alloc, len_of(extents))?;
@@ -253,7 +246,7 @@ fn plan_data(
         let before = frame.len_before_data(movie_len);
         let base = before.saturating_add(header.len() as u64);
         let moves = Moves { list, base };
-        if let Some(made) = made_bytes(alloc, frame, edit, &moves, &header, &mut movie_len)? {
+        if let Some(made) = made_bytes(alloc, frame, edit, &moves, &header, what, &mut movie_len)? {
             let pieces = data_pieces(alloc, frame, movie_len, made.len() as u64, extents)?;
             return Ok((made, pieces));
         }
@@ -271,21 +264,23 @@ fn plan(
 ) -> Result<Layout, RemuxError>
     ensures source_len { IfOk result (λ l. l.source_len ≡ len) }
     ensures begins { IfOk result (λ l.
-        BeginsWith frame.now.file_type frame.now.movie_bytes.items l.made.items l.pieces.items) }
+        BeginsWith (made_of (opened_movie movie.now)) frame.now.file_type frame.now.movie_bytes.items l.made.items
+        l.pieces.items) }
     ensures refused { IfErr result (IsRefusalOf ⊥ ⊥) }
 {
     let most = most_samples(len);
-    let extents = data_of(alloc, movie, ids, most)?;
+    let extents = data_of(alloc, movie, ids, len, most)?;
     let moves = closed_up(alloc, &extents)?;
     let edit = edit_of(alloc, movie, ids, &moves, most)?;
-    let (made, pieces) = plan_data(alloc, frame, &edit, &extents, &moves)?;
+    let (made, pieces) = plan_data(alloc, frame, &edit, &extents, &moves, made_of(movie))?;
     match Layout::new(len, made, pieces) {
         Some(layout) => Ok(layout),
         None => Err(RemuxError::OtherTracks),
     }
 }
 
-/// Writes a movie of the tracks with these ids, which are in the order of their boxes.
+/// Writes a movie of the tracks with these ids, which are in the order of their boxes, and answers which references of
+/// them are left out.
 fn write_chosen<S: ByteSource + Drop, K: ByteSink>(
     alloc: Global,
     source: S,
@@ -293,7 +288,7 @@ fn write_chosen<S: ByteSource + Drop, K: ByteSink>(
     movie: &Movie,
     ids: &[u32],
     sink: &mut K,
-) -> Result<(), RemuxError>
+) -> Result<Vec<LeftOut>, RemuxError>
     requires len { IsLength (S.contents source) len }
     requires tracks { AreTracks movie.now.moov movie.now.moofs movie.now.moof_places movie.now.tracks }
     requires opened { IfSome (S.contents source) (λ xs. IsFile (length xs) (here xs 0) (opened_movie movie.now)) }
@@ -305,8 +300,15 @@ fn write_chosen<S: ByteSource + Drop, K: ByteSink>(
 {
     let (source, frame) = read_frame(alloc, source, len, has_fragments(movie))?;
     let layout = plan(alloc, &frame, movie, ids, len)?;
+    let left_out = references_left_out(
+        alloc,
+        &frame.movie_bytes,
+        movie.moov.traks.as_slice(),
+        ids,
+    )?;
     drop(frame);
-    write_layout(alloc, source, movie, &layout, ids, sink)
+    write_layout(alloc, source, movie, &layout, ids, made_of(movie), sink)?;
+    Ok(left_out)
 }
 
 /// Writes a movie whose samples are in fragments to a sink as one whose samples are in its tables (ISO/IEC 14496-12,
@@ -322,7 +324,7 @@ fn write_chosen<S: ByteSource + Drop, K: ByteSink>(
 /// more.
 ///
 /// The file is opened, and each sample of each track is looked up before a byte is written, in the file and in what
-/// would be written. In memory are then the movie's tables twice and a block of 1 MiB.
+/// would be written. In memory are then the movie's tables twice and a block of 128 KiB.
 ///
 /// Refused as [`mp4_media::Mp4File::open`], and as [`mp4_media::Mp4File::read_sample`] where a sample isn't found; and:
 /// `StartsElsewhere` where a sample doesn't begin when the one before it ends, or the first of a track at 0;
@@ -348,7 +350,8 @@ pub fn gather<S: ByteSource + Drop, K: ByteSink>(
         return copy_all(alloc, &mut source, len, sink);
     }
     let ids = all_ids(alloc, &movie)?;
-    write_chosen(alloc, source, len, &movie, &ids, sink)
+    write_chosen(alloc, source, len, &movie, &ids, sink)?;
+    Ok(())
 }
 
 /// Writes a movie to a sink with these of its tracks alone, by their ids, and with the data of their samples: the file
@@ -356,6 +359,9 @@ pub fn gather<S: ByteSource + Drop, K: ByteSink>(
 /// movie box the other tracks are left out, and the references to them; the chunk offsets are others, and the movie is as
 /// long as the longest of its tracks. Every other byte of it is there as it was. Where the file has fragments, or says
 /// that they may follow, they are gathered as [`gather`] does.
+///
+/// The answer says which references are left out, in the order of the file: those of a track that is kept to one that
+/// isn't, be it there or not. Where all tracks are kept, none is.
 ///
 /// The order of the ids makes no difference: tracks are in that of their boxes. Samples that name a track by the index of
 /// a reference, as those of hint tracks do, may name another where references before it are left out.
@@ -367,7 +373,7 @@ pub fn choose<S: ByteSource + Drop, K: ByteSink>(
     source: S,
     sink: &mut K,
     ids: &[u32],
-) -> Result<(), RemuxError>
+) -> Result<Vec<LeftOut>, RemuxError>
     ensures written { OnOk result (IfSome (S.contents source) (λ xs.
         WritesChosen xs ids.now (K.contents sink.old) (K.contents sink.new))) }
     ensures kept { IfErr result (λ e. IsNamed e → K.contents sink.new ≡ K.contents sink.old) }

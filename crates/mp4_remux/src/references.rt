@@ -8,7 +8,7 @@ use crate::error::RemuxError;
 use byteorder::{BigEndian, ByteOrder};
 
 /// The track with this id, in the four bytes of a reference.
-fn id_in(reference: &[u8]) -> u32 {
+pub(crate) fn id_in(reference: &[u8]) -> u32 {
     if reference.len() >= 4 {
         BigEndian::read_u32(reference)
     } else {

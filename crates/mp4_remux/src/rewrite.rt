@@ -13,7 +13,9 @@ ghost use Rattle.mp4_remux.specs.Splice.{spliced};
 
 use crate::copy::copy_all;
 use crate::error::RemuxError;
+use crate::headers::{has_durations, keeps_headers};
 use crate::layout::Layout;
+use crate::made::Made;
 use crate::same::check_same;
 use crate::splice::Splice;
 use mp4_media::{Movie, Mp4File};
@@ -59,14 +61,16 @@ pub(crate) fn open_source<S: ByteSource + Drop>(
     Ok((source, len, movie))
 }
 
-/// Writes the file that a layout says, where it has the tracks with these ids and no fragments, and every sample of them
-/// is read from it as before; else nothing is written.
+/// Writes the file that a layout says, in which so much was made anew, where it has the tracks with these ids and no
+/// fragments, its headers say what they have to, and every sample of the tracks is read from it as before; else nothing
+/// is written.
 pub(crate) fn write_layout<S: ByteSource + Drop, K: ByteSink>(
     alloc: Global,
     source: S,
     before: &Movie,
     layout: &Layout,
     ids: &[u32],
+    made: Made,
     sink: &mut K,
 ) -> Result<(), RemuxError>
     requires len { IsLength (S.contents source) layout.now.source_len }
@@ -74,7 +78,7 @@ pub(crate) fn write_layout<S: ByteSource + Drop, K: ByteSink>(
     requires opened { IfSome (S.contents source) (λ xs.
         IsFile (length xs) (here xs 0) (opened_movie before.now)) }
     ensures written { OnOk result (IfSome (S.contents source) (λ xs.
-        WritesRemuxed xs (spliced xs layout.now.made.items layout.now.pieces.items) (opened_movie before.now) ids.now
+        WritesRemuxed xs (spliced xs layout.now.made.items layout.now.pieces.items) (opened_movie before.now) made ids.now
         (K.contents sink.old) (K.contents sink.new))) }
     ensures kept { IfErr result (λ e. IsNamed e → K.contents sink.new ≡ K.contents sink.old) }
     ensures refused { IfErr result (IsRefusalOf (MayRefuse (S.contents source) (S.can_refuse source))
@@ -83,7 +87,13 @@ pub(crate) fn write_layout<S: ByteSource + Drop, K: ByteSink>(
     let splice = Splice::new(source, layout.try_clone(alloc)?);
     let len = layout.len();
     let (mut splice, after) = open_whole(alloc, splice, len)?;
-    check_same(before, &after, layout, ids)?;
+    check_same(before, &after, layout, ids, made)?;
+    if !keeps_headers(before, &after) {
+        return Err(RemuxError::OtherTracks);
+    }
+    if !has_durations(&after, made) {
+        return Err(RemuxError::OtherTracks);
+    }
     drop(after);
     copy_all(alloc, &mut splice, len, sink)
 }

@@ -1,16 +1,23 @@
 //! Whether every sample is read as before.
 
-ghost use Rattle.std.specs.Prelude.{◌≡◌, ◌↔◌, ◌-◌, ◌<◌, ◌≤◌, ◌^◌, ℕ, [], Some, IfErr, IfOk, OnOk, IsTrue, slice_get};
+ghost use Rattle.std.specs.Prelude.{◌≡◌, ◌↔◌, ◌-◌, ◌<◌, ◌≤◌, ◌^◌, ℕ, [], Some, Ok, IfErr, IfOk, OnOk, IsTrue};
+ghost use Rattle.std.specs.Prelude.{is_some, option_map, slice_get};
 ghost use Rattle.mp4_boxes.specs.declared.trak.TrakBox.{TrakBox};
 ghost use Rattle.mp4_samples.specs.Places.{place_of};
 ghost use Rattle.mp4_media.specs.FileBoxes.{opened_movie};
 ghost use Rattle.mp4_media.specs.MovieTracks.{AreTracks};
 ghost use Rattle.mp4_remux.specs.Errors.{IsRefusalOf};
+ghost use Rattle.mp4_remux.specs.Headers.{IsShownUntil};
+ghost use Rattle.mp4_remux.specs.Reads.{place_in};
 ghost use Rattle.mp4_remux.specs.Remuxed.{ids_of};
+ghost use Rattle.mp4_remux.specs.declared.made.Made.TheVariants.{Tables};
 ghost use Rattle.mp4_remux.specs.Same.{IsSamePlace, IsNumberAsBefore, IsTrackAsBefore};
 
 use crate::error::RemuxError;
 use crate::layout::Layout;
+use crate::made::Made;
+use crate::shown::shown_end;
+use mp4_boxes::TrakBox;
 use mp4_codec::is_equal;
 use mp4_media::{Movie, SamplePlace};
 
@@ -33,23 +40,25 @@ fn is_same(layout: &Layout, before: &SamplePlace, after: &SamplePlace) -> bool
     layout.is_part(after.offset, before.offset, before.size)
 }
 
-/// Whether sample `k` of a track is there, which is the same before and after; else it is an error.
+/// Where sample `k` of a track is after, which is the same before and after, or is there neither before nor after; else
+/// it is an error.
 fn check_sample(
     before: &Movie,
     after: &Movie,
     layout: &Layout,
     track_id: u32,
     k: u32,
-) -> Result<bool, RemuxError>
+) -> Result<Option<SamplePlace>, RemuxError>
     requires before { AreTracks before.now.moov before.now.moofs before.now.moof_places before.now.tracks }
     requires after { AreTracks after.now.moov after.now.moofs after.now.moof_places after.now.tracks }
-    ensures same { IfOk result (λ there. IsNumberAsBefore layout.now.source_len layout.now.made.items
-        layout.now.pieces.items (opened_movie before.now) (opened_movie after.now) track_id k there) }
+    ensures same { IfOk result (λ p. IsNumberAsBefore layout.now.source_len layout.now.made.items
+        layout.now.pieces.items (opened_movie before.now) (opened_movie after.now) track_id k (is_some p)) }
+    ensures there { IfOk result (λ p. place_in (opened_movie after.now) track_id k ≡ Ok (option_map place_of p)) }
     ensures refused { IfErr result (IsRefusalOf ⊥ ⊥) }
 {
     let Some(kept) = before.place(track_id, k)? else {
         return match after.place(track_id, k)? {
-            None => Ok(false),
+            None => Ok(None),
             Some(_) => Err(RemuxError::Differs(track_id, k)),
         };
     };
@@ -59,14 +68,14 @@ fn check_sample(
     if !is_same(layout, &kept, &moved) {
         return Err(RemuxError::Differs(track_id, k));
     }
-    Ok(true)
+    Ok(Some(moved))
 }
 
-/// Whether the first sample of a track can't be looked up.
+/// Whether the first sample of a track isn't there, or can't be looked up, as of tables that are empty.
 fn is_nowhere(movie: &Movie, track_id: u32) -> bool {
     match movie.place(track_id, 1) {
-        Ok(_) => false,
-        Err(_) => true,
+        Ok(Some(_)) => false,
+        Ok(None) | Err(_) => true,
     }
 }
 
@@ -88,20 +97,31 @@ pub(crate) fn place_of_any(
     Ok(place?)
 }
 
-/// How many samples a track has, which are the same before and after. `TooManySamples` where they are more than `most`.
+/// A track that is the same before and after.
+#[derive(Debug, Clone, Copy)]
+struct SameTrack {
+    /// How many samples it has.
+    count: u32,
+    /// When all of them have been shown, in ticks of the track; the largest number where that passes 64 bits.
+    end: u64,
+}
+
+/// A track whose samples are the same before and after. `TooManySamples` where they are more than `most`.
 fn count_same(
     before: &Movie,
     after: &Movie,
     layout: &Layout,
     track_id: u32,
     most: u32,
-) -> Result<u32, RemuxError>
+) -> Result<SameTrack, RemuxError>
     requires before { AreTracks before.now.moov before.now.moofs before.now.moof_places before.now.tracks }
     requires after { AreTracks after.now.moov after.now.moofs after.now.moof_places after.now.tracks }
     requires most { most < 2 ^ 32 - 1 }
     ensures same { OnOk result (IsTrackAsBefore layout.now.source_len layout.now.made.items
         layout.now.pieces.items (opened_movie before.now) (opened_movie after.now) track_id) }
-    ensures few { IfOk result (λ count. count ≤ most) }
+    ensures end { IfOk result (λ same. same.end < 2 ^ 64 - 1
+        → IsShownUntil (opened_movie after.now) track_id same.end) }
+    ensures few { IfOk result (λ same. same.count ≤ most) }
     ensures refused { IfErr result (IsRefusalOf ⊥ ⊥) }
 {
     let count = before.sample_count(track_id)?;
@@ -109,16 +129,48 @@ fn count_same(
         return Err(RemuxError::OtherTracks);
     }
     if count == 0 && is_nowhere(before, track_id) && is_nowhere(after, track_id) {
-        return Ok(0);
+        return Ok(SameTrack { count: 0, end: 0 });
     }
     let mut k = 0;
+    let mut end = 0;
     while k <= most {
-        if !check_sample(before, after, layout, track_id, k + 1)? {
-            return Ok(k);
-        }
+        let Some(sample) = check_sample(before, after, layout, track_id, k + 1)? else {
+            return Ok(SameTrack { count: k, end });
+        };
+        end = shown_end(&sample).max(end);
         k += 1;
     }
     Err(RemuxError::TooManySamples(track_id))
+}
+
+/// How many samples the track of this box has, which are the same before and after. `OtherTracks` where tables were made
+/// and its media don't last until all have been shown, `TooManySamples` where they are more than `most`.
+fn check_track(
+    before: &Movie,
+    after: &Movie,
+    layout: &Layout,
+    trak: &TrakBox,
+    made: Made,
+    most: u32,
+) -> Result<u32, RemuxError>
+    requires before { AreTracks before.now.moov before.now.moofs before.now.moof_places before.now.tracks }
+    requires after { AreTracks after.now.moov after.now.moofs after.now.moof_places after.now.tracks }
+    requires most { most < 2 ^ 32 - 1 }
+    ensures same { OnOk result (IsTrackAsBefore layout.now.source_len layout.now.made.items
+        layout.now.pieces.items (opened_movie before.now) (opened_movie after.now) trak.now.tkhd.track_id) }
+    ensures media { OnOk result (made ≡ Tables
+        → IsShownUntil (opened_movie after.now) trak.now.tkhd.track_id trak.now.mdia.mdhd.duration) }
+    ensures few { IfOk result (λ count. count ≤ most) }
+    ensures refused { IfErr result (IsRefusalOf ⊥ ⊥) }
+{
+    let same = count_same(before, after, layout, trak.tkhd.track_id, most)?;
+    if !made.has_tables() {
+        return Ok(same.count);
+    }
+    if same.end < u64::MAX && trak.mdia.mdhd.duration == same.end {
+        return Ok(same.count);
+    }
+    Err(RemuxError::OtherTracks)
 }
 
 /// Whether a movie has tracks of these ids, in this order.
@@ -148,13 +200,14 @@ pub(crate) fn most_samples(len: u64) -> u32
 }
 
 /// Checks that a movie which is opened from a layout has tracks of these ids and no fragments, and that each is read as
-/// in its file. `SameIds` where two of that have one id; `TooManySamples` where the samples are more than the file has
-/// bytes.
+/// in its file; and where tables were made, that its media last until all samples have been shown. `SameIds` where two
+/// of that have one id; `TooManySamples` where the samples are more than the file has bytes.
 pub(crate) fn check_same(
     before: &Movie,
     after: &Movie,
     layout: &Layout,
     ids: &[u32],
+    made: Made,
 ) -> Result<(), RemuxError>
     requires before { AreTracks before.now.moov before.now.moofs before.now.moof_places before.now.tracks }
     requires after { AreTracks after.now.moov after.now.moofs after.now.moof_places after.now.tracks }
@@ -163,6 +216,8 @@ pub(crate) fn check_same(
     ensures tracks { OnOk result ((t : TrakBox) (i : ℕ) → slice_get after.now.moov.traks i ≡ Some t
         → IsTrackAsBefore layout.now.source_len layout.now.made.items layout.now.pieces.items
         (opened_movie before.now) (opened_movie after.now) t.tkhd.track_id) }
+    ensures media { OnOk result (made ≡ Tables → (t : TrakBox) (i : ℕ) → slice_get after.now.moov.traks i ≡ Some t
+        → IsShownUntil (opened_movie after.now) t.tkhd.track_id t.mdia.mdhd.duration) }
     ensures refused { IfErr result (IsRefusalOf ⊥ ⊥) }
 {
     if before.tracks().len() < before.moov.traks.len() {
@@ -175,7 +230,7 @@ pub(crate) fn check_same(
     let mut left = most_samples(layout.source_len());
     let mut i = 0;
     while i < traks.len() {
-        left -= count_same(before, after, layout, traks[i].tkhd.track_id, left)?;
+        left -= check_track(before, after, layout, &traks[i], made, left)?;
         i += 1;
     }
     Ok(())

@@ -7,6 +7,7 @@ use crate::descriptions::Descriptions;
 use crate::error::RemuxError;
 use crate::moves::Moves;
 use crate::same::place_of_any;
+use crate::shown::shown_end;
 use mp4_boxes::MoovBox;
 use mp4_codec::{SharedItems, WriteBox};
 use mp4_media::{Movie, SamplePlace};
@@ -85,7 +86,7 @@ impl SampleTables {
         push_chunk(&mut self.chunks, place, begins, description)?;
         self.end = place.saturating_add(u64::from(sample.size));
         self.duration = self.duration.saturating_add(u64::from(sample.duration));
-        self.shown = self.shown.max(end_of(sample));
+        self.shown = self.shown.max(shown_end(sample));
         Ok(())
     }
 
@@ -114,17 +115,6 @@ impl SampleTables {
             chunks: chunks.iter().map(|chunk| chunk.place).collect(alloc)?,
             duration: shown,
         })
-    }
-}
-
-/// When a sample has been shown.
-fn end_of(sample: &SamplePlace) -> u64 {
-    let decoded = sample.start_time.saturating_add(u64::from(sample.duration));
-    let offset = u64::from(sample.rendering_offset.unsigned_abs());
-    if sample.rendering_offset < 0 {
-        decoded.saturating_sub(offset)
-    } else {
-        decoded.saturating_add(offset)
     }
 }
 

@@ -67,3 +67,13 @@ pub fn front(alloc: Global) -> Result<Vec<u8>, AllocError> {
     let movie = movie_with(alloc, before_samples, before_samples + 6)?;
     joined(alloc, &[file_type(), &movie, &DATA])
 }
+
+/// Whether a file has these bytes somewhere.
+pub fn has(file: &[u8], part: &[u8]) -> bool {
+    for i in 0..file.len() {
+        if file[i..].starts_with(part) {
+            return true;
+        }
+    }
+    false
+}

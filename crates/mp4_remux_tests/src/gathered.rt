@@ -1,7 +1,9 @@
 //! Movies whose fragments are gathered, and movies of some of their tracks.
 
 use crate::asserts::check;
-use crate::files::{DATA, UNKNOWN, data_first, file_type, joined, movie_of_tables, movie_with};
+use crate::files::{
+    DATA, UNKNOWN, data_first, file_type, has, joined, movie_of_tables, movie_with,
+};
 use mp4_media::{Error, read_mp4};
 use mp4_plain_movies::movie_bytes::FULL_MOVIE;
 use mp4_remux::{RemuxError, check_samples, choose, gather};
@@ -12,6 +14,24 @@ const FRAGMENT: [u8; 113] = *b"\0\0\0\x64moof\0\0\0\x10mfhd\0\0\0\0\0\0\0\x01\0\
     \0\0\0\x10tfhd\0\x02\0\0\0\0\0\x01\0\0\0\x10tfdt\0\0\0\0\0\0\x05\xdc\
     \0\0\0\x24trun\0\0\x03\x01\0\0\0\x02\0\0\0\x6c\0\0\x01\xf4\0\0\0\x04\0\0\x02\x58\0\0\0\x01\
     \0\0\0\x0dmdatijklm";
+
+/// The movie box of one track without samples, which fragments may bring.
+const EMPTY_MOVIE: [u8; 529] =
+    *b"\0\0\x02\x11moov\0\0\0lmvhd\0\0\0\0\0\0\0\0\0\0\0\0\0\0\x03\xe8\0\0\0\0\0\x01\0\0\x01\0\0\0\0\0\0\0\0\0\
+    \0\0\0\x01\0\0\0\0\0\0\0\0\0\0\0\0\0\0\0\x01\0\0\0\0\0\0\0\0\0\0\0\0\0\0@\0\0\0\0\0\0\0\0\0\0\0\0\0\0\0\
+    \0\0\0\0\0\0\0\0\0\0\0\0\0\0\0\x02\0\0\x01utrak\0\0\0`tkhd\0\0\0\x07\0\0\0\0\0\0\0\0\0\0\0\x01\0\0\0\0\0\
+    \0\0\0\0\0\0\0\0\0\0\0\0\0\0\0\0\0\0\0\0\0\0\0\0\x01\0\0\0\0\0\0\0\0\0\0\0\0\0\0\0\x01\0\0\0\0\0\0\0\0\0\
+    \0\0\0\0\0@\0\0\0\0\0\0\0\0\0\0\0\0\0\x01\x0dmdia\0\0\0\x20mdhd\0\0\0\0\0\0\0\0\0\0\0\0\0\0\x03\xe8\0\0\
+    \0\0U\xc4\0\0\0\0\0!hdlr\0\0\0\0\0\0\0\0text\0\0\0\0\0\0\0\0\0\0\0\0\0\0\0\0\xc4minf\0\0\0\x0cnmhd\0\0\0\
+    \0\0\0\0$dinf\0\0\0\x1cdref\0\0\0\0\0\0\0\x01\0\0\0\x0curl\x20\0\0\0\x01\0\0\0\x8cstbl\0\0\0@stsd\0\0\0\
+    \0\0\0\0\x01\0\0\00tx3g\0\0\0\0\0\0\0\x01\0\0\0\0\0\0\0\0\0\0\0\0\0\0\0\0\0\0\0\0\0\0\0\0\0\0\0\0\0\0\0\
+    \x01\0\0\0\x10stts\0\0\0\0\0\0\0\0\0\0\0\x10stsc\0\0\0\0\0\0\0\0\0\0\0\x14stsz\0\0\0\0\0\0\0\0\0\0\0\0\0\
+    \0\0\x10stco\0\0\0\0\0\0\0\0\0\0\0(mvex\0\0\0\x20trex\0\0\0\0\0\0\0\x01\0\0\0\x01\0\0\0\x01\0\0\0\x01\0\
+    \0\0\0";
+
+/// A fragment that brings none.
+const EMPTY_FRAGMENT: [u8; 48] =
+    *b"\0\0\00moof\0\0\0\x10mfhd\0\0\0\0\0\0\0\x01\0\0\0\x18traf\0\0\0\x10tfhd\0\x02\0\0\0\0\0\x01";
 
 /// The place of the last byte of the fragment's time.
 const TIME: usize = 63;
@@ -44,14 +64,17 @@ fn gathered(alloc: Global, file: &[u8]) -> Result<Vec<u8>, RemuxError> {
     Ok(out)
 }
 
-/// Whether a file has these bytes somewhere.
-fn has(file: &[u8], part: &[u8]) -> bool {
-    for i in 0..file.len() {
-        if file[i..].starts_with(part) {
-            return true;
-        }
-    }
-    false
+/// Whether a track without samples is gathered, of which a fragment has a box without runs (8.8.7).
+fn gathers_none(alloc: Global) -> Result<bool, RemuxError> {
+    let file = joined(alloc, &[file_type(), &EMPTY_MOVIE, &EMPTY_FRAGMENT])?;
+    let out = gathered(alloc, &file)?;
+    let movie = read_mp4(alloc, &out)?;
+    Ok(movie.sample_count(1)? == 0 && !has(&out, b"moof") && !has(&out, b"mvex"))
+}
+
+#[test]
+fn a_fragment_without_samples_is_gathered(rt: HostRuntime) {
+    check(&rt, gathers_none(rt.alloc()));
 }
 
 /// Whether the samples of the tables and of a fragment are in one chunk and in tables with the fewest entries.

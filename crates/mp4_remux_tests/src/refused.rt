@@ -5,7 +5,7 @@ use crate::files::{DATA, data_first, file_type, joined, movie_with};
 use crate::sinks::FirstBytes;
 use crate::sources::Refusing;
 use mp4_media::{BoxType, Error};
-use mp4_remux::{RemuxError, move_to_front};
+use mp4_remux::{RemuxError, choose, move_to_front};
 use std::alloc::Global;
 
 /// Why a file isn't rewritten, and how many bytes were written.
@@ -93,6 +93,20 @@ fn refuses_lost_samples(alloc: Global) -> Result<bool, RemuxError> {
 #[test]
 fn samples_that_would_be_lost_are_refused(rt: HostRuntime) {
     check(&rt, refuses_lost_samples(rt.alloc()));
+}
+
+/// Whether a sample past the end of the file is named where its track is chosen.
+fn names_a_sample_past_the_end(alloc: Global) -> Result<bool, RemuxError> {
+    let movie = movie_with(alloc, 48, 100_000)?;
+    let file = joined(alloc, &[file_type(), &DATA, &movie])?;
+    let mut out = Vec::new(alloc);
+    let chosen = choose(alloc, file.as_slice(), &mut out, &[1]);
+    Ok(matches!(chosen, Err(RemuxError::Differs(1, 3))) && out.is_empty())
+}
+
+#[test]
+fn a_sample_past_the_end_is_named(rt: HostRuntime) {
+    check(&rt, names_a_sample_past_the_end(rt.alloc()));
 }
 
 /// Whether a movie is refused whose data reference says that its samples are in another file.

@@ -6,22 +6,29 @@ mod commands;
 mod faults;
 mod files;
 mod pipe_sink;
+mod progress;
 mod remux;
 mod request;
 mod run;
 
 use crate::remux::Host;
 use crate::run::{FAULT, SUCCESS, WRONG_ARGUMENTS, run_words};
-use std::io::ErrorKind;
+use std::io::{ErrorKind, IsTerminal};
 use std::process::ExitCode;
 use std::{env, io};
 
 /// A run with the words of the command line, the program's name first.
 fn run_process(rt: &HostRuntime) -> io::Result<u8> {
     let words: Vec<String> = env::args(rt)?.collect(rt.alloc())?;
+    let stderr = rt.stderr();
     let host = Host {
         rt,
         alloc: rt.alloc(),
+        terminal: if stderr.is_terminal() {
+            Some(stderr)
+        } else {
+            None
+        },
     };
     run_words(&host, words.as_slice(), &mut rt.stdout(), &mut rt.stderr())
 }

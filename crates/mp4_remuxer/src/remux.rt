@@ -3,34 +3,63 @@
 use crate::faults::{Fault, no_track};
 use crate::files::{is_same_file, is_special, open};
 use crate::pipe_sink::PipeSink;
+use crate::progress::{Progress, WatchedSink};
 use crate::request::{Request, Task};
 use mp4_box_report::why_of;
 use mp4_media::{ByteSink, ByteSource, Error, Mp4File, SeekSink, SeekSource, SourceError, Window};
 use mp4_new_file::NewFile;
-use mp4_remux::{RemuxError, check_samples, choose, gather, move_to_front};
+use mp4_remux::{LeftOut, RemuxError, check_samples, choose, gather, move_to_front};
 use std::alloc::Global;
 use std::io::{Read, Seek, Write};
-use std::rt::Files;
+use std::rt::{Files, Stderr};
 
-/// What a run has of the system: its calls, and memory.
+/// What a run has of the system: its calls, memory, and where it says how far it is.
 #[derive(Drop)]
 pub struct Host<'a, R> {
     pub rt: &'a R,
     pub alloc: Global,
+    /// Standard error, where that is a terminal.
+    pub terminal: Option<Stderr>,
 }
 
-/// Writes what a task makes of a file to a sink.
+/// What was written.
+#[derive(Drop)]
+pub struct Written {
+    /// How many bytes it has.
+    pub len: u64,
+    /// The references between tracks that it hasn't any more.
+    pub left_out: Vec<LeftOut>,
+}
+
+/// Writes what a task makes of a file to a sink, and answers which references are left out.
 fn write_movie<S: ByteSource + Drop, K: ByteSink>(
     alloc: Global,
     source: S,
     task: &Task,
     sink: &mut K,
-) -> Result<(), RemuxError> {
+) -> Result<Vec<LeftOut>, RemuxError> {
     match task {
-        Task::Front => move_to_front(alloc, source, sink),
-        Task::Gather => gather(alloc, source, sink),
-        Task::Tracks(ids) => choose(alloc, source, sink, ids.as_slice()),
+        Task::Front => move_to_front(alloc, source, sink)?,
+        Task::Gather => gather(alloc, source, sink)?,
+        Task::Tracks(ids) => return choose(alloc, source, sink, ids.as_slice()),
     }
+    Ok(Vec::new(alloc))
+}
+
+/// Writes what a task makes of a file to a sink, and says on a terminal how far it is.
+fn write_watched<S: ByteSource + Drop, K: ByteSink + Drop>(
+    alloc: Global,
+    source: S,
+    task: &Task,
+    sink: K,
+    terminal: Option<Stderr>,
+) -> Result<(K, Vec<LeftOut>), Fault> {
+    let mut source = source;
+    let len = source.len().map_err(Fault::CannotRead)?;
+    let mut sink = WatchedSink::new(sink, Progress::new(terminal, len));
+    let answer = write_movie(alloc, source, task, &mut sink);
+    let sink = sink.finish();
+    Ok((sink, answer?))
 }
 
 /// The ids of all tracks of a file.
@@ -71,42 +100,45 @@ fn check_written<S: ByteSource + Drop, F: Read + Seek + Drop>(
     checked.map_err(Fault::of_check)
 }
 
-/// Writes what is asked for to a regular file, which may be read again, and answers how many bytes that has.
+/// Writes what is asked for to a regular file, which may be read again.
 fn write_file<S: ByteSource + Drop, F: Read + Write + Seek + Drop>(
     alloc: Global,
     source: S,
     file: F,
     request: &Request,
-) -> Result<u64, Fault> {
+    terminal: Option<Stderr>,
+) -> Result<Written, Fault> {
     let mut source = source;
-    let mut sink = SeekSink::new(alloc, file)?;
-    write_movie(alloc, &mut source, &request.task, &mut sink)?;
+    let sink = SeekSink::new(alloc, file)?;
+    let (sink, left_out) = write_watched(alloc, &mut source, &request.task, sink, terminal)?;
     let len = sink.len();
     if request.check {
         check_written(alloc, source, sink.into_inner(), &request.task)?;
     }
-    Ok(len)
+    Ok(Written { len, left_out })
 }
 
-/// Writes what is asked for to a pipe or whatever else is only written to, and answers how many bytes that is.
+/// Writes what is asked for to a pipe or whatever else is only written to.
 fn write_in_order<S: ByteSource + Drop, W: Write + Drop>(
     alloc: Global,
     source: S,
     out: W,
     request: &Request,
-) -> Result<u64, Fault> {
-    let mut sink = PipeSink::new(out);
-    write_movie(alloc, source, &request.task, &mut sink)?;
-    Ok(sink.len())
+    terminal: Option<Stderr>,
+) -> Result<Written, Fault> {
+    let sink = PipeSink::new(out);
+    let (sink, left_out) = write_watched(alloc, source, &request.task, sink, terminal)?;
+    let len = sink.len();
+    Ok(Written { len, left_out })
 }
 
 /// Writes what is asked for to a file of its name, which it gets when it is whole: else what has the name isn't
-/// touched. What has it and is no regular file is written as it is. The answer is how many bytes were written.
+/// touched. What has it and is no regular file is written as it is.
 fn write_new<R: Files, S: ByteSource + Drop>(
     host: &Host<R>,
     source: S,
     request: &Request,
-) -> Result<u64, Fault> {
+) -> Result<Written, Fault> {
     if request.check && is_special(host.rt, request.written) {
         return Err(Fault::NotChecked);
     }
@@ -114,24 +146,24 @@ fn write_new<R: Files, S: ByteSource + Drop>(
         Fault::of_writing,
     )?;
     let made = match new.is_regular() {
-        true => write_file(host.alloc, source, file, request),
-        false => write_in_order(host.alloc, source, file, request),
+        true => write_file(host.alloc, source, file, request, host.terminal),
+        false => write_in_order(host.alloc, source, file, request, host.terminal),
     };
     let named = new.finish(made.is_ok());
-    let len = made?;
+    let written = made?;
     named.map_err(Fault::of_writing)?;
-    Ok(len)
+    Ok(written)
 }
 
-/// Writes what is asked for of a source, to `out` where that is standard output, and answers how many bytes it has.
+/// Writes what is asked for of a source, to `out` where that is standard output.
 fn write_request<R: Files, S: ByteSource + Drop, O: Write>(
     host: &Host<R>,
     source: S,
     request: &Request,
     out: &mut O,
-) -> Result<u64, Fault> {
+) -> Result<Written, Fault> {
     if request.is_printed() {
-        return write_in_order(host.alloc, source, out, request);
+        return write_in_order(host.alloc, source, out, request, host.terminal);
     }
     write_new(host, source, request)
 }
@@ -159,15 +191,14 @@ fn with_words<S: ByteSource + Drop>(alloc: Global, source: S, fault: Fault) -> F
     }
 }
 
-/// Rewrites a file as is asked for, to `out` where it is written to standard output, and answers how many bytes were
-/// written.
+/// Rewrites a file as is asked for, to `out` where it is written to standard output.
 ///
 /// `SameFile` where the file that is written is the one that is read; nothing is read then.
 pub fn remux<R: Files, O: Write>(
     host: &Host<R>,
     request: &Request,
     out: &mut O,
-) -> Result<u64, Fault> {
+) -> Result<Written, Fault> {
     if is_same_file(host.rt, host.alloc, request.read, request.written) {
         return Err(Fault::SameFile);
     }
@@ -175,7 +206,7 @@ pub fn remux<R: Files, O: Write>(
     let mut source = SeekSource::new(file);
     let answer = write_request(host, &mut source, request, out);
     match answer {
-        Ok(len) => Ok(len),
+        Ok(written) => Ok(written),
         Err(fault) => Err(with_words(host.alloc, &mut source, fault)),
     }
 }

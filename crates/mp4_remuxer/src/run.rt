@@ -1,9 +1,10 @@
 //! A run of the program.
 
 use crate::command_line::{Unclear, request_in};
-use crate::faults::Fault;
-use crate::remux::{Host, remux};
+use crate::faults::{Fault, Subject};
+use crate::remux::{Host, Written, remux};
 use crate::request::Request;
+use mp4_remux::LeftOut;
 use std::io;
 use std::io::Write;
 use std::rt::Files;
@@ -45,9 +46,37 @@ fn print_unclear<O: Write, E: Write>(
     Ok(SUCCESS)
 }
 
-/// Prints how many bytes were written, unless they were printed.
-fn print_length<O: Write>(request: &Request, len: u64, out: &mut O) -> io::Result<u8> {
+/// Prints a line for each reference that is left out.
+fn print_left_out<E: Write>(
+    request: &Request,
+    left_out: &[LeftOut],
+    err: &mut E,
+) -> io::Result<()> {
+    let name = request.name_of(Subject::Read);
+    for one in left_out {
+        let LeftOut {
+            track_id,
+            reference,
+            to,
+        } = one;
+        writeln!(
+            err,
+            "mp4_remux: {name}: track {track_id}'s reference {reference} to track {to} is left out"
+        )?;
+    }
+    Ok(())
+}
+
+/// Prints what is left out, and how many bytes were written, unless they were printed.
+fn print_written<O: Write, E: Write>(
+    request: &Request,
+    written: &Written,
+    out: &mut O,
+    err: &mut E,
+) -> io::Result<u8> {
+    print_left_out(request, written.left_out.as_slice(), err)?;
     if !request.is_printed() {
+        let len = written.len;
         writeln!(out, "wrote {len} bytes")?;
         out.flush()?;
     }
@@ -55,7 +84,7 @@ fn print_length<O: Write>(request: &Request, len: u64, out: &mut O) -> io::Resul
 }
 
 /// A whole run with these words, of which the first is the program's name. The answer is the status: 0, 1 after a
-/// fault, or 2 where the arguments are wrong. What a run says of faults is written to `err`.
+/// fault, or 2 where the arguments are wrong. What a run says of faults, and of what is left out, is written to `err`.
 ///
 /// Refused where `err` refuses, or `out` refuses help or what is said of a file that was written.
 pub fn run_words<R: Files, O: Write, E: Write>(
@@ -66,7 +95,7 @@ pub fn run_words<R: Files, O: Write, E: Write>(
 ) -> io::Result<u8> {
     match request_in(host.alloc, words) {
         Ok(request) => match remux(host, &request, out) {
-            Ok(len) => print_length(&request, len, out),
+            Ok(written) => print_written(&request, &written, out, err),
             Err(fault) => print_fault(&request, &fault, err),
         },
         Err(unclear) => print_unclear(&unclear, out, err),

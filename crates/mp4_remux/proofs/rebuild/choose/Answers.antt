@@ -8,4 +8,4 @@ returns-clause-written g c =
     writes_chosen (g.S.ByteSource.contents c.args.source) _ _ c.write_chosen.result
     (opened_movie c.in_ok-source.movie) _ c.args.ids.now
     (rw c.in_ok-source.ensures.contents at c.write_chosen.ensures.written)
-    (c.deref.ensures.value ∙ c.in_ok-kept.ensures.ids)
+    (c.deref.ensures.value ∙ c.in_ok-kept.ensures.ids) c.in_ok-kept.ensures.there

@@ -7,6 +7,6 @@ returns-clause-kept c = (
   c.in_ok-extend_from_slice.ensures.items,
   (
     omega (arith, c.len-len.ensures, c.if-len-movie_len.false),
-    rw (c.deref-2.ensures.value, c.deref-3.ensures.value) at (c.is_kept.ensures cc),
+    rw (c.deref-2.ensures.value, c.deref-3.ensures.value) at (c.keeps.ensures cc),
   ),
 )

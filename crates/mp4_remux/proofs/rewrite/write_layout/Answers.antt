@@ -1,7 +1,8 @@
-use Rattle.std.proofs.Common.{ℕ, List, Option, IfSome, sym, subst, ◌∙◌}
+use Rattle.std.proofs.Common.{ℕ, List, Option, IfSome, refl, sym, subst, ◌∙◌}
 use Rattle.mp4_codec.specs.Cursor.{here}
 use Rattle.mp4_media.specs.FileBoxes.{opened_movie}
 use Rattle.mp4_media.specs.FileGrammar.{IsFile}
+use Rattle.mp4_remux.proofs.HeaderLaws.{durations_of}
 use Rattle.mp4_remux.proofs.Rewriting.{on_ok, measured_after, same_splice, writes_remuxed}
 use Rattle.mp4_remux.proofs.rewrite.write_layout.Goals as goal
 
@@ -19,7 +20,7 @@ returns-clause-written g c =
     on_ok c.copy_all.result c.copy_all.ensures.ok
     (writes_remuxed (g.S.ByteSource.contents c.args.source) _ (g.K.ByteSink.contents c.args.sink.now) _
     c.args.layout.now
-    c.args.before.now c.in_ok-splice.after c.len-len.result _ c.requires.len c.requires.opened
+    c.args.before.now c.in_ok-splice.after c.len-len.result c.args.made _ c.requires.len c.requires.opened
     (c.in_ok-splice.ensures.contents
     ∙ same_splice g.S.ByteSource.contents c.new-splice.result.source c.args.source c.new-splice.result.layout
     c.in_ok-try_clone.field-0 c.args.layout.now c.new-splice.ensures.source c.new-splice.ensures.layout
@@ -27,4 +28,7 @@ returns-clause-written g c =
     c.len-len.ensures
     (subst (λ (known : Option (List ℕ)). IfSome known (λ ys. IsFile c.len-len.result (here ys 0)
     (opened_movie c.in_ok-splice.after))) (sym c.in_ok-splice.ensures.contents) c.in_ok-splice.ensures.file)
-    c.in_ok-check_same.ensures.ids c.in_ok-check_same.ensures.unfragmented c.in_ok-check_same.ensures.tracks)
+    c.in_ok-check_same.ensures.ids c.in_ok-check_same.ensures.unfragmented c.in_ok-check_same.ensures.tracks
+    (c.if-not-keeps_headers.ensures refl)
+    (durations_of c.args.made (opened_movie c.in_ok-splice.after) (c.if-not-has_durations.ensures.movie refl)
+    (c.if-not-has_durations.ensures.tracks refl) c.in_ok-check_same.ensures.media))

@@ -1,14 +1,22 @@
-use Rattle.std.proofs.Common.{arith, Ok, ap, ◌∙◌}
-use Rattle.mp4_remux.proofs.Sameness.{one_more, track_as_before, empty_track}
+use Rattle.std.proofs.Common.{◌+◌, ◌<◌, arith, Ok, ap, subst, sym, ◌∙◌}
+use Rattle.mp4_samples.specs.Places.{place_of}
+use Rattle.mp4_media.specs.FileBoxes.{opened_movie}
+use Rattle.mp4_remux.proofs.Sameness.{one_more, track_as_before, empty_track, counted_there}
+use Rattle.mp4_remux.proofs.Showing.{AreShown, nothing_shown, shown_more, shown_until}
 use Rattle.mp4_remux.proofs.same.count_same.Goals as goal
 
-pub returns-then-not-branch-clause-same : goal.returns-then-not-branch-clause-same
-returns-then-not-branch-clause-same c =
+pub returns-in_default-clause-same : goal.returns-in_default-clause-same
+returns-in_default-clause-same c =
     let l = c.args.layout.now in
     track_as_before l.source_len l.made.items l.pieces.items c.args.before.now c.args.after.now c.args.track_id
     c.requires.before c.requires.after c.loop-k.k c.in_ok-count.count c.loop-k.invariant.same
-    (rw c.if-not-branch.true at c.in_ok-check_sample.ensures.same) c.in_ok-count.ensures
+    (rw c.in_default.is at c.in_ok-sample.ensures.same) c.in_ok-count.ensures
     (rw c.if-branch-count.false at c.in_ok-sample_count.ensures)
+
+pub returns-in_default-clause-end : goal.returns-in_default-clause-end
+returns-in_default-clause-end c = λ few.
+    shown_until (opened_movie c.args.after.now) c.args.track_id c.loop-k.k c.loop-k.end (c.loop-k.invariant.shown few)
+    (rw c.in_default.is at c.in_ok-sample.ensures.there)
 
 pub loop-k-preserved : goal.loop-k-preserved
 loop-k-preserved c =
@@ -19,7 +27,13 @@ loop-k-preserved c =
       same =
           one_more l.source_len l.made.items l.pieces.items c.args.before.now c.args.after.now c.args.track_id
           c.loop-k.k
-          c.loop-k.invariant.same (rw c.if-not-branch.false at c.in_ok-check_sample.ensures.same);
+          c.loop-k.invariant.same (rw c.in-Some.is at c.in_ok-sample.ensures.same);
+      shown =
+          subst (λ n. n < 18446744073709551615
+          → AreShown (opened_movie c.args.after.now) c.args.track_id (c.loop-k.k + 1) n) (sym c.max-end.ensures)
+          (shown_more 18446744073709551615 (opened_movie c.args.after.now) c.args.track_id c.loop-k.k c.loop-k.end
+          c.shown_end.result (place_of c.in-Some.sample) c.loop-k.invariant.shown c.shown_end.ensures
+          (rw c.in-Some.is at c.in_ok-sample.ensures.there));
     }
 
 pub returns-then-is_nowhere-2-clause-same : goal.returns-then-is_nowhere-2-clause-same
@@ -28,3 +42,9 @@ returns-then-is_nowhere-2-clause-same c =
     empty_track l.source_len l.made.items l.pieces.items c.args.before.now c.args.after.now c.args.track_id
     c.requires.before c.requires.after (c.in_ok-count.ensures ∙ ap Ok c.if-count-eq0.true)
     (c.in_ok-sample_count.ensures ∙ ap Ok (c.if-branch-count.false ∙ c.if-count-eq0.true))
+
+pub returns-then-is_nowhere-2-clause-end : goal.returns-then-is_nowhere-2-clause-end
+returns-then-is_nowhere-2-clause-end c = λ few.
+    nothing_shown (opened_movie c.args.after.now) c.args.track_id
+    (counted_there c.args.after.now c.requires.after c.args.track_id
+    ∙ c.in_ok-sample_count.ensures ∙ ap Ok (c.if-branch-count.false ∙ c.if-count-eq0.true))
