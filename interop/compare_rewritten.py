@@ -228,7 +228,7 @@ class Trial:
         self.buffers += sum(map(len, before))
         has_edits = any(edits_in(data, track) for _, track in tracks_in(data))
         samples = [each for track in samples_in(data).values() for each in track]
-        is_raw = len({each.size for each in samples[:-1]}) == 1
+        is_raw = len({each.size for each in samples}) == 1
         found = []
         for k, (old, new) in enumerate(zip(before, after), 1):
             if any(each.offset < 0 for each in samples):
