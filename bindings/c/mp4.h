@@ -66,7 +66,7 @@ enum mp4_code {
     MP4_OTHER_TRACKS = 23,             /* the tracks would be others */
     MP4_DIFFERS = 24,                  /* a sample would not be read as before: track_id, number */
     MP4_SAYS_OF_SAMPLES = 25,          /* a box says of samples what tables don't: box_type, and in index the byte at
-                                        * which the box around it begins */
+                                        * which it begins */
     MP4_STARTS_ELSEWHERE = 26,         /* a sample doesn't begin when the one before it ends: track_id, number */
     MP4_SAME_IDS = 27                  /* two tracks have the same id */
 };

@@ -222,8 +222,8 @@ class Code(enum.IntEnum):
     DIFFERS = 24
     """A sample wouldn't be read as before: ``track_id``, ``number``."""
     SAYS_OF_SAMPLES = 25
-    """A box says of samples what tables don't: ``box_type``, and ``index`` is the byte at which the
-    box around it begins."""
+    """A box says of samples what tables don't: ``box_type``, and ``index`` is the byte at which it
+    begins."""
     STARTS_ELSEWHERE = 26
     """A sample doesn't begin when the one before it ends: ``track_id``, ``number``."""
     SAME_IDS = 27

@@ -80,8 +80,8 @@ pub enum Error {
     /// This sample of the track of this id wouldn't be read as before: a table or a fragment says
     /// its place in a way that isn't rewritten.
     Differs(u32, u32),
-    /// A box of this type, in the box that begins at this byte, says something of each sample that
-    /// the tables which are made of fragments don't say.
+    /// A box of this type, which begins at this byte, says something of samples that the tables
+    /// which are made of fragments don't say.
     SaysOfSamples(FourCC, u64),
     /// This sample of the track of this id doesn't begin when the one before it ends, or the first
     /// at 0, and tables can't say so.
@@ -324,7 +324,7 @@ impl fmt::Display for Error {
             Error::SaysOfSamples(kind, place) => {
                 write!(
                     f,
-                    "a box {kind} in the box at byte {place} says of samples what tables do not"
+                    "a box {kind} at byte {place} says of samples what tables do not"
                 )
             }
             Error::StartsElsewhere(id, number) => {

@@ -4,6 +4,7 @@
 
 mod boxes;
 mod listing;
+mod path;
 mod said;
 mod walk;
 mod wave;
@@ -11,4 +12,5 @@ mod why;
 
 pub use boxes::{BoxFields, BoxReport, Boxes, BoxesRequest};
 pub use listing::{BoxesError, write_boxes};
+pub use path::path_at;
 pub use why::{WhyReport, why_of};

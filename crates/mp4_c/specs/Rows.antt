@@ -16,7 +16,8 @@ row_reply c = let answers = if c == 0 then 0 else 1 in record { answer = done an
 pub record IsCountBy (rows : List SampleRow) (time c : ℕ) : Type 0 where
   pub within : c ≤ length rows
   pub first : IsNonDecreasingBy (λ (row : SampleRow). row.start_time) rows
-      → IsPartitionPoint (λ (row : SampleRow). leb row.start_time time ≡ true) (λ (row : SampleRow). leb row.start_time time ≡ false) rows c
+      → IsPartitionPoint (λ (row : SampleRow). leb row.start_time time ≡ true)
+      (λ (row : SampleRow). leb row.start_time time ≡ false) rows c
 
 -- a call has given the number of the last row that begins at or before a time
 abbrev pub GaveRowAt : ℕ → List SampleRow → ℕ → Answer → Type 0

@@ -1,6 +1,6 @@
 -- A file that was written, and another of which each sample is the same.
-use Rattle.std.proofs.Common.{◌≡◌, ◌∙◌, ℕ, ◌+◌, ◌≤◌, ◌<◌, List, length, Option, None, Some, Ok, IfSome, Bool, true, false}
-use Rattle.std.proofs.Common.{nat_lt, option_map, refl, sym, ap, subst, arith, inl, inr}
+use Rattle.std.proofs.Common.{◌≡◌, ◌∙◌, ℕ, ◌+◌, ◌≤◌, ◌<◌, List, length, Option, None, Some, Ok, IfSome, Bool}
+use Rattle.std.proofs.Common.{true, false, nat_lt, option_map, refl, sym, ap, subst, arith, inl, inr}
 use Rattle.std.proofs.lemmas.Bool.{ltb-true, ltb-false}
 use Rattle.std.specs.Prelude.{slice_get, slice_index_or}
 use Rattle.mp4_codec.specs.Cause.{◌>>=◌}
@@ -53,82 +53,85 @@ module _ (b a : Movie) (id : ℕ) (known known_after : Option (List ℕ)) where
       by false is = upto k some (omega (arith, ltb-false count k is))
 
 module _ (b a : Movie) (id : ℕ) (known known_after : Option (List ℕ))
-    (were : AreTracks b.moov b.moofs b.moof_places b.tracks) (are : AreTracks a.moov a.moofs a.moof_places a.tracks) where
-  -- both have the same sample there
-  pub both_read : (k : ℕ) (p q : SamplePlace) (read written : List ℕ)
-      → IfSome known (λ xs. sample_in xs b.tracks id k ≡ Ok (Some (sample_there read p)))
-      → IfSome known_after (λ ys. sample_in ys a.tracks id k ≡ Ok (Some (sample_there written q)))
-      → sample_there written q ≡ sample_there read p → NumberIsRead b a id known known_after k true
-  both_read k p q read written was is same = by known known_after was is
-    where
-      by : (c d : Option (List ℕ)) → IfSome c (λ xs. sample_in xs b.tracks id k ≡ Ok (Some (sample_there read p)))
-          → IfSome d (λ ys. sample_in ys a.tracks id k ≡ Ok (Some (sample_there written q)))
-          → IfSome c (λ xs. IfSome d (λ ys. IsSameNumber xs ys (opened_movie b) (opened_movie a) id k true))
-      by None d was is = tt
-      by (Some xs) None was is = tt
-      by (Some xs) (Some ys) was is = (
-        sample_there read p,
-        (
-          read_in_there b were id xs k ∙ was,
-          read_in_there a are id ys k ∙ is ∙ ap (λ s. Ok (Some s)) same,
-        ),
-      )
+    (were : AreTracks b.moov b.moofs b.moof_places b.tracks) (are : AreTracks a.moov a.moofs a.moof_places a.tracks)
+  where
+    -- both have the same sample there
+    pub both_read : (k : ℕ) (p q : SamplePlace) (read written : List ℕ)
+        → IfSome known (λ xs. sample_in xs b.tracks id k ≡ Ok (Some (sample_there read p)))
+        → IfSome known_after (λ ys. sample_in ys a.tracks id k ≡ Ok (Some (sample_there written q)))
+        → sample_there written q ≡ sample_there read p → NumberIsRead b a id known known_after k true
+    both_read k p q read written was is same = by known known_after was is
+      where
+        by : (c d : Option (List ℕ)) → IfSome c (λ xs. sample_in xs b.tracks id k ≡ Ok (Some (sample_there read p)))
+            → IfSome d (λ ys. sample_in ys a.tracks id k ≡ Ok (Some (sample_there written q)))
+            → IfSome c (λ xs. IfSome d (λ ys. IsSameNumber xs ys (opened_movie b) (opened_movie a) id k true))
+        by None d was is = tt
+        by (Some xs) None was is = tt
+        by (Some xs) (Some ys) was is = (
+          sample_there read p,
+          (
+            read_in_there b were id xs k ∙ was,
+            read_in_there a are id ys k ∙ is ∙ ap (λ s. Ok (Some s)) same,
+          ),
+        )
 
-  -- neither has one there
-  pub none_read : (k : ℕ) → IfSome known (λ xs. sample_in xs b.tracks id k ≡ Ok None)
-      → IfSome known_after (λ ys. sample_in ys a.tracks id k ≡ Ok None) → NumberIsRead b a id known known_after k false
-  none_read k was is = by known known_after was is
-    where
-      by : (c d : Option (List ℕ)) → IfSome c (λ xs. sample_in xs b.tracks id k ≡ Ok None)
-          → IfSome d (λ ys. sample_in ys a.tracks id k ≡ Ok None)
-          → IfSome c (λ xs. IfSome d (λ ys. IsSameNumber xs ys (opened_movie b) (opened_movie a) id k false))
-      by None d was is = tt
-      by (Some xs) None was is = tt
-      by (Some xs) (Some ys) was is = (read_in_there b were id xs k ∙ was, read_in_there a are id ys k ∙ is)
+    -- neither has one there
+    pub none_read : (k : ℕ) → IfSome known (λ xs. sample_in xs b.tracks id k ≡ Ok None)
+        → IfSome known_after (λ ys. sample_in ys a.tracks id k ≡ Ok None)
+        → NumberIsRead b a id known known_after k false
+    none_read k was is = by known known_after was is
+      where
+        by : (c d : Option (List ℕ)) → IfSome c (λ xs. sample_in xs b.tracks id k ≡ Ok None)
+            → IfSome d (λ ys. sample_in ys a.tracks id k ≡ Ok None)
+            → IfSome c (λ xs. IfSome d (λ ys. IsSameNumber xs ys (opened_movie b) (opened_movie a) id k false))
+        by None d was is = tt
+        by (Some xs) None was is = tt
+        by (Some xs) (Some ys) was is = (read_in_there b were id xs k ∙ was, read_in_there a are id ys k ∙ is)
 
-  -- after the last there is none
-  pub track_is_read : (count n : ℕ) → AreRead b a id known known_after count
-      → NumberIsRead b a id known known_after (count + 1) false
-      → sample_count_in b.tracks id ≡ Ok n → sample_count_in a.tracks id ≡ Ok n
-      → OfBoth b a id known known_after (λ xs ys. IsSameTrack xs ys (opened_movie b) (opened_movie a) id)
-  track_is_read count n upto past was is = by known known_after upto past
-    where
-      by : (c d : Option (List ℕ))
-          → ((k : ℕ) → 1 ≤ k → k ≤ count → IfSome c (λ xs. IfSome d (λ ys.
-          IsSameNumber xs ys (opened_movie b) (opened_movie a) id k true)))
-          → IfSome c (λ xs. IfSome d (λ ys.
-          IsSameNumber xs ys (opened_movie b) (opened_movie a) id (count + 1) false))
-          → IfSome c (λ xs. IfSome d (λ ys. IsSameTrack xs ys (opened_movie b) (opened_movie a) id))
-      by None d upto past = tt
-      by (Some xs) None upto past = tt
-      by (Some xs) (Some ys) upto past = record {
-        count = count;
-        same = upto;
-        none = inr past;
-        counted = counted_there a are id ∙ is ∙ sym was ∙ sym (counted_there b were id);
-      }
+    -- after the last there is none
+    pub track_is_read : (count n : ℕ) → AreRead b a id known known_after count
+        → NumberIsRead b a id known known_after (count + 1) false
+        → sample_count_in b.tracks id ≡ Ok n → sample_count_in a.tracks id ≡ Ok n
+        → OfBoth b a id known known_after (λ xs ys. IsSameTrack xs ys (opened_movie b) (opened_movie a) id)
+    track_is_read count n upto past was is = by known known_after upto past
+      where
+        by : (c d : Option (List ℕ))
+            → ((k : ℕ) → 1 ≤ k → k ≤ count → IfSome c (λ xs. IfSome d (λ ys.
+            IsSameNumber xs ys (opened_movie b) (opened_movie a) id k true)))
+            → IfSome c (λ xs. IfSome d (λ ys.
+            IsSameNumber xs ys (opened_movie b) (opened_movie a) id (count + 1) false))
+            → IfSome c (λ xs. IfSome d (λ ys. IsSameTrack xs ys (opened_movie b) (opened_movie a) id))
+        by None d upto past = tt
+        by (Some xs) None upto past = tt
+        by (Some xs) (Some ys) upto past = record {
+          count = count;
+          same = upto;
+          none = inr past;
+          counted = counted_there a are id ∙ is ∙ sym was ∙ sym (counted_there b were id);
+        }
 
-  -- a track that says that it has no samples
-  pub empty_is_read : sample_count_in b.tracks id ≡ Ok 0 → sample_count_in a.tracks id ≡ Ok 0
-      → OfBoth b a id known known_after (λ xs ys. IsSameTrack xs ys (opened_movie b) (opened_movie a) id)
-  empty_is_read was is = by known known_after
-    where
-      by : (c d : Option (List ℕ))
-          → IfSome c (λ xs. IfSome d (λ ys. IsSameTrack xs ys (opened_movie b) (opened_movie a) id))
-      by None d = tt
-      by (Some xs) None = tt
-      by (Some xs) (Some ys) = record {
-        count = 0;
-        same = λ k some le. absurd (omega (arith, some, le));
-        none = inl (refl, counted_there b were id ∙ was);
-        counted = counted_there a are id ∙ is ∙ sym was ∙ sym (counted_there b were id);
-      }
+    -- a track that says that it has no samples
+    pub empty_is_read : sample_count_in b.tracks id ≡ Ok 0 → sample_count_in a.tracks id ≡ Ok 0
+        → OfBoth b a id known known_after (λ xs ys. IsSameTrack xs ys (opened_movie b) (opened_movie a) id)
+    empty_is_read was is = by known known_after
+      where
+        by : (c d : Option (List ℕ))
+            → IfSome c (λ xs. IfSome d (λ ys. IsSameTrack xs ys (opened_movie b) (opened_movie a) id))
+        by None d = tt
+        by (Some xs) None = tt
+        by (Some xs) (Some ys) = record {
+          count = 0;
+          same = λ k some le. absurd (omega (arith, some, le));
+          none = inl (refl, counted_there b were id ∙ was);
+          counted = counted_there a are id ∙ is ∙ sym was ∙ sym (counted_there b were id);
+        }
 
 -- all tracks of these ids are the same
 pub checked : (b a : Movie) (known known_after : Option (List ℕ)) (ids : List ℕ)
     → IfSome known (λ xs. IsFile (length xs) (here xs 0) (opened_movie b))
     → IfSome known_after (λ ys. IsFile (length ys) (here ys 0) (opened_movie a))
-    → length a.moov.traks ≡ length ids → ((id i : ℕ) → slice_get ids i ≡ Some id → IfSome known (λ xs. IfSome known_after (λ ys.
+    → length a.moov.traks ≡ length ids
+    → ((id i : ℕ) → slice_get ids i ≡ Some id → IfSome known (λ xs. IfSome known_after (λ ys.
     IsSameTrack xs ys (opened_movie b) (opened_movie a) id)))
     → IfSome known (λ xs. IfSome known_after (λ ys. IsChecked xs ys ids))
 checked b a None known_after ids opens opens_after many same = tt

@@ -1,22 +1,10 @@
 -- The ids of the tracks that are kept.
-use Rattle.std.proofs.Common.{◌≡◌, ◌∙◌, ℕ, zero, suc, ◌+◌, ◌<◌, ◌≤◌, ◌==◌, ◌++◌, ◌∷◌, [], true, false, List, length}
-use Rattle.std.proofs.Common.{drop, slice_index_or, refl, sym, ap, arith, append_assoc}
+use Rattle.std.proofs.Common.{◌≡◌, ◌∙◌, ℕ, ◌+◌, ◌<◌, ◌≤◌, ◌==◌, ◌++◌, ◌∷◌, [], true, false, List, length}
+use Rattle.std.proofs.Common.{drop, slice_index_or, sym, ap, refl, arith, append_assoc}
 use Rattle.std.proofs.lemmas.List.{append-nil}
 use Rattle.std.specs.List.{list_any}
 use Rattle.mp4_remux.specs.Remuxed.{kept_of}
-
--- what is left from a number on begins with what is there
-drop_next : (xs : List ℕ) (i n d : ℕ) → i < length xs → n ≡ suc i → drop i xs ≡ slice_index_or xs i d ∷ drop n xs
-drop_next [] i n d lt e = absurd (omega (arith, lt))
-drop_next (x ∷ xs) zero n d lt e = rw e refl
-drop_next (x ∷ xs) (suc i) n d lt e = rw e (drop_next xs i (suc i) d (omega (arith, lt)) refl)
-
--- past the last there is nothing left
-drop_all : (xs : List ℕ) (i : ℕ) → length xs ≤ i → drop i xs ≡ []
-drop_all [] zero le = refl
-drop_all [] (suc i) le = refl
-drop_all (x ∷ xs) zero le = absurd (omega (arith, le))
-drop_all (x ∷ xs) (suc i) le = drop_all xs i (omega (arith, le))
+use Rattle.mp4_remux.proofs.Numbered.{drop_next, drop_all}
 
 module _ (ids all kept : List ℕ) (i x d : ℕ) (lt : i < length all) (is : x ≡ slice_index_or all i d)
     (e : kept ++ kept_of ids (drop i all) ≡ kept_of ids all) where

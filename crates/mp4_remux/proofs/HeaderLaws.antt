@@ -1,7 +1,7 @@
 -- Headers that were looked at, one after the other.
-use Rattle.std.proofs.Common.{◌≡◌, ◌∙◌, ℕ, zero, suc, ◌+◌, ◌≤◌, ◌<◌, Bool, true, false, nat_lt, List, [], ◌∷◌, length, drop}
-use Rattle.std.proofs.Common.{Option, None, Some, Ok, option_map, refl, sym, ap, subst, arith, max}
-use Rattle.std.proofs.lemmas.Bool.{ltb-true, ltb-false}
+use Rattle.std.proofs.Common.{◌≡◌, ◌∙◌, ℕ, suc, ◌+◌, ◌≤◌, ◌<◌, List, [], ◌∷◌, length, drop, Option, None, Some, Ok}
+use Rattle.std.proofs.Common.{option_map, refl, sym, ap, arith, max, Bool, true, false, ◌==◌}
+use Rattle.std.proofs.lemmas.Bool.{eqb-true}
 use Rattle.std.specs.Prelude.{slice_get, slice_index_or}
 use Rattle.mp4_leaf.specs.declared.elst.ElstEntry.{ElstEntry}
 use Rattle.mp4_boxes.specs.declared.trak.TrakBox.{TrakBox}
@@ -13,55 +13,32 @@ use Rattle.mp4_media.specs.Reading.{needed_track, track_or}
 use Rattle.mp4_remux.specs.declared.made.Made.{Made}
 use Rattle.mp4_remux.specs.declared.made.Made.TheVariants.{Offsets, Tracks, Tables}
 use Rattle.mp4_remux.specs.Headers.{DurationsOf, IsAsLong, IsShownUntil, IsTrackTime, KeepsTrack, edits_time, longest}
-use Rattle.mp4_remux.specs.Headers.{IsTimeOf, IsRoundedUp}
-use Rattle.mp4_remux.proofs.Sameness.{got}
-
--- what holds of those that were looked at holds of one more
-pub each_more : {X : Type 0} (xs : List X) (P : X → Type 0) (i : ℕ) (d : X)
-    → ((x : X) (j : ℕ) → j < i → slice_get xs j ≡ Some x → P x) → P (slice_index_or xs i d)
-    → (x : X) (j : ℕ) → j < i + 1 → slice_get xs j ≡ Some x → P x
-each_more {X} xs P i d upto this x j lt there = by (nat_lt j i) refl
-  where
-    by : (c : Bool) → nat_lt j i ≡ c → P x
-    by true less = upto x j (ltb-true j i less) there
-    by false ge =
-        let last : j ≡ i = omega (arith, lt, ltb-false j i ge) in
-        subst P (got xs i x d (subst (λ n. slice_get xs n ≡ Some x) last there)) this
-
--- what is at a number that is there
-pub at_index : {X : Type 0} (xs : List X) (i : ℕ) (d : X) → i < length xs → slice_get xs i ≡ Some (slice_index_or xs i d)
-at_index [] i d lt = absurd (omega (arith, lt))
-at_index (x ∷ xs) zero d lt = refl
-at_index (x ∷ xs) (suc i) d lt = at_index xs i d (omega (arith, lt))
+use Rattle.mp4_remux.specs.Headers.{IsEditAt, IsRoundedUp, IsTimeOf, edit_like}
+use Rattle.mp4_remux.proofs.Numbered.{at_index, drop_next, drop_all}
 
 -- EDITS
 
-times_next : (es : List ElstEntry) (i : ℕ) (d : ElstEntry) → i < length es
-    → edits_time (drop i es) ≡ (slice_index_or es i d).segment_duration + edits_time (drop (suc i) es)
+-- the edits from a number on begin with what is there
+times_from : (es : List ElstEntry) (i n : ℕ) (d : ElstEntry) → i < length es → n ≡ suc i
+    → edits_time (drop i es) ≡ (slice_index_or es i d).segment_duration + edits_time (drop n es)
 unfolding edits_time
-times_next [] i d lt = absurd (omega (arith, lt))
-times_next (e ∷ es) zero d lt = refl
-times_next (e ∷ es) (suc i) d lt = times_next es i d (omega (arith, lt))
+times_from es i n d lt is = ap edits_time (drop_next es i n d lt is)
 
-times_all : (es : List ElstEntry) (i : ℕ) → length es ≤ i → edits_time (drop i es) ≡ 0
+no_time : (es : List ElstEntry) (i : ℕ) → length es ≤ i → edits_time (drop i es) ≡ 0
 unfolding edits_time
-times_all [] zero le = refl
-times_all [] (suc i) le = refl
-times_all (e ∷ es) zero le = absurd (omega (arith, le))
-times_all (e ∷ es) (suc i) le = times_all es i (omega (arith, le))
+no_time es i le = ap edits_time (drop_all es i le)
 
 -- one edit more
 pub time_more : (es : List ElstEntry) (i time next : ℕ) (d : ElstEntry) → i < length es
     → time + edits_time (drop i es) ≡ edits_time es → next ≡ time + (slice_index_or es i d).segment_duration
     → next + edits_time (drop (i + 1) es) ≡ edits_time es
 time_more es i time next d lt upto is =
-    let n : i + 1 ≡ suc i = omega arith in
-    omega (arith, upto, is, times_next es i d lt, ap (λ m. edits_time (drop m es)) n)
+    omega (arith, upto, is, times_from es i (i + 1) d lt (omega arith))
 
 -- all edits
 pub time_of_all : (es : List ElstEntry) (i time : ℕ) → length es ≤ i
     → time + edits_time (drop i es) ≡ edits_time es → time ≡ edits_time es
-time_of_all es i time le upto = omega (arith, upto, times_all es i le)
+time_of_all es i time le upto = omega (arith, upto, no_time es i le)
 
 -- a track without edits
 pub time_without : (t : TrakBox) (clock : ℕ) (es : List ElstEntry) → length es ≡ 0
@@ -77,34 +54,45 @@ time_with t clock (e ∷ es) some is = is
 
 -- THE LONGEST TRACK
 
-longest_next : (ts : List TrakBox) (i : ℕ) (d : TrakBox) → i < length ts
-    → longest (drop i ts) ≡ max (slice_index_or ts i d).tkhd.duration (longest (drop (suc i) ts))
+-- the tracks from a number on begin with what is there
+longest_from : (ts : List TrakBox) (i n : ℕ) (d : TrakBox) → i < length ts → n ≡ suc i
+    → longest (drop i ts) ≡ max (slice_index_or ts i d).tkhd.duration (longest (drop n ts))
 unfolding longest
-longest_next [] i d lt = absurd (omega (arith, lt))
-longest_next (t ∷ ts) zero d lt = refl
-longest_next (t ∷ ts) (suc i) d lt = longest_next ts i d (omega (arith, lt))
+longest_from ts i n d lt is = ap longest (drop_next ts i n d lt is)
 
-longest_all : (ts : List TrakBox) (i : ℕ) → length ts ≤ i → longest (drop i ts) ≡ 0
+no_track : (ts : List TrakBox) (i : ℕ) → length ts ≤ i → longest (drop i ts) ≡ 0
 unfolding longest
-longest_all [] zero le = refl
-longest_all [] (suc i) le = refl
-longest_all (t ∷ ts) zero le = absurd (omega (arith, le))
-longest_all (t ∷ ts) (suc i) le = longest_all ts i (omega (arith, le))
+no_track ts i le = ap longest (drop_all ts i le)
 
 -- one track more
 pub longest_more : (ts : List TrakBox) (i most next : ℕ) (d : TrakBox) → i < length ts
     → max most (longest (drop i ts)) ≡ longest ts → next ≡ max (slice_index_or ts i d).tkhd.duration most
     → max next (longest (drop (i + 1) ts)) ≡ longest ts
 longest_more ts i most next d lt upto is =
-    let n : i + 1 ≡ suc i = omega arith in
-    omega (arith, upto, is, longest_next ts i d lt, ap (λ m. longest (drop m ts)) n)
+    omega (arith, upto, is, longest_from ts i (i + 1) d lt (omega arith))
 
 -- all tracks
 pub longest_of_all : (ts : List TrakBox) (i most : ℕ) → length ts ≤ i → max most (longest (drop i ts)) ≡ longest ts
     → most ≡ longest ts
-longest_of_all ts i most le upto = omega (arith, upto, longest_all ts i le)
+longest_of_all ts i most le upto = omega (arith, upto, no_track ts i le)
 
 -- WHAT STAYS
+
+-- an edit that is as it was, at its number
+pub edit_at : (was is : List ElstEntry) (i : ℕ) (d e : ElstEntry) → i < length was
+    → slice_index_or is i e ≡ edit_like (slice_index_or was i d) (slice_index_or is i e)
+    → ((i + 1 == length was) ≡ false → slice_index_or is i e ≡ slice_index_or was i d)
+    → IsEditAt was i (slice_index_or is i e)
+edit_at was is i d e lt like same = record {
+  edit = slice_index_or was i d;
+  there = at_index was i d lt;
+  like = like;
+  same = λ before. same (by (i + 1 == length was) refl before);
+}
+  where
+    by : (c : Bool) → (i + 1 == length was) ≡ c → i + 1 < length was → (i + 1 == length was) ≡ false
+    by true last before = absurd (omega (arith, eqb-true (i + 1) (length was) last, before))
+    by false other before = other
 
 -- a track that was found
 found : {T : Type 0} (id : ℕ) (o : Option T) (t : T) → track_or id o ≡ Ok t → o ≡ Some t

@@ -37,8 +37,8 @@ front_of [] ys = refl
 front_of (x ∷ xs) ys = ap (λ (zs : List ℕ). x ∷ zs) (front_of xs ys)
 
 -- a layout of such pieces begins with a movie box that is as it was
-pub begins_with : (what : Made) (file_type : TopBox) (movie_bytes made header movie : List ℕ) (pieces : List Piece) (len : ℕ)
-    → made ≡ movie ++ header → length movie ≡ len → IsKept (changed_by what) tracks movie_bytes movie
+pub begins_with : (what : Made) (file_type : TopBox) (movie_bytes made header movie : List ℕ) (pieces : List Piece)
+    (len : ℕ) → made ≡ movie ++ header → length movie ≡ len → IsKept (changed_by what) tracks movie_bytes movie
     → ((source made : List ℕ) → (rest : List ℕ) × (spliced source made pieces
     ≡ between source file_type.place file_type.end ++ (between made 0 len ++ rest)))
     → BeginsWith what file_type movie_bytes made pieces

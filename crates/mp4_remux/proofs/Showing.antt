@@ -1,6 +1,6 @@
 -- When the samples of a track have been shown.
-use Rattle.std.proofs.Common.{◌≡◌, ℕ, ◌+◌, ◌≤◌, ◌<◌, ◌⊎◌, inl, inr, Bool, true, false, nat_lt, None, Some, Ok, refl, sym}
-use Rattle.std.proofs.Common.{subst, arith, max}
+use Rattle.std.proofs.Common.{◌≡◌, ℕ, ◌+◌, ◌≤◌, ◌<◌, ◌⊎◌, inl, inr, Bool, true, false, nat_lt, None, Some, Ok, refl}
+use Rattle.std.proofs.Common.{sym, subst, arith, max}
 use Rattle.std.proofs.lemmas.Bool.{ltb-true, ltb-false}
 use Rattle.mp4_samples.specs.declared.sample.Place.{Place}
 use Rattle.mp4_media.specs.FileBoxes.{OpenedFile}
@@ -23,7 +23,10 @@ module _ (opened : OpenedFile) (id k end next : ℕ) (p : Place) (upto : AreShow
 
     -- the next one is shown after the others
     later : end < next → AreShown opened id (k + 1) next
-    later lt = record { all = λ j some le. by j some le (nat_lt k j) refl; one = inr (k + 1, (omega arith, (omega arith, this))) }
+    later lt = record {
+      all = λ j some le. by j some le (nat_lt k j) refl;
+      one = inr (k + 1, (omega arith, (omega arith, this)));
+    }
       where
         by : (j : ℕ) → 1 ≤ j → j ≤ k + 1 → (c : Bool) → nat_lt k j ≡ c
             → (shown : ℕ) × (HasShown opened id j shown × (shown ≤ next))

@@ -1,5 +1,6 @@
 -- All boxes of a file, one after the other.
-use Rattle.std.proofs.Common.{◌≡◌, ◌+◌, ◌<◌, ◌++◌, ◌∷◌, [], ℕ, List, Option, None, Some, IfSome, arith, subst, sym, refl}
+use Rattle.std.proofs.Common.{◌≡◌, ◌+◌, ◌<◌, ◌++◌, ◌∷◌, [], ℕ, List, Option, None, Some, IfSome, arith, subst, sym}
+use Rattle.std.proofs.Common.{refl}
 use Rattle.std.proofs.Common.{◌≤◌, Bool, true, false, IsTrue, nat_lt}
 use Rattle.std.proofs.lemmas.Bool.{ltb-true, ltb-false}
 use Rattle.std.proofs.Common.{append_assoc}

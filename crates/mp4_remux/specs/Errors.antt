@@ -1,12 +1,15 @@
 -- Why a movie isn't rewritten.
-use Rattle.std.specs.Prelude.{◌≡◌, ⊤, ℕ, Bool, IsTrue, List, Option, IfSome}
+use Rattle.std.specs.Prelude.{◌≡◌, ◌⊎◌, ⊤, ℕ, Bool, IsTrue, List, length, Option, IfSome, Result, Ok, Err}
 use Rattle.mp4_codec.specs.declared.error.Error.TheVariants.{OutOfMemory}
+use Rattle.mp4_codec.specs.Cause.{Cause, cause_of}
+use Rattle.mp4_codec.specs.Cursor.{here}
 use Rattle.mp4_source.specs.declared.error.SourceError.{SourceError}
 use Rattle.mp4_source.specs.declared.error.SourceError.TheVariants.{OutOfMemory as no_memory, Io as refused}
 use Rattle.mp4_source.specs.declared.sink_error.SinkError.{SinkError}
 use Rattle.mp4_source.specs.declared.sink_error.SinkError.TheVariants.{OutOfMemory as no_room, Io as sink_refused}
 use Rattle.mp4_source.specs.declared.file_error.FileError.{FileError}
 use Rattle.mp4_source.specs.declared.file_error.FileError.TheVariants.{Mp4 as of_mp4, Io as file_refused}
+use Rattle.mp4_media.specs.FileGrammar.{IsFaultyFile}
 use Rattle.mp4_remux.specs.declared.error.RemuxError.{RemuxError}
 use Rattle.mp4_remux.specs.declared.error.RemuxError.TheVariants.{Mp4, Read, Write, Twice, SaysPlaces}
 use Rattle.mp4_remux.specs.declared.error.RemuxError.TheVariants.{TooManySamples, OtherTracks, Differs}
@@ -72,3 +75,27 @@ IsRefusalOf SourceRefuses SinkRefuses (Differs track number) = ⊤
 -- where the bytes of a source are known, it refuses only if it can
 abbrev pub MayRefuse : Option (List ℕ) → Bool → Type 0
 MayRefuse known can_refuse = IfSome known (λ _. IsTrue can_refuse)
+
+-- a refusal for this cause, but where memory ran out, or the source refused, which can
+abbrev pub IsCause : Bool → Cause → RemuxError → Type 0
+IsCause can_refuse c (Mp4 e) = (e ≡ OutOfMemory) ⊎ (c ≡ cause_of e)
+IsCause can_refuse c (Read e) = IsTrue can_refuse
+IsCause can_refuse c (Write e) = ⊥
+IsCause can_refuse c (Twice name) = ⊥
+IsCause can_refuse c (SaysPlaces name place) = ⊥
+IsCause can_refuse c (TooManySamples track) = ⊥
+IsCause can_refuse c (SaysOfSamples name place) = ⊥
+IsCause can_refuse c (StartsElsewhere track number) = ⊥
+IsCause can_refuse c SameIds = ⊥
+IsCause can_refuse c OtherTracks = ⊥
+IsCause can_refuse c (Differs track number) = ⊥
+
+-- a call is refused so
+abbrev pub GivesCause : {X : Type 0} → Bool → Cause → Result X RemuxError → Type 0
+GivesCause can_refuse c (Ok x) = ⊥
+GivesCause can_refuse c (Err e) = IsCause can_refuse c e
+
+-- A file whose bytes are known and have a fault is refused for the first one.
+abbrev pub SaysFault : {X : Type 0} → Option (List ℕ) → Bool → Result X RemuxError → Type 0
+SaysFault known can_refuse result = IfSome known (λ xs. (c : Cause) → IsFaultyFile (length xs) (here xs 0) c
+    → GivesCause can_refuse c result)

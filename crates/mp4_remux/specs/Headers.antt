@@ -1,6 +1,7 @@
 -- What the headers of a movie say that was rewritten: how long it and its tracks are, and all else as before.
 use Rattle.std.specs.Prelude.{◌≡◌, ◌+◌, ◌-◌, ◌*◌, ◌^◌, ◌≤◌, ◌<◌, ◌⊎◌, ⊤, ℕ, pos, if◌then◌else◌, max}
-use Rattle.std.specs.Prelude.{int_lt, unsigned_abs, List, [], ◌∷◌, Option, None, Some, IfSome, IsSome, slice_get, Ok}
+use Rattle.std.specs.Prelude.{int_lt, unsigned_abs, List, [], ◌∷◌, length, Option, None, Some, IfSome, IsSome, Ok}
+use Rattle.std.specs.Prelude.{slice_get}
 use Rattle.mp4_leaf.specs.declared.elst.ElstBox.{ElstBox}
 use Rattle.mp4_leaf.specs.declared.elst.ElstEntry.{ElstEntry}
 use Rattle.mp4_leaf.specs.declared.mdhd.MdhdBox.{MdhdBox}
@@ -22,7 +23,8 @@ use Rattle.mp4_remux.specs.Reads.{count_of, place_in}
 
 -- HOW LONG THE MEDIA OF A TRACK ARE (ISO/IEC 14496-12, 8.4.2.3)
 
--- when a sample has been shown: it is shown by its offset later, or earlier, than it is decoded, for its duration (8.6.1)
+-- when a sample has been shown: it is shown by its offset later, or earlier, than it is decoded, for its duration
+-- (8.6.1)
 abbrev pub shown_end : Place → ℕ
 shown_end p =
     if int_lt p.rendering_offset (pos 0) then p.start_time + p.duration - unsigned_abs p.rendering_offset
@@ -134,11 +136,29 @@ pub record HasFarChunk (table : Co64Box) : Type 0 where
 abbrev pub IsNarrow : StblBox → StblBox → Type 0
 IsNarrow was is = IfSome is.co64 (λ table. HasFarChunk table ⊎ IsSome was.co64)
 
--- a track keeps what its headers say beside durations
+-- an edit as it was, but for how long it lasts (8.6.6)
+abbrev pub edit_like : ElstEntry → ElstEntry → ElstEntry
+edit_like was is = record was { segment_duration = is.segment_duration }
+
+-- Of these edits, that with a number is as this one says, but for how long it lasts; and as long, unless it is the
+-- last.
+pub record IsEditAt (was : List ElstEntry) (number : ℕ) (is : ElstEntry) : Type 0 where
+  pub edit : ElstEntry
+  pub there : slice_get was number ≡ Some edit
+  pub like : is ≡ edit_like edit is
+  pub same : number + 1 < length was → is ≡ edit
+
+-- The edits of a track are as many as they were, and each is as it was, but for how long the last one lasts.
+pub record KeepsEdits (was is : List ElstEntry) : Type 0 where
+  pub count : length is ≡ length was
+  pub each : (e : ElstEntry) (i : ℕ) → slice_get is i ≡ Some e → IsEditAt was i e
+
+-- a track keeps what its headers say beside durations, and its edits
 pub record KeepsTrack (was is : TrakBox) : Type 0 where
   pub track : is.tkhd ≡ track_header_like was.tkhd is.tkhd
   pub media : is.mdia.mdhd ≡ media_header_like was.mdia.mdhd is.mdia.mdhd
   pub narrow : IsNarrow was.mdia.minf.stbl is.mdia.minf.stbl
+  pub edits : KeepsEdits (edits_of_box was.edts) (edits_of_box is.edts)
 
 -- A movie keeps what its headers say beside durations, and so does each of its tracks.
 pub record KeepsHeaders (opened rewritten : OpenedFile) : Type 0 where

@@ -1,4 +1,5 @@
--- A movie box in which some boxes are others: all else is there, byte for byte and in its order (ISO/IEC 14496-12, 4.2).
+-- A movie box in which some boxes are others: all else is there, byte for byte and in its order (ISO/IEC 14496-12,
+-- 4.2).
 use Rattle.std.specs.Prelude.{◌≡◌, ◌+◌, ◌++◌, ◌==◌, ℕ, List, [], ◌∷◌, length, IsTrue, Ok}
 use Rattle.std.specs.List.{list_any}
 use Rattle.mp4_codec.specs.BoxType.{code_of}

@@ -30,7 +30,8 @@ IsSameNumber before after opened rewritten id k false =
 pub record IsSameTrack (before after : List ℕ) (opened rewritten : OpenedFile) (id : ℕ) : Type 0 where
   pub count : ℕ
   pub same : (k : ℕ) → 1 ≤ k → k ≤ count → IsSameNumber before after opened rewritten id k true
-  pub none : ((count ≡ 0) × (count_of opened id ≡ Ok 0)) ⊎ IsSameNumber before after opened rewritten id (count + 1) false
+  pub none : ((count ≡ 0) × (count_of opened id ≡ Ok 0))
+      ⊎ IsSameNumber before after opened rewritten id (count + 1) false
   pub counted : count_of rewritten id ≡ count_of opened id
 
 -- of a list those that are among others, in its order
@@ -39,7 +40,8 @@ kept_of ids [] = []
 kept_of ids (x ∷ xs) = if list_any (λ y. y == x) ids then x ∷ kept_of ids xs else kept_of ids xs
 
 -- The one file is the other rewritten: both are files, the tracks of the rewritten one have these ids, it has no
--- fragments, its headers say what they did, but for durations, and each of its tracks is read from it as from the other.
+-- fragments, its headers say what they did, but for durations, and each of its tracks is read from it as from the
+-- other.
 pub record IsRemuxed (before after : List ℕ) (opened rewritten : OpenedFile) (kept : List ℕ) : Type 0 where
   pub opens : IsFile (length before) (here before 0) opened
   pub opens_after : IsFile (length after) (here after 0) rewritten

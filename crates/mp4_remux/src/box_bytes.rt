@@ -43,6 +43,36 @@ pub(crate) fn first_box(bytes: &[u8]) -> Option<BoxBytes>
     })
 }
 
+/// A box of a file that was found.
+#[derive(Clone, Copy)]
+pub(crate) struct FoundBox {
+    pub name: BoxType,
+    /// Where it begins in the file.
+    pub place: u64,
+}
+
+impl<'a> BoxBytes<'a> {
+    /// Where the box begins in the file, of which bytes end at a place that begin with it.
+    pub fn place_before(&self, end: u64) -> u64 {
+        let len = self.header.len() as u64 + self.payload.len() as u64;
+        end.saturating_sub(self.after.len() as u64)
+            .saturating_sub(len)
+    }
+
+    /// Where its payload ends in the file, of which bytes end at a place that begin with the box.
+    pub fn payload_end(&self, end: u64) -> u64 {
+        end.saturating_sub(self.after.len() as u64)
+    }
+
+    /// The box as it was found among bytes of the file that end at this place.
+    pub fn found_before(&self, end: u64) -> FoundBox {
+        FoundBox {
+            name: self.name,
+            place: self.place_before(end),
+        }
+    }
+}
+
 /// Writes the size of a box, all of whose bytes these are, into its header, which has so many bytes: 8, or 16 where the
 /// size has 64 bits. `TooLarge(BoxSize)` where it doesn't fit.
 pub(crate) fn put_size(bytes: &mut [u8], header: usize) -> Result<()> {

@@ -8,7 +8,7 @@ ghost use Rattle.mp4_media.specs.FileBoxes.{opened_movie};
 ghost use Rattle.mp4_media.specs.FileGrammar.{IsFile};
 ghost use Rattle.mp4_media.specs.MovieTracks.{AreTracks};
 ghost use Rattle.mp4_media.specs.Reading.{sample_in, sample_there};
-ghost use Rattle.mp4_remux.specs.Errors.{IsRefusalOf, MayRefuse};
+ghost use Rattle.mp4_remux.specs.Errors.{IsRefusalOf, MayRefuse, SaysFault};
 ghost use Rattle.mp4_remux.specs.Remuxed.{IsChecked, IsSameNumber, IsSameTrack};
 
 use crate::error::RemuxError;
@@ -27,6 +27,7 @@ fn open_file<S: ByteSource + Drop>(alloc: Global, source: S) -> Result<Mp4File<S
     ensures contents { IfOk result (λ f. S.contents f.source ≡ S.contents source) }
     ensures can_refuse { IfOk result (λ f. S.can_refuse f.source ≡ S.can_refuse source) }
     ensures refused { IfErr result (IsRefusalOf (MayRefuse (S.contents source) (S.can_refuse source)) ⊥) }
+    ensures fault { SaysFault (S.contents source) (S.can_refuse source) result }
 {
     let mut source = source;
     let len = match source.len() {
@@ -206,6 +207,7 @@ pub fn check_samples<S: ByteSource + Drop, T: ByteSource + Drop>(
         IsChecked xs ys ids.now))) }
     ensures refused { IfErr result (IsRefusalOf (MayRefuse (S.contents before) (S.can_refuse before))
         (MayRefuse (T.contents after) (T.can_refuse after))) }
+    ensures fault { SaysFault (S.contents before) (S.can_refuse before) result }
 {
     let mut before = open_file(alloc, before)?;
     let mut after = open_written(alloc, after)?;

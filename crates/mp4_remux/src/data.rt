@@ -75,8 +75,8 @@ fn push_track(
     Err(RemuxError::TooManySamples(track_id))
 }
 
-/// The bytes of the samples of these tracks in a file of `len` bytes, in its order, those of two samples once. `Differs`
-/// for a sample that isn't whole in the file, `TooManySamples` where they are more than `most`.
+/// The bytes of the samples of these tracks in a file of `len` bytes, in its order, those of two samples once.
+/// `Differs` for a sample that isn't whole in the file, `TooManySamples` where they are more than `most`.
 pub(crate) fn data_of(
     alloc: Global,
     movie: &Movie,

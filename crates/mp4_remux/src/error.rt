@@ -33,9 +33,9 @@ pub enum RemuxError {
     /// file has bytes.
     #[error("track {0} has more samples than the file has bytes")]
     TooManySamples(u32),
-    /// A box of this type, in the box that begins at this byte, says something of each sample that the tables which are
-    /// made of fragments don't say.
-    #[error("a box {0} in the box at byte {1} says of samples what tables do not")]
+    /// A box of this type, which begins at this byte, says something of samples that the tables which are made of
+    /// fragments don't say.
+    #[error("a box {0} at byte {1} says of samples what tables do not")]
     SaysOfSamples(BoxType, u64),
     /// This sample of the track with this id doesn't begin when the one before it ends, or the first at 0, and tables
     /// can't say so.

@@ -3,7 +3,7 @@
 ghost use Rattle.std.specs.Prelude.{IfErr};
 ghost use Rattle.mp4_remux.specs.Errors.{IsRefusalOf};
 
-use crate::box_bytes::first_box;
+use crate::box_bytes::{FoundBox, first_box};
 use crate::error::RemuxError;
 use mp4_codec::BoxType;
 
@@ -47,44 +47,45 @@ fn is_kept_by_tables(name: BoxType) -> bool {
     }
 }
 
-/// The first box among these bytes, which are those in a track fragment, that says more than tables do.
-fn more_in_track(bytes: &[u8]) -> Option<BoxType> {
+/// The first box among these bytes, which are those in a track fragment and end at this place of the file, that says
+/// more than tables do.
+fn more_in_track(bytes: &[u8], end: u64) -> Option<FoundBox> {
     let mut rest = bytes;
     while let Some(one) = first_box(rest) {
         if !is_kept_by_tables(one.name) {
-            return Some(one.name);
+            return Some(one.found_before(end));
         }
         rest = one.after;
     }
     None
 }
 
-/// The first box among these bytes, which are those in a movie fragment, or in a track fragment among them, that says
-/// more than tables do.
-fn more_in(bytes: &[u8]) -> Option<BoxType> {
+/// The first box among these bytes, which are those in a movie fragment and end at this place of the file, or in a
+/// track fragment among them, that says more than tables do.
+fn more_in(bytes: &[u8], end: u64) -> Option<FoundBox> {
     let mut rest = bytes;
     while let Some(one) = first_box(rest) {
         if one.name == BoxType::TrafBox {
-            if let Some(name) = more_in_track(one.payload) {
-                return Some(name);
+            if let Some(found) = more_in_track(one.payload, one.payload_end(end)) {
+                return Some(found);
             }
         } else if !is_kept_by_tables(one.name) {
-            return Some(one.name);
+            return Some(one.found_before(end));
         }
         rest = one.after;
     }
     None
 }
 
-/// Checks that all that a movie fragment says is said by tables; its box begins at this place.
-pub(crate) fn check_fragment(bytes: &[u8], place: u64) -> Result<(), RemuxError>
+/// Checks that all that a movie fragment says is said by tables; the bytes of its box end at this place of the file.
+pub(crate) fn check_fragment(bytes: &[u8], end: u64) -> Result<(), RemuxError>
     ensures refused { IfErr result (IsRefusalOf ⊥ ⊥) }
 {
     let Some(fragment) = first_box(bytes) else {
         return Ok(());
     };
-    match more_in(fragment.payload) {
-        Some(name) => Err(RemuxError::SaysOfSamples(name, place)),
+    match more_in(fragment.payload, fragment.payload_end(end)) {
+        Some(found) => Err(RemuxError::SaysOfSamples(found.name, found.place)),
         None => Ok(()),
     }
 }

@@ -97,7 +97,7 @@ pub(crate) fn checked_bytes<S: ByteSource>(
     ensures refused { IfErr result (IsRefusalOf (MayRefuse (S.contents source.old) (S.can_refuse source.old)) ⊥) }
 {
     let bytes = bytes_of(alloc, source, len, one)?;
-    check_box(&bytes, one.place, is_gathered)?;
+    check_box(&bytes, one.end, is_gathered)?;
     Ok(bytes)
 }
 
@@ -174,7 +174,7 @@ fn check_fragments<S: ByteSource>(
     for one in boxes {
         if one.name == BoxType::MoofBox {
             let bytes = bytes_of(alloc, source, len, *one)?;
-            check_fragment(&bytes, one.place)?;
+            check_fragment(&bytes, one.end)?;
         }
     }
     Ok(())

@@ -1,8 +1,8 @@
 //! The movie box moved to the front.
 
-ghost use Rattle.std.specs.Prelude.{◌≡◌, ◌++◌, ℕ, List, length, IfSome, IfErr, IfNone, IfOk, OnOk, IsTrue, []};
+ghost use Rattle.std.specs.Prelude.{◌≡◌, ◌≤◌, ◌++◌, ℕ, List, length, IfSome, IfErr, IfNone, IfOk, OnOk, IsTrue, []};
 ghost use Rattle.mp4_source.specs.Answers.{IsLength};
-ghost use Rattle.mp4_remux.specs.Errors.{IsNamed, IsRefusalOf, MayRefuse};
+ghost use Rattle.mp4_remux.specs.Errors.{IsNamed, IsRefusalOf, MayRefuse, SaysFault};
 ghost use Rattle.mp4_media.specs.FileGrammar.{between};
 ghost use Rattle.mp4_remux.specs.Front.{in_front, IsMoved, IsMovieFirst, NoMovieAfterData, WritesFront};
 ghost use Rattle.mp4_remux.specs.Kept.{IsKept, offsets};
@@ -208,9 +208,13 @@ pub fn move_to_front<S: ByteSource + Drop, K: ByteSink>(
 ) -> Result<(), RemuxError>
     ensures written { OnOk result (IfSome (S.contents source) (λ xs.
         WritesFront xs (K.contents sink.old) (K.contents sink.new))) }
+    ensures flushed { OnOk result (K.waiting sink.new ≡ 0) }
     ensures kept { IfErr result (λ e. IsNamed e → K.contents sink.new ≡ K.contents sink.old) }
+    ensures len { IfErr result (λ e. IsNamed e → K.len sink.new ≡ K.len sink.old) }
+    ensures more { OnOk result (K.len sink.old ≤ K.len sink.new) }
     ensures refused { IfErr result (IsRefusalOf (MayRefuse (S.contents source) (S.can_refuse source))
         (IsTrue (K.can_refuse sink.old))) }
+    ensures fault { SaysFault (S.contents source) (S.can_refuse source) result }
 {
     let (source, len, before) = open_source(alloc, source)?;
     let (source, layout) = plan(alloc, source, len, before.moov.traks.len())?;

@@ -1,12 +1,12 @@
 //! The headers of a movie that was made, beside those that it had.
 
-ghost use Rattle.std.specs.Prelude.{◌≡◌, ℕ, IsTrue, IfSome, Some, slice_get};
+ghost use Rattle.std.specs.Prelude.{◌≡◌, ℕ, IsTrue, IsFalse, IfSome, Some, slice_get};
 ghost use Rattle.mp4_boxes.specs.declared.trak.TrakBox.{TrakBox};
 ghost use Rattle.mp4_media.specs.FileBoxes.{opened_movie};
 ghost use Rattle.mp4_media.specs.MovieTracks.{AreTracks};
 ghost use Rattle.mp4_remux.specs.Headers.{HasFarChunk, IsAsLong, IsNarrow, IsRoundedUp, IsTrackTime, KeepsHeaders};
-ghost use Rattle.mp4_remux.specs.Headers.{KeepsTrack, edits_time, longest, media_header_like, movie_header_like};
-ghost use Rattle.mp4_remux.specs.Headers.{track_header_like};
+ghost use Rattle.mp4_remux.specs.Headers.{KeepsEdits, KeepsTrack, edit_like, edits_time, longest, media_header_like};
+ghost use Rattle.mp4_remux.specs.Headers.{movie_header_like, track_header_like};
 ghost use Rattle.mp4_remux.specs.declared.made.Made.TheVariants.{Offsets, Tables};
 
 use crate::edits::edits_of;
@@ -176,16 +176,49 @@ fn is_narrow(was: &StblBox, is: &StblBox) -> bool
     }
 }
 
-/// Whether a track keeps what its headers say beside durations.
+/// Whether an edit is as it was; the last one, but for how long it lasts.
+fn is_kept_edit(was: &ElstEntry, is: &ElstEntry, is_last: bool) -> bool
+    ensures like { IsTrue result → is.now ≡ edit_like was.now is.now }
+    ensures same { IsTrue result → IsFalse is_last → is.now ≡ was.now }
+{
+    if !is_last {
+        return is_equal(is, was);
+    }
+    let like = ElstEntry {
+        segment_duration: is.segment_duration,
+        ..*was
+    };
+    is_equal(is, &like)
+}
+
+/// Whether edits are as they were, but for how long the last one lasts.
+fn keeps_edits(was: &[ElstEntry], is: &[ElstEntry]) -> bool
+    ensures { IsTrue result → KeepsEdits was.now is.now }
+{
+    if is.len() != was.len() {
+        return false;
+    }
+    let mut i = 0;
+    while i < is.len() {
+        if !is_kept_edit(&was[i], &is[i], i + 1 == was.len()) {
+            return false;
+        }
+        i += 1;
+    }
+    true
+}
+
+/// Whether a track keeps what its headers say beside durations, and its edits.
 fn keeps_track(was: &TrakBox, is: &TrakBox) -> bool
     ensures { IsTrue result → KeepsTrack was.now is.now }
 {
     keeps_track_header(&was.tkhd, &is.tkhd)
         && keeps_media_header(&was.mdia.mdhd, &is.mdia.mdhd)
         && is_narrow(&was.mdia.minf.stbl, &is.mdia.minf.stbl)
+        && keeps_edits(edits_of(was), edits_of(is))
 }
 
-/// Whether a movie keeps what its headers and those of its tracks say beside durations.
+/// Whether a movie keeps what its headers and those of its tracks say beside durations, and its edits.
 pub(crate) fn keeps_headers(before: &Movie, after: &Movie) -> bool
     requires { AreTracks before.now.moov before.now.moofs before.now.moof_places before.now.tracks }
     ensures { IsTrue result → KeepsHeaders (opened_movie before.now) (opened_movie after.now) }

@@ -1,5 +1,5 @@
-//! Movies rewritten, with every sample as it was: the movie box moved to the front, fragments gathered, tracks chosen; and
-//! a check of what was written.
+//! Movies rewritten, with every sample as it was: the movie box moved to the front, fragments gathered, tracks chosen;
+//! and a check of what was written.
 #![tactic(auto)]
 
 mod box_bytes;

@@ -3,7 +3,7 @@
 ghost use Rattle.std.specs.Prelude.{◌≤◌, IfErr};
 ghost use Rattle.mp4_remux.specs.Errors.{IsRefusalOf};
 
-use crate::box_bytes::{BoxBytes, first_box};
+use crate::box_bytes::{BoxBytes, FoundBox, first_box};
 use crate::error::RemuxError;
 use crate::fragment_boxes::is_of_samples;
 use crate::top_level::TopBox;
@@ -87,19 +87,25 @@ fn children_of<'a>(one: &BoxBytes<'a>) -> &'a [u8] {
     one.payload
 }
 
-/// The first box among these bytes, or in one of them, that says places, or where tables are made, something of each
-/// sample.
-fn find_in(bytes: &[u8], level: usize, is_gathered: bool) -> Option<BoxType>
+/// The first box among these bytes, which end at a place of the file, or in one of them, that says places, or where
+/// tables are made, something of each sample.
+fn find_in(bytes: &[u8], end: u64, level: usize, is_gathered: bool) -> Option<FoundBox>
     requires { level ≤ 8 }
 {
     let mut rest = bytes;
     while let Some(one) = first_box(rest) {
         if says_places(&one) || is_gathered && is_of_samples(one.name) {
-            return Some(one.name);
+            return Some(one.found_before(end));
         }
         if level < DEEPEST && is_entered(one.name) {
-            if let Some(name) = find_in(children_of(&one), level + 1, is_gathered) {
-                return Some(name);
+            let found = find_in(
+                children_of(&one),
+                one.payload_end(end),
+                level + 1,
+                is_gathered,
+            );
+            if let Some(found) = found {
+                return Some(found);
             }
         }
         rest = one.after;
@@ -107,16 +113,18 @@ fn find_in(bytes: &[u8], level: usize, is_gathered: bool) -> Option<BoxType>
     None
 }
 
-/// Checks that no box in this one, whose bytes begin at this place, says places that would be wrong, or where tables are
-/// made, something of each sample that they don't say.
-pub(crate) fn check_box(bytes: &[u8], place: u64, is_gathered: bool) -> Result<(), RemuxError>
+/// Checks that no box in this one, whose bytes end at this place of the file, says places that would be wrong, or where
+/// tables are made, something of each sample that they don't say.
+pub(crate) fn check_box(bytes: &[u8], end: u64, is_gathered: bool) -> Result<(), RemuxError>
     ensures refused { IfErr result (IsRefusalOf ⊥ ⊥) }
 {
-    match find_in(bytes, 0, is_gathered) {
-        Some(name) if is_of_samples(name) => Err(RemuxError::SaysOfSamples(name, place)),
-        Some(name) => Err(RemuxError::SaysPlaces(name, place)),
-        None => Ok(()),
+    let Some(FoundBox { name, place }) = find_in(bytes, end, 0, is_gathered) else {
+        return Ok(());
+    };
+    if is_of_samples(name) {
+        return Err(RemuxError::SaysOfSamples(name, place));
     }
+    Err(RemuxError::SaysPlaces(name, place))
 }
 
 /// Whether a box goes with the fragments of a movie, or is where the data of its samples is.

@@ -1,6 +1,6 @@
 //! A movie of some of its tracks, and one whose fragments are gathered.
 
-ghost use Rattle.std.specs.Prelude.{◌≡◌, ◌<◌, ◌-◌, ◌^◌, ◌++◌, ◌↔◌, ℕ, List, [], length, None};
+ghost use Rattle.std.specs.Prelude.{◌≡◌, ◌≤◌, ◌<◌, ◌-◌, ◌^◌, ◌++◌, ◌↔◌, ℕ, List, [], length, None};
 ghost use Rattle.std.specs.Prelude.{IfSome, IfErr, IfOk, OnOk, IsTrue, IsFalse};
 ghost use Rattle.mp4_codec.specs.Cursor.{here};
 ghost use Rattle.mp4_media.specs.FileBoxes.{opened_movie};
@@ -12,7 +12,7 @@ ghost use Rattle.mp4_remux.specs.Kept.{IsKept, tracks};
 ghost use Rattle.mp4_remux.specs.declared.made.Made.TheVariants.{Tables};
 ghost use Rattle.mp4_remux.specs.Splice.{spliced};
 ghost use Rattle.mp4_source.specs.Answers.{IsLength};
-ghost use Rattle.mp4_remux.specs.Errors.{IsNamed, IsRefusalOf, MayRefuse};
+ghost use Rattle.mp4_remux.specs.Errors.{IsNamed, IsRefusalOf, MayRefuse, SaysFault};
 
 use crate::chosen::{all_ids, kept_ids};
 use crate::copy::copy_all;
@@ -175,8 +175,8 @@ fn push_extents(pieces: &mut Vec<Piece>, extents: &[Extent]) -> Result<(), Remux
     Ok(())
 }
 
-/// The pieces of a file with its movie box of `movie_len` bytes after its file type, then the other boxes that stay, and
-/// the data in one box.
+/// The pieces of a file with its movie box of `movie_len` bytes after its file type, then the other boxes that stay,
+/// and the data in one box.
 fn data_pieces(
     alloc: Global,
     frame: &Frame,
@@ -294,7 +294,10 @@ fn write_chosen<S: ByteSource + Drop, K: ByteSink>(
     requires opened { IfSome (S.contents source) (λ xs. IsFile (length xs) (here xs 0) (opened_movie movie.now)) }
     ensures written { OnOk result (IfSome (S.contents source) (λ xs. WritesRebuilt xs (opened_movie movie.now) ids.now
         (K.contents sink.old) (K.contents sink.new))) }
+    ensures flushed { OnOk result (K.waiting sink.new ≡ 0) }
     ensures kept { IfErr result (λ e. IsNamed e → K.contents sink.new ≡ K.contents sink.old) }
+    ensures len { IfErr result (λ e. IsNamed e → K.len sink.new ≡ K.len sink.old) }
+    ensures more { OnOk result (K.len sink.old ≤ K.len sink.new) }
     ensures refused { IfErr result (IsRefusalOf (MayRefuse (S.contents source) (S.can_refuse source))
         (IsTrue (K.can_refuse sink.old))) }
 {
@@ -328,11 +331,11 @@ fn write_chosen<S: ByteSource + Drop, K: ByteSink>(
 ///
 /// Refused as [`mp4_media::Mp4File::open`], and as [`mp4_media::Mp4File::read_sample`] where a sample isn't found; and:
 /// `StartsElsewhere` where a sample doesn't begin when the one before it ends, or the first of a track at 0;
-/// `SaysOfSamples` for a box in a fragment or in the movie box that says more of samples than tables do (`senc`, `saiz`,
-/// `sbgp`, `sdtp` and the like, which are refused and never dropped); `Twice`, `SaysPlaces`, `TooManySamples`, `SameIds`
-/// and `Differs` as [`move_to_front`](crate::move_to_front). `Read` where the source refuses, `Write` where the sink
-/// does: then the sink may have some first bytes of the file. A refusal that is none of memory, source or sink leaves
-/// the sink as it was.
+/// `SaysOfSamples` for a box in a fragment or in the movie box that says more of samples than tables do (`senc`,
+/// `saiz`, `sbgp`, `sdtp` and the like, which are refused and never dropped); `Twice`, `SaysPlaces`, `TooManySamples`,
+/// `SameIds` and `Differs` as [`move_to_front`](crate::move_to_front). `Read` where the source refuses, `Write` where
+/// the sink does: then the sink may have some first bytes of the file. A refusal that is none of memory, source or sink
+/// leaves the sink as it was.
 pub fn gather<S: ByteSource + Drop, K: ByteSink>(
     alloc: Global,
     source: S,
@@ -340,9 +343,13 @@ pub fn gather<S: ByteSource + Drop, K: ByteSink>(
 ) -> Result<(), RemuxError>
     ensures written { OnOk result (IfSome (S.contents source) (λ xs.
         WritesGathered xs (K.contents sink.old) (K.contents sink.new))) }
+    ensures flushed { OnOk result (K.waiting sink.new ≡ 0) }
     ensures kept { IfErr result (λ e. IsNamed e → K.contents sink.new ≡ K.contents sink.old) }
+    ensures len { IfErr result (λ e. IsNamed e → K.len sink.new ≡ K.len sink.old) }
+    ensures more { OnOk result (K.len sink.old ≤ K.len sink.new) }
     ensures refused { IfErr result (IsRefusalOf (MayRefuse (S.contents source) (S.can_refuse source))
         (IsTrue (K.can_refuse sink.old))) }
+    ensures fault { SaysFault (S.contents source) (S.can_refuse source) result }
 {
     let (source, len, movie) = open_source(alloc, source)?;
     if !has_fragments(&movie) {
@@ -356,15 +363,15 @@ pub fn gather<S: ByteSource + Drop, K: ByteSink>(
 
 /// Writes a movie to a sink with these of its tracks alone, by their ids, and with the data of their samples: the file
 /// type, the movie box, the other boxes in their order, and the data in the order of the file, in one `mdat`. In the
-/// movie box the other tracks are left out, and the references to them; the chunk offsets are others, and the movie is as
-/// long as the longest of its tracks. Every other byte of it is there as it was. Where the file has fragments, or says
-/// that they may follow, they are gathered as [`gather`] does.
+/// movie box the other tracks are left out, and the references to them; the chunk offsets are others, and the movie is
+/// as long as the longest of its tracks. Every other byte of it is there as it was. Where the file has fragments, or
+/// says that they may follow, they are gathered as [`gather`] does.
 ///
 /// The answer says which references are left out, in the order of the file: those of a track that is kept to one that
 /// isn't, be it there or not. Where all tracks are kept, none is.
 ///
-/// The order of the ids makes no difference: tracks are in that of their boxes. Samples that name a track by the index of
-/// a reference, as those of hint tracks do, may name another where references before it are left out.
+/// The order of the ids makes no difference: tracks are in that of their boxes. Samples that name a track by the index
+/// of a reference, as those of hint tracks do, may name another where references before it are left out.
 ///
 /// `TrakNotFound` for an id that isn't there, and refused as [`gather`]; where the file has no fragments, by
 /// `SaysPlaces` also for `mfra` and `sidx`.
@@ -376,9 +383,13 @@ pub fn choose<S: ByteSource + Drop, K: ByteSink>(
 ) -> Result<Vec<LeftOut>, RemuxError>
     ensures written { OnOk result (IfSome (S.contents source) (λ xs.
         WritesChosen xs ids.now (K.contents sink.old) (K.contents sink.new))) }
+    ensures flushed { OnOk result (K.waiting sink.new ≡ 0) }
     ensures kept { IfErr result (λ e. IsNamed e → K.contents sink.new ≡ K.contents sink.old) }
+    ensures len { IfErr result (λ e. IsNamed e → K.len sink.new ≡ K.len sink.old) }
+    ensures more { OnOk result (K.len sink.old ≤ K.len sink.new) }
     ensures refused { IfErr result (IsRefusalOf (MayRefuse (S.contents source) (S.can_refuse source))
         (IsTrue (K.can_refuse sink.old))) }
+    ensures fault { SaysFault (S.contents source) (S.can_refuse source) result }
 {
     let (source, len, movie) = open_source(alloc, source)?;
     let kept = kept_ids(alloc, &movie, ids)?;

@@ -1,13 +1,14 @@
 //! A layout of a file, compared with it and written.
 
-ghost use Rattle.std.specs.Prelude.{◌≡◌, ℕ, List, IfErr, IfOk, IfSome, IsTrue, OnOk, length};
+ghost use Rattle.std.specs.Prelude.{◌≡◌, ◌≤◌, ℕ, List, IfErr, IfOk, IfSome, IsTrue, OnOk, length};
 ghost use Rattle.mp4_source.specs.Answers.{IsLength};
 ghost use Rattle.mp4_source.specs.Sink.{IsAppended};
 ghost use Rattle.mp4_media.specs.FileBoxes.{opened_movie};
-ghost use Rattle.mp4_media.specs.FileGrammar.{IsFile};
+ghost use Rattle.mp4_media.specs.FileGrammar.{IsFile, IsFaultyFile};
 ghost use Rattle.mp4_media.specs.MovieTracks.{AreTracks};
+ghost use Rattle.mp4_codec.specs.Cause.{Cause};
 ghost use Rattle.mp4_codec.specs.Cursor.{here};
-ghost use Rattle.mp4_remux.specs.Errors.{IsNamed, IsRefusalOf, MayRefuse};
+ghost use Rattle.mp4_remux.specs.Errors.{GivesCause, IsNamed, IsRefusalOf, MayRefuse, SaysFault};
 ghost use Rattle.mp4_remux.specs.Remuxed.{WritesRemuxed};
 ghost use Rattle.mp4_remux.specs.Splice.{spliced};
 
@@ -34,6 +35,8 @@ pub(crate) fn open_whole<S: ByteSource + Drop>(
     ensures contents { IfOk result (λ x. S.contents x.0 ≡ S.contents source) }
     ensures can_refuse { IfOk result (λ x. S.can_refuse x.0 ≡ S.can_refuse source) }
     ensures refused { IfErr result (IsRefusalOf (MayRefuse (S.contents source) (S.can_refuse source)) ⊥) }
+    ensures fault { IfSome (S.contents source) (λ xs. (c : Cause) → IsFaultyFile len (here xs 0) c
+        → GivesCause (S.can_refuse source) c result) }
 {
     let file = Mp4File::open(alloc, source, 0, len)?;
     Ok(file.into_parts())
@@ -51,6 +54,7 @@ pub(crate) fn open_source<S: ByteSource + Drop>(
     ensures contents { IfOk result (λ x. S.contents x.0 ≡ S.contents source) }
     ensures can_refuse { IfOk result (λ x. S.can_refuse x.0 ≡ S.can_refuse source) }
     ensures refused { IfErr result (IsRefusalOf (MayRefuse (S.contents source) (S.can_refuse source)) ⊥) }
+    ensures fault { SaysFault (S.contents source) (S.can_refuse source) result }
 {
     let mut source = source;
     let len = match source.len() {
@@ -78,9 +82,12 @@ pub(crate) fn write_layout<S: ByteSource + Drop, K: ByteSink>(
     requires opened { IfSome (S.contents source) (λ xs.
         IsFile (length xs) (here xs 0) (opened_movie before.now)) }
     ensures written { OnOk result (IfSome (S.contents source) (λ xs.
-        WritesRemuxed xs (spliced xs layout.now.made.items layout.now.pieces.items) (opened_movie before.now) made ids.now
-        (K.contents sink.old) (K.contents sink.new))) }
+        WritesRemuxed xs (spliced xs layout.now.made.items layout.now.pieces.items) (opened_movie before.now) made
+        ids.now (K.contents sink.old) (K.contents sink.new))) }
+    ensures flushed { OnOk result (K.waiting sink.new ≡ 0) }
     ensures kept { IfErr result (λ e. IsNamed e → K.contents sink.new ≡ K.contents sink.old) }
+    ensures len { IfErr result (λ e. IsNamed e → K.len sink.new ≡ K.len sink.old) }
+    ensures more { OnOk result (K.len sink.old ≤ K.len sink.new) }
     ensures refused { IfErr result (IsRefusalOf (MayRefuse (S.contents source) (S.can_refuse source))
         (IsTrue (K.can_refuse sink.old))) }
 {

@@ -143,8 +143,8 @@ fn count_same(
     Err(RemuxError::TooManySamples(track_id))
 }
 
-/// How many samples the track of this box has, which are the same before and after. `OtherTracks` where tables were made
-/// and its media don't last until all have been shown, `TooManySamples` where they are more than `most`.
+/// How many samples the track of this box has, which are the same before and after. `OtherTracks` where tables were
+/// made and its media don't last until all have been shown, `TooManySamples` where they are more than `most`.
 fn check_track(
     before: &Movie,
     after: &Movie,
@@ -191,8 +191,8 @@ fn has_ids(movie: &Movie, ids: &[u32]) -> bool
     true
 }
 
-/// How many samples of a file of so many bytes are compared at most: as many as it has bytes, so that a small file takes
-/// no long time.
+/// How many samples of a file of so many bytes are compared at most: as many as it has bytes, so that a small file
+/// takes no long time.
 pub(crate) fn most_samples(len: u64) -> u32
     ensures { result < 2 ^ 32 - 1 }
 {

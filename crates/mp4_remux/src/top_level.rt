@@ -26,8 +26,8 @@ impl TopBox {
     }
 }
 
-/// Where a box ends whose header ends there and says this size, in a file of `len` bytes: with the file where it says no
-/// end, or one past it.
+/// Where a box ends whose header ends there and says this size, in a file of `len` bytes: with the file where it says
+/// no end, or one past it.
 fn top_end(size: u64, from: u64, len: u64) -> u64
     ensures { result ≡ top_end size from len }
 {

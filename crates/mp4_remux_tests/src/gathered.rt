@@ -153,7 +153,7 @@ fn refuses_what_tables_lack(alloc: Global) -> Result<bool, RemuxError> {
     let other = refusal_with(alloc, TIME_BOX, b's')?;
     Ok(
         matches!(gap, Some(RemuxError::StartsElsewhere(1, 4)))
-            && matches!(other, Some(RemuxError::SaysOfSamples(_, 911))),
+            && matches!(other, Some(RemuxError::SaysOfSamples(_, 959))),
     )
 }
 

@@ -38,7 +38,7 @@ fn refuses_places(alloc: Global) -> Result<bool, RemuxError> {
     Ok(
         matches!(mfra, (Some(RemuxError::SaysPlaces(_, 911)), 0))
             && matches!(sidx, (Some(RemuxError::SaysPlaces(_, 911)), 0))
-            && matches!(iloc, (Some(RemuxError::SaysPlaces(_, 911)), 0))
+            && matches!(iloc, (Some(RemuxError::SaysPlaces(_, 923)), 0))
             && matches!(free, (None, 931)),
     )
 }
@@ -119,7 +119,7 @@ fn refuses_samples_elsewhere(alloc: Global) -> Result<bool, RemuxError> {
     let elsewhere = refusal_of(alloc, &joined(alloc, &[file_type(), &DATA, &movie])?);
     Ok(matches!(
         elsewhere,
-        (Some(RemuxError::SaysPlaces(BoxType::DrefBox, 56)), 0)
+        (Some(RemuxError::SaysPlaces(BoxType::DrefBox, 453)), 0)
     ))
 }
 

@@ -40,6 +40,12 @@ pub enum Fault {
     /// The file doesn't open.
     #[error("{0}")]
     Broken(WhyReport),
+    /// The box of this path, which begins at this byte, says places of the file.
+    #[error("a box {0} at byte {1} says places of the file, which would be wrong")]
+    SaysPlaces(String, u64),
+    /// The box of this path, which begins at this byte, says of samples what tables don't.
+    #[error("a box {0} at byte {1} says of samples what tables do not")]
+    SaysOfSamples(String, u64),
     /// The file can't be rewritten.
     #[error("{0}")]
     Remux(RemuxError),

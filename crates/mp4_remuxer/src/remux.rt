@@ -5,7 +5,7 @@ use crate::files::{is_same_file, is_special, open};
 use crate::pipe_sink::PipeSink;
 use crate::progress::{Progress, WatchedSink};
 use crate::request::{Request, Task};
-use mp4_box_report::why_of;
+use mp4_box_report::{path_at, why_of};
 use mp4_media::{ByteSink, ByteSource, Error, Mp4File, SeekSink, SeekSource, SourceError, Window};
 use mp4_new_file::NewFile;
 use mp4_remux::{LeftOut, RemuxError, check_samples, choose, gather, move_to_front};
@@ -177,8 +177,24 @@ fn place_of<S: ByteSource + Drop>(alloc: Global, source: S, error: Error) -> Fau
     }
 }
 
-/// A fault of a source: with the place where its file is broken that doesn't open, and with the tracks that it has
-/// where one isn't there.
+/// A refusal to rewrite the file of a source: with the path of the box that it names.
+fn with_path<S: ByteSource + Drop>(alloc: Global, source: S, error: RemuxError) -> Fault {
+    let (RemuxError::SaysPlaces(_, place) | RemuxError::SaysOfSamples(_, place)) = &error else {
+        return Fault::Remux(error);
+    };
+    let place = *place;
+    match path_at(alloc, source, place) {
+        Ok(Some(path)) if matches!(error, RemuxError::SaysPlaces(_, _)) => {
+            Fault::SaysPlaces(path, place)
+        }
+        Ok(Some(path)) => Fault::SaysOfSamples(path, place),
+        Ok(None) => Fault::Remux(error),
+        Err(refused) => Fault::from(refused),
+    }
+}
+
+/// A fault of a source: with the place where its file is broken that doesn't open, with the path of the box that keeps
+/// it from being rewritten, and with the tracks that it has where one isn't there.
 fn with_words<S: ByteSource + Drop>(alloc: Global, source: S, fault: Fault) -> Fault {
     match fault {
         Fault::Movie(Error::OutOfMemory) => fault,
@@ -187,6 +203,7 @@ fn with_words<S: ByteSource + Drop>(alloc: Global, source: S, fault: Fault) -> F
             Err(other) => other,
         },
         Fault::Movie(error) => place_of(alloc, source, error),
+        Fault::Remux(error) => with_path(alloc, source, error),
         fault => fault,
     }
 }

@@ -1,9 +1,12 @@
-use Rattle.std.proofs.Common.{arith, ◌∙◌, IfSome, ap, sym, length}
+use Rattle.std.proofs.Common.{arith, ◌∙◌, Err, IfSome, ap, sym, length}
 use Rattle.mp4_media.specs.declared.movie.Movie.{Movie}
 use Rattle.mp4_media.specs.FileBoxes.{opened_movie}
 use Rattle.mp4_remux.specs.Remuxed.{IsSameTrack}
 use Rattle.mp4_remux.proofs.Sameness.{got_within}
 use Rattle.mp4_remux.proofs.Checking.{checked, id_more}
+use Rattle.std.proofs.lemmas.Result.{err_from_is_err_and}
+use Rattle.mp4_remux.specs.declared.error.RemuxError.{RemuxError}
+use Rattle.mp4_remux.proofs.Faults.{no_fault, passed_on}
 use Rattle.mp4_remux.proofs.check.check_samples.Goals as goal
 
 pub loop-i-preserved : goal.loop-i-preserved
@@ -39,3 +42,20 @@ returns-clause-same g c =
     (ap (λ (m : Movie). length m.moov.traks) (sym c.deref.ensures) ∙ sym c.len.ensures.value ∙ c.if-len-ids.false)
     (λ id i there. rw (before.ensures.contents, after.ensures.contents)
     at (inv.same id i (omega (arith, got_within c.args.ids.now i id there, c.loop-i-test.false)) there))
+
+pub returns-in_err-before-clause-fault : goal.returns-in_err-before-clause-fault
+returns-in_err-before-clause-fault g c =
+    let p = err_from_is_err_and c.from_residual.result c.from_residual.ensures.1 in
+    passed_on (g.S.ByteSource.contents c.args.before) (g.S.ByteSource.can_refuse c.args.before)
+    c.in_err-before.field-0.0 c.from_residual.result (p.1 ∙ ap (λ (e : RemuxError). Err e) p.2)
+    c.in_err-before.ensures.fault
+
+pub returns-in_err-after-clause-fault : goal.returns-in_err-after-clause-fault
+returns-in_err-after-clause-fault g c =
+    no_fault (g.S.ByteSource.contents c.args.before) (g.S.ByteSource.can_refuse c.args.before)
+    c.from_residual-in_err-after.result c.in_ok-before.ensures.fault
+
+pub returns-in_err-left-clause-fault : goal.returns-in_err-left-clause-fault
+returns-in_err-left-clause-fault g c =
+    no_fault (g.S.ByteSource.contents c.args.before) (g.S.ByteSource.can_refuse c.args.before)
+    c.from_residual-in_err-left.result c.in_ok-before.ensures.fault

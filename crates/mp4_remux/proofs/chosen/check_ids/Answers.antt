@@ -1,6 +1,7 @@
 use Rattle.std.proofs.Common.{◌≡◌, ℕ, Some, arith}
 use Rattle.mp4_media.specs.MovieTracks.{OpenedTrack, track_at}
-use Rattle.mp4_remux.proofs.HeaderLaws.{each_more, track_there}
+use Rattle.mp4_remux.proofs.HeaderLaws.{track_there}
+use Rattle.mp4_remux.proofs.Numbered.{each_more}
 use Rattle.mp4_remux.proofs.Sameness.{got_within}
 use Rattle.mp4_remux.proofs.chosen.check_ids.Goals as goal
 

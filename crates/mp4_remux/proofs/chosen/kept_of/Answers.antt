@@ -24,4 +24,5 @@ loop-i-preserved c =
 
 pub returns-clause-ids : goal.returns-clause-ids
 returns-clause-ids c =
-    kept_all c.args.ids.now c.args.all.now c.loop-i.kept.items c.loop-i.i (omega (arith, c.loop-i-test.false)) c.loop-i.invariant.all
+    kept_all c.args.ids.now c.args.all.now c.loop-i.kept.items c.loop-i.i (omega (arith, c.loop-i-test.false))
+    c.loop-i.invariant.all

@@ -1,6 +1,9 @@
-use Rattle.std.proofs.Common.{◌∙◌}
+use Rattle.std.proofs.Common.{◌∙◌, Err, ap}
 use Rattle.mp4_media.specs.FileBoxes.{opened_movie}
 use Rattle.mp4_remux.proofs.Fronting.{writes_moved}
+use Rattle.std.proofs.lemmas.Result.{err_from_is_err_and}
+use Rattle.mp4_remux.specs.declared.error.RemuxError.{RemuxError}
+use Rattle.mp4_remux.proofs.Faults.{no_fault, passed_on}
 use Rattle.mp4_remux.proofs.front.move_to_front.Goals as goal
 
 pub returns-clause-written : goal.returns-clause-written
@@ -10,3 +13,30 @@ returns-clause-written g c =
     (rw (c.in_ok-source-2.ensures.contents, c.in_ok-source.ensures.contents) at c.write_layout.ensures.written)
     (rw (c.in-Some.is, c.in_ok-source.ensures.contents) at c.in_ok-source-2.ensures.moved)
     (c.deref.ensures.value ∙ c.in_ok-ids.ensures.ids)
+
+pub returns-in_err-source-clause-fault : goal.returns-in_err-source-clause-fault
+returns-in_err-source-clause-fault g c =
+    let p = err_from_is_err_and c.from_residual.result c.from_residual.ensures.1 in
+    passed_on (g.S.ByteSource.contents c.args.source) (g.S.ByteSource.can_refuse c.args.source)
+    c.in_err-source.field-0.0 c.from_residual.result (p.1 ∙ ap (λ (e : RemuxError). Err e) p.2)
+    c.in_err-source.ensures.fault
+
+pub returns-in_err-source-2-clause-fault : goal.returns-in_err-source-2-clause-fault
+returns-in_err-source-2-clause-fault g c =
+    no_fault (g.S.ByteSource.contents c.args.source) (g.S.ByteSource.can_refuse c.args.source)
+    c.from_residual-in_err-source-2.result c.in_ok-source.ensures.fault
+
+pub returns-in_default-clause-fault : goal.returns-in_default-clause-fault
+returns-in_default-clause-fault g c =
+    no_fault (g.S.ByteSource.contents c.args.source) (g.S.ByteSource.can_refuse c.args.source)
+    c.copy_all.result c.in_ok-source.ensures.fault
+
+pub returns-in_err-ids-clause-fault : goal.returns-in_err-ids-clause-fault
+returns-in_err-ids-clause-fault g c =
+    no_fault (g.S.ByteSource.contents c.args.source) (g.S.ByteSource.can_refuse c.args.source)
+    c.from_residual-in_err-ids.result c.in_ok-source.ensures.fault
+
+pub returns-clause-fault : goal.returns-clause-fault
+returns-clause-fault g c =
+    no_fault (g.S.ByteSource.contents c.args.source) (g.S.ByteSource.can_refuse c.args.source)
+    c.write_layout.result c.in_ok-source.ensures.fault

@@ -1,6 +1,6 @@
 use Rattle.std.proofs.Common.{arith, ap, sym, ◌∙◌, List, ℕ}
 use Rattle.std.specs.Prelude.{slice_get, slice_index_or}
-use Rattle.mp4_remux.proofs.HeaderLaws.{at_index}
+use Rattle.mp4_remux.proofs.Numbered.{at_index}
 use Rattle.mp4_remux.proofs.headers.has_far_chunk.Goals as goal
 
 pub returns-then-offsets-i : goal.returns-then-offsets-i

@@ -1,7 +1,7 @@
 use Rattle.std.proofs.Common.{arith, refl, subst}
 use Rattle.mp4_boxes.specs.declared.trak.TrakBox.{TrakBox}
 use Rattle.mp4_remux.specs.Headers.{IsTrackTime}
-use Rattle.mp4_remux.proofs.HeaderLaws.{each_more}
+use Rattle.mp4_remux.proofs.Numbered.{each_more}
 use Rattle.mp4_remux.proofs.Sameness.{got_within}
 use Rattle.mp4_remux.proofs.headers.have_track_times.Goals as goal
 

@@ -3,7 +3,8 @@ use Rattle.std.specs.Prelude.{slice_index_or}
 use Rattle.mp4_boxes.specs.declared.trak.TrakBox.{TrakBox}
 use Rattle.mp4_media.specs.MovieTracks.{OpenedTrack, track_at}
 use Rattle.mp4_remux.specs.Headers.{KeepsTrack}
-use Rattle.mp4_remux.proofs.HeaderLaws.{each_more, keeps_more}
+use Rattle.mp4_remux.proofs.HeaderLaws.{keeps_more}
+use Rattle.mp4_remux.proofs.Numbered.{each_more}
 use Rattle.mp4_remux.proofs.Sameness.{got_within}
 use Rattle.mp4_remux.proofs.headers.keeps_headers.Goals as goal
 

@@ -1,6 +1,9 @@
-use Rattle.std.proofs.Common.{◌∙◌, Ok}
+use Rattle.std.proofs.Common.{◌∙◌, Err, Ok, ap}
 use Rattle.mp4_media.specs.FileBoxes.{opened_movie}
 use Rattle.mp4_remux.proofs.Rebuilding.{writes_as_it_is, writes_gathered}
+use Rattle.std.proofs.lemmas.Result.{err_from_is_err_and}
+use Rattle.mp4_remux.specs.declared.error.RemuxError.{RemuxError}
+use Rattle.mp4_remux.proofs.Faults.{no_fault, passed_on}
 use Rattle.mp4_remux.proofs.rebuild.gather.Goals as goal
 
 pub returns-then-not-has_fragments-clause-written : goal.returns-then-not-has_fragments-clause-written
@@ -14,3 +17,25 @@ returns-clause-written g c =
     writes_gathered (g.S.ByteSource.contents c.args.source) _ _ (Ok tt)
     (opened_movie c.in_ok-source.movie) _ (rw c.in_ok-source.ensures.contents at c.in_ok-write_chosen.ensures.written)
     (c.deref.ensures.value ∙ c.in_ok-ids.ensures.ids) (c.has_fragments.ensures.some cc)
+
+pub returns-in_err-source-clause-fault : goal.returns-in_err-source-clause-fault
+returns-in_err-source-clause-fault g c =
+    let p = err_from_is_err_and c.from_residual.result c.from_residual.ensures.1 in
+    passed_on (g.S.ByteSource.contents c.args.source) (g.S.ByteSource.can_refuse c.args.source)
+    c.in_err-source.field-0.0 c.from_residual.result (p.1 ∙ ap (λ (e : RemuxError). Err e) p.2)
+    c.in_err-source.ensures.fault
+
+pub returns-then-not-has_fragments-clause-fault : goal.returns-then-not-has_fragments-clause-fault
+returns-then-not-has_fragments-clause-fault g c =
+    no_fault (g.S.ByteSource.contents c.args.source) (g.S.ByteSource.can_refuse c.args.source)
+    c.copy_all.result c.in_ok-source.ensures.fault
+
+pub returns-in_err-ids-clause-fault : goal.returns-in_err-ids-clause-fault
+returns-in_err-ids-clause-fault g c =
+    no_fault (g.S.ByteSource.contents c.args.source) (g.S.ByteSource.can_refuse c.args.source)
+    c.from_residual-in_err-ids.result c.in_ok-source.ensures.fault
+
+pub returns-in_err-write_chosen-clause-fault : goal.returns-in_err-write_chosen-clause-fault
+returns-in_err-write_chosen-clause-fault g c =
+    no_fault (g.S.ByteSource.contents c.args.source) (g.S.ByteSource.can_refuse c.args.source)
+    c.from_residual-in_err-write_chosen.result c.in_ok-source.ensures.fault

@@ -8,5 +8,5 @@ returns-clause-written g c =
     let f = c.in_ok-source.frame in
     writes_rebuilt (g.S.ByteSource.contents c.args.source) _ _ (Ok tt) c.in_ok-layout.layout
     (opened_movie c.args.movie.now) c.args.ids.now f.file_type f.movie f.movie_bytes.items
-    (rw (c.in_ok-source.ensures.contents, c.made_of.ensures) at c.in_ok-write_layout.ensures.written) c.in_ok-source.ensures.frame
-    c.in_ok-layout.ensures.begins
+    (rw (c.in_ok-source.ensures.contents, c.made_of.ensures) at c.in_ok-write_layout.ensures.written)
+    c.in_ok-source.ensures.frame c.in_ok-layout.ensures.begins

@@ -4,7 +4,7 @@ use Rattle.mp4_boxes.specs.declared.trak.TrakBox.{TrakBox}
 use Rattle.mp4_media.specs.FileBoxes.{opened_movie}
 use Rattle.mp4_remux.specs.Headers.{IsShownUntil}
 use Rattle.mp4_remux.specs.Same.{IsTrackAsBefore}
-use Rattle.mp4_remux.proofs.HeaderLaws.{each_more}
+use Rattle.mp4_remux.proofs.Numbered.{each_more}
 use Rattle.mp4_remux.proofs.Sameness.{got_within}
 use Rattle.mp4_remux.proofs.same.check_same.Goals as goal
 

@@ -16,5 +16,5 @@ loop-cursor-preserved g c =
 
 pub returns-clause-boxes : goal.returns-clause-boxes
 returns-clause-boxes g c =
-    all_boxes (g.S.ByteSource.contents c.args.source) c.args.len c.loop-cursor.place c.loop-cursor.boxes.items c.requires
-    (past_end _ _ c.fits.result c.loop-cursor-test.false c.fits.ensures.1) c.loop-cursor.invariant.all
+    all_boxes (g.S.ByteSource.contents c.args.source) c.args.len c.loop-cursor.place c.loop-cursor.boxes.items
+    c.requires (past_end _ _ c.fits.result c.loop-cursor-test.false c.fits.ensures.1) c.loop-cursor.invariant.all

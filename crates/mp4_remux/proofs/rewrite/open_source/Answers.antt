@@ -1,0 +1,19 @@
+use Rattle.std.proofs.Common.{◌∙◌, Err, ap}
+use Rattle.std.proofs.lemmas.Result.{err_from_is_err_and}
+use Rattle.mp4_remux.specs.declared.error.RemuxError.{RemuxError}
+use Rattle.mp4_remux.proofs.Faults.{fault_by_len, none_by_len, passed_on}
+use Rattle.mp4_remux.proofs.rewrite.open_source.Goals as goal
+
+pub returns-in_err-source-clause-fault : goal.returns-in_err-source-clause-fault
+returns-in_err-source-clause-fault g c =
+    let p = err_from_is_err_and c.from_residual.result c.from_residual.ensures.1 in
+    passed_on (g.S.ByteSource.contents c.args.source) (g.S.ByteSource.can_refuse c.args.source)
+    c.in_err-source.field-0.0 c.from_residual.result (p.1 ∙ ap (λ (e : RemuxError). Err e) p.2)
+    (fault_by_len (g.S.ByteSource.contents c.args.source) (g.S.ByteSource.can_refuse c.args.source) c.in-Ok.len
+    c.in_err-source.field-0.0 c.in-Ok.ensures.value
+    (rw (c.in-Ok.ensures.contents, c.in-Ok.ensures.can_refuse) at c.in_err-source.ensures.fault))
+
+pub returns-clause-fault : goal.returns-clause-fault
+returns-clause-fault g c =
+    none_by_len (g.S.ByteSource.contents c.args.source) c.in-Ok.len c.in-Ok.ensures.value
+    (rw c.in-Ok.ensures.contents at c.in_ok-source.ensures.fault)

@@ -1,0 +1,19 @@
+use Rattle.std.proofs.Common.{◌∙◌, Err, ap}
+use Rattle.std.proofs.lemmas.Result.{err_from_is_err_and}
+use Rattle.mp4_media.specs.FileBoxes.{opened_movie}
+use Rattle.mp4_remux.specs.declared.error.RemuxError.{RemuxError}
+use Rattle.mp4_remux.proofs.Faults.{fault_of_opening, given_on, opened_without_fault}
+use Rattle.mp4_remux.proofs.rewrite.open_whole.Goals as goal
+
+pub returns-in_err-file-clause-fault : goal.returns-in_err-file-clause-fault
+returns-in_err-file-clause-fault g c =
+    let p = err_from_is_err_and c.from_residual.result c.from_residual.ensures.1 in
+    given_on (g.S.ByteSource.contents c.args.source) (g.S.ByteSource.can_refuse c.args.source) c.args.len _
+    c.from_residual.result (p.1 ∙ ap (λ (e : RemuxError). Err e) p.2)
+    (fault_of_opening (g.S.ByteSource.contents c.args.source) (g.S.ByteSource.can_refuse c.args.source)
+    (λ f. opened_movie f.movie) c.args.len c.in_err-file.field-0.0 c.in_err-file.ensures.opening)
+
+pub returns-clause-fault : goal.returns-clause-fault
+returns-clause-fault g c =
+    opened_without_fault (g.S.ByteSource.contents c.args.source) (g.S.ByteSource.can_refuse c.args.source)
+    (λ f. opened_movie f.movie) c.args.len c.in_ok-file.file c.in_ok-file.ensures.opening
