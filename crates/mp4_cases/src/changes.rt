@@ -1,8 +1,7 @@
 //! Bytes that are changed or cut before they are asked.
 
 use crate::encoded::{Names, encoded};
-use mp4_codec::Result;
-use std::alloc::Global;
+use std::alloc::{AllocError, Global};
 
 /// A question, and what is done to the bytes before it is asked.
 #[derive(Drop)]
@@ -47,7 +46,12 @@ fn write_over(bytes: &mut [u8], place: usize, others: &[u8]) -> bool {
 }
 
 /// Makes one change, as `ffff at 20`, and answers whether it is one.
-fn change(alloc: Global, names: &Names, bytes: &mut [u8], change: &str) -> Result<bool> {
+fn change(
+    alloc: Global,
+    names: &Names,
+    bytes: &mut [u8],
+    change: &str,
+) -> Result<bool, AllocError> {
     let Some((words, place)) = change.split_once(" at ") else {
         return Ok(false);
     };
@@ -66,7 +70,7 @@ pub fn changed(
     names: &Names,
     bytes: &[u8],
     changes: &str,
-) -> Result<Option<Vec<u8>>> {
+) -> Result<Option<Vec<u8>>, AllocError> {
     let mut bytes = bytes.to_vec(alloc)?;
     let mut is_changed = true;
     for one in changes.split(", ") {

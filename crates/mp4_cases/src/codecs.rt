@@ -1,19 +1,13 @@
 //! What the numbers and codes of codec types stand for.
 
-use crate::encoded::encoded;
-use mp4_codec::{FourCC, Result};
+use crate::encoded::encoded_word;
+use mp4_codec::{Error, FourCC};
 use mp4_entry::{AudioObjectType, AvcProfile, ChannelConfig, SampleFreqIndex, TrackType};
 use std::alloc::{AllocError, Global};
-use std::collections::BTreeMap;
 use std::fmt::{Debug, Write};
 
-/// The number of a question; None where it is no number of a byte.
-fn number(question: &str) -> Option<u8> {
-    question.parse::<u8>().ok()
-}
-
 /// What a call answered.
-fn told<T: Debug>(alloc: Global, value: &Result<T>) -> std::result::Result<String, AllocError> {
+fn told<T: Debug>(alloc: Global, value: &Result<T, Error>) -> Result<String, AllocError> {
     match value {
         Ok(value) => format!(in alloc; "{value:?}"),
         Err(error) => format!(in alloc; "refused: {error}"),
@@ -24,48 +18,50 @@ fn told<T: Debug>(alloc: Global, value: &Result<T>) -> std::result::Result<Strin
 fn numbered<T: Debug>(
     alloc: Global,
     number: u8,
-    value: &Result<T>,
-    own: Option<u8>,
-) -> Result<String> {
+    value: &Result<T, Error>,
+    own: u8,
+) -> Result<String, AllocError> {
     let mut text = told(alloc, value)?;
-    match own {
-        Some(own) if own != number => write!(text, ", of the number {own}")?,
-        _ => {},
+    if own != number {
+        write!(text, ", of the number {own}")?;
     }
     Ok(text)
 }
 
 /// The type of sound of a number.
-fn audio_object_type(alloc: Global, number: u8) -> Result<String> {
+fn audio_object_type(alloc: Global, number: u8) -> Result<String, AllocError> {
     let value = AudioObjectType::try_from(number);
-    let own = value.as_ref().ok().map(|value| value.number());
+    let own = match &value {
+        Ok(value) => value.number(),
+        Err(_) => number,
+    };
     numbered(alloc, number, &value, own)
 }
 
 /// The channels of a number.
-fn channel_config(alloc: Global, number: u8) -> Result<String> {
+fn channel_config(alloc: Global, number: u8) -> Result<String, AllocError> {
     let value = ChannelConfig::try_from(number);
-    let own = value.as_ref().ok().map(|value| value.number());
+    let own = match &value {
+        Ok(value) => value.number(),
+        Err(_) => number,
+    };
     numbered(alloc, number, &value, own)
 }
 
 /// The frequency of an index, and its hertz.
-fn sample_freq_index(alloc: Global, number: u8) -> Result<String> {
+fn sample_freq_index(alloc: Global, number: u8) -> Result<String, AllocError> {
     let value = SampleFreqIndex::try_from(number);
-    let own = value.as_ref().ok().map(|value| value.number());
-    let mut text = numbered(alloc, number, &value, own)?;
-    if let Ok(value) = &value {
-        write!(text, ", {} Hz", value.freq())?;
-    }
+    let Ok(index) = &value else {
+        return told(alloc, &value);
+    };
+    let mut text = numbered(alloc, number, &value, index.number())?;
+    write!(text, ", {} Hz", index.freq())?;
     Ok(text)
 }
 
 /// The profile of video of two bytes: its number and the compatibility.
-fn avc_profile(alloc: Global, question: &str) -> Result<Option<String>> {
-    let Some(bytes) = encoded(alloc, &BTreeMap::new(alloc), question)? else {
-        return Ok(None);
-    };
-    match bytes.as_slice() {
+fn avc_profile(alloc: Global, question: &str) -> Result<Option<String>, Error> {
+    match encoded_word(alloc, question)?.as_slice() {
         [profile, compatibility] => {
             let value = AvcProfile::try_from((*profile, *compatibility));
             Ok(Some(told(alloc, &value)?))
@@ -75,20 +71,19 @@ fn avc_profile(alloc: Global, question: &str) -> Result<Option<String>> {
 }
 
 /// The type of track of a handler, by its name, and its own handler where that is another.
-fn track_type_of(alloc: Global, handler: FourCC) -> Result<String> {
+fn track_type_of(alloc: Global, handler: FourCC) -> Result<String, Error> {
     let value = TrackType::try_from(&handler)?;
-    if FourCC::from(value) != handler {
-        return Ok(format!(in alloc; "{value}, of another handler")?);
-    }
-    Ok(format!(in alloc; "{value}")?)
+    let other = if FourCC::from(value) == handler {
+        ""
+    } else {
+        ", of another handler"
+    };
+    Ok(format!(in alloc; "{value}{other}")?)
 }
 
 /// The type of track of a handler of four bytes.
-fn track_type(alloc: Global, question: &str) -> Result<Option<String>> {
-    let Some(bytes) = encoded(alloc, &BTreeMap::new(alloc), question)? else {
-        return Ok(None);
-    };
-    match bytes.as_slice() {
+fn track_type(alloc: Global, question: &str) -> Result<Option<String>, Error> {
+    match encoded_word(alloc, question)?.as_slice() {
         [a, b, c, d] => {
             let code = u32::from_be_bytes([*a, *b, *c, *d]);
             Ok(Some(track_type_of(alloc, FourCC::from(code))?))
@@ -98,8 +93,8 @@ fn track_type(alloc: Global, question: &str) -> Result<Option<String>> {
 }
 
 /// What a number stands for among the types of a name.
-fn answer_of_number(alloc: Global, types: &str, question: &str) -> Result<Option<String>> {
-    let Some(number) = number(question) else {
+fn answer_of_number(alloc: Global, types: &str, question: &str) -> Result<Option<String>, Error> {
+    let Ok(number) = question.parse::<u8>() else {
         return Ok(None);
     };
     let answer = match types {
@@ -112,7 +107,11 @@ fn answer_of_number(alloc: Global, types: &str, question: &str) -> Result<Option
 }
 
 /// What a number or a code stands for among the types of a name; None where it is no number, or the name isn't known.
-pub fn answer_of_codec(alloc: Global, types: &str, question: &str) -> Result<Option<String>> {
+pub fn answer_of_codec(
+    alloc: Global,
+    types: &str,
+    question: &str,
+) -> Result<Option<String>, Error> {
     match types {
         "avc_profile" => avc_profile(alloc, question),
         "track_type" => track_type(alloc, question),

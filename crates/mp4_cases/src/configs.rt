@@ -1,16 +1,10 @@
 //! What a configuration of a track answers.
 
-use crate::boxes::AnyBox;
-use crate::defaults::answer_of_value;
+use crate::boxes::{copy_of, made};
 use crate::media::media_of;
-use mp4_codec::{BoxType, Result, TryClone};
+use mp4_codec::{BoxType, Result};
 use mp4_entry::{Avc1Box, Hev1Box, MediaConfig, Mp4aBox, StsdBox, Tx3gBox, Vp09Box};
 use std::alloc::Global;
-
-/// What a sample entry, or a sample description, answers that a call made.
-fn made<B: AnyBox>(alloc: Global, value: Result<B>, question: &str) -> Result<Option<String>> {
-    answer_of_value(alloc, &value?, question)
-}
 
 /// What the sample entry of a configuration answers.
 fn answer_of_entry(alloc: Global, config: &MediaConfig, question: &str) -> Result<Option<String>> {
@@ -29,26 +23,28 @@ fn check_of(alloc: Global, config: &MediaConfig) -> Result<String> {
     Ok(String::from_str(alloc, "accepted")?)
 }
 
-/// Whether the copy of a configuration is equal to it.
-fn copy_of(alloc: Global, config: &MediaConfig) -> Result<String> {
-    let is_equal = config.try_clone()? == *config;
-    Ok(String::from_str(alloc, if is_equal { "equal" } else { "another" })?)
+/// The type of a configuration's track, of its media, or of its sample entry; None where that isn't asked.
+fn type_of(alloc: Global, config: &MediaConfig, question: &str) -> Result<Option<String>> {
+    let answer = match question {
+        "track_type" => format!(in alloc; "{}", config.track_type()),
+        "media_type" => format!(in alloc; "{:?}", config.media_type()),
+        "box_type" => format!(in alloc; "{}", BoxType::from(config.media_type())),
+        _ => return Ok(None),
+    };
+    Ok(Some(answer?))
 }
 
 /// What a configuration answers to a question; None where that is no question.
 fn answer(alloc: Global, config: &MediaConfig, question: &str) -> Result<Option<String>> {
-    let answer = match question {
-        "check" => check_of(alloc, config),
-        "copy" => copy_of(alloc, config),
-        "track_type" => Ok(format!(in alloc; "{}", config.track_type())?),
-        "media_type" => Ok(format!(in alloc; "{:?}", config.media_type())?),
-        "box_type" => Ok(format!(in alloc; "{}", BoxType::from(config.media_type()))?),
+    match question {
+        "check" => check_of(alloc, config).map(Some),
+        "copy" => copy_of(alloc, config).map(Some),
+        "track_type" | "media_type" | "box_type" => type_of(alloc, config, question),
         _ => match question.strip_suffix(" stsd") {
-            Some(question) => return made(alloc, StsdBox::new(alloc, config), question),
-            None => return answer_of_entry(alloc, config, question),
+            Some(question) => made(alloc, StsdBox::new(alloc, config), question),
+            None => answer_of_entry(alloc, config, question),
         },
-    };
-    Ok(Some(answer?))
+    }
 }
 
 /// What a configuration of media answers to a question; None where that is no question, or the words are no

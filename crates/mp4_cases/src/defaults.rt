@@ -1,11 +1,9 @@
 //! What the default value of a type of box answers.
 
-use crate::boxes::{AnyBox, write_again};
-use crate::encoded::write_digits;
+use crate::boxes::made;
 use crate::kinds::kind_named;
-use crate::refusals::refusal;
 use mp4_boxes::{EdtsBox, MdiaBox, MinfBox, MoovBox, StblBox, TrakBox};
-use mp4_codec::{BoxType, Error, HEADER_SIZE, ReadBox, Result};
+use mp4_codec::{BoxType, Result};
 use mp4_entry::{
     Avc1Box, AvcCBox, EsdsBox, Hev1Box, HvcCBox, Mp4aBox, StsdBox, Tx3gBox, Vp09Box, VpccBox,
 };
@@ -19,75 +17,6 @@ use mp4_moof::{
 };
 use mp4_table::{Co64Box, CttsBox, StcoBox, StscBox, StssBox, StszBox, SttsBox};
 use std::alloc::Global;
-use std::fmt::{Debug, Write};
-
-/// Adds whether bytes are read as another value than the one that they were written of. Where they aren't read, as
-/// those of a sample table without chunk offsets, nothing is added.
-fn add_read_back<B: ReadBox + PartialEq>(
-    alloc: Global,
-    text: &mut String,
-    value: &B,
-    bytes: &[u8],
-) -> Result<()> {
-    let payload = bytes.get(HEADER_SIZE as usize..).unwrap_or(&[]);
-    match B::read_payload(alloc, payload) {
-        Ok(again) if again != *value => text.push_str(", read back as another")?,
-        Err(Error::OutOfMemory) => return Err(Error::OutOfMemory),
-        _ => {},
-    }
-    Ok(())
-}
-
-/// The bytes that a value is written as, and what else isn't right: its size, its copy, or what is read back.
-fn compared<B: AnyBox>(alloc: Global, value: &B, bytes: &[u8]) -> Result<String> {
-    let mut text = String::new(alloc);
-    write_digits(&mut text, bytes)?;
-    if value.box_size() != bytes.len() as u64 {
-        write!(text, ", of the size {}", value.box_size())?;
-    }
-    if value.try_clone()? != *value {
-        text.push_str(", a copy isn't equal")?;
-    }
-    add_read_back(alloc, &mut text, value, bytes)?;
-    Ok(text)
-}
-
-/// What a value is written as in a buffer of one byte, or why it isn't; and whether the count of bytes is another, or a
-/// refusal changes the buffer.
-fn written<B: AnyBox>(alloc: Global, value: &B) -> Result<String> {
-    let mut out = vec![in alloc; 7u8]?;
-    let written = write_again(value, &mut out);
-    let bytes = out.get(1..).unwrap_or(&[]);
-    let mut text = match &written {
-        Ok(_) => compared(alloc, value, bytes)?,
-        Err(error) => refusal(alloc, error)?,
-    };
-    let count = written.unwrap_or(0);
-    if bytes.len() as u64 != count {
-        write!(text, ", {} bytes for {count}", bytes.len())?;
-    }
-    Ok(text)
-}
-
-/// What a value answers to a question; None where that is no question.
-pub fn answer_of_value<B: AnyBox>(
-    alloc: Global,
-    value: &B,
-    question: &str,
-) -> Result<Option<String>> {
-    let answer = match question {
-        "value" => Ok(format!(in alloc; "{value:?}")?),
-        "size" => Ok(format!(in alloc; "{}", value.box_size())?),
-        "written" => written(alloc, value),
-        _ => return Ok(None),
-    };
-    Ok(Some(answer?))
-}
-
-/// What the value answers that a call made.
-fn made<B: AnyBox>(alloc: Global, value: Result<B>, question: &str) -> Result<Option<String>> {
-    answer_of_value(alloc, &value?, question)
-}
 
 /// What the default value of a box of movie fragments answers.
 fn answer_of_fragment_box(alloc: Global, kind: BoxType, question: &str) -> Result<Option<String>> {

@@ -2,8 +2,7 @@
 
 use crate::encoded::{Names, digits, encoded};
 use crate::items::words;
-use mp4_codec::Result;
-use std::alloc::Global;
+use std::alloc::{AllocError, Global};
 
 /// How an answer is compared.
 #[derive(Clone, Copy, Drop)]
@@ -70,17 +69,34 @@ fn has_parts(text: &str, parts: &str) -> bool {
     true
 }
 
+/// Adds the digits of the bytes that a part encodes to a text, and answers whether it encodes any.
+fn add_digits(
+    alloc: Global,
+    names: &Names,
+    part: &str,
+    text: &mut String,
+) -> Result<bool, AllocError> {
+    let Some(bytes) = encoded(alloc, names, part)? else {
+        return Ok(false);
+    };
+    if !text.is_empty() {
+        text.push_str(BETWEEN)?;
+    }
+    text.push_str(&digits(alloc, &bytes)?)?;
+    Ok(true)
+}
+
 /// The digits of the bytes that each part encodes; None where one encodes none.
-fn digits_of_parts(alloc: Global, names: &Names, parts: &str) -> Result<Option<String>> {
+fn digits_of_parts(
+    alloc: Global,
+    names: &Names,
+    parts: &str,
+) -> Result<Option<String>, AllocError> {
     let mut text = String::new(alloc);
     for part in parts.split(BETWEEN) {
-        let Some(bytes) = encoded(alloc, names, part)? else {
+        if !add_digits(alloc, names, part, &mut text)? {
             return Ok(None);
-        };
-        if !text.is_empty() {
-            text.push_str(BETWEEN)?;
         }
-        text.push_str(&digits(alloc, &bytes)?)?;
     }
     Ok(Some(text))
 }
@@ -151,7 +167,7 @@ impl Expected {
         names: &Names,
         question: &str,
         expected: &str,
-    ) -> Result<Option<Expected>> {
+    ) -> Result<Option<Expected>, AllocError> {
         let comparison = comparison_of(question, expected);
         let text = if has_bytes(question, expected) {
             digits_of_parts(alloc, names, expected)?

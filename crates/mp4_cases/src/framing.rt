@@ -4,7 +4,7 @@ use crate::encoded::digits;
 use crate::refusals::refusal;
 use mp4_codec::{BoxHeader, ByteCursor, Child, Children, Error, FourCC, Result, all_children};
 use mp4_moof::MfhdBox;
-use std::alloc::Global;
+use std::alloc::{AllocError, Global};
 use std::fmt::Write;
 
 /// Writes a header at the end of a buffer, and once more where memory is refused, which leaves the buffer as it was.
@@ -16,14 +16,15 @@ fn write_again(header: &BoxHeader, out: &mut Vec<u8>) -> Result<u64> {
 }
 
 /// What a header is written as, after a byte that is there before; and whether the buffer is another after a refusal.
-fn written(alloc: Global, header: &BoxHeader) -> Result<String> {
+fn written(alloc: Global, header: &BoxHeader) -> std::result::Result<String, AllocError> {
     let mut out = vec![in alloc; 7u8]?;
     let written = write_again(header, &mut out);
-    let mut text = match &written {
-        Ok(8) => digits(alloc, out.get(1..).unwrap_or(&[]))?,
-        Ok(count) => format!(in alloc; "{count} bytes")?,
-        Err(error) => refusal(alloc, error)?,
+    let text = match &written {
+        Ok(8) => digits(alloc, out.get(1..).unwrap_or(&[])),
+        Ok(count) => format!(in alloc; "{count} bytes"),
+        Err(error) => refusal(alloc, error),
     };
+    let mut text = text?;
     if written.is_err() && out.len() != 1 {
         text.push_str(", a part is written")?;
     }
@@ -35,8 +36,8 @@ pub fn answer_of_header(alloc: Global, bytes: &[u8], question: &str) -> Result<O
     let mut cursor = ByteCursor::new(bytes);
     let header = BoxHeader::read(&mut cursor)?;
     let answer = match question {
-        "value" => Ok(format!(in alloc; "{header:?}")?),
-        "length" => Ok(format!(in alloc; "{}", cursor.position())?),
+        "value" => format!(in alloc; "{header:?}"),
+        "length" => format!(in alloc; "{}", cursor.position()),
         "written" => written(alloc, &header),
         _ => return Ok(None),
     };
@@ -85,5 +86,5 @@ pub fn answer_of_children(alloc: Global, payload: &[u8], question: &str) -> Resu
         "all mfhd" => fragment_headers(alloc, payload),
         _ => return Ok(None),
     };
-    Ok(Some(answer?))
+    answer.map(Some)
 }

@@ -23,15 +23,18 @@ fn written(alloc: Global, language: Text) -> Result<String> {
     Ok(digits(alloc, out.get(28..30).unwrap_or(&[]))?)
 }
 
+/// Whether a language can be written.
+fn checked(alloc: Global, language: &Text) -> Result<String> {
+    check_language(language)?;
+    Ok(String::from_str(alloc, "accepted")?)
+}
+
 /// What the language that bytes are as a text answers to a question; None where that is no question.
 pub fn answer_of_language(alloc: Global, bytes: &[u8], question: &str) -> Result<Option<String>> {
     let language = text_of(alloc, bytes)?;
     match question {
-        "written" => Ok(Some(written(alloc, language)?)),
-        "check" => {
-            check_language(&language)?;
-            Ok(Some(format!(in alloc; "accepted")?))
-        },
+        "written" => written(alloc, language).map(Some),
+        "check" => checked(alloc, &language).map(Some),
         _ => Ok(None),
     }
 }

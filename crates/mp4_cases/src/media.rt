@@ -1,12 +1,12 @@
 //! The media of a track, as cases write it.
 
 use crate::encoded::encoded_word;
-use mp4_codec::{Items, Result};
+use mp4_codec::Items;
 use mp4_entry::{
     AacConfig, AudioObjectType, AvcConfig, ChannelConfig, HevcConfig, MediaConfig, SampleFreqIndex,
     TtxtConfig, Vp9Config,
 };
-use std::alloc::Global;
+use std::alloc::{AllocError, Global};
 
 /// Width and height; None where the words aren't two numbers of 16 bits.
 fn pixels_of(width: &str, height: &str) -> Option<(u16, u16)> {
@@ -14,17 +14,46 @@ fn pixels_of(width: &str, height: &str) -> Option<(u16, u16)> {
 }
 
 /// AVC video of width and height, a sequence parameter set and a picture parameter set.
-fn avc_of(alloc: Global, pixels: (u16, u16), sps: &str, pps: &str) -> Result<MediaConfig> {
-    Ok(MediaConfig::AvcConfig(AvcConfig {
-        width: pixels.0,
-        height: pixels.1,
-        seq_param_set: Items::from(encoded_word(alloc, sps)?),
-        pic_param_set: Items::from(encoded_word(alloc, pps)?),
-    }))
+fn avc_of(alloc: Global, words: &[&str]) -> Result<Option<MediaConfig>, AllocError> {
+    let [width, height, sps, pps] = words else {
+        return Ok(None);
+    };
+    let Some((width, height)) = pixels_of(width, height) else {
+        return Ok(None);
+    };
+    let seq_param_set = Items::from(encoded_word(alloc, sps)?);
+    let pic_param_set = Items::from(encoded_word(alloc, pps)?);
+    Ok(Some(MediaConfig::AvcConfig(AvcConfig {
+        width,
+        height,
+        seq_param_set,
+        pic_param_set,
+    })))
+}
+
+/// HEVC video of width and height.
+fn hevc_of(words: &[&str]) -> Option<MediaConfig> {
+    let [width, height] = words else {
+        return None;
+    };
+    let (width, height) = pixels_of(width, height)?;
+    Some(MediaConfig::HevcConfig(HevcConfig { width, height }))
+}
+
+/// VP9 video of width and height.
+fn vp9_of(words: &[&str]) -> Option<MediaConfig> {
+    let [width, height] = words else {
+        return None;
+    };
+    let (width, height) = pixels_of(width, height)?;
+    Some(MediaConfig::Vp9Config(Vp9Config { width, height }))
 }
 
 /// AAC sound of bits in a second, and the numbers of its type, its frequency and its channels.
-fn aac_of(bitrate: &str, profile: &str, frequency: &str, channels: &str) -> Option<MediaConfig> {
+fn aac_of(words: &[&str]) -> Option<MediaConfig> {
+    let [bitrate, profile, frequency, channels] = words else {
+        return None;
+    };
     let profile = profile.parse::<u8>().ok()?;
     let freq_index = frequency.parse::<u8>().ok()?;
     let chan_conf = channels.parse::<u8>().ok()?;
@@ -37,25 +66,17 @@ fn aac_of(bitrate: &str, profile: &str, frequency: &str, channels: &str) -> Opti
 }
 
 /// The media of a track: `avc 320 240 6742c01e 68ce3c80`, `hevc 320 240`, `vp9 320 240`, `aac 128000 2 3 2` or `ttxt`.
-pub fn media_of(alloc: Global, text: &str) -> Result<Option<MediaConfig>> {
+pub fn media_of(alloc: Global, text: &str) -> Result<Option<MediaConfig>, AllocError> {
     let words: Vec<&str> = text.split(' ').collect(alloc)?;
-    Ok(match words.as_slice() {
-        ["avc", width, height, sps, pps] => match pixels_of(width, height) {
-            Some(pixels) => Some(avc_of(alloc, pixels, sps, pps)?),
-            None => None,
-        },
-        ["hevc", width, height] => pixels_of(width, height).map(|(
-            width,
-            height,
-        )| MediaConfig::HevcConfig(HevcConfig { width, height })),
-        ["vp9", width, height] => pixels_of(width, height).map(|(
-            width,
-            height,
-        )| MediaConfig::Vp9Config(Vp9Config { width, height })),
-        ["aac", bitrate, profile, frequency, channels] => {
-            aac_of(bitrate, profile, frequency, channels)
-        },
-        ["ttxt"] => Some(MediaConfig::TtxtConfig(TtxtConfig {})),
-        _ => None,
-    })
+    let [kind, words @ ..] = words.as_slice() else {
+        return Ok(None);
+    };
+    match *kind {
+        "avc" => avc_of(alloc, words),
+        "hevc" => Ok(hevc_of(words)),
+        "vp9" => Ok(vp9_of(words)),
+        "aac" => Ok(aac_of(words)),
+        "ttxt" if words.is_empty() => Ok(Some(MediaConfig::TtxtConfig(TtxtConfig {}))),
+        _ => Ok(None),
+    }
 }

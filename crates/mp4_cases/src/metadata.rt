@@ -1,37 +1,36 @@
 //! What metadata says.
 
-use crate::encoded::write_digits;
+use crate::encoded::digits;
 use mp4_codec::Result;
 use mp4_meta::{IlstBox, Metadata};
-use std::alloc::Global;
+use std::alloc::{AllocError, Global};
 use std::borrow::CowStr;
 
 /// A text as a literal.
-fn text_of(alloc: Global, text: Option<CowStr<'_, Global>>) -> Result<String> {
-    let answer = match text {
+fn text_of(
+    alloc: Global,
+    text: Option<CowStr<'_, Global>>,
+) -> std::result::Result<String, AllocError> {
+    match text {
         Some(text) => format!(in alloc; "{:?}", text.as_str()),
         None => String::from_str(alloc, "none"),
-    };
-    Ok(answer?)
+    }
 }
 
 /// A year as a number.
-fn year_of(alloc: Global, year: Option<u32>) -> Result<String> {
-    let answer = match year {
+fn year_of(alloc: Global, year: Option<u32>) -> std::result::Result<String, AllocError> {
+    match year {
         Some(year) => format!(in alloc; "{year}"),
         None => String::from_str(alloc, "none"),
-    };
-    Ok(answer?)
+    }
 }
 
 /// The bytes of a picture.
-fn poster_of(alloc: Global, poster: Option<&[u8]>) -> Result<String> {
-    let mut text = String::new(alloc);
+fn poster_of(alloc: Global, poster: Option<&[u8]>) -> std::result::Result<String, AllocError> {
     match poster {
-        Some(bytes) => write_digits(&mut text, bytes)?,
-        None => text.push_str("none")?,
+        Some(bytes) => digits(alloc, bytes),
+        None => String::from_str(alloc, "none"),
     }
-    Ok(text)
 }
 
 /// Whether metadata is asked.

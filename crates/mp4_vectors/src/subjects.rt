@@ -77,7 +77,7 @@ pub fn bytes_of(
             Ok(Some(Vec::new(alloc)))
         }
         Subject::Script => Ok(script_of(alloc, words)?),
-        _ => encoded(alloc, names, words),
+        _ => Ok(encoded(alloc, names, words)?),
     }
 }
 

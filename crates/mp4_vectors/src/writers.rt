@@ -111,10 +111,11 @@ fn calls_of(alloc: Global, texts: &[&str]) -> Result<Option<Vec<WriterCall>>> {
 
 /// What a call was answered.
 fn reply_of(alloc: Global, reply: &Result<()>) -> Result<String> {
-    match reply {
-        Ok(()) => Ok(String::from_str(alloc, "ok")?),
+    let text = match reply {
+        Ok(()) => String::from_str(alloc, "ok"),
         Err(error) => refusal(alloc, error),
-    }
+    };
+    Ok(text?)
 }
 
 /// Makes a call, and makes it once more where memory is refused: that leaves the writer as it was.
