@@ -122,6 +122,18 @@ class Reading(unittest.TestCase):
             self.assertEqual(found, list(range(first, 2001)))
         self.refused("invalid data", list, movie.samples(1, 0))
 
+    def test_samples_that_are_kept_are_not_asked_for_again(self):
+        movie = Movie(numbers(5))
+        asked_for = list(movie.samples(1))
+        self.assertEqual(movie.samples(1)[-1].number, 5)
+        with mock.patch.object(movie, "_ask", side_effect=AssertionError):
+            for first in [1, 2, 5, 6, 2**40]:
+                self.assertEqual(list(movie.samples(1, first)), asked_for[first - 1 :])
+        self.refused("invalid data", list, movie.samples(1, 0))
+        movie.close()
+        with self.assertRaises(ValueError):
+            list(movie.samples(1))
+
     def test_one_sample_is_read_by_its_number(self):
         movie = Movie(numbers(3))
         self.assertEqual(movie.read(movie.sample(1, 2)), b"2")
@@ -516,7 +528,7 @@ class Rewriting(unittest.TestCase):
         head = file[: file.index(b"mdat") - 4]
         self.assertEqual(self.refused("two boxes ftyp", move_to_front, file + head).code, Code.TWICE)
         text = f"a box sidx at byte {len(file)} says places of the file, which would be wrong"
-        refused = self.refused(text, move_to_front, file + boxed(b"sidx", bytes(24)))
+        refused = self.refused(text, move_to_front, file + boxed(b"sidx", bytes(8)))
         self.assertEqual((refused.code, refused.box_type), (Code.SAYS_PLACES, b"sidx"))
         self.assertEqual(refused.index, len(file))
         refused = self.refused("invalid data", move_to_front, b"\0\0\1\0free")

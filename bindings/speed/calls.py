@@ -30,6 +30,8 @@ def indexed():
 
 film = sys.argv[1]
 movie = maqelsun.Movie(film)
+# No sample of it is asked for by its number, so that its rows aren't kept.
+unkept = maqelsun.Movie(film)
 numbers = [random.randrange(SAMPLES) + 1 for _ in range(100_000)]
 
 
@@ -40,7 +42,7 @@ def at_random():
 
 
 def all_of_them():
-    for _ in movie.samples(1):
+    for _ in unkept.samples(1):
         pass
 
 
