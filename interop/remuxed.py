@@ -209,12 +209,29 @@ def sample_differences(data, other):
     return count, []
 
 
+def is_wrong_index(data, box):
+    """Whether a segment index (8.16.3) can't be read, or the movie box or the file type, which move, is between it and
+    the end of what it refers to."""
+    payload = data[box.inside:box.end]
+    size = data[box.begin:box.begin + 4] if box.inside == box.begin + 8 else data[box.begin + 8:box.inside]
+    head = {b"\0": 20, b"\1": 28}.get(payload[:1])
+    if int.from_bytes(size, "big") != box.end - box.begin or head is None or len(payload) < head + 4:
+        return True
+    (count,) = struct.unpack_from(">H", payload, head + 2)
+    if len(payload) < head + 4 + 12 * count:
+        return True
+    offset = payload[16:20] if head == 20 else payload[20:28]
+    sizes = [struct.unpack_from(">I", payload, head + 4 + 12 * index)[0] & 0x7fffffff for index in range(count)]
+    end = box.end + int.from_bytes(offset, "big") + sum(sizes)
+    return any(box.end <= each.begin < end for each in boxes_in(data) if each.type in ("ftyp", "moov"))
+
+
 def says_places(data):
     """The first box that says places that aren't rewritten, of a file whose movie box has to move."""
     for path in paths(data):
-        if path.rpartition("/")[2] in ("moof", "mfra", "sidx", "iloc", "saio"):
+        if path.rpartition("/")[2] in ("moof", "mfra", "iloc", "saio"):
             return path
-    return None
+    return next((box.type for box in boxes_in(data) if box.type == "sidx" and is_wrong_index(data, box)), None)
 
 
 def paths(data, begin=0, end=None, where=""):

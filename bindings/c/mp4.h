@@ -489,8 +489,9 @@ static inline mp4_answer mp4_write(const mp4_new_movie *movie, const mp4_brand *
  *
  * Refused as mp4_open is. Where the movie box has to move, each sample of each track is looked up in the file and in
  * what would be written; then also refused as mp4_samples is where a sample isn't found, and: MP4_TWICE for two file
- * types or two movie boxes; MP4_SAYS_PLACES for a box that says places which aren't rewritten: a moof, mfra or sidx, an
- * iloc or saio in the movie box or in the file's metadata, or a dref that says that samples are in another file;
+ * types or two movie boxes; MP4_SAYS_PLACES for a box that says places which aren't rewritten: a moof or mfra, an iloc
+ * or saio in the movie box or in the file's metadata, a dref that says that samples are in another file, or a sidx that
+ * can't be read, or where the movie box or the file type is between it and the end of what it refers to;
  * MP4_TOO_MANY_SAMPLES where the tracks have more samples than the file has bytes; MP4_TOO_LARGE where the movie box
  * passes its limit; MP4_OTHER_TRACKS and MP4_DIFFERS where a track or a sample wouldn't be read as before. After a
  * refusal the room is as it was. */

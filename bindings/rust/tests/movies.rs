@@ -522,7 +522,7 @@ fn a_refused_move_says_why() {
     let ftyp = FourCC::from(*b"ftyp");
     let twice = [&file[..], &file[..place_of(&file, b"mdat")]].concat();
     assert_eq!(move_to_front(&twice), Err(Error::Twice(ftyp)));
-    let index = [&file[..], &boxed(b"sidx", &[0; 24])].concat();
+    let index = [&file[..], &boxed(b"sidx", &[0; 8])].concat();
     let sidx = FourCC::from(*b"sidx");
     assert_eq!(move_to_front(&index), Err(Error::SaysPlaces(sidx, file.len() as u64)));
     let larger = Error::InvalidData("a box is larger than the file");

@@ -1,7 +1,9 @@
 -- What is replied of a movie that is rewritten.
 use Rattle.std.specs.Prelude.{◌⊎◌, ℕ, List}
 use Rattle.mp4_remux.specs.declared.error.RemuxError.{RemuxError}
+use Rattle.mp4_remux.specs.declared.reference.Reference.{Reference}
 use Rattle.mp4_remux.specs.Errors.{IsRefusalOf}
+use Rattle.mp4_remux.specs.Gathered.{IsChosen}
 use Rattle.mp4_c.specs.declared.answer.Answer.{Answer}
 use Rattle.mp4_c.specs.Answers.{not_remuxed}
 use Rattle.mp4_c.specs.Replies.{Gave}
@@ -22,3 +24,7 @@ abbrev pub GaveRemuxed : (List ℕ → Type 0) → List ℕ → List ℕ → Ans
 GaveRemuxed IsMovie old new answer =
     (GaveBytes IsMovie old new answer)
     ⊎ ((e : RemuxError) × (IsRefusalOf ⊥ ⊥ e) × (GaveRefusal e old new answer))
+
+-- The one file is the other with these of its tracks, whatever references are left out with the others.
+abbrev pub HasChosen : List ℕ → List ℕ → List ℕ → Type 0
+HasChosen before after ids = (left_out : List Reference) × IsChosen before after ids left_out

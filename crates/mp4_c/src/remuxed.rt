@@ -3,8 +3,8 @@
 ghost use Rattle.std.specs.Prelude.{IfErr, IfOk};
 ghost use Rattle.mp4_remux.specs.Errors.{IsRefusalOf};
 ghost use Rattle.mp4_remux.specs.Front.{IsFront};
-ghost use Rattle.mp4_remux.specs.Gathered.{IsChosen, IsGathered};
-ghost use Rattle.mp4_c.specs.RemuxedReply.{GaveMade, GaveRefusal, GaveRemuxed};
+ghost use Rattle.mp4_remux.specs.Gathered.{IsGathered};
+ghost use Rattle.mp4_c.specs.RemuxedReply.{GaveMade, GaveRefusal, GaveRemuxed, HasChosen};
 
 use crate::answer::Answer;
 use crate::copied::copy_to_front;
@@ -44,7 +44,7 @@ fn gathered(alloc: Global, file: &[u8]) -> Result<Vec<u8>, RemuxError>
 
 /// A file of the tracks with these ids.
 fn chosen(alloc: Global, file: &[u8], track_ids: &[u32]) -> Result<Vec<u8>, RemuxError>
-    ensures chosen { IfOk result (λ bytes. IsChosen file.now bytes.items track_ids.now) }
+    ensures chosen { IfOk result (λ bytes. HasChosen file.now bytes.items track_ids.now) }
     ensures refused { IfErr result (IsRefusalOf ⊥ ⊥) }
 {
     let mut bytes = Vec::new(alloc);
@@ -86,7 +86,7 @@ pub extern "C" fn mp4_c_choose(
     track_ids: &[u32],
     room: &mut [u8],
 ) -> Answer
-    ensures { GaveRemuxed (λ bytes. IsChosen file.now bytes track_ids.now) room.old room.new result }
+    ensures { GaveRemuxed (λ bytes. HasChosen file.now bytes track_ids.now) room.old room.new result }
 {
     copy_made(chosen(alloc, file, track_ids), room)
 }

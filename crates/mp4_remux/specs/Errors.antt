@@ -9,6 +9,7 @@ use Rattle.mp4_source.specs.declared.sink_error.SinkError.{SinkError}
 use Rattle.mp4_source.specs.declared.sink_error.SinkError.TheVariants.{OutOfMemory as no_room, Io as sink_refused}
 use Rattle.mp4_source.specs.declared.file_error.FileError.{FileError}
 use Rattle.mp4_source.specs.declared.file_error.FileError.TheVariants.{Mp4 as of_mp4, Io as file_refused}
+use Rattle.mp4_source.specs.Source.{HasPart}
 use Rattle.mp4_media.specs.FileGrammar.{IsFaultyFile}
 use Rattle.mp4_remux.specs.declared.error.RemuxError.{RemuxError}
 use Rattle.mp4_remux.specs.declared.error.RemuxError.TheVariants.{Mp4, Read, Write, Twice, SaysPlaces}
@@ -99,3 +100,8 @@ GivesCause can_refuse c (Err e) = IsCause can_refuse c e
 abbrev pub SaysFault : {X : Type 0} → Option (List ℕ) → Bool → Result X RemuxError → Type 0
 SaysFault known can_refuse result = IfSome known (λ xs. (c : Cause) → IsFaultyFile (length xs) (here xs 0) c
     → GivesCause can_refuse c result)
+
+-- Where the bytes are known, memory runs out only where they have room for the header of a box: else none is asked for.
+abbrev pub TakesMemory : {X : Type 0} → Option (List ℕ) → Result X RemuxError → Type 0
+TakesMemory known (Ok x) = ⊤
+TakesMemory known (Err e) = e ≡ Mp4 OutOfMemory → HasPart known 0 8

@@ -1,12 +1,13 @@
 -- A file with its movie box in front: every byte outside of that box is there, in its order (ISO/IEC 14496-12, 6.2.3).
 use Rattle.std.specs.Prelude.{◌≡◌, ◌+◌, ◌-◌, ◌≤◌, ◌<◌, ◌==◌, ◌++◌, ℕ, if◌then◌else◌, List, [], ◌∷◌, length, min, max}
-use Rattle.std.specs.Prelude.{Option, Some, Ok, slice_get}
+use Rattle.std.specs.Prelude.{Option, Some, IfSome, Ok, slice_get}
 use Rattle.mp4_codec.specs.declared.box_type.BoxType.{BoxType}
 use Rattle.mp4_codec.specs.declared.box_type.BoxType.TheVariants.{FtypBox as ftyp, MoovBox as moov, MdatBox as mdat}
-use Rattle.mp4_codec.specs.Cursor.{here, header_at}
+use Rattle.mp4_codec.specs.declared.header.BoxHeader.{BoxHeader}
+use Rattle.mp4_codec.specs.Cursor.{Cursor, here, header_at}
 use Rattle.mp4_source.specs.Sink.{IsAppended}
 use Rattle.mp4_media.specs.FileBoxes.{OpenedFile}
-use Rattle.mp4_media.specs.FileGrammar.{between}
+use Rattle.mp4_media.specs.FileGrammar.{IsFile, between}
 use Rattle.mp4_remux.specs.declared.top_level.TopBox.{TopBox}
 use Rattle.mp4_remux.specs.Kept.{IsKept, offsets}
 use Rattle.mp4_remux.specs.Remuxed.{IsRemuxed, ids_of}
@@ -45,6 +46,19 @@ pub record IsMovieFirst (bytes : List ℕ) : Type 0 where
   pub boxes : List TopBox
   pub are : AreBoxes bytes 0 boxes
   pub first : NoMovieAfterData boxes
+
+-- where the bytes are known, a movie box of theirs comes after data
+abbrev pub IsMovieLater : Option (List ℕ) → Type 0
+IsMovieLater known = IfSome known (λ xs. IsMovieFirst xs → ⊥)
+
+-- where they are known and are a file, its movie box has to be moved
+abbrev pub HasToMove : Option (List ℕ) → Type 0
+HasToMove known = IfSome known (λ xs. (opened : OpenedFile) → IsFile (length xs) (here xs 0) opened → IsMovieFirst xs
+    → ⊥)
+
+-- no header of a box is there
+abbrev pub HasNoHeader : Option (List ℕ) → ℕ → Type 0
+HasNoHeader known place = IfSome known (λ xs. (x : BoxHeader × Cursor) → header_at (here xs place) ≡ Ok x → ⊥)
 
 -- the bytes of a file with one of its boxes first and other bytes in place of a second, then all else in its order
 abbrev pub in_front : List ℕ → TopBox → TopBox → List ℕ → List ℕ

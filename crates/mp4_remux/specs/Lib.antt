@@ -5,6 +5,7 @@ pub mod Gathered
 pub mod Headers
 pub mod Kept
 pub mod Reads
+pub mod References
 pub mod Remuxed
 pub mod Same
 pub mod Splice

@@ -2,7 +2,7 @@
 use Rattle.std.specs.Prelude.{◌≡◌, ◌+◌, ◌≤◌, ◌==◌, ℕ, Bool, true, false, if◌then◌else◌, ◌⊎◌, Option, Some, None}
 use Rattle.std.specs.Prelude.{List, [], ◌∷◌, length, map, slice_get}
 use Rattle.std.specs.List.{list_any}
-use Rattle.std.specs.Prelude.{Ok}
+use Rattle.std.specs.Prelude.{IfSome, Ok}
 use Rattle.mp4_codec.specs.Cursor.{here}
 use Rattle.mp4_boxes.specs.declared.trak.TrakBox.{TrakBox}
 use Rattle.mp4_boxes.specs.declared.moov.MoovBox.{MoovBox}
@@ -13,6 +13,10 @@ use Rattle.mp4_media.specs.FileGrammar.{IsFile}
 use Rattle.mp4_remux.specs.declared.made.Made.{Made}
 use Rattle.mp4_remux.specs.Headers.{DurationsOf, KeepsHeaders}
 use Rattle.mp4_remux.specs.Reads.{count_of, read_of}
+
+-- where the bytes are known, they are the file that is opened so, and no other
+abbrev pub IsOnlyFile : Option (List ℕ) → OpenedFile → Type 0
+IsOnlyFile known opened = IfSome known (λ xs. (o : OpenedFile) → IsFile (length xs) (here xs 0) o → opened ≡ o)
 
 -- the ids of a movie's tracks, in the order of their boxes (ISO/IEC 14496-12, 8.3.2)
 abbrev pub ids_of : MoovBox → List ℕ

@@ -1,8 +1,9 @@
 //! Boxes as bytes, whatever is in them.
 
-ghost use Rattle.std.specs.Prelude.{◌≡◌, ◌+◌, ◌≤◌, ◌<◌, List, length, take, IfSome, IfErr};
+ghost use Rattle.std.specs.Prelude.{◌≡◌, ◌+◌, ◌≤◌, ◌<◌, List, length, take, None, IfNone, IfSome, IfErr};
 ghost use Rattle.mp4_remux.specs.Errors.{IsRefusalOf};
 ghost use Rattle.mp4_remux.specs.Kept.{IsFirstBox};
+ghost use Rattle.mp4_remux.specs.References.{first_part};
 
 use crate::error::RemuxError;
 use mp4_codec::{BoxHeader, BoxType, ByteCursor, Error, HEADER_SIZE, Limit, OPEN_END, Result};
@@ -23,6 +24,7 @@ pub(crate) fn first_box(bytes: &[u8]) -> Option<BoxBytes>
     ensures first { IfSome result (λ b. IsFirstBox bytes.now b.name b.header.now b.payload.now b.after.now) }
     ensures after { IfSome result (λ b. length b.after.now < length bytes.now) }
     ensures header { IfSome result (λ b. 8 ≤ length b.header.now) }
+    ensures none { IfNone result (first_part bytes.now ≡ None) }
 {
     let mut cursor = ByteCursor::new(bytes);
     let Ok(header) = BoxHeader::read(&mut cursor) else {

@@ -8,7 +8,8 @@ ghost use Rattle.mp4_media.specs.FileBoxes.{opened_movie};
 ghost use Rattle.mp4_media.specs.FileGrammar.{IsFile};
 ghost use Rattle.mp4_media.specs.MovieTracks.{AreTracks};
 ghost use Rattle.mp4_media.specs.Reading.{sample_in, sample_there};
-ghost use Rattle.mp4_remux.specs.Errors.{IsRefusalOf, MayRefuse, SaysFault};
+ghost use Rattle.mp4_remux.specs.Errors.{IsRefusalOf, MayRefuse, SaysFault, TakesMemory};
+ghost use Rattle.mp4_source.specs.Source.{HasPart};
 ghost use Rattle.mp4_remux.specs.Remuxed.{IsChecked, IsSameNumber, IsSameTrack};
 
 use crate::error::RemuxError;
@@ -28,6 +29,8 @@ fn open_file<S: ByteSource + Drop>(alloc: Global, source: S) -> Result<Mp4File<S
     ensures can_refuse { IfOk result (λ f. S.can_refuse f.source ≡ S.can_refuse source) }
     ensures refused { IfErr result (IsRefusalOf (MayRefuse (S.contents source) (S.can_refuse source)) ⊥) }
     ensures fault { SaysFault (S.contents source) (S.can_refuse source) result }
+    ensures memory { TakesMemory (S.contents source) result }
+    ensures room { OnOk result (HasPart (S.contents source) 0 8) }
 {
     let mut source = source;
     let len = match source.len() {
@@ -208,6 +211,7 @@ pub fn check_samples<S: ByteSource + Drop, T: ByteSource + Drop>(
     ensures refused { IfErr result (IsRefusalOf (MayRefuse (S.contents before) (S.can_refuse before))
         (MayRefuse (T.contents after) (T.can_refuse after))) }
     ensures fault { SaysFault (S.contents before) (S.can_refuse before) result }
+    ensures memory { TakesMemory (S.contents before) result }
 {
     let mut before = open_file(alloc, before)?;
     let mut after = open_written(alloc, after)?;

@@ -54,14 +54,18 @@ fn check_ids(movie: &Movie, ids: &[u32]) -> Result<(), RemuxError>
     Ok(())
 }
 
-/// The ids of the tracks that are to be kept, in the order of their boxes. `TrakNotFound` where one isn't there.
-pub(crate) fn kept_ids(alloc: Global, movie: &Movie, ids: &[u32]) -> Result<Vec<u32>, RemuxError>
+/// Those of all ids of a movie that are to be kept, in their order. `TrakNotFound` where one isn't there.
+pub(crate) fn kept_ids(
+    alloc: Global,
+    movie: &Movie,
+    all: &[u32],
+    ids: &[u32],
+) -> Result<Vec<u32>, RemuxError>
     requires { AreTracks movie.now.moov movie.now.moofs movie.now.moof_places movie.now.tracks }
     ensures there { OnOk result (AreThere (opened_movie movie.now) ids.now) }
-    ensures ids { IfOk result (λ kept. kept.items ≡ kept_of ids.now (ids_of movie.now.moov)) }
+    ensures ids { IfOk result (λ kept. kept.items ≡ kept_of ids.now all.now) }
     ensures refused { IfErr result (IsRefusalOf ⊥ ⊥) }
 {
     check_ids(movie, ids)?;
-    let all = all_ids(alloc, movie)?;
-    kept_of(alloc, &all, ids)
+    kept_of(alloc, all, ids)
 }

@@ -59,7 +59,7 @@ pub(crate) fn check_header<S: ByteSource + Drop>(
 }
 
 /// The bytes of a box.
-fn bytes_of<S: ByteSource>(
+pub(crate) fn bytes_of<S: ByteSource>(
     alloc: Global,
     source: &mut S,
     len: u64,

@@ -1,10 +1,12 @@
 //! The movie box moved to the front.
 
-ghost use Rattle.std.specs.Prelude.{◌≡◌, ◌≤◌, ◌++◌, ℕ, List, length, IfSome, IfErr, IfNone, IfOk, OnOk, IsTrue, []};
+ghost use Rattle.std.specs.Prelude.{◌≡◌, ◌≤◌, ◌++◌, ℕ, List, length, IfSome, IfErr, IfNone, IfOk, OnOk, IsFalse};
+ghost use Rattle.std.specs.Prelude.{IsTrue, []};
 ghost use Rattle.mp4_source.specs.Answers.{IsLength};
-ghost use Rattle.mp4_remux.specs.Errors.{IsNamed, IsRefusalOf, MayRefuse, SaysFault};
+ghost use Rattle.mp4_remux.specs.Errors.{IsNamed, IsRefusalOf, MayRefuse, SaysFault, TakesMemory};
 ghost use Rattle.mp4_media.specs.FileGrammar.{between};
-ghost use Rattle.mp4_remux.specs.Front.{in_front, IsMoved, IsMovieFirst, NoMovieAfterData, WritesFront};
+ghost use Rattle.mp4_remux.specs.Front.{HasToMove, in_front, IsMoved, IsMovieFirst, IsMovieLater};
+ghost use Rattle.mp4_remux.specs.Front.{NoMovieAfterData, WritesFront};
 ghost use Rattle.mp4_remux.specs.Kept.{IsKept, offsets};
 ghost use Rattle.mp4_remux.specs.Splice.{of_origin, spliced};
 
@@ -19,8 +21,8 @@ use crate::moves::{Move, Moves};
 use crate::movie_box::{MovieEdit, edited};
 use crate::piece::{Origin, Piece};
 use crate::piece_list::push_piece;
-use crate::places::check_top_level;
 use crate::rewrite::{open_source, write_layout};
+use crate::segment_index::check_moved;
 use crate::top_level::{TopBox, top_boxes};
 use mp4_codec::{BoxType, Error, Limit};
 use mp4_source::{ByteSink, ByteSource};
@@ -28,16 +30,16 @@ use std::alloc::Global;
 
 /// Whether no movie box comes after data.
 fn is_in_front(boxes: &[TopBox]) -> bool
-    ensures { IsTrue result → NoMovieAfterData boxes.now }
+    ensures first { IsTrue result → NoMovieAfterData boxes.now }
+    ensures later { IsFalse result → NoMovieAfterData boxes.now → ⊥ }
 {
-    let mut has_data = false;
+    let mut data = None;
     let mut i = 0;
     while i < boxes.len() {
-        if boxes[i].name == BoxType::MdatBox {
-            has_data = true;
-        }
-        if has_data && boxes[i].name == BoxType::MoovBox {
-            return false;
+        match boxes[i].name {
+            BoxType::MdatBox => data = Some(i),
+            BoxType::MoovBox if data.is_some() => return false,
+            _ => {}
         }
         i += 1;
     }
@@ -141,7 +143,7 @@ fn plan_moved<S: ByteSource + Drop>(
 {
     let source = check_header(alloc, source, len, BoxType::FtypBox, file_type)?;
     let mut source = check_header(alloc, source, len, BoxType::MoovBox, movie)?;
-    check_top_level(boxes)?;
+    check_moved(alloc, &mut source, len, boxes, &[file_type, movie])?;
     check_metadata(alloc, &mut source, len, boxes)?;
     let bytes = checked_bytes(alloc, &mut source, len, movie, false)?;
     let tries = tracks.saturating_add(2);
@@ -171,6 +173,8 @@ fn plan<S: ByteSource + Drop>(
     ensures moved { IfOk result (λ x. IfSome x.1 (λ l. IfSome (S.contents source) (λ xs.
         IsMoved xs (spliced xs l.made.items l.pieces.items)))) }
     ensures refused { IfErr result (IsRefusalOf (MayRefuse (S.contents source) (S.can_refuse source)) ⊥) }
+    ensures named { IfErr result (λ e. IsNamed e → IsMovieLater (S.contents source)) }
+    ensures later { IfOk result (λ x. IfSome x.1 (λ _. IsMovieLater (S.contents source))) }
 {
     let (source, boxes) = top_boxes(alloc, source, len)?;
     if is_in_front(&boxes) {
@@ -188,19 +192,22 @@ fn plan<S: ByteSource + Drop>(
 /// Writes a movie to a sink with its movie box before its data, as players want it that begin before they have the
 /// whole file: the file type, the movie box, then all other boxes in their order (ISO/IEC 14496-12, 6.2.3). Of the
 /// movie box the chunk offsets are others, 64 bits wide where one passes 32; every other byte of the file is there as
-/// it was. A file whose movie box is before its data already is written as it is.
+/// it was. A file whose movie box is before its data already is written as it is: once it opens, it is refused for
+/// nothing but memory, the source or the sink.
 ///
 /// The file is opened. Where its movie box has to move, each sample of each track is looked up before a byte is
 /// written, in the file and in what would be written. In memory are then the movie's tables twice, the bytes of its
-/// movie box twice, and a block of 128 KiB.
+/// movie box twice, and a block of 128 KiB; and before that, one at a time, the file's metadata and each `sidx`, which
+/// has at most 0.8 MB.
 ///
 /// Refused as [`mp4_media::Mp4File::open`]. Where the movie box has to move, also as
 /// [`mp4_media::Mp4File::read_sample`] where a sample isn't found, and: `Twice` for two file types or two movie boxes;
-/// `SaysPlaces` for a box that says places which aren't rewritten: `moof`, `mfra`, `sidx`, an `iloc` or `saio` in the
-/// movie box or in the file's metadata, or a `dref` that says that samples are in another file; `TooManySamples` where
-/// the tracks have more than the file has bytes; `SameIds` where two tracks have one id; `Differs` where a sample
-/// wouldn't be read as before. `Read` where the source refuses, `Write` where the sink does: then the sink may have
-/// some first bytes of the file. A refusal that is none of memory, source or sink leaves the sink as it was.
+/// `SaysPlaces` for a box that says places which aren't rewritten: `moof`, `mfra`, an `iloc` or `saio` in the movie box
+/// or in the file's metadata, a `dref` that says that samples are in another file, or a `sidx` that can't be read, or
+/// where the movie box or the file type is between it and the end of what it refers to; `TooManySamples` where the
+/// tracks have more than the file has bytes; `SameIds` where two tracks have one id; `Differs` where a sample wouldn't
+/// be read as before. `Read` where the source refuses, `Write` where the sink does: then the sink may have some first
+/// bytes of the file. A refusal that is none of memory, source or sink leaves the sink as it was.
 pub fn move_to_front<S: ByteSource + Drop, K: ByteSink>(
     alloc: Global,
     source: S,
@@ -215,6 +222,8 @@ pub fn move_to_front<S: ByteSource + Drop, K: ByteSink>(
     ensures refused { IfErr result (IsRefusalOf (MayRefuse (S.contents source) (S.can_refuse source))
         (IsTrue (K.can_refuse sink.old))) }
     ensures fault { SaysFault (S.contents source) (S.can_refuse source) result }
+    ensures as_it_is { IfErr result (λ e. IsNamed e → HasToMove (S.contents source)) }
+    ensures memory { TakesMemory (S.contents source) result }
 {
     let (source, len, before) = open_source(alloc, source)?;
     let (source, layout) = plan(alloc, source, len, before.moov.traks.len())?;

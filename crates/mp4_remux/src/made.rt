@@ -1,11 +1,16 @@
 //! What is made anew in a movie box.
 
-ghost use Rattle.std.specs.Prelude.{◌≡◌, IsTrue, IsFalse};
+ghost use Rattle.std.specs.Prelude.{◌≡◌, IfErr, IfOk, IsTrue, IsFalse};
+ghost use Rattle.mp4_remux.specs.Errors.{IsRefusalOf};
 ghost use Rattle.mp4_remux.specs.Headers.{changed_by};
 ghost use Rattle.mp4_remux.specs.Kept.{IsKept, tracks};
+ghost use Rattle.mp4_remux.specs.References.{references_in};
 ghost use Rattle.mp4_remux.specs.declared.made.Made.TheVariants.{Tables};
 
+use crate::error::RemuxError;
 use crate::kept::is_kept;
+use crate::reference::{Reference, are_same, references_in};
+use std::alloc::Global;
 
 /// What is made anew in a movie box.
 #[derive(Clone, Copy, Debug, PartialEq, Eq)]
@@ -66,5 +71,33 @@ impl Made {
             Made::Tracks => is_kept(before, after, &OF_TRACKS, &TRACKS, 0),
             Made::Tables => is_kept(before, after, &OF_TABLES, &TRACKS, 0),
         }
+    }
+}
+
+/// What has to be of a new movie box.
+#[derive(Drop)]
+pub(crate) struct Keeps<'a> {
+    /// What may be other in it.
+    pub what: Made,
+    /// The ids of its tracks, in the order of their boxes.
+    pub ids: &'a [u32],
+    /// The references that they have.
+    pub references: &'a [Reference],
+}
+
+impl<'a> Keeps<'a> {
+    /// Whether a movie box is as it was, but for what may be other, and has these references.
+    pub fn holds(&self, alloc: Global, before: &[u8], after: &[u8]) -> Result<bool, RemuxError>
+        ensures kept { IfOk result (λ holds. IsTrue holds
+            → IsKept (changed_by self.now.what) tracks before.now after.now) }
+        ensures references { IfOk result (λ holds. IsTrue holds
+            → references_in after.now self.now.ids.now ≡ self.now.references.now) }
+        ensures refused { IfErr result (IsRefusalOf ⊥ ⊥) }
+    {
+        if !self.what.keeps(before, after) {
+            return Ok(false);
+        }
+        let references = references_in(alloc, after, self.ids)?;
+        Ok(are_same(&references, self.references))
     }
 }

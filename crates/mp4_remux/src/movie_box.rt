@@ -45,7 +45,7 @@ pub(crate) struct MovieEdit {
     pub tracks: Vec<TrackEdit>,
     /// How long the movie is, in ticks of it, where its header says another duration.
     pub duration: Option<u64>,
-    /// The tracks to which references stay, where some don't.
+    /// The tracks to which references stay, the lowest id first, where some don't.
     pub ids: Option<Vec<u32>>,
     /// Whether nothing is said of fragments any more.
     pub is_gathered: bool,
@@ -67,7 +67,7 @@ enum Step<'a> {
     TrackHeader(u64),
     /// It is an `edts` whose last edit lasts so long.
     Edits(u64),
-    /// It is a `tref`, of which the references to these tracks stay.
+    /// It is a `tref`, of which the references to these tracks stay, the lowest id first.
     References(&'a [u32]),
     /// It stays, and these tables come after it.
     Tables(&'a MadeTables),

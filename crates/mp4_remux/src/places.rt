@@ -132,10 +132,26 @@ pub(crate) fn is_of_fragments(name: BoxType) -> bool {
     let code = u32::from(name);
     name == BoxType::MoofBox
         || code == FRAGMENT_PLACES
-        || code == SEGMENT_PLACES
+        || is_segment_index(name)
         || code == SUBSEGMENT_PLACES
         || code == SEGMENT_TYPE
         || code == PRODUCER_TIME
+}
+
+/// Whether a box says where segments are, by how far they are from its own end.
+pub(crate) fn is_segment_index(name: BoxType) -> bool {
+    u32::from(name) == SEGMENT_PLACES
+}
+
+/// Checks that a box of the file is none that says places of others, and no movie fragment.
+pub(crate) fn check_top_box(one: TopBox) -> Result<(), RemuxError>
+    ensures refused { IfErr result (IsRefusalOf ⊥ ⊥) }
+{
+    let is_of_places = u32::from(one.name) == FRAGMENT_PLACES || is_segment_index(one.name);
+    if is_of_places || one.name == BoxType::MoofBox {
+        return Err(RemuxError::SaysPlaces(one.name, one.place));
+    }
+    Ok(())
 }
 
 /// Checks that no box of the file is one that says places of others, or a movie fragment.
@@ -143,10 +159,7 @@ pub(crate) fn check_top_level(boxes: &[TopBox]) -> Result<(), RemuxError>
     ensures refused { IfErr result (IsRefusalOf ⊥ ⊥) }
 {
     for one in boxes {
-        let code = u32::from(one.name);
-        if code == FRAGMENT_PLACES || code == SEGMENT_PLACES || one.name == BoxType::MoofBox {
-            return Err(RemuxError::SaysPlaces(one.name, one.place));
-        }
+        check_top_box(*one)?;
     }
     Ok(())
 }

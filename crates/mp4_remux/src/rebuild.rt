@@ -6,13 +6,15 @@ ghost use Rattle.mp4_codec.specs.Cursor.{here};
 ghost use Rattle.mp4_media.specs.FileBoxes.{opened_movie};
 ghost use Rattle.mp4_media.specs.FileGrammar.{IsFile, between};
 ghost use Rattle.mp4_media.specs.MovieTracks.{AreTracks};
-ghost use Rattle.mp4_remux.specs.Gathered.{BeginsWith, WritesChosen, WritesGathered, WritesRebuilt};
+ghost use Rattle.mp4_remux.specs.Gathered.{BeginsWith, HasMoreThanTables, WritesChosen, WritesGathered};
+ghost use Rattle.mp4_remux.specs.Gathered.{WritesRebuilt};
 ghost use Rattle.mp4_remux.specs.Headers.{changed_by, made_of};
 ghost use Rattle.mp4_remux.specs.Kept.{IsKept, tracks};
+ghost use Rattle.mp4_remux.specs.References.{references_in};
 ghost use Rattle.mp4_remux.specs.declared.made.Made.TheVariants.{Tables};
 ghost use Rattle.mp4_remux.specs.Splice.{spliced};
 ghost use Rattle.mp4_source.specs.Answers.{IsLength};
-ghost use Rattle.mp4_remux.specs.Errors.{IsNamed, IsRefusalOf, MayRefuse, SaysFault};
+ghost use Rattle.mp4_remux.specs.Errors.{IsNamed, IsRefusalOf, MayRefuse, SaysFault, TakesMemory};
 
 use crate::chosen::{all_ids, kept_ids};
 use crate::copy::copy_all;
@@ -21,12 +23,13 @@ use crate::edits::shown_time;
 use crate::error::RemuxError;
 use crate::frame::{Frame, read_frame};
 use crate::layout::Layout;
-use crate::left_out::{LeftOut, references_left_out};
-use crate::made::Made;
+use crate::left_out::{left_out, sorted_ids, staying};
+use crate::made::{Keeps, Made};
 use crate::moves::{Move, Moves};
 use crate::movie_box::{MadeTrack, MovieEdit, TrackEdit, edited};
 use crate::piece::{Origin, Piece};
 use crate::piece_list::push_piece;
+use crate::reference::{Reference, references_in};
 use crate::rewrite::{open_source, write_layout};
 use crate::same::most_samples;
 use crate::top_level::TopBox;
@@ -113,9 +116,7 @@ fn edit_of(
     edit.is_gathered = has_fragments(movie);
     edit.duration = Some(duration);
     if kept < edit.tracks.len() {
-        let mut references = Vec::with_capacity(alloc, ids.len())?;
-        references.extend_from_slice(ids)?;
-        edit.ids = Some(references);
+        edit.ids = Some(sorted_ids(alloc, ids)?);
     }
     Ok(edit)
 }
@@ -207,11 +208,12 @@ fn made_bytes(
     edit: &MovieEdit,
     moves: &Moves,
     header: &[u8],
-    what: Made,
+    keeps: &Keeps,
     movie_len: &mut u64,
 ) -> Result<Option<Vec<u8>>, RemuxError>
     ensures kept { IfOk result (λ x. IfSome x (λ made. (movie : List ℕ) × (made.items ≡ movie ++ header.now)
-        × ((length movie ≡ movie_len.new) × IsKept (changed_by what) tracks frame.now.movie_bytes.items movie))) }
+        × ((length movie ≡ movie_len.new) × (IsKept (changed_by keeps.now.what) tracks frame.now.movie_bytes.items movie
+        × (references_in movie keeps.now.ids.now ≡ keeps.now.references.now))))) }
     ensures refused { IfErr result (IsRefusalOf ⊥ ⊥) }
 {
     let mut made = edited(alloc, &frame.movie_bytes, edit, moves)?;
@@ -220,7 +222,7 @@ fn made_bytes(
         *movie_len = len;
         return Ok(None);
     }
-    if !what.keeps(&frame.movie_bytes, &made) {
+    if !keeps.holds(alloc, &frame.movie_bytes, &made)? {
         return Err(RemuxError::OtherTracks);
     }
     made.extend_from_slice(header)?;
@@ -234,10 +236,10 @@ fn plan_data(
     edit: &MovieEdit,
     extents: &[Extent],
     list: &[Move],
-    what: Made,
+    keeps: &Keeps,
 ) -> Result<(Vec<u8>, Vec<Piece>), RemuxError>
-    ensures begins { IfOk result (λ x.
-        BeginsWith what frame.now.file_type frame.now.movie_bytes.items x.0.items x.1.items) }
+    ensures begins { IfOk result (λ x. BeginsWith keeps.now.what keeps.now.ids.now keeps.now.references.now
+        frame.now.file_type frame.now.movie_bytes.items x.0.items x.1.items) }
     ensures refused { IfErr result (IsRefusalOf ⊥ ⊥) }
 {
     let header = data_header(alloc, len_of(extents))?;
@@ -246,7 +248,15 @@ fn plan_data(
         let before = frame.len_before_data(movie_len);
         let base = before.saturating_add(header.len() as u64);
         let moves = Moves { list, base };
-        if let Some(made) = made_bytes(alloc, frame, edit, &moves, &header, what, &mut movie_len)? {
+        if let Some(made) = made_bytes(
+            alloc,
+            frame,
+            edit,
+            &moves,
+            &header,
+            keeps,
+            &mut movie_len,
+        )? {
             let pieces = data_pieces(alloc, frame, movie_len, made.len() as u64, extents)?;
             return Ok((made, pieces));
         }
@@ -254,46 +264,46 @@ fn plan_data(
     Err(RemuxError::Mp4(Error::TooLarge(Limit::BoxSize)))
 }
 
-/// The layout of a movie of the tracks with these ids, which are in the order of their boxes.
+/// The layout of a movie of the tracks that are kept, and of what is to be kept of its movie box.
 fn plan(
     alloc: Global,
     frame: &Frame,
     movie: &Movie,
-    ids: &[u32],
+    keeps: &Keeps,
     len: u64,
 ) -> Result<Layout, RemuxError>
     ensures source_len { IfOk result (λ l. l.source_len ≡ len) }
-    ensures begins { IfOk result (λ l.
-        BeginsWith (made_of (opened_movie movie.now)) frame.now.file_type frame.now.movie_bytes.items l.made.items
-        l.pieces.items) }
+    ensures begins { IfOk result (λ l. BeginsWith keeps.now.what keeps.now.ids.now keeps.now.references.now
+        frame.now.file_type frame.now.movie_bytes.items l.made.items l.pieces.items) }
     ensures refused { IfErr result (IsRefusalOf ⊥ ⊥) }
 {
     let most = most_samples(len);
-    let extents = data_of(alloc, movie, ids, len, most)?;
+    let extents = data_of(alloc, movie, keeps.ids, len, most)?;
     let moves = closed_up(alloc, &extents)?;
-    let edit = edit_of(alloc, movie, ids, &moves, most)?;
-    let (made, pieces) = plan_data(alloc, frame, &edit, &extents, &moves, made_of(movie))?;
+    let edit = edit_of(alloc, movie, keeps.ids, &moves, most)?;
+    let (made, pieces) = plan_data(alloc, frame, &edit, &extents, &moves, keeps)?;
     match Layout::new(len, made, pieces) {
         Some(layout) => Ok(layout),
         None => Err(RemuxError::OtherTracks),
     }
 }
 
-/// Writes a movie of the tracks with these ids, which are in the order of their boxes, and answers which references of
-/// them are left out.
+/// Writes a movie of the tracks with these ids, of all, which are in the order of their boxes, and answers which
+/// references of them are left out.
 fn write_chosen<S: ByteSource + Drop, K: ByteSink>(
     alloc: Global,
     source: S,
     len: u64,
     movie: &Movie,
+    all: &[u32],
     ids: &[u32],
     sink: &mut K,
-) -> Result<Vec<LeftOut>, RemuxError>
+) -> Result<Vec<Reference>, RemuxError>
     requires len { IsLength (S.contents source) len }
     requires tracks { AreTracks movie.now.moov movie.now.moofs movie.now.moof_places movie.now.tracks }
     requires opened { IfSome (S.contents source) (λ xs. IsFile (length xs) (here xs 0) (opened_movie movie.now)) }
-    ensures written { OnOk result (IfSome (S.contents source) (λ xs. WritesRebuilt xs (opened_movie movie.now) ids.now
-        (K.contents sink.old) (K.contents sink.new))) }
+    ensures written { IfOk result (λ gone. IfSome (S.contents source) (λ xs. WritesRebuilt xs (opened_movie movie.now)
+        all.now ids.now gone.items (K.contents sink.old) (K.contents sink.new))) }
     ensures flushed { OnOk result (K.waiting sink.new ≡ 0) }
     ensures kept { IfErr result (λ e. IsNamed e → K.contents sink.new ≡ K.contents sink.old) }
     ensures len { IfErr result (λ e. IsNamed e → K.len sink.new ≡ K.len sink.old) }
@@ -302,15 +312,20 @@ fn write_chosen<S: ByteSource + Drop, K: ByteSink>(
         (IsTrue (K.can_refuse sink.old))) }
 {
     let (source, frame) = read_frame(alloc, source, len, has_fragments(movie))?;
-    let layout = plan(alloc, &frame, movie, ids, len)?;
-    let left_out = references_left_out(
-        alloc,
-        &frame.movie_bytes,
-        movie.moov.traks.as_slice(),
+    let references = references_in(alloc, &frame.movie_bytes, all)?;
+    let sorted = sorted_ids(alloc, ids)?;
+    let leaves_some = ids.len() < all.len();
+    let staying = staying(alloc, &references, leaves_some, &sorted)?;
+    let left_out = left_out(alloc, &references, leaves_some, &sorted)?;
+    drop(references);
+    let keeps = Keeps {
+        what: made_of(movie),
         ids,
-    )?;
+        references: &staying,
+    };
+    let layout = plan(alloc, &frame, movie, &keeps, len)?;
     drop(frame);
-    write_layout(alloc, source, movie, &layout, ids, made_of(movie), sink)?;
+    write_layout(alloc, source, movie, &layout, keeps.ids, keeps.what, sink)?;
     Ok(left_out)
 }
 
@@ -319,7 +334,8 @@ fn write_chosen<S: ByteSource + Drop, K: ByteSink>(
 /// all samples in that of the file, in one `mdat`. In the movie box each track has tables of its samples with the
 /// fewest entries, the durations are those of the samples or of the edits, and an edit that lasts to the end of the
 /// media, fragments and all, gets its own; `mvex` is left out, and every other byte of it is there as it was. A file
-/// without fragments, in which none may follow, is written as it is.
+/// without fragments, in which none may follow, is written as it is: once it opens, it is refused for nothing but
+/// memory, the source or the sink.
 ///
 /// The boxes `moof`, `mfra`, `sidx`, `ssix`, `styp` and `prft` are left out, and bytes of `mdat` that are no sample's.
 /// Beside times, sizes, places, descriptions and sync marks nothing of what fragments say of a sample has a table here:
@@ -350,6 +366,8 @@ pub fn gather<S: ByteSource + Drop, K: ByteSink>(
     ensures refused { IfErr result (IsRefusalOf (MayRefuse (S.contents source) (S.can_refuse source))
         (IsTrue (K.can_refuse sink.old))) }
     ensures fault { SaysFault (S.contents source) (S.can_refuse source) result }
+    ensures as_it_is { IfErr result (λ e. IsNamed e → HasMoreThanTables (S.contents source)) }
+    ensures memory { TakesMemory (S.contents source) result }
 {
     let (source, len, movie) = open_source(alloc, source)?;
     if !has_fragments(&movie) {
@@ -357,7 +375,7 @@ pub fn gather<S: ByteSource + Drop, K: ByteSink>(
         return copy_all(alloc, &mut source, len, sink);
     }
     let ids = all_ids(alloc, &movie)?;
-    write_chosen(alloc, source, len, &movie, &ids, sink)?;
+    write_chosen(alloc, source, len, &movie, &ids, &ids, sink)?;
     Ok(())
 }
 
@@ -380,9 +398,9 @@ pub fn choose<S: ByteSource + Drop, K: ByteSink>(
     source: S,
     sink: &mut K,
     ids: &[u32],
-) -> Result<Vec<LeftOut>, RemuxError>
-    ensures written { OnOk result (IfSome (S.contents source) (λ xs.
-        WritesChosen xs ids.now (K.contents sink.old) (K.contents sink.new))) }
+) -> Result<Vec<Reference>, RemuxError>
+    ensures written { IfOk result (λ gone. IfSome (S.contents source) (λ xs.
+        WritesChosen xs ids.now gone.items (K.contents sink.old) (K.contents sink.new))) }
     ensures flushed { OnOk result (K.waiting sink.new ≡ 0) }
     ensures kept { IfErr result (λ e. IsNamed e → K.contents sink.new ≡ K.contents sink.old) }
     ensures len { IfErr result (λ e. IsNamed e → K.len sink.new ≡ K.len sink.old) }
@@ -390,8 +408,10 @@ pub fn choose<S: ByteSource + Drop, K: ByteSink>(
     ensures refused { IfErr result (IsRefusalOf (MayRefuse (S.contents source) (S.can_refuse source))
         (IsTrue (K.can_refuse sink.old))) }
     ensures fault { SaysFault (S.contents source) (S.can_refuse source) result }
+    ensures memory { TakesMemory (S.contents source) result }
 {
     let (source, len, movie) = open_source(alloc, source)?;
-    let kept = kept_ids(alloc, &movie, ids)?;
-    write_chosen(alloc, source, len, &movie, &kept, sink)
+    let all = all_ids(alloc, &movie)?;
+    let kept = kept_ids(alloc, &movie, &all, ids)?;
+    write_chosen(alloc, source, len, &movie, &all, &kept, sink)
 }

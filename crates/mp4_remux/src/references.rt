@@ -1,4 +1,4 @@
-//! References of a track to others (ISO/IEC 14496-12, 8.3.3).
+//! References of a track that are written without those to tracks that are left out (ISO/IEC 14496-12, 8.3.3).
 
 ghost use Rattle.std.specs.Prelude.{IfErr};
 ghost use Rattle.mp4_remux.specs.Errors.{IsRefusalOf};
@@ -7,16 +7,12 @@ use crate::box_bytes::{BoxBytes, end_box, first_box};
 use crate::error::RemuxError;
 use byteorder::{BigEndian, ByteOrder};
 
-/// The track with this id, in the four bytes of a reference.
-pub(crate) fn id_in(reference: &[u8]) -> u32 {
-    if reference.len() >= 4 {
-        BigEndian::read_u32(reference)
-    } else {
-        0
-    }
+/// Whether a reference, of four bytes, is to one of these tracks, the lowest id of which is first.
+fn is_to(reference: &[u8], ids: &[u32]) -> bool {
+    reference.len() >= 4 && ids.binary_search(&BigEndian::read_u32(reference)).is_ok()
 }
 
-/// Adds the references of one kind that are to one of these tracks; nothing where none is.
+/// Adds the references of one type that are to one of these tracks; nothing where none is.
 fn put_kind(kind: &BoxBytes, ids: &[u32], out: &mut Vec<u8>) -> Result<(), RemuxError>
     ensures refused { IfErr result (IsRefusalOf ⊥ ⊥) }
 {
@@ -24,7 +20,7 @@ fn put_kind(kind: &BoxBytes, ids: &[u32], out: &mut Vec<u8>) -> Result<(), Remux
     out.extend_from_slice(kind.header)?;
     let begin = out.len();
     for reference in kind.payload.chunks_exact(4) {
-        if ids.contains(&id_in(reference)) {
+        if is_to(reference, ids) {
             out.extend_from_slice(reference)?;
         }
     }
@@ -35,7 +31,8 @@ fn put_kind(kind: &BoxBytes, ids: &[u32], out: &mut Vec<u8>) -> Result<(), Remux
     end_box(out, start, kind.header.len())
 }
 
-/// Adds a `tref` with the references that are to one of these tracks; nothing where none is.
+/// Adds a `tref` with the references that are to one of these tracks, the lowest id of which is first; nothing where
+/// none is.
 pub(crate) fn put_references(
     one: &BoxBytes,
     ids: &[u32],

@@ -3,13 +3,16 @@
 ghost use Rattle.std.specs.Prelude.{◌≡◌, ◌≤◌, ℕ, List, IfErr, IfOk, IfSome, IsTrue, OnOk, length};
 ghost use Rattle.mp4_source.specs.Answers.{IsLength};
 ghost use Rattle.mp4_source.specs.Sink.{IsAppended};
-ghost use Rattle.mp4_media.specs.FileBoxes.{opened_movie};
+ghost use Rattle.mp4_media.specs.FileBoxes.{OpenedFile, opened_movie};
 ghost use Rattle.mp4_media.specs.FileGrammar.{IsFile, IsFaultyFile};
 ghost use Rattle.mp4_media.specs.MovieTracks.{AreTracks};
 ghost use Rattle.mp4_codec.specs.Cause.{Cause};
 ghost use Rattle.mp4_codec.specs.Cursor.{here};
-ghost use Rattle.mp4_remux.specs.Errors.{GivesCause, IsNamed, IsRefusalOf, MayRefuse, SaysFault};
-ghost use Rattle.mp4_remux.specs.Remuxed.{WritesRemuxed};
+ghost use Rattle.mp4_remux.specs.Errors.{GivesCause, IsNamed, IsRefusalOf, MayRefuse, SaysFault, TakesMemory};
+ghost use Rattle.mp4_remux.specs.declared.error.RemuxError.TheVariants.{Mp4};
+ghost use Rattle.mp4_codec.specs.declared.error.Error.TheVariants.{OutOfMemory};
+ghost use Rattle.mp4_source.specs.Source.{HasPart};
+ghost use Rattle.mp4_remux.specs.Remuxed.{IsOnlyFile, WritesRemuxed};
 ghost use Rattle.mp4_remux.specs.Splice.{spliced};
 
 use crate::copy::copy_all;
@@ -37,6 +40,12 @@ pub(crate) fn open_whole<S: ByteSource + Drop>(
     ensures refused { IfErr result (IsRefusalOf (MayRefuse (S.contents source) (S.can_refuse source)) ⊥) }
     ensures fault { IfSome (S.contents source) (λ xs. (c : Cause) → IsFaultyFile len (here xs 0) c
         → GivesCause (S.can_refuse source) c result) }
+    ensures opens { IfErr result (λ e. IsNamed e → IfSome (S.contents source) (λ xs.
+        (opened : OpenedFile) → IsFile len (here xs 0) opened → ⊥)) }
+    ensures only { IfOk result (λ x. IfSome (S.contents source) (λ xs.
+        (opened : OpenedFile) → IsFile len (here xs 0) opened → opened_movie x.1 ≡ opened)) }
+    ensures memory { IfErr result (λ e. e ≡ Mp4 OutOfMemory → 8 ≤ len) }
+    ensures room { OnOk result (IfSome (S.contents source) (λ _. 8 ≤ len)) }
 {
     let file = Mp4File::open(alloc, source, 0, len)?;
     Ok(file.into_parts())
@@ -55,6 +64,11 @@ pub(crate) fn open_source<S: ByteSource + Drop>(
     ensures can_refuse { IfOk result (λ x. S.can_refuse x.0 ≡ S.can_refuse source) }
     ensures refused { IfErr result (IsRefusalOf (MayRefuse (S.contents source) (S.can_refuse source)) ⊥) }
     ensures fault { SaysFault (S.contents source) (S.can_refuse source) result }
+    ensures opens { IfErr result (λ e. IsNamed e → IfSome (S.contents source) (λ xs.
+        (opened : OpenedFile) → IsFile (length xs) (here xs 0) opened → ⊥)) }
+    ensures only { IfOk result (λ x. IsOnlyFile (S.contents source) (opened_movie x.2)) }
+    ensures memory { TakesMemory (S.contents source) result }
+    ensures room { OnOk result (HasPart (S.contents source) 0 8) }
 {
     let mut source = source;
     let len = match source.len() {

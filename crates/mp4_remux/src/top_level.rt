@@ -1,9 +1,9 @@
 //! The boxes of a file, by their places.
 
-ghost use Rattle.std.specs.Prelude.{◌≡◌, ◌+◌, ◌≤◌, ◌<◌, length, IfSome, IfOk, IfErr};
+ghost use Rattle.std.specs.Prelude.{◌≡◌, ◌+◌, ◌≤◌, ◌<◌, List, length, IfSome, IfOk, IfErr};
 ghost use Rattle.mp4_source.specs.Answers.{IsLength};
-ghost use Rattle.mp4_remux.specs.Errors.{IsRefusalOf, MayRefuse};
-ghost use Rattle.mp4_remux.specs.Front.{AreBoxes, IsTopBox, top_end};
+ghost use Rattle.mp4_remux.specs.Errors.{IsNamed, IsRefusalOf, MayRefuse};
+ghost use Rattle.mp4_remux.specs.Front.{AreBoxes, HasNoHeader, IsTopBox, top_end};
 
 use crate::error::RemuxError;
 use crate::layout::fits;
@@ -50,6 +50,7 @@ fn read_top<S: ByteSource + Drop>(
     ensures top { IfOk result (λ b. IfSome (S.contents cursor.old.source) (λ xs. IsTopBox xs b)) }
     ensures place { IfOk result (λ b. b.place ≡ place) }
     ensures moved { IfOk result (λ b. place < b.end) }
+    ensures named { IfErr result (λ e. IsNamed e → HasNoHeader (S.contents cursor.old.source) place) }
     ensures contents { S.contents cursor.new.source ≡ S.contents cursor.old.source }
     ensures can_refuse { S.can_refuse cursor.new.source ≡ S.can_refuse cursor.old.source }
     ensures same_len { cursor.new.len ≡ cursor.old.len }
@@ -74,6 +75,8 @@ pub(crate) fn top_boxes<S: ByteSource + Drop>(
 ) -> Result<(S, Vec<TopBox>), RemuxError>
     requires { IsLength (S.contents source) len }
     ensures boxes { IfOk result (λ x. IfSome (S.contents source) (λ xs. AreBoxes xs 0 x.1.items)) }
+    ensures none { IfErr result (λ e. IsNamed e → IfSome (S.contents source) (λ xs.
+        (bs : List TopBox) → AreBoxes xs 0 bs → ⊥)) }
     ensures contents { IfOk result (λ x. S.contents x.0 ≡ S.contents source) }
     ensures can_refuse { IfOk result (λ x. S.can_refuse x.0 ≡ S.can_refuse source) }
     ensures refused { IfErr result (IsRefusalOf (MayRefuse (S.contents source) (S.can_refuse source)) ⊥) }

@@ -13,6 +13,8 @@ mod front;
 #[cfg(test)]
 mod gathered;
 #[cfg(test)]
+mod indexes;
+#[cfg(test)]
 mod references;
 #[cfg(test)]
 mod refused;

@@ -4,7 +4,7 @@ use crate::asserts::check;
 use crate::files::{DATA, file_type, has, joined};
 use mp4_media::BoxType;
 use mp4_plain_movies::movie_bytes::FULL_MOVIE;
-use mp4_remux::{LeftOut, RemuxError, choose};
+use mp4_remux::{Reference, RemuxError, choose};
 use std::alloc::{AllocError, Global};
 
 /// Two types of references.
@@ -53,14 +53,14 @@ fn says_what_is_left_out(alloc: Global) -> Result<bool, RemuxError> {
     let mut out = Vec::new(alloc);
     let left_out = choose(alloc, file.as_slice(), &mut out, &[2, 1])?;
     let expected = [
-        LeftOut {
+        Reference {
             track_id: 1,
-            reference: CHAPTERS,
+            kind: CHAPTERS,
             to: 3,
         },
-        LeftOut {
+        Reference {
             track_id: 2,
-            reference: HINTS,
+            kind: HINTS,
             to: 9,
         },
     ];

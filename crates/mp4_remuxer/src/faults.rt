@@ -186,10 +186,10 @@ fn track_words(alloc: Global, ids: Vec<u32>) -> Result<String, AllocError> {
     Ok(words)
 }
 
-/// The fault of a file that has no track with an id, but those with others.
+/// The fault of a file that has no track with an id, but those with others, which aren't named where memory runs out.
 pub fn no_track(alloc: Global, id: u32, ids: Vec<u32>) -> Fault {
     match track_words(alloc, ids) {
         Ok(words) => Fault::NoTrack(id, words),
-        Err(AllocError) => Fault::Movie(Error::OutOfMemory),
+        Err(AllocError) => Fault::Movie(Error::TrakNotFound(id)),
     }
 }

@@ -8,7 +8,7 @@ use crate::request::{Request, Task};
 use mp4_box_report::{path_at, why_of};
 use mp4_media::{ByteSink, ByteSource, Error, Mp4File, SeekSink, SeekSource, SourceError, Window};
 use mp4_new_file::NewFile;
-use mp4_remux::{LeftOut, RemuxError, check_samples, choose, gather, move_to_front};
+use mp4_remux::{Reference, RemuxError, check_samples, choose, gather, move_to_front};
 use std::alloc::Global;
 use std::io::{Read, Seek, Write};
 use std::rt::{Files, Stderr};
@@ -28,7 +28,7 @@ pub struct Written {
     /// How many bytes it has.
     pub len: u64,
     /// The references between tracks that it hasn't any more.
-    pub left_out: Vec<LeftOut>,
+    pub left_out: Vec<Reference>,
 }
 
 /// Writes what a task makes of a file to a sink, and answers which references are left out.
@@ -37,7 +37,7 @@ fn write_movie<S: ByteSource + Drop, K: ByteSink>(
     source: S,
     task: &Task,
     sink: &mut K,
-) -> Result<Vec<LeftOut>, RemuxError> {
+) -> Result<Vec<Reference>, RemuxError> {
     match task {
         Task::Front => move_to_front(alloc, source, sink)?,
         Task::Gather => gather(alloc, source, sink)?,
@@ -53,7 +53,7 @@ fn write_watched<S: ByteSource + Drop, K: ByteSink + Drop>(
     task: &Task,
     sink: K,
     terminal: Option<Stderr>,
-) -> Result<(K, Vec<LeftOut>), Fault> {
+) -> Result<(K, Vec<Reference>), Fault> {
     let mut source = source;
     let len = source.len().map_err(Fault::CannotRead)?;
     let mut sink = WatchedSink::new(sink, Progress::new(terminal, len));
@@ -168,16 +168,17 @@ fn write_request<R: Files, S: ByteSource + Drop, O: Write>(
     write_new(host, source, request)
 }
 
-/// Where the file of a source that a movie's error comes of is broken; the error itself where that isn't found.
+/// Where the file of a source that a movie's error comes of is broken; the error itself where that isn't found, or
+/// memory runs out or the source refuses meanwhile.
 fn place_of<S: ByteSource + Drop>(alloc: Global, source: S, error: Error) -> Fault {
     match why_of(alloc, source) {
         Ok(Some(report)) => Fault::Broken(report),
-        Ok(None) => Fault::Movie(error),
-        Err(refused) => Fault::from(refused),
+        Ok(None) | Err(_) => Fault::Movie(error),
     }
 }
 
-/// A refusal to rewrite the file of a source: with the path of the box that it names.
+/// A refusal to rewrite the file of a source: with the path of the box that it names; as it is where that isn't found,
+/// or memory runs out or the source refuses meanwhile.
 fn with_path<S: ByteSource + Drop>(alloc: Global, source: S, error: RemuxError) -> Fault {
     let (RemuxError::SaysPlaces(_, place) | RemuxError::SaysOfSamples(_, place)) = &error else {
         return Fault::Remux(error);
@@ -188,19 +189,19 @@ fn with_path<S: ByteSource + Drop>(alloc: Global, source: S, error: RemuxError) 
             Fault::SaysPlaces(path, place)
         }
         Ok(Some(path)) => Fault::SaysOfSamples(path, place),
-        Ok(None) => Fault::Remux(error),
-        Err(refused) => Fault::from(refused),
+        Ok(None) | Err(_) => Fault::Remux(error),
     }
 }
 
 /// A fault of a source: with the place where its file is broken that doesn't open, with the path of the box that keeps
-/// it from being rewritten, and with the tracks that it has where one isn't there.
+/// it from being rewritten, and with the tracks that it has where one isn't there. As it was where these aren't found, or
+/// memory runs out or the source refuses meanwhile.
 fn with_words<S: ByteSource + Drop>(alloc: Global, source: S, fault: Fault) -> Fault {
     match fault {
         Fault::Movie(Error::OutOfMemory) => fault,
         Fault::Movie(Error::TrakNotFound(id)) => match all_ids(alloc, source) {
             Ok(ids) => no_track(alloc, id, ids),
-            Err(other) => other,
+            Err(_) => Fault::Movie(Error::TrakNotFound(id)),
         },
         Fault::Movie(error) => place_of(alloc, source, error),
         Fault::Remux(error) => with_path(alloc, source, error),

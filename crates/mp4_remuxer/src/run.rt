@@ -4,7 +4,7 @@ use crate::command_line::{Unclear, request_in};
 use crate::faults::{Fault, Subject};
 use crate::remux::{Host, Written, remux};
 use crate::request::Request;
-use mp4_remux::LeftOut;
+use mp4_remux::Reference;
 use std::io;
 use std::io::Write;
 use std::rt::Files;
@@ -49,19 +49,15 @@ fn print_unclear<O: Write, E: Write>(
 /// Prints a line for each reference that is left out.
 fn print_left_out<E: Write>(
     request: &Request,
-    left_out: &[LeftOut],
+    left_out: &[Reference],
     err: &mut E,
 ) -> io::Result<()> {
     let name = request.name_of(Subject::Read);
     for one in left_out {
-        let LeftOut {
-            track_id,
-            reference,
-            to,
-        } = one;
+        let Reference { track_id, kind, to } = one;
         writeln!(
             err,
-            "mp4_remux: {name}: track {track_id}'s reference {reference} to track {to} is left out"
+            "mp4_remux: {name}: track {track_id}'s reference {kind} to track {to} is left out"
         )?;
     }
     Ok(())

@@ -2,7 +2,8 @@ use Rattle.std.proofs.Common.{◌∙◌, Err, ap}
 use Rattle.std.proofs.lemmas.Result.{err_from_is_err_and}
 use Rattle.mp4_media.specs.FileBoxes.{opened_movie}
 use Rattle.mp4_remux.specs.declared.error.RemuxError.{RemuxError}
-use Rattle.mp4_remux.proofs.Faults.{fault_by_len, fault_of_opening, none_by_len, opened_without_fault, passed_on}
+use Rattle.mp4_remux.proofs.Faults.{fault_by_len, fault_of_opening, none_by_len, opened_has_room}
+use Rattle.mp4_remux.proofs.Faults.{opened_without_fault, passed_on, room_by_len}
 use Rattle.mp4_remux.specs.Errors.{of_file}
 use Rattle.mp4_remux.proofs.check.open_file.Goals as goal
 
@@ -22,5 +23,12 @@ pub returns-clause-fault : goal.returns-clause-fault
 returns-clause-fault g c =
     none_by_len (g.S.ByteSource.contents c.args.source) c.in-Ok.len c.in-Ok.ensures.value
     (opened_without_fault (g.S.ByteSource.contents c.args.source) (g.S.ByteSource.can_refuse c.args.source)
+    (λ f. opened_movie f.movie) c.in-Ok.len c.in_ok-file.file
+    (rw (c.in-Ok.ensures.contents, c.in-Ok.ensures.can_refuse) at c.in_ok-file.ensures.opening))
+
+pub returns-clause-room : goal.returns-clause-room
+returns-clause-room g c =
+    room_by_len (g.S.ByteSource.contents c.args.source) c.in-Ok.len c.in-Ok.ensures.value
+    (opened_has_room (g.S.ByteSource.contents c.args.source) (g.S.ByteSource.can_refuse c.args.source)
     (λ f. opened_movie f.movie) c.in-Ok.len c.in_ok-file.file
     (rw (c.in-Ok.ensures.contents, c.in-Ok.ensures.can_refuse) at c.in_ok-file.ensures.opening))

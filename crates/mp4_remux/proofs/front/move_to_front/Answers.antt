@@ -3,7 +3,8 @@ use Rattle.mp4_media.specs.FileBoxes.{opened_movie}
 use Rattle.mp4_remux.proofs.Fronting.{writes_moved}
 use Rattle.std.proofs.lemmas.Result.{err_from_is_err_and}
 use Rattle.mp4_remux.specs.declared.error.RemuxError.{RemuxError}
-use Rattle.mp4_remux.proofs.Faults.{no_fault, passed_on}
+use Rattle.mp4_remux.proofs.Faults.{moved_later, no_fault, no_file_to_move, passed_on, refused_anyhow, refused_unnamed}
+use Rattle.mp4_remux.specs.Front.{HasToMove}
 use Rattle.mp4_remux.proofs.front.move_to_front.Goals as goal
 
 pub returns-clause-written : goal.returns-clause-written
@@ -40,3 +41,32 @@ pub returns-clause-fault : goal.returns-clause-fault
 returns-clause-fault g c =
     no_fault (g.S.ByteSource.contents c.args.source) (g.S.ByteSource.can_refuse c.args.source)
     c.write_layout.result c.in_ok-source.ensures.fault
+
+pub returns-in_err-source-clause-as_it_is : goal.returns-in_err-source-clause-as_it_is
+returns-in_err-source-clause-as_it_is g c =
+    let p = err_from_is_err_and c.from_residual.result c.from_residual.ensures.1 in
+    rw (p.1 ∙ ap (λ (e : RemuxError). Err e) p.2)
+    (λ named. no_file_to_move (g.S.ByteSource.contents c.args.source) (c.in_err-source.ensures.opens named))
+
+pub returns-in_err-source-2-clause-as_it_is : goal.returns-in_err-source-2-clause-as_it_is
+returns-in_err-source-2-clause-as_it_is g c =
+    let p = err_from_is_err_and c.from_residual-in_err-source-2.result c.from_residual-in_err-source-2.ensures.1 in
+    rw (p.1 ∙ ap (λ (e : RemuxError). Err e) p.2)
+    (λ named. moved_later (g.S.ByteSource.contents c.args.source)
+    (rw c.in_ok-source.ensures.contents at (c.in_err-source-2.ensures.named named)))
+
+pub returns-in_default-clause-as_it_is : goal.returns-in_default-clause-as_it_is
+returns-in_default-clause-as_it_is g c =
+    refused_unnamed (HasToMove (g.S.ByteSource.contents c.args.source)) _ _ c.copy_all.result c.copy_all.ensures.err
+
+pub returns-in_err-ids-clause-as_it_is : goal.returns-in_err-ids-clause-as_it_is
+returns-in_err-ids-clause-as_it_is g c =
+    refused_anyhow (HasToMove (g.S.ByteSource.contents c.args.source)) c.from_residual-in_err-ids.result
+    (moved_later (g.S.ByteSource.contents c.args.source)
+    (rw (c.in-Some.is, c.in_ok-source.ensures.contents) at c.in_ok-source-2.ensures.later))
+
+pub returns-clause-as_it_is : goal.returns-clause-as_it_is
+returns-clause-as_it_is g c =
+    refused_anyhow (HasToMove (g.S.ByteSource.contents c.args.source)) c.write_layout.result
+    (moved_later (g.S.ByteSource.contents c.args.source)
+    (rw (c.in-Some.is, c.in_ok-source.ensures.contents) at c.in_ok-source-2.ensures.later))

@@ -1,4 +1,5 @@
-use Rattle.std.proofs.Common.{◌∙◌, Err, ap}
+use Rattle.std.proofs.Common.{◌∙◌, Err, ap, sym}
+use Rattle.mp4_remux.specs.Remuxed.{kept_of}
 use Rattle.mp4_media.specs.FileBoxes.{opened_movie}
 use Rattle.mp4_remux.proofs.Rebuilding.{writes_chosen}
 use Rattle.std.proofs.lemmas.Result.{err_from_is_err_and}
@@ -8,10 +9,12 @@ use Rattle.mp4_remux.proofs.rebuild.choose.Goals as goal
 
 pub returns-clause-written : goal.returns-clause-written
 returns-clause-written g c =
-    writes_chosen (g.S.ByteSource.contents c.args.source) _ _ c.write_chosen.result
-    (opened_movie c.in_ok-source.movie) _ c.args.ids.now
+    writes_chosen (λ list. list.items) (g.S.ByteSource.contents c.args.source) _ _ c.write_chosen.result
+    (opened_movie c.in_ok-source.movie) _ _ c.args.ids.now
     (rw c.in_ok-source.ensures.contents at c.write_chosen.ensures.written)
-    (c.deref.ensures.value ∙ c.in_ok-kept.ensures.ids) c.in_ok-kept.ensures.there
+    (c.deref-2.ensures.value ∙ c.in_ok-all.ensures.ids)
+    (c.deref-3.ensures.value ∙ c.in_ok-kept.ensures.ids
+    ∙ ap (kept_of c.args.ids.now) (c.deref.ensures.value ∙ sym c.deref-2.ensures.value)) c.in_ok-kept.ensures.there
 
 pub returns-in_err-source-clause-fault : goal.returns-in_err-source-clause-fault
 returns-in_err-source-clause-fault g c =
@@ -29,3 +32,8 @@ pub returns-clause-fault : goal.returns-clause-fault
 returns-clause-fault g c =
     no_fault (g.S.ByteSource.contents c.args.source) (g.S.ByteSource.can_refuse c.args.source)
     c.write_chosen.result c.in_ok-source.ensures.fault
+
+pub returns-in_err-all-clause-fault : goal.returns-in_err-all-clause-fault
+returns-in_err-all-clause-fault g c =
+    no_fault (g.S.ByteSource.contents c.args.source) (g.S.ByteSource.can_refuse c.args.source)
+    c.from_residual-in_err-all.result c.in_ok-source.ensures.fault

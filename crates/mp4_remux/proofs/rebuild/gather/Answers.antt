@@ -1,9 +1,10 @@
-use Rattle.std.proofs.Common.{◌∙◌, Err, Ok, ap}
+use Rattle.std.proofs.Common.{◌∙◌, Err, ap}
 use Rattle.mp4_media.specs.FileBoxes.{opened_movie}
-use Rattle.mp4_remux.proofs.Rebuilding.{writes_as_it_is, writes_gathered}
+use Rattle.mp4_remux.proofs.Rebuilding.{made_not_alone, not_alone, writes_as_it_is, writes_gathered}
+use Rattle.mp4_remux.specs.Gathered.{HasMoreThanTables}
 use Rattle.std.proofs.lemmas.Result.{err_from_is_err_and}
 use Rattle.mp4_remux.specs.declared.error.RemuxError.{RemuxError}
-use Rattle.mp4_remux.proofs.Faults.{no_fault, passed_on}
+use Rattle.mp4_remux.proofs.Faults.{no_fault, passed_on, refused_anyhow, refused_unnamed}
 use Rattle.mp4_remux.proofs.rebuild.gather.Goals as goal
 
 pub returns-then-not-has_fragments-clause-written : goal.returns-then-not-has_fragments-clause-written
@@ -14,9 +15,11 @@ returns-then-not-has_fragments-clause-written g c =
 
 pub returns-clause-written : goal.returns-clause-written
 returns-clause-written g c =
-    writes_gathered (g.S.ByteSource.contents c.args.source) _ _ (Ok tt)
-    (opened_movie c.in_ok-source.movie) _ (rw c.in_ok-source.ensures.contents at c.in_ok-write_chosen.ensures.written)
-    (c.deref.ensures.value ∙ c.in_ok-ids.ensures.ids) (c.has_fragments.ensures.some cc)
+    writes_gathered (g.S.ByteSource.contents c.args.source) _ _
+    (opened_movie c.in_ok-source.movie) _ _ c.in_ok-write_chosen.field-0.items
+    (rw c.in_ok-source.ensures.contents at c.in_ok-write_chosen.ensures.written)
+    (c.deref.ensures.value ∙ c.in_ok-ids.ensures.ids) (c.deref-2.ensures.value
+    ∙ c.in_ok-ids.ensures.ids) (c.has_fragments.ensures.some cc)
 
 pub returns-in_err-source-clause-fault : goal.returns-in_err-source-clause-fault
 returns-in_err-source-clause-fault g c =
@@ -39,3 +42,27 @@ pub returns-in_err-write_chosen-clause-fault : goal.returns-in_err-write_chosen-
 returns-in_err-write_chosen-clause-fault g c =
     no_fault (g.S.ByteSource.contents c.args.source) (g.S.ByteSource.can_refuse c.args.source)
     c.from_residual-in_err-write_chosen.result c.in_ok-source.ensures.fault
+
+pub returns-in_err-source-clause-as_it_is : goal.returns-in_err-source-clause-as_it_is
+returns-in_err-source-clause-as_it_is g c =
+    let p = err_from_is_err_and c.from_residual.result c.from_residual.ensures.1 in
+    rw (p.1 ∙ ap (λ (e : RemuxError). Err e) p.2)
+    (λ named. not_alone (g.S.ByteSource.contents c.args.source) (c.in_err-source.ensures.opens named))
+
+pub returns-then-not-has_fragments-clause-as_it_is : goal.returns-then-not-has_fragments-clause-as_it_is
+returns-then-not-has_fragments-clause-as_it_is g c =
+    refused_unnamed (HasMoreThanTables (g.S.ByteSource.contents c.args.source)) _ _ c.copy_all.result
+    c.copy_all.ensures.err
+
+pub returns-in_err-ids-clause-as_it_is : goal.returns-in_err-ids-clause-as_it_is
+returns-in_err-ids-clause-as_it_is g c =
+    refused_anyhow (HasMoreThanTables (g.S.ByteSource.contents c.args.source)) c.from_residual-in_err-ids.result
+    (made_not_alone (g.S.ByteSource.contents c.args.source) (opened_movie c.in_ok-source.movie)
+    (c.has_fragments.ensures.some cc) c.in_ok-source.ensures.only)
+
+pub returns-in_err-write_chosen-clause-as_it_is : goal.returns-in_err-write_chosen-clause-as_it_is
+returns-in_err-write_chosen-clause-as_it_is g c =
+    refused_anyhow (HasMoreThanTables (g.S.ByteSource.contents c.args.source))
+    c.from_residual-in_err-write_chosen.result
+    (made_not_alone (g.S.ByteSource.contents c.args.source) (opened_movie c.in_ok-source.movie)
+    (c.has_fragments.ensures.some cc) c.in_ok-source.ensures.only)

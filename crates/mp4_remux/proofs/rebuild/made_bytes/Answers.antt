@@ -7,6 +7,9 @@ returns-clause-kept c = (
   c.in_ok-extend_from_slice.ensures.items,
   (
     omega (arith, c.len-len.ensures, c.if-len-movie_len.false),
-    rw (c.deref-2.ensures.value, c.deref-3.ensures.value) at (c.keeps.ensures cc),
+    (
+      rw (c.deref-2.ensures.value, c.deref-3.ensures.value) at (c.in_ok-holds.ensures.kept cc),
+      rw c.deref-3.ensures.value at (c.in_ok-holds.ensures.references cc),
+    ),
   ),
 )

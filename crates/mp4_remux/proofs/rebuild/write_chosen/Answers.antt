@@ -1,12 +1,24 @@
-use Rattle.std.specs.Prelude.{Ok}
+use Rattle.std.proofs.Common.{◌≡◌, ◌∙◌, ℕ, List, Ok, ap}
 use Rattle.mp4_media.specs.FileBoxes.{opened_movie}
+use Rattle.mp4_remux.specs.References.{leaves_some, references_in}
+use Rattle.mp4_remux.proofs.Finding.{left_out_by, staying_by}
 use Rattle.mp4_remux.proofs.Rebuilding.{writes_rebuilt}
 use Rattle.mp4_remux.proofs.rebuild.write_chosen.Goals as goal
 
 pub returns-clause-written : goal.returns-clause-written
 returns-clause-written g c =
     let f = c.in_ok-source.frame in
+    let some = leaves_some c.args.all.now c.args.ids.now in
+    let sorted = c.in_ok-sorted.sorted.items in
+    let all : c.in_ok-references.references.items ≡ references_in f.movie_bytes.items c.args.all.now =
+    c.in_ok-references.ensures.list
+    ∙ ap (λ (movie : List ℕ). references_in movie c.args.all.now) c.deref.ensures.value in
     writes_rebuilt (g.S.ByteSource.contents c.args.source) _ _ (Ok tt) c.in_ok-layout.layout
-    (opened_movie c.args.movie.now) c.args.ids.now f.file_type f.movie f.movie_bytes.items
+    (opened_movie c.args.movie.now) c.args.all.now c.args.ids.now _ _ f.file_type f.movie f.movie_bytes.items
     (rw (c.in_ok-source.ensures.contents, c.made_of.ensures) at c.in_ok-write_layout.ensures.written)
-    c.in_ok-source.ensures.frame c.in_ok-layout.ensures.begins
+    c.in_ok-source.ensures.frame (rw c.made_of.ensures at c.in_ok-layout.ensures.begins)
+    (c.deref-6.ensures.value
+    ∙ (rw (c.deref-3.ensures.value, c.deref-2.ensures.value, all) at c.in_ok-staying.ensures.list)
+    ∙ staying_by some c.args.ids.now sorted c.in_ok-sorted.ensures.same _)
+    ((rw (c.deref-5.ensures.value, c.deref-4.ensures.value, all) at c.in_ok-left_out.ensures.list)
+    ∙ left_out_by some c.args.ids.now sorted c.in_ok-sorted.ensures.same _)

@@ -13,6 +13,8 @@ invariant-loop-cursor g l = record {
   len : l.len ≡ l.fn.len;
   all : IfSome (g.S.ByteSource.contents l.fn.source) (λ xs. (bs : List TopBox) → AreBoxes xs l.place bs
       → AreBoxes xs 0 (l.boxes.items ++ bs));
+  rest : IfSome (g.S.ByteSource.contents l.fn.source) (λ xs. (bs : List TopBox) → AreBoxes xs 0 bs
+      → (rest : List TopBox) × AreBoxes xs l.place rest);
 }
 
 abbrev pub decreases-loop-cursor : goal.decreases-loop-cursor

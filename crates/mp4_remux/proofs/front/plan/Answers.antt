@@ -1,0 +1,41 @@
+use Rattle.std.proofs.Common.{◌∙◌, Err, ap, refl}
+use Rattle.std.proofs.lemmas.Result.{err_from_is_err_and}
+use Rattle.mp4_remux.specs.declared.error.RemuxError.{RemuxError}
+use Rattle.mp4_remux.specs.Front.{IsMovieLater}
+use Rattle.mp4_remux.proofs.Faults.{refused_anyhow}
+use Rattle.mp4_remux.proofs.TopBoxes.{movie_later, no_boxes_at_all}
+use Rattle.mp4_remux.proofs.front.plan.Goals as goal
+
+pub returns-in_err-source-clause-named : goal.returns-in_err-source-clause-named
+returns-in_err-source-clause-named g c =
+    let p = err_from_is_err_and c.from_residual.result c.from_residual.ensures.1 in
+    rw (p.1 ∙ ap (λ (e : RemuxError). Err e) p.2)
+    (λ named. no_boxes_at_all (g.S.ByteSource.contents c.args.source) (c.in_err-source.ensures.none named))
+
+pub returns-in_err-file_type-clause-named : goal.returns-in_err-file_type-clause-named
+returns-in_err-file_type-clause-named g c =
+    refused_anyhow (IsMovieLater (g.S.ByteSource.contents c.args.source)) c.from_residual-in_err-file_type.result
+    (movie_later (g.S.ByteSource.contents c.args.source) c.in_ok-source.boxes.items c.in_ok-source.ensures.boxes
+    (rw c.deref.ensures.value at (c.if-is_in_front.ensures.later refl)))
+
+pub returns-in_err-movie-clause-named : goal.returns-in_err-movie-clause-named
+returns-in_err-movie-clause-named g c =
+    refused_anyhow (IsMovieLater (g.S.ByteSource.contents c.args.source)) c.from_residual-in_err-movie.result
+    (movie_later (g.S.ByteSource.contents c.args.source) c.in_ok-source.boxes.items c.in_ok-source.ensures.boxes
+    (rw c.deref.ensures.value at (c.if-is_in_front.ensures.later refl)))
+
+pub returns-in_err-source-2-clause-named : goal.returns-in_err-source-2-clause-named
+returns-in_err-source-2-clause-named g c =
+    refused_anyhow (IsMovieLater (g.S.ByteSource.contents c.args.source)) c.from_residual-in_err-source-2.result
+    (movie_later (g.S.ByteSource.contents c.args.source) c.in_ok-source.boxes.items c.in_ok-source.ensures.boxes
+    (rw c.deref.ensures.value at (c.if-is_in_front.ensures.later refl)))
+
+pub returns-in_default-clause-named : goal.returns-in_default-clause-named
+returns-in_default-clause-named g c = λ _.
+    movie_later (g.S.ByteSource.contents c.args.source) c.in_ok-source.boxes.items c.in_ok-source.ensures.boxes
+    (rw c.deref.ensures.value at (c.if-is_in_front.ensures.later refl))
+
+pub returns-clause-later : goal.returns-clause-later
+returns-clause-later g c =
+    movie_later (g.S.ByteSource.contents c.args.source) c.in_ok-source.boxes.items c.in_ok-source.ensures.boxes
+    (rw c.deref.ensures.value at (c.if-is_in_front.ensures.later refl))
