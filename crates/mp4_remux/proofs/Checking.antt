@@ -1,21 +1,32 @@
 -- A file that was written, and another of which each sample is the same.
-use Rattle.std.proofs.Common.{◌≡◌, ◌∙◌, ℕ, ◌+◌, ◌≤◌, ◌<◌, List, length, Option, None, Some, Ok, IfSome, Bool}
-use Rattle.std.proofs.Common.{true, false, nat_lt, option_map, refl, sym, ap, subst, arith, inl, inr}
+use Rattle.std.proofs.Common.{◌≡◌, ◌∙◌, ◌⊎◌, ℕ, ◌+◌, ◌≤◌, ◌<◌, List, length, Option, None, Some, Result, Ok, Err}
+use Rattle.std.proofs.Common.{IfSome, Bool, true, false, nat_lt, option_map, refl, sym, ap, subst, arith, inl, inr}
 use Rattle.std.proofs.lemmas.Bool.{ltb-true, ltb-false}
 use Rattle.std.specs.Prelude.{slice_get, slice_index_or}
-use Rattle.mp4_codec.specs.Cause.{◌>>=◌}
+use Rattle.mp4_codec.specs.Cause.{Cause, cause_of, ◌>>=◌}
+use Rattle.mp4_codec.specs.declared.error.Error.{Error}
+use Rattle.mp4_codec.specs.declared.error.Error.TheVariants.{OutOfMemory}
 use Rattle.mp4_codec.specs.Cursor.{here}
 use Rattle.mp4_lookup.specs.declared.track.Mp4Track.{Mp4Track}
 use Rattle.mp4_lookup.specs.Tracks.{sample_at}
 use Rattle.mp4_lookup.specs.TrackRuns.{track_runs}
 use Rattle.mp4_samples.specs.declared.sample.SamplePlace.{SamplePlace}
+use Rattle.mp4_samples.specs.Samples.{TimedSample}
+use Rattle.mp4_source.specs.Answers.{RefusesRead}
+use Rattle.mp4_source.specs.declared.file_error.FileError.{FileError}
+use Rattle.mp4_source.specs.declared.file_error.FileError.TheVariants.{Mp4 as of_mp4, Io as file_refused}
 use Rattle.mp4_media.specs.declared.movie.Movie.{Movie}
-use Rattle.mp4_media.specs.FileBoxes.{opened_movie}
+use Rattle.mp4_media.specs.FileBoxes.{OpenedFile, opened_movie}
 use Rattle.mp4_media.specs.FileGrammar.{IsFile}
 use Rattle.mp4_media.specs.MovieTracks.{AreTracks, at_id, opened_track}
 use Rattle.mp4_media.specs.Reading.{sample_count_in, sample_in, sample_there, track_or}
-use Rattle.mp4_remux.specs.Reads.{read_of}
-use Rattle.mp4_remux.specs.Remuxed.{IsChecked, IsSameNumber, IsSameTrack}
+use Rattle.mp4_remux.specs.Reads.{count_of, read_of}
+use Rattle.mp4_remux.specs.declared.error.RemuxError.{RemuxError}
+use Rattle.mp4_remux.specs.declared.error.RemuxError.TheVariants.{Mp4, Read, Write, Twice, SaysPlaces}
+use Rattle.mp4_remux.specs.declared.error.RemuxError.TheVariants.{TooManySamples, OtherTracks, Differs}
+use Rattle.mp4_remux.specs.declared.error.RemuxError.TheVariants.{SaysOfSamples, StartsElsewhere, SameIds}
+use Rattle.mp4_remux.specs.Errors.{IsNamed, SaysOther, of_file}
+use Rattle.mp4_remux.specs.Remuxed.{AreOthers, IsChecked, IsNoFile, IsOnlyFile, IsSameNumber, IsSameTrack}
 use Rattle.mp4_remux.proofs.Sameness.{counted_there, got}
 
 -- what is read of an opened movie is what its tracks have
@@ -29,6 +40,13 @@ read_in_there m are id file k = rw (sym (are id)) (by (at_id m.tracks id))
         ≡ (track_or id o >>= λ t. sample_at file t.trak t.trafs (track_runs t) k)
     by None = refl
     by (Some t) = refl
+
+-- what is answered twice is the same
+pub got_ok : {X : Type 0} (r : Result X Cause) (x y : X) → r ≡ Ok x → r ≡ Ok y → x ≡ y
+got_ok r x y is also = cc
+
+pub same_there : (s t : TimedSample) → Some s ≡ Some t → t ≡ s
+same_there s t is = cc
 
 module _ (b a : Movie) (id : ℕ) (known known_after : Option (List ℕ)) where
   -- what holds of the bytes of both, where they are known
@@ -155,3 +173,175 @@ id_more ids P n upto next id i lt there = by (nat_lt i n) refl
     by false yet =
         let last : i ≡ n = omega (arith, lt, ltb-false i n yet) in
         subst P (got ids n id 0 (subst (λ k. slice_get ids k ≡ Some id) last there)) next
+
+-- ONE THAT ISN'T THE OTHER
+
+-- what a file is refused for doesn't say so
+pub of_file_alone : (e : FileError) → SaysOther (of_file e) → ⊥
+of_file_alone (of_mp4 e) other = other
+of_file_alone (file_refused e) other = other
+
+-- what says so is no refusal of memory, source or sink
+pub other_is_named : (e : RemuxError) → SaysOther e → IsNamed e
+other_is_named (Mp4 e) other = absurd other
+other_is_named (Read e) other = other
+other_is_named (Write e) other = other
+other_is_named (Twice name) other = absurd other
+other_is_named (SaysPlaces name place) other = absurd other
+other_is_named (TooManySamples track) other = absurd other
+other_is_named (SaysOfSamples name place) other = absurd other
+other_is_named (StartsElsewhere track number) other = absurd other
+other_is_named SameIds other = absurd other
+other_is_named OtherTracks other = tt
+other_is_named (Differs track number) other = tt
+
+-- a sample that is refused for what it is isn't read
+pub refused_there : (known : Option (List ℕ)) (can_refuse : Bool) (e : Error)
+    (answer : List ℕ → Result (Option TimedSample) Cause) → (e ≡ OutOfMemory → ⊥)
+    → IfSome known (λ ys. RefusesRead can_refuse (of_mp4 e) (answer ys))
+    → IfSome known (λ ys. (o : Option TimedSample) → answer ys ≡ Ok o → ⊥)
+refused_there None can_refuse e answer room refused = tt
+refused_there (Some ys) can_refuse e answer room (inl none) = λ o is. room none
+refused_there (Some ys) can_refuse e answer room (inr refused) = λ o is. absurd cc
+
+module _ (b a : Movie) (id : ℕ) (known known_after : Option (List ℕ))
+    (were : AreTracks b.moov b.moofs b.moof_places b.tracks) (are : AreTracks a.moov a.moofs a.moof_places a.tracks)
+  where
+    -- at this number they aren't the same
+    abbrev pub NumberIsOther : ℕ → Type 0
+    NumberIsOther k = OfBoth b a id known known_after (λ xs ys. (there : Bool)
+        → IsSameNumber xs ys (opened_movie b) (opened_movie a) id k there → ⊥)
+
+    abbrev pub TrackIsOther : Type 0
+    TrackIsOther = OfBoth b a id known known_after (λ xs ys.
+        IsSameTrack xs ys (opened_movie b) (opened_movie a) id → ⊥)
+
+    pub refused_after : (k : ℕ)
+        → IfSome known_after (λ ys. (o : Option TimedSample) → sample_in ys a.tracks id k ≡ Ok o → ⊥)
+        → NumberIsOther k
+    refused_after k none = by known known_after none
+      where
+        by : (c d : Option (List ℕ))
+            → IfSome d (λ ys. (o : Option TimedSample) → sample_in ys a.tracks id k ≡ Ok o → ⊥)
+            → IfSome c (λ xs. IfSome d (λ ys. (there : Bool)
+            → IsSameNumber xs ys (opened_movie b) (opened_movie a) id k there → ⊥))
+        by None d none = tt
+        by (Some xs) None none = tt
+        by (Some xs) (Some ys) none = on
+          where
+            on : (there : Bool) → IsSameNumber xs ys (opened_movie b) (opened_movie a) id k there → ⊥
+            on true s = none (Some s.0) (sym (read_in_there a are id ys k) ∙ s.1.1)
+            on false s = none None (sym (read_in_there a are id ys k) ∙ s.1)
+
+    pub answered_otherwise : (k : ℕ) (p q : Option TimedSample) → (p ≡ q → ⊥)
+        → IfSome known (λ xs. sample_in xs b.tracks id k ≡ Ok p)
+        → IfSome known_after (λ ys. sample_in ys a.tracks id k ≡ Ok q) → NumberIsOther k
+    answered_otherwise k p q differ was is = by known known_after was is
+      where
+        by : (c d : Option (List ℕ)) → IfSome c (λ xs. sample_in xs b.tracks id k ≡ Ok p)
+            → IfSome d (λ ys. sample_in ys a.tracks id k ≡ Ok q)
+            → IfSome c (λ xs. IfSome d (λ ys. (there : Bool)
+            → IsSameNumber xs ys (opened_movie b) (opened_movie a) id k there → ⊥))
+        by None d was is = tt
+        by (Some xs) None was is = tt
+        by (Some xs) (Some ys) was is = on
+          where
+            before : read_of xs (opened_movie b) id k ≡ Ok p
+            before = read_in_there b were id xs k ∙ was
+
+            after : read_of ys (opened_movie a) id k ≡ Ok q
+            after = read_in_there a are id ys k ∙ is
+
+            on : (there : Bool) → IsSameNumber xs ys (opened_movie b) (opened_movie a) id k there → ⊥
+            on true s =
+                let one : p ≡ Some s.0 = got_ok _ p (Some s.0) before s.1.0 in
+                let other : q ≡ Some s.0 = got_ok _ q (Some s.0) after s.1.1 in
+                differ (one ∙ sym other)
+            on false s =
+                let one : p ≡ None = got_ok _ p None before s.0 in
+                let other : q ≡ None = got_ok _ q None after s.1 in
+                differ (one ∙ sym other)
+
+    -- they don't say the same number of samples
+    pub counted_otherwise : (r : Result ℕ Cause) → (r ≡ sample_count_in b.tracks id → ⊥)
+        → sample_count_in a.tracks id ≡ r → TrackIsOther
+    counted_otherwise r differ is = by known known_after
+      where
+        by : (c d : Option (List ℕ)) → IfSome c (λ xs. IfSome d (λ ys.
+            IsSameTrack xs ys (opened_movie b) (opened_movie a) id → ⊥))
+        by None d = tt
+        by (Some xs) None = tt
+        by (Some xs) (Some ys) =
+            λ same. differ (sym is ∙ sym (counted_there a are id) ∙ same.counted ∙ counted_there b were id)
+
+    -- the number after those that are the same isn't
+    pub next_is_other : (k n : ℕ) → AreRead b a id known known_after k → sample_count_in b.tracks id ≡ Ok n
+        → (n ≡ 0 → ⊥) → NumberIsOther (k + 1) → TrackIsOther
+    next_is_other k n upto was some otherwise = by known known_after upto otherwise
+      where
+        by : (c d : Option (List ℕ))
+            → ((j : ℕ) → 1 ≤ j → j ≤ k → IfSome c (λ xs. IfSome d (λ ys.
+            IsSameNumber xs ys (opened_movie b) (opened_movie a) id j true)))
+            → IfSome c (λ xs. IfSome d (λ ys. (there : Bool)
+            → IsSameNumber xs ys (opened_movie b) (opened_movie a) id (k + 1) there → ⊥))
+            → IfSome c (λ xs. IfSome d (λ ys. IsSameTrack xs ys (opened_movie b) (opened_movie a) id → ⊥))
+        by None d upto otherwise = tt
+        by (Some xs) None upto otherwise = tt
+        by (Some xs) (Some ys) upto otherwise = λ same. on same (nat_lt k same.count) refl
+          where
+            ends : (same : IsSameTrack xs ys (opened_movie b) (opened_movie a) id) → same.count ≤ k
+                → IsSameNumber xs ys (opened_movie b) (opened_movie a) id (same.count + 1) false
+                → (less : Bool) → nat_lt same.count k ≡ less → ⊥
+            ends same le past true lt =
+                let s = upto (same.count + 1) (omega arith) (omega (arith, ltb-true same.count k lt)) in
+                let none = got_ok _ None (Some s.0) past.0 s.1.0 in absurd cc
+            ends same le past false ge =
+                let last : same.count ≡ k = omega (arith, le, ltb-false same.count k ge) in
+                otherwise false
+                (subst (λ m. IsSameNumber xs ys (opened_movie b) (opened_movie a) id (m + 1) false) last past)
+
+            on : (same : IsSameTrack xs ys (opened_movie b) (opened_movie a) id) → (more : Bool)
+                → nat_lt k same.count ≡ more → ⊥
+            on same true lt = otherwise true (same.same (k + 1) (omega arith) (omega (arith, ltb-true k same.count lt)))
+            on same false ge = at_end same.none
+              where
+                at_end : ((same.count ≡ 0) × (count_of (opened_movie b) id ≡ Ok 0))
+                    ⊎ IsSameNumber xs ys (opened_movie b) (opened_movie a) id (same.count + 1) false → ⊥
+                at_end (inl empty) = some (got_ok _ n 0 (counted_there b were id ∙ was) empty.1)
+                at_end (inr past) =
+                    ends same (ltb-false k same.count ge) past (nat_lt same.count k) refl
+
+-- one of the files is none
+pub no_file_before : (known known_after : Option (List ℕ)) (ids : List ℕ) → IsNoFile known
+    → AreOthers known known_after ids
+no_file_before None known_after ids none = tt
+no_file_before (Some xs) None ids none = tt
+no_file_before (Some xs) (Some ys) ids none = λ checked. none checked.opened checked.opens
+
+pub no_file_after : (known known_after : Option (List ℕ)) (ids : List ℕ) → IsNoFile known_after
+    → AreOthers known known_after ids
+no_file_after None known_after ids none = tt
+no_file_after (Some xs) None ids none = tt
+no_file_after (Some xs) (Some ys) ids none = λ checked. none checked.rewritten checked.opens_after
+
+-- it has more tracks, or fewer
+pub more_or_fewer : (a : Movie) (known known_after : Option (List ℕ)) (ids : List ℕ)
+    → IsOnlyFile known_after (opened_movie a) → (length a.moov.traks ≡ length ids → ⊥) → AreOthers known known_after ids
+more_or_fewer a None known_after ids only differ = tt
+more_or_fewer a (Some xs) None ids only differ = tt
+more_or_fewer a (Some xs) (Some ys) ids only differ =
+    λ checked. differ (ap (λ (o : OpenedFile). length o.moov.traks) (only checked.rewritten checked.opens_after)
+    ∙ checked.as_many)
+
+-- a track of these ids isn't the same
+pub track_is_other : (b a : Movie) (known known_after : Option (List ℕ)) (ids : List ℕ) (id i : ℕ)
+    → IsOnlyFile known (opened_movie b) → IsOnlyFile known_after (opened_movie a) → slice_get ids i ≡ Some id
+    → IfSome known (λ xs. IfSome known_after (λ ys. IsSameTrack xs ys (opened_movie b) (opened_movie a) id → ⊥))
+    → AreOthers known known_after ids
+track_is_other b a None known_after ids id i only only_after there otherwise = tt
+track_is_other b a (Some xs) None ids id i only only_after there otherwise = tt
+track_is_other b a (Some xs) (Some ys) ids id i only only_after there otherwise =
+    λ checked. otherwise (subst (λ (o : OpenedFile). IsSameTrack xs ys o (opened_movie a) id)
+    (sym (only checked.opened checked.opens))
+    (subst (λ (o : OpenedFile). IsSameTrack xs ys checked.opened o id)
+    (sym (only_after checked.rewritten checked.opens_after)) (checked.tracks id i there)))

@@ -18,7 +18,8 @@ use Rattle.mp4_media.specs.FileBoxes.{FileBox, OpenedFile, ftyps_in}
 use Rattle.mp4_media.specs.FileGrammar.{AreFileBoxes, IsFaultyFile, IsFile}
 use Rattle.mp4_media.specs.Opening.{IsOpeningOf}
 use Rattle.mp4_remux.specs.declared.error.RemuxError.{RemuxError}
-use Rattle.mp4_remux.specs.Errors.{CopyFails, GivesCause, IsCause, IsNamed, SaysFault, TakesMemory, of_file}
+use Rattle.mp4_remux.specs.Errors.{CopyFails, GivesCause, IsCause, IsNamed, IsNoFault, SaysFault, TakesMemory}
+use Rattle.mp4_remux.specs.Errors.{of_file}
 use Rattle.mp4_remux.specs.Remuxed.{IsOnlyFile}
 
 -- a refused opening is one of what is done with the file
@@ -147,6 +148,27 @@ pub opens_or_is_none : {X : Type 0} (known : Option (List ℕ)) (can_refuse : Bo
 opens_or_is_none None can_refuse view len e opening named = tt
 opens_or_is_none (Some xs) can_refuse view len e opening named =
     λ o file. unnamed can_refuse e o (opening.opens o file) named
+
+-- it is refused for memory or by the source, whatever the cause would be
+refused_for_none : (can_refuse : Bool) (e : FileError) (opened : OpenedFile) → RefusesRead can_refuse e (Ok opened)
+    → (c : Cause) → IsCause can_refuse c (of_file e)
+refused_for_none can_refuse (of_mp4 e) opened (inl no_room) c = inl no_room
+refused_for_none can_refuse (of_mp4 e) opened (inr is) c = absurd cc
+refused_for_none can_refuse (file_refused e) opened may c = may
+
+pub opens_without_fault : {X : Type 0} (known : Option (List ℕ)) (can_refuse : Bool) (view : X → OpenedFile) (len : ℕ)
+    (e : FileError) → IfSome known (λ xs. IsOpeningOf can_refuse view len (here xs 0) (Err e))
+    → IfSome known (λ xs. (o : OpenedFile) → IsFile len (here xs 0) o → (c : Cause) → IsCause can_refuse c (of_file e))
+opens_without_fault None can_refuse view len e opening = tt
+opens_without_fault (Some xs) can_refuse view len e opening =
+    λ o file c. refused_for_none can_refuse e o (opening.opens o file) c
+
+pub no_fault_of_len : (known : Option (List ℕ)) (can_refuse : Bool) (len : ℕ) (e : RemuxError) → IsLength known len
+    → IfSome known (λ xs. (o : OpenedFile) → IsFile len (here xs 0) o → (c : Cause) → IsCause can_refuse c e)
+    → IsNoFault known can_refuse e
+no_fault_of_len None can_refuse len e is refused = tt
+no_fault_of_len (Some xs) can_refuse len e is refused =
+    λ o file c. refused o (subst (λ n. IsFile n (here xs 0) o) (sym is) file) c
 
 injected : (r : Result OpenedFile Cause) (x y : OpenedFile) → r ≡ Ok x → r ≡ Ok y → x ≡ y
 injected r x y is also = cc

@@ -1,5 +1,6 @@
 -- Ids that are found among those that are sorted, or aren't there.
-use Rattle.std.proofs.Common.{◌≡◌, ℕ, zero, suc, ◌<◌, ◌≤◌, ◌==◌, Bool, true, false, nat_lt, List, [], ◌∷◌, length}
+use Rattle.std.proofs.Common.{◌≡◌, ℕ, zero, suc, ◌<◌, ◌≤◌, ◌==◌, ◌||◌, ◌&&◌, not, Bool, true, false, nat_lt, List, []}
+use Rattle.std.proofs.Common.{◌∷◌, ◌++◌, ◌+◌, drop, length}
 use Rattle.std.proofs.Common.{Result, Ok, Err, refl, sym, arith, slice_index_or}
 use Rattle.std.proofs.lemmas.Bool.{eq-eqb, ltb-false, ltb-true, ne_eqb, or_right}
 use Rattle.std.proofs.lemmas.List.Sorted.{IsNonDecreasingBy-from_sort, list_any-IsPermutation, searched}
@@ -9,6 +10,7 @@ use Rattle.std.specs.Ordering.{nat_cmp}
 use Rattle.std.specs.Result.{is_ok}
 use Rattle.mp4_remux.specs.declared.reference.Reference.{Reference}
 use Rattle.mp4_remux.specs.References.{goes, contains_id, stays}
+use Rattle.mp4_remux.proofs.Referring.{pass_less, pass_more}
 
 -- one is there
 there : (xs : List ℕ) (x k : ℕ) → k < length xs → slice_index_or xs k 0 ≡ x → true ≡ contains_id xs x
@@ -57,3 +59,25 @@ module _ (some : Bool) (kept sorted : List ℕ) (same : IsPermutation kept sorte
 
   pub left_out_by : (list : List Reference) → filter (goes some sorted) list ≡ filter (goes some kept) list
   left_out_by list = same_pass (goes some sorted) (goes some kept) (λ r. rw (among r.track_id, among r.to) refl) list
+
+-- a reference that stays isn't left out
+stays_alone : (some : Bool) (kept : List ℕ) (r : Reference) → stays some kept r ≡ true → goes some kept r ≡ false
+stays_alone some kept r = by some (contains_id kept r.track_id) (contains_id kept r.to)
+  where
+    by : (s a b : Bool) → (not s || (a && b)) ≡ true → (s && (a && not b)) ≡ false
+    by false a b is = refl
+    by true false b is = refl
+    by true true false is = absurd cc
+    by true true true is = refl
+
+-- one more reference stays
+pub one_stays : (some : Bool) (kept : List ℕ) (list staying more gone : List Reference) (i : ℕ) (x d : Reference)
+    → more ≡ staying ++ (x ∷ []) → i < length list → x ≡ slice_index_or list i d
+    → staying ++ filter (stays some kept) (drop i list) ≡ filter (stays some kept) list
+    → gone ++ filter (goes some kept) (drop i list) ≡ filter (goes some kept) list → stays some kept x ≡ true
+    → (more ++ filter (stays some kept) (drop (i + 1) list) ≡ filter (stays some kept) list)
+    × (gone ++ filter (goes some kept) (drop (i + 1) list) ≡ filter (goes some kept) list)
+one_stays some kept list staying more gone i x d pushed lt is upto upto_gone stay = (
+  rw pushed (pass_more (stays some kept) list staying i x d lt is upto stay),
+  pass_less (goes some kept) list gone i x d lt is upto_gone (stays_alone some kept x stay),
+)

@@ -1,8 +1,9 @@
 -- Headers that were looked at, one after the other.
 use Rattle.std.proofs.Common.{◌≡◌, ◌∙◌, ℕ, suc, ◌+◌, ◌≤◌, ◌<◌, List, [], ◌∷◌, length, drop, Option, None, Some, Ok}
-use Rattle.std.proofs.Common.{option_map, refl, sym, ap, arith, max, Bool, true, false, ◌==◌}
+use Rattle.std.proofs.Common.{Err, option_map, refl, sym, ap, arith, max, Bool, true, false, ◌==◌}
 use Rattle.std.proofs.lemmas.Bool.{eqb-true}
 use Rattle.std.specs.Prelude.{slice_get, slice_index_or}
+use Rattle.mp4_codec.specs.Cause.{Cause, trak_not_found}
 use Rattle.mp4_leaf.specs.declared.elst.ElstEntry.{ElstEntry}
 use Rattle.mp4_boxes.specs.declared.trak.TrakBox.{TrakBox}
 use Rattle.mp4_lookup.specs.declared.track.Mp4Track.{Mp4Track}
@@ -107,6 +108,17 @@ track_there m are id t is = (
   opened_track t,
   sym (are id) ∙ ap (λ (o : Option Mp4Track). option_map opened_track o) (found id (at_id m.tracks id) t is),
 )
+
+-- one that wasn't is none of the file
+pub track_missing : (m : Movie) (are : AreTracks m.moov m.moofs m.moof_places m.tracks) (id : ℕ) (c : Cause)
+    → needed_track m.tracks id ≡ Err c
+    → (track_at m.moov m.moofs m.moof_places id ≡ None) × (trak_not_found id ≡ c)
+track_missing m are id c is = by (at_id m.tracks id) refl is
+  where
+    by : (o : Option Mp4Track) → at_id m.tracks id ≡ o → track_or id o ≡ Err c
+        → (track_at m.moov m.moofs m.moof_places id ≡ None) × (trak_not_found id ≡ c)
+    by None at is = (sym (are id) ∙ ap (λ (o : Option Mp4Track). option_map opened_track o) at, cc)
+    by (Some t) at is = absurd cc
 
 pub keeps_more : (m : Movie) (are : AreTracks m.moov m.moofs m.moof_places m.tracks) (t : TrakBox) (was : Mp4Track)
     → needed_track m.tracks t.tkhd.track_id ≡ Ok was → KeepsTrack was.trak t

@@ -86,7 +86,8 @@ writes_rebuilt (Some xs) had has (Ok u) l opened all ids staying left_out file_t
             rest = (b.bytes xs).0;
             has_file_type = f.has_file_type;
             has_movie = f.has_movie;
-            kept = subst (λ (bytes : List ℕ). IsKept (changed_by (made_of opened)) tracks bytes b.movie) f.movie_is b.kept;
+            kept =
+                subst (λ (bytes : List ℕ). IsKept (changed_by (made_of opened)) tracks bytes b.movie) f.movie_is b.kept;
             referring =
                 subst (λ (bytes : List ℕ). KeepsReferences bytes b.movie all ids) f.movie_is (b.referring ∙ kept);
             gone = subst (λ (bytes : List ℕ). AreLeftOut bytes all ids left_out) f.movie_is gone;

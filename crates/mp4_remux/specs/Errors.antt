@@ -1,7 +1,7 @@
 -- Why a movie isn't rewritten.
 use Rattle.std.specs.Prelude.{◌≡◌, ◌⊎◌, ⊤, ℕ, Bool, IsTrue, List, length, Option, IfSome, Result, Ok, Err}
 use Rattle.mp4_codec.specs.declared.error.Error.TheVariants.{OutOfMemory}
-use Rattle.mp4_codec.specs.Cause.{Cause, cause_of}
+use Rattle.mp4_codec.specs.Cause.{Cause, cause_of, trak_not_found}
 use Rattle.mp4_codec.specs.Cursor.{here}
 use Rattle.mp4_source.specs.declared.error.SourceError.{SourceError}
 use Rattle.mp4_source.specs.declared.error.SourceError.TheVariants.{OutOfMemory as no_memory, Io as refused}
@@ -10,7 +10,9 @@ use Rattle.mp4_source.specs.declared.sink_error.SinkError.TheVariants.{OutOfMemo
 use Rattle.mp4_source.specs.declared.file_error.FileError.{FileError}
 use Rattle.mp4_source.specs.declared.file_error.FileError.TheVariants.{Mp4 as of_mp4, Io as file_refused}
 use Rattle.mp4_source.specs.Source.{HasPart}
-use Rattle.mp4_media.specs.FileGrammar.{IsFaultyFile}
+use Rattle.mp4_media.specs.FileBoxes.{OpenedFile}
+use Rattle.mp4_media.specs.FileGrammar.{IsFaultyFile, IsFile}
+use Rattle.mp4_remux.specs.Reads.{IsMissing}
 use Rattle.mp4_remux.specs.declared.error.RemuxError.{RemuxError}
 use Rattle.mp4_remux.specs.declared.error.RemuxError.TheVariants.{Mp4, Read, Write, Twice, SaysPlaces}
 use Rattle.mp4_remux.specs.declared.error.RemuxError.TheVariants.{TooManySamples, OtherTracks, Differs}
@@ -59,6 +61,20 @@ IsNamed SameIds = ⊤
 IsNamed OtherTracks = ⊤
 IsNamed (Differs track number) = ⊤
 
+-- a refusal that says that one file isn't the other
+abbrev pub SaysOther : RemuxError → Type 0
+SaysOther (Mp4 e) = ⊥
+SaysOther (Read e) = ⊥
+SaysOther (Write e) = ⊥
+SaysOther (Twice name) = ⊥
+SaysOther (SaysPlaces name place) = ⊥
+SaysOther (TooManySamples track) = ⊥
+SaysOther (SaysOfSamples name place) = ⊥
+SaysOther (StartsElsewhere track number) = ⊥
+SaysOther SameIds = ⊥
+SaysOther OtherTracks = ⊤
+SaysOther (Differs track number) = ⊤
+
 -- a refusal of the source is one only where it refuses, and one of the sink only where that does
 abbrev pub IsRefusalOf : Type 0 → Type 0 → RemuxError → Type 0
 IsRefusalOf SourceRefuses SinkRefuses (Mp4 e) = ⊤
@@ -105,3 +121,13 @@ SaysFault known can_refuse result = IfSome known (λ xs. (c : Cause) → IsFault
 abbrev pub TakesMemory : {X : Type 0} → Option (List ℕ) → Result X RemuxError → Type 0
 TakesMemory known (Ok x) = ⊤
 TakesMemory known (Err e) = e ≡ Mp4 OutOfMemory → HasPart known 0 8
+
+-- Where the bytes are known and are a file, it is refused for memory alone, or by the source.
+abbrev pub IsNoFault : Option (List ℕ) → Bool → RemuxError → Type 0
+IsNoFault known can_refuse e = IfSome known (λ xs. (o : OpenedFile) → IsFile (length xs) (here xs 0) o → (c : Cause)
+    → IsCause can_refuse c e)
+
+-- Where the bytes are known and are a file that has no track for one of these ids, it is refused for the first such.
+abbrev pub SaysMissing : {X : Type 0} → Option (List ℕ) → Bool → List ℕ → Result X RemuxError → Type 0
+SaysMissing known can_refuse ids result = IfSome known (λ xs. (o : OpenedFile) (id i : ℕ)
+    → IsFile (length xs) (here xs 0) o → IsMissing o ids id i → GivesCause can_refuse (trak_not_found id) result)

@@ -1,6 +1,8 @@
 -- What is read of a file that was opened.
-use Rattle.std.specs.Prelude.{◌≡◌, ℕ, List, Option, Some, Result, slice_get}
-use Rattle.mp4_codec.specs.Cause.{Cause, ◌>>=◌}
+use Rattle.std.specs.Prelude.{◌≡◌, ◌<◌, ◌⊎◌, ℕ, List, Option, Some, None, Result, slice_get}
+use Rattle.mp4_codec.specs.Cause.{Cause, cause_of, trak_not_found, ◌>>=◌}
+use Rattle.mp4_codec.specs.declared.error.Error.{Error}
+use Rattle.mp4_codec.specs.declared.error.Error.TheVariants.{OutOfMemory}
 use Rattle.mp4_lookup.specs.Rates.{sample_count_of}
 use Rattle.mp4_lookup.specs.Tracks.{answer_at, sample_at}
 use Rattle.mp4_samples.specs.declared.sample.Place.{Place}
@@ -29,3 +31,15 @@ place_in opened id k =
 abbrev pub AreThere : OpenedFile → List ℕ → Type 0
 AreThere opened ids = (id i : ℕ) → slice_get ids i ≡ Some id → (track : OpenedTrack)
     × (track_at opened.moov opened.moofs opened.moof_places id ≡ Some track)
+
+-- the id at number i is the first of these that no track of a file has
+pub record IsMissing (opened : OpenedFile) (ids : List ℕ) (id i : ℕ) : Type 0 where
+  pub there : slice_get ids i ≡ Some id
+  pub none : track_at opened.moov opened.moofs opened.moof_places id ≡ None
+  pub first : (other j : ℕ) → j < i → slice_get ids j ≡ Some other → (track : OpenedTrack)
+      × (track_at opened.moov opened.moofs opened.moof_places other ≡ Some track)
+
+-- an error for the first of these ids that no track has, or for memory
+abbrev pub SaysFirst : OpenedFile → List ℕ → Error → Type 0
+SaysFirst opened ids e = (e ≡ OutOfMemory)
+    ⊎ ((id i : ℕ) × (IsMissing opened ids id i × (trak_not_found id ≡ cause_of e)))

@@ -18,6 +18,10 @@ use Rattle.mp4_remux.specs.Reads.{count_of, read_of}
 abbrev pub IsOnlyFile : Option (List ℕ) → OpenedFile → Type 0
 IsOnlyFile known opened = IfSome known (λ xs. (o : OpenedFile) → IsFile (length xs) (here xs 0) o → opened ≡ o)
 
+-- where the bytes are known, they are no file
+abbrev pub IsNoFile : Option (List ℕ) → Type 0
+IsNoFile known = IfSome known (λ xs. (o : OpenedFile) → IsFile (length xs) (here xs 0) o → ⊥)
+
 -- the ids of a movie's tracks, in the order of their boxes (ISO/IEC 14496-12, 8.3.2)
 abbrev pub ids_of : MoovBox → List ℕ
 ids_of moov = map (λ (t : TrakBox). t.tkhd.track_id) moov.traks
@@ -69,3 +73,8 @@ pub record IsChecked (before after ids : List ℕ) : Type 0 where
   pub opens_after : IsFile (length after) (here after 0) rewritten
   pub as_many : length rewritten.moov.traks ≡ length ids
   pub tracks : (id i : ℕ) → slice_get ids i ≡ Some id → IsSameTrack before after opened rewritten id
+
+-- where the bytes of both are known, the tracks with these ids aren't read from the one as from the other, or it has
+-- more, or one is no file
+abbrev pub AreOthers : Option (List ℕ) → Option (List ℕ) → List ℕ → Type 0
+AreOthers known known_after ids = IfSome known (λ xs. IfSome known_after (λ ys. IsChecked xs ys ids → ⊥))

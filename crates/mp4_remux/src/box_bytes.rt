@@ -1,11 +1,9 @@
 //! Boxes as bytes, whatever is in them.
 
-ghost use Rattle.std.specs.Prelude.{◌≡◌, ◌+◌, ◌≤◌, ◌<◌, List, length, take, None, IfNone, IfSome, IfErr};
-ghost use Rattle.mp4_remux.specs.Errors.{IsRefusalOf};
+ghost use Rattle.std.specs.Prelude.{◌≡◌, ◌+◌, ◌≤◌, ◌<◌, List, length, take, None, IfNone, IfSome};
 ghost use Rattle.mp4_remux.specs.Kept.{IsFirstBox};
 ghost use Rattle.mp4_remux.specs.References.{first_part};
 
-use crate::error::RemuxError;
 use mp4_codec::{BoxHeader, BoxType, ByteCursor, Error, HEADER_SIZE, Limit, OPEN_END, Result};
 
 /// A box with which some bytes begin.
@@ -93,13 +91,7 @@ pub(crate) fn put_size(bytes: &mut [u8], header: usize) -> Result<()> {
 }
 
 /// Ends a box that was begun at this place of a buffer, with a header of so many bytes: its size is written.
-pub(crate) fn end_box(
-    out: &mut Vec<u8>,
-    start: usize,
-    header: usize,
-) -> std::result::Result<(), RemuxError>
-    ensures refused { IfErr result (IsRefusalOf ⊥ ⊥) }
-{
+pub(crate) fn end_box(out: &mut Vec<u8>, start: usize, header: usize) -> Result<()> {
     if start <= out.len() {
         put_size(&mut out[start..], header)?;
     }

@@ -1,6 +1,6 @@
 //! Whether every sample of a file that was written is that of another.
 
-ghost use Rattle.std.specs.Prelude.{◌≡◌, ◌≤◌, ◌<◌, ◌-◌, ◌^◌, ℕ, Some, length, option_map, slice_get};
+ghost use Rattle.std.specs.Prelude.{◌≡◌, ◌↔◌, ◌≤◌, ◌<◌, ◌-◌, ◌^◌, ℕ, Bool, Option, Some, length, option_map, slice_get};
 ghost use Rattle.std.specs.Prelude.{IfErr, IfOk, IfSome, Ok, OnOk, IsTrue};
 ghost use Rattle.mp4_codec.specs.Cursor.{here};
 ghost use Rattle.mp4_codec.specs.declared.error.Error.TheVariants.{OutOfMemory};
@@ -8,9 +8,10 @@ ghost use Rattle.mp4_media.specs.FileBoxes.{opened_movie};
 ghost use Rattle.mp4_media.specs.FileGrammar.{IsFile};
 ghost use Rattle.mp4_media.specs.MovieTracks.{AreTracks};
 ghost use Rattle.mp4_media.specs.Reading.{sample_in, sample_there};
-ghost use Rattle.mp4_remux.specs.Errors.{IsRefusalOf, MayRefuse, SaysFault, TakesMemory};
+ghost use Rattle.mp4_samples.specs.Samples.{TimedSample};
+ghost use Rattle.mp4_remux.specs.Errors.{IsNamed, IsRefusalOf, MayRefuse, SaysFault, SaysOther, TakesMemory};
 ghost use Rattle.mp4_source.specs.Source.{HasPart};
-ghost use Rattle.mp4_remux.specs.Remuxed.{IsChecked, IsSameNumber, IsSameTrack};
+ghost use Rattle.mp4_remux.specs.Remuxed.{AreOthers, IsChecked, IsNoFile, IsOnlyFile, IsSameNumber, IsSameTrack};
 
 use crate::error::RemuxError;
 use crate::same::most_samples;
@@ -29,6 +30,8 @@ fn open_file<S: ByteSource + Drop>(alloc: Global, source: S) -> Result<Mp4File<S
     ensures can_refuse { IfOk result (λ f. S.can_refuse f.source ≡ S.can_refuse source) }
     ensures refused { IfErr result (IsRefusalOf (MayRefuse (S.contents source) (S.can_refuse source)) ⊥) }
     ensures fault { SaysFault (S.contents source) (S.can_refuse source) result }
+    ensures opens { IfErr result (λ e. IsNamed e → IsNoFile (S.contents source)) }
+    ensures only { IfOk result (λ f. IsOnlyFile (S.contents source) (opened_movie f.movie)) }
     ensures memory { TakesMemory (S.contents source) result }
     ensures room { OnOk result (HasPart (S.contents source) 0 8) }
 {
@@ -50,6 +53,8 @@ fn open_written<S: ByteSource + Drop>(alloc: Global, source: S) -> Result<Mp4Fil
     ensures contents { IfOk result (λ f. S.contents f.source ≡ S.contents source) }
     ensures can_refuse { IfOk result (λ f. S.can_refuse f.source ≡ S.can_refuse source) }
     ensures refused { IfErr result (IsRefusalOf ⊥ (MayRefuse (S.contents source) (S.can_refuse source))) }
+    ensures opens { IfErr result (λ e. SaysOther e → IsNoFile (S.contents source)) }
+    ensures only { IfOk result (λ f. IsOnlyFile (S.contents source) (opened_movie f.movie)) }
 {
     match open_file(alloc, source) {
         Ok(file) => Ok(file),
@@ -73,6 +78,8 @@ fn read_written<S: ByteSource + Drop>(
     ensures can_refuse { S.can_refuse after.new.source ≡ S.can_refuse after.old.source }
     ensures refused { IfErr result
         (IsRefusalOf ⊥ (MayRefuse (S.contents after.old.source) (S.can_refuse after.old.source))) }
+    ensures other { IfErr result (λ e. SaysOther e → IfSome (S.contents after.old.source) (λ ys.
+        (o : Option TimedSample) → sample_in ys after.old.movie.tracks track_id k ≡ Ok o → ⊥)) }
 {
     match after.read_sample_into(track_id, k, buffer) {
         Ok(sample) => Ok(sample),
@@ -84,7 +91,7 @@ fn read_written<S: ByteSource + Drop>(
 
 /// Whether two samples of these bytes are the same, with their times and marks.
 fn is_same_sample(before: &SamplePlace, after: &SamplePlace, read: &[u8], written: &[u8]) -> bool
-    ensures { IsTrue result → sample_there written.now after.now ≡ sample_there read.now before.now }
+    ensures { IsTrue result ↔ (sample_there written.now after.now ≡ sample_there read.now before.now) }
 {
     if after.start_time != before.start_time
         || after.duration != before.duration
@@ -122,6 +129,9 @@ fn check_sample<S: ByteSource + Drop, T: ByteSource + Drop>(
     ensures refused { IfErr result
         (IsRefusalOf (MayRefuse (S.contents before.old.source) (S.can_refuse before.old.source))
         (MayRefuse (T.contents after.old.source) (T.can_refuse after.old.source))) }
+    ensures other { IfErr result (λ e. SaysOther e → IfSome (S.contents before.old.source) (λ xs.
+        IfSome (T.contents after.old.source) (λ ys. (there : Bool) → IsSameNumber xs ys (opened_movie before.old.movie)
+        (opened_movie after.old.movie) track_id k there → ⊥))) }
 {
     let kept = before.read_sample_into(track_id, k, read)?;
     let moved = read_written(after, track_id, k, written)?;
@@ -167,6 +177,9 @@ fn count_checked<S: ByteSource + Drop, T: ByteSource + Drop>(
     ensures refused { IfErr result
         (IsRefusalOf (MayRefuse (S.contents before.old.source) (S.can_refuse before.old.source))
         (MayRefuse (T.contents after.old.source) (T.can_refuse after.old.source))) }
+    ensures other { IfErr result (λ e. SaysOther e → IfSome (S.contents before.old.source) (λ xs.
+        IfSome (T.contents after.old.source) (λ ys. IsSameTrack xs ys (opened_movie before.old.movie)
+        (opened_movie after.old.movie) track_id → ⊥))) }
 {
     let count = before.sample_count(track_id)?;
     let Ok(written_count) = after.sample_count(track_id) else {
@@ -211,6 +224,7 @@ pub fn check_samples<S: ByteSource + Drop, T: ByteSource + Drop>(
     ensures refused { IfErr result (IsRefusalOf (MayRefuse (S.contents before) (S.can_refuse before))
         (MayRefuse (T.contents after) (T.can_refuse after))) }
     ensures fault { SaysFault (S.contents before) (S.can_refuse before) result }
+    ensures other { IfErr result (λ e. SaysOther e → AreOthers (S.contents before) (T.contents after) ids.now) }
     ensures memory { TakesMemory (S.contents before) result }
 {
     let mut before = open_file(alloc, before)?;

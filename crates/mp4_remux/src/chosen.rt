@@ -3,18 +3,15 @@
 ghost use Rattle.std.specs.Prelude.{◌≡◌, ◌↔◌, List, length, IfErr, IfOk, OnOk, IsTrue};
 ghost use Rattle.mp4_media.specs.FileBoxes.{opened_movie};
 ghost use Rattle.mp4_media.specs.MovieTracks.{AreTracks};
-ghost use Rattle.mp4_remux.specs.Errors.{IsRefusalOf};
-ghost use Rattle.mp4_remux.specs.Reads.{AreThere};
+ghost use Rattle.mp4_remux.specs.Reads.{AreThere, SaysFirst};
 ghost use Rattle.mp4_remux.specs.Remuxed.{ids_of, kept_of};
 
-use crate::error::RemuxError;
-use mp4_media::Movie;
-use std::alloc::Global;
+use mp4_media::{Movie, Result};
+use std::alloc::{AllocError, Global};
 
 /// The ids of all tracks, in the order of their boxes.
-pub(crate) fn all_ids(alloc: Global, movie: &Movie) -> Result<Vec<u32>, RemuxError>
+pub(crate) fn all_ids(alloc: Global, movie: &Movie) -> std::result::Result<Vec<u32>, AllocError>
     ensures ids { IfOk result (λ ids. ids.items ≡ ids_of movie.now.moov) }
-    ensures refused { IfErr result (IsRefusalOf ⊥ ⊥) }
 {
     let traks = movie.moov.traks.as_slice();
     let mut all = Vec::with_capacity(alloc, traks.len())?;
@@ -25,9 +22,8 @@ pub(crate) fn all_ids(alloc: Global, movie: &Movie) -> Result<Vec<u32>, RemuxErr
 }
 
 /// Those of the ids that are among these, in their order.
-fn kept_of(alloc: Global, all: &[u32], ids: &[u32]) -> Result<Vec<u32>, RemuxError>
+fn kept_of(alloc: Global, all: &[u32], ids: &[u32]) -> std::result::Result<Vec<u32>, AllocError>
     ensures ids { IfOk result (λ kept. kept.items ≡ kept_of ids.now all.now) }
-    ensures refused { IfErr result (IsRefusalOf ⊥ ⊥) }
 {
     let mut kept = Vec::new(alloc);
     for i in 0..all.len() {
@@ -41,10 +37,10 @@ fn kept_of(alloc: Global, all: &[u32], ids: &[u32]) -> Result<Vec<u32>, RemuxErr
 }
 
 /// Checks that a movie has tracks with these ids. `TrakNotFound` where one isn't there.
-fn check_ids(movie: &Movie, ids: &[u32]) -> Result<(), RemuxError>
+fn check_ids(movie: &Movie, ids: &[u32]) -> Result<()>
     requires { AreTracks movie.now.moov movie.now.moofs movie.now.moof_places movie.now.tracks }
     ensures there { OnOk result (AreThere (opened_movie movie.now) ids.now) }
-    ensures refused { IfErr result (IsRefusalOf ⊥ ⊥) }
+    ensures missing { IfErr result (SaysFirst (opened_movie movie.now) ids.now) }
 {
     let mut i = 0;
     while i < ids.len() {
@@ -55,17 +51,12 @@ fn check_ids(movie: &Movie, ids: &[u32]) -> Result<(), RemuxError>
 }
 
 /// Those of all ids of a movie that are to be kept, in their order. `TrakNotFound` where one isn't there.
-pub(crate) fn kept_ids(
-    alloc: Global,
-    movie: &Movie,
-    all: &[u32],
-    ids: &[u32],
-) -> Result<Vec<u32>, RemuxError>
+pub(crate) fn kept_ids(alloc: Global, movie: &Movie, all: &[u32], ids: &[u32]) -> Result<Vec<u32>>
     requires { AreTracks movie.now.moov movie.now.moofs movie.now.moof_places movie.now.tracks }
     ensures there { OnOk result (AreThere (opened_movie movie.now) ids.now) }
     ensures ids { IfOk result (λ kept. kept.items ≡ kept_of ids.now all.now) }
-    ensures refused { IfErr result (IsRefusalOf ⊥ ⊥) }
+    ensures missing { IfErr result (SaysFirst (opened_movie movie.now) ids.now) }
 {
     check_ids(movie, ids)?;
-    kept_of(alloc, all, ids)
+    Ok(kept_of(alloc, all, ids)?)
 }

@@ -1,13 +1,11 @@
 //! Tables of chunk offsets, with other offsets (ISO/IEC 14496-12, 8.7.5).
 
-ghost use Rattle.std.specs.Prelude.{◌≤◌, IfErr};
-ghost use Rattle.mp4_remux.specs.Errors.{IsRefusalOf};
+ghost use Rattle.std.specs.Prelude.{◌≤◌};
 
 use crate::box_bytes::{BoxBytes, end_box};
-use crate::error::RemuxError;
 use crate::moves::Moves;
 use byteorder::{BigEndian, ByteOrder};
-use mp4_codec::BoxType;
+use mp4_codec::{BoxType, Result};
 
 /// The offset in an entry of a table, of 32 bits or of 64.
 fn offset_in(entry: &[u8]) -> u64 {
@@ -57,13 +55,7 @@ fn needs_64_bits(entries: &[u8], size: usize, moves: &Moves) -> bool
 }
 
 /// Adds a table of chunk offsets as they are when all is moved: `stco` becomes `co64` where one passes 32 bits.
-pub(crate) fn put_table(
-    table: &BoxBytes,
-    moves: &Moves,
-    out: &mut Vec<u8>,
-) -> Result<(), RemuxError>
-    ensures refused { IfErr result (IsRefusalOf ⊥ ⊥) }
-{
+pub(crate) fn put_table(table: &BoxBytes, moves: &Moves, out: &mut Vec<u8>) -> Result<()> {
     let size = entry_size(table.name);
     let (entries, after) = entries_in(table.payload, size);
     let is_wide = size == 8 || needs_64_bits(entries, size, moves);

@@ -6,8 +6,9 @@ ghost use Rattle.mp4_remux.specs.Errors.{IsRefusalOf};
 use crate::error::RemuxError;
 use crate::moves::Move;
 use crate::same::place_of_any;
+use mp4_codec::Put;
 use mp4_media::{Movie, SamplePlace};
-use std::alloc::Global;
+use std::alloc::{AllocError, Global};
 
 /// Bytes of a file: the first, and the one after the last, by their places, which count from 0.
 #[derive(Debug, Clone, Copy)]
@@ -17,9 +18,7 @@ pub(crate) struct Extent {
 }
 
 /// Adds bytes after those before: where they begin with the place after these or within them, as one with them.
-fn push_extent(extents: &mut Vec<Extent>, extent: Extent) -> Result<(), RemuxError>
-    ensures refused { IfErr result (IsRefusalOf ⊥ ⊥) }
-{
+fn push_extent(extents: &mut Vec<Extent>, extent: Extent) -> Put {
     if let Some(last) = extents.pop() {
         if last.place <= extent.place && extent.place <= last.end {
             extents.push(Extent {
@@ -95,13 +94,11 @@ pub(crate) fn data_of(
         i += 1;
     }
     extents.sort_by_key(|extent| extent.place)?;
-    joined(alloc, &extents)
+    Ok(joined(alloc, &extents)?)
 }
 
 /// Bytes that are in order, each once.
-fn joined(alloc: Global, extents: &[Extent]) -> Result<Vec<Extent>, RemuxError>
-    ensures refused { IfErr result (IsRefusalOf ⊥ ⊥) }
-{
+fn joined(alloc: Global, extents: &[Extent]) -> Result<Vec<Extent>, AllocError> {
     let mut joined = Vec::new(alloc);
     for extent in extents {
         push_extent(&mut joined, *extent)?;
@@ -110,9 +107,7 @@ fn joined(alloc: Global, extents: &[Extent]) -> Result<Vec<Extent>, RemuxError>
 }
 
 /// Where these bytes are when each follow those before, counted from the first of them.
-pub(crate) fn closed_up(alloc: Global, extents: &[Extent]) -> Result<Vec<Move>, RemuxError>
-    ensures refused { IfErr result (IsRefusalOf ⊥ ⊥) }
-{
+pub(crate) fn closed_up(alloc: Global, extents: &[Extent]) -> Result<Vec<Move>, AllocError> {
     let mut moves = Vec::with_capacity(alloc, extents.len())?;
     let mut to: u64 = 0;
     for extent in extents {

@@ -1,13 +1,10 @@
 //! The sample description of each sample (ISO/IEC 14496-12, 8.5.2).
 
-ghost use Rattle.std.specs.Prelude.{IfErr};
-ghost use Rattle.mp4_remux.specs.Errors.{IsRefusalOf};
-
-use crate::error::RemuxError;
+use mp4_codec::Put;
 use mp4_lookup::Mp4Track;
 use mp4_moof::{MvexBox, TrafBox, TrunBox};
 use mp4_table::StscEntry;
-use std::alloc::Global;
+use std::alloc::{AllocError, Global};
 
 /// Samples of one description that follow each other.
 #[derive(Debug, Clone, Copy)]
@@ -28,9 +25,7 @@ pub(crate) struct Descriptions {
 
 impl Descriptions {
     /// Those of a track, of a movie that says this of its fragments.
-    pub fn of(alloc: Global, track: &Mp4Track, mvex: &Option<MvexBox>) -> Result<Self, RemuxError>
-        ensures refused { IfErr result (IsRefusalOf ⊥ ⊥) }
-    {
+    pub fn of(alloc: Global, track: &Mp4Track, mvex: &Option<MvexBox>) -> Result<Self, AllocError> {
         let mut runs = Vec::new(alloc);
         let stbl = &track.trak.mdia.minf.stbl;
         let count = stbl.sample_count();
@@ -53,13 +48,7 @@ impl Descriptions {
 }
 
 /// Adds the runs of the `count` samples that the tables of the movie box have (8.7.4).
-fn push_chunks(
-    entries: &[StscEntry],
-    count: u32,
-    runs: &mut Vec<DescribedRun>,
-) -> Result<(), RemuxError>
-    ensures refused { IfErr result (IsRefusalOf ⊥ ⊥) }
-{
+fn push_chunks(entries: &[StscEntry], count: u32, runs: &mut Vec<DescribedRun>) -> Put {
     for i in 0..entries.len() {
         let last = match entries.get(i + 1) {
             Some(next) => next.first_sample.saturating_sub(1).min(count),
@@ -79,9 +68,7 @@ fn push_fragments(
     count: u32,
     default: u32,
     runs: &mut Vec<DescribedRun>,
-) -> Result<(), RemuxError>
-    ensures refused { IfErr result (IsRefusalOf ⊥ ⊥) }
-{
+) -> Put {
     let mut last = count;
     for traf in trafs {
         last = last_after(last, traf.truns.as_slice());

@@ -1,14 +1,12 @@
 //! Edit lists of tracks whose tables are made (ISO/IEC 14496-12, 8.6.6).
 
-ghost use Rattle.std.specs.Prelude.{◌≡◌, length, IfErr};
-ghost use Rattle.mp4_remux.specs.Errors.{IsRefusalOf};
+ghost use Rattle.std.specs.Prelude.{◌≡◌};
 ghost use Rattle.mp4_remux.specs.Headers.{edits_of_box};
 
 use crate::box_bytes::{BoxBytes, end_box, first_box};
-use crate::error::RemuxError;
 use byteorder::{BigEndian, ByteOrder};
 use mp4_boxes::TrakBox;
-use mp4_codec::{BoxType, Error, Limit, put_u32, put_u64};
+use mp4_codec::{BoxType, Error, Limit, Result, put_u32, put_u64};
 use mp4_leaf::ElstEntry;
 
 /// How long a track is shown, in ticks of the movie.
@@ -116,9 +114,7 @@ fn last_entry(payload: &[u8]) -> Option<usize> {
 }
 
 /// Adds an edit list whose last entry lasts so long. `TooLarge(TrackDuration)` where that passes 32 bits in version 0.
-fn put_list(list: &BoxBytes, last: u64, out: &mut Vec<u8>) -> Result<(), RemuxError>
-    ensures refused { IfErr result (IsRefusalOf ⊥ ⊥) }
-{
+fn put_list(list: &BoxBytes, last: u64, out: &mut Vec<u8>) -> Result<()> {
     let start = out.len();
     out.extend_from_slice(list.header)?;
     let payload = list.payload;
@@ -134,7 +130,7 @@ fn put_list(list: &BoxBytes, last: u64, out: &mut Vec<u8>) -> Result<(), RemuxEr
         put_u64(out, last)?;
     } else {
         let Ok(last) = u32::try_from(last) else {
-            return Err(RemuxError::Mp4(Error::TooLarge(Limit::TrackDuration)));
+            return Err(Error::TooLarge(Limit::TrackDuration));
         };
         put_u32(out, last)?;
     }
@@ -143,9 +139,7 @@ fn put_list(list: &BoxBytes, last: u64, out: &mut Vec<u8>) -> Result<(), RemuxEr
 }
 
 /// Adds an `edts` in whose edit list the last entry lasts so long.
-pub(crate) fn put_edits(one: &BoxBytes, last: u64, out: &mut Vec<u8>) -> Result<(), RemuxError>
-    ensures refused { IfErr result (IsRefusalOf ⊥ ⊥) }
-{
+pub(crate) fn put_edits(one: &BoxBytes, last: u64, out: &mut Vec<u8>) -> Result<()> {
     let start = out.len();
     out.extend_from_slice(one.header)?;
     let mut rest = one.payload;

@@ -14,7 +14,7 @@ use crate::places::{MORE_METADATA, check_box, check_top_level, is_of_fragments};
 use crate::top_level::{TopBox, top_boxes};
 use mp4_codec::{BoxType, Error, HEADER_SIZE, is_equal};
 use mp4_source::{ByteSource, SourceCursor, read_into};
-use std::alloc::Global;
+use std::alloc::{AllocError, Global};
 
 /// The only box of a type; `Twice` where there are two.
 pub(crate) fn only_box(boxes: &[TopBox], name: BoxType) -> Result<Option<TopBox>, RemuxError>
@@ -145,9 +145,11 @@ impl Frame {
 
 /// The boxes that stay beside the file type and the movie box: all but those of the data, and where the fragments are
 /// gathered, those that go with them.
-fn others_of(alloc: Global, boxes: &[TopBox], is_gathered: bool) -> Result<Vec<TopBox>, RemuxError>
-    ensures refused { IfErr result (IsRefusalOf ⊥ ⊥) }
-{
+fn others_of(
+    alloc: Global,
+    boxes: &[TopBox],
+    is_gathered: bool,
+) -> Result<Vec<TopBox>, AllocError> {
     let mut others = Vec::new(alloc);
     for one in boxes {
         match one.name {

@@ -26,7 +26,7 @@ use crate::segment_index::check_moved;
 use crate::top_level::{TopBox, top_boxes};
 use mp4_codec::{BoxType, Error, Limit};
 use mp4_source::{ByteSink, ByteSource};
-use std::alloc::Global;
+use std::alloc::{AllocError, Global};
 
 /// Whether no movie box comes after data.
 fn is_in_front(boxes: &[TopBox]) -> bool
@@ -54,10 +54,9 @@ fn front_pieces(
     movie: TopBox,
     movie_len: u64,
     len: u64,
-) -> Result<Vec<Piece>, RemuxError>
+) -> Result<Vec<Piece>, AllocError>
     ensures bytes { IfOk result (λ ps. (source made : List ℕ) → length source ≡ len → length made ≡ movie_len
         → spliced source made ps.items ≡ in_front source file_type movie made) }
-    ensures refused { IfErr result (IsRefusalOf ⊥ ⊥) }
 {
     let mut pieces = Vec::new(alloc);
     let first = file_type.place.min(movie.place);
@@ -73,9 +72,7 @@ fn front_pieces(
 }
 
 /// Where the bytes of the file are by such pieces, in its order.
-fn moves_of(alloc: Global, pieces: &[Piece]) -> Result<Vec<Move>, RemuxError>
-    ensures refused { IfErr result (IsRefusalOf ⊥ ⊥) }
-{
+fn moves_of(alloc: Global, pieces: &[Piece]) -> Result<Vec<Move>, AllocError> {
     let mut moves = Vec::with_capacity(alloc, pieces.len())?;
     for piece in pieces {
         match piece.origin {
@@ -100,10 +97,9 @@ fn plan_front(
     movie: TopBox,
     len: u64,
     tries: usize,
-) -> Result<(Vec<u8>, Vec<Piece>), RemuxError>
+) -> Result<(Vec<u8>, Vec<Piece>), Error>
     ensures bytes { IfOk result (λ x. (source : List ℕ) → length source ≡ len
         → spliced source x.0.items x.1.items ≡ in_front source file_type movie x.0.items) }
-    ensures refused { IfErr result (IsRefusalOf ⊥ ⊥) }
 {
     let edit = MovieEdit::of_offsets(alloc);
     let mut movie_len = movie_bytes.len() as u64;
@@ -120,7 +116,7 @@ fn plan_front(
         }
         movie_len = made.len() as u64;
     }
-    Err(RemuxError::Mp4(Error::TooLarge(Limit::BoxSize)))
+    Err(Error::TooLarge(Limit::BoxSize))
 }
 
 /// The source, and the layout of its file with the movie box in front, of a movie with so many tracks.

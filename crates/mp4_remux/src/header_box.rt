@@ -1,12 +1,10 @@
 //! Headers of a movie, its tracks and their media, with another duration (ISO/IEC 14496-12, 8.2.2, 8.3.2 and 8.4.2).
 
-ghost use Rattle.std.specs.Prelude.{◌≤◌, length, IfErr};
-ghost use Rattle.mp4_remux.specs.Errors.{IsRefusalOf};
+ghost use Rattle.std.specs.Prelude.{◌≤◌, length};
 
 use crate::box_bytes::{BoxBytes, end_box};
-use crate::error::RemuxError;
 use byteorder::{BigEndian, ByteOrder};
-use mp4_codec::{put_u32, put_u64};
+use mp4_codec::{Put, Result, put_u32, put_u64};
 
 /// Adds a header whose duration is this one. Before it the header has its version and flags, two times, and so many
 /// bytes more; version 1 has times and duration of 64 bits, where version 0 has 32, and takes its place where the
@@ -16,9 +14,8 @@ pub(crate) fn put_header(
     more: usize,
     duration: u64,
     out: &mut Vec<u8>,
-) -> Result<(), RemuxError>
+) -> Result<()>
     requires { more ≤ 8 }
-    ensures refused { IfErr result (IsRefusalOf ⊥ ⊥) }
 {
     let start = out.len();
     out.extend_from_slice(one.header)?;
@@ -44,15 +41,13 @@ pub(crate) fn put_header(
 }
 
 /// Adds the fields of version 0 up to the duration as those of version 1, and the duration.
-fn put_long(fields: &[u8], duration: u64, out: &mut Vec<u8>) -> Result<(), RemuxError>
+fn put_long(fields: &[u8], duration: u64, out: &mut Vec<u8>) -> Put
     requires { 12 ≤ length fields.now }
-    ensures refused { IfErr result (IsRefusalOf ⊥ ⊥) }
 {
     out.push(1)?;
     out.extend_from_slice(&fields[1..4])?;
     put_u64(out, u64::from(BigEndian::read_u32(&fields[4..8])))?;
     put_u64(out, u64::from(BigEndian::read_u32(&fields[8..12])))?;
     out.extend_from_slice(&fields[12..])?;
-    put_u64(out, duration)?;
-    Ok(())
+    put_u64(out, duration)
 }

@@ -1,21 +1,18 @@
 //! References that stay, and those that are left out with the tracks that they are to (ISO/IEC 14496-12, 8.3.3).
 
-ghost use Rattle.std.specs.Prelude.{◌≡◌, IfErr, IfOk};
+ghost use Rattle.std.specs.Prelude.{◌≡◌, IfOk};
 ghost use Rattle.std.specs.List.{filter};
 ghost use Rattle.std.specs.List.Sorted.{IsPermutation, IsSorted};
 ghost use Rattle.std.specs.Ordering.{nat_cmp};
-ghost use Rattle.mp4_remux.specs.Errors.{IsRefusalOf};
 ghost use Rattle.mp4_remux.specs.References.{goes, contains_id, leaves_some, stays};
 
-use crate::error::RemuxError;
 use crate::reference::Reference;
-use std::alloc::Global;
+use std::alloc::{AllocError, Global};
 
 /// These ids, the lowest first.
-pub(crate) fn sorted_ids(alloc: Global, ids: &[u32]) -> Result<Vec<u32>, RemuxError>
+pub(crate) fn sorted_ids(alloc: Global, ids: &[u32]) -> Result<Vec<u32>, AllocError>
     ensures same { IfOk result (λ sorted. IsPermutation ids.now sorted.items) }
     ensures sorted { IfOk result (λ sorted. IsSorted nat_cmp sorted.items) }
-    ensures refused { IfErr result (IsRefusalOf ⊥ ⊥) }
 {
     let mut sorted = Vec::with_capacity(alloc, ids.len())?;
     sorted.extend_from_slice(ids)?;
@@ -47,47 +44,39 @@ fn goes(leaves_some: bool, sorted: &[u32], one: Reference) -> bool
     leaves_some && contains_id(sorted, one.track_id) && !contains_id(sorted, one.to)
 }
 
-/// Those of a movie's references that stay where these tracks are kept, the lowest id first, and others may be left
-/// out.
-pub(crate) fn staying(
-    alloc: Global,
-    list: &[Reference],
-    leaves_some: bool,
-    sorted: &[u32],
-) -> Result<Vec<Reference>, RemuxError>
-    requires { IsSorted nat_cmp sorted.now }
-    ensures list { IfOk result (λ stay. stay.items ≡ filter (stays leaves_some sorted.now) list.now) }
-    ensures refused { IfErr result (IsRefusalOf ⊥ ⊥) }
-{
-    let mut staying = Vec::new(alloc);
-    for i in 0..list.len() {
-        let one = list[i];
-        if !stays(leaves_some, sorted, one) {
-            continue;
-        }
-        staying.push(one)?;
-    }
-    Ok(staying)
+/// What becomes of references: those that stay, and those that are left out of the tracks that are kept, each in the
+/// order of the file.
+#[derive(Drop)]
+pub(crate) struct Parted {
+    pub staying: Vec<Reference>,
+    pub left_out: Vec<Reference>,
 }
 
-/// Those that are left out of the tracks that are kept.
-pub(crate) fn left_out(
+/// Parts a movie's references where these tracks are kept, the lowest id first, and others may be left out.
+pub(crate) fn part(
     alloc: Global,
     list: &[Reference],
     leaves_some: bool,
     sorted: &[u32],
-) -> Result<Vec<Reference>, RemuxError>
+) -> Result<Parted, AllocError>
     requires { IsSorted nat_cmp sorted.now }
-    ensures list { IfOk result (λ gone. gone.items ≡ filter (goes leaves_some sorted.now) list.now) }
-    ensures refused { IfErr result (IsRefusalOf ⊥ ⊥) }
+    ensures staying { IfOk result (λ parted. parted.staying.items ≡ filter (stays leaves_some sorted.now) list.now) }
+    ensures left_out { IfOk result (λ parted. parted.left_out.items ≡ filter (goes leaves_some sorted.now) list.now) }
 {
-    let mut left_out = Vec::new(alloc);
+    let mut parted = Parted {
+        staying: Vec::new(alloc),
+        left_out: Vec::new(alloc),
+    };
     for i in 0..list.len() {
         let one = list[i];
+        if stays(leaves_some, sorted, one) {
+            parted.staying.push(one)?;
+            continue;
+        }
         if !goes(leaves_some, sorted, one) {
             continue;
         }
-        left_out.push(one)?;
+        parted.left_out.push(one)?;
     }
-    Ok(left_out)
+    Ok(parted)
 }

@@ -1,16 +1,14 @@
 //! What is made anew in a movie box.
 
-ghost use Rattle.std.specs.Prelude.{◌≡◌, IfErr, IfOk, IsTrue, IsFalse};
-ghost use Rattle.mp4_remux.specs.Errors.{IsRefusalOf};
+ghost use Rattle.std.specs.Prelude.{◌≡◌, IfOk, IsTrue, IsFalse};
 ghost use Rattle.mp4_remux.specs.Headers.{changed_by};
 ghost use Rattle.mp4_remux.specs.Kept.{IsKept, tracks};
 ghost use Rattle.mp4_remux.specs.References.{references_in};
 ghost use Rattle.mp4_remux.specs.declared.made.Made.TheVariants.{Tables};
 
-use crate::error::RemuxError;
 use crate::kept::is_kept;
 use crate::reference::{Reference, are_same, references_in};
-use std::alloc::Global;
+use std::alloc::{AllocError, Global};
 
 /// What is made anew in a movie box.
 #[derive(Clone, Copy, Debug, PartialEq, Eq)]
@@ -87,12 +85,11 @@ pub(crate) struct Keeps<'a> {
 
 impl<'a> Keeps<'a> {
     /// Whether a movie box is as it was, but for what may be other, and has these references.
-    pub fn holds(&self, alloc: Global, before: &[u8], after: &[u8]) -> Result<bool, RemuxError>
+    pub fn holds(&self, alloc: Global, before: &[u8], after: &[u8]) -> Result<bool, AllocError>
         ensures kept { IfOk result (λ holds. IsTrue holds
             → IsKept (changed_by self.now.what) tracks before.now after.now) }
         ensures references { IfOk result (λ holds. IsTrue holds
             → references_in after.now self.now.ids.now ≡ self.now.references.now) }
-        ensures refused { IfErr result (IsRefusalOf ⊥ ⊥) }
     {
         if !self.what.keeps(before, after) {
             return Ok(false);

@@ -1,17 +1,15 @@
 //! A movie box in which tables, durations and tracks are others: all its other bytes stay.
 
-ghost use Rattle.std.specs.Prelude.{◌≤◌, IfErr};
-ghost use Rattle.mp4_remux.specs.Errors.{IsRefusalOf};
+ghost use Rattle.std.specs.Prelude.{◌≤◌};
 
 use crate::box_bytes::{BoxBytes, end_box, first_box};
 use crate::chunk_offsets::put_table;
 use crate::edits::{ShownTime, put_edits};
-use crate::error::RemuxError;
 use crate::header_box::put_header;
 use crate::moves::Moves;
 use crate::references::put_references;
 use crate::track_tables::MadeTables;
-use mp4_codec::BoxType;
+use mp4_codec::{BoxType, Put, Result};
 use std::alloc::Global;
 
 /// `tref`, where the references of a track to others are (8.3.3).
@@ -194,12 +192,9 @@ fn is_table(name: BoxType) -> bool {
 }
 
 /// Adds a box as it is.
-fn put_whole(one: &BoxBytes, out: &mut Vec<u8>) -> Result<(), RemuxError>
-    ensures refused { IfErr result (IsRefusalOf ⊥ ⊥) }
-{
+fn put_whole(one: &BoxBytes, out: &mut Vec<u8>) -> Put {
     out.extend_from_slice(one.header)?;
-    out.extend_from_slice(one.payload)?;
-    Ok(())
+    out.extend_from_slice(one.payload)
 }
 
 /// Adds what becomes of a box that isn't entered.
@@ -209,11 +204,9 @@ fn put_step(
     step: Step,
     moves: &Moves,
     out: &mut Vec<u8>,
-) -> Result<(), RemuxError>
-    ensures refused { IfErr result (IsRefusalOf ⊥ ⊥) }
-{
+) -> Result<()> {
     match step {
-        Step::Keep | Step::Enter => put_whole(one, out),
+        Step::Keep | Step::Enter => Ok(put_whole(one, out)?),
         Step::Drop => Ok(()),
         Step::Offsets => put_table(one, moves, out),
         Step::Header(duration) => put_header(one, 4, duration, out),
@@ -238,9 +231,8 @@ fn put_boxes(
     edit: &MovieEdit,
     moves: &Moves,
     out: &mut Vec<u8>,
-) -> Result<(), RemuxError>
+) -> Result<()>
     requires { level ≤ 5 }
-    ensures refused { IfErr result (IsRefusalOf ⊥ ⊥) }
 {
     let mut rest = bytes;
     let mut track = track;
@@ -269,9 +261,7 @@ pub(crate) fn edited(
     movie: &[u8],
     edit: &MovieEdit,
     moves: &Moves,
-) -> Result<Vec<u8>, RemuxError>
-    ensures refused { IfErr result (IsRefusalOf ⊥ ⊥) }
-{
+) -> Result<Vec<u8>> {
     let mut out = Vec::with_capacity(alloc, movie.len())?;
     put_boxes(alloc, movie, 0, 0, edit, moves, &mut out)?;
     Ok(out)

@@ -1,23 +1,16 @@
 //! Pieces of a layout, one after the other.
 
-ghost use Rattle.std.specs.Prelude.{◌≡◌, ◌++◌, ℕ, List, IfErr, OnOk};
+ghost use Rattle.std.specs.Prelude.{◌≡◌, ◌++◌, ℕ, List, OnOk};
 ghost use Rattle.mp4_media.specs.FileGrammar.{between};
-ghost use Rattle.mp4_remux.specs.Errors.{IsRefusalOf};
 ghost use Rattle.mp4_remux.specs.Splice.{of_origin, spliced};
 
-use crate::error::RemuxError;
 use crate::piece::{Origin, Piece};
+use mp4_codec::Put;
 
 /// Adds bytes after those of the pieces before; none where there are none.
-pub(crate) fn push_piece(
-    pieces: &mut Vec<Piece>,
-    origin: Origin,
-    place: u64,
-    end: u64,
-) -> Result<(), RemuxError>
+pub(crate) fn push_piece(pieces: &mut Vec<Piece>, origin: Origin, place: u64, end: u64) -> Put
     ensures bytes { OnOk result ((source made : List ℕ) → spliced source made pieces.new.items
         ≡ spliced source made pieces.old.items ++ between (of_origin origin source made) place end) }
-    ensures refused { IfErr result (IsRefusalOf ⊥ ⊥) }
 {
     if end <= place {
         return Ok(());

@@ -14,7 +14,7 @@ ghost use Rattle.mp4_remux.specs.References.{references_in};
 ghost use Rattle.mp4_remux.specs.declared.made.Made.TheVariants.{Tables};
 ghost use Rattle.mp4_remux.specs.Splice.{spliced};
 ghost use Rattle.mp4_source.specs.Answers.{IsLength};
-ghost use Rattle.mp4_remux.specs.Errors.{IsNamed, IsRefusalOf, MayRefuse, SaysFault, TakesMemory};
+ghost use Rattle.mp4_remux.specs.Errors.{IsNamed, IsRefusalOf, MayRefuse, SaysFault, SaysMissing, TakesMemory};
 
 use crate::chosen::{all_ids, kept_ids};
 use crate::copy::copy_all;
@@ -23,7 +23,7 @@ use crate::edits::shown_time;
 use crate::error::RemuxError;
 use crate::frame::{Frame, read_frame};
 use crate::layout::Layout;
-use crate::left_out::{left_out, sorted_ids, staying};
+use crate::left_out::{Parted, part, sorted_ids};
 use crate::made::{Keeps, Made};
 use crate::moves::{Move, Moves};
 use crate::movie_box::{MadeTrack, MovieEdit, TrackEdit, edited};
@@ -35,10 +35,10 @@ use crate::same::most_samples;
 use crate::top_level::TopBox;
 use crate::track_tables::tables_of;
 use mp4_boxes::TrakBox;
-use mp4_codec::{BoxType, Error, HEADER_SIZE, Limit, put_u32, put_u64};
+use mp4_codec::{BoxType, Error, HEADER_SIZE, Limit, Put, put_u32, put_u64};
 use mp4_media::Movie;
 use mp4_source::{ByteSink, ByteSource};
-use std::alloc::Global;
+use std::alloc::{AllocError, Global};
 
 /// Whether samples of the movie are or may be in fragments.
 fn has_fragments(movie: &Movie) -> bool
@@ -122,9 +122,7 @@ fn edit_of(
 }
 
 /// The header of a box of so much data; none where there is no data (ISO/IEC 14496-12, 4.2 and 8.1.1).
-fn data_header(alloc: Global, len: u64) -> Result<Vec<u8>, RemuxError>
-    ensures refused { IfErr result (IsRefusalOf ⊥ ⊥) }
-{
+fn data_header(alloc: Global, len: u64) -> Result<Vec<u8>, AllocError> {
     let mut header = Vec::new(alloc);
     if len == 0 {
         return Ok(header);
@@ -153,10 +151,9 @@ fn len_of(extents: &[Extent]) -> u64 {
 }
 
 /// Adds the bytes of these boxes of the file.
-fn push_boxes(pieces: &mut Vec<Piece>, boxes: &[TopBox]) -> Result<(), RemuxError>
+fn push_boxes(pieces: &mut Vec<Piece>, boxes: &[TopBox]) -> Put
     ensures more { OnOk result ((source made : List ℕ) → (more : List ℕ)
         × (spliced source made pieces.new.items ≡ spliced source made pieces.old.items ++ more)) }
-    ensures refused { IfErr result (IsRefusalOf ⊥ ⊥) }
 {
     for i in 0..boxes.len() {
         push_piece(pieces, Origin::Kept, boxes[i].place, boxes[i].end)?;
@@ -165,10 +162,9 @@ fn push_boxes(pieces: &mut Vec<Piece>, boxes: &[TopBox]) -> Result<(), RemuxErro
 }
 
 /// Adds these bytes of the file.
-fn push_extents(pieces: &mut Vec<Piece>, extents: &[Extent]) -> Result<(), RemuxError>
+fn push_extents(pieces: &mut Vec<Piece>, extents: &[Extent]) -> Put
     ensures more { OnOk result ((source made : List ℕ) → (more : List ℕ)
         × (spliced source made pieces.new.items ≡ spliced source made pieces.old.items ++ more)) }
-    ensures refused { IfErr result (IsRefusalOf ⊥ ⊥) }
 {
     for i in 0..extents.len() {
         push_piece(pieces, Origin::Kept, extents[i].place, extents[i].end)?;
@@ -184,10 +180,9 @@ fn data_pieces(
     movie_len: u64,
     made_len: u64,
     extents: &[Extent],
-) -> Result<Vec<Piece>, RemuxError>
+) -> Result<Vec<Piece>, AllocError>
     ensures bytes { IfOk result (λ ps. (source made : List ℕ) → (rest : List ℕ) × (spliced source made ps.items
         ≡ between source frame.now.file_type.place frame.now.file_type.end ++ (between made 0 movie_len ++ rest))) }
-    ensures refused { IfErr result (IsRefusalOf ⊥ ⊥) }
 {
     let mut pieces = Vec::new(alloc);
     let file_type = frame.file_type;
@@ -315,8 +310,7 @@ fn write_chosen<S: ByteSource + Drop, K: ByteSink>(
     let references = references_in(alloc, &frame.movie_bytes, all)?;
     let sorted = sorted_ids(alloc, ids)?;
     let leaves_some = ids.len() < all.len();
-    let staying = staying(alloc, &references, leaves_some, &sorted)?;
-    let left_out = left_out(alloc, &references, leaves_some, &sorted)?;
+    let Parted { staying, left_out } = part(alloc, &references, leaves_some, &sorted)?;
     drop(references);
     let keeps = Keeps {
         what: made_of(movie),
@@ -401,6 +395,7 @@ pub fn choose<S: ByteSource + Drop, K: ByteSink>(
 ) -> Result<Vec<Reference>, RemuxError>
     ensures written { IfOk result (λ gone. IfSome (S.contents source) (λ xs.
         WritesChosen xs ids.now gone.items (K.contents sink.old) (K.contents sink.new))) }
+    ensures missing { SaysMissing (S.contents source) (S.can_refuse source) ids.now result }
     ensures flushed { OnOk result (K.waiting sink.new ≡ 0) }
     ensures kept { IfErr result (λ e. IsNamed e → K.contents sink.new ≡ K.contents sink.old) }
     ensures len { IfErr result (λ e. IsNamed e → K.len sink.new ≡ K.len sink.old) }

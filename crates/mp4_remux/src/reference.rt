@@ -1,17 +1,15 @@
 //! The references of a movie's tracks to others (ISO/IEC 14496-12, 8.3.3).
 
-ghost use Rattle.std.specs.Prelude.{◌≡◌, ◌++◌, IfErr, IfOk, IsTrue, OnOk};
+ghost use Rattle.std.specs.Prelude.{◌≡◌, ◌++◌, IfOk, IsTrue, OnOk};
 ghost use Rattle.mp4_codec.specs.ExactTest.{by_law, by_test, field_tests};
 ghost use Rattle.mp4_codec.specs.contracts.box_type.BoxTypeExactEq.TheImpl.Laws.{lawful as box_type_laws};
-ghost use Rattle.mp4_remux.specs.Errors.{IsRefusalOf};
 ghost use Rattle.mp4_remux.specs.References.{of_box, of_kind, of_track, references_in};
 
 use crate::box_bytes::{BoxBytes, first_box};
-use crate::error::RemuxError;
 use crate::movie_box::REFERENCES;
 use byteorder::{BigEndian, ByteOrder};
-use mp4_codec::{BoxType, ExactEq, is_equal};
-use std::alloc::Global;
+use mp4_codec::{BoxType, ExactEq, Put, is_equal};
+use std::alloc::{AllocError, Global};
 
 /// A reference of a track to another.
 #[derive(Clone, Copy, Debug, Drop, PartialEq, Eq)]
@@ -29,10 +27,9 @@ impl ExactEq for Reference {
 }
 
 /// Adds a track's references of one type.
-fn add_kind(track_id: u32, one: &BoxBytes, list: &mut Vec<Reference>) -> Result<(), RemuxError>
+fn add_kind(track_id: u32, one: &BoxBytes, list: &mut Vec<Reference>) -> Put
     ensures more { OnOk result (list.new.items
         ≡ list.old.items ++ of_kind track_id one.now.name one.now.payload.now) }
-    ensures refused { IfErr result (IsRefusalOf ⊥ ⊥) }
 {
     let kind = one.name;
     let mut rest = one.payload;
@@ -45,10 +42,9 @@ fn add_kind(track_id: u32, one: &BoxBytes, list: &mut Vec<Reference>) -> Result<
 }
 
 /// Adds a track's references that are in a box of it.
-fn add_box(track_id: u32, one: &BoxBytes, list: &mut Vec<Reference>) -> Result<(), RemuxError>
+fn add_box(track_id: u32, one: &BoxBytes, list: &mut Vec<Reference>) -> Put
     ensures more { OnOk result (list.new.items
         ≡ list.old.items ++ of_box track_id one.now.name one.now.payload.now) }
-    ensures refused { IfErr result (IsRefusalOf ⊥ ⊥) }
 {
     if u32::from(one.name) != REFERENCES {
         return Ok(());
@@ -62,9 +58,8 @@ fn add_box(track_id: u32, one: &BoxBytes, list: &mut Vec<Reference>) -> Result<(
 }
 
 /// Adds a track's references, of which this is the payload.
-fn add_track(track_id: u32, track: &[u8], list: &mut Vec<Reference>) -> Result<(), RemuxError>
+fn add_track(track_id: u32, track: &[u8], list: &mut Vec<Reference>) -> Put
     ensures more { OnOk result (list.new.items ≡ list.old.items ++ of_track track_id track.now) }
-    ensures refused { IfErr result (IsRefusalOf ⊥ ⊥) }
 {
     let mut rest = track;
     while let Some(one) = first_box(rest) {
@@ -79,9 +74,8 @@ pub(crate) fn references_in(
     alloc: Global,
     movie: &[u8],
     ids: &[u32],
-) -> Result<Vec<Reference>, RemuxError>
+) -> Result<Vec<Reference>, AllocError>
     ensures list { IfOk result (λ list. list.items ≡ references_in movie.now ids.now) }
-    ensures refused { IfErr result (IsRefusalOf ⊥ ⊥) }
 {
     let mut list = Vec::new(alloc);
     let Some(movie) = first_box(movie) else {

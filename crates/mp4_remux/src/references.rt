@@ -1,11 +1,8 @@
 //! References of a track that are written without those to tracks that are left out (ISO/IEC 14496-12, 8.3.3).
 
-ghost use Rattle.std.specs.Prelude.{IfErr};
-ghost use Rattle.mp4_remux.specs.Errors.{IsRefusalOf};
-
 use crate::box_bytes::{BoxBytes, end_box, first_box};
-use crate::error::RemuxError;
 use byteorder::{BigEndian, ByteOrder};
+use mp4_codec::Result;
 
 /// Whether a reference, of four bytes, is to one of these tracks, the lowest id of which is first.
 fn is_to(reference: &[u8], ids: &[u32]) -> bool {
@@ -13,9 +10,7 @@ fn is_to(reference: &[u8], ids: &[u32]) -> bool {
 }
 
 /// Adds the references of one type that are to one of these tracks; nothing where none is.
-fn put_kind(kind: &BoxBytes, ids: &[u32], out: &mut Vec<u8>) -> Result<(), RemuxError>
-    ensures refused { IfErr result (IsRefusalOf ⊥ ⊥) }
-{
+fn put_kind(kind: &BoxBytes, ids: &[u32], out: &mut Vec<u8>) -> Result<()> {
     let start = out.len();
     out.extend_from_slice(kind.header)?;
     let begin = out.len();
@@ -33,13 +28,7 @@ fn put_kind(kind: &BoxBytes, ids: &[u32], out: &mut Vec<u8>) -> Result<(), Remux
 
 /// Adds a `tref` with the references that are to one of these tracks, the lowest id of which is first; nothing where
 /// none is.
-pub(crate) fn put_references(
-    one: &BoxBytes,
-    ids: &[u32],
-    out: &mut Vec<u8>,
-) -> Result<(), RemuxError>
-    ensures refused { IfErr result (IsRefusalOf ⊥ ⊥) }
-{
+pub(crate) fn put_references(one: &BoxBytes, ids: &[u32], out: &mut Vec<u8>) -> Result<()> {
     let start = out.len();
     out.extend_from_slice(one.header)?;
     let begin = out.len();

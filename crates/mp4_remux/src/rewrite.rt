@@ -8,11 +8,12 @@ ghost use Rattle.mp4_media.specs.FileGrammar.{IsFile, IsFaultyFile};
 ghost use Rattle.mp4_media.specs.MovieTracks.{AreTracks};
 ghost use Rattle.mp4_codec.specs.Cause.{Cause};
 ghost use Rattle.mp4_codec.specs.Cursor.{here};
-ghost use Rattle.mp4_remux.specs.Errors.{GivesCause, IsNamed, IsRefusalOf, MayRefuse, SaysFault, TakesMemory};
+ghost use Rattle.mp4_remux.specs.Errors.{GivesCause, IsCause, IsNamed, IsNoFault, IsRefusalOf, MayRefuse};
+ghost use Rattle.mp4_remux.specs.Errors.{SaysFault, TakesMemory};
 ghost use Rattle.mp4_remux.specs.declared.error.RemuxError.TheVariants.{Mp4};
 ghost use Rattle.mp4_codec.specs.declared.error.Error.TheVariants.{OutOfMemory};
 ghost use Rattle.mp4_source.specs.Source.{HasPart};
-ghost use Rattle.mp4_remux.specs.Remuxed.{IsOnlyFile, WritesRemuxed};
+ghost use Rattle.mp4_remux.specs.Remuxed.{IsNoFile, IsOnlyFile, WritesRemuxed};
 ghost use Rattle.mp4_remux.specs.Splice.{spliced};
 
 use crate::copy::copy_all;
@@ -44,6 +45,8 @@ pub(crate) fn open_whole<S: ByteSource + Drop>(
         (opened : OpenedFile) → IsFile len (here xs 0) opened → ⊥)) }
     ensures only { IfOk result (λ x. IfSome (S.contents source) (λ xs.
         (opened : OpenedFile) → IsFile len (here xs 0) opened → opened_movie x.1 ≡ opened)) }
+    ensures no_fault { IfErr result (λ e. IfSome (S.contents source) (λ xs.
+        (opened : OpenedFile) → IsFile len (here xs 0) opened → (c : Cause) → IsCause (S.can_refuse source) c e)) }
     ensures memory { IfErr result (λ e. e ≡ Mp4 OutOfMemory → 8 ≤ len) }
     ensures room { OnOk result (IfSome (S.contents source) (λ _. 8 ≤ len)) }
 {
@@ -64,9 +67,9 @@ pub(crate) fn open_source<S: ByteSource + Drop>(
     ensures can_refuse { IfOk result (λ x. S.can_refuse x.0 ≡ S.can_refuse source) }
     ensures refused { IfErr result (IsRefusalOf (MayRefuse (S.contents source) (S.can_refuse source)) ⊥) }
     ensures fault { SaysFault (S.contents source) (S.can_refuse source) result }
-    ensures opens { IfErr result (λ e. IsNamed e → IfSome (S.contents source) (λ xs.
-        (opened : OpenedFile) → IsFile (length xs) (here xs 0) opened → ⊥)) }
+    ensures opens { IfErr result (λ e. IsNamed e → IsNoFile (S.contents source)) }
     ensures only { IfOk result (λ x. IsOnlyFile (S.contents source) (opened_movie x.2)) }
+    ensures no_fault { IfErr result (IsNoFault (S.contents source) (S.can_refuse source)) }
     ensures memory { TakesMemory (S.contents source) result }
     ensures room { OnOk result (HasPart (S.contents source) 0 8) }
 {

@@ -85,16 +85,14 @@ pub(crate) fn place_of_any(
     movie: &Movie,
     track_id: u32,
     k: u32,
-) -> Result<Option<SamplePlace>, RemuxError>
-    ensures refused { IfErr result (IsRefusalOf ⊥ ⊥) }
-{
+) -> mp4_media::Result<Option<SamplePlace>> {
     let place = movie.place(track_id, k);
     if let Err(_) = place {
         if k == 1 && movie.sample_count(track_id)? == 0 {
             return Ok(None);
         }
     }
-    Ok(place?)
+    place
 }
 
 /// A track that is the same before and after.

@@ -9,7 +9,7 @@ use crate::moves::Moves;
 use crate::same::place_of_any;
 use crate::shown::shown_end;
 use mp4_boxes::MoovBox;
-use mp4_codec::{SharedItems, WriteBox};
+use mp4_codec::{Error, Put, SharedItems, WriteBox};
 use mp4_media::{Movie, SamplePlace};
 use mp4_table::{
     Co64Box, CttsBox, CttsEntry, StcoBox, StscBox, StscEntry, StssBox, StszBox, SttsBox, SttsEntry,
@@ -67,15 +67,7 @@ impl SampleTables {
     }
 
     /// Adds sample `k`, the one after those that are there, whose data begins at this place.
-    fn push(
-        &mut self,
-        k: u32,
-        sample: &SamplePlace,
-        place: u64,
-        description: u32,
-    ) -> Result<(), RemuxError>
-        ensures refused { IfErr result (IsRefusalOf ⊥ ⊥) }
-    {
+    fn push(&mut self, k: u32, sample: &SamplePlace, place: u64, description: u32) -> Put {
         push_duration(&mut self.durations, sample.duration)?;
         push_offset(&mut self.rendering_offsets, sample.rendering_offset)?;
         self.sizes.push(sample.size)?;
@@ -91,9 +83,7 @@ impl SampleTables {
     }
 
     /// The bytes of the boxes.
-    fn into_bytes(self, alloc: Global) -> Result<MadeTables, RemuxError>
-        ensures refused { IfErr result (IsRefusalOf ⊥ ⊥) }
-    {
+    fn into_bytes(self, alloc: Global) -> Result<MadeTables, Error> {
         let SampleTables {
             durations,
             rendering_offsets,
@@ -119,9 +109,7 @@ impl SampleTables {
 }
 
 /// Counts a sample that lasts so long.
-fn push_duration(entries: &mut Vec<SttsEntry>, duration: u32) -> Result<(), RemuxError>
-    ensures refused { IfErr result (IsRefusalOf ⊥ ⊥) }
-{
+fn push_duration(entries: &mut Vec<SttsEntry>, duration: u32) -> Put {
     let mut next = SttsEntry {
         sample_count: 1,
         sample_delta: duration,
@@ -138,9 +126,7 @@ fn push_duration(entries: &mut Vec<SttsEntry>, duration: u32) -> Result<(), Remu
 }
 
 /// Counts a sample that is shown so much later than it is decoded.
-fn push_offset(entries: &mut Vec<CttsEntry>, offset: i32) -> Result<(), RemuxError>
-    ensures refused { IfErr result (IsRefusalOf ⊥ ⊥) }
-{
+fn push_offset(entries: &mut Vec<CttsEntry>, offset: i32) -> Put {
     let mut next = CttsEntry {
         sample_count: 1,
         sample_offset: offset,
@@ -157,14 +143,7 @@ fn push_offset(entries: &mut Vec<CttsEntry>, offset: i32) -> Result<(), RemuxErr
 }
 
 /// Counts a sample in the last chunk, or in one of its own, where that has to begin or its description is another.
-fn push_chunk(
-    chunks: &mut Vec<Chunk>,
-    place: u64,
-    begins: bool,
-    description: u32,
-) -> Result<(), RemuxError>
-    ensures refused { IfErr result (IsRefusalOf ⊥ ⊥) }
-{
+fn push_chunk(chunks: &mut Vec<Chunk>, place: u64, begins: bool, description: u32) -> Put {
     let mut next = Chunk {
         place,
         count: 1,
@@ -183,9 +162,7 @@ fn push_chunk(
 }
 
 /// Adds an `stts` (8.6.1.2).
-fn put_durations(entries: Vec<SttsEntry>, out: &mut Vec<u8>) -> Result<(), RemuxError>
-    ensures refused { IfErr result (IsRefusalOf ⊥ ⊥) }
-{
+fn put_durations(entries: Vec<SttsEntry>, out: &mut Vec<u8>) -> Result<(), Error> {
     let table = SttsBox {
         version: 0,
         flags: 0,
@@ -196,9 +173,7 @@ fn put_durations(entries: Vec<SttsEntry>, out: &mut Vec<u8>) -> Result<(), Remux
 }
 
 /// Adds a `ctts` (8.6.1.3), where a sample is shown later or earlier than it is decoded.
-fn put_rendering_offsets(entries: Vec<CttsEntry>, out: &mut Vec<u8>) -> Result<(), RemuxError>
-    ensures refused { IfErr result (IsRefusalOf ⊥ ⊥) }
-{
+fn put_rendering_offsets(entries: Vec<CttsEntry>, out: &mut Vec<u8>) -> Result<(), Error> {
     if entries.iter().all(|entry| entry.sample_offset == 0) {
         return Ok(());
     }
@@ -213,9 +188,7 @@ fn put_rendering_offsets(entries: Vec<CttsEntry>, out: &mut Vec<u8>) -> Result<(
 }
 
 /// Adds an `stss` (8.6.2), where not all of the `count` samples are sync samples.
-fn put_sync_samples(numbers: Vec<u32>, count: usize, out: &mut Vec<u8>) -> Result<(), RemuxError>
-    ensures refused { IfErr result (IsRefusalOf ⊥ ⊥) }
-{
+fn put_sync_samples(numbers: Vec<u32>, count: usize, out: &mut Vec<u8>) -> Result<(), Error> {
     if numbers.len() == count {
         return Ok(());
     }
@@ -229,9 +202,7 @@ fn put_sync_samples(numbers: Vec<u32>, count: usize, out: &mut Vec<u8>) -> Resul
 }
 
 /// Adds an `stsc` (8.7.4).
-fn put_chunks(alloc: Global, chunks: &[Chunk], out: &mut Vec<u8>) -> Result<(), RemuxError>
-    ensures refused { IfErr result (IsRefusalOf ⊥ ⊥) }
-{
+fn put_chunks(alloc: Global, chunks: &[Chunk], out: &mut Vec<u8>) -> Result<(), Error> {
     let mut entries = Vec::new(alloc);
     let mut before = (0, 0);
     let mut first_chunk: u32 = 1;
@@ -257,9 +228,7 @@ fn put_chunks(alloc: Global, chunks: &[Chunk], out: &mut Vec<u8>) -> Result<(), 
 }
 
 /// Adds an `stsz` (8.7.3.2).
-fn put_sizes(alloc: Global, sizes: Vec<u32>, out: &mut Vec<u8>) -> Result<(), RemuxError>
-    ensures refused { IfErr result (IsRefusalOf ⊥ ⊥) }
-{
+fn put_sizes(alloc: Global, sizes: Vec<u32>, out: &mut Vec<u8>) -> Result<(), Error> {
     let sample_count = u32::try_from(sizes.len()).unwrap_or(u32::MAX);
     let first = sizes.first().copied().unwrap_or(0);
     let is_one = first != 0 && sizes.iter().all(|size| *size == first);
@@ -278,9 +247,7 @@ fn put_sizes(alloc: Global, sizes: Vec<u32>, out: &mut Vec<u8>) -> Result<(), Re
 impl MadeTables {
     /// Adds an `stco` of the chunks, or a `co64` where one begins past 32 bits, where the data begins at this place
     /// (8.7.5).
-    pub fn put_offsets(&self, alloc: Global, base: u64, out: &mut Vec<u8>) -> Result<(), RemuxError>
-        ensures refused { IfErr result (IsRefusalOf ⊥ ⊥) }
-    {
+    pub fn put_offsets(&self, alloc: Global, base: u64, out: &mut Vec<u8>) -> Result<(), Error> {
         let mut near = Vec::with_capacity(alloc, self.chunks.len())?;
         let mut far = Vec::new(alloc);
         for chunk in self.chunks.as_slice() {
@@ -331,7 +298,7 @@ pub(crate) fn tables_of(
     let mut k = 0;
     while k <= most {
         let Some(sample) = place_of_any(movie, track_id, k + 1)? else {
-            return tables.into_bytes(alloc);
+            return Ok(tables.into_bytes(alloc)?);
         };
         k += 1;
         if sample.start_time != tables.duration {

@@ -194,8 +194,8 @@ fn with_path<S: ByteSource + Drop>(alloc: Global, source: S, error: RemuxError) 
 }
 
 /// A fault of a source: with the place where its file is broken that doesn't open, with the path of the box that keeps
-/// it from being rewritten, and with the tracks that it has where one isn't there. As it was where these aren't found, or
-/// memory runs out or the source refuses meanwhile.
+/// it from being rewritten, and with the tracks that it has where one isn't there. As it was where these aren't found,
+/// or memory runs out or the source refuses meanwhile.
 fn with_words<S: ByteSource + Drop>(alloc: Global, source: S, fault: Fault) -> Fault {
     match fault {
         Fault::Movie(Error::OutOfMemory) => fault,

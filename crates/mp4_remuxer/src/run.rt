@@ -5,8 +5,9 @@ use crate::faults::{Fault, Subject};
 use crate::remux::{Host, Written, remux};
 use crate::request::Request;
 use mp4_remux::Reference;
+use std::alloc::Global;
 use std::io;
-use std::io::Write;
+use std::io::{BufWriter, Write};
 use std::rt::Files;
 
 /// The status of a run that succeeded.
@@ -46,31 +47,49 @@ fn print_unclear<O: Write, E: Write>(
     Ok(SUCCESS)
 }
 
-/// Prints a line for each reference that is left out.
-fn print_left_out<E: Write>(
+/// Writes a line for each reference that is left out.
+fn write_left_out<W: Write>(
     request: &Request,
     left_out: &[Reference],
-    err: &mut E,
+    out: &mut W,
 ) -> io::Result<()> {
     let name = request.name_of(Subject::Read);
     for one in left_out {
         let Reference { track_id, kind, to } = one;
         writeln!(
-            err,
+            out,
             "mp4_remux: {name}: track {track_id}'s reference {kind} to track {to} is left out"
         )?;
     }
     Ok(())
 }
 
+/// Prints a line for each reference that is left out: many at once, where there is memory for it.
+fn print_left_out<E: Write>(
+    alloc: Global,
+    request: &Request,
+    left_out: &[Reference],
+    err: &mut E,
+) -> io::Result<()> {
+    if left_out.is_empty() {
+        return Ok(());
+    }
+    if let Ok(mut lines) = BufWriter::new(alloc, &mut *err) {
+        write_left_out(request, left_out, &mut lines)?;
+        return lines.flush();
+    }
+    write_left_out(request, left_out, err)
+}
+
 /// Prints what is left out, and how many bytes were written, unless they were printed.
 fn print_written<O: Write, E: Write>(
+    alloc: Global,
     request: &Request,
     written: &Written,
     out: &mut O,
     err: &mut E,
 ) -> io::Result<u8> {
-    print_left_out(request, written.left_out.as_slice(), err)?;
+    print_left_out(alloc, request, written.left_out.as_slice(), err)?;
     if !request.is_printed() {
         let len = written.len;
         writeln!(out, "wrote {len} bytes")?;
@@ -91,7 +110,7 @@ pub fn run_words<R: Files, O: Write, E: Write>(
 ) -> io::Result<u8> {
     match request_in(host.alloc, words) {
         Ok(request) => match remux(host, &request, out) {
-            Ok(written) => print_written(&request, &written, out, err),
+            Ok(written) => print_written(host.alloc, &request, &written, out, err),
             Err(fault) => print_fault(&request, &fault, err),
         },
         Err(unclear) => print_unclear(&unclear, out, err),

@@ -4,7 +4,7 @@ use crate::extracted::{Asked, extracted, extracted_into, format_of, texts};
 use crate::files::number;
 use mp4_box_report::{BoxesError, BoxesRequest, why_of, write_boxes};
 use mp4_cases::refusals::refusal;
-use mp4_extract::SubtitleTimes;
+use mp4_extract::{SampleFormat, SubtitleTimes};
 use mp4_media::{Error, FileError, Mp4File};
 use mp4_readable::{DecimalTime, Grouped, TickClock, json_text};
 use mp4_report::{
@@ -157,70 +157,98 @@ fn ticks(alloc: Global, time: &str, timescale: &str) -> Answer {
     }
 }
 
-/// What is extracted of a track, in words; `None` where the words are no question for that.
-fn extracted_by_words(alloc: Global, bytes: &[u8], words: &[&str]) -> Option<Answer> {
-    match words {
-        ["extract", format, track] => {
-            let asked = Asked {
-                track: *track,
-                from: 1,
-                count: u32::MAX,
-            };
-            Some(extracted(alloc, bytes, asked, format_of(*format)))
-        }
-        ["extract", format, track, "from", from, "count", count] => {
-            let asked = Asked {
-                track: *track,
-                from: number(*from),
-                count: number(*count),
-            };
-            Some(extracted(alloc, bytes, asked, format_of(*format)))
-        }
-        ["extract", format, track, "into", room, "bytes"] => {
-            let room = number(*room) as usize;
-            Some(extracted_into(alloc, bytes, number(*track), format_of(*format), room))
-        }
-        ["subtitles", track] => Some(texts(alloc, bytes, *track, false, SubtitleTimes::Shown)),
-        ["subtitles", track, "srt"] => {
-            Some(texts(alloc, bytes, *track, true, SubtitleTimes::Shown))
-        }
-        ["subtitles", track, "decoded"] => {
-            Some(texts(alloc, bytes, *track, false, SubtitleTimes::Decoded))
-        }
+/// The form of a report whose question has these words after its name; `None` where they are others.
+fn form_of(more: &[&str]) -> Option<&'static str> {
+    match more {
+        [] => Some("text"),
+        ["json"] => Some("json"),
         _ => None,
     }
 }
 
-/// What the file of these bytes answers to the words of a question; `None` where they are no question.
-fn answer_of_words(alloc: Global, bytes: &[u8], words: &[&str]) -> Option<Answer> {
-    match words {
-        ["boxes"] => Some(boxes(alloc, bytes, None, false, "text")),
-        ["boxes", "all"] => Some(boxes(alloc, bytes, None, true, "text")),
-        ["boxes", "to", depth] => Some(boxes(alloc, bytes, Some(number(depth)), false, "text")),
-        ["boxes", "json"] => Some(boxes(alloc, bytes, None, false, "json")),
-        ["tracks"] => Some(tracks(alloc, bytes, "text")),
-        ["tracks", "json"] => Some(tracks(alloc, bytes, "json")),
-        ["metadata"] => Some(metadata(alloc, bytes, "text")),
-        ["metadata", "json"] => Some(metadata(alloc, bytes, "json")),
-        ["why"] => Some(why(alloc, bytes)),
-        ["past", "the", "end"] => Some(past_end(alloc, bytes)),
-        ["grouped", number] => Some(grouped(alloc, number)),
-        ["clock", ticks, "of", timescale] => Some(clock(alloc, ticks, timescale)),
-        ["ticks", "of", time, "of", timescale] => Some(ticks(alloc, time, timescale)),
-        ["samples", track] => {
-            Some(samples(alloc, bytes, track, First::Number(1), u32::MAX, "text"))
-        }
-        ["samples", track, "json"] => {
-            Some(samples(alloc, bytes, track, First::Number(1), u32::MAX, "json"))
-        }
-        ["samples", track, "from", from, "count", count] => {
+/// The boxes of the file of these bytes, by the words after `boxes`; `None` where they are no question.
+fn boxes_by_words(alloc: Global, bytes: &[u8], more: &[&str]) -> Option<Answer> {
+    match more {
+        ["all"] => Some(boxes(alloc, bytes, None, true, "text")),
+        ["to", depth] => Some(boxes(alloc, bytes, Some(number(depth)), false, "text")),
+        _ => Some(boxes(alloc, bytes, None, false, form_of(more)?)),
+    }
+}
+
+/// The samples of a track, by the words after its id; `None` where they are no question.
+fn samples_by_words(alloc: Global, bytes: &[u8], track: &str, more: &[&str]) -> Option<Answer> {
+    match more {
+        ["from", from, "count", count] => {
             let first = First::Number(number(from));
             Some(samples(alloc, bytes, track, first, number(count), "text"))
         }
-        ["samples", track, "at", seconds, "count", count] => {
-            Some(samples_at(alloc, bytes, track, seconds, count))
+        ["at", seconds, "count", count] => Some(samples_at(alloc, bytes, track, seconds, count)),
+        _ => {
+            let form = form_of(more)?;
+            Some(samples(alloc, bytes, track, First::Number(1), u32::MAX, form))
         }
-        _ => extracted_by_words(alloc, bytes, words),
+    }
+}
+
+/// What is extracted of a track, by the words after its id; `None` where they are no question.
+fn extracted_by_words(
+    alloc: Global,
+    bytes: &[u8],
+    format: SampleFormat,
+    track: &str,
+    more: &[&str],
+) -> Option<Answer> {
+    let (from, count) = match more {
+        [] => (1, u32::MAX),
+        ["from", from, "count", count] => (number(from), number(count)),
+        ["into", room, "bytes"] => {
+            let room = number(room) as usize;
+            return Some(extracted_into(alloc, bytes, number(track), format, room));
+        }
+        _ => return None,
+    };
+    let asked = Asked { track, from, count };
+    Some(extracted(alloc, bytes, asked, format))
+}
+
+/// The texts of a track, by the words after its id; `None` where they are no question.
+fn texts_by_words(alloc: Global, bytes: &[u8], track: &str, more: &[&str]) -> Option<Answer> {
+    let (srt, times) = match more {
+        [] => (false, SubtitleTimes::Shown),
+        ["srt"] => (true, SubtitleTimes::Shown),
+        ["decoded"] => (false, SubtitleTimes::Decoded),
+        _ => return None,
+    };
+    Some(texts(alloc, bytes, track, srt, times))
+}
+
+/// How a number or a time is shown, or what is in front of the end of a file, by the words of a question; `None` where
+/// they are none.
+fn shown_by_words(alloc: Global, bytes: &[u8], name: &str, more: &[&str]) -> Option<Answer> {
+    match (name, more) {
+        ("grouped", [number]) => Some(grouped(alloc, number)),
+        ("clock", [ticks, "of", timescale]) => Some(clock(alloc, ticks, timescale)),
+        ("ticks", ["of", time, "of", timescale]) => Some(ticks(alloc, time, timescale)),
+        ("past", ["the", "end"]) => Some(past_end(alloc, bytes)),
+        _ => None,
+    }
+}
+
+/// What the file of these bytes answers to the words of a question; `None` where they are no question. The first word
+/// says which it is: a pattern of several words for each would be proved at every one of them.
+fn answer_of_words(alloc: Global, bytes: &[u8], words: &[&str]) -> Option<Answer> {
+    let (name, more) = words.split_first()?;
+    match (*name, more) {
+        ("boxes", _) => boxes_by_words(alloc, bytes, more),
+        ("tracks", _) => Some(tracks(alloc, bytes, form_of(more)?)),
+        ("metadata", _) => Some(metadata(alloc, bytes, form_of(more)?)),
+        ("why", []) => Some(why(alloc, bytes)),
+        ("samples", [track, more @ ..]) => samples_by_words(alloc, bytes, track, more),
+        ("subtitles", [track, more @ ..]) => texts_by_words(alloc, bytes, track, more),
+        ("extract", [format, track, more @ ..]) => {
+            extracted_by_words(alloc, bytes, format_of(format), track, more)
+        }
+        (name, _) => shown_by_words(alloc, bytes, name, more),
     }
 }
 

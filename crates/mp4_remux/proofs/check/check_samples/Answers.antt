@@ -1,9 +1,12 @@
-use Rattle.std.proofs.Common.{arith, ◌∙◌, Err, IfSome, ap, sym, length}
+use Rattle.std.proofs.Common.{arith, refl, ◌∙◌, Err, IfSome, ap, sym, length}
+use Rattle.std.specs.Prelude.{slice_index_or}
 use Rattle.mp4_media.specs.declared.movie.Movie.{Movie}
 use Rattle.mp4_media.specs.FileBoxes.{opened_movie}
 use Rattle.mp4_remux.specs.Remuxed.{IsSameTrack}
 use Rattle.mp4_remux.proofs.Sameness.{got_within}
-use Rattle.mp4_remux.proofs.Checking.{checked, id_more}
+use Rattle.mp4_remux.proofs.Checking.{checked, id_more, more_or_fewer, no_file_after, no_file_before, other_is_named}
+use Rattle.mp4_remux.proofs.Checking.{track_is_other}
+use Rattle.mp4_remux.proofs.Numbered.{at_index}
 use Rattle.std.proofs.lemmas.Result.{err_from_is_err_and}
 use Rattle.mp4_remux.specs.declared.error.RemuxError.{RemuxError}
 use Rattle.mp4_remux.proofs.Faults.{no_fault, passed_on}
@@ -59,3 +62,43 @@ pub returns-in_err-left-clause-fault : goal.returns-in_err-left-clause-fault
 returns-in_err-left-clause-fault g c =
     no_fault (g.S.ByteSource.contents c.args.before) (g.S.ByteSource.can_refuse c.args.before)
     c.from_residual-in_err-left.result c.in_ok-before.ensures.fault
+
+pub returns-in_err-before-clause-other : goal.returns-in_err-before-clause-other
+returns-in_err-before-clause-other g c =
+    let p = err_from_is_err_and c.from_residual.result c.from_residual.ensures.1 in
+    rw (p.1 ∙ ap (λ (e : RemuxError). Err e) p.2)
+    (λ other. no_file_before (g.S.ByteSource.contents c.args.before) (g.T.ByteSource.contents c.args.after)
+    c.args.ids.now (c.in_err-before.ensures.opens (other_is_named _ other)))
+
+pub returns-in_err-after-clause-other : goal.returns-in_err-after-clause-other
+returns-in_err-after-clause-other g c =
+    let p = err_from_is_err_and c.from_residual-in_err-after.result c.from_residual-in_err-after.ensures.1 in
+    rw (p.1 ∙ ap (λ (e : RemuxError). Err e) p.2)
+    (λ other. no_file_after (g.S.ByteSource.contents c.args.before) (g.T.ByteSource.contents c.args.after)
+    c.args.ids.now (c.in_err-after.ensures.opens other))
+
+pub returns-in_err-left-clause-other : goal.returns-in_err-left-clause-other
+returns-in_err-left-clause-other g c =
+    let p = err_from_is_err_and c.from_residual-in_err-left.result c.from_residual-in_err-left.ensures.1 in
+    let inv = c.loop-i.invariant in
+    let before = c.in_ok-before in
+    let after = c.in_ok-after in
+    rw (p.1 ∙ ap (λ (e : RemuxError). Err e) p.2)
+    (λ other. track_is_other before.before.movie after.after.movie (g.S.ByteSource.contents c.args.before)
+    (g.T.ByteSource.contents c.args.after) c.args.ids.now (slice_index_or c.args.ids.now c.loop-i.i 0) c.loop-i.i
+    before.ensures.only after.ensures.only (at_index c.args.ids.now c.loop-i.i 0 (omega (arith, c.loop-i-test.true)))
+    (rw (
+      inv.movie,
+      inv.movie_after,
+      inv.contents,
+      inv.contents_after,
+      before.ensures.contents,
+      after.ensures.contents,
+    ) at (c.in_err-left.ensures.other other)))
+
+pub returns-then-len-ids-clause-other : goal.returns-then-len-ids-clause-other
+returns-then-len-ids-clause-other g c =
+    let after = c.in_ok-after in
+    λ _. more_or_fewer after.after.movie (g.S.ByteSource.contents c.args.before)
+    (g.T.ByteSource.contents c.args.after) c.args.ids.now after.ensures.only
+    (λ is. c.if-len-ids.true (c.len.ensures.value ∙ ap (λ (m : Movie). length m.moov.traks) c.deref.ensures ∙ is))

@@ -1,5 +1,8 @@
-use Rattle.std.proofs.Common.{arith, Ok, ap, ◌∙◌}
-use Rattle.mp4_remux.proofs.Checking.{one_more, track_is_read, empty_is_read}
+use Rattle.std.proofs.Common.{arith, Ok, Err, ap, refl, ◌∙◌}
+use Rattle.std.proofs.lemmas.Result.{err_from_is_err_and}
+use Rattle.mp4_remux.specs.declared.error.RemuxError.{RemuxError}
+use Rattle.mp4_remux.proofs.Checking.{counted_otherwise, empty_is_read, got_ok, next_is_other, one_more}
+use Rattle.mp4_remux.proofs.Checking.{track_is_read}
 use Rattle.mp4_remux.proofs.check.count_checked.Goals as goal
 
 pub returns-then-count-eq0-clause-same : goal.returns-then-count-eq0-clause-same
@@ -43,3 +46,33 @@ loop-k-preserved g c =
       can_refuse = sample.can_refuse ∙ inv.can_refuse;
       can_refuse_after = sample.can_refuse_after ∙ inv.can_refuse_after;
     }
+
+pub returns-in_default-clause-other : goal.returns-in_default-clause-other
+returns-in_default-clause-other g c =
+    let was = rw c.deref.ensures at c.in_ok-count.ensures in
+    let is = rw c.deref-2.ensures at c.in_default.ensures in
+    λ _. counted_otherwise c.args.before.now.movie c.args.after.now.movie c.args.track_id
+    (g.S.ByteSource.contents c.args.before.now.source) (g.T.ByteSource.contents c.args.after.now.source)
+    c.requires.before c.requires.after _ (λ e. let same = e ∙ was in absurd cc) is
+
+pub returns-then-written_count-count-clause-other : goal.returns-then-written_count-count-clause-other
+returns-then-written_count-count-clause-other g c =
+    let was = rw c.deref.ensures at c.in_ok-count.ensures in
+    let is = rw c.deref-2.ensures at c.in-Ok.ensures in
+    λ _. counted_otherwise c.args.before.now.movie c.args.after.now.movie c.args.track_id
+    (g.S.ByteSource.contents c.args.before.now.source) (g.T.ByteSource.contents c.args.after.now.source)
+    c.requires.before c.requires.after _
+    (λ e. c.if-written_count-count.true (got_ok _ c.in-Ok.written_count c.in_ok-count.count refl (e ∙ was))) is
+
+pub returns-in_err-check_sample-clause-other : goal.returns-in_err-check_sample-clause-other
+returns-in_err-check_sample-clause-other g c =
+    let p = err_from_is_err_and c.from_residual-in_err-check_sample.result
+    c.from_residual-in_err-check_sample.ensures.1 in
+    let inv = c.loop-k.invariant in
+    let was = rw c.deref.ensures at c.in_ok-count.ensures in
+    rw (p.1 ∙ ap (λ (e : RemuxError). Err e) p.2)
+    (λ other. next_is_other c.args.before.now.movie c.args.after.now.movie c.args.track_id
+    (g.S.ByteSource.contents c.args.before.now.source) (g.T.ByteSource.contents c.args.after.now.source)
+    c.requires.before c.requires.after c.loop-k.k c.in_ok-count.count inv.same was c.if-count-eq0.false
+    (rw (inv.movie, inv.movie_after, inv.contents, inv.contents_after)
+    at (c.in_err-check_sample.ensures.other other)))

@@ -1,7 +1,9 @@
-use Rattle.std.proofs.Common.{◌≡◌, ℕ, Some, arith}
+use Rattle.std.proofs.Common.{◌≡◌, ◌∙◌, ℕ, Some, Err, ap, arith, inr, slice_index_or}
+use Rattle.std.proofs.lemmas.Result.{err_from_is_err_and}
+use Rattle.mp4_codec.specs.declared.error.Error.{Error}
 use Rattle.mp4_media.specs.MovieTracks.{OpenedTrack, track_at}
-use Rattle.mp4_remux.proofs.HeaderLaws.{track_there}
-use Rattle.mp4_remux.proofs.Numbered.{each_more}
+use Rattle.mp4_remux.proofs.HeaderLaws.{track_missing, track_there}
+use Rattle.mp4_remux.proofs.Numbered.{at_index, each_more}
 use Rattle.mp4_remux.proofs.Sameness.{got_within}
 use Rattle.mp4_remux.proofs.chosen.check_ids.Goals as goal
 
@@ -21,3 +23,21 @@ pub returns-clause-there : goal.returns-clause-there
 returns-clause-there c = λ id i there.
     c.loop-i.invariant.there id i
     (omega (arith, got_within c.args.ids.now i id there, c.loop-i-test.false)) there
+
+pub returns-in_err-track-clause-missing : goal.returns-in_err-track-clause-missing
+returns-in_err-track-clause-missing c =
+    let p = err_from_is_err_and c.from_residual.result c.from_residual.ensures.1 in
+    let i = c.loop-i.i in
+    let one = track_missing c.args.movie.now c.requires _ _ c.in_err-track.ensures in
+    rw (p.1 ∙ ap (λ (e : Error). Err e) p.2) (inr (
+      slice_index_or c.args.ids.now i 0,
+      i,
+      (
+        record {
+          there = at_index c.args.ids.now i 0 (omega (arith, c.loop-i-test.true));
+          none = one.0;
+          first = c.loop-i.invariant.there;
+        },
+        one.1,
+      ),
+    ))

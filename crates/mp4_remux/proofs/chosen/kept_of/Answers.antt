@@ -22,7 +22,8 @@ loop-i-preserved c =
       list = c.loop-i.invariant.list;
     }
 
-pub returns-clause-ids : goal.returns-clause-ids
-returns-clause-ids c =
-    kept_all c.args.ids.now c.args.all.now c.loop-i.kept.items c.loop-i.i (omega (arith, c.loop-i-test.false))
-    c.loop-i.invariant.all
+pub returns : goal.returns
+returns c = record {
+  ids = kept_all c.args.ids.now c.args.all.now c.loop-i.kept.items c.loop-i.i (omega (arith, c.loop-i-test.false))
+      c.loop-i.invariant.all;
+}

@@ -4,7 +4,9 @@ use Rattle.mp4_remux.specs.Splice.{spliced}
 use Rattle.mp4_remux.proofs.Fronting.{spliced_more}
 use Rattle.mp4_remux.proofs.piece_list.push_piece.Goals as goal
 
-pub returns-clause-bytes : goal.returns-clause-bytes
-returns-clause-bytes c = λ source made.
-    ap (λ (ps : List Piece). spliced source made ps) c.in_ok-push.ensures.items
-    ∙ spliced_more source made c.args.pieces.now.items _
+pub returns : goal.returns
+returns c = record {
+  bytes = λ source made.
+      ap (λ (ps : List Piece). spliced source made ps) c.in_ok-push.ensures.items
+      ∙ spliced_more source made c.args.pieces.now.items _;
+}

@@ -1,8 +1,10 @@
-use Rattle.std.proofs.Common.{◌∙◌, Err, ap, sym}
+use Rattle.std.proofs.Common.{◌∙◌, Err, ap, inl, refl, sym}
 use Rattle.mp4_remux.specs.Remuxed.{kept_of}
 use Rattle.mp4_media.specs.FileBoxes.{opened_movie}
+use Rattle.mp4_remux.proofs.Choosing.{missing_said, missing_unopened, none_missing}
 use Rattle.mp4_remux.proofs.Rebuilding.{writes_chosen}
 use Rattle.std.proofs.lemmas.Result.{err_from_is_err_and}
+use Rattle.mp4_codec.specs.declared.error.Error.TheVariants.{OutOfMemory}
 use Rattle.mp4_remux.specs.declared.error.RemuxError.{RemuxError}
 use Rattle.mp4_remux.proofs.Faults.{no_fault, passed_on}
 use Rattle.mp4_remux.proofs.rebuild.choose.Goals as goal
@@ -37,3 +39,30 @@ pub returns-in_err-all-clause-fault : goal.returns-in_err-all-clause-fault
 returns-in_err-all-clause-fault g c =
     no_fault (g.S.ByteSource.contents c.args.source) (g.S.ByteSource.can_refuse c.args.source)
     c.from_residual-in_err-all.result c.in_ok-source.ensures.fault
+
+pub returns-in_err-source-clause-missing : goal.returns-in_err-source-clause-missing
+returns-in_err-source-clause-missing g c =
+    let p = err_from_is_err_and c.from_residual.result c.from_residual.ensures.1 in
+    missing_unopened (g.S.ByteSource.contents c.args.source) (g.S.ByteSource.can_refuse c.args.source) c.args.ids.now
+    c.in_err-source.field-0.0 c.from_residual.result (p.1 ∙ ap (λ (e : RemuxError). Err e) p.2)
+    c.in_err-source.ensures.no_fault
+
+pub returns-in_err-all-clause-missing : goal.returns-in_err-all-clause-missing
+returns-in_err-all-clause-missing g c =
+    let p = err_from_is_err_and c.from_residual-in_err-all.result c.from_residual-in_err-all.ensures.1 in
+    missing_said (g.S.ByteSource.contents c.args.source) (g.S.ByteSource.can_refuse c.args.source)
+    (opened_movie c.in_ok-source.movie) c.args.ids.now OutOfMemory c.from_residual-in_err-all.result
+    (p.1 ∙ ap (λ (e : RemuxError). Err e) p.2) c.in_ok-source.ensures.only (inl refl)
+
+pub returns-in_err-kept-clause-missing : goal.returns-in_err-kept-clause-missing
+returns-in_err-kept-clause-missing g c =
+    let p = err_from_is_err_and c.from_residual-in_err-kept.result c.from_residual-in_err-kept.ensures.1 in
+    missing_said (g.S.ByteSource.contents c.args.source) (g.S.ByteSource.can_refuse c.args.source)
+    (opened_movie c.in_ok-source.movie) c.args.ids.now c.in_err-kept.field-0.0 c.from_residual-in_err-kept.result
+    (p.1 ∙ ap (λ (e : RemuxError). Err e) p.2) c.in_ok-source.ensures.only c.in_err-kept.ensures.missing
+
+pub returns-clause-missing : goal.returns-clause-missing
+returns-clause-missing g c =
+    none_missing (g.S.ByteSource.contents c.args.source) (g.S.ByteSource.can_refuse c.args.source)
+    (opened_movie c.in_ok-source.movie) c.args.ids.now c.write_chosen.result c.in_ok-source.ensures.only
+    c.in_ok-kept.ensures.there

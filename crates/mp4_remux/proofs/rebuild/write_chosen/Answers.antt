@@ -17,8 +17,8 @@ returns-clause-written g c =
     (opened_movie c.args.movie.now) c.args.all.now c.args.ids.now _ _ f.file_type f.movie f.movie_bytes.items
     (rw (c.in_ok-source.ensures.contents, c.made_of.ensures) at c.in_ok-write_layout.ensures.written)
     c.in_ok-source.ensures.frame (rw c.made_of.ensures at c.in_ok-layout.ensures.begins)
-    (c.deref-6.ensures.value
-    ∙ (rw (c.deref-3.ensures.value, c.deref-2.ensures.value, all) at c.in_ok-staying.ensures.list)
+    (c.deref-4.ensures.value
+    ∙ (rw (c.deref-3.ensures.value, c.deref-2.ensures.value, all) at c.in_ok-staying.ensures.staying)
     ∙ staying_by some c.args.ids.now sorted c.in_ok-sorted.ensures.same _)
-    ((rw (c.deref-5.ensures.value, c.deref-4.ensures.value, all) at c.in_ok-left_out.ensures.list)
+    ((rw (c.deref-3.ensures.value, c.deref-2.ensures.value, all) at c.in_ok-staying.ensures.left_out)
     ∙ left_out_by some c.args.ids.now sorted c.in_ok-sorted.ensures.same _)

@@ -15,10 +15,11 @@ loop-kind-preserved c =
       track = c.loop-kind.invariant.track;
     }
 
-pub returns-clause-more : goal.returns-clause-more
-returns-clause-more c =
-    rw (in_tref c.args.track_id c.args.one.now.name c.args.one.now.payload.now (omega
-    (arith, c.from.ensures, c.if-from-ne-REFERENCES.false)))
-    (boxes_end (λ (p : Part). of_kind c.args.track_id p.name p.payload) c.loop-kind.rest.now c.loop-kind.list.items _
-    (begin_with_none c.loop-kind.rest.now c.in_default.ensures.none)
-    c.loop-kind.invariant.all)
+pub returns : goal.returns
+returns c = record {
+  more = rw (in_tref c.args.track_id c.args.one.now.name c.args.one.now.payload.now (omega
+      (arith, c.from.ensures, c.if-from-ne-REFERENCES.false)))
+      (boxes_end (λ (p : Part). of_kind c.args.track_id p.name p.payload) c.loop-kind.rest.now c.loop-kind.list.items _
+      (begin_with_none c.loop-kind.rest.now c.in_default.ensures.none)
+      c.loop-kind.invariant.all);
+}

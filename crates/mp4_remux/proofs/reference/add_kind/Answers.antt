@@ -14,8 +14,9 @@ loop-rest-preserved c =
       kind = c.loop-rest.invariant.kind;
     }
 
-pub returns-clause-more : goal.returns-clause-more
-returns-clause-more c =
-    let f : ℕ → Reference = λ id. record { track_id = c.args.track_id; kind = c.args.one.now.name; to = id } in
-    kind_end f c.loop-rest.rest.now c.loop-rest.list.items _ (omega (arith, c.loop-rest-test.false))
-    c.loop-rest.invariant.all
+pub returns : goal.returns
+returns c = record {
+  more = let f : ℕ → Reference = λ id. record { track_id = c.args.track_id; kind = c.args.one.now.name; to = id } in
+      kind_end f c.loop-rest.rest.now c.loop-rest.list.items _ (omega (arith, c.loop-rest-test.false))
+      c.loop-rest.invariant.all;
+}

@@ -13,8 +13,9 @@ loop-one-preserved c =
       track = c.loop-one.invariant.track;
     }
 
-pub returns-clause-more : goal.returns-clause-more
-returns-clause-more c =
-    boxes_end (λ (p : Part). of_box c.args.track_id p.name p.payload) c.loop-one.rest.now c.loop-one.list.items _
-    (begin_with_none c.loop-one.rest.now c.in_default.ensures.none)
-    c.loop-one.invariant.all
+pub returns : goal.returns
+returns c = record {
+  more = boxes_end (λ (p : Part). of_box c.args.track_id p.name p.payload) c.loop-one.rest.now c.loop-one.list.items _
+      (begin_with_none c.loop-one.rest.now c.in_default.ensures.none)
+      c.loop-one.invariant.all;
+}

@@ -3,10 +3,11 @@ use Rattle.mp4_remux.proofs.Referring.{begin_with, begin_with_none, movie_end, n
 use Rattle.mp4_remux.proofs.Referring.{track_more, tracks_end}
 use Rattle.mp4_remux.proofs.reference.references_in.Goals as goal
 
-pub returns-in_default-clause-list : goal.returns-in_default-clause-list
-returns-in_default-clause-list c =
-    c.new-list.ensures.items
-    ∙ sym (none_in c.args.movie.now c.args.ids.now (begin_with_none c.args.movie.now c.in_default.ensures.none))
+pub returns-in_default : goal.returns-in_default
+returns-in_default c = record {
+  list = c.new-list.ensures.items
+      ∙ sym (none_in c.args.movie.now c.args.ids.now (begin_with_none c.args.movie.now c.in_default.ensures.none));
+}
 
 pub loop-one-init : goal.loop-one-init
 loop-one-init c =
@@ -18,10 +19,11 @@ loop-one-init c =
       ids = refl;
     }
 
-pub returns-then-i-ids-clause-list : goal.returns-then-i-ids-clause-list
-returns-then-i-ids-clause-list c =
-    tracks_end _ c.args.ids.now c.loop-one.i c.loop-one.list.items _ (omega (arith, c.if-i-ids.true))
-    c.loop-one.invariant.all
+pub returns-then-i-ids : goal.returns-then-i-ids
+returns-then-i-ids c = record {
+  list = tracks_end _ c.args.ids.now c.loop-one.i c.loop-one.list.items _ (omega (arith, c.if-i-ids.true))
+      c.loop-one.invariant.all;
+}
 
 pub loop-one-preserved-then-from : goal.loop-one-preserved-then-from
 loop-one-preserved-then-from c =
@@ -48,7 +50,8 @@ loop-one-preserved c =
       ids = c.loop-one.invariant.ids;
     }
 
-pub returns-clause-list : goal.returns-clause-list
-returns-clause-list c =
-    movie_end _ _ c.args.ids.now c.loop-one.list.items _
-    (begin_with_none c.loop-one.rest.now c.in_default-first_box.ensures.none) c.loop-one.invariant.all
+pub returns : goal.returns
+returns c = record {
+  list = movie_end _ _ c.args.ids.now c.loop-one.list.items _
+      (begin_with_none c.loop-one.rest.now c.in_default-first_box.ensures.none) c.loop-one.invariant.all;
+}

@@ -2,7 +2,7 @@ use Rattle.std.proofs.Common.{◌∙◌, Err, ap}
 use Rattle.std.proofs.lemmas.Result.{err_from_is_err_and}
 use Rattle.mp4_remux.specs.declared.error.RemuxError.{RemuxError}
 use Rattle.mp4_remux.proofs.Faults.{fault_by_len, memory_passed_on, none_by_len, none_of_len, only_of_len}
-use Rattle.mp4_remux.proofs.Faults.{passed_on, room_by_len}
+use Rattle.mp4_remux.proofs.Faults.{no_fault_of_len, passed_on, room_by_len}
 use Rattle.mp4_remux.proofs.rewrite.open_source.Goals as goal
 
 pub returns-in_err-source-clause-fault : goal.returns-in_err-source-clause-fault
@@ -42,3 +42,11 @@ pub returns-clause-only : goal.returns-clause-only
 returns-clause-only g c =
     only_of_len (g.S.ByteSource.contents c.args.source) c.in-Ok.len _ c.in-Ok.ensures.value
     (rw c.in-Ok.ensures.contents at c.in_ok-source.ensures.only)
+
+pub returns-in_err-source-clause-no_fault : goal.returns-in_err-source-clause-no_fault
+returns-in_err-source-clause-no_fault g c =
+    let p = err_from_is_err_and c.from_residual.result c.from_residual.ensures.1 in
+    rw (p.1 ∙ ap (λ (e : RemuxError). Err e) p.2)
+    (no_fault_of_len (g.S.ByteSource.contents c.args.source) (g.S.ByteSource.can_refuse c.args.source) c.in-Ok.len
+    c.in_err-source.field-0.0 c.in-Ok.ensures.value
+    (rw (c.in-Ok.ensures.contents, c.in-Ok.ensures.can_refuse) at c.in_err-source.ensures.no_fault))
