@@ -19,7 +19,12 @@ use Rattle.mp4_media.specs.FileGrammar.{AreFileBoxes, IsFaultyFile, IsFile}
 use Rattle.mp4_media.specs.Opening.{IsOpeningOf}
 use Rattle.mp4_remux.specs.declared.error.RemuxError.{RemuxError}
 use Rattle.mp4_remux.specs.Errors.{CopyFails, GivesCause, IsCause, IsNamed, IsNoFault, SaysFault, TakesMemory}
-use Rattle.mp4_remux.specs.Errors.{of_file}
+use Rattle.mp4_remux.specs.Errors.{IsRefusalOf, of_file, of_layout}
+use Rattle.mp4_remux.specs.declared.layout_error.LayoutError.{LayoutError}
+use Rattle.mp4_remux.specs.declared.layout_error.LayoutError.TheVariants.{Mp4 as of_movie, TooManySamples as too_many}
+use Rattle.mp4_remux.specs.declared.layout_error.LayoutError.TheVariants.{StartsElsewhere as elsewhere}
+use Rattle.mp4_remux.specs.declared.layout_error.LayoutError.TheVariants.{SameIds as same_ids, OtherTracks as other}
+use Rattle.mp4_remux.specs.declared.layout_error.LayoutError.TheVariants.{Differs as differs}
 use Rattle.mp4_remux.specs.Remuxed.{IsOnlyFile}
 
 -- a refused opening is one of what is done with the file
@@ -192,6 +197,16 @@ pub only_of_len : (known : Option (List ℕ)) (len : ℕ) (opened : OpenedFile) 
 only_of_len None len opened is only = tt
 only_of_len (Some xs) len opened is only =
     λ o file. only o (subst (λ n. IsFile n (here xs 0) o) (sym is) file)
+
+-- what no layout is made for is a refusal of no source and no sink
+pub refused_layout : {X : Type 0} (SourceRefuses SinkRefuses : Type 0) (e : LayoutError) (result : Result X RemuxError)
+    → result ≡ Err (of_layout e) → IfErr result (IsRefusalOf SourceRefuses SinkRefuses)
+refused_layout SourceRefuses SinkRefuses (of_movie e) result is = rw is tt
+refused_layout SourceRefuses SinkRefuses (too_many track) result is = rw is tt
+refused_layout SourceRefuses SinkRefuses (elsewhere track number) result is = rw is tt
+refused_layout SourceRefuses SinkRefuses same_ids result is = rw is tt
+refused_layout SourceRefuses SinkRefuses other result is = rw is tt
+refused_layout SourceRefuses SinkRefuses (differs track number) result is = rw is tt
 
 -- what is copied isn't refused by name
 pub copy_unnamed : (Refuses : Type 0) (can_refuse : Bool) (e : RemuxError) → CopyFails Refuses can_refuse e → IsNamed e

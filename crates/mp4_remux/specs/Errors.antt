@@ -13,6 +13,11 @@ use Rattle.mp4_source.specs.Source.{HasPart}
 use Rattle.mp4_media.specs.FileBoxes.{OpenedFile}
 use Rattle.mp4_media.specs.FileGrammar.{IsFaultyFile, IsFile}
 use Rattle.mp4_remux.specs.Reads.{IsMissing}
+use Rattle.mp4_remux.specs.declared.layout_error.LayoutError.{LayoutError}
+use Rattle.mp4_remux.specs.declared.layout_error.LayoutError.TheVariants.{Mp4 as of_movie, TooManySamples as too_many}
+use Rattle.mp4_remux.specs.declared.layout_error.LayoutError.TheVariants.{StartsElsewhere as elsewhere}
+use Rattle.mp4_remux.specs.declared.layout_error.LayoutError.TheVariants.{SameIds as same_ids, OtherTracks as other}
+use Rattle.mp4_remux.specs.declared.layout_error.LayoutError.TheVariants.{Differs as differs}
 use Rattle.mp4_remux.specs.declared.error.RemuxError.{RemuxError}
 use Rattle.mp4_remux.specs.declared.error.RemuxError.TheVariants.{Mp4, Read, Write, Twice, SaysPlaces}
 use Rattle.mp4_remux.specs.declared.error.RemuxError.TheVariants.{TooManySamples, OtherTracks, Differs}
@@ -32,6 +37,15 @@ of_source (refused e) = Read e
 abbrev pub of_sink : SinkError → RemuxError
 of_sink no_room = Mp4 OutOfMemory
 of_sink (sink_refused e) = Write e
+
+-- why no layout is made, or one that was isn't written
+abbrev pub of_layout : LayoutError → RemuxError
+of_layout (of_movie e) = Mp4 e
+of_layout (too_many track) = TooManySamples track
+of_layout (elsewhere track number) = StartsElsewhere track number
+of_layout same_ids = SameIds
+of_layout other = OtherTracks
+of_layout (differs track number) = Differs track number
 
 -- Bytes aren't copied: out of memory, or the source refused, which can; or the sink, which can.
 abbrev pub CopyFails : Type 0 → Bool → RemuxError → Type 0

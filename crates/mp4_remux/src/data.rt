@@ -1,9 +1,8 @@
 //! The data of samples, closed up: what lies between it is left out.
 
-ghost use Rattle.std.specs.Prelude.{◌<◌, ◌≤◌, ◌-◌, ◌^◌, IfOk, IfErr};
-ghost use Rattle.mp4_remux.specs.Errors.{IsRefusalOf};
+ghost use Rattle.std.specs.Prelude.{◌<◌, ◌≤◌, ◌-◌, ◌^◌, IfOk};
 
-use crate::error::RemuxError;
+use crate::layout_error::LayoutError;
 use crate::moves::Move;
 use crate::same::place_of_any;
 use mp4_codec::Put;
@@ -53,10 +52,9 @@ fn push_track(
     len: u64,
     most: u32,
     extents: &mut Vec<Extent>,
-) -> Result<u32, RemuxError>
+) -> Result<u32, LayoutError>
     requires most { most < 2 ^ 32 - 1 }
     ensures few { IfOk result (λ count. count ≤ most) }
-    ensures refused { IfErr result (IsRefusalOf ⊥ ⊥) }
 {
     let mut k = 0;
     while k <= most {
@@ -64,14 +62,14 @@ fn push_track(
             return Ok(k);
         };
         let Some(extent) = extent_of(&sample, len) else {
-            return Err(RemuxError::Differs(track_id, k + 1));
+            return Err(LayoutError::Differs(track_id, k + 1));
         };
         if extent.place < extent.end {
             push_extent(extents, extent)?;
         }
         k += 1;
     }
-    Err(RemuxError::TooManySamples(track_id))
+    Err(LayoutError::TooManySamples(track_id))
 }
 
 /// The bytes of the samples of these tracks in a file of `len` bytes, in its order, those of two samples once.
@@ -82,9 +80,8 @@ pub(crate) fn data_of(
     ids: &[u32],
     len: u64,
     most: u32,
-) -> Result<Vec<Extent>, RemuxError>
+) -> Result<Vec<Extent>, LayoutError>
     requires most { most < 2 ^ 32 - 1 }
-    ensures refused { IfErr result (IsRefusalOf ⊥ ⊥) }
 {
     let mut extents = Vec::new(alloc);
     let mut left = most;

@@ -19,6 +19,7 @@ mod headers;
 mod kept;
 mod laws;
 mod layout;
+mod layout_error;
 mod left_out;
 mod made;
 mod moves;

@@ -23,6 +23,7 @@ use crate::edits::shown_time;
 use crate::error::RemuxError;
 use crate::frame::{Frame, read_frame};
 use crate::layout::Layout;
+use crate::layout_error::LayoutError;
 use crate::left_out::{Parted, part, sorted_ids};
 use crate::made::{Keeps, Made};
 use crate::moves::{Move, Moves};
@@ -65,9 +66,8 @@ fn track_edit(
     trak: &TrakBox,
     moves: &[Move],
     most: u32,
-) -> Result<TrackEdit, RemuxError>
+) -> Result<TrackEdit, LayoutError>
     requires most { most < 2 ^ 32 - 1 }
-    ensures refused { IfErr result (IsRefusalOf ⊥ ⊥) }
 {
     if !has_fragments(movie) {
         return Ok(TrackEdit::Moved);
@@ -97,9 +97,8 @@ fn edit_of(
     ids: &[u32],
     moves: &[Move],
     most: u32,
-) -> Result<MovieEdit, RemuxError>
+) -> Result<MovieEdit, LayoutError>
     requires most { most < 2 ^ 32 - 1 }
-    ensures refused { IfErr result (IsRefusalOf ⊥ ⊥) }
 {
     let mut edit = MovieEdit::of_offsets(alloc);
     let mut duration = 0;
@@ -205,11 +204,10 @@ fn made_bytes(
     header: &[u8],
     keeps: &Keeps,
     movie_len: &mut u64,
-) -> Result<Option<Vec<u8>>, RemuxError>
+) -> Result<Option<Vec<u8>>, LayoutError>
     ensures kept { IfOk result (λ x. IfSome x (λ made. (movie : List ℕ) × (made.items ≡ movie ++ header.now)
         × ((length movie ≡ movie_len.new) × (IsKept (changed_by keeps.now.what) tracks frame.now.movie_bytes.items movie
         × (references_in movie keeps.now.ids.now ≡ keeps.now.references.now))))) }
-    ensures refused { IfErr result (IsRefusalOf ⊥ ⊥) }
 {
     let mut made = edited(alloc, &frame.movie_bytes, edit, moves)?;
     let len = made.len() as u64;
@@ -218,7 +216,7 @@ fn made_bytes(
         return Ok(None);
     }
     if !keeps.holds(alloc, &frame.movie_bytes, &made)? {
-        return Err(RemuxError::OtherTracks);
+        return Err(LayoutError::OtherTracks);
     }
     made.extend_from_slice(header)?;
     Ok(Some(made))
@@ -232,10 +230,9 @@ fn plan_data(
     extents: &[Extent],
     list: &[Move],
     keeps: &Keeps,
-) -> Result<(Vec<u8>, Vec<Piece>), RemuxError>
+) -> Result<(Vec<u8>, Vec<Piece>), LayoutError>
     ensures begins { IfOk result (λ x. BeginsWith keeps.now.what keeps.now.ids.now keeps.now.references.now
         frame.now.file_type frame.now.movie_bytes.items x.0.items x.1.items) }
-    ensures refused { IfErr result (IsRefusalOf ⊥ ⊥) }
 {
     let header = data_header(alloc, len_of(extents))?;
     let mut movie_len = frame.movie_bytes.len() as u64;
@@ -256,7 +253,7 @@ fn plan_data(
             return Ok((made, pieces));
         }
     }
-    Err(RemuxError::Mp4(Error::TooLarge(Limit::BoxSize)))
+    Err(LayoutError::Mp4(Error::TooLarge(Limit::BoxSize)))
 }
 
 /// The layout of a movie of the tracks that are kept, and of what is to be kept of its movie box.
@@ -266,11 +263,10 @@ fn plan(
     movie: &Movie,
     keeps: &Keeps,
     len: u64,
-) -> Result<Layout, RemuxError>
+) -> Result<Layout, LayoutError>
     ensures source_len { IfOk result (λ l. l.source_len ≡ len) }
     ensures begins { IfOk result (λ l. BeginsWith keeps.now.what keeps.now.ids.now keeps.now.references.now
         frame.now.file_type frame.now.movie_bytes.items l.made.items l.pieces.items) }
-    ensures refused { IfErr result (IsRefusalOf ⊥ ⊥) }
 {
     let most = most_samples(len);
     let extents = data_of(alloc, movie, keeps.ids, len, most)?;
@@ -279,7 +275,7 @@ fn plan(
     let (made, pieces) = plan_data(alloc, frame, &edit, &extents, &moves, keeps)?;
     match Layout::new(len, made, pieces) {
         Some(layout) => Ok(layout),
-        None => Err(RemuxError::OtherTracks),
+        None => Err(LayoutError::OtherTracks),
     }
 }
 

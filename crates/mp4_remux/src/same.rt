@@ -1,20 +1,19 @@
 //! Whether every sample is read as before.
 
-ghost use Rattle.std.specs.Prelude.{◌≡◌, ◌↔◌, ◌-◌, ◌<◌, ◌≤◌, ◌^◌, ℕ, [], Some, Ok, IfErr, IfOk, OnOk, IsTrue};
+ghost use Rattle.std.specs.Prelude.{◌≡◌, ◌↔◌, ◌-◌, ◌<◌, ◌≤◌, ◌^◌, ℕ, [], Some, Ok, IfOk, OnOk, IsTrue};
 ghost use Rattle.std.specs.Prelude.{is_some, option_map, slice_get};
 ghost use Rattle.mp4_boxes.specs.declared.trak.TrakBox.{TrakBox};
 ghost use Rattle.mp4_samples.specs.Places.{place_of};
 ghost use Rattle.mp4_media.specs.FileBoxes.{opened_movie};
 ghost use Rattle.mp4_media.specs.MovieTracks.{AreTracks};
-ghost use Rattle.mp4_remux.specs.Errors.{IsRefusalOf};
 ghost use Rattle.mp4_remux.specs.Headers.{IsShownUntil};
 ghost use Rattle.mp4_remux.specs.Reads.{place_in};
 ghost use Rattle.mp4_remux.specs.Remuxed.{ids_of};
 ghost use Rattle.mp4_remux.specs.declared.made.Made.TheVariants.{Tables};
 ghost use Rattle.mp4_remux.specs.Same.{IsSamePlace, IsNumberAsBefore, IsTrackAsBefore};
 
-use crate::error::RemuxError;
 use crate::layout::Layout;
+use crate::layout_error::LayoutError;
 use crate::made::Made;
 use crate::shown::shown_end;
 use mp4_boxes::TrakBox;
@@ -48,25 +47,24 @@ fn check_sample(
     layout: &Layout,
     track_id: u32,
     k: u32,
-) -> Result<Option<SamplePlace>, RemuxError>
+) -> Result<Option<SamplePlace>, LayoutError>
     requires before { AreTracks before.now.moov before.now.moofs before.now.moof_places before.now.tracks }
     requires after { AreTracks after.now.moov after.now.moofs after.now.moof_places after.now.tracks }
     ensures same { IfOk result (λ p. IsNumberAsBefore layout.now.source_len layout.now.made.items
         layout.now.pieces.items (opened_movie before.now) (opened_movie after.now) track_id k (is_some p)) }
     ensures there { IfOk result (λ p. place_in (opened_movie after.now) track_id k ≡ Ok (option_map place_of p)) }
-    ensures refused { IfErr result (IsRefusalOf ⊥ ⊥) }
 {
     let Some(kept) = before.place(track_id, k)? else {
         return match after.place(track_id, k)? {
             None => Ok(None),
-            Some(_) => Err(RemuxError::Differs(track_id, k)),
+            Some(_) => Err(LayoutError::Differs(track_id, k)),
         };
     };
     let Some(moved) = after.place(track_id, k)? else {
-        return Err(RemuxError::Differs(track_id, k));
+        return Err(LayoutError::Differs(track_id, k));
     };
     if !is_same(layout, &kept, &moved) {
-        return Err(RemuxError::Differs(track_id, k));
+        return Err(LayoutError::Differs(track_id, k));
     }
     Ok(Some(moved))
 }
@@ -111,7 +109,7 @@ fn count_same(
     layout: &Layout,
     track_id: u32,
     most: u32,
-) -> Result<SameTrack, RemuxError>
+) -> Result<SameTrack, LayoutError>
     requires before { AreTracks before.now.moov before.now.moofs before.now.moof_places before.now.tracks }
     requires after { AreTracks after.now.moov after.now.moofs after.now.moof_places after.now.tracks }
     requires most { most < 2 ^ 32 - 1 }
@@ -120,11 +118,10 @@ fn count_same(
     ensures end { IfOk result (λ same. same.end < 2 ^ 64 - 1
         → IsShownUntil (opened_movie after.now) track_id same.end) }
     ensures few { IfOk result (λ same. same.count ≤ most) }
-    ensures refused { IfErr result (IsRefusalOf ⊥ ⊥) }
 {
     let count = before.sample_count(track_id)?;
     if after.sample_count(track_id)? != count {
-        return Err(RemuxError::OtherTracks);
+        return Err(LayoutError::OtherTracks);
     }
     if count == 0 && is_nowhere(before, track_id) && is_nowhere(after, track_id) {
         return Ok(SameTrack { count: 0, end: 0 });
@@ -138,7 +135,7 @@ fn count_same(
         end = shown_end(&sample).max(end);
         k += 1;
     }
-    Err(RemuxError::TooManySamples(track_id))
+    Err(LayoutError::TooManySamples(track_id))
 }
 
 /// How many samples the track of this box has, which are the same before and after. `OtherTracks` where tables were
@@ -150,7 +147,7 @@ fn check_track(
     trak: &TrakBox,
     made: Made,
     most: u32,
-) -> Result<u32, RemuxError>
+) -> Result<u32, LayoutError>
     requires before { AreTracks before.now.moov before.now.moofs before.now.moof_places before.now.tracks }
     requires after { AreTracks after.now.moov after.now.moofs after.now.moof_places after.now.tracks }
     requires most { most < 2 ^ 32 - 1 }
@@ -159,7 +156,6 @@ fn check_track(
     ensures media { OnOk result (made ≡ Tables
         → IsShownUntil (opened_movie after.now) trak.now.tkhd.track_id trak.now.mdia.mdhd.duration) }
     ensures few { IfOk result (λ count. count ≤ most) }
-    ensures refused { IfErr result (IsRefusalOf ⊥ ⊥) }
 {
     let same = count_same(before, after, layout, trak.tkhd.track_id, most)?;
     if !made.has_tables() {
@@ -168,7 +164,7 @@ fn check_track(
     if same.end < u64::MAX && trak.mdia.mdhd.duration == same.end {
         return Ok(same.count);
     }
-    Err(RemuxError::OtherTracks)
+    Err(LayoutError::OtherTracks)
 }
 
 /// Whether a movie has tracks of these ids, in this order.
@@ -206,7 +202,7 @@ pub(crate) fn check_same(
     layout: &Layout,
     ids: &[u32],
     made: Made,
-) -> Result<(), RemuxError>
+) -> Result<(), LayoutError>
     requires before { AreTracks before.now.moov before.now.moofs before.now.moof_places before.now.tracks }
     requires after { AreTracks after.now.moov after.now.moofs after.now.moof_places after.now.tracks }
     ensures ids { OnOk result (ids_of after.now.moov ≡ ids.now) }
@@ -216,13 +212,12 @@ pub(crate) fn check_same(
         (opened_movie before.now) (opened_movie after.now) t.tkhd.track_id) }
     ensures media { OnOk result (made ≡ Tables → (t : TrakBox) (i : ℕ) → slice_get after.now.moov.traks i ≡ Some t
         → IsShownUntil (opened_movie after.now) t.tkhd.track_id t.mdia.mdhd.duration) }
-    ensures refused { IfErr result (IsRefusalOf ⊥ ⊥) }
 {
     if before.tracks().len() < before.moov.traks.len() {
-        return Err(RemuxError::SameIds);
+        return Err(LayoutError::SameIds);
     }
     if !has_ids(after, ids) || !after.moofs.is_empty() {
-        return Err(RemuxError::OtherTracks);
+        return Err(LayoutError::OtherTracks);
     }
     let traks = after.moov.traks.as_slice();
     let mut left = most_samples(layout.source_len());

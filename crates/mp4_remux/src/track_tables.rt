@@ -1,10 +1,9 @@
 //! The tables of a track, made of its samples with the fewest entries (ISO/IEC 14496-12, 8.6 and 8.7).
 
-ghost use Rattle.std.specs.Prelude.{◌<◌, ◌-◌, ◌^◌, IfErr};
-ghost use Rattle.mp4_remux.specs.Errors.{IsRefusalOf};
+ghost use Rattle.std.specs.Prelude.{◌<◌, ◌-◌, ◌^◌};
 
 use crate::descriptions::Descriptions;
-use crate::error::RemuxError;
+use crate::layout_error::LayoutError;
 use crate::moves::Moves;
 use crate::same::place_of_any;
 use crate::shown::shown_end;
@@ -289,9 +288,8 @@ pub(crate) fn tables_of(
     track_id: u32,
     moves: &Moves,
     most: u32,
-) -> Result<MadeTables, RemuxError>
+) -> Result<MadeTables, LayoutError>
     requires most { most < 2 ^ 32 - 1 }
-    ensures refused { IfErr result (IsRefusalOf ⊥ ⊥) }
 {
     let mut descriptions = Descriptions::of(alloc, movie.track(track_id)?, &movie.moov.mvex)?;
     let mut tables = SampleTables::new(alloc);
@@ -302,10 +300,10 @@ pub(crate) fn tables_of(
         };
         k += 1;
         if sample.start_time != tables.duration {
-            return Err(RemuxError::StartsElsewhere(track_id, k));
+            return Err(LayoutError::StartsElsewhere(track_id, k));
         }
         let place = moves.moved(sample.offset);
         tables.push(k, &sample, place, descriptions.next(k))?;
     }
-    Err(RemuxError::TooManySamples(track_id))
+    Err(LayoutError::TooManySamples(track_id))
 }

@@ -1,4 +1,7 @@
-use Rattle.std.proofs.Common.{◌≡◌, ◌∙◌, ℕ, List, Ok, ap}
+use Rattle.std.proofs.Common.{◌≡◌, ◌∙◌, ℕ, List, Ok, Err, ap}
+use Rattle.std.proofs.lemmas.Result.{err_from_is_err_and}
+use Rattle.mp4_remux.specs.declared.error.RemuxError.{RemuxError}
+use Rattle.mp4_remux.proofs.Faults.{refused_layout}
 use Rattle.mp4_media.specs.FileBoxes.{opened_movie}
 use Rattle.mp4_remux.specs.References.{leaves_some, references_in}
 use Rattle.mp4_remux.proofs.Finding.{left_out_by, staying_by}
@@ -22,3 +25,9 @@ returns-clause-written g c =
     ∙ staying_by some c.args.ids.now sorted c.in_ok-sorted.ensures.same _)
     ((rw (c.deref-3.ensures.value, c.deref-2.ensures.value, all) at c.in_ok-staying.ensures.left_out)
     ∙ left_out_by some c.args.ids.now sorted c.in_ok-sorted.ensures.same _)
+
+pub returns-in_err-layout-clause-refused : goal.returns-in_err-layout-clause-refused
+returns-in_err-layout-clause-refused g c =
+    let p = err_from_is_err_and c.from_residual-in_err-layout.result c.from_residual-in_err-layout.ensures.1 in
+    refused_layout _ _ c.in_err-layout.field-0.0 c.from_residual-in_err-layout.result
+    (p.1 ∙ ap (λ (e : RemuxError). Err e) p.2)

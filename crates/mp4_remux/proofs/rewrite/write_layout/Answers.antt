@@ -1,4 +1,7 @@
-use Rattle.std.proofs.Common.{ℕ, List, Option, IfSome, refl, sym, subst, ◌∙◌}
+use Rattle.std.proofs.Common.{ℕ, List, Option, IfSome, Err, ap, refl, sym, subst, ◌∙◌}
+use Rattle.std.proofs.lemmas.Result.{err_from_is_err_and}
+use Rattle.mp4_remux.specs.declared.error.RemuxError.{RemuxError}
+use Rattle.mp4_remux.proofs.Faults.{refused_layout}
 use Rattle.mp4_codec.specs.Cursor.{here}
 use Rattle.mp4_media.specs.FileBoxes.{opened_movie}
 use Rattle.mp4_media.specs.FileGrammar.{IsFile}
@@ -32,3 +35,9 @@ returns-clause-written g c =
     (c.if-not-keeps_headers.ensures refl)
     (durations_of c.args.made (opened_movie c.in_ok-splice.after) (c.if-not-has_durations.ensures.movie refl)
     (c.if-not-has_durations.ensures.tracks refl) c.in_ok-check_same.ensures.media))
+
+pub returns-in_err-check_same-clause-refused : goal.returns-in_err-check_same-clause-refused
+returns-in_err-check_same-clause-refused g c =
+    let p = err_from_is_err_and c.from_residual-in_err-check_same.result c.from_residual-in_err-check_same.ensures.1 in
+    refused_layout _ _ c.in_err-check_same.field-0.0 c.from_residual-in_err-check_same.result
+    (p.1 ∙ ap (λ (e : RemuxError). Err e) p.2)
