@@ -4,6 +4,7 @@ pub mod Front
 pub mod Gathered
 pub mod Headers
 pub mod Kept
+pub mod Named
 pub mod Reads
 pub mod References
 pub mod Remuxed

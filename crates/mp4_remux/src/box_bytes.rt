@@ -1,6 +1,6 @@
 //! Boxes as bytes, whatever is in them.
 
-ghost use Rattle.std.specs.Prelude.{◌≡◌, ◌+◌, ◌≤◌, ◌<◌, List, length, take, None, IfNone, IfSome};
+ghost use Rattle.std.specs.Prelude.{◌≡◌, ◌+◌, ◌-◌, ◌≤◌, ◌<◌, List, length, take, None, IfNone, IfSome};
 ghost use Rattle.mp4_remux.specs.Kept.{IsFirstBox};
 ghost use Rattle.mp4_remux.specs.References.{first_part};
 
@@ -53,19 +53,28 @@ pub(crate) struct FoundBox {
 
 impl<'a> BoxBytes<'a> {
     /// Where the box begins in the file, of which bytes end at a place that begin with it.
-    pub fn place_before(&self, end: u64) -> u64 {
+    pub fn place_before(&self, end: u64) -> u64
+        ensures { result ≡ end - length self.now.after.now
+            - (length self.now.header.now + length self.now.payload.now) }
+    {
         let len = self.header.len() as u64 + self.payload.len() as u64;
         end.saturating_sub(self.after.len() as u64)
             .saturating_sub(len)
     }
 
     /// Where its payload ends in the file, of which bytes end at a place that begin with the box.
-    pub fn payload_end(&self, end: u64) -> u64 {
+    pub fn payload_end(&self, end: u64) -> u64
+        ensures { result ≡ end - length self.now.after.now }
+    {
         end.saturating_sub(self.after.len() as u64)
     }
 
     /// The box as it was found among bytes of the file that end at this place.
-    pub fn found_before(&self, end: u64) -> FoundBox {
+    pub fn found_before(&self, end: u64) -> FoundBox
+        ensures name { result.name ≡ self.now.name }
+        ensures place { result.place ≡ end - length self.now.after.now
+            - (length self.now.header.now + length self.now.payload.now) }
+    {
         FoundBox {
             name: self.name,
             place: self.place_before(end),

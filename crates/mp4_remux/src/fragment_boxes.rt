@@ -1,7 +1,8 @@
 //! What movie fragments say of their samples beside places, times and marks.
 
-ghost use Rattle.std.specs.Prelude.{IfErr};
+ghost use Rattle.std.specs.Prelude.{IfErr, IfSome};
 ghost use Rattle.mp4_remux.specs.Errors.{IsRefusalOf};
+ghost use Rattle.mp4_remux.specs.Named.{HasBoxWithin, NamesBy};
 
 use crate::box_bytes::{FoundBox, first_box};
 use crate::error::RemuxError;
@@ -49,7 +50,9 @@ fn is_kept_by_tables(name: BoxType) -> bool {
 
 /// The first box among these bytes, which are those in a track fragment and end at this place of the file, that says
 /// more than tables do.
-fn more_in_track(bytes: &[u8], end: u64) -> Option<FoundBox> {
+fn more_in_track(bytes: &[u8], end: u64) -> Option<FoundBox>
+    ensures there { IfSome result (λ f. HasBoxWithin bytes.now end f.name f.place) }
+{
     let mut rest = bytes;
     while let Some(one) = first_box(rest) {
         if !is_kept_by_tables(one.name) {
@@ -62,7 +65,9 @@ fn more_in_track(bytes: &[u8], end: u64) -> Option<FoundBox> {
 
 /// The first box among these bytes, which are those in a movie fragment and end at this place of the file, or in a
 /// track fragment among them, that says more than tables do.
-fn more_in(bytes: &[u8], end: u64) -> Option<FoundBox> {
+fn more_in(bytes: &[u8], end: u64) -> Option<FoundBox>
+    ensures there { IfSome result (λ f. HasBoxWithin bytes.now end f.name f.place) }
+{
     let mut rest = bytes;
     while let Some(one) = first_box(rest) {
         if one.name == BoxType::TrafBox {
@@ -79,6 +84,7 @@ fn more_in(bytes: &[u8], end: u64) -> Option<FoundBox> {
 
 /// Checks that all that a movie fragment says is said by tables; the bytes of its box end at this place of the file.
 pub(crate) fn check_fragment(bytes: &[u8], end: u64) -> Result<(), RemuxError>
+    ensures names { IfErr result (NamesBy (HasBoxWithin bytes.now end)) }
     ensures refused { IfErr result (IsRefusalOf ⊥ ⊥) }
 {
     let Some(fragment) = first_box(bytes) else {

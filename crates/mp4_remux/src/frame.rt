@@ -3,8 +3,9 @@
 ghost use Rattle.std.specs.Prelude.{◌≡◌, IfSome, IfErr, IfOk};
 ghost use Rattle.mp4_source.specs.Answers.{IsLength};
 ghost use Rattle.mp4_remux.specs.Errors.{IsRefusalOf, MayRefuse};
+ghost use Rattle.mp4_remux.specs.Named.{EndsAt, NamesBox, NamesBy};
 ghost use Rattle.mp4_media.specs.FileGrammar.{between};
-ghost use Rattle.mp4_remux.specs.Front.{IsBoxOf};
+ghost use Rattle.mp4_remux.specs.Front.{AreBoxes, IsBoxOf};
 ghost use Rattle.mp4_remux.specs.Gathered.{IsFrameOf};
 
 use crate::error::RemuxError;
@@ -18,6 +19,7 @@ use std::alloc::{AllocError, Global};
 
 /// The only box of a type; `Twice` where there are two.
 pub(crate) fn only_box(boxes: &[TopBox], name: BoxType) -> Result<Option<TopBox>, RemuxError>
+    ensures names { IfErr result (NamesBy (λ _ _. ⊥)) }
     ensures refused { IfErr result (IsRefusalOf ⊥ ⊥) }
 {
     let mut found: Option<TopBox> = None;
@@ -42,6 +44,7 @@ pub(crate) fn check_header<S: ByteSource + Drop>(
 ) -> Result<S, RemuxError>
     requires { IsLength (S.contents source) len }
     ensures header { IfOk result (λ _. IfSome (S.contents source) (λ xs. IsBoxOf xs name one)) }
+    ensures names { IfErr result (NamesBy (λ _ _. ⊥)) }
     ensures contents { IfOk result (λ s. S.contents s ≡ S.contents source) }
     ensures can_refuse { IfOk result (λ s. S.can_refuse s ≡ S.can_refuse source) }
     ensures refused { IfErr result (IsRefusalOf (MayRefuse (S.contents source) (S.can_refuse source)) ⊥) }
@@ -68,6 +71,8 @@ pub(crate) fn bytes_of<S: ByteSource>(
     requires { IsLength (S.contents source.old) len }
     ensures bytes { IfOk result (λ bytes. IfSome (S.contents source.old) (λ xs.
         bytes.items ≡ between xs one.place one.end)) }
+    ensures ends { IfOk result (λ bytes. IfSome (S.contents source.old) (λ xs. EndsAt xs bytes.items one.end)) }
+    ensures names { IfErr result (NamesBy (λ _ _. ⊥)) }
     ensures contents { S.contents source.new ≡ S.contents source.old }
     ensures can_refuse { S.can_refuse source.new ≡ S.can_refuse source.old }
     ensures refused { IfErr result (IsRefusalOf (MayRefuse (S.contents source.old) (S.can_refuse source.old)) ⊥) }
@@ -90,6 +95,7 @@ pub(crate) fn checked_bytes<S: ByteSource>(
     is_gathered: bool,
 ) -> Result<Vec<u8>, RemuxError>
     requires { IsLength (S.contents source.old) len }
+    ensures names { IfErr result (NamesBox (S.contents source.old)) }
     ensures bytes { IfOk result (λ bytes. IfSome (S.contents source.old) (λ xs.
         bytes.items ≡ between xs one.place one.end)) }
     ensures contents { S.contents source.new ≡ S.contents source.old }
@@ -109,6 +115,7 @@ pub(crate) fn check_metadata<S: ByteSource>(
     boxes: &[TopBox],
 ) -> Result<(), RemuxError>
     requires { IsLength (S.contents source.old) len }
+    ensures names { IfErr result (NamesBox (S.contents source.old)) }
     ensures contents { S.contents source.new ≡ S.contents source.old }
     ensures can_refuse { S.can_refuse source.new ≡ S.can_refuse source.old }
     ensures refused { IfErr result (IsRefusalOf (MayRefuse (S.contents source.old) (S.can_refuse source.old)) ⊥) }
@@ -169,6 +176,7 @@ fn check_fragments<S: ByteSource>(
     boxes: &[TopBox],
 ) -> Result<(), RemuxError>
     requires { IsLength (S.contents source.old) len }
+    ensures names { IfErr result (NamesBox (S.contents source.old)) }
     ensures contents { S.contents source.new ≡ S.contents source.old }
     ensures can_refuse { S.can_refuse source.new ≡ S.can_refuse source.old }
     ensures refused { IfErr result (IsRefusalOf (MayRefuse (S.contents source.old) (S.can_refuse source.old)) ⊥) }
@@ -190,7 +198,9 @@ fn check_others<S: ByteSource>(
     boxes: &[TopBox],
     is_gathered: bool,
 ) -> Result<(), RemuxError>
-    requires { IsLength (S.contents source.old) len }
+    requires len { IsLength (S.contents source.old) len }
+    requires boxes { IfSome (S.contents source.old) (λ xs. AreBoxes xs 0 boxes.now) }
+    ensures names { IfErr result (NamesBox (S.contents source.old)) }
     ensures contents { S.contents source.new ≡ S.contents source.old }
     ensures can_refuse { S.can_refuse source.new ≡ S.can_refuse source.old }
     ensures refused { IfErr result (IsRefusalOf (MayRefuse (S.contents source.old) (S.can_refuse source.old)) ⊥) }
@@ -215,6 +225,7 @@ pub(crate) fn read_frame<S: ByteSource + Drop>(
     ensures can_refuse { IfOk result (λ x. S.can_refuse x.0 ≡ S.can_refuse source) }
     ensures frame { IfOk result (λ x. IfSome (S.contents source) (λ xs.
         IsFrameOf xs x.1.file_type x.1.movie x.1.movie_bytes.items)) }
+    ensures names { IfErr result (NamesBox (S.contents source)) }
     ensures refused { IfErr result (IsRefusalOf (MayRefuse (S.contents source) (S.can_refuse source)) ⊥) }
 {
     let (source, boxes) = top_boxes(alloc, source, len)?;

@@ -5,9 +5,10 @@ ghost use Rattle.std.specs.Prelude.{IsTrue, []};
 ghost use Rattle.mp4_source.specs.Answers.{IsLength};
 ghost use Rattle.mp4_remux.specs.Errors.{IsNamed, IsRefusalOf, MayRefuse, SaysFault, TakesMemory};
 ghost use Rattle.mp4_media.specs.FileGrammar.{between};
-ghost use Rattle.mp4_remux.specs.Front.{HasToMove, in_front, IsMoved, IsMovieFirst, IsMovieLater};
+ghost use Rattle.mp4_remux.specs.Front.{AreBoxes, HasToMove, in_front, IsMoved, IsMovieFirst, IsMovieLater};
 ghost use Rattle.mp4_remux.specs.Front.{NoMovieAfterData, WritesFront};
 ghost use Rattle.mp4_remux.specs.Kept.{IsKept, offsets};
+ghost use Rattle.mp4_remux.specs.Named.{NamesBox};
 ghost use Rattle.mp4_remux.specs.Splice.{of_origin, spliced};
 
 use crate::chosen::all_ids;
@@ -129,7 +130,9 @@ fn plan_moved<S: ByteSource + Drop>(
     movie: TopBox,
     tracks: usize,
 ) -> Result<(S, Layout), RemuxError>
-    requires { IsLength (S.contents source) len }
+    requires len { IsLength (S.contents source) len }
+    requires boxes { IfSome (S.contents source) (λ xs. AreBoxes xs 0 boxes.now) }
+    ensures names { IfErr result (NamesBox (S.contents source)) }
     ensures contents { IfOk result (λ x. S.contents x.0 ≡ S.contents source) }
     ensures can_refuse { IfOk result (λ x. S.can_refuse x.0 ≡ S.can_refuse source) }
     ensures source_len { IfOk result (λ x. x.1.source_len ≡ len) }
@@ -170,6 +173,7 @@ fn plan<S: ByteSource + Drop>(
         IsMoved xs (spliced xs l.made.items l.pieces.items)))) }
     ensures refused { IfErr result (IsRefusalOf (MayRefuse (S.contents source) (S.can_refuse source)) ⊥) }
     ensures named { IfErr result (λ e. IsNamed e → IsMovieLater (S.contents source)) }
+    ensures names { IfErr result (NamesBox (S.contents source)) }
     ensures later { IfOk result (λ x. IfSome x.1 (λ _. IsMovieLater (S.contents source))) }
 {
     let (source, boxes) = top_boxes(alloc, source, len)?;
@@ -219,6 +223,7 @@ pub fn move_to_front<S: ByteSource + Drop, K: ByteSink>(
         (IsTrue (K.can_refuse sink.old))) }
     ensures fault { SaysFault (S.contents source) (S.can_refuse source) result }
     ensures as_it_is { IfErr result (λ e. IsNamed e → HasToMove (S.contents source)) }
+    ensures names { IfErr result (NamesBox (S.contents source)) }
     ensures memory { TakesMemory (S.contents source) result }
 {
     let (source, len, before) = open_source(alloc, source)?;

@@ -1,7 +1,8 @@
 //! Boxes that say places of a file in a way that isn't rewritten.
 
-ghost use Rattle.std.specs.Prelude.{◌≤◌, IfErr};
+ghost use Rattle.std.specs.Prelude.{◌≡◌, ◌≤◌, ◌++◌, ℕ, List, IfErr, IfSome};
 ghost use Rattle.mp4_remux.specs.Errors.{IsRefusalOf};
+ghost use Rattle.mp4_remux.specs.Named.{HasBoxWithin, IsOneOf, NamesBy};
 
 use crate::box_bytes::{BoxBytes, FoundBox, first_box};
 use crate::error::RemuxError;
@@ -78,7 +79,9 @@ fn says_places(one: &BoxBytes) -> bool {
 
 /// The bytes in which the children of a box are: those of `meta` come after its version and flags, which files of
 /// QuickTime leave out.
-fn children_of<'a>(one: &BoxBytes<'a>) -> &'a [u8] {
+fn children_of<'a>(one: &BoxBytes<'a>) -> &'a [u8]
+    ensures { (skipped : List ℕ) × (one.now.payload.now ≡ skipped ++ result.now) }
+{
     if one.name == BoxType::MetaBox && one.payload.len() >= 4 {
         if let Some(_) = first_box(&one.payload[4..]) {
             return &one.payload[4..];
@@ -91,6 +94,7 @@ fn children_of<'a>(one: &BoxBytes<'a>) -> &'a [u8] {
 /// tables are made, something of each sample.
 fn find_in(bytes: &[u8], end: u64, level: usize, is_gathered: bool) -> Option<FoundBox>
     requires { level ≤ 8 }
+    ensures there { IfSome result (λ f. HasBoxWithin bytes.now end f.name f.place) }
 {
     let mut rest = bytes;
     while let Some(one) = first_box(rest) {
@@ -116,6 +120,7 @@ fn find_in(bytes: &[u8], end: u64, level: usize, is_gathered: bool) -> Option<Fo
 /// Checks that no box in this one, whose bytes end at this place of the file, says places that would be wrong, or where
 /// tables are made, something of each sample that they don't say.
 pub(crate) fn check_box(bytes: &[u8], end: u64, is_gathered: bool) -> Result<(), RemuxError>
+    ensures names { IfErr result (NamesBy (HasBoxWithin bytes.now end)) }
     ensures refused { IfErr result (IsRefusalOf ⊥ ⊥) }
 {
     let Some(FoundBox { name, place }) = find_in(bytes, end, 0, is_gathered) else {
@@ -145,6 +150,7 @@ pub(crate) fn is_segment_index(name: BoxType) -> bool {
 
 /// Checks that a box of the file is none that says places of others, and no movie fragment.
 pub(crate) fn check_top_box(one: TopBox) -> Result<(), RemuxError>
+    ensures names { IfErr result (NamesBy (λ name place. (one.name ≡ name) × (one.place ≡ place))) }
     ensures refused { IfErr result (IsRefusalOf ⊥ ⊥) }
 {
     let is_of_places = u32::from(one.name) == FRAGMENT_PLACES || is_segment_index(one.name);
@@ -156,10 +162,11 @@ pub(crate) fn check_top_box(one: TopBox) -> Result<(), RemuxError>
 
 /// Checks that no box of the file is one that says places of others, or a movie fragment.
 pub(crate) fn check_top_level(boxes: &[TopBox]) -> Result<(), RemuxError>
+    ensures names { IfErr result (NamesBy (IsOneOf boxes.now)) }
     ensures refused { IfErr result (IsRefusalOf ⊥ ⊥) }
 {
-    for one in boxes {
-        check_top_box(*one)?;
+    for i in 0..boxes.len() {
+        check_top_box(boxes[i])?;
     }
     Ok(())
 }

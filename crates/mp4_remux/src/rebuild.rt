@@ -10,6 +10,7 @@ ghost use Rattle.mp4_remux.specs.Gathered.{BeginsWith, HasMoreThanTables, Writes
 ghost use Rattle.mp4_remux.specs.Gathered.{WritesRebuilt};
 ghost use Rattle.mp4_remux.specs.Headers.{changed_by, made_of};
 ghost use Rattle.mp4_remux.specs.Kept.{IsKept, tracks};
+ghost use Rattle.mp4_remux.specs.Named.{NamesBox};
 ghost use Rattle.mp4_remux.specs.References.{references_in};
 ghost use Rattle.mp4_remux.specs.declared.made.Made.TheVariants.{Tables};
 ghost use Rattle.mp4_remux.specs.Splice.{spliced};
@@ -295,6 +296,7 @@ fn write_chosen<S: ByteSource + Drop, K: ByteSink>(
     requires opened { IfSome (S.contents source) (λ xs. IsFile (length xs) (here xs 0) (opened_movie movie.now)) }
     ensures written { IfOk result (λ gone. IfSome (S.contents source) (λ xs. WritesRebuilt xs (opened_movie movie.now)
         all.now ids.now gone.items (K.contents sink.old) (K.contents sink.new))) }
+    ensures names { IfErr result (NamesBox (S.contents source)) }
     ensures flushed { OnOk result (K.waiting sink.new ≡ 0) }
     ensures kept { IfErr result (λ e. IsNamed e → K.contents sink.new ≡ K.contents sink.old) }
     ensures len { IfErr result (λ e. IsNamed e → K.len sink.new ≡ K.len sink.old) }
@@ -356,6 +358,7 @@ pub fn gather<S: ByteSource + Drop, K: ByteSink>(
     ensures refused { IfErr result (IsRefusalOf (MayRefuse (S.contents source) (S.can_refuse source))
         (IsTrue (K.can_refuse sink.old))) }
     ensures fault { SaysFault (S.contents source) (S.can_refuse source) result }
+    ensures names { IfErr result (NamesBox (S.contents source)) }
     ensures as_it_is { IfErr result (λ e. IsNamed e → HasMoreThanTables (S.contents source)) }
     ensures memory { TakesMemory (S.contents source) result }
 {
@@ -399,6 +402,7 @@ pub fn choose<S: ByteSource + Drop, K: ByteSink>(
     ensures refused { IfErr result (IsRefusalOf (MayRefuse (S.contents source) (S.can_refuse source))
         (IsTrue (K.can_refuse sink.old))) }
     ensures fault { SaysFault (S.contents source) (S.can_refuse source) result }
+    ensures names { IfErr result (NamesBox (S.contents source)) }
     ensures memory { TakesMemory (S.contents source) result }
 {
     let (source, len, movie) = open_source(alloc, source)?;

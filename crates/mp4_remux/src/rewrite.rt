@@ -10,6 +10,7 @@ ghost use Rattle.mp4_codec.specs.Cause.{Cause};
 ghost use Rattle.mp4_codec.specs.Cursor.{here};
 ghost use Rattle.mp4_remux.specs.Errors.{GivesCause, IsCause, IsNamed, IsNoFault, IsRefusalOf, MayRefuse};
 ghost use Rattle.mp4_remux.specs.Errors.{SaysFault, TakesMemory};
+ghost use Rattle.mp4_remux.specs.Named.{NamesBox, NamesBy};
 ghost use Rattle.mp4_remux.specs.declared.error.RemuxError.TheVariants.{Mp4};
 ghost use Rattle.mp4_codec.specs.declared.error.Error.TheVariants.{OutOfMemory};
 ghost use Rattle.mp4_source.specs.Source.{HasPart};
@@ -47,6 +48,7 @@ pub(crate) fn open_whole<S: ByteSource + Drop>(
         (opened : OpenedFile) → IsFile len (here xs 0) opened → opened_movie x.1 ≡ opened)) }
     ensures no_fault { IfErr result (λ e. IfSome (S.contents source) (λ xs.
         (opened : OpenedFile) → IsFile len (here xs 0) opened → (c : Cause) → IsCause (S.can_refuse source) c e)) }
+    ensures names { IfErr result (NamesBy (λ _ _. ⊥)) }
     ensures memory { IfErr result (λ e. e ≡ Mp4 OutOfMemory → 8 ≤ len) }
     ensures room { OnOk result (IfSome (S.contents source) (λ _. 8 ≤ len)) }
 {
@@ -70,6 +72,7 @@ pub(crate) fn open_source<S: ByteSource + Drop>(
     ensures opens { IfErr result (λ e. IsNamed e → IsNoFile (S.contents source)) }
     ensures only { IfOk result (λ x. IsOnlyFile (S.contents source) (opened_movie x.2)) }
     ensures no_fault { IfErr result (IsNoFault (S.contents source) (S.can_refuse source)) }
+    ensures names { IfErr result (NamesBox (S.contents source)) }
     ensures memory { TakesMemory (S.contents source) result }
     ensures room { OnOk result (HasPart (S.contents source) 0 8) }
 {
@@ -101,6 +104,7 @@ pub(crate) fn write_layout<S: ByteSource + Drop, K: ByteSink>(
     ensures written { OnOk result (IfSome (S.contents source) (λ xs.
         WritesRemuxed xs (spliced xs layout.now.made.items layout.now.pieces.items) (opened_movie before.now) made
         ids.now (K.contents sink.old) (K.contents sink.new))) }
+    ensures names { IfErr result (NamesBox (S.contents source)) }
     ensures flushed { OnOk result (K.waiting sink.new ≡ 0) }
     ensures kept { IfErr result (λ e. IsNamed e → K.contents sink.new ≡ K.contents sink.old) }
     ensures len { IfErr result (λ e. IsNamed e → K.len sink.new ≡ K.len sink.old) }

@@ -3,6 +3,7 @@
 ghost use Rattle.std.specs.Prelude.{◌≡◌, IfErr};
 ghost use Rattle.mp4_source.specs.Answers.{IsLength};
 ghost use Rattle.mp4_remux.specs.Errors.{IsRefusalOf, MayRefuse};
+ghost use Rattle.mp4_remux.specs.Named.{IsOneOf, NamesBy};
 
 use crate::box_bytes::first_box;
 use crate::error::RemuxError;
@@ -78,6 +79,7 @@ fn check_index<S: ByteSource>(
     moved: &[TopBox],
 ) -> Result<(), RemuxError>
     requires { IsLength (S.contents source.old) len }
+    ensures names { IfErr result (NamesBy (λ name place. (one.name ≡ name) × (one.place ≡ place))) }
     ensures contents { S.contents source.new ≡ S.contents source.old }
     ensures can_refuse { S.can_refuse source.new ≡ S.can_refuse source.old }
     ensures refused { IfErr result (IsRefusalOf (MayRefuse (S.contents source.old) (S.can_refuse source.old)) ⊥) }
@@ -102,15 +104,17 @@ pub(crate) fn check_moved<S: ByteSource>(
     moved: &[TopBox],
 ) -> Result<(), RemuxError>
     requires { IsLength (S.contents source.old) len }
+    ensures names { IfErr result (NamesBy (IsOneOf boxes.now)) }
     ensures contents { S.contents source.new ≡ S.contents source.old }
     ensures can_refuse { S.can_refuse source.new ≡ S.can_refuse source.old }
     ensures refused { IfErr result (IsRefusalOf (MayRefuse (S.contents source.old) (S.can_refuse source.old)) ⊥) }
 {
-    for one in boxes {
+    for i in 0..boxes.len() {
+        let one = boxes[i];
         if is_segment_index(one.name) {
-            check_index(alloc, source, len, *one, moved)?;
+            check_index(alloc, source, len, one, moved)?;
         } else {
-            check_top_box(*one)?;
+            check_top_box(one)?;
         }
     }
     Ok(())

@@ -3,6 +3,7 @@
 ghost use Rattle.std.specs.Prelude.{◌≡◌, ◌+◌, ◌≤◌, ◌<◌, List, length, IfSome, IfOk, IfErr};
 ghost use Rattle.mp4_source.specs.Answers.{IsLength};
 ghost use Rattle.mp4_remux.specs.Errors.{IsNamed, IsRefusalOf, MayRefuse};
+ghost use Rattle.mp4_remux.specs.Named.{NamesBy};
 ghost use Rattle.mp4_remux.specs.Front.{AreBoxes, HasNoHeader, IsTopBox, top_end};
 
 use crate::error::RemuxError;
@@ -51,6 +52,7 @@ fn read_top<S: ByteSource + Drop>(
     ensures place { IfOk result (λ b. b.place ≡ place) }
     ensures moved { IfOk result (λ b. place < b.end) }
     ensures named { IfErr result (λ e. IsNamed e → HasNoHeader (S.contents cursor.old.source) place) }
+    ensures names { IfErr result (NamesBy (λ _ _. ⊥)) }
     ensures contents { S.contents cursor.new.source ≡ S.contents cursor.old.source }
     ensures can_refuse { S.can_refuse cursor.new.source ≡ S.can_refuse cursor.old.source }
     ensures same_len { cursor.new.len ≡ cursor.old.len }
@@ -77,6 +79,7 @@ pub(crate) fn top_boxes<S: ByteSource + Drop>(
     ensures boxes { IfOk result (λ x. IfSome (S.contents source) (λ xs. AreBoxes xs 0 x.1.items)) }
     ensures none { IfErr result (λ e. IsNamed e → IfSome (S.contents source) (λ xs.
         (bs : List TopBox) → AreBoxes xs 0 bs → ⊥)) }
+    ensures names { IfErr result (NamesBy (λ _ _. ⊥)) }
     ensures contents { IfOk result (λ x. S.contents x.0 ≡ S.contents source) }
     ensures can_refuse { IfOk result (λ x. S.can_refuse x.0 ≡ S.can_refuse source) }
     ensures refused { IfErr result (IsRefusalOf (MayRefuse (S.contents source) (S.can_refuse source)) ⊥) }

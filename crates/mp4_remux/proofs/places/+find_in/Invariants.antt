@@ -1,8 +1,17 @@
-use Rattle.std.proofs.Common.{◌-◌, length}
+use Rattle.std.proofs.Common.{◌-◌, ℕ, length}
+use Rattle.mp4_codec.specs.declared.box_type.BoxType.{BoxType}
+use Rattle.mp4_remux.specs.Named.{HasBoxWithin}
 use Rattle.mp4_remux.proofs.places.+find_in.Given as goal
 
 abbrev pub decreases-find_in : goal.decreases-find_in
 decreases-find_in a = 8 - a.level
+
+-- what is named in the rest is named in all
+abbrev pub invariant-loop-one : goal.invariant-loop-one
+invariant-loop-one l = record {
+  within : (name : BoxType) (place : ℕ) → HasBoxWithin l.rest l.end name place
+      → HasBoxWithin l.fn.bytes l.fn.end name place;
+}
 
 abbrev pub decreases-loop-one : goal.decreases-loop-one
 decreases-loop-one l = length l.rest

@@ -1,0 +1,306 @@
+-- Boxes that are found among the bytes of a file begin where they are said to.
+use Rattle.std.proofs.Common.{◌≡◌, ◌∙◌, ℕ, zero, suc, ◌+◌, ◌-◌, ◌≤◌, ◌<◌, ◌==◌, ◌++◌, Bool, true, false, nat_lt}
+use Rattle.std.proofs.Common.{List, [], ◌∷◌, length, take, drop, Option, None, Some, IfSome, Result, Ok, Err, IfErr}
+use Rattle.std.proofs.Common.{if◌then◌else◌, refl, sym, ap, subst, arith, take-take, drop-drop}
+use Rattle.std.proofs.lemmas.Bool.{le-ltb, ltb-false, ltb-true}
+use Rattle.std.proofs.lemmas.List.{drop-take, length-append, length-drop, length-take-le, take-append-drop}
+use Rattle.std.proofs.lemmas.List.{take_rest}
+use Rattle.std.specs.Prelude.{slice_get}
+use Rattle.byteorder.specs.Endian.{big_number}
+use Rattle.mp4_codec.specs.BoxType.{box_type}
+use Rattle.mp4_codec.specs.Cause.{Cause, end_of_data, ◌>>=◌}
+use Rattle.mp4_codec.specs.Cursor.{Cursor, Head, here, moved, take_at, head_with, head_after, head_at, header_at, reported}
+use Rattle.mp4_codec.specs.Steps.{ok_is, both_steps}
+use Rattle.mp4_codec.specs.declared.box_type.BoxType.{BoxType}
+use Rattle.mp4_codec.specs.declared.header.BoxHeader.{BoxHeader}
+use Rattle.mp4_media.specs.FileGrammar.{between}
+use Rattle.mp4_source.specs.Answers.{IsLength}
+use Rattle.mp4_source.specs.Source.{IsPartOf}
+use Rattle.mp4_source.specs.declared.file_error.FileError.{FileError}
+use Rattle.mp4_source.specs.declared.file_error.FileError.TheVariants.{Mp4 as of_mp4, Io as file_refused}
+use Rattle.mp4_remux.specs.declared.layout_error.LayoutError.{LayoutError}
+use Rattle.mp4_remux.specs.declared.layout_error.LayoutError.TheVariants.{Mp4 as of_movie, TooManySamples as too_many}
+use Rattle.mp4_remux.specs.declared.layout_error.LayoutError.TheVariants.{StartsElsewhere as elsewhere}
+use Rattle.mp4_remux.specs.declared.layout_error.LayoutError.TheVariants.{SameIds as same_ids, OtherTracks as other}
+use Rattle.mp4_remux.specs.declared.layout_error.LayoutError.TheVariants.{Differs as differs}
+use Rattle.mp4_remux.specs.declared.error.RemuxError.{RemuxError}
+use Rattle.mp4_remux.specs.declared.error.RemuxError.TheVariants.{Mp4, Read, Write, Twice, SaysPlaces}
+use Rattle.mp4_remux.specs.declared.error.RemuxError.TheVariants.{TooManySamples, OtherTracks, Differs}
+use Rattle.mp4_remux.specs.declared.error.RemuxError.TheVariants.{SaysOfSamples, StartsElsewhere, SameIds}
+use Rattle.mp4_remux.specs.declared.top_level.TopBox.{TopBox}
+use Rattle.mp4_remux.specs.Errors.{CopyFails, of_file, of_layout}
+use Rattle.mp4_remux.specs.Front.{AreBoxes, IsTopBox}
+use Rattle.mp4_remux.specs.Kept.{IsFirstBox}
+use Rattle.mp4_remux.specs.Named.{EndsAt, HasBox, HasBoxWithin, IsOneOf, NamesBox, NamesBy}
+
+-- HEADERS
+
+module _ (file rest : List ℕ) (start : ℕ) (within : start + length rest ≤ length file)
+    (is : take (length rest) (drop start file) ≡ rest)
+  where
+    -- what is after p bytes of these
+    after : (p n : ℕ) → p + n ≤ length rest → take n (drop p rest) ≡ take n (drop (start + p) file)
+    after p n fits =
+        let left = length rest - p in
+        let cut : drop p rest ≡ take left (drop (start + p) file) =
+        ap (drop p) (sym is ∙ ap (λ k. take k (drop start file)) (omega (arith, fits)))
+        ∙ drop-take p left (drop start file) ∙ ap (take left) (drop-drop p start file) in
+        ap (take n) cut ∙ take-take n left (drop (start + p) file) (omega (arith, fits))
+
+    -- what is taken of them
+    taken : (p n : ℕ) (x : List ℕ × Cursor) → take_at n (here rest p) ≡ Ok x
+        → (take_at n (here file (start + p)) ≡ Ok (x.0, here file (start + p + n))) × (x.1 ≡ here rest (p + n))
+    taken p n x e = by (nat_lt (length rest) (p + n)) refl e
+      where
+        by : (b : Bool) → nat_lt (length rest) (p + n) ≡ b
+            → (if b then Err end_of_data else Ok (take n (drop p rest), here rest (p + n))) ≡ Ok x
+            → (take_at n (here file (start + p)) ≡ Ok (x.0, here file (start + p + n))) × (x.1 ≡ here rest (p + n))
+        by true short e = absurd cc
+        by false long e =
+            let fits = ltb-false (length rest) (p + n) long in
+            let same = ok_is (take n (drop p rest), here rest (p + n)) x e in
+            let bytes : take n (drop (start + p) file) ≡ x.0 =
+            sym (after p n fits) ∙ ap (λ (y : List ℕ × Cursor). y.0) same in (
+              rw (le-ltb (length file) (start + p + n) (omega (arith, fits, within)))
+                  (ap (λ (ys : List ℕ). Ok (ys, here file (start + p + n))) bytes),
+              sym (ap (λ (y : List ℕ × Cursor). y.1) same),
+            )
+
+    size_there : (name : BoxType) (size : ℕ) (x : Head × Cursor) → head_after name size (here rest 8) ≡ Ok x
+        → (c : Cursor) × (head_after name size (here file (start + 8)) ≡ Ok (x.0, c))
+    size_there name size x e = by (size == 1) e
+      where
+        long : List ℕ × Cursor → Result (Head × Cursor) Cause
+        long large = head_with name 16 (big_number 8 large.0) >>= λ head. Ok (head, large.1)
+
+        by : (b : Bool)
+            → (if b then (take_at 8 (here rest 8) >>= long)
+            else (head_with name 8 size >>= λ head. Ok (head, here rest 8))) ≡ Ok x
+            → (c : Cursor) × ((if b then (take_at 8 (here file (start + 8)) >>= long)
+            else (head_with name 8 size >>= λ head. Ok (head, here file (start + 8)))) ≡ Ok (x.0, c))
+        by true e =
+            let s = both_steps (take_at 8 (here rest 8)) long x e in
+            let t = taken 8 8 s.0 s.1 in
+            let h = both_steps (head_with name 16 (big_number 8 s.0.0)) (λ head. Ok (head, s.0.1)) x s.2 in
+            let head : h.0 ≡ x.0 = ap (λ (y : Head × Cursor). y.0) (ok_is (h.0, s.0.1) x h.2) in (
+              here file (start + 8 + 8),
+              rw (t.0, h.1) (ap (λ (y : Head). Ok (y, here file (start + 8 + 8))) head),
+            )
+        by false e =
+            let h = both_steps (head_with name 8 size) (λ head. Ok (head, here rest 8)) x e in
+            let head : h.0 ≡ x.0 = ap (λ (y : Head × Cursor). y.0) (ok_is (h.0, here rest 8) x h.2) in (
+              here file (start + 8),
+              rw h.1 (ap (λ (y : Head). Ok (y, here file (start + 8))) head),
+            )
+
+    -- a header with which they begin is there
+    pub header_there : (h : BoxHeader) (c : Cursor) → header_at (here rest 0) ≡ Ok (h, c) → HasBox file h.name start
+    unfolding head_at
+    header_there h c e =
+        let one = both_steps (head_at (here rest 0)) (λ (x : Head × Cursor). Ok (reported x.0, x.1)) (h, c) e in
+        let two = both_steps (take_at 8 (here rest 0))
+        (λ (first : List ℕ × Cursor). head_after (box_type (big_number 4 (drop 4 first.0))) (big_number 4 first.0) first.1)
+        one.0 one.1 in
+        let t = taken 0 8 two.0 two.1 in
+        let s = size_there (box_type (big_number 4 (drop 4 two.0.0))) (big_number 4 two.0.0) one.0
+        (subst (λ (d : Cursor). head_after (box_type (big_number 4 (drop 4 two.0.0))) (big_number 4 two.0.0) d
+        ≡ Ok one.0) t.1 two.2) in
+        let begin : start + 0 ≡ start = omega arith in
+        let first : take_at 8 (here file start) ≡ Ok (two.0.0, here file (start + 8)) =
+        rw begin at t.0 in (
+          (reported one.0.0, s.0),
+          ap (λ r. (r >>= λ (x : List ℕ × Cursor). head_after (box_type (big_number 4 (drop 4 x.0)))
+              (big_number 4 x.0) x.1) >>= λ (y : Head × Cursor). Ok (reported y.0, y.1)) first
+              ∙ ap (λ r. r >>= λ (y : Head × Cursor). Ok (reported y.0, y.1)) s.1,
+          ap (λ (y : BoxHeader × Cursor). y.0.name) (ok_is (reported one.0.0, one.0.1) (h, c) one.2),
+        )
+
+-- PARTS OF BYTES
+
+prefix : (ys b c : List ℕ) → take (length (b ++ c)) ys ≡ b ++ c → take (length b) ys ≡ b
+prefix ys [] c is = refl
+prefix [] (x ∷ b) c is = absurd cc
+prefix (y ∷ ys) (x ∷ b) c is =
+    let head : y ≡ x = cc in
+    let tail : take (length (b ++ c)) ys ≡ b ++ c = cc in
+    rw head (ap (λ (zs : List ℕ). x ∷ zs) (prefix ys b c tail))
+
+part : (ys a b c : List ℕ) → take (length (a ++ (b ++ c))) ys ≡ a ++ (b ++ c) → take (length b) (drop (length a) ys) ≡ b
+part ys [] b c is = prefix ys b c is
+part [] (x ∷ a) b c is = absurd cc
+part (y ∷ ys) (x ∷ a) b c is =
+    let tail : take (length (a ++ (b ++ c))) ys ≡ a ++ (b ++ c) = cc in part ys a b c tail
+
+-- bytes between others of a file
+part_ends : (file bytes a b c : List ℕ) (end : ℕ) → bytes ≡ a ++ (b ++ c) → EndsAt file bytes end
+    → EndsAt file b (end - length c)
+part_ends file bytes a b c end all at =
+    let e : EndsAt file (a ++ (b ++ c)) end = subst (λ (ys : List ℕ). EndsAt file ys end) all at in
+    let long = length-append a (b ++ c) in
+    let short = length-append b c in
+    record {
+      start = e.start + length a;
+      there = omega (arith, e.there, long, short);
+      within = omega (arith, e.within);
+      bytes_are = sym (ap (take (length b)) (drop-drop (length a) e.start file))
+          ∙ part (drop e.start file) a b c e.bytes_are;
+    }
+
+none_after : (xs : List ℕ) → xs ++ [] ≡ xs
+none_after [] = refl
+none_after (x ∷ xs) = ap (λ (ys : List ℕ). x ∷ ys) (none_after xs)
+
+-- the last of them
+last_ends : (file bytes a b : List ℕ) (end : ℕ) → bytes ≡ a ++ b → EndsAt file bytes end → EndsAt file b end
+last_ends file bytes a b end all at =
+    let same : end - 0 ≡ end = omega arith in
+    subst (λ n. EndsAt file b n) same
+    (part_ends file bytes a b [] end (all ∙ ap (λ (ys : List ℕ). a ++ ys) (sym (none_after b))) at)
+
+two_parts : (a b c : List ℕ) → a ++ (b ++ c) ≡ (a ++ b) ++ c
+two_parts [] b c = refl
+two_parts (x ∷ a) b c = ap (λ (ys : List ℕ). x ∷ ys) (two_parts a b c)
+
+module _ (rest : List ℕ) (name : BoxType) (header payload after : List ℕ) (first : IsFirstBox rest name header payload after)
+    (end : ℕ)
+  where
+    -- a box with which bytes begin is there
+    pub first_named : HasBoxWithin rest end name (end - length after - (length header + length payload))
+    first_named file at =
+        let long = length-append header (payload ++ after) in
+        let short = length-append payload after in
+        let whole = ap length first.all in
+        let place : end - length after - (length header + length payload) ≡ at.start =
+        omega (arith, at.there, long, short, whole) in
+        rw place (header_there file rest at.start (omega (arith, at.there, at.within)) at.bytes_are _ _ first.head)
+
+    -- what is named in its payload, or in the end of that
+    pub inner_named : (skipped inner : List ℕ) (n : BoxType) (p : ℕ) → payload ≡ skipped ++ inner
+        → HasBoxWithin inner (end - length after) n p → HasBoxWithin rest end n p
+    inner_named skipped inner n p is named file at =
+        named file (part_ends file rest (header ++ skipped) inner after end
+        (first.all ∙ ap (λ (ys : List ℕ). header ++ (ys ++ after)) is
+        ∙ ap (λ (ys : List ℕ). header ++ ys) (sym (two_parts skipped inner after))
+        ∙ two_parts header skipped (inner ++ after)) at)
+
+    -- what is named after it
+    pub later_named : (n : BoxType) (p : ℕ) → HasBoxWithin after end n p → HasBoxWithin rest end n p
+    later_named n p named file at =
+        named file (last_ends file rest (header ++ payload) after end
+        (first.all ∙ two_parts header payload after) at)
+
+-- the last bytes of others
+pub all_but : (n : ℕ) (xs : List ℕ) → (skipped : List ℕ) × (xs ≡ skipped ++ take (length xs - n) (drop n xs))
+all_but n xs = (
+  take n xs,
+  sym (take-append-drop n xs) ∙ ap (λ (ys : List ℕ). take n xs ++ ys) (sym (take_rest xs n)),
+)
+
+-- bytes between two places of a file end at the second
+pub between_ends : (file : List ℕ) (place end : ℕ) → place + (end - place) ≤ length file
+    → EndsAt file (between file place end) end
+between_ends file place end fits = by (nat_lt end place) refl
+  where
+    by : (b : Bool) → nat_lt end place ≡ b → EndsAt file (between file place end) end
+    by true less =
+        let lt = ltb-true end place less in
+        let none : 0 ≡ end - place = omega (arith, lt) in
+        subst (λ n. EndsAt file (take n (drop place file)) end) none (record {
+          start = end;
+          there = omega arith;
+          within = omega (arith, lt, fits);
+          bytes_are = refl;
+        })
+    by false ge =
+        let le = ltb-false end place ge in
+        let long : length (take (end - place) (drop place file)) ≡ end - place =
+        length-take-le (end - place) (drop place file) (omega (arith, length-drop place file, fits)) in
+        record {
+          start = place;
+          there = omega (arith, le, long);
+          within = omega (arith, le, fits);
+          bytes_are = ap (λ n. take n (drop place file)) long;
+        }
+
+pub part_is_there : (known : Option (List ℕ)) (len place end : ℕ) (bytes : List ℕ) → IsLength known len
+    → place + (end - place) ≤ len → IsPartOf known place (end - place) bytes
+    → IfSome known (λ xs. EndsAt xs bytes end)
+part_is_there None len place end bytes measured fits read = tt
+part_is_there (Some xs) len place end bytes measured fits read =
+    subst (λ (ys : List ℕ). EndsAt xs ys end) (sym read.1) (between_ends xs place end (omega (arith, measured, fits)))
+
+-- what is named in bytes of a file is there
+pub within_known : (known : Option (List ℕ)) (bytes : List ℕ) (end : ℕ) → IfSome known (λ xs. EndsAt xs bytes end)
+    → (name : BoxType) (place : ℕ) → HasBoxWithin bytes end name place → IfSome known (λ xs. HasBox xs name place)
+within_known None bytes end at name place named = tt
+within_known (Some xs) bytes end at name place named = named xs at
+
+-- so is each of the file's boxes
+each_is_there : (xs : List ℕ) (from : ℕ) (boxes : List TopBox) → AreBoxes xs from boxes → (b : TopBox) (i : ℕ)
+    → slice_get boxes i ≡ Some b → IsTopBox xs b
+unfolding AreBoxes
+each_is_there xs from [] are b i there = absurd cc
+each_is_there xs from (c ∷ cs) are b zero there =
+    let same : c ≡ b = cc in subst (λ (d : TopBox). IsTopBox xs d) same are.1.0
+each_is_there xs from (c ∷ cs) are b (suc i) there = each_is_there xs c.end cs are.1.1 b i there
+
+pub one_of_known : (known : Option (List ℕ)) (boxes : List TopBox) → IfSome known (λ xs. AreBoxes xs 0 boxes)
+    → (name : BoxType) (place : ℕ) → IsOneOf boxes name place → IfSome known (λ xs. HasBox xs name place)
+one_of_known None boxes are name place one = tt
+one_of_known (Some xs) boxes are name place one =
+    let top = each_is_there xs 0 boxes are one.0 one.1 one.2 in (
+      (record { name = one.0.name; size = top.size }, here xs top.from),
+      subst (λ n. header_at (here xs n) ≡ Ok (record { name = one.0.name; size = top.size }, here xs top.from)) one.4
+          top.head,
+      one.3,
+    )
+
+-- REFUSALS
+
+pub names_as : (P Q : BoxType → ℕ → Type 0) → ((name : BoxType) (place : ℕ) → P name place → Q name place)
+    → (e : RemuxError) → NamesBy P e → NamesBy Q e
+names_as P Q also (Mp4 e) says = tt
+names_as P Q also (Read e) says = tt
+names_as P Q also (Write e) says = tt
+names_as P Q also (Twice name) says = tt
+names_as P Q also (SaysPlaces name place) says = also name place says
+names_as P Q also (TooManySamples track) says = tt
+names_as P Q also (SaysOfSamples name place) says = also name place says
+names_as P Q also (StartsElsewhere track number) says = tt
+names_as P Q also SameIds says = tt
+names_as P Q also OtherTracks says = tt
+names_as P Q also (Differs track number) says = tt
+
+pub names_none : (P : BoxType → ℕ → Type 0) (e : RemuxError) → NamesBy (λ name place. ⊥) e → NamesBy P e
+names_none P e says = names_as (λ name place. ⊥) P (λ name place no. absurd no) e says
+
+-- what a file or a sample is refused for names no box
+pub file_names_none : (P : BoxType → ℕ → Type 0) (e : FileError) → NamesBy P (of_file e)
+file_names_none P (of_mp4 e) = tt
+file_names_none P (file_refused e) = tt
+
+pub layout_names_none : (P : BoxType → ℕ → Type 0) (e : LayoutError) → NamesBy P (of_layout e)
+layout_names_none P (of_movie e) = tt
+layout_names_none P (too_many track) = tt
+layout_names_none P (elsewhere track number) = tt
+layout_names_none P same_ids = tt
+layout_names_none P other = tt
+layout_names_none P (differs track number) = tt
+
+pub copy_names_none : {X : Type 0} (P : BoxType → ℕ → Type 0) (Refuses : Type 0) (can_refuse : Bool)
+    (result : Result X RemuxError) → IfErr result (CopyFails Refuses can_refuse) → IfErr result (NamesBy P)
+copy_names_none {X} P Refuses can_refuse (Ok x) fails = tt
+copy_names_none {X} P Refuses can_refuse (Err e) fails = by e fails
+  where
+    by : (e : RemuxError) → CopyFails Refuses can_refuse e → NamesBy P e
+    by (Mp4 e) fails = tt
+    by (Read e) fails = tt
+    by (Write e) fails = tt
+    by (Twice name) fails = tt
+    by (SaysPlaces name place) fails = absurd fails
+    by (TooManySamples track) fails = tt
+    by (SaysOfSamples name place) fails = absurd fails
+    by (StartsElsewhere track number) fails = tt
+    by SameIds fails = tt
+    by OtherTracks fails = tt
+    by (Differs track number) fails = tt
