@@ -1,13 +1,14 @@
 -- Boxes that are found among the bytes of a file begin where they are said to.
 use Rattle.std.proofs.Common.{◌≡◌, ◌∙◌, ℕ, zero, suc, ◌+◌, ◌-◌, ◌≤◌, ◌<◌, ◌==◌, ◌++◌, Bool, true, false, nat_lt}
 use Rattle.std.proofs.Common.{List, [], ◌∷◌, length, take, drop, Option, None, Some, IfSome, Result, Ok, Err, IfErr}
-use Rattle.std.proofs.Common.{if◌then◌else◌, refl, sym, ap, subst, arith, take-take, drop-drop}
-use Rattle.std.proofs.lemmas.Bool.{le-ltb, ltb-false, ltb-true}
+use Rattle.std.proofs.Common.{inr, if◌then◌else◌, refl, sym, ap, subst, arith, take-take, drop-drop}
+use Rattle.std.proofs.lemmas.Bool.{eqb-true, le-ltb, ltb-false, ltb-true}
 use Rattle.std.proofs.lemmas.List.{drop-take, length-append, length-drop, length-take-le, take-append-drop}
 use Rattle.std.proofs.lemmas.List.{take_rest}
-use Rattle.std.specs.Prelude.{slice_get}
+use Rattle.std.specs.Prelude.{IsTrue, slice_get}
+use Rattle.std.specs.List.{list_any}
 use Rattle.byteorder.specs.Endian.{big_number}
-use Rattle.mp4_codec.specs.BoxType.{box_type}
+use Rattle.mp4_codec.specs.BoxType.{box_type, code_of}
 use Rattle.mp4_codec.specs.Cause.{Cause, end_of_data, ◌>>=◌}
 use Rattle.mp4_codec.specs.Cursor.{Cursor, Head, here, moved, take_at, head_with, head_after, head_at, header_at, reported}
 use Rattle.mp4_codec.specs.Steps.{ok_is, both_steps}
@@ -31,7 +32,7 @@ use Rattle.mp4_remux.specs.declared.top_level.TopBox.{TopBox}
 use Rattle.mp4_remux.specs.Errors.{CopyFails, of_file, of_layout}
 use Rattle.mp4_remux.specs.Front.{AreBoxes, IsTopBox}
 use Rattle.mp4_remux.specs.Kept.{IsFirstBox}
-use Rattle.mp4_remux.specs.Named.{EndsAt, HasBox, HasBoxWithin, IsOneOf, NamesBox, NamesBy}
+use Rattle.mp4_remux.specs.Named.{EndsAt, HasBox, HasBoxWithin, IsOneOf, IsPlacing, NamesBy, placing_others}
 
 -- HEADERS
 
@@ -255,6 +256,17 @@ one_of_known (Some xs) boxes are name place one =
       one.3,
     )
 
+-- TYPES OF BOXES
+
+pub index_places : (name : BoxType) (code : ℕ) → code ≡ code_of name → IsTrue (code == 0x73696478) → IsPlacing name
+index_places name code is same = by (code == 0x73696478) refl same
+  where
+    by : (b : Bool) → (code == 0x73696478) ≡ b → IsTrue b → IsPlacing name
+    by true e t =
+        let named : 0x73696478 ≡ code_of name = sym (eqb-true code 0x73696478 e) ∙ is in
+        inr (subst (λ n. IsTrue (list_any (λ c. c == n) placing_others)) named cc)
+    by false e t = absurd cc
+
 -- REFUSALS
 
 pub names_as : (P Q : BoxType → ℕ → Type 0) → ((name : BoxType) (place : ℕ) → P name place → Q name place)
@@ -263,9 +275,9 @@ names_as P Q also (Mp4 e) says = tt
 names_as P Q also (Read e) says = tt
 names_as P Q also (Write e) says = tt
 names_as P Q also (Twice name) says = tt
-names_as P Q also (SaysPlaces name place) says = also name place says
+names_as P Q also (SaysPlaces name place) says = (says.0, also name place says.1)
 names_as P Q also (TooManySamples track) says = tt
-names_as P Q also (SaysOfSamples name place) says = also name place says
+names_as P Q also (SaysOfSamples name place) says = (says.0, also name place says.1)
 names_as P Q also (StartsElsewhere track number) says = tt
 names_as P Q also SameIds says = tt
 names_as P Q also OtherTracks says = tt

@@ -1,56 +1,55 @@
 //! What movie fragments say of their samples beside places, times and marks.
 
-ghost use Rattle.std.specs.Prelude.{IfErr, IfSome};
+ghost use Rattle.std.specs.Prelude.{◌↔◌, IfErr, IfSome, IsTrue};
 ghost use Rattle.mp4_remux.specs.Errors.{IsRefusalOf};
-ghost use Rattle.mp4_remux.specs.Named.{HasBoxWithin, NamesBy};
+ghost use Rattle.mp4_remux.specs.Kept.{IsAmong};
+ghost use Rattle.mp4_remux.specs.Named.{HasBoxWithin, NamesBy, kept_by_tables, of_samples};
 
 use crate::box_bytes::{FoundBox, first_box};
 use crate::error::RemuxError;
+use crate::kept::is_among;
 use mp4_codec::BoxType;
 
-/// `skip`, which has nothing in it, as `free` (ISO/IEC 14496-12, 8.1.2).
-const SKIPPED: u32 = 0x736b_6970;
+/// The codes of the boxes that say something of each sample: on which others it depends (`sdtp`, ISO/IEC 14496-12,
+/// 8.6.4), how much it matters (`stdp`, 8.5.3), by how many bits it is padded (`padb`, 8.7.6), how much information
+/// comes with it (`saiz`, 8.7.8), and how it is encrypted (`senc`, ISO/IEC 23001-7, 7.2).
+const OF_SAMPLES: [u32; 5] = [
+    0x7364_7470,
+    0x7374_6470,
+    0x7061_6462,
+    0x7361_697a,
+    0x7365_6e63,
+];
 
-/// `sdtp`, on which samples others depend (8.6.4).
-const DEPENDENCIES: u32 = 0x7364_7470;
-
-/// `stdp`, how much each sample matters (8.5.3).
-const PRIORITIES: u32 = 0x7374_6470;
-
-/// `padb`, by how many bits samples are padded (8.7.6).
-const PADDING: u32 = 0x7061_6462;
-
-/// `saiz`, how much information comes with samples (8.7.8).
-const INFORMATION_SIZES: u32 = 0x7361_697a;
-
-/// `senc`, how samples are encrypted (ISO/IEC 23001-7, 7.2).
-const ENCRYPTION: u32 = 0x7365_6e63;
+/// The codes of the boxes in a movie fragment that say nothing which is lost when tables are made of it: `mfhd`, `tfhd`,
+/// `tfdt` and `trun` (8.8), `free` and `skip` (8.1.2).
+const KEPT_BY_TABLES: [u32; 6] = [
+    0x6d66_6864,
+    0x7466_6864,
+    0x7466_6474,
+    0x7472_756e,
+    0x6672_6565,
+    0x736b_6970,
+];
 
 /// Whether a box says something of each sample of a track's tables.
-pub(crate) fn is_of_samples(name: BoxType) -> bool {
-    let code = u32::from(name);
-    code == DEPENDENCIES
-        || code == PRIORITIES
-        || code == PADDING
-        || code == INFORMATION_SIZES
-        || code == ENCRYPTION
+pub(crate) fn is_of_samples(name: BoxType) -> bool
+    ensures { IsTrue result ↔ IsAmong of_samples name }
+{
+    is_among(&OF_SAMPLES, name)
 }
 
 /// Whether a box in a movie fragment says nothing that is lost when tables are made of it.
-fn is_kept_by_tables(name: BoxType) -> bool {
-    match name {
-        BoxType::MfhdBox
-        | BoxType::TfhdBox
-        | BoxType::TfdtBox
-        | BoxType::TrunBox
-        | BoxType::FreeBox => true,
-        _ => u32::from(name) == SKIPPED,
-    }
+fn is_kept_by_tables(name: BoxType) -> bool
+    ensures { IsTrue result ↔ IsAmong kept_by_tables name }
+{
+    is_among(&KEPT_BY_TABLES, name)
 }
 
 /// The first box among these bytes, which are those in a track fragment and end at this place of the file, that says
 /// more than tables do.
 fn more_in_track(bytes: &[u8], end: u64) -> Option<FoundBox>
+    ensures more { IfSome result (λ f. IsAmong kept_by_tables f.name → ⊥) }
     ensures there { IfSome result (λ f. HasBoxWithin bytes.now end f.name f.place) }
 {
     let mut rest = bytes;
@@ -66,6 +65,7 @@ fn more_in_track(bytes: &[u8], end: u64) -> Option<FoundBox>
 /// The first box among these bytes, which are those in a movie fragment and end at this place of the file, or in a
 /// track fragment among them, that says more than tables do.
 fn more_in(bytes: &[u8], end: u64) -> Option<FoundBox>
+    ensures more { IfSome result (λ f. IsAmong kept_by_tables f.name → ⊥) }
     ensures there { IfSome result (λ f. HasBoxWithin bytes.now end f.name f.place) }
 {
     let mut rest = bytes;

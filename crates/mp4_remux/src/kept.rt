@@ -1,6 +1,6 @@
 //! Whether a movie box is as it was, but for the boxes that are others.
 
-ghost use Rattle.std.specs.Prelude.{◌≡◌, ◌≤◌, List, ℕ, length, IsTrue};
+ghost use Rattle.std.specs.Prelude.{◌≡◌, ◌↔◌, ◌≤◌, List, ℕ, length, IsTrue};
 ghost use Rattle.mp4_remux.specs.Kept.{IsAmong, IsKept, entered};
 
 use crate::box_bytes::{BoxBytes, first_box};
@@ -24,8 +24,8 @@ fn is_entered(name: BoxType) -> bool
 }
 
 /// Whether the code of a type is one of these.
-fn is_among(codes: &[u32], name: BoxType) -> bool
-    ensures { IsTrue result → IsAmong codes.now name }
+pub(crate) fn is_among(codes: &[u32], name: BoxType) -> bool
+    ensures { IsTrue result ↔ IsAmong codes.now name }
 {
     codes.contains(&u32::from(name))
 }

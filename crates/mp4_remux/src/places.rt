@@ -1,20 +1,24 @@
 //! Boxes that say places of a file in a way that isn't rewritten.
 
-ghost use Rattle.std.specs.Prelude.{◌≡◌, ◌≤◌, ◌++◌, ℕ, List, IfErr, IfSome};
+ghost use Rattle.std.specs.Prelude.{◌≡◌, ◌≤◌, ◌++◌, ◌⊎◌, ℕ, List, IfErr, IfSome, IsTrue};
 ghost use Rattle.mp4_remux.specs.Errors.{IsRefusalOf};
-ghost use Rattle.mp4_remux.specs.Named.{HasBoxWithin, IsOneOf, NamesBy};
+ghost use Rattle.mp4_remux.specs.Kept.{IsAmong};
+ghost use Rattle.mp4_remux.specs.Named.{HasBoxWithin, IsOneOf, IsPlacing, NamesBy, of_samples, placing};
 
 use crate::box_bytes::{BoxBytes, FoundBox, first_box};
 use crate::error::RemuxError;
 use crate::fragment_boxes::is_of_samples;
+use crate::kept::is_among;
 use crate::top_level::TopBox;
 use mp4_codec::BoxType;
 
-/// `iloc`, where the items of metadata are (ISO/IEC 14496-12, 8.11.3).
-const ITEM_LOCATIONS: u32 = 0x696c_6f63;
+/// The codes of the boxes in a movie box or in metadata that say places: where its items are (`iloc`, ISO/IEC 14496-12,
+/// 8.11.3), where the information is that comes with samples (`saio`, 8.7.9), and in which file samples are (`dref`,
+/// 8.7.2).
+const PLACING: [u32; 3] = [0x696c_6f63, 0x7361_696f, 0x6472_6566];
 
-/// `saio`, where the information is that comes with samples (8.7.9).
-const SAMPLE_INFORMATION: u32 = 0x7361_696f;
+/// The codes of the boxes of a file that say places of others: `moof` (8.8.4), `mfra` (8.8.9) and `sidx` (8.16.3).
+const PLACING_OTHERS: [u32; 3] = [0x6d6f_6f66, 0x6d66_7261, SEGMENT_PLACES];
 
 /// `mfra`, where movie fragments are (8.8.9).
 const FRAGMENT_PLACES: u32 = 0x6d66_7261;
@@ -69,12 +73,11 @@ fn is_elsewhere(data_references: &[u8]) -> bool {
     false
 }
 
-/// Whether a box says places that aren't rewritten.
-fn says_places(one: &BoxBytes) -> bool {
-    let code = u32::from(one.name);
-    code == ITEM_LOCATIONS
-        || code == SAMPLE_INFORMATION
-        || one.name == BoxType::DrefBox && is_elsewhere(one.payload)
+/// Whether a box says places that aren't rewritten: a `dref` only those of another file.
+fn says_places(one: &BoxBytes) -> bool
+    ensures { IsTrue result → IsAmong placing one.now.name }
+{
+    is_among(&PLACING, one.name) && (one.name != BoxType::DrefBox || is_elsewhere(one.payload))
 }
 
 /// The bytes in which the children of a box are: those of `meta` come after its version and flags, which files of
@@ -94,6 +97,7 @@ fn children_of<'a>(one: &BoxBytes<'a>) -> &'a [u8]
 /// tables are made, something of each sample.
 fn find_in(bytes: &[u8], end: u64, level: usize, is_gathered: bool) -> Option<FoundBox>
     requires { level ≤ 8 }
+    ensures kind { IfSome result (λ f. IsAmong placing f.name ⊎ IsAmong of_samples f.name) }
     ensures there { IfSome result (λ f. HasBoxWithin bytes.now end f.name f.place) }
 {
     let mut rest = bytes;
@@ -144,7 +148,9 @@ pub(crate) fn is_of_fragments(name: BoxType) -> bool {
 }
 
 /// Whether a box says where segments are, by how far they are from its own end.
-pub(crate) fn is_segment_index(name: BoxType) -> bool {
+pub(crate) fn is_segment_index(name: BoxType) -> bool
+    ensures { IsTrue result → IsPlacing name }
+{
     u32::from(name) == SEGMENT_PLACES
 }
 
@@ -153,8 +159,7 @@ pub(crate) fn check_top_box(one: TopBox) -> Result<(), RemuxError>
     ensures names { IfErr result (NamesBy (λ name place. (one.name ≡ name) × (one.place ≡ place))) }
     ensures refused { IfErr result (IsRefusalOf ⊥ ⊥) }
 {
-    let is_of_places = u32::from(one.name) == FRAGMENT_PLACES || is_segment_index(one.name);
-    if is_of_places || one.name == BoxType::MoofBox {
+    if is_among(&PLACING_OTHERS, one.name) {
         return Err(RemuxError::SaysPlaces(one.name, one.place));
     }
     Ok(())

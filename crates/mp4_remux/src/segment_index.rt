@@ -3,7 +3,7 @@
 ghost use Rattle.std.specs.Prelude.{◌≡◌, IfErr};
 ghost use Rattle.mp4_source.specs.Answers.{IsLength};
 ghost use Rattle.mp4_remux.specs.Errors.{IsRefusalOf, MayRefuse};
-ghost use Rattle.mp4_remux.specs.Named.{IsOneOf, NamesBy};
+ghost use Rattle.mp4_remux.specs.Named.{IsOneOf, IsPlacing, NamesBy};
 
 use crate::box_bytes::first_box;
 use crate::error::RemuxError;
@@ -78,7 +78,8 @@ fn check_index<S: ByteSource>(
     one: TopBox,
     moved: &[TopBox],
 ) -> Result<(), RemuxError>
-    requires { IsLength (S.contents source.old) len }
+    requires len { IsLength (S.contents source.old) len }
+    requires name { IsPlacing one.name }
     ensures names { IfErr result (NamesBy (λ name place. (one.name ≡ name) × (one.place ≡ place))) }
     ensures contents { S.contents source.new ≡ S.contents source.old }
     ensures can_refuse { S.can_refuse source.new ≡ S.can_refuse source.old }

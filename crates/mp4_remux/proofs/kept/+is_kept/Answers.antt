@@ -35,7 +35,7 @@ loop-one-preserved t c =
     let one = c.in-Some.one in
     record {
       kept = λ k. c.loop-one.invariant.kept (gone c.loop-one.old.now c.loop-one.new.now one.after.now one.name
-          one.header.now one.payload.now c.in-Some.ensures.first (c.is_among.ensures cc)
+          one.header.now one.payload.now c.in-Some.ensures.first (c.is_among.ensures.0 cc)
           (c.after_others-old-in-Some.ensures.before c.args.going.now c.loop-one.new.now k));
       changes = c.loop-one.invariant.changes;
       goes = c.loop-one.invariant.goes;

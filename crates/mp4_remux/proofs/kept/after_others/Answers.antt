@@ -5,7 +5,7 @@ use Rattle.mp4_remux.proofs.kept.after_others.Goals as goal
 pub loop-one-preserved : goal.loop-one-preserved
 loop-one-preserved c =
     let one = c.in-Some.one in
-    let among = c.is_among.ensures cc in
+    let among = c.is_among.ensures.0 cc in
     record {
       before = λ going ys k. c.loop-one.invariant.before going ys
           (other c.loop-one.rest.now ys one.after.now one.name one.header.now one.payload.now
