@@ -1,5 +1,5 @@
 -- Boxes that are found among the bytes of a file begin where they are said to.
-use Rattle.std.proofs.Common.{◌≡◌, ◌∙◌, ℕ, zero, suc, ◌+◌, ◌-◌, ◌≤◌, ◌<◌, ◌==◌, ◌++◌, Bool, true, false, nat_lt}
+use Rattle.std.proofs.Common.{◌≡◌, ◌∙◌, ℕ, zero, suc, ◌+◌, ◌-◌, ◌≤◌, ◌==◌, ◌++◌, Bool, true, false, nat_lt}
 use Rattle.std.proofs.Common.{List, [], ◌∷◌, length, take, drop, Option, None, Some, IfSome, Result, Ok, Err, IfErr}
 use Rattle.std.proofs.Common.{inr, if◌then◌else◌, refl, sym, ap, subst, arith, take-take, drop-drop}
 use Rattle.std.proofs.lemmas.Bool.{eqb-true, le-ltb, ltb-false, ltb-true}
@@ -10,7 +10,7 @@ use Rattle.std.specs.List.{list_any}
 use Rattle.byteorder.specs.Endian.{big_number}
 use Rattle.mp4_codec.specs.BoxType.{box_type, code_of}
 use Rattle.mp4_codec.specs.Cause.{Cause, end_of_data, ◌>>=◌}
-use Rattle.mp4_codec.specs.Cursor.{Cursor, Head, here, moved, take_at, head_with, head_after, head_at, header_at, reported}
+use Rattle.mp4_codec.specs.Cursor.{Cursor, Head, here, take_at, head_with, head_after, head_at, header_at, reported}
 use Rattle.mp4_codec.specs.Steps.{ok_is, both_steps}
 use Rattle.mp4_codec.specs.declared.box_type.BoxType.{BoxType}
 use Rattle.mp4_codec.specs.declared.header.BoxHeader.{BoxHeader}
@@ -100,7 +100,7 @@ module _ (file rest : List ℕ) (start : ℕ) (within : start + length rest ≤ 
     header_there h c e =
         let one = both_steps (head_at (here rest 0)) (λ (x : Head × Cursor). Ok (reported x.0, x.1)) (h, c) e in
         let two = both_steps (take_at 8 (here rest 0))
-        (λ (first : List ℕ × Cursor). head_after (box_type (big_number 4 (drop 4 first.0))) (big_number 4 first.0) first.1)
+        (λ (x : List ℕ × Cursor). head_after (box_type (big_number 4 (drop 4 x.0))) (big_number 4 x.0) x.1)
         one.0 one.1 in
         let t = taken 0 8 two.0 two.1 in
         let s = size_there (box_type (big_number 4 (drop 4 two.0.0))) (big_number 4 two.0.0) one.0
@@ -162,8 +162,8 @@ two_parts : (a b c : List ℕ) → a ++ (b ++ c) ≡ (a ++ b) ++ c
 two_parts [] b c = refl
 two_parts (x ∷ a) b c = ap (λ (ys : List ℕ). x ∷ ys) (two_parts a b c)
 
-module _ (rest : List ℕ) (name : BoxType) (header payload after : List ℕ) (first : IsFirstBox rest name header payload after)
-    (end : ℕ)
+module _ (rest : List ℕ) (name : BoxType) (header payload after : List ℕ)
+    (first : IsFirstBox rest name header payload after) (end : ℕ)
   where
     -- a box with which bytes begin is there
     pub first_named : HasBoxWithin rest end name (end - length after - (length header + length payload))

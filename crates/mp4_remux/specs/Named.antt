@@ -44,8 +44,8 @@ placing = 0x696c6f63 ∷ 0x7361696f ∷ code_of DrefBox ∷ []
 abbrev pub placing_others : List ℕ
 placing_others = code_of MoofBox ∷ 0x6d667261 ∷ 0x73696478 ∷ []
 
--- those that say something of each sample: `sdtp` (8.6.4), `stdp` (8.5.3), `padb` (8.7.6), `saiz` (8.7.8), and `senc` of
--- ISO/IEC 23001-7
+-- those that say something of each sample: `sdtp` (8.6.4), `stdp` (8.5.3), `padb` (8.7.6), `saiz` (8.7.8), and `senc`
+-- of ISO/IEC 23001-7
 abbrev pub of_samples : List ℕ
 of_samples = 0x73647470 ∷ 0x73746470 ∷ 0x70616462 ∷ 0x7361697a ∷ 0x73656e63 ∷ []
 

@@ -21,8 +21,8 @@ const OF_SAMPLES: [u32; 5] = [
     0x7365_6e63,
 ];
 
-/// The codes of the boxes in a movie fragment that say nothing which is lost when tables are made of it: `mfhd`, `tfhd`,
-/// `tfdt` and `trun` (8.8), `free` and `skip` (8.1.2).
+/// The codes of the boxes in a movie fragment that say nothing which is lost when tables are made of it: `mfhd`,
+/// `tfhd`, `tfdt` and `trun` (8.8), `free` and `skip` (8.1.2).
 const KEPT_BY_TABLES: [u32; 6] = [
     0x6d66_6864,
     0x7466_6864,

@@ -1,7 +1,10 @@
 use Rattle.std.proofs.Common.{arith, inl, inr}
 use Rattle.mp4_remux.proofs.Referring.{no_header, not_whole}
-use Rattle.mp4_remux.proofs.box_bytes.first_box.Goals.{then-header-eq-OPEN_END-via-then-header-eq-OPEN_END}
-use Rattle.mp4_remux.proofs.box_bytes.first_box.Goals.{then-header-eq-OPEN_END-via-else-header-eq-OPEN_END+then-from-len, then-header-eq-OPEN_END-via-else-header-eq-OPEN_END+else-from-len+then-header-len}
+use Rattle.mp4_remux.proofs.box_bytes.first_box.Goals.{
+  then-header-eq-OPEN_END-via-then-header-eq-OPEN_END,
+  then-header-eq-OPEN_END-via-else-header-eq-OPEN_END+then-from-len,
+  then-header-eq-OPEN_END-via-else-header-eq-OPEN_END+else-from-len+then-header-len,
+}
 use Rattle.mp4_remux.proofs.box_bytes.first_box.Goals as goal
 
 pub returns-in_default-clause-none : goal.returns-in_default-clause-none

@@ -1,4 +1,4 @@
-use Rattle.std.proofs.Common.{arith, refl, ◌∙◌, Err, IfSome, ap, sym, length}
+use Rattle.std.proofs.Common.{arith, ◌∙◌, Err, IfSome, ap, sym, length}
 use Rattle.std.specs.Prelude.{slice_index_or}
 use Rattle.mp4_media.specs.declared.movie.Movie.{Movie}
 use Rattle.mp4_media.specs.FileBoxes.{opened_movie}

@@ -22,7 +22,8 @@ returns-clause-front g c =
 
 pub returns-in_err-check_moved-clause-names : goal.returns-in_err-check_moved-clause-names
 returns-in_err-check_moved-clause-names g c =
-    let p = err_from_is_err_and c.from_residual-in_err-check_moved.result c.from_residual-in_err-check_moved.ensures.1 in
+    let p = err_from_is_err_and c.from_residual-in_err-check_moved.result
+    c.from_residual-in_err-check_moved.ensures.1 in
     rw (p.1 ∙ ap (λ (e : RemuxError). Err e) p.2)
     (names_as _ _ (one_of_known (g.S.ByteSource.contents c.args.source) c.args.boxes.now c.requires.boxes) _
     c.in_err-check_moved.ensures.names)
