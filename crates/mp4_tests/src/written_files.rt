@@ -6,8 +6,10 @@ use crate::random_movies::{Habits, random_beginning, random_bytes, random_call};
 use crate::writer_calls::{config_of, media_track, writer_call};
 use crate::written::is_expected;
 use mp4_codec::{Error, Result};
-use mp4_media::{ByteSink, Mp4FileWriter, SampleRef, SeekSink, SinkError, WriteError, WriterCall};
-use mp4_plain_movies::calls::{Call, Media};
+use mp4_media::{
+    ByteSink, Mp4FileWriter, SampleRef, SeekSink, SinkError, TrackConfig, WriteError, WriterCall,
+};
+use mp4_plain_movies::calls::{Beginning, Call, Media};
 use mp4_plain_movies::plain_movie::PlainMovie;
 use mp4_plain_movies::random::Random;
 use std::alloc::Global;
@@ -61,6 +63,50 @@ fn bytes_of(mut sink: FileSink) -> std::result::Result<Vec<u8>, SinkError> {
     Ok(sink.into_inner().into_inner())
 }
 
+/// A writer to a file that has these bytes.
+fn writer_after(
+    alloc: Global,
+    front: &[u8],
+    beginning: &Beginning,
+) -> std::result::Result<Mp4FileWriter<FileSink>, WriteError> {
+    let config = config_of(alloc, beginning)?;
+    Mp4FileWriter::write_start(alloc, sink_with(alloc, front)?, &config)
+}
+
+/// Makes a call of a writer and of the model. Whether both answer alike.
+fn is_made_alike<'a>(
+    alloc: Global,
+    writer: &mut Mp4FileWriter<FileSink>,
+    movie: &mut PlainMovie<'a>,
+    call: &Call<'a>,
+) -> Result<bool> {
+    let expected = movie.make(call)?;
+    Ok(is_answer(make(writer, &writer_call(alloc, call)?), &expected))
+}
+
+/// Makes the calls of a list and mostly an end. Whether all answers are alike.
+fn calls_are_alike<'a>(
+    alloc: Global,
+    habits: &Habits<'a>,
+    random: &mut Random,
+    writer: &mut Mp4FileWriter<FileSink>,
+    movie: &mut PlainMovie<'a>,
+) -> Result<bool> {
+    let mut alike = true;
+    for k in 0..random.byte() {
+        let tracks = u32::try_from(movie.tracks.len()).unwrap_or(0);
+        let call = match k {
+            250 => Call::WriteEnd,
+            _ => random_call(habits, random, tracks),
+        };
+        alike = is_made_alike(alloc, writer, movie, &call)? && alike;
+    }
+    if random.below(8) > 0 {
+        alike = is_made_alike(alloc, writer, movie, &Call::WriteEnd)? && alike;
+    }
+    Ok(alike)
+}
+
 /// Makes the calls of a list and mostly an end of a writer to a file and of the model. Whether all answers and the
 /// bytes are alike.
 fn list_is_alike(alloc: Global, pool: &[u8], seed: u64) -> std::result::Result<bool, WriteError> {
@@ -69,22 +115,8 @@ fn list_is_alike(alloc: Global, pool: &[u8], seed: u64) -> std::result::Result<b
     let beginning = random_beginning(&mut random);
     let front = habits.some(&mut random, 7);
     let mut movie = PlainMovie::begin(alloc, front, &beginning)?;
-    let config = config_of(alloc, &beginning)?;
-    let mut writer = Mp4FileWriter::write_start(alloc, sink_with(alloc, front)?, &config)?;
-    let mut alike = true;
-    for k in 0..random.byte() {
-        let tracks = u32::try_from(movie.tracks.len()).unwrap_or(0);
-        let call = match k {
-            250 => Call::WriteEnd,
-            _ => random_call(&habits, &mut random, tracks),
-        };
-        let expected = movie.make(&call)?;
-        alike = is_answer(make(&mut writer, &writer_call(alloc, &call)?), &expected) && alike;
-    }
-    if random.below(8) > 0 {
-        let expected = movie.make(&Call::WriteEnd)?;
-        alike = is_answer(writer.write_end(), &expected) && alike;
-    }
+    let mut writer = writer_after(alloc, front, &beginning)?;
+    let alike = calls_are_alike(alloc, &habits, &mut random, &mut writer, &mut movie)?;
     Ok(alike && bytes_of(writer.into_inner())? == movie.bytes)
 }
 
@@ -157,17 +189,24 @@ impl Replies {
     }
 }
 
-/// Writes forty samples of 10,000 bytes, each a chunk, and an end, twice, to a file. What was answered, and the file.
-fn written_to<W: Write + Seek + Drop>(
+/// A writer to a file, which has nothing.
+fn writer_to<W: Write + Seek + Drop>(
     alloc: Global,
-    pool: &[u8],
     disk: W,
-) -> std::result::Result<(Replies, W), WriteError> {
+) -> std::result::Result<Mp4FileWriter<SeekSink<W>>, WriteError> {
     let config = config_of(alloc, &random_beginning(&mut Random::new(1)))?;
     let sink = SeekSink::new(alloc, disk)?;
-    let mut writer = Mp4FileWriter::write_start(alloc, sink, &config)?;
+    Mp4FileWriter::write_start(alloc, sink, &config)
+}
+
+/// Adds a track, writes forty samples of 10,000 bytes, each a chunk, and an end, twice. What was answered.
+fn replies_to_forty<W: Write + Seek + Drop>(
+    writer: &mut Mp4FileWriter<SeekSink<W>>,
+    track: &TrackConfig,
+    pool: &[u8],
+) -> Replies {
     let mut replies = Replies::default();
-    replies.add(writer.add_track(&media_track(alloc, &Media::Text)?));
+    replies.add(writer.add_track(track));
     let sample = SampleRef {
         offset: 0,
         start_time: 0,
@@ -181,6 +220,19 @@ fn written_to<W: Write + Seek + Drop>(
     }
     replies.add(writer.write_end());
     replies.add(writer.write_end());
+    replies
+}
+
+/// What a writer to a file answers so, and the file.
+fn written_to<W: Write + Seek + Drop>(
+    alloc: Global,
+    pool: &[u8],
+    disk: W,
+) -> std::result::Result<(Replies, W), WriteError> {
+    let track = media_track(alloc, &Media::Text)?;
+    let mut writer = writer_to(alloc, disk)?;
+    let replies = replies_to_forty(&mut writer, &track, pool);
+    drop(track);
     Ok((replies, writer.into_inner().into_inner()))
 }
 
