@@ -126,10 +126,7 @@ fn places_of(alloc: Global, track: &Mp4Track) -> Result<Vec<SamplePlace>> {
 /// Where the samples of the track of id 1 lie.
 fn places_in(alloc: Global, file: &[u8]) -> Result<Vec<SamplePlace>> {
     let movie = read_mp4(alloc, file)?;
-    match movie.tracks().get(&1) {
-        None => Err(Error::TrakNotFound(1)),
-        Some(track) => places_of(alloc, track),
-    }
+    places_of(alloc, movie.track(1)?)
 }
 
 /// How many lengths of a file are listed, one byte apart.

@@ -15,10 +15,7 @@ pub fn are_same_refusal(one: &Error, other: &Error) -> bool {
 
 /// What the track of an id locates.
 fn located(reader: &Mp4Reader, id: u32, k: u32) -> Result<Option<SamplePlace>> {
-    match reader.tracks().get(&id) {
-        None => Err(Error::TrakNotFound(id)),
-        Some(track) => track.locate(k),
-    }
+    reader.track(id)?.locate(k)
 }
 
 /// Whether the track of an id locates sample `k` as expected, the texts of refusals left out.

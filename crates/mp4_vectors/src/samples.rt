@@ -39,10 +39,7 @@ fn write_bytes(text: &mut String, bytes: &[u8]) -> std::result::Result<(), Alloc
 
 /// Where sample `k` of a track is.
 fn located(movie: &Mp4Reader, id: u32, k: u32) -> Result<Option<SamplePlace>> {
-    match movie.tracks().get(&id) {
-        Some(track) => track.locate(k),
-        None => Err(Error::TrakNotFound(id)),
-    }
+    movie.track(id)?.locate(k)
 }
 
 /// Whether the next of the samples that are given in order is as it was located.
