@@ -462,10 +462,10 @@ static inline mp4_answer mp4_parameter_set(const void *file, size_t size, uint32
 /* Writes a movie of these tracks and of these samples, in this order, if all of it fits. count is how many bytes it
  * has, and filled is count, or 0 where they don't fit; then ask again with room for count bytes.
  *
- * After a refusal, part and index say at which track or sample. MP4_INVALID_DATA for a sample entry, a type of sound, a
- * frequency or channels that aren't listed above; MP4_END_OF_DATA where a sample or a parameter set isn't whole in the
- * data; MP4_ZERO_TIMESCALE for a track's timescale of 0; MP4_UNREPRESENTABLE for a language or a parameter set that has
- * no encoding; MP4_TRAK_NOT_FOUND for a sample of no track; MP4_TOO_LARGE past a limit. */
+ * After a refusal, part and index say which track or sample is the first at fault. MP4_INVALID_DATA for a sample entry,
+ * a type of sound, a frequency or channels that aren't listed above; MP4_END_OF_DATA where a sample or a parameter set
+ * isn't whole in the data; MP4_ZERO_TIMESCALE for a track's timescale of 0; MP4_UNREPRESENTABLE for a language or a
+ * parameter set that has no encoding; MP4_TRAK_NOT_FOUND for a sample of no track; MP4_TOO_LARGE past a limit. */
 static inline mp4_answer mp4_write(const mp4_new_movie *movie, const mp4_brand *brands, size_t brand_count,
                                    const mp4_new_track *tracks, size_t track_count, const mp4_sample *samples,
                                    size_t sample_count, const void *data, size_t data_size, uint8_t *out,

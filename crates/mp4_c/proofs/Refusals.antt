@@ -7,7 +7,7 @@ use Rattle.std.proofs.lemmas.Bool.{eqb-true, lt-ltb}
 use Rattle.std.proofs.lemmas.Option.{slice_get-get_or}
 use Rattle.mp4_codec.specs.declared.error.Error.{Error}
 use Rattle.mp4_codec.specs.Cause.{AnswersCause, Cause, cause_of, ◌or◌}
-use Rattle.mp4_mux.specs.Writing.{WriterState, end_cause, started, whole_of, with_end}
+use Rattle.mp4_mux.specs.Writing.{WriterState, end_cause, start_cause, started, whole_of, with_end}
 use Rattle.mp4_media.specs.MovieTracks.{RefusedBy}
 use Rattle.mp4_media.specs.WriterAnswers.{RefusesWrite}
 use Rattle.mp4_media.specs.WriterFields.{KeptMovie, MayHold}
@@ -21,9 +21,10 @@ use Rattle.mp4_c.specs.declared.written.Fault.{Fault}
 use Rattle.mp4_c.specs.declared.written.Part.TheVariants.{Track, Sample, End}
 use Rattle.mp4_c.specs.Answers.{done}
 use Rattle.mp4_c.specs.Refusals.{IsRefusal, IsRefusedPart, IsRefusedSample, IsRefusedTrack, IsTrackFault, OrNoMemory}
-use Rattle.mp4_c.specs.Refusals.{track, sample, end, later, sample_fault}
+use Rattle.mp4_c.specs.Refusals.{track, sample, end, later}
 use Rattle.mp4_c.specs.Rooms.{copied, with_front}
-use Rattle.mp4_c.specs.Written.{AreWhole, HasTracks, IsEndIn, IsMovieIn, IsMovieOf, config_of, with_rows}
+use Rattle.mp4_c.specs.Written.{AreWritten, HasTracks, IsEndIn, IsMovie, IsMovieIn, IsMovieOf, config_of}
+use Rattle.mp4_c.specs.Written.{sample_fault, with_rows}
 use Rattle.mp4_c.specs.WrittenReply.{refusal_in}
 
 -- what holds of a cause holds in other words
@@ -62,12 +63,13 @@ refused_track source rows begun st k d c here has =
 -- the sample at which a writing is refused
 pub refused_sample : (source : List ℕ) (rows : List SampleRow) (ready st : WriterState) (k : ℕ) (d : SampleRow)
     → (e : Error) → k < length rows → st ≡ with_rows source ready (take k rows)
+    → AreWritten source ready (take k rows)
     → RefusedBy {X = Unit {0}} (sample_fault source st (get_or rows k d)) (Err e)
     → OrNoMemory (IsRefusedSample source rows ready k) (cause_of e)
-refused_sample source rows ready st k d e here so_far =
+refused_sample source rows ready st k d e here so_far before =
     let row = get_or rows k d in
     refused_error (IsRefusedSample source rows ready k) (sample_fault source st row) e
-    (λ c same. (row, slice_get-get_or rows k d here, ap (λ w. sample_fault source w row) (sym so_far) ∙ same))
+    (λ c same. (row, slice_get-get_or rows k d here, before, ap (λ w. sample_fault source w row) (sym so_far) ∙ same))
 
 -- a refusal of a writer, as one of memory or of a count
 pub refused_by : (P : Type 0) (cause : Option Cause) (e : WriteError) → RefusesWrite P cause e
@@ -100,8 +102,8 @@ at_sample f begun ready tracks source rows part has refused =
 module _ {X : Type 0} (contents : X → Option (List ℕ)) (len : X → ℕ) (r : Result X Fault) (begun after : KeptMovie)
     (tracks : List NewTrack) (source : List ℕ) (rows : List SampleRow)
     (leads : (st : WriterState) → MayHold begun st
-    → (ready : WriterState) × (HasTracks source tracks st ready) × (MayHold after (with_rows source ready rows)))
-    (whole : AreWhole source rows) where
+    → (ready : WriterState) × (HasTracks source tracks st ready) × (AreWritten source ready rows)
+    × (MayHold after (with_rows source ready rows))) where
   -- where the end is refused, that is a refused part
   pub at_end : IfErr r (λ f. f.part ≡ End) → IfErr r (λ f. f.index ≡ 0)
       → IfErr r (λ f. (st : WriterState) → MayHold after st
@@ -120,8 +122,8 @@ module _ {X : Type 0} (contents : X → Option (List ℕ)) (len : X → ℕ) (r 
           let ready = leads st h in
           in_other_words (λ c. end_cause (with_rows source ready.0 rows) ≡ Some c)
           (IsRefusedPart st tracks source rows f.part f.index) (cause_of f.error)
-          (λ is. end part index ready.0 ready.1 whole is)
-          (refused (with_rows source ready.0 rows) ready.2)
+          (λ is. end part index ready.0 ready.1 ready.2 is)
+          (refused (with_rows source ready.0 rows) ready.3)
 
   -- where it is Ok, its sink has the movie
   pub at_movie : IfOk r (λ x. (st : WriterState) → MayHold after st → IsEndIn st (contents x) (len x))
@@ -135,7 +137,7 @@ module _ {X : Type 0} (contents : X → Option (List ℕ)) (len : X → ℕ) (r 
           → IsMovieIn st tracks source rows (contents x) (len x))
       by (Ok x) ended = λ st h.
           let ready = leads st h in
-          (ready.0, ready.1, whole, ended (with_rows source ready.0 rows) ready.2)
+          (ready.0, ready.1, ready.2, ended (with_rows source ready.0 rows) ready.3)
       by (Err f) ended = tt
 
 -- what holds of each state that a writer may have holds of one
@@ -147,29 +149,33 @@ of_one (Err e) w st P h each = tt
 -- a part that is refused after the beginning is where the writing is refused
 pub after_beginning : {X : Type 0} (r : Result X Fault) (w : KeptMovie) (movie : NewMovie)
     (brands : List Brand) (tracks : List NewTrack) (source : List ℕ) (rows : List SampleRow)
-    → MayHold w (started [] (config_of movie brands))
+    → start_cause (config_of movie brands) ≡ None → MayHold w (started [] (config_of movie brands))
     → IfErr r (λ f. (st : WriterState) → MayHold w st
     → OrNoMemory (IsRefusedPart st tracks source rows f.part f.index) (cause_of f.error))
     → IfErr r (λ f. OrNoMemory (IsRefusal movie brands tracks source rows f.part f.index) (cause_of f.error))
-after_beginning (Ok x) w movie brands tracks source rows h refused = tt
-after_beginning (Err f) w movie brands tracks source rows h refused =
+after_beginning (Ok x) w movie brands tracks source rows begins h refused = tt
+after_beginning (Err f) w movie brands tracks source rows begins h refused =
     let begun = started [] (config_of movie brands) in
     in_other_words (IsRefusedPart begun tracks source rows f.part f.index)
-    (IsRefusal movie brands tracks source rows f.part f.index) (cause_of f.error) (λ r. later r) (refused begun h)
+    (IsRefusal movie brands tracks source rows f.part f.index) (cause_of f.error) (λ r. later begins r) (refused begun h)
 
 -- the movie of a sink whose bytes are known
-pub known_movie : (begun : WriterState) (tracks : List NewTrack) (source : List ℕ) (rows : List SampleRow)
-    (bytes : List ℕ) (len : ℕ) → IsMovieIn begun tracks source rows (Some bytes) len
-    → IsMovieOf begun tracks source rows bytes
-known_movie begun tracks source rows bytes len m =
-    (m.0, m.1, m.2, (m.3.bytes, m.3.opens, m.3.written))
+pub known_movie : (movie : NewMovie) (brands : List Brand) (tracks : List NewTrack) (source : List ℕ)
+    (rows : List SampleRow) (bytes : List ℕ) (len : ℕ) → start_cause (config_of movie brands) ≡ None
+    → IsMovieIn (started [] (config_of movie brands)) tracks source rows (Some bytes) len
+    → IsMovie movie brands tracks source rows bytes
+known_movie movie brands tracks source rows bytes len begins m =
+    (begins, (m.0, m.1, m.2, (m.3.bytes, m.3.opens, m.3.written)))
 
 -- and of one that counts them: its bytes are those of the state, and there are as many
-pub counted_bytes : (begun : WriterState) (tracks : List NewTrack) (source : List ℕ) (rows : List SampleRow)
-    (contents : Option (List ℕ)) (len : ℕ) → IsMovieIn begun tracks source rows contents len
-    → (bytes : List ℕ) × (IsMovieOf begun tracks source rows bytes) × (len ≡ length bytes)
-counted_bytes begun tracks source rows contents len m =
-    (whole_of (with_end (with_rows source m.0 rows)), (m.0, m.1, m.2, (refl, m.3.opens, m.3.written)), m.3.count)
+pub counted_bytes : (movie : NewMovie) (brands : List Brand) (tracks : List NewTrack) (source : List ℕ)
+    (rows : List SampleRow) (contents : Option (List ℕ)) (len : ℕ) → start_cause (config_of movie brands) ≡ None
+    → IsMovieIn (started [] (config_of movie brands)) tracks source rows contents len
+    → (bytes : List ℕ) × (IsMovie movie brands tracks source rows bytes) × (len ≡ length bytes)
+counted_bytes movie brands tracks source rows contents len begins m =
+    let written : IsMovieOf (started [] (config_of movie brands)) tracks source rows
+    (whole_of (with_end (with_rows source m.0 rows))) = (m.0, m.1, m.2, (refl, m.3.opens, m.3.written)) in
+    (whole_of (with_end (with_rows source m.0 rows)), (begins, written), m.3.count)
 
 -- a room without bytes
 pub empty_room : (room : List ℕ) → true ≡ eqb (length room) 0 → room ≡ []

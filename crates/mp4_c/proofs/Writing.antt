@@ -3,12 +3,10 @@ use Rattle.std.proofs.Common.{◌≡◌, ℕ, ◌+◌, ◌<◌, ◌≤◌, List,
 use Rattle.std.proofs.Common.{◌∙◌, sym, add-one, arith}
 use Rattle.std.proofs.Math.Seq.{take-suc}
 use Rattle.std.proofs.lemmas.Grind.{common_steps}
-use Rattle.mp4_mux.proofs.SampleLaws.{all-push}
-use Rattle.mp4_mux.specs.Writing.{WriterState, with_sample, with_track}
+use Rattle.mp4_mux.specs.Writing.{WriterState, track_cause, with_sample, with_track}
 use Rattle.mp4_c.specs.declared.configs.NewTrack.{NewTrack}
 use Rattle.mp4_c.specs.declared.samples.SampleRow.{SampleRow}
-use Rattle.mp4_c.specs.Parts.{part_fault}
-use Rattle.mp4_c.specs.Written.{AreWhole, HasTrack, HasTracks, sample_in, with_rows}
+use Rattle.mp4_c.specs.Written.{AreWritten, HasTrack, HasTracks, sample_fault, sample_in, with_rows}
 
 -- a row more
 rows_last : (source : List ℕ) (st : WriterState) (rows : List SampleRow) (row : SampleRow)
@@ -41,20 +39,32 @@ all_rows source begun st rows k end so_far =
     let all : take k rows ≡ rows = grind (arith, common_steps) in
     so_far ∙ ap (with_rows source begun) all
 
--- the bytes of one row more are whole
-pub whole_next : (source : List ℕ) (rows : List SampleRow) (k : ℕ) (d : SampleRow) → k < length rows
-    → AreWhole source (take k rows)
-    → part_fault source (get_or rows k d).offset (get_or rows k d).size ≡ None
-    → AreWhole source (take (k + 1) rows)
-whole_next source rows k d here so_far whole =
+-- one row more isn't refused
+written_last : (source : List ℕ) (st : WriterState) (rows : List SampleRow) (row : SampleRow)
+    → AreWritten source st rows → sample_fault source (with_rows source st rows) row ≡ None
+    → AreWritten source st (rows ++ row ∷ [])
+unfolding AreWritten with_rows
+written_last source st [] row so_far accepted = (accepted, tt)
+written_last source st (r ∷ rs) row so_far accepted =
+    (so_far.0, written_last source (with_sample st r.track_id (sample_in source r)) rs row so_far.1 accepted)
+
+pub none_written : (source : List ℕ) (st : WriterState) (rows : List SampleRow) → AreWritten source st (take 0 rows)
+unfolding AreWritten
+none_written source st rows = tt
+
+pub written_next : (source : List ℕ) (begun : WriterState) (rows : List SampleRow) (k : ℕ) (d : SampleRow)
+    → k < length rows → AreWritten source begun (take k rows)
+    → sample_fault source (with_rows source begun (take k rows)) (get_or rows k d) ≡ None
+    → AreWritten source begun (take (k + 1) rows)
+written_next source begun rows k d here so_far accepted =
     let row = get_or rows k d in
     let one : take (k + 1) rows ≡ take k rows ++ row ∷ [] =
     ap (λ n. take n rows) (add-one k) ∙ take-suc rows k d here in
-    rw one (all-push _ (take k rows) row so_far whole)
+    rw one (written_last source begun (take k rows) row so_far accepted)
 
-pub all_whole : (source : List ℕ) (rows : List SampleRow) (k : ℕ) → length rows ≤ k
-    → AreWhole source (take k rows) → AreWhole source rows
-all_whole source rows k end so_far =
+pub all_written : (source : List ℕ) (begun : WriterState) (rows : List SampleRow) (k : ℕ) → length rows ≤ k
+    → AreWritten source begun (take k rows) → AreWritten source begun rows
+all_written source begun rows k end so_far =
     let all : take k rows ≡ rows = grind (arith, common_steps) in
     rw all at so_far
 
@@ -63,7 +73,8 @@ track_last : (source : List ℕ) (rows : List NewTrack) (row : NewTrack) (begun 
     → HasTracks source rows begun st → HasTrack source row st new → HasTracks source (rows ++ row ∷ []) begun new
 unfolding HasTracks
 track_last source [] row begun st new has more =
-    (new, (more.0, more.1, more.2 ∙ ap (λ w. with_track w more.0) has), refl)
+    let accepted = sym (ap (λ w. track_cause w more.0) has) ∙ more.2 in
+    (new, (more.0, more.1, accepted, more.3 ∙ ap (λ w. with_track w more.0) has), refl)
 track_last source (r ∷ rs) row begun st new (next, first, rest) more =
     (next, first, track_last source rs row next st new rest more)
 

@@ -1,14 +1,15 @@
 -- What is written of the tracks and samples that a caller gives.
-use Rattle.std.specs.Prelude.{◌≡◌, ℕ, List, [], ◌∷◌, length, Option, None, IfSome, true, false, map, ◌==◌}
+use Rattle.std.specs.Prelude.{◌≡◌, ⊤, ℕ, List, [], ◌∷◌, length, Option, None, IfSome, true, false, map, ◌==◌}
 use Rattle.std.specs.Prelude.{if◌then◌else◌}
-use Rattle.std.specs.List.{AllByRecursion}
+use Rattle.mp4_codec.specs.Cause.{Cause, ◌or◌}
 use Rattle.mp4_codec.specs.declared.four_cc.FourCC.{FourCC}
 use Rattle.mp4_samples.specs.Samples.{Sample}
 use Rattle.mp4_mux.specs.declared.config.Mp4Config.{Mp4Config}
 use Rattle.mp4_mux.specs.declared.config.TrackConfig.{TrackConfig}
 use Rattle.mp4_media.specs.Finished.{Opens}
 use Rattle.mp4_media.specs.WriterFields.{KeptMovie, MayHold}
-use Rattle.mp4_mux.specs.Writing.{WriterState, whole_of, with_end, with_sample, with_track}
+use Rattle.mp4_mux.specs.Writing.{WriterState, sample_cause, start_cause, started, track_cause, whole_of, with_end}
+use Rattle.mp4_mux.specs.Writing.{with_sample, with_track}
 use Rattle.mp4_mux.specs.Written.{IsWrittenMovie}
 use Rattle.mp4_c.specs.declared.configs.Brand.{Brand}
 use Rattle.mp4_c.specs.declared.configs.NewMovie.{NewMovie}
@@ -39,20 +40,29 @@ sample_in source row = record {
   is_sync = if row.is_sync == 0 then false else true;
 }
 
--- the bytes of these rows lie whole in the source
-abbrev pub AreWhole : List ℕ → List SampleRow → Type 0
-AreWhole source = AllByRecursion (λ (r : SampleRow). part_fault source r.offset r.size ≡ None)
+-- why a sample isn't written: its bytes aren't whole in the source, or the writer refuses it
+abbrev pub sample_fault : List ℕ → WriterState → SampleRow → Option Cause
+sample_fault source st row =
+    part_fault source row.offset row.size or sample_cause st row.track_id (sample_in source row)
+
+-- a writer refuses no sample of these rows, one after the other
+unfoldable pub AreWritten : List ℕ → WriterState → List SampleRow → Type 0
+AreWritten source st [] = ⊤
+AreWritten source st (r ∷ rs) =
+    (sample_fault source st r ≡ None) × AreWritten source (with_sample st r.track_id (sample_in source r)) rs
 
 -- a writer with the samples of these rows more, in their order
 unfoldable pub with_rows : List ℕ → WriterState → List SampleRow → WriterState
 with_rows source st [] = st
 with_rows source st (r ∷ rs) = with_rows source (with_sample st r.track_id (sample_in source r)) rs
 
--- a writer has one track more, whose configuration is that of a row
+-- a writer has one track more, which it doesn't refuse, and whose configuration is that of a row
 abbrev pub HasTrack : List ℕ → NewTrack → WriterState → WriterState → Type 0
-HasTrack source row old new = (config : TrackConfig) × (IsConfigOf source row config) × (new ≡ with_track old config)
+HasTrack source row old new =
+    (config : TrackConfig) × (IsConfigOf source row config) × (track_cause old config ≡ None)
+    × (new ≡ with_track old config)
 
--- a writer has exactly the tracks of these rows more, in their order
+-- a writer has exactly the tracks of these rows more, in their order, none of which it refuses
 unfoldable pub HasTracks : List ℕ → List NewTrack → WriterState → WriterState → Type 0
 HasTracks source [] old new = new ≡ old
 HasTracks source (r ∷ rs) old new =
@@ -76,14 +86,19 @@ abbrev pub Leads : (WriterState → WriterState → Type 0) → KeptMovie → Ke
 Leads To old new = (st : WriterState) → MayHold old st → (next : WriterState) × (To st next) × (MayHold new next)
 
 -- These bytes are those of a writer that had begun so, to which exactly these tracks were added, and then exactly the
--- samples of these rows, in their order, whose bytes lie whole in the source, and which was ended.
+-- samples of these rows, in their order, none of which was refused, and which was ended.
 abbrev pub IsMovieOf : WriterState → List NewTrack → List ℕ → List SampleRow → List ℕ → Type 0
 IsMovieOf begun tracks source rows bytes =
-    (ready : WriterState) × (HasTracks source tracks begun ready) × (AreWhole source rows)
+    (ready : WriterState) × (HasTracks source tracks begun ready) × (AreWritten source ready rows)
     × (IsEndOf (with_rows source ready rows) bytes)
 
 -- The same of the bytes that a sink has.
 abbrev pub IsMovieIn : WriterState → List NewTrack → List ℕ → List SampleRow → Option (List ℕ) → ℕ → Type 0
 IsMovieIn begun tracks source rows contents len =
-    (ready : WriterState) × (HasTracks source tracks begun ready) × (AreWhole source rows)
+    (ready : WriterState) × (HasTracks source tracks begun ready) × (AreWritten source ready rows)
     × (IsEndIn (with_rows source ready rows) contents len)
+
+-- These bytes are those of a movie that is begun so, which isn't refused, with these tracks and samples.
+abbrev pub IsMovie : NewMovie → List Brand → List NewTrack → List ℕ → List SampleRow → List ℕ → Type 0
+IsMovie movie brands tracks source rows bytes = (start_cause (config_of movie brands) ≡ None)
+    × IsMovieOf (started [] (config_of movie brands)) tracks source rows bytes

@@ -1,10 +1,10 @@
 //! Movies that are rewritten.
 
 ghost use Rattle.std.specs.Prelude.{IfErr, IfOk};
-ghost use Rattle.mp4_remux.specs.Errors.{IsRefusalOf};
 ghost use Rattle.mp4_remux.specs.Front.{IsFront};
 ghost use Rattle.mp4_remux.specs.Gathered.{IsGathered};
 ghost use Rattle.mp4_c.specs.RemuxedReply.{GaveMade, GaveRefusal, GaveRemuxed, HasChosen};
+ghost use Rattle.mp4_c.specs.RemuxedReply.{IsNotChosen, IsNotGathered, IsNotMoved};
 
 use crate::answer::Answer;
 use crate::copied::copy_to_front;
@@ -25,7 +25,7 @@ fn copy_made(made: Result<Vec<u8>, RemuxError>, room: &mut [u8]) -> Answer
 /// A file with its movie box in front.
 fn moved(alloc: Global, file: &[u8]) -> Result<Vec<u8>, RemuxError>
     ensures front { IfOk result (λ bytes. IsFront file.now bytes.items) }
-    ensures refused { IfErr result (IsRefusalOf ⊥ ⊥) }
+    ensures refused { IfErr result (IsNotMoved file.now) }
 {
     let mut bytes = Vec::with_capacity(alloc, file.len())?;
     move_to_front(alloc, file, &mut bytes)?;
@@ -35,7 +35,7 @@ fn moved(alloc: Global, file: &[u8]) -> Result<Vec<u8>, RemuxError>
 /// A file whose fragments are gathered.
 fn gathered(alloc: Global, file: &[u8]) -> Result<Vec<u8>, RemuxError>
     ensures gathered { IfOk result (λ bytes. IsGathered file.now bytes.items) }
-    ensures refused { IfErr result (IsRefusalOf ⊥ ⊥) }
+    ensures refused { IfErr result (IsNotGathered file.now) }
 {
     let mut bytes = Vec::with_capacity(alloc, file.len())?;
     gather(alloc, file, &mut bytes)?;
@@ -45,7 +45,7 @@ fn gathered(alloc: Global, file: &[u8]) -> Result<Vec<u8>, RemuxError>
 /// A file of the tracks with these ids.
 fn chosen(alloc: Global, file: &[u8], track_ids: &[u32]) -> Result<Vec<u8>, RemuxError>
     ensures chosen { IfOk result (λ bytes. HasChosen file.now bytes.items track_ids.now) }
-    ensures refused { IfErr result (IsRefusalOf ⊥ ⊥) }
+    ensures refused { IfErr result (IsNotChosen file.now track_ids.now) }
 {
     let mut bytes = Vec::new(alloc);
     choose(alloc, file, &mut bytes, track_ids)?;
@@ -58,7 +58,7 @@ fn chosen(alloc: Global, file: &[u8], track_ids: &[u32]) -> Result<Vec<u8>, Remu
 /// Refused as [`move_to_front`] is, but for a source and a sink. The movie is made in memory, whatever the room.
 #[unsafe(no_mangle)]
 pub extern "C" fn mp4_c_move_to_front(alloc: Global, file: &[u8], room: &mut [u8]) -> Answer
-    ensures { GaveRemuxed (IsFront file.now) room.old room.new result }
+    ensures { GaveRemuxed (IsFront file.now) (IsNotMoved file.now) room.old room.new result }
 {
     copy_made(moved(alloc, file), room)
 }
@@ -70,7 +70,7 @@ pub extern "C" fn mp4_c_move_to_front(alloc: Global, file: &[u8], room: &mut [u8
 /// Refused as [`gather`] is, but for a source and a sink. The movie is made in memory, whatever the room.
 #[unsafe(no_mangle)]
 pub extern "C" fn mp4_c_gather(alloc: Global, file: &[u8], room: &mut [u8]) -> Answer
-    ensures { GaveRemuxed (IsGathered file.now) room.old room.new result }
+    ensures { GaveRemuxed (IsGathered file.now) (IsNotGathered file.now) room.old room.new result }
 {
     copy_made(gathered(alloc, file), room)
 }
@@ -86,7 +86,8 @@ pub extern "C" fn mp4_c_choose(
     track_ids: &[u32],
     room: &mut [u8],
 ) -> Answer
-    ensures { GaveRemuxed (λ bytes. HasChosen file.now bytes track_ids.now) room.old room.new result }
+    ensures { GaveRemuxed (λ bytes. HasChosen file.now bytes track_ids.now) (IsNotChosen file.now track_ids.now)
+        room.old room.new result }
 {
     copy_made(chosen(alloc, file, track_ids), room)
 }

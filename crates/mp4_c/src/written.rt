@@ -8,9 +8,9 @@ ghost use Rattle.mp4_media.specs.WriterFields.{MayHold};
 ghost use Rattle.mp4_c.specs.declared.written.Part.TheVariants.{Track, Sample, End};
 ghost use Rattle.mp4_c.specs.Parts.{part_fault};
 ghost use Rattle.mp4_c.specs.Refusals.{IsRefusal, IsRefusedPart, IsRefusedSample, IsRefusedTrack, IsTrackFault};
-ghost use Rattle.mp4_c.specs.Refusals.{OrNoMemory, sample_fault};
-ghost use Rattle.mp4_c.specs.Written.{AreWhole, HasTrack, HasTracks, IsEndIn, IsMovieIn, IsMovieOf, Leads, config_of};
-ghost use Rattle.mp4_c.specs.Written.{sample_in, with_rows};
+ghost use Rattle.mp4_c.specs.Refusals.{OrNoMemory};
+ghost use Rattle.mp4_c.specs.Written.{AreWritten, HasTrack, HasTracks, IsEndIn, IsMovie, IsMovieIn, Leads, config_of};
+ghost use Rattle.mp4_c.specs.Written.{sample_fault, sample_in, with_rows};
 ghost use Rattle.mp4_c.specs.WrittenReply.{GaveMovie, part_number, refusal_in, refused_at};
 
 use crate::answer::Answer;
@@ -154,7 +154,6 @@ fn add_sample<S: ByteSink + Drop>(
     ensures added { OnOk result ((st : WriterState) → MayHold writer.old st
         → MayHold writer.new (with_sample st row.now.track_id (sample_in source.now row.now))) }
     ensures cause { (st : WriterState) → MayHold writer.old st → RefusedBy (sample_fault source.now st row.now) result }
-    ensures whole { OnOk result (part_fault source.now row.now.offset row.now.size ≡ None) }
 {
     let sample = sample_at(row, source)?;
     match writer.write_sample(row.track_id, &sample) {
@@ -171,7 +170,7 @@ fn add_samples<S: ByteSink + Drop>(
 ) -> Written<()>
     ensures added { OnOk result ((st : WriterState) → MayHold writer.old st
         → MayHold writer.new (with_rows source.now st rows.now)) }
-    ensures whole { OnOk result (AreWhole source.now rows.now) }
+    ensures written { OnOk result ((st : WriterState) → MayHold writer.old st → AreWritten source.now st rows.now) }
     ensures part { IfErr result (λ f. f.part ≡ Sample) }
     ensures refused { IfErr result (λ f. (st : WriterState) → MayHold writer.old st
         → OrNoMemory (IsRefusedSample source.now rows.now st f.index) (cause_of f.error)) }
@@ -242,6 +241,7 @@ fn written<S: ByteSink + Drop>(
 ) -> Written<S>
     requires none { S.len sink ≡ 0 }
     requires empty { IfSome (S.contents sink) (λ bytes. bytes ≡ []) }
+    ensures begins { OnOk result (start_cause (config_of movie.now brands.now) ≡ None) }
     ensures movie { IfOk result (λ sink. IsMovieIn (started [] (config_of movie.now brands.now))
         tracks.now source.now samples.now (S.contents sink) (S.len sink)) }
     ensures refused { IfErr result (λ f.
@@ -279,7 +279,7 @@ fn counted(
     source: &[u8],
 ) -> Answer
     ensures { GaveMovie
-        (IsMovieOf (started [] (config_of movie.now brands.now)) tracks.now source.now samples.now)
+        (IsMovie movie.now brands.now tracks.now source.now samples.now)
         (IsRefusal movie.now brands.now tracks.now source.now samples.now)
         [] [] result }
 {
@@ -300,9 +300,9 @@ fn counted(
 /// Writes a movie of these tracks and of these samples, in this order, where there is room for all of it. `count` is
 /// how many bytes it has, whatever the room, and `filled` is `count`, or 0 where they don't fit.
 ///
-/// After a refusal `part` says what was refused, and `index` which track or sample, counted from 0: `InvalidData` for
-/// another sample entry, type of sound, frequency or channels than are known, `EndOfData` where a sample or a parameter
-/// set isn't whole in the data, and else what [`mp4_media::Mp4Writer`] refuses.
+/// After a refusal `part` says what is the first at fault, and `index` which track or sample, counted from 0:
+/// `InvalidData` for another sample entry, type of sound, frequency or channels than are known, `EndOfData` where a
+/// sample or a parameter set isn't whole in the data, and else what [`mp4_media::Mp4Writer`] refuses.
 ///
 /// Where there is no room at all, the bytes are counted and not kept: what it takes then are the tables, and the
 /// samples of at most a second of each track.
@@ -317,7 +317,7 @@ pub extern "C" fn mp4_c_write(
     room: &mut [u8],
 ) -> Answer
     ensures { GaveMovie
-        (IsMovieOf (started [] (config_of movie.now brands.now)) tracks.now source.now samples.now)
+        (IsMovie movie.now brands.now tracks.now source.now samples.now)
         (IsRefusal movie.now brands.now tracks.now source.now samples.now)
         room.old room.new result }
 {

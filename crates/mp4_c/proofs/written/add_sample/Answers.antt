@@ -1,6 +1,4 @@
 -- A sample is refused where its bytes aren't whole, or by the writer.
-use Rattle.mp4_mux.specs.Writing.{sample_cause}
-use Rattle.mp4_c.specs.Written.{sample_in}
 use Rattle.mp4_c.proofs.Refusals.{refused_by}
 use Rattle.mp4_c.proofs.written.add_sample.Goals as goal
 

@@ -7,7 +7,8 @@ use Rattle.mp4_c.proofs.written.counted.Goals as goal
 
 pub returns-in-Ok : goal.returns-in-Ok
 returns-in-Ok c =
-    let m = counted_bytes _ c.args.tracks.now c.args.source.now c.args.samples.now _ _ c.in-Ok.ensures.movie in
+    let m = counted_bytes c.args.movie.now c.args.brands.now c.args.tracks.now c.args.source.now c.args.samples.now _ _
+    c.in-Ok.ensures.begins c.in-Ok.ensures.movie in
     let counted = c.done.ensures ∙ ap (λ (n : ℕ). done n 0) (c.len.ensures ∙ m.2) ∙ sym (no_room m.0) in
     inl (m.0, m.1, λ i. record { answer = sym counted i; room = no_room_stays m.0 i })
 

@@ -1,5 +1,5 @@
 -- After its end a writer's sink has the bytes of the state.
-use Rattle.std.proofs.Common.{◌≡◌, Option, Some, None, List, ℕ, Err, refl, sym, ap}
+use Rattle.std.proofs.Common.{◌≡◌, Option, Some, None, List, ℕ, refl}
 use Rattle.std.specs.Prelude.{IfSome}
 use Rattle.mp4_mux.specs.Writing.{end_cause, whole_of, with_end}
 use Rattle.mp4_media.proofs.WritingToSinks.{counted_whole, known_whole}

@@ -23,14 +23,20 @@ pub returns-clause-refused : goal.returns-clause-refused
 returns-clause-refused g c =
     at_end g.S.ByteSink.contents g.S.ByteSink.len c.ended.result c.args.writer c.add_samples.new.writer
     c.args.tracks.now c.args.source.now c.args.samples.now
-    (λ st h. let ready = c.in_ok-add_tracks.ensures.added st h in
-    (ready.0, ready.1, c.in_ok-add_samples.ensures.added ready.0 ready.2))
-    c.in_ok-add_samples.ensures.whole c.ended.ensures.part c.ended.ensures.index c.ended.ensures.refused
+    (λ st h. let ready = c.in_ok-add_tracks.ensures.added st h in (
+      ready.0,
+      ready.1,
+      c.in_ok-add_samples.ensures.written ready.0 ready.2,
+      c.in_ok-add_samples.ensures.added ready.0 ready.2,
+    )) c.ended.ensures.part c.ended.ensures.index c.ended.ensures.refused
 
 pub returns-clause-movie : goal.returns-clause-movie
 returns-clause-movie g c =
     at_movie g.S.ByteSink.contents g.S.ByteSink.len c.ended.result c.args.writer c.add_samples.new.writer
     c.args.tracks.now c.args.source.now c.args.samples.now
-    (λ st h. let ready = c.in_ok-add_tracks.ensures.added st h in
-    (ready.0, ready.1, c.in_ok-add_samples.ensures.added ready.0 ready.2))
-    c.in_ok-add_samples.ensures.whole c.ended.ensures.movie
+    (λ st h. let ready = c.in_ok-add_tracks.ensures.added st h in (
+      ready.0,
+      ready.1,
+      c.in_ok-add_samples.ensures.written ready.0 ready.2,
+      c.in_ok-add_samples.ensures.added ready.0 ready.2,
+    )) c.ended.ensures.movie

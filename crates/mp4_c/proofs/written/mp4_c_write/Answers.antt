@@ -19,7 +19,8 @@ pub returns-in-Ok : goal.returns-in-Ok
 returns-in-Ok c =
     inl (
       c.in-Ok.bytes.items,
-      known_movie _ c.args.tracks.now c.args.source.now c.args.samples.now c.in-Ok.bytes.items _ c.in-Ok.ensures.movie,
+      known_movie c.args.movie.now c.args.brands.now c.args.tracks.now c.args.source.now c.args.samples.now
+          c.in-Ok.bytes.items _ c.in-Ok.ensures.begins c.in-Ok.ensures.movie,
       given _ _ _ _ _ c.as_slice.ensures.value c.copy_to_front.ensures.answer c.copy_to_front.ensures.room,
     )
 

@@ -14,4 +14,4 @@ returns-in-Ok-clause-movie g c =
 pub returns-in-Ok-clause-refused : goal.returns-in-Ok-clause-refused
 returns-in-Ok-clause-refused g c =
     after_beginning c.filled.result c.in-Ok.writer c.args.movie.now c.args.brands.now c.args.tracks.now
-    c.args.source.now c.args.samples.now c.in-Ok.ensures.begun c.filled.ensures.refused
+    c.args.source.now c.args.samples.now c.in-Ok.ensures.cause c.in-Ok.ensures.begun c.filled.ensures.refused
