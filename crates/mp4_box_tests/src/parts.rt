@@ -1,9 +1,9 @@
 //! What boxes are made with: the cursor, lists, texts, maps, copies, and the messages of errors.
 
-use crate::asserts::{assert_equal, assert_that, check};
+use crate::asserts::{assert_equal, assert_that};
 use mp4_codec::{
     BoxType, ByteCursor, Error, FixedPointI8, FixedPointU8, FixedPointU16, FourCC, HEADER_EXT_SIZE,
-    HEADER_SIZE, Items, KeyedItems, Limit, Result, Text, TryClone,
+    HEADER_SIZE, Items, KeyedItems, Limit, Text, TryClone,
 };
 use mp4_entry::{
     DecoderConfigDescriptor, DecoderSpecificDescriptor, ESDescriptor, SLConfigDescriptor,
@@ -14,6 +14,7 @@ use mp4_plain_movies::sides::Side;
 use mp4_table::{CttsEntry, StscEntry, SttsEntry};
 use std::alloc::Global;
 use std::collections::HashMap;
+use std::process::Abort;
 
 #[test]
 fn a_cursor_takes_within_its_bytes(rt: HostRuntime) {
@@ -34,114 +35,108 @@ fn a_cursor_takes_within_its_bytes(rt: HostRuntime) {
 }
 
 /// A list of two.
-fn list(alloc: Global) -> Result<Items<(u32, u8)>> {
-    let mut list = Items::from(vec![in alloc; (1u32, 2u8)]?);
-    list.push((3, 4))?;
-    Ok(list)
+fn list(rt: &impl Abort, alloc: Global) -> Items<(u32, u8)> {
+    let mut list = Items::from(vec![in alloc; (1u32, 2u8)].expect(rt, "memory"));
+    list.push((3, 4)).expect(rt, "memory");
+    list
 }
 
 /// Whether a list is equal to its copy and has two items.
-fn is_list_of_two(alloc: Global) -> Result<bool> {
-    let list = list(alloc)?;
+fn is_list_of_two(rt: &impl Abort, alloc: Global) -> bool {
+    let list = list(rt, alloc);
+    let copy = list.try_clone().expect(rt, "memory");
     let counts = !list.is_empty() && list.iter().count() == 2;
-    Ok(counts && list.try_clone()? == list)
+    counts && copy == list
 }
 
 /// Whether a list is given back as it was made, and another of its allocator is empty.
-fn is_given_back(alloc: Global) -> Result<bool> {
-    let list = list(alloc)?;
+fn is_given_back(rt: &impl Abort, alloc: Global) -> bool {
+    let list = list(rt, alloc);
     let is_empty = Items::<u8>::new(list.allocator()).is_empty();
     let items: Vec<(u32, u8)> = Vec::from(list);
-    Ok(is_empty && items.as_slice() == [(1, 2), (3, 4)].as_slice())
+    is_empty && items.as_slice() == [(1, 2), (3, 4)].as_slice()
 }
 
 /// A text of three letters.
-fn text(alloc: Global) -> Result<Text> {
-    let mut text = Text::from_str(alloc, "un")?;
-    text.push_str("d")?;
-    Ok(text)
+fn text(rt: &impl Abort, alloc: Global) -> Text {
+    let mut text = Text::from_str(alloc, "un").expect(rt, "memory");
+    text.push_str("d").expect(rt, "memory");
+    text
 }
 
 /// Whether a text is equal to its copy and has three letters.
-fn is_text(alloc: Global) -> Result<bool> {
-    let text = text(alloc)?;
+fn is_text(rt: &impl Abort, alloc: Global) -> bool {
+    let text = text(rt, alloc);
+    let copy = text.try_clone().expect(rt, "memory");
     let parts = text.as_str() == "und" && text.len() == 3 && Text::new(alloc).is_empty();
-    Ok(parts && text.try_clone()? == text)
+    parts && copy == text
 }
 
 /// Whether a text is given back as it was made.
-fn is_text_given_back(alloc: Global) -> Result<bool> {
-    let string = String::from(text(alloc)?);
+fn is_text_given_back(rt: &impl Abort, alloc: Global) -> bool {
+    let string = String::from(text(rt, alloc));
     let is_string = string.as_str() == "und";
-    Ok(is_string && Text::from(string).as_str() == "und")
+    is_string && Text::from(string).as_str() == "und"
 }
 
 #[test]
 fn lists_and_texts_are_made_and_given_back(rt: HostRuntime) {
-    check(&rt, 1, is_list_of_two(rt.alloc()));
-    check(&rt, 2, is_given_back(rt.alloc()));
-    check(&rt, 3, is_text(rt.alloc()));
-    check(&rt, 4, is_text_given_back(rt.alloc()));
+    assert_that(&rt, 1, is_list_of_two(&rt, rt.alloc()));
+    assert_that(&rt, 2, is_given_back(&rt, rt.alloc()));
+    assert_that(&rt, 3, is_text(&rt, rt.alloc()));
+    assert_that(&rt, 4, is_text_given_back(&rt, rt.alloc()));
 }
 
 /// A map into which these are inserted.
-fn map(alloc: Global, rows: &[(Side, u32)]) -> Result<KeyedItems<Side, u32>> {
+fn map(rt: &impl Abort, alloc: Global, rows: &[(Side, u32)]) -> KeyedItems<Side, u32> {
     let mut items: KeyedItems<Side, u32> = KeyedItems::new(alloc);
     for (side, value) in rows {
-        items.insert(*side, *value)?;
+        items.insert(*side, *value).expect(rt, "memory");
     }
-    Ok(items)
+    items
 }
 
 /// What a map holds of a key after insertions.
-fn held(alloc: Global, rows: &[(Side, u32)], side: Side) -> Result<Option<u32>> {
-    let items = map(alloc, rows)?;
-    Ok(items.get(side).copied())
+fn held(rt: &impl Abort, alloc: Global, rows: &[(Side, u32)], side: Side) -> Option<u32> {
+    let items = map(rt, alloc, rows);
+    items.get(side).copied()
 }
 
 /// How many keys a map has after insertions, if it says so that it is empty.
-fn count(alloc: Global, rows: &[(Side, u32)]) -> Result<usize> {
-    let items = map(alloc, rows)?;
-    if items.is_empty() {
-        return Ok(0);
-    }
-    Ok(items.len())
+fn count(rt: &impl Abort, alloc: Global, rows: &[(Side, u32)]) -> usize {
+    let items = map(rt, alloc, rows);
+    if items.is_empty() { 0 } else { items.len() }
 }
 
 /// Whether maps are equal into which these are inserted.
-fn are_equal(alloc: Global, one: &[(Side, u32)], other: &[(Side, u32)]) -> Result<bool> {
-    let one = map(alloc, one)?;
-    let other = map(alloc, other)?;
-    Ok(one == other)
+fn are_equal(rt: &impl Abort, alloc: Global, one: &[(Side, u32)], other: &[(Side, u32)]) -> bool {
+    map(rt, alloc, one) == map(rt, alloc, other)
 }
 
 /// Whether a map is equal to its copy, given back as it was made and made again of that.
-fn is_map_given_back(alloc: Global, rows: &[(Side, u32)]) -> Result<bool> {
-    let items = map(alloc, rows)?;
-    let copy = items.try_clone()?;
+fn is_map_given_back(rt: &impl Abort, alloc: Global, rows: &[(Side, u32)]) -> bool {
+    let items = map(rt, alloc, rows);
+    let copy = items.try_clone().expect(rt, "memory");
     let map = HashMap::from(items);
     let is_held = map.len() == 2 && map.get(&Side::South).copied() == Some(1);
-    Ok(is_held && KeyedItems::from(map) == copy)
+    is_held && KeyedItems::from(map) == copy
 }
 
 #[test]
 fn a_map_holds_what_was_inserted_last_in_any_order(rt: HostRuntime) {
     let alloc = rt.alloc();
     let rows = [(Side::East, 7), (Side::West, 9), (Side::East, 8)];
-    assert_equal(&rt, held(alloc, &rows, Side::East), Ok(Some(8)));
-    assert_equal(&rt, held(alloc, &rows, Side::West), Ok(Some(9)));
-    assert_equal(&rt, held(alloc, &rows, Side::North), Ok(None));
-    assert_equal(&rt, held(alloc, &[], Side::East), Ok(None));
-    assert_equal(
-        &rt,
-        (count(alloc, &rows), count(alloc, &[])),
-        (Ok(2), Ok(0)),
-    );
+    assert_equal(&rt, held(&rt, alloc, &rows, Side::East), Some(8));
+    assert_equal(&rt, held(&rt, alloc, &rows, Side::West), Some(9));
+    assert_equal(&rt, held(&rt, alloc, &rows, Side::North), None);
+    assert_equal(&rt, held(&rt, alloc, &[], Side::East), None);
+    assert_equal(&rt, count(&rt, alloc, &rows), 2);
+    assert_equal(&rt, count(&rt, alloc, &[]), 0);
     let one = [(Side::South, 1), (Side::North, 2)];
     let other = [(Side::North, 2), (Side::South, 1)];
-    assert_equal(&rt, are_equal(alloc, &one, &other), Ok(true));
-    assert_equal(&rt, are_equal(alloc, &one, &other[..1]), Ok(false));
-    check(&rt, 1, is_map_given_back(alloc, &one));
+    assert_that(&rt, 1, are_equal(&rt, alloc, &one, &other));
+    assert_that(&rt, 2, !are_equal(&rt, alloc, &one, &other[..1]));
+    assert_that(&rt, 3, is_map_given_back(&rt, alloc, &one));
 }
 
 /// Whether the copy of a value is equal to it.
@@ -293,9 +288,14 @@ const MESSAGES: [(Error, &str); 21] = [
     ),
 ];
 
+/// Whether an error prints as a message.
+fn has_message(rt: &impl Abort, alloc: Global, error: &Error, message: &str) -> bool {
+    prints(alloc, error, message).expect(rt, "memory")
+}
+
 #[test]
 fn an_error_has_its_message(rt: HostRuntime) {
-    for (error, message) in MESSAGES {
-        check(&rt, message, prints(rt.alloc(), &error, message));
+    for (error, message) in &MESSAGES {
+        assert_that(&rt, *message, has_message(&rt, rt.alloc(), error, message));
     }
 }

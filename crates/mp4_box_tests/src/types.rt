@@ -1,41 +1,42 @@
 //! What sample entries and containers say of their types and sizes.
 
-use crate::asserts::{assert_equal, check};
+use crate::asserts::{assert_equal, assert_that};
 use mp4_boxes::{MdiaBox, MinfBox, MoovBox, StblBox};
-use mp4_codec::{BoxType, Result};
+use mp4_codec::BoxType;
 use mp4_entry::{Avc1Box, EsdsBox, Hev1Box, Mp4aBox, StsdBox, Tx3gBox, Vp09Box};
 use mp4_meta::{IlstBox, MetaBox, UdtaBox};
 use std::alloc::Global;
+use std::process::Abort;
 
 /// Whether an entry of AVC and its configuration say their types and sizes.
-fn is_avc(alloc: Global) -> Result<bool> {
-    let entry = Avc1Box::default(alloc)?;
+fn is_avc(rt: &impl Abort, alloc: Global) -> bool {
+    let entry = Avc1Box::default(alloc).expect(rt, "memory");
     let leaf = &entry.avcc;
     let types = entry.get_type() == BoxType::Avc1Box && leaf.get_type() == BoxType::AvcCBox;
-    Ok(types && entry.get_size() == 101 && leaf.get_size() == 15)
+    types && entry.get_size() == 101 && leaf.get_size() == 15
 }
 
 /// Whether an entry of HEVC and its configuration say their types and sizes.
-fn is_hevc(alloc: Global) -> Result<bool> {
-    let entry = Hev1Box::default(alloc)?;
+fn is_hevc(rt: &impl Abort, alloc: Global) -> bool {
+    let entry = Hev1Box::default(alloc).expect(rt, "memory");
     let leaf = &entry.hvcc;
     let types = entry.get_type() == BoxType::Hev1Box && leaf.get_type() == BoxType::HvcCBox;
-    Ok(types && entry.get_size() == 117 && leaf.get_size() == 31)
+    types && entry.get_size() == 117 && leaf.get_size() == 31
 }
 
 /// Whether an entry of VP9 and its configuration say their types and sizes.
-fn is_vp9(alloc: Global) -> Result<bool> {
-    let entry = Vp09Box::default(alloc)?;
+fn is_vp9(rt: &impl Abort, alloc: Global) -> bool {
+    let entry = Vp09Box::default(alloc).expect(rt, "memory");
     let leaf = &entry.vpcc;
     let types = entry.get_type() == BoxType::Vp09Box && leaf.get_type() == BoxType::VpccBox;
-    Ok(types && entry.get_size() == 106 && leaf.get_size() == 20)
+    types && entry.get_size() == 106 && leaf.get_size() == 20
 }
 
 #[test]
 fn an_entry_says_its_type_and_size(rt: HostRuntime) {
-    check(&rt, "avc1", is_avc(rt.alloc()));
-    check(&rt, "hev1", is_hevc(rt.alloc()));
-    check(&rt, "vp09", is_vp9(rt.alloc()));
+    assert_that(&rt, "avc1", is_avc(&rt, rt.alloc()));
+    assert_that(&rt, "hev1", is_hevc(&rt, rt.alloc()));
+    assert_that(&rt, "vp09", is_vp9(&rt, rt.alloc()));
     let esds = EsdsBox::default();
     assert_equal(
         &rt,
@@ -63,49 +64,49 @@ fn an_entry_says_its_type_and_size(rt: HostRuntime) {
 }
 
 /// Whether a list of metadata says its type and size.
-fn is_list(alloc: Global) -> Result<bool> {
-    let list = IlstBox::default(alloc)?;
-    Ok(list.get_type() == BoxType::IlstBox && list.get_size() == 8)
+fn is_list(rt: &impl Abort, alloc: Global) -> bool {
+    let list = IlstBox::default(alloc).expect(rt, "memory");
+    list.get_type() == BoxType::IlstBox && list.get_size() == 8
 }
 
 /// Whether metadata say their type and size.
-fn is_metadata(alloc: Global) -> Result<bool> {
-    let meta = MetaBox::default(alloc)?;
-    Ok(meta.get_type() == BoxType::MetaBox && meta.get_size() == 45)
+fn is_metadata(rt: &impl Abort, alloc: Global) -> bool {
+    let meta = MetaBox::default(alloc).expect(rt, "memory");
+    meta.get_type() == BoxType::MetaBox && meta.get_size() == 45
 }
 
 /// Whether a sample table says its type and size.
-fn is_table(alloc: Global) -> Result<bool> {
-    let table = StblBox::default(alloc)?;
-    Ok(table.get_type() == BoxType::StblBox && table.get_size() == 76)
+fn is_table(rt: &impl Abort, alloc: Global) -> bool {
+    let table = StblBox::default(alloc).expect(rt, "memory");
+    table.get_type() == BoxType::StblBox && table.get_size() == 76
 }
 
 /// Whether media information says its type and size.
-fn is_information(alloc: Global) -> Result<bool> {
-    let information = MinfBox::default(alloc)?;
-    Ok(information.get_type() == BoxType::MinfBox && information.get_size() == 120)
+fn is_information(rt: &impl Abort, alloc: Global) -> bool {
+    let information = MinfBox::default(alloc).expect(rt, "memory");
+    information.get_type() == BoxType::MinfBox && information.get_size() == 120
 }
 
 /// Whether media say their type and size.
-fn are_media(alloc: Global) -> Result<bool> {
-    let media = MdiaBox::default(alloc)?;
-    Ok(media.get_type() == BoxType::MdiaBox && media.get_size() == 193)
+fn are_media(rt: &impl Abort, alloc: Global) -> bool {
+    let media = MdiaBox::default(alloc).expect(rt, "memory");
+    media.get_type() == BoxType::MdiaBox && media.get_size() == 193
 }
 
 /// Whether a movie says its type and size.
-fn is_movie(alloc: Global) -> Result<bool> {
-    let movie = MoovBox::default(alloc)?;
-    Ok(movie.get_type() == BoxType::MoovBox && movie.get_size() == 116)
+fn is_movie(rt: &impl Abort, alloc: Global) -> bool {
+    let movie = MoovBox::default(alloc).expect(rt, "memory");
+    movie.get_type() == BoxType::MoovBox && movie.get_size() == 116
 }
 
 #[test]
 fn a_container_says_its_type_and_size(rt: HostRuntime) {
-    check(&rt, "ilst", is_list(rt.alloc()));
-    check(&rt, "meta", is_metadata(rt.alloc()));
-    check(&rt, "stbl", is_table(rt.alloc()));
-    check(&rt, "minf", is_information(rt.alloc()));
-    check(&rt, "mdia", are_media(rt.alloc()));
-    check(&rt, "moov", is_movie(rt.alloc()));
+    assert_that(&rt, "ilst", is_list(&rt, rt.alloc()));
+    assert_that(&rt, "meta", is_metadata(&rt, rt.alloc()));
+    assert_that(&rt, "stbl", is_table(&rt, rt.alloc()));
+    assert_that(&rt, "minf", is_information(&rt, rt.alloc()));
+    assert_that(&rt, "mdia", are_media(&rt, rt.alloc()));
+    assert_that(&rt, "moov", is_movie(&rt, rt.alloc()));
     let udta = UdtaBox::default();
     assert_equal(
         &rt,
