@@ -6,29 +6,31 @@ use crate::sources::{Numbers, many_bytes};
 use mp4_source::{ByteSink, CountingSink, SeekSink, SinkError, WAITING_SIZE};
 use std::alloc::Global;
 use std::io::ErrorKind;
+use std::process::Abort;
+
+/// A sink that writes to this file.
+fn sink_of(rt: &impl Abort, alloc: Global, disk: WrittenDisk) -> SeekSink<WrittenDisk> {
+    SeekSink::new(alloc, disk).expect(rt, "memory")
+}
 
 /// The calls of `write`, `seek` and `flush` where 1,000 samples of 100 bytes follow a header of 16, which is written
 /// over at the end.
-fn calls_of_a_movie(alloc: Global) -> Result<(u64, u64, u64), SinkError> {
-    let bytes = many_bytes(alloc, 100)?;
-    let mut sink = SeekSink::new(alloc, WrittenDisk::new(alloc, 0))?;
-    sink.append(&[0; 16])?;
+fn calls_of_a_movie(rt: &impl Abort, alloc: Global) -> (u64, u64, u64) {
+    let bytes = many_bytes(rt, alloc, 100);
+    let mut sink = sink_of(rt, alloc, WrittenDisk::new(alloc, 0));
+    sink.append(&[0; 16]).expect(rt, "a header");
     for _ in 0..1000 {
-        sink.append(bytes.as_slice())?;
+        sink.append(bytes.as_slice()).expect(rt, "a sample");
     }
-    sink.overwrite(0, &[1; 16])?;
-    sink.flush()?;
+    sink.overwrite(0, &[1; 16]).expect(rt, "the header again");
+    sink.flush().expect(rt, "a flush");
     let disk = sink.into_inner();
-    Ok((disk.writes, disk.seeks, disk.flushes))
+    (disk.writes, disk.seeks, disk.flushes)
 }
 
 #[test]
 fn a_movie_is_written_in_few_calls(rt: HostRuntime) {
-    assert_that(
-        &rt,
-        "calls",
-        matches!(calls_of_a_movie(rt.alloc()), Ok((3, 3, 1))),
-    );
+    assert_that(&rt, "calls", calls_of_a_movie(&rt, rt.alloc()) == (3, 3, 1));
 }
 
 /// A call of a sink: it adds so many bytes, or writes so many over those from a place on.
@@ -95,82 +97,73 @@ struct Outcome {
 
 /// Makes these calls of a file, each twice where it was refused, and of a buffer in memory.
 fn outcome_of(
+    rt: &impl Abort,
     alloc: Global,
     disk: WrittenDisk,
     calls: &[SinkCall],
     bytes: &[u8],
-) -> Result<Outcome, SinkError> {
-    let mut sink = SeekSink::new(alloc, disk)?;
+) -> Outcome {
+    let mut sink = sink_of(rt, alloc, disk);
     let mut memory: Vec<u8> = Vec::new(alloc);
     let mut refusals = 0u32;
     for call in calls {
-        make(&mut memory, *call, bytes)?;
+        make(&mut memory, *call, bytes).expect(rt, "a call of memory");
         if make(&mut sink, *call, bytes).is_err() {
             refusals = refusals.saturating_add(1);
-            make(&mut sink, *call, bytes)?;
+            make(&mut sink, *call, bytes).expect(rt, "the call again");
         }
     }
     let agrees = ByteSink::len(&sink) == ByteSink::len(&memory);
     let disk = sink.into_inner();
-    Ok(Outcome {
+    Outcome {
         agrees: agrees && disk.bytes.as_slice() == memory.as_slice(),
         refusals,
-    })
+    }
 }
 
 #[test]
 fn a_refused_call_of_a_sink_may_be_made_again(rt: HostRuntime) {
-    let Ok(bytes) = many_bytes(rt.alloc(), 70_000) else {
-        return;
-    };
+    let bytes = many_bytes(&rt, rt.alloc(), 70_000);
     for refused in 1..22 {
         let disk = WrittenDisk::new(rt.alloc(), refused);
-        let answer = outcome_of(rt.alloc(), disk, &CALLS, bytes.as_slice());
-        assert_that(
-            &rt,
-            refused,
-            matches!(answer, Ok(o) if o.agrees && o.refusals == 1),
-        );
+        let outcome = outcome_of(&rt, rt.alloc(), disk, &CALLS, bytes.as_slice());
+        assert_that(&rt, refused, outcome.agrees && outcome.refusals == 1);
     }
 }
 
 /// What comes of the calls where a write takes so many bytes at most, and is interrupted or not.
-fn outcome_by(alloc: Global, most: usize, is_interrupted: bool) -> Result<Outcome, SinkError> {
-    let bytes = many_bytes(alloc, 70_000)?;
+fn outcome_by(rt: &impl Abort, alloc: Global, most: usize, is_interrupted: bool) -> Outcome {
+    let bytes = many_bytes(rt, alloc, 70_000);
     let mut disk = WrittenDisk::new(alloc, 0);
     disk.most = most;
     disk.is_interrupted = is_interrupted;
-    outcome_of(alloc, disk, &CALLS, bytes.as_slice())
+    outcome_of(rt, alloc, disk, &CALLS, bytes.as_slice())
 }
 
 #[test]
 fn a_file_may_take_less_than_is_given(rt: HostRuntime) {
     for most in [1, 1000, 65_535, usize::MAX] {
         for is_interrupted in [false, true] {
-            let answer = outcome_by(rt.alloc(), most, is_interrupted);
-            assert_that(
-                &rt,
-                most,
-                matches!(answer, Ok(o) if o.agrees && o.refusals == 0),
-            );
+            let outcome = outcome_by(&rt, rt.alloc(), most, is_interrupted);
+            assert_that(&rt, most, outcome.agrees && outcome.refusals == 0);
         }
     }
 }
 
 /// The errors' kinds: of a file that takes no bytes, of an overwrite that passes the end by one byte, and of one far
 /// after it.
-fn kinds(alloc: Global) -> Result<[Option<ErrorKind>; 3], SinkError> {
+fn kinds(rt: &impl Abort, alloc: Global) -> [Option<ErrorKind>; 3] {
     let mut disk = WrittenDisk::new(alloc, 0);
     disk.most = 0;
-    let mut full = SeekSink::new(alloc, disk)?;
-    let mut sink = SeekSink::new(alloc, WrittenDisk::new(alloc, 0))?;
-    full.append(&[1, 2])?;
-    sink.append(&[1, 2])?;
-    Ok([
+    let mut full = sink_of(rt, alloc, disk);
+    let mut sink = sink_of(rt, alloc, WrittenDisk::new(alloc, 0));
+    full.append(&[1, 2]).expect(rt, "two bytes that wait");
+    sink.append(&[1, 2]).expect(rt, "two bytes");
+    [
         kind_of(make(&mut full, SinkCall::Flush, &[])),
         kind_of(make(&mut sink, SinkCall::Overwrite(1, 2), &[3, 4])),
         kind_of(make(&mut sink, SinkCall::Overwrite(u64::MAX, 2), &[3, 4])),
-    ])
+    ]
 }
 
 #[test]
@@ -179,7 +172,7 @@ fn errors_of_a_file_have_their_kinds(rt: HostRuntime) {
     assert_that(
         &rt,
         "kinds",
-        matches!(kinds(rt.alloc()), Ok(k) if k == [Some(ErrorKind::WriteZero), past, past]),
+        kinds(&rt, rt.alloc()) == [Some(ErrorKind::WriteZero), past, past],
     );
 }
 
@@ -256,9 +249,9 @@ impl Tally {
 
 /// Makes random calls of a file and of a buffer in memory, and compares what they answer; after each flush, how many
 /// bytes they hold; and in the end, which.
-fn tally_of_random_calls(alloc: Global) -> Result<Tally, SinkError> {
-    let bytes = many_bytes(alloc, 70_000)?;
-    let mut sink = SeekSink::new(alloc, WrittenDisk::new(alloc, 0))?;
+fn tally_of_random_calls(rt: &impl Abort, alloc: Global) -> Tally {
+    let bytes = many_bytes(rt, alloc, 70_000);
+    let mut sink = sink_of(rt, alloc, WrittenDisk::new(alloc, 0));
     let mut memory: Vec<u8> = Vec::new(alloc);
     let mut numbers = Numbers::new();
     let mut tally = Tally::new();
@@ -276,11 +269,11 @@ fn tally_of_random_calls(alloc: Global) -> Result<Tally, SinkError> {
             tally.differing = tally.differing.saturating_add(1);
         }
     }
-    sink.flush()?;
+    sink.flush().expect(rt, "a flush");
     if sink.get_ref().bytes.as_slice() != memory.as_slice() {
         tally.differing = tally.differing.saturating_add(1);
     }
-    Ok(tally)
+    tally
 }
 
 #[test]
@@ -288,27 +281,23 @@ fn a_file_holds_what_memory_does_after_random_calls(rt: HostRuntime) {
     assert_that(
         &rt,
         "random",
-        matches!(tally_of_random_calls(rt.alloc()), Ok(t) if t.is_good()),
+        tally_of_random_calls(&rt, rt.alloc()).is_good(),
     );
 }
 
 /// What a sink that counts says of these calls, and one in memory.
-fn lengths(alloc: Global) -> Result<(u64, u64), SinkError> {
-    let bytes = many_bytes(alloc, 70_000)?;
+fn lengths(rt: &impl Abort, alloc: Global) -> (u64, u64) {
+    let bytes = many_bytes(rt, alloc, 70_000);
     let mut counting = CountingSink::new();
     let mut memory: Vec<u8> = Vec::new(alloc);
     for call in &CALLS {
-        make(&mut counting, *call, bytes.as_slice())?;
-        make(&mut &mut memory, *call, bytes.as_slice())?;
+        make(&mut counting, *call, bytes.as_slice()).expect(rt, "a call that is counted");
+        make(&mut &mut memory, *call, bytes.as_slice()).expect(rt, "a call of memory");
     }
-    Ok((ByteSink::len(&counting), ByteSink::len(&memory)))
+    (ByteSink::len(&counting), ByteSink::len(&memory))
 }
 
 #[test]
 fn a_count_is_the_length_of_what_is_written(rt: HostRuntime) {
-    assert_that(
-        &rt,
-        "calls",
-        matches!(lengths(rt.alloc()), Ok((201_095, 201_095))),
-    );
+    assert_that(&rt, "calls", lengths(&rt, rt.alloc()) == (201_095, 201_095));
 }

@@ -2,16 +2,18 @@
 
 use crate::asserts::assert_that;
 use crate::caller::two_bytes;
-use crate::sources::{agrees, kind_of};
-use mp4_source::{ByteSource, SourceError};
+use crate::sources::{agrees_at, kind_of};
+use mp4_source::ByteSource;
 use std::alloc::Global;
 use std::io::ErrorKind;
+use std::process::Abort;
 
-fn lends_without_memory(alloc: Global) -> Result<bool, SourceError> {
+fn lends_without_memory(rt: &impl Abort, alloc: Global) -> bool {
     let mut source: &[u8] = b"ftypmoov";
     let mut room = Vec::new(alloc);
-    let is_part = source.part(4, 4, &mut room)? == b"moov".as_slice();
-    Ok(is_part && room.capacity() == 0)
+    let part = source.part(4, 4, &mut room).expect(rt, "a part");
+    let is_part = part == b"moov".as_slice();
+    is_part && room.capacity() == 0
 }
 
 fn ends(alloc: Global, source: &mut &[u8], place: u64, n: usize) -> bool {
@@ -19,24 +21,17 @@ fn ends(alloc: Global, source: &mut &[u8], place: u64, n: usize) -> bool {
     kind_of(source.part(place, n, &mut room)) == Some(ErrorKind::UnexpectedEof)
 }
 
-fn gives_two_bytes(alloc: Global) -> Result<bool, SourceError> {
+fn gives_two_bytes(rt: &impl Abort, alloc: Global) -> bool {
     let mut source: &[u8] = b"ftypmoov";
     let mut room = Vec::new(alloc);
-    Ok(two_bytes(&mut source, 1, 7, &mut room)? == (b't', b'v'))
+    let bytes = two_bytes(&mut source, 1, 7, &mut room).expect(rt, "two bytes");
+    bytes == (b't', b'v')
 }
 
 #[test]
 fn a_slice_lends_its_parts(rt: HostRuntime) {
-    assert_that(
-        &rt,
-        "lends",
-        lends_without_memory(rt.alloc()).unwrap_or(false),
-    );
-    assert_that(
-        &rt,
-        "two bytes",
-        gives_two_bytes(rt.alloc()).unwrap_or(false),
-    );
+    assert_that(&rt, "lends", lends_without_memory(&rt, rt.alloc()));
+    assert_that(&rt, "two bytes", gives_two_bytes(&rt, rt.alloc()));
     let mut source: &[u8] = b"ftypmoov";
     assert_that(&rt, "length", matches!(ByteSource::len(&mut source), Ok(8)));
     assert_that(&rt, "one past the end", ends(rt.alloc(), &mut source, 5, 4));
@@ -51,6 +46,6 @@ fn a_slice_lends_its_parts(rt: HostRuntime) {
         ends(rt.alloc(), &mut source, 0, usize::MAX),
     );
     let mut room = Vec::new(rt.alloc());
-    let is_empty = agrees(&mut source, b"ftypmoov", 8, 0, &mut room);
-    assert_that(&rt, "none at the end", is_empty.unwrap_or(false));
+    let is_empty = agrees_at(&rt, &mut source, b"ftypmoov", &[(8, 0)], &mut room);
+    assert_that(&rt, "none at the end", is_empty);
 }

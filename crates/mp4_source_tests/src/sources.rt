@@ -3,17 +3,18 @@
 ghost use Rattle.std.specs.Prelude.{◌≡◌, Some};
 
 use mp4_source::{ByteSource, SourceError};
-use std::alloc::{AllocError, Global};
+use std::alloc::Global;
 use std::io;
 use std::io::{ErrorKind, Read, Seek, SeekFrom};
+use std::process::Abort;
 
 /// So many bytes, of which those near each other differ.
-pub fn many_bytes(alloc: Global, n: usize) -> Result<Vec<u8>, AllocError> {
-    let mut bytes = Vec::with_capacity(alloc, n)?;
+pub fn many_bytes(rt: &impl Abort, alloc: Global, n: usize) -> Vec<u8> {
+    let mut bytes = Vec::with_capacity(alloc, n).expect(rt, "memory");
     for index in 0..n {
-        bytes.push((index % 251) as u8)?;
+        bytes.push((index % 251) as u8).expect(rt, "memory");
     }
-    Ok(bytes)
+    bytes
 }
 
 /// Numbers that look random, the same in each run.
@@ -152,8 +153,29 @@ pub fn kind_of<T: Drop>(answer: Result<T, SourceError>) -> Option<ErrorKind> {
     }
 }
 
+/// Whether a source gives these bytes from a place on, by `part` and by `read_exact_at`, which fills the copy.
+fn gives<S: ByteSource>(
+    source: &mut S,
+    wanted: &[u8],
+    place: u64,
+    copy: &mut [u8],
+    room: &mut Vec<u8>,
+) -> Result<bool, SourceError> {
+    let is_part = source.part(place, wanted.len(), room)? == wanted;
+    source.read_exact_at(place, copy)?;
+    Ok(is_part && &*copy == wanted)
+}
+
+/// Whether a source has no part of as many bytes as the copy has, by `read_exact_at` and by `part`, since it passes
+/// the end.
+fn ends<S: ByteSource>(source: &mut S, place: u64, copy: &mut [u8], room: &mut Vec<u8>) -> bool {
+    let is_past = source.read_exact_at(place, copy).is_err();
+    is_past && kind_of(source.part(place, copy.len(), room)) == Some(ErrorKind::UnexpectedEof)
+}
+
 /// Whether a source answers for this part as bytes in memory do, by `part` and by `read_exact_at`.
 pub fn agrees<S: ByteSource>(
+    rt: &impl Abort,
     source: &mut S,
     bytes: &[u8],
     place: u64,
@@ -163,17 +185,26 @@ pub fn agrees<S: ByteSource>(
     let mut all: &[u8] = bytes;
     let alloc = *room.allocator();
     let mut none = Vec::new(alloc);
-    let mut copy = Vec::with_capacity(alloc, n.min(1000))?;
-    copy.resize(n, 0)?;
+    let mut copy = Vec::with_capacity(alloc, n.min(1000)).expect(rt, "memory");
+    copy.resize(n, 0).expect(rt, "memory");
     match all.part(place, n, &mut none) {
-        Ok(wanted) => {
-            let is_part = source.part(place, n, room)? == wanted;
-            source.read_exact_at(place, copy.as_mut_slice())?;
-            Ok(is_part && copy.as_slice() == wanted)
-        }
-        Err(_) => {
-            let is_past = source.read_exact_at(place, copy.as_mut_slice()).is_err();
-            Ok(is_past && kind_of(source.part(place, n, room)) == Some(ErrorKind::UnexpectedEof))
-        }
+        Ok(wanted) => gives(source, wanted, place, copy.as_mut_slice(), room),
+        Err(_) => Ok(ends(source, place, copy.as_mut_slice(), room)),
     }
+}
+
+/// Whether a source that refuses nothing does so for each of these parts.
+pub fn agrees_at<S: ByteSource>(
+    rt: &impl Abort,
+    source: &mut S,
+    bytes: &[u8],
+    parts: &[(u64, usize)],
+    room: &mut Vec<u8>,
+) -> bool {
+    let mut all = true;
+    for (place, n) in parts {
+        let answer = agrees(rt, source, bytes, *place, *n, room);
+        all = answer.expect(rt, "the source reads") && all;
+    }
+    all
 }
