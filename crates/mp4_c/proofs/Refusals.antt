@@ -157,7 +157,8 @@ after_beginning (Ok x) w movie brands tracks source rows begins h refused = tt
 after_beginning (Err f) w movie brands tracks source rows begins h refused =
     let begun = started [] (config_of movie brands) in
     in_other_words (IsRefusedPart begun tracks source rows f.part f.index)
-    (IsRefusal movie brands tracks source rows f.part f.index) (cause_of f.error) (λ r. later begins r) (refused begun h)
+    (IsRefusal movie brands tracks source rows f.part f.index) (cause_of f.error)
+    (λ r. later begins r) (refused begun h)
 
 -- the movie of a sink whose bytes are known
 pub known_movie : (movie : NewMovie) (brands : List Brand) (tracks : List NewTrack) (source : List ℕ)

@@ -6,5 +6,6 @@ use Rattle.mp4_c.proofs.remuxed.mp4_c_move_to_front.Goals as goal
 
 pub returns : goal.returns
 returns c =
-    gave (λ v. v.items) (IsFront c.args.file.now) (IsNotMoved c.args.file.now) c.moved.result _ _ _ c.moved.ensures.front c.moved.ensures.refused
+    gave (λ v. v.items) (IsFront c.args.file.now) (IsNotMoved c.args.file.now) c.moved.result _ _ _
+    c.moved.ensures.front c.moved.ensures.refused
     c.copy_made.ensures.made c.copy_made.ensures.refused

@@ -11,8 +11,11 @@ use Rattle.mp4_c.proofs.written.add_track.Goals as goal
 
 pub returns-in-Ok-clause-added : goal.returns-in-Ok-clause-added
 returns-in-Ok-clause-added g c = λ st h.
-    let config = c.in_ok-config.config in
-    (with_track st config, (config, c.in_ok-config.ensures.config, c.in-Ok.ensures.cause st h, refl), c.in-Ok.ensures.ok st h)
+    let config = c.in_ok-config.config in (
+      with_track st config,
+      (config, c.in_ok-config.ensures.config, c.in-Ok.ensures.cause st h, refl),
+      c.in-Ok.ensures.ok st h,
+    )
 
 pub returns-in_err-config-clause-refused : goal.returns-in_err-config-clause-refused
 returns-in_err-config-clause-refused g c =
