@@ -1,12 +1,13 @@
 //! Sources that refuse one call of all those that a file is opened and read by.
 
 use crate::answers::{has_same_boxes, is_read, is_read_into, kind_of};
-use crate::asserts::check;
+use crate::asserts::assert_that;
 use crate::movies::{fragmented_file, padded_file};
 use crate::sources::Disk;
 use mp4_media::{ByteSource, FileError, Mp4File, Mp4Reader, SeekSource, read_mp4};
 use std::alloc::Global;
 use std::io::ErrorKind;
+use std::process::Abort;
 
 /// What became of the calls of a file.
 #[derive(Clone, Copy, Debug, PartialEq, Eq)]
@@ -69,12 +70,13 @@ fn read_all<S: ByteSource + Drop>(
 
 /// Opens the file, again after a refusal, and reads it.
 fn open_and_read<S: ByteSource + Drop>(
+    rt: &impl Abort,
     alloc: Global,
     bytes: &[u8],
     source: &mut S,
-) -> Result<Outcome, FileError> {
+) -> Outcome {
     let size = bytes.len() as u64;
-    let reader = read_mp4(alloc, bytes)?;
+    let reader = read_mp4(alloc, bytes).expect(rt, "the movie opens");
     let mut outcome = Outcome {
         refused: 0,
         is_right: true,
@@ -82,60 +84,61 @@ fn open_and_read<S: ByteSource + Drop>(
     match Mp4File::open(alloc, &mut *source, 0, size) {
         Ok(mut file) => {
             read_all(alloc, &mut file, &reader, &mut outcome);
-            return Ok(outcome);
+            return outcome;
         }
         Err(FileError::Io(error)) => {
             outcome.is_right = error.kind() == ErrorKind::PermissionDenied;
         }
-        Err(error) => return Err(error),
+        Err(_) => outcome.is_right = false,
     }
     outcome.refused = 1;
-    let mut file = Mp4File::open(alloc, source, 0, size)?;
+    let mut file = Mp4File::open(alloc, source, 0, size).expect(rt, "the file opens");
     read_all(alloc, &mut file, &reader, &mut outcome);
-    Ok(outcome)
+    outcome
 }
 
 /// What became of them on a disk that refuses its call of this number, and how often it was called.
 fn outcome_of(
+    rt: &impl Abort,
     alloc: Global,
     bytes: &[u8],
     share: usize,
     refused: u64,
-) -> Result<(Outcome, u64), FileError> {
+) -> (Outcome, u64) {
     let mut disk = Disk::new(bytes);
     disk.share = share;
     disk.refused = refused;
     let mut source = SeekSource::new(disk);
-    let outcome = open_and_read(alloc, bytes, &mut source)?;
-    Ok((outcome, source.into_inner().calls))
+    let outcome = open_and_read(rt, alloc, bytes, &mut source);
+    (outcome, source.into_inner().calls)
 }
 
 /// Whether each call that is refused leaves the movie, and made again is Ok.
-fn recovers(alloc: Global, bytes: &[u8], share: usize) -> Result<bool, FileError> {
-    let (whole, calls) = outcome_of(alloc, bytes, share, 0)?;
+fn recovers(rt: &impl Abort, alloc: Global, bytes: &[u8], share: usize) -> bool {
+    let (whole, calls) = outcome_of(rt, alloc, bytes, share, 0);
     let mut all = whole.is_right && whole.refused == 0;
     for refused in 1..calls.saturating_add(1) {
-        let (outcome, _) = outcome_of(alloc, bytes, share, refused)?;
+        let (outcome, _) = outcome_of(rt, alloc, bytes, share, refused);
         all = all && outcome.is_right && outcome.refused == 1;
     }
-    Ok(all)
+    all
 }
 
 /// The same of the fragmented file.
-fn fragments_recover(alloc: Global, share: usize) -> Result<bool, FileError> {
-    let bytes = fragmented_file(alloc)?;
-    recovers(alloc, bytes.as_slice(), share)
+fn fragments_recover(rt: &impl Abort, alloc: Global, share: usize) -> bool {
+    let bytes = fragmented_file(rt, alloc);
+    recovers(rt, alloc, bytes.as_slice(), share)
 }
 
 /// The same of a file whose movie is larger than a window, after a box that is.
-fn large_movie_recovers(alloc: Global) -> Result<bool, FileError> {
-    let bytes = padded_file(alloc, 50_000, 40_000)?;
-    recovers(alloc, bytes.as_slice(), 1)
+fn large_movie_recovers(rt: &impl Abort, alloc: Global) -> bool {
+    let bytes = padded_file(rt, alloc, 50_000, 40_000);
+    recovers(rt, alloc, bytes.as_slice(), 1)
 }
 
 #[test]
 fn a_refused_read_leaves_the_movie(rt: HostRuntime) {
-    check(&rt, "whole reads", fragments_recover(rt.alloc(), 1));
-    check(&rt, "half reads", fragments_recover(rt.alloc(), 2));
-    check(&rt, "large movie", large_movie_recovers(rt.alloc()));
+    assert_that(&rt, "whole reads", fragments_recover(&rt, rt.alloc(), 1));
+    assert_that(&rt, "half reads", fragments_recover(&rt, rt.alloc(), 2));
+    assert_that(&rt, "large movie", large_movie_recovers(&rt, rt.alloc()));
 }
