@@ -1,7 +1,8 @@
 //! The files of the tests, as plain bytes.
 
 use mp4_plain_movies::movie_bytes::{EMPTY_MOVIE, FULL_MOVIE};
-use std::alloc::{AllocError, Global};
+use std::alloc::Global;
+use std::process::Abort;
 
 /// How many bytes the file type has.
 pub const FILE_TYPE: usize = 32;
@@ -18,25 +19,26 @@ pub fn file_type() -> &'static [u8] {
 }
 
 /// The parts, one after the other.
-pub fn joined(alloc: Global, parts: &[&[u8]]) -> Result<Vec<u8>, AllocError> {
+pub fn joined(rt: &impl Abort, alloc: Global, parts: &[&[u8]]) -> Vec<u8> {
     let mut bytes = Vec::new(alloc);
     for part in parts {
-        bytes.extend_from_slice(part)?;
+        bytes.extend_from_slice(part).expect(rt, "memory");
     }
-    Ok(bytes)
+    bytes
 }
 
 /// A file of one track of three samples whose movie box comes after its data.
-pub fn data_first(alloc: Global) -> Result<Vec<u8>, AllocError> {
-    joined(alloc, &[file_type(), &DATA, &FULL_MOVIE])
+pub fn data_first(rt: &impl Abort, alloc: Global) -> Vec<u8> {
+    joined(rt, alloc, &[file_type(), &DATA, &FULL_MOVIE])
 }
 
 /// Where the two chunk offsets of the movie box are in it, of 4 bytes each.
 const OFFSETS: usize = 635;
 
 /// The movie box of that track, whose chunks begin at these places.
-pub fn movie_with(alloc: Global, first: u32, second: u32) -> Result<Vec<u8>, AllocError> {
+pub fn movie_with(rt: &impl Abort, alloc: Global, first: u32, second: u32) -> Vec<u8> {
     joined(
+        rt,
         alloc,
         &[
             &FULL_MOVIE[..OFFSETS],
@@ -48,8 +50,9 @@ pub fn movie_with(alloc: Global, first: u32, second: u32) -> Result<Vec<u8>, All
 }
 
 /// The movie box of that track without what it says of fragments, whose chunks begin at these places.
-pub fn movie_of_tables(alloc: Global, first: u32, second: u32) -> Result<Vec<u8>, AllocError> {
+pub fn movie_of_tables(rt: &impl Abort, alloc: Global, first: u32, second: u32) -> Vec<u8> {
     joined(
+        rt,
         alloc,
         &[
             b"\0\0\x03\x2f",
@@ -62,10 +65,10 @@ pub fn movie_of_tables(alloc: Global, first: u32, second: u32) -> Result<Vec<u8>
 }
 
 /// The same file with its movie box in front.
-pub fn front(alloc: Global) -> Result<Vec<u8>, AllocError> {
+pub fn front(rt: &impl Abort, alloc: Global) -> Vec<u8> {
     let before_samples = 32 + 855 + 16;
-    let movie = movie_with(alloc, before_samples, before_samples + 6)?;
-    joined(alloc, &[file_type(), &movie, &DATA])
+    let movie = movie_with(rt, alloc, before_samples, before_samples + 6);
+    joined(rt, alloc, &[file_type(), &movie, &DATA])
 }
 
 /// Whether a file has these bytes somewhere.

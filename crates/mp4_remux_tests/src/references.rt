@@ -1,11 +1,12 @@
 //! References of tracks that are kept to tracks that aren't.
 
-use crate::asserts::check;
+use crate::asserts::assert_that;
 use crate::files::{DATA, file_type, has, joined};
 use mp4_media::BoxType;
 use mp4_plain_movies::movie_bytes::FULL_MOVIE;
 use mp4_remux::{Reference, RemuxError, choose};
-use std::alloc::{AllocError, Global};
+use std::alloc::Global;
+use std::process::Abort;
 
 /// Two types of references.
 const CHAPTERS: BoxType = BoxType::UnknownBox(0x6368_6170);
@@ -25,15 +26,16 @@ const LEFT_OF_FIRST: [u8; 32] = *b"\0\0\0\x20tref\0\0\0\x0cchap\0\0\0\x02\0\0\0\
 const LEFT_OF_SECOND: [u8; 20] = *b"\0\0\0\x14tref\0\0\0\x0ccdsc\0\0\0\x01";
 
 /// A file of three tracks with the same three samples, of which the first two have references.
-fn three_tracks(alloc: Global) -> Result<Vec<u8>, AllocError> {
+fn three_tracks(rt: &impl Abort, alloc: Global) -> Vec<u8> {
     let header = &FULL_MOVIE[4..116];
     // Before and after the last byte of the track's id.
     let begin = &FULL_MOVIE[120..147];
     let end = &FULL_MOVIE[148..643];
-    let first = joined(alloc, &[b"\0\0\x02\x33", begin, &[1], end, &OF_FIRST])?;
-    let second = joined(alloc, &[b"\0\0\x02\x2f", begin, &[2], end, &OF_SECOND])?;
-    let third = joined(alloc, &[b"\0\0\x02\x0f", begin, &[3], end])?;
+    let first = joined(rt, alloc, &[b"\0\0\x02\x33", begin, &[1], end, &OF_FIRST]);
+    let second = joined(rt, alloc, &[b"\0\0\x02\x2f", begin, &[2], end, &OF_SECOND]);
+    let third = joined(rt, alloc, &[b"\0\0\x02\x0f", begin, &[3], end]);
     joined(
+        rt,
         alloc,
         &[
             file_type(),
@@ -48,10 +50,10 @@ fn three_tracks(alloc: Global) -> Result<Vec<u8>, AllocError> {
 }
 
 /// Whether those to a track that isn't kept, or isn't there, are left out and said, in the order of the file.
-fn says_what_is_left_out(alloc: Global) -> Result<bool, RemuxError> {
-    let file = three_tracks(alloc)?;
+fn says_what_is_left_out(rt: &impl Abort, alloc: Global) -> bool {
+    let file = three_tracks(rt, alloc);
     let mut out = Vec::new(alloc);
-    let left_out = choose(alloc, file.as_slice(), &mut out, &[2, 1])?;
+    let left_out = choose(alloc, file.as_slice(), &mut out, &[2, 1]).expect(rt, "they are kept");
     let expected = [
         Reference {
             track_id: 1,
@@ -64,35 +66,31 @@ fn says_what_is_left_out(alloc: Global) -> Result<bool, RemuxError> {
             to: 9,
         },
     ];
-    Ok(
-        left_out.as_slice() == expected.as_slice()
-            && has(&out, &LEFT_OF_FIRST)
-            && has(&out, &LEFT_OF_SECOND),
-    )
+    left_out.as_slice() == expected.as_slice()
+        && has(&out, &LEFT_OF_FIRST)
+        && has(&out, &LEFT_OF_SECOND)
 }
 
 #[test]
 fn references_to_other_tracks_are_left_out_and_said(rt: HostRuntime) {
-    check(&rt, says_what_is_left_out(rt.alloc()));
+    assert_that(&rt, says_what_is_left_out(&rt, rt.alloc()));
 }
 
 /// Whether all of a track's stay where all tracks are kept, and those of a track that isn't kept aren't said.
-fn says_nothing_else(alloc: Global) -> Result<bool, RemuxError> {
-    let file = three_tracks(alloc)?;
+fn says_nothing_else(rt: &impl Abort, alloc: Global) -> bool {
+    let file = three_tracks(rt, alloc);
     let mut all = Vec::new(alloc);
-    let of_all = choose(alloc, file.as_slice(), &mut all, &[1, 2, 3])?;
+    let of_all = choose(alloc, file.as_slice(), &mut all, &[1, 2, 3]).expect(rt, "they are kept");
     let mut last = Vec::new(alloc);
-    let of_last = choose(alloc, file.as_slice(), &mut last, &[3])?;
-    Ok(
-        of_all.is_empty()
-            && has(&all, &OF_FIRST)
-            && has(&all, &OF_SECOND)
-            && of_last.is_empty()
-            && !has(&last, b"tref"),
-    )
+    let of_last = choose(alloc, file.as_slice(), &mut last, &[3]).expect(rt, "they are kept");
+    of_all.is_empty()
+        && has(&all, &OF_FIRST)
+        && has(&all, &OF_SECOND)
+        && of_last.is_empty()
+        && !has(&last, b"tref")
 }
 
 #[test]
 fn references_of_all_tracks_stay(rt: HostRuntime) {
-    check(&rt, says_nothing_else(rt.alloc()));
+    assert_that(&rt, says_nothing_else(&rt, rt.alloc()));
 }
