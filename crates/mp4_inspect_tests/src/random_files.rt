@@ -4,7 +4,8 @@ use mp4_plain_movies::movie_bytes::EMPTY_MOVIE;
 use mp4_plain_movies::plain_bytes::{begin_box, end_box, put, put_over, put_pair};
 use mp4_plain_movies::random::Random;
 use mp4_plain_movies::random_tables::random_track;
-use std::alloc::{AllocError, Global};
+use std::alloc::Global;
+use std::process::Abort;
 
 /// Where the timescale is in the payload of a track, after its header and before its tables.
 const TIMESCALE: usize = 120;
@@ -33,23 +34,28 @@ fn number(random: &mut Random) -> u32 {
     }
 }
 
+/// Puts these bytes after the others.
+fn put_bytes(rt: &impl Abort, bytes: &mut Vec<u8>, more: &[u8]) {
+    bytes.extend_from_slice(more).expect(rt, "memory");
+}
+
 /// Puts a number for each of these flags that is set.
 fn put_flagged(
+    rt: &impl Abort,
     bytes: &mut Vec<u8>,
     random: &mut Random,
     flags: u32,
     choices: &[u32],
-) -> Result<(), AllocError> {
+) {
     for flag in choices {
         if flags & *flag != 0 {
-            put(bytes, number(random))?;
+            put(bytes, number(random)).expect(rt, "memory");
         }
     }
-    Ok(())
 }
 
 /// Puts a run, whose samples have lists of their own in one of two.
-fn put_run(bytes: &mut Vec<u8>, random: &mut Random) -> Result<(), AllocError> {
+fn put_run(rt: &impl Abort, bytes: &mut Vec<u8>, random: &mut Random) {
     let lists = if random.chance() {
         random.next() & 0xf00
     } else {
@@ -57,90 +63,86 @@ fn put_run(bytes: &mut Vec<u8>, random: &mut Random) -> Result<(), AllocError> {
     };
     let flags = random.next() & 0x5 | lists;
     let count = random.below(9);
-    let start = begin_box(bytes, b"trun")?;
-    put_pair(bytes, flags, count)?;
-    put_flagged(bytes, random, flags, &[0x1])?;
+    let start = begin_box(bytes, b"trun").expect(rt, "memory");
+    put_pair(bytes, flags, count).expect(rt, "memory");
+    put_flagged(rt, bytes, random, flags, &[0x1]);
     if flags & 0x4 != 0 {
-        put(bytes, random.next() & 0x1_0000)?;
+        put(bytes, random.next() & 0x1_0000).expect(rt, "memory");
     }
     for _ in 0..count {
-        put_flagged(bytes, random, flags, &[0x100, 0x200])?;
+        put_flagged(rt, bytes, random, flags, &[0x100, 0x200]);
         if flags & 0x400 != 0 {
-            put(bytes, random.next() & 0x1_0000)?;
+            put(bytes, random.next() & 0x1_0000).expect(rt, "memory");
         }
-        put_flagged(bytes, random, flags, &[0x800])?;
+        put_flagged(rt, bytes, random, flags, &[0x800]);
     }
     end_box(bytes, start);
-    Ok(())
 }
 
 /// Puts the time of a track fragment, mostly a small one, or none.
-fn put_time(bytes: &mut Vec<u8>, random: &mut Random) -> Result<(), AllocError> {
+fn put_time(rt: &impl Abort, bytes: &mut Vec<u8>, random: &mut Random) {
     if random.chance() {
-        return Ok(());
+        return;
     }
     let time = match random.below(8) {
         0 => u64::MAX.wrapping_sub(u64::from(random.byte())),
         _ => u64::from(random.below(2000)),
     };
-    bytes.extend_from_slice(b"\0\0\0\x14tfdt\x01\0\0\0")?;
-    bytes.extend_from_slice(&time.to_be_bytes())
+    put_bytes(rt, bytes, b"\0\0\0\x14tfdt\x01\0\0\0");
+    put_bytes(rt, bytes, &time.to_be_bytes());
 }
 
 /// Puts a fragment of the track, with up to three runs.
-fn put_fragment(bytes: &mut Vec<u8>, random: &mut Random) -> Result<(), AllocError> {
-    let fragment = begin_box(bytes, b"moof\0\0\0\x10mfhd\0\0\0\0\0\0\0\x01")?;
-    let part = begin_box(bytes, b"traf")?;
+fn put_fragment(rt: &impl Abort, bytes: &mut Vec<u8>, random: &mut Random) {
+    let fragment = begin_box(bytes, b"moof\0\0\0\x10mfhd\0\0\0\0\0\0\0\x01").expect(rt, "memory");
+    let part = begin_box(bytes, b"traf").expect(rt, "memory");
     let flags = random.next() & 0x38 | 0x2_0000;
-    let header = begin_box(bytes, b"tfhd")?;
-    put_pair(bytes, flags, 1)?;
-    put_flagged(bytes, random, flags, &[0x8, 0x10])?;
+    let header = begin_box(bytes, b"tfhd").expect(rt, "memory");
+    put_pair(bytes, flags, 1).expect(rt, "memory");
+    put_flagged(rt, bytes, random, flags, &[0x8, 0x10]);
     if flags & 0x20 != 0 {
-        put(bytes, random.next() & 0x1_0000)?;
+        put(bytes, random.next() & 0x1_0000).expect(rt, "memory");
     }
     end_box(bytes, header);
-    put_time(bytes, random)?;
+    put_time(rt, bytes, random);
     for _ in 0..random.few() {
-        put_run(bytes, random)?;
+        put_run(rt, bytes, random);
     }
     end_box(bytes, part);
     end_box(bytes, fragment);
-    Ok(())
 }
 
 /// Puts what the movie says of the samples of fragments.
-fn put_defaults(bytes: &mut Vec<u8>, random: &mut Random) -> Result<(), AllocError> {
-    let start = begin_box(bytes, b"mvex\0\0\0\x20trex\0\0\0\0")?;
-    put_pair(bytes, 1, 1)?;
-    put_pair(bytes, number(random), number(random))?;
-    put(bytes, random.next() & 0x1_0000)?;
+fn put_defaults(rt: &impl Abort, bytes: &mut Vec<u8>, random: &mut Random) {
+    let start = begin_box(bytes, b"mvex\0\0\0\x20trex\0\0\0\0").expect(rt, "memory");
+    put_pair(bytes, 1, 1).expect(rt, "memory");
+    put_pair(bytes, number(random), number(random)).expect(rt, "memory");
+    put(bytes, random.next() & 0x1_0000).expect(rt, "memory");
     end_box(bytes, start);
-    Ok(())
 }
 
 /// Puts a track of random tables and of some timescale.
-fn put_track(alloc: Global, bytes: &mut Vec<u8>, random: &mut Random) -> Result<(), AllocError> {
-    let mut track = random_track(alloc, random)?;
+fn put_track(rt: &impl Abort, alloc: Global, bytes: &mut Vec<u8>, random: &mut Random) {
+    let mut track = random_track(alloc, random).expect(rt, "memory");
     let index = random.below(12) as usize;
     let timescale = TIMESCALES.get(index).copied().unwrap_or(1);
     put_over(&mut track, TIMESCALE, timescale);
-    let start = begin_box(bytes, b"trak")?;
-    bytes.extend_from_slice(&track)?;
+    let start = begin_box(bytes, b"trak").expect(rt, "memory");
+    put_bytes(rt, bytes, &track);
     end_box(bytes, start);
-    Ok(())
 }
 
 /// The bytes of the file of a seed: a track, and up to three fragments of it.
-pub fn random_file(alloc: Global, seed: u64) -> Result<Vec<u8>, AllocError> {
+pub fn random_file(rt: &impl Abort, alloc: Global, seed: u64) -> Vec<u8> {
     let mut random = Random::new(seed);
-    let mut bytes = (&EMPTY_MOVIE[..32]).to_vec(alloc)?;
-    let movie = begin_box(&mut bytes, b"moov")?;
-    bytes.extend_from_slice(&EMPTY_MOVIE[56..])?;
-    put_track(alloc, &mut bytes, &mut random)?;
-    put_defaults(&mut bytes, &mut random)?;
+    let mut bytes = (&EMPTY_MOVIE[..32]).to_vec(alloc).expect(rt, "memory");
+    let movie = begin_box(&mut bytes, b"moov").expect(rt, "memory");
+    put_bytes(rt, &mut bytes, &EMPTY_MOVIE[56..]);
+    put_track(rt, alloc, &mut bytes, &mut random);
+    put_defaults(rt, &mut bytes, &mut random);
     end_box(&mut bytes, movie);
     for _ in 0..random.few() {
-        put_fragment(&mut bytes, &mut random)?;
+        put_fragment(rt, &mut bytes, &mut random);
     }
-    Ok(bytes)
+    bytes
 }
