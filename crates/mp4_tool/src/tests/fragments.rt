@@ -1,9 +1,8 @@
 //! A run over a file of fragments.
 
-use super::runs::ran;
+use super::runs::{assert_printed, put_file, ran, remove};
 use std::alloc::Global;
-use std::fs;
-use std::test::Fail;
+use std::process::Abort;
 
 /// File type and movie of a text track without samples, of whose fragments' samples it says that they last for 40
 /// ticks.
@@ -28,10 +27,10 @@ const TWO_SAMPLES: &[u8] = b"\0\0\0Lmoof\0\0\0\x10mfhd\0\0\0\0\0\0\0\x01\
     \0\0\0\x0fmdatabcdefg";
 
 /// The movie with these boxes after it.
-fn with_fragment(alloc: Global, fragment: &[u8]) -> Result<Vec<u8>, Fail> {
-    let mut file = MOVIE.to_vec(alloc)?;
-    file.extend_from_slice(fragment)?;
-    Ok(file)
+fn with_fragment(rt: &impl Abort, alloc: Global, fragment: &[u8]) -> Vec<u8> {
+    let mut file = MOVIE.to_vec(alloc).expect(rt, "memory");
+    file.extend_from_slice(fragment).expect(rt, "memory");
+    file
 }
 
 const TWO_SAMPLE_LINES: &str = "1 627 3 0 40 0 1\n2 630 4 40 40 0 1\n";
@@ -41,13 +40,12 @@ const TWO_SAMPLE_INFO: &str =
     fragmented yes\ntrack 1 sbtl tx3g 1000 1500000 2 und\n";
 
 #[test]
-fn a_fragmented_file_is_described_and_its_samples_listed(rt: HostRuntime) -> Result<(), Fail> {
-    let file = with_fragment(rt.alloc(), TWO_SAMPLES)?;
-    fs::write(&rt, "fragmented.mp4", file.as_slice())?;
-    let described = ran(&rt, "info fragmented.mp4", &mut b"".as_slice())?;
-    let listed = ran(&rt, "samples fragmented.mp4 1", &mut b"".as_slice())?;
-    fs::remove_file(&rt, "fragmented.mp4")?;
-    assert!(rt; described.is(0, TWO_SAMPLE_INFO, ""), "{described:?}");
-    assert!(rt; listed.is(0, TWO_SAMPLE_LINES, ""), "{listed:?}");
-    Ok(())
+fn a_fragmented_file_is_described_and_its_samples_listed(rt: HostRuntime) {
+    let file = with_fragment(&rt, rt.alloc(), TWO_SAMPLES);
+    put_file(&rt, "fragmented.mp4", file.as_slice());
+    let described = ran(&rt, "info fragmented.mp4", &mut b"".as_slice());
+    let listed = ran(&rt, "samples fragmented.mp4 1", &mut b"".as_slice());
+    remove(&rt, "fragmented.mp4");
+    assert_printed(&rt, &described, TWO_SAMPLE_INFO);
+    assert_printed(&rt, &listed, TWO_SAMPLE_LINES);
 }

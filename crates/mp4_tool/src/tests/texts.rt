@@ -2,7 +2,7 @@
 
 use mp4_media::{BoxType, Error, Limit};
 use mp4_script::{ScriptFault, fault_text};
-use std::test::Fail;
+use std::process::Abort;
 
 /// The movie without tracks: a file type of isom, version 512, an empty mdat and a movie header of 1000 ticks
 /// in a second (ISO/IEC 14496-12, 4.3, 8.1.1, 8.2.1 and 8.2.2).
@@ -34,25 +34,26 @@ pub const TEXT_INFO: &str =
 /// The lines of its samples.
 pub const TEXT_SAMPLES: &str = "1 48 3 0 500 0 1\n2 51 3 500 500 0 1\n3 54 2 1000 500 0 1\n";
 
-#[test]
-fn a_fault_of_the_end_has_its_message(rt: HostRuntime) -> Result<(), Fail> {
-    let fault = ScriptFault::End(Error::TooLarge(Limit::BoxSize));
-    assert_eq!(rt;
-        format!(in rt.alloc(); "{fault}")?.as_str(),
-        "end: too large: box size"
-    );
-    Ok(())
+/// Ends the test and prints both texts, unless they are equal.
+fn assert_text(rt: &impl Abort, text: &[u8], expected: &str) {
+    assert_eq!(rt; str::from_utf8(text).ok(), Some(expected));
 }
 
 #[test]
-fn an_error_has_its_message(rt: HostRuntime) -> Result<(), Fail> {
+fn a_fault_of_the_end_has_its_message(rt: HostRuntime) {
+    let fault = ScriptFault::End(Error::TooLarge(Limit::BoxSize));
+    let text = format!(in rt.alloc(); "{fault}").expect(&rt, "memory");
+    assert_text(&rt, text.as_bytes(), "end: too large: box size");
+}
+
+#[test]
+fn an_error_has_its_message(rt: HostRuntime) {
     let rows = [
         (Error::InvalidData("a text for people"), "invalid data"),
         (Error::BoxNotFound(BoxType::MoovBox), "moov not found"),
     ];
     for (error, message) in rows {
-        let text = fault_text(rt.alloc(), &error)?;
-        assert!(rt; text.as_slice() == message.as_bytes(), "of {message}");
+        let text = fault_text(rt.alloc(), &error).expect(&rt, "memory");
+        assert_text(&rt, text.as_slice(), message);
     }
-    Ok(())
 }
