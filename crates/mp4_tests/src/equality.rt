@@ -1,7 +1,7 @@
 //! Values of the types that no contract of `is_equal` is about: such as differ in one field are unequal, and each is
 //! equal to itself and to one of the same fields.
 
-use crate::asserts::check;
+use crate::asserts::assert_that;
 use mp4_media::{SampleQuery, is_equal_sample};
 use mp4_plain_movies::equality::compares_each;
 use mp4_samples::SampleRef;
@@ -74,5 +74,5 @@ fn queries_differ() -> bool {
 
 #[test]
 fn borrowed_samples_and_queries_that_differ_are_unequal(rt: HostRuntime) {
-    check(&rt, 1, Ok(borrowed_samples_differ() && queries_differ()));
+    assert_that(&rt, 1, borrowed_samples_differ() && queries_differ());
 }

@@ -5,9 +5,8 @@
 ghost use Rattle.std.specs.Prelude.{IfSome};
 ghost use Rattle.std.specs.List.Sorted.{IsNonDecreasing};
 
-use crate::asserts::{at_least, check};
+use crate::asserts::{assert_that, at_least};
 use crate::random_tracks::are_few;
-use mp4_codec::Result;
 use mp4_media::searching::{
     ByGuess, ByHalves, LookedUp, Readings, Search, SearchHit, SearchedNumbers,
 };
@@ -168,36 +167,34 @@ impl Stray {
     }
 
     /// All numbers.
-    fn numbers(&self, alloc: Global) -> Result<Vec<u32>> {
-        let mut numbers = Vec::with_capacity(alloc, self.count as usize)?;
+    fn numbers(&self, rt: &impl Abort, alloc: Global) -> Vec<u32> {
+        let mut numbers = Vec::new(alloc);
         for index in 0..self.count {
-            numbers.push(self.number(index))?;
+            numbers.push(self.number(index)).expect(rt, "memory");
         }
-        Ok(numbers)
+        numbers
     }
 
     /// Keys in the stretch and beside it: each number there, and those right before and after it.
-    fn keys_near(&self, alloc: Global) -> Result<Vec<u32>> {
+    fn keys_near(&self, rt: &impl Abort, alloc: Global) -> Vec<u32> {
         let mut keys = Vec::new(alloc);
         for index in self.start().wrapping_sub(300)..self.end().wrapping_add(300) {
             let number = self.number(index);
-            keys.push(number.wrapping_sub(1))?;
-            keys.push(number)?;
-            keys.push(number.wrapping_add(1))?;
+            let near = [number.wrapping_sub(1), number, number.wrapping_add(1)];
+            keys.extend_from_slice(&near).expect(rt, "memory");
         }
-        Ok(keys)
+        keys
     }
 
     /// So many keys anywhere, and the least and the largest.
-    fn keys_anywhere(&self, alloc: Global, count: u32) -> Result<Vec<u32>> {
+    fn keys_anywhere(&self, rt: &impl Abort, alloc: Global, count: u32) -> Vec<u32> {
         let mut random = Random::new(u64::from(self.places));
-        let mut keys = Vec::new(alloc);
-        keys.push(0)?;
-        keys.push(u32::MAX)?;
+        let mut keys = vec![in alloc; 0, u32::MAX].expect(rt, "memory");
         for _ in 0..count {
-            keys.push(self.number(random.below(self.count)))?;
+            let key = self.number(random.below(self.count));
+            keys.push(key).expect(rt, "memory");
         }
-        Ok(keys)
+        keys
     }
 }
 
@@ -211,20 +208,20 @@ fn guesses_are_made(numbers: &SearchedNumbers, keys: &[u32]) -> bool
 }
 
 /// Whether keys are found alike in and beside the stretch where numbers stray so, and anywhere among them.
-fn strays_are_found(alloc: Global, stray: &Stray, counts: &mut Counts) -> Result<bool> {
-    let near = stray.keys_near(alloc)?;
-    let anywhere = stray.keys_anywhere(alloc, 200)?;
-    match searched(stray.numbers(alloc)?) {
-        None => Ok(false),
+fn strays_are_found(rt: &impl Abort, alloc: Global, stray: &Stray, counts: &mut Counts) -> bool {
+    let near = stray.keys_near(rt, alloc);
+    let anywhere = stray.keys_anywhere(rt, alloc, 200);
+    match searched(stray.numbers(rt, alloc)) {
+        None => false,
         Some(numbers) => {
-            Ok(are_found(&numbers, &near, counts) && guesses_are_made(&numbers, &anywhere))
+            are_found(&numbers, &near, counts) && guesses_are_made(&numbers, &anywhere)
         }
     }
 }
 
 /// Whether numbers that stray by so many places to either side are found alike: numbers that are close, and
 /// numbers that go nearly as far as 32 bits do.
-fn both_sides_are_found(alloc: Global, places: u32, counts: &mut Counts) -> Result<bool> {
+fn both_sides_are_found(rt: &impl Abort, alloc: Global, places: u32, counts: &mut Counts) -> bool {
     let mut all = true;
     for (first, step) in [(5, 10), (1, 10_500)] {
         for is_ahead in [false, true] {
@@ -236,10 +233,10 @@ fn both_sides_are_found(alloc: Global, places: u32, counts: &mut Counts) -> Resu
                 places,
                 is_ahead,
             };
-            all = all && strays_are_found(alloc, &stray, counts)?;
+            all = all && strays_are_found(rt, alloc, &stray, counts);
         }
     }
-    Ok(all)
+    all
 }
 
 /// A search looks where its key is expected, and then 1, 16 and 256 places on or back: the numbers are
@@ -248,42 +245,60 @@ fn both_sides_are_found(alloc: Global, places: u32, counts: &mut Counts) -> Resu
 fn numbers_that_stray_from_their_line_are_found_as_by_halves(rt: HostRuntime) {
     let mut counts = NO_KEYS;
     for places in [0, 1, 2, 15, 16, 17, 255, 256, 257] {
-        let all = both_sides_are_found(rt.alloc(), places, &mut counts);
-        check(&rt, places, all);
+        let all = both_sides_are_found(&rt, rt.alloc(), places, &mut counts);
+        assert_that(&rt, places, all);
     }
     counts.are_reached(&rt);
 }
 
 /// So many numbers, each of which is above the one before by less than `steps`, or equal to it.
-fn by_chance(alloc: Global, random: &mut Random, count: u32, steps: u32) -> Result<Vec<u32>> {
+fn by_chance(
+    rt: &impl Abort,
+    alloc: Global,
+    random: &mut Random,
+    count: u32,
+    steps: u32,
+) -> Vec<u32> {
     let mut numbers = Vec::new(alloc);
     let mut number = random.below(steps);
     for _ in 0..count {
-        numbers.push(number)?;
+        numbers.push(number).expect(rt, "memory");
         number = number.wrapping_add(random.below(steps));
     }
-    Ok(numbers)
+    numbers
 }
 
 /// So many keys up past the last of some numbers.
-fn keys_up_to(alloc: Global, random: &mut Random, numbers: &[u32], count: u32) -> Result<Vec<u32>> {
+fn keys_up_to(
+    rt: &impl Abort,
+    alloc: Global,
+    random: &mut Random,
+    numbers: &[u32],
+    count: u32,
+) -> Vec<u32> {
     let past = numbers.last().copied().unwrap_or(0).wrapping_add(3);
     let mut keys = Vec::new(alloc);
     for _ in 0..count {
-        keys.push(random.below(past))?;
+        keys.push(random.below(past)).expect(rt, "memory");
     }
-    Ok(keys)
+    keys
 }
 
 /// Whether so many numbers of chance are found alike.
-fn chance_is_found(alloc: Global, seed: u64, count: u32, counts: &mut Counts) -> Result<bool> {
+fn chance_is_found(
+    rt: &impl Abort,
+    alloc: Global,
+    seed: u64,
+    count: u32,
+    counts: &mut Counts,
+) -> bool {
     let mut random = Random::new(seed);
     let steps = random.few().wrapping_mul(6).wrapping_add(2);
-    let numbers = by_chance(alloc, &mut random, count, steps)?;
-    let keys = keys_up_to(alloc, &mut random, &numbers, 200)?;
+    let numbers = by_chance(rt, alloc, &mut random, count, steps);
+    let keys = keys_up_to(rt, alloc, &mut random, &numbers, 200);
     match searched(numbers) {
-        None => Ok(false),
-        Some(numbers) => Ok(are_found(&numbers, &keys, counts)),
+        None => false,
+        Some(numbers) => are_found(&numbers, &keys, counts),
     }
 }
 
@@ -294,8 +309,8 @@ fn numbers_that_rise_by_chance_are_found_as_by_halves(rt: HostRuntime) {
     let mut counts = NO_KEYS;
     for seed in 0..300 {
         let count = if seed < 100 { seed } else { 5000 };
-        let is_found = chance_is_found(rt.alloc(), seed.into(), count, &mut counts);
-        check(&rt, seed, is_found);
+        let is_found = chance_is_found(&rt, rt.alloc(), seed.into(), count, &mut counts);
+        assert_that(&rt, seed, is_found);
     }
     counts.are_reached(&rt);
 }

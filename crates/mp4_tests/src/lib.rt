@@ -26,6 +26,8 @@ mod plain_fragments;
 #[cfg(test)]
 mod plain_lists;
 #[cfg(test)]
+mod puts;
+#[cfg(test)]
 mod queries;
 #[cfg(test)]
 mod random_columns;

@@ -2,14 +2,15 @@
 //! that are equal, texts and lines too. Each family of inputs says how many of them reach what it is for, and
 //! fails where too few do.
 
-use crate::asserts::{at_least, check};
+use crate::asserts::{assert_that, at_least};
 use crate::plain_files::{PlainFile, put_boxes};
 use crate::plain_lists as plain;
+use crate::puts::{begin_box, put_bytes};
 use crate::random_fragments::random_file;
-use mp4_codec::{Error, Result};
+use mp4_codec::Error;
 use mp4_media::{Mp4Track, SamplePlace, read_mp4};
 use mp4_plain_movies::movie_bytes::EMPTY_MOVIE;
-use mp4_plain_movies::plain_bytes::{begin_box, end_box, put_zeros};
+use mp4_plain_movies::plain_bytes::{end_box, put_zeros};
 use mp4_plain_movies::random::Random;
 use mp4_plain_movies::random_tables::random_track;
 use mp4_script::{ScriptFault, samples_text, show_text};
@@ -99,34 +100,35 @@ impl Ends {
 
 /// A movie of a track of random tables, most of whose chunks begin in the first thousand bytes, and media
 /// data that goes to the end of the file: so the file may end at any byte of the data.
-fn open_file(alloc: Global, random: &mut Random) -> Result<Vec<u8>> {
-    let mut file = EMPTY_MOVIE[..32].to_vec(alloc)?;
-    let movie = begin_box(&mut file, b"moov")?;
-    file.extend_from_slice(&EMPTY_MOVIE[56..])?;
-    let track = begin_box(&mut file, b"trak")?;
-    file.extend_from_slice(&random_track(alloc, random)?)?;
+fn open_file(rt: &impl Abort, alloc: Global, random: &mut Random) -> Vec<u8> {
+    let tables = random_track(alloc, random).expect(rt, "memory");
+    let mut file = EMPTY_MOVIE[..32].to_vec(alloc).expect(rt, "memory");
+    let movie = begin_box(rt, &mut file, b"moov");
+    put_bytes(rt, &mut file, &EMPTY_MOVIE[56..]);
+    let track = begin_box(rt, &mut file, b"trak");
+    put_bytes(rt, &mut file, &tables);
     end_box(&mut file, track);
     end_box(&mut file, movie);
-    file.extend_from_slice(b"\0\0\0\0mdat")?;
-    Ok(file)
+    put_bytes(rt, &mut file, b"\0\0\0\0mdat");
+    file
 }
 
 /// Where the samples of a track lie, up to the first that isn't there.
-fn places_of(alloc: Global, track: &Mp4Track) -> Result<Vec<SamplePlace>> {
+fn places_of(rt: &impl Abort, alloc: Global, track: &Mp4Track) -> Vec<SamplePlace> {
     let mut places = Vec::new(alloc);
-    for k in 1..=track.sample_count()? {
+    for k in 1..=track.sample_count().expect(rt, "a number of samples") {
         match track.locate(k) {
-            Ok(Some(place)) => places.push(place)?,
+            Ok(Some(place)) => places.push(place).expect(rt, "memory"),
             _ => break,
         }
     }
-    Ok(places)
+    places
 }
 
 /// Where the samples of the track of id 1 lie.
-fn places_in(alloc: Global, file: &[u8]) -> Result<Vec<SamplePlace>> {
-    let movie = read_mp4(alloc, file)?;
-    places_of(alloc, movie.track(1)?)
+fn places_in(rt: &impl Abort, alloc: Global, file: &[u8]) -> Vec<SamplePlace> {
+    let movie = read_mp4(alloc, file).expect(rt, "the movie opens");
+    places_of(rt, alloc, movie.track(1).expect(rt, "a track"))
 }
 
 /// How many lengths of a file are listed, one byte apart.
@@ -154,28 +156,34 @@ fn first_length(random: &mut Random, places: &[SamplePlace], boxes: usize) -> us
 }
 
 /// Whether the samples of a track, which lie at these places, are listed as by the plain program.
-fn is_listed(alloc: Global, file: &[u8], places: &[SamplePlace], ends: &mut Ends) -> bool {
+fn is_listed(
+    rt: &impl Abort,
+    alloc: Global,
+    file: &[u8],
+    places: &[SamplePlace],
+    ends: &mut Ends,
+) -> bool {
     let list = samples_text(alloc, file, 1);
     if let Ok(list) = &list {
         ends.add(list, places, file.len() as u64);
     }
-    list == plain::samples_text(alloc, file, 1)
+    list == plain::samples_text(rt, alloc, file, 1)
 }
 
 /// Whether the samples of the track of a seed are listed so, in files that end at each byte round the end of
 /// one of them.
-fn track_is_listed(alloc: Global, seed: u64, ends: &mut Ends) -> Result<bool> {
+fn track_is_listed(rt: &impl Abort, alloc: Global, seed: u64, ends: &mut Ends) -> bool {
     let mut random = Random::new(seed);
-    let mut file = open_file(alloc, &mut random)?;
-    let places = places_in(alloc, &file)?;
+    let mut file = open_file(rt, alloc, &mut random);
+    let places = places_in(rt, alloc, &file);
     let first = first_length(&mut random, &places, file.len());
-    put_zeros(&mut file, DATA)?;
+    put_zeros(&mut file, DATA).expect(rt, "memory");
     let mut all = true;
     for length in first..first.saturating_add(LENGTHS) {
         let file = file.get(..length).unwrap_or(&[]);
-        all = all && is_listed(alloc, file, &places, ends);
+        all = all && is_listed(rt, alloc, file, &places, ends);
     }
-    Ok(all)
+    all
 }
 
 /// At the end of the file one byte makes the line of a sample or a refusal. The 16,000 lists here have more than
@@ -186,7 +194,8 @@ fn track_is_listed(alloc: Global, seed: u64, ends: &mut Ends) -> Result<bool> {
 fn the_samples_of_a_thousand_tracks_are_listed_as_by_a_plain_program(rt: HostRuntime) {
     let mut ends = NO_ENDS;
     for seed in 0..1000 {
-        check(&rt, seed, track_is_listed(rt.alloc(), seed, &mut ends));
+        let all = track_is_listed(&rt, rt.alloc(), seed, &mut ends);
+        assert_that(&rt, seed, all);
     }
     ends.are_reached(&rt);
 }
@@ -232,32 +241,30 @@ impl Shown {
 }
 
 /// Whether the samples of an id are listed as by the plain program, refusals too.
-fn is_listed_of(alloc: Global, file: &[u8], id: u32, shown: &mut Shown) -> bool {
+fn is_listed_of(rt: &impl Abort, alloc: Global, file: &[u8], id: u32, shown: &mut Shown) -> bool {
     let list = samples_text(alloc, file, id);
     if let Ok(list) = &list {
         shown.add_list(list);
     }
-    list == plain::samples_text(alloc, file, id)
+    list == plain::samples_text(rt, alloc, file, id)
 }
 
 /// Whether the samples of each id up to 4 are listed so.
-fn are_listed(alloc: Global, file: &[u8], shown: &mut Shown) -> bool {
+fn are_listed(rt: &impl Abort, alloc: Global, file: &[u8], shown: &mut Shown) -> bool {
     shown.add_file(alloc, file);
     let mut all = true;
     for id in 0..=4 {
-        all = all && is_listed_of(alloc, file, id, shown);
+        all = all && is_listed_of(rt, alloc, file, id, shown);
     }
     all
 }
 
 /// Whether the samples of the file of random boxes of a seed are listed so.
-fn boxes_are_listed(alloc: Global, seed: u64, shown: &mut Shown) -> Result<bool> {
+fn boxes_are_listed(rt: &impl Abort, alloc: Global, seed: u64, shown: &mut Shown) -> bool {
     let mut random = Random::new(seed);
     let mut file = PlainFile::new(alloc);
-    match put_boxes(alloc, &mut file, &mut random) {
-        Ok(_) => Ok(are_listed(alloc, &file.bytes, shown)),
-        Err(_) => Err(Error::OutOfMemory),
-    }
+    put_boxes(rt, alloc, &mut file, &mut random);
+    are_listed(rt, alloc, &file.bytes, shown)
 }
 
 /// Files that are refused when they are opened, and ids without a track: these refusals come before any line.
@@ -267,16 +274,17 @@ fn boxes_are_listed(alloc: Global, seed: u64, shown: &mut Shown) -> Result<bool>
 fn the_samples_of_five_hundred_random_files_are_listed_as_by_a_plain_program(rt: HostRuntime) {
     let mut shown = NOTHING_SHOWN;
     for seed in 0..500 {
-        check(&rt, seed, boxes_are_listed(rt.alloc(), seed, &mut shown));
+        let all = boxes_are_listed(&rt, rt.alloc(), seed, &mut shown);
+        assert_that(&rt, seed, all);
     }
     shown.are_at_least(&rt, 150, 250, 225);
 }
 
 /// Whether the samples of the random file of fragments of a seed are listed so.
-fn fragments_are_listed(alloc: Global, seed: u64, shown: &mut Shown) -> Result<bool> {
+fn fragments_are_listed(rt: &impl Abort, alloc: Global, seed: u64, shown: &mut Shown) -> bool {
     let mut random = Random::new(seed);
-    let file = random_file(alloc, &mut random)?;
-    Ok(are_listed(alloc, &file.bytes, shown))
+    let file = random_file(rt, alloc, &mut random);
+    are_listed(rt, alloc, &file.bytes, shown)
 }
 
 /// Samples of fragments, which lie and last as their runs say. Each of the 500 files here opens; of their 2,500
@@ -287,11 +295,8 @@ fn the_samples_of_five_hundred_files_of_fragments_are_listed_as_by_a_plain_progr
 ) {
     let mut shown = NOTHING_SHOWN;
     for seed in 0..500 {
-        check(
-            &rt,
-            seed,
-            fragments_are_listed(rt.alloc(), seed, &mut shown),
-        );
+        let all = fragments_are_listed(&rt, rt.alloc(), seed, &mut shown);
+        assert_that(&rt, seed, all);
     }
     shown.are_at_least(&rt, 500, 500, 500);
 }
@@ -315,7 +320,7 @@ impl Script {
 }
 
 /// Puts the line of a sample of one of so many tracks, of numbers with many digits, some of them below 0.
-fn put_sample(script: &mut Script, random: &mut Random, tracks: u32) -> Result<()> {
+fn put_sample(rt: &impl Abort, script: &mut Script, random: &mut Random, tracks: u32) {
     let id = random.below(tracks).wrapping_add(1);
     let duration = random.next().wrapping_shr(random.below(32));
     let later = i64::from(random.next().wrapping_shr(random.below(31).wrapping_add(1)));
@@ -324,27 +329,26 @@ fn put_sample(script: &mut Script, random: &mut Random, tracks: u32) -> Result<(
     writeln!(
         script.text,
         "sample {id} {duration} {sign}{later} {sync} abc"
-    )?;
+    )
+    .expect(rt, "memory");
     script.end_line(None);
-    Ok(())
 }
 
 /// Puts a line that is at fault: no command, or a sample of a track that isn't there.
-fn put_fault(script: &mut Script, random: &mut Random) -> Result<()> {
+fn put_fault(rt: &impl Abort, script: &mut Script, random: &mut Random) {
     let line = script.lines.wrapping_add(1);
-    let fault = if random.chance() {
-        writeln!(script.text, "sample 1 -1 0 1 abc")?;
-        ScriptFault::NotACommand(line)
+    let (text, fault) = if random.chance() {
+        ("sample 1 -1 0 1 abc", ScriptFault::NotACommand(line))
     } else {
-        writeln!(script.text, "sample 9 1 0 1 abc")?;
-        ScriptFault::Refused(line, Error::TrakNotFound(9))
+        let fault = ScriptFault::Refused(line, Error::TrakNotFound(9));
+        ("sample 9 1 0 1 abc", fault)
     };
+    writeln!(script.text, "{text}").expect(rt, "memory");
     script.end_line(Some(fault));
-    Ok(())
 }
 
 /// A script of up to three tracks of text and their samples; one in three has lines at fault.
-fn random_script(alloc: Global, random: &mut Random) -> Result<Script> {
+fn random_script(rt: &impl Abort, alloc: Global, random: &mut Random) -> Script {
     let mut script = Script {
         text: String::new(alloc),
         lines: 0,
@@ -352,32 +356,32 @@ fn random_script(alloc: Global, random: &mut Random) -> Result<Script> {
     };
     let tracks = random.below(3).wrapping_add(1);
     for _ in 0..tracks {
-        writeln!(
-            script.text,
-            "track text {}",
-            random.below(2000).wrapping_add(1)
-        )?;
+        let timescale = random.below(2000).wrapping_add(1);
+        writeln!(script.text, "track text {timescale}").expect(rt, "memory");
         script.end_line(None);
     }
     let has_faults = random.below(3) == 0;
     for _ in 0..random.byte() % 40 {
         if has_faults && random.below(8) == 0 {
-            put_fault(&mut script, random)?;
+            put_fault(rt, &mut script, random);
         }
-        put_sample(&mut script, random, tracks)?;
+        put_sample(rt, &mut script, random, tracks);
     }
-    Ok(script)
+    script
 }
 
-type Answer = std::result::Result<Vec<u8>, ScriptFault>;
+type Answer = Result<Vec<u8>, ScriptFault>;
 
 /// Whether what is shown of a script is the same: the text, or the fault and its message.
-fn are_same(alloc: Global, shown: &Answer, expected: &Answer) -> Result<bool> {
+fn are_same(rt: &impl Abort, alloc: Global, shown: &Answer, expected: &Answer) -> bool {
     let messages = match (shown, expected) {
-        (Err(one), Err(other)) => { format!(in alloc; "{one}")? == format!(in alloc; "{other}")? }
+        (Err(one), Err(other)) => {
+            let message = format!(in alloc; "{one}").expect(rt, "memory");
+            message == format!(in alloc; "{other}").expect(rt, "memory")
+        }
         _ => true,
     };
-    Ok(messages && shown == expected)
+    messages && shown == expected
 }
 
 /// Whether a script is shown where it has no fault, and answered with its fault where it has one.
@@ -423,12 +427,12 @@ impl Scripts {
 }
 
 /// Whether the movie of the script of a seed is shown as the plain program shows it.
-fn script_is_shown(alloc: Global, seed: u64, scripts: &mut Scripts) -> Result<bool> {
-    let script = random_script(alloc, &mut Random::new(seed))?;
+fn script_is_shown(rt: &impl Abort, alloc: Global, seed: u64, scripts: &mut Scripts) -> bool {
+    let script = random_script(rt, alloc, &mut Random::new(seed));
     let shown = show_text(alloc, script.text.as_bytes());
-    let expected = plain::show_text(alloc, script.text.as_bytes());
+    let expected = plain::show_text(rt, alloc, script.text.as_bytes());
     scripts.add(&shown);
-    Ok(is_fault_of(&script, &shown) && are_same(alloc, &shown, &expected)?)
+    is_fault_of(&script, &shown) && are_same(rt, alloc, &shown, &expected)
 }
 
 /// The lists of all tracks of a movie, or the first fault of the script that makes it, with the number of its
@@ -442,7 +446,8 @@ fn the_movies_of_five_hundred_scripts_are_shown_as_by_a_plain_program(rt: HostRu
         refused: 0,
     };
     for seed in 0..500 {
-        check(&rt, seed, script_is_shown(rt.alloc(), seed, &mut scripts));
+        let is_shown = script_is_shown(&rt, rt.alloc(), seed, &mut scripts);
+        assert_that(&rt, seed, is_shown);
     }
     scripts.are_reached(&rt);
 }

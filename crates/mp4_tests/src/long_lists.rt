@@ -1,7 +1,7 @@
 //! Long lists of calls, refused ones among them, by the one call that makes them all, opens what was written and looks
 //! for a sample in another file: replies, bytes and samples are those of the plain model.
 
-use crate::asserts::check;
+use crate::asserts::assert_that;
 use crate::random_movies::{Habits, random_bytes, random_call};
 use crate::read_back::tracks_are_read;
 use crate::writer_calls::{config_of, writer_call};
@@ -14,6 +14,7 @@ use mp4_plain_movies::movie_bytes::TEXT_MOVIE;
 use mp4_plain_movies::plain_movie::PlainMovie;
 use mp4_plain_movies::random::Random;
 use std::alloc::Global;
+use std::process::Abort;
 
 /// Calls as data, and what the model answers them.
 #[derive(Drop)]
@@ -24,38 +25,39 @@ struct Listed {
 
 /// One call more, of the list and of the model.
 fn put_call<'a>(
+    rt: &impl Abort,
     alloc: Global,
     listed: &mut Listed,
     movie: &mut PlainMovie<'a>,
     call: &Call<'a>,
-) -> Result<()> {
-    let answer = movie.make(call)?;
-    listed.answers.push(answer)?;
-    listed.calls.push(writer_call(alloc, call)?)?;
-    Ok(())
+) {
+    let answer = movie.make(call).expect(rt, "memory");
+    listed.answers.push(answer).expect(rt, "memory");
+    let call = writer_call(rt, alloc, call);
+    listed.calls.push(call).expect(rt, "memory");
 }
 
 /// So many random calls, none of them an end, then an end, and three calls more, which are refused.
 fn put_calls<'a>(
+    rt: &impl Abort,
     alloc: Global,
     listed: &mut Listed,
     movie: &mut PlainMovie<'a>,
     pool: &'a [u8],
     count: u32,
-) -> Result<()> {
+) {
     let mut random = Random::new(count.into());
     let habits = Habits::new(pool, &mut random);
     for _ in 0..count {
         let tracks = u32::try_from(movie.tracks.len()).unwrap_or(0);
         let call = random_call(&habits, &mut random, tracks);
         if !matches!(call, Call::WriteEnd) {
-            put_call(alloc, listed, movie, &call)?;
+            put_call(rt, alloc, listed, movie, &call);
         }
     }
     for _ in 0..4 {
-        put_call(alloc, listed, movie, &Call::WriteEnd)?;
+        put_call(rt, alloc, listed, movie, &Call::WriteEnd);
     }
-    Ok(())
 }
 
 /// Whether each reply is the one that the model gives.
@@ -99,9 +101,14 @@ fn is_as_modelled(trip: &mut RoundTrip, listed: &Listed, movie: &PlainMovie) -> 
 
 /// Whether the calls of a list are answered and written as the model says, and the second sample of the text movie is
 /// found.
-fn trip_is_as_modelled(alloc: Global, listed: &Listed, movie: &PlainMovie) -> Result<bool> {
-    let config = config_of(alloc, &ISOM)?;
-    let file = hex(alloc, TEXT_MOVIE)?;
+fn trip_is_as_modelled(
+    rt: &impl Abort,
+    alloc: Global,
+    listed: &Listed,
+    movie: &PlainMovie,
+) -> bool {
+    let config = config_of(rt, alloc, &ISOM);
+    let file = hex(alloc, TEXT_MOVIE).expect(rt, "memory");
     let query = SampleQuery {
         bytes: &file,
         start: 0,
@@ -110,25 +117,23 @@ fn trip_is_as_modelled(alloc: Global, listed: &Listed, movie: &PlainMovie) -> Re
         number: 2,
     };
     let mut buffer = Vec::new(alloc);
-    match write_and_read(alloc, &config, &listed.calls, &mut buffer, &query) {
-        Ok(mut trip) => Ok(is_as_modelled(&mut trip, listed, movie)),
-        Err(error) => Err(error),
-    }
+    let trip = write_and_read(alloc, &config, &listed.calls, &mut buffer, &query);
+    is_as_modelled(&mut trip.expect(rt, "the calls are made"), listed, movie)
 }
 
 /// Makes the calls of a list, and looks for the second sample of the text movie.
-fn list_is_read_back(alloc: Global, count: u32) -> Result<bool> {
-    let pool = random_bytes(alloc)?;
-    let mut movie = PlainMovie::begin(alloc, &[], &ISOM)?;
+fn list_is_read_back(rt: &impl Abort, alloc: Global, count: u32) -> bool {
+    let pool = random_bytes(rt, alloc);
+    let mut movie = PlainMovie::begin(alloc, &[], &ISOM).expect(rt, "memory");
     let mut listed = Listed {
         calls: Vec::new(alloc),
         answers: Vec::new(alloc),
     };
-    put_calls(alloc, &mut listed, &mut movie, &pool, count)?;
-    Ok(refused(&listed.answers) > 300 && trip_is_as_modelled(alloc, &listed, &movie)?)
+    put_calls(rt, alloc, &mut listed, &mut movie, &pool, count);
+    refused(&listed.answers) > 300 && trip_is_as_modelled(rt, alloc, &listed, &movie)
 }
 
 #[test]
 fn a_list_of_ten_thousand_calls_is_read_back(rt: HostRuntime) {
-    check(&rt, 10_000, list_is_read_back(rt.alloc(), 10_000));
+    assert_that(&rt, 10_000, list_is_read_back(&rt, rt.alloc(), 10_000));
 }

@@ -1,15 +1,17 @@
 //! The file of a run that lists a million samples, of which each is looked up and borrowed.
 
-use crate::asserts::check;
+use crate::asserts::assert_that;
+use crate::puts::{begin_box, put, put_pair};
 use crate::queries::lends;
 use crate::walked_lookup::WalkedPlace;
 use mp4_lookup::Mp4Track;
 use mp4_media::{Mp4Reader, read_mp4};
 use mp4_plain_movies::movie_bytes::EMPTY_MOVIE;
-use mp4_plain_movies::plain_bytes::{begin_box, end_box, put, put_over, put_pair};
+use mp4_plain_movies::plain_bytes::{end_box, put_over};
 use mp4_plain_movies::plain_tables::{Offsets, Tables, put_movie};
 use mp4_samples::{Comparisons, SamplePlace, SampleRef};
-use std::alloc::{AllocError, Global};
+use std::alloc::Global;
+use std::process::Abort;
 
 const SAMPLES: u32 = 1_000_000;
 
@@ -26,33 +28,32 @@ const NO_SAMPLES: Tables<'static> = Tables {
 };
 
 /// Puts what the run says of sample `k`: durations of 1 and 2 ticks, and sizes of one and no byte take turns.
-fn put_sample(bytes: &mut Vec<u8>, k: u32) -> Result<(), AllocError> {
-    put_pair(bytes, 2 - k % 2, k % 2)
+fn put_sample(rt: &impl Abort, bytes: &mut Vec<u8>, k: u32) {
+    put_pair(rt, bytes, 2 - k % 2, k % 2);
 }
 
 /// Puts the run of all samples. The answer is the place of its data offset.
-fn put_run(bytes: &mut Vec<u8>) -> Result<usize, AllocError> {
-    let run = begin_box(bytes, b"trun")?;
-    put_pair(bytes, 0x301, SAMPLES)?;
+fn put_run(rt: &impl Abort, bytes: &mut Vec<u8>) -> usize {
+    let run = begin_box(rt, bytes, b"trun");
+    put_pair(rt, bytes, 0x301, SAMPLES);
     let data_offset = bytes.len();
-    put(bytes, 0)?;
+    put(rt, bytes, 0);
     for k in 1..=SAMPLES {
-        put_sample(bytes, k)?;
+        put_sample(rt, bytes, k);
     }
     end_box(bytes, run);
-    Ok(data_offset)
+    data_offset
 }
 
 /// Puts the fragment of this run, whose samples lie eight bytes after it.
-fn put_fragment(bytes: &mut Vec<u8>) -> Result<(), AllocError> {
-    let moof = begin_box(bytes, b"moof\0\0\0\x10mfhd\0\0\0\0\0\0\0\x01")?;
-    let traf = begin_box(bytes, b"traf\0\0\0\x10tfhd\0\x02\0\0\0\0\0\x01")?;
-    let data_offset = put_run(bytes)?;
+fn put_fragment(rt: &impl Abort, bytes: &mut Vec<u8>) {
+    let moof = begin_box(rt, bytes, b"moof\0\0\0\x10mfhd\0\0\0\0\0\0\0\x01");
+    let traf = begin_box(rt, bytes, b"traf\0\0\0\x10tfhd\0\x02\0\0\0\0\0\x01");
+    let data_offset = put_run(rt, bytes);
     end_box(bytes, traf);
     end_box(bytes, moof);
     let size = u32::try_from(bytes.len().saturating_sub(moof)).unwrap_or(0);
     put_over(bytes, data_offset, size.wrapping_add(8));
-    Ok(())
 }
 
 /// The byte that sample `k` is made of, if its number is odd.
@@ -61,23 +62,22 @@ fn byte_of(k: u32) -> u8 {
 }
 
 /// Puts the media data: a byte for each sample of an odd number.
-fn put_data(bytes: &mut Vec<u8>) -> Result<(), AllocError> {
-    let start = begin_box(bytes, b"mdat")?;
+fn put_data(rt: &impl Abort, bytes: &mut Vec<u8>) {
+    let start = begin_box(rt, bytes, b"mdat");
     for half in 0..SAMPLES / 2 {
-        bytes.push(byte_of(2 * half + 1))?;
+        bytes.push(byte_of(2 * half + 1)).expect(rt, "memory");
     }
     end_box(bytes, start);
-    Ok(())
 }
 
 /// File type, movie, fragment and media data. The answer has the place of the first sample, too.
-fn file(alloc: Global) -> Result<(Vec<u8>, u64), AllocError> {
-    let mut bytes = (&EMPTY_MOVIE[..32]).to_vec(alloc)?;
-    put_movie(alloc, &mut bytes, &NO_SAMPLES)?;
-    put_fragment(&mut bytes)?;
+fn file(rt: &impl Abort, alloc: Global) -> (Vec<u8>, u64) {
+    let mut bytes = (&EMPTY_MOVIE[..32]).to_vec(alloc).expect(rt, "memory");
+    put_movie(alloc, &mut bytes, &NO_SAMPLES).expect(rt, "memory");
+    put_fragment(rt, &mut bytes);
     let start = bytes.len() as u64;
-    put_data(&mut bytes)?;
-    Ok((bytes, start.wrapping_add(8)))
+    put_data(rt, &mut bytes);
+    (bytes, start.wrapping_add(8))
 }
 
 /// Where sample `k` lies and when it is decoded and shown, if the first lies at `start`.
@@ -167,13 +167,13 @@ fn far_ones_are_borrowed(reader: &Mp4Reader, start: u64) -> bool {
 }
 
 /// Whether the samples of the file are borrowed, at far numbers and in order.
-fn all_are_read(alloc: Global) -> mp4_codec::Result<bool> {
-    let (bytes, start) = file(alloc)?;
-    let reader = read_mp4(alloc, &bytes)?;
-    Ok(far_ones_are_borrowed(&reader, start) && each_is_borrowed(&reader, start))
+fn all_are_read(rt: &impl Abort, alloc: Global) -> bool {
+    let (bytes, start) = file(rt, alloc);
+    let reader = read_mp4(alloc, &bytes).expect(rt, "the movie opens");
+    far_ones_are_borrowed(&reader, start) && each_is_borrowed(&reader, start)
 }
 
 #[test]
 fn a_million_samples_of_a_run_are_read(rt: HostRuntime) {
-    check(&rt, 1, all_are_read(rt.alloc()));
+    assert_that(&rt, 1, all_are_read(&rt, rt.alloc()));
 }

@@ -1,72 +1,74 @@
 //! The file of a track of a million samples, of which each is looked up and read.
 
-use crate::asserts::check;
+use crate::asserts::assert_that;
+use crate::puts::begin_box;
 use crate::queries::reads;
 use mp4_media::{Mp4Reader, read_mp4};
 use mp4_plain_movies::movie_bytes::EMPTY_MOVIE;
-use mp4_plain_movies::plain_bytes::{begin_box, end_box};
+use mp4_plain_movies::plain_bytes::end_box;
 use mp4_plain_movies::plain_tables::{Offsets, Tables, put_movie};
 use mp4_samples::{Comparisons, SamplePlace, SampleRef};
-use std::alloc::{AllocError, Global};
+use std::alloc::Global;
+use std::process::Abort;
 
 const SAMPLES: u32 = 1_000_000;
 
 /// Runs of one sample each, of durations 1 and 2 in turn.
-fn durations(alloc: Global) -> Result<Vec<(u32, u32)>, AllocError> {
+fn durations(rt: &impl Abort, alloc: Global) -> Vec<(u32, u32)> {
     let mut runs = Vec::new(alloc);
     for _ in 0..SAMPLES / 2 {
-        runs.push((1, 1))?;
-        runs.push((1, 2))?;
+        runs.push((1, 1)).expect(rt, "memory");
+        runs.push((1, 2)).expect(rt, "memory");
     }
-    Ok(runs)
+    runs
 }
 
 /// Runs of one sample each, shown 7 and 8 ticks later in turn.
-fn rendering_offsets(alloc: Global) -> Result<Vec<(u32, i32)>, AllocError> {
+fn rendering_offsets(rt: &impl Abort, alloc: Global) -> Vec<(u32, i32)> {
     let mut runs = Vec::new(alloc);
     for _ in 0..SAMPLES / 2 {
-        runs.push((1, 7))?;
-        runs.push((1, 8))?;
+        runs.push((1, 7)).expect(rt, "memory");
+        runs.push((1, 8)).expect(rt, "memory");
     }
-    Ok(runs)
+    runs
 }
 
 /// Each sample is a sync sample.
-fn sync_samples(alloc: Global) -> Result<Vec<u32>, AllocError> {
+fn sync_samples(rt: &impl Abort, alloc: Global) -> Vec<u32> {
     let mut numbers = Vec::new(alloc);
     for sample in 1..=SAMPLES {
-        numbers.push(sample)?;
+        numbers.push(sample).expect(rt, "memory");
     }
-    Ok(numbers)
+    numbers
 }
 
 /// Sizes of one byte each.
-fn sizes(alloc: Global) -> Result<Vec<u32>, AllocError> {
+fn sizes(rt: &impl Abort, alloc: Global) -> Vec<u32> {
     let mut sizes = Vec::new(alloc);
     for _ in 0..SAMPLES {
-        sizes.push(1)?;
+        sizes.push(1).expect(rt, "memory");
     }
-    Ok(sizes)
+    sizes
 }
 
 /// A chunk of half the samples, and chunks of one sample each.
-fn chunks(alloc: Global) -> Result<Vec<(u32, u32)>, AllocError> {
+fn chunks(rt: &impl Abort, alloc: Global) -> Vec<(u32, u32)> {
     let mut entries = Vec::new(alloc);
-    entries.push((1, 500_000))?;
+    entries.push((1, 500_000)).expect(rt, "memory");
     for chunk in 2..=500_001 {
-        entries.push((chunk, 1))?;
+        entries.push((chunk, 1)).expect(rt, "memory");
     }
-    Ok(entries)
+    entries
 }
 
 /// The chunks follow each other from the file's first byte on, whatever box it is of.
-fn offsets(alloc: Global) -> Result<Vec<u32>, AllocError> {
+fn offsets(rt: &impl Abort, alloc: Global) -> Vec<u32> {
     let mut offsets = Vec::new(alloc);
-    offsets.push(0)?;
+    offsets.push(0).expect(rt, "memory");
     for offset in 500_000..1_000_000 {
-        offsets.push(offset)?;
+        offsets.push(offset).expect(rt, "memory");
     }
-    Ok(offsets)
+    offsets
 }
 
 /// Whether each search compared few numbers, and at least one.
@@ -129,22 +131,22 @@ fn each_is_read(bytes: &[u8], reader: &mut Mp4Reader) -> bool {
 }
 
 /// File type and media data: with these a byte for each sample, and more.
-fn media_data(alloc: Global) -> Result<Vec<u8>, AllocError> {
-    let mut bytes = (&EMPTY_MOVIE[..32]).to_vec(alloc)?;
-    let start = begin_box(&mut bytes, b"mdat")?;
+fn media_data(rt: &impl Abort, alloc: Global) -> Vec<u8> {
+    let mut bytes = (&EMPTY_MOVIE[..32]).to_vec(alloc).expect(rt, "memory");
+    let start = begin_box(rt, &mut bytes, b"mdat");
     for k in 1..=SAMPLES {
-        bytes.push((k % 251) as u8)?;
+        bytes.push((k % 251) as u8).expect(rt, "memory");
     }
     end_box(&mut bytes, start);
-    Ok(bytes)
+    bytes
 }
 
 /// Whether each sample is read of the file with these tables.
-fn file_is_read(alloc: Global, tables: &Tables) -> mp4_codec::Result<bool> {
-    let mut bytes = media_data(alloc)?;
-    put_movie(alloc, &mut bytes, tables)?;
-    let mut reader = read_mp4(alloc, &bytes)?;
-    Ok(each_is_read(&bytes, &mut reader))
+fn file_is_read(rt: &impl Abort, alloc: Global, tables: &Tables) -> bool {
+    let mut bytes = media_data(rt, alloc);
+    put_movie(alloc, &mut bytes, tables).expect(rt, "memory");
+    let mut reader = read_mp4(alloc, &bytes).expect(rt, "the movie opens");
+    each_is_read(&bytes, &mut reader)
 }
 
 /// The tables of the track, of which all but the first half of the samples have chunks of their own.
@@ -169,13 +171,13 @@ fn tables_of<'a>(
 }
 
 /// Whether each sample of the track is read.
-fn all_are_read(alloc: Global) -> mp4_codec::Result<bool> {
-    let durations = durations(alloc)?;
-    let rendering_offsets = rendering_offsets(alloc)?;
-    let sync_samples = sync_samples(alloc)?;
-    let chunks = chunks(alloc)?;
-    let sizes = sizes(alloc)?;
-    let offsets = offsets(alloc)?;
+fn all_are_read(rt: &impl Abort, alloc: Global) -> bool {
+    let durations = durations(rt, alloc);
+    let rendering_offsets = rendering_offsets(rt, alloc);
+    let sync_samples = sync_samples(rt, alloc);
+    let chunks = chunks(rt, alloc);
+    let sizes = sizes(rt, alloc);
+    let offsets = offsets(rt, alloc);
     let tables = tables_of(
         &durations,
         &rendering_offsets,
@@ -184,10 +186,10 @@ fn all_are_read(alloc: Global) -> mp4_codec::Result<bool> {
         &sizes,
         &offsets,
     );
-    file_is_read(alloc, &tables)
+    file_is_read(rt, alloc, &tables)
 }
 
 #[test]
 fn a_million_samples_are_read(rt: HostRuntime) {
-    check(&rt, 1, all_are_read(rt.alloc()));
+    assert_that(&rt, 1, all_are_read(&rt, rt.alloc()));
 }

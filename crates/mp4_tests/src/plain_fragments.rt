@@ -6,6 +6,7 @@ use mp4_boxes::{StblBox, TrakBox};
 use mp4_codec::{Error, Result};
 use mp4_table::SttsEntry;
 use std::alloc::Global;
+use std::process::Abort;
 
 /// What is said of one sample, or of all samples for which no more is said.
 #[derive(Debug, Clone, Copy, PartialEq, Eq)]
@@ -147,48 +148,56 @@ fn after(place: Option<u64>, distance: u32) -> Option<u64> {
 }
 
 /// Adds a sample of these values to a track. The answer is where the next one begins.
-fn add_sample(track: &mut PlainTrack, values: &PlainValues, at: RunStart) -> Result<RunStart> {
+fn add_sample(
+    rt: &impl Abort,
+    track: &mut PlainTrack,
+    values: &PlainValues,
+    at: RunStart,
+) -> RunStart {
     let size = values.size.unwrap_or(0);
     let duration = values.duration.unwrap_or(0);
-    track.samples.push(PlainSample {
+    let sample = PlainSample {
         at,
         size,
         duration,
         rendering_offset: values.composition_offset.unwrap_or(0).cast_signed(),
         is_sync: values.flags.unwrap_or(0) / 0x1_0000 % 2 == 0,
-    })?;
-    Ok(RunStart {
+    };
+    track.samples.push(sample).expect(rt, "memory");
+    RunStart {
         place: after(at.place, size),
         time: after(at.time, duration),
-    })
+    }
 }
 
 /// Adds the samples of a run to a track, of which all have these values where they say no others. The answer is
 /// where the next one begins.
 fn add_samples(
+    rt: &impl Abort,
     track: &mut PlainTrack,
     run: &PlainRun,
     values: &PlainValues,
     first: RunStart,
-) -> Result<RunStart> {
+) -> RunStart {
     let mut at = first;
     let mut first_flags = run.first_flags;
     for sample in run.samples.as_slice() {
         let own = sample.or(values).or(&track.values);
         let flags = first_flags.or(own.flags);
         first_flags = None;
-        at = add_sample(track, &PlainValues { flags, ..own }, at)?;
+        at = add_sample(rt, track, &PlainValues { flags, ..own }, at);
     }
-    Ok(at)
+    at
 }
 
 /// Adds the runs of a track fragment, whose places count from a base data offset, to its track. The answer is where its
 /// data ends.
 fn add_runs(
+    rt: &impl Abort,
     track: &mut PlainTrack,
     part: &PlainPart,
     base_data_offset: Option<u64>,
-) -> Result<Option<u64>> {
+) -> Option<u64> {
     track.is_fragmented = true;
     let before = track.samples.len();
     let mut at = RunStart {
@@ -199,31 +208,32 @@ fn add_runs(
         if let Some(offset) = run.data_offset {
             at.place = moved(base_data_offset, offset);
         }
-        at = add_samples(track, run, &part.values, at)?;
+        at = add_samples(rt, track, run, &part.values, at);
     }
     if track.samples.len() > before {
         track.end = at.time;
     }
-    Ok(at.place)
+    at.place
 }
 
 /// Adds a track fragment to its track. The answer is where its data ends.
 fn add_part(
+    rt: &impl Abort,
     tracks: &mut Vec<PlainTrack>,
     part: &PlainPart,
     base_data_offset: Option<u64>,
-) -> Result<Option<u64>> {
+) -> Option<u64> {
     let mut end = base_data_offset;
     for track in tracks.iter_mut() {
         if track.id == part.id {
-            end = add_runs(track, part, base_data_offset)?;
+            end = add_runs(rt, track, part, base_data_offset);
         }
     }
-    Ok(end)
+    end
 }
 
 /// Adds the track fragments of a movie fragment to their tracks.
-fn add_fragment(tracks: &mut Vec<PlainTrack>, fragment: &PlainFragment) -> Result<()> {
+fn add_fragment(rt: &impl Abort, tracks: &mut Vec<PlainTrack>, fragment: &PlainFragment) {
     let mut end = Some(fragment.place);
     for part in fragment.parts.as_slice() {
         let base_data_offset = match part.base_data_offset {
@@ -231,9 +241,8 @@ fn add_fragment(tracks: &mut Vec<PlainTrack>, fragment: &PlainFragment) -> Resul
             None if part.counts_from_fragment => Some(fragment.place),
             None => end,
         };
-        end = add_part(tracks, part, base_data_offset)?;
+        end = add_part(rt, tracks, part, base_data_offset);
     }
-    Ok(())
 }
 
 /// When the first so many samples of these runs have lasted.
@@ -262,35 +271,38 @@ fn values_of(defaults: &[(u32, PlainValues)], id: u32) -> PlainValues {
 
 /// The tracks of these boxes, without fragments.
 fn unfragmented(
+    rt: &impl Abort,
     alloc: Global,
     traks: &[TrakBox],
     defaults: &[(u32, PlainValues)],
-) -> Result<Vec<PlainTrack>> {
+) -> Vec<PlainTrack> {
     let mut tracks = Vec::new(alloc);
     for trak in traks {
         let stbl = &trak.mdia.minf.stbl;
         let id = trak.tkhd.track_id;
-        tracks.push(PlainTrack {
+        let track = PlainTrack {
             id,
             values: values_of(defaults, id),
             end: Some(end_of(stbl.stts.entries.as_slice(), stbl.sample_count())),
             is_fragmented: false,
             samples: Vec::new(alloc),
-        })?;
+        };
+        tracks.push(track).expect(rt, "memory");
     }
-    Ok(tracks)
+    tracks
 }
 
 /// The tracks of these boxes with what these fragments add, of whose samples the movie says these values.
 pub fn written_out(
+    rt: &impl Abort,
     alloc: Global,
     traks: &[TrakBox],
     defaults: &[(u32, PlainValues)],
     fragments: &[PlainFragment],
-) -> Result<Vec<PlainTrack>> {
-    let mut tracks = unfragmented(alloc, traks, defaults)?;
+) -> Vec<PlainTrack> {
+    let mut tracks = unfragmented(rt, alloc, traks, defaults);
     for fragment in fragments {
-        add_fragment(&mut tracks, fragment)?;
+        add_fragment(rt, &mut tracks, fragment);
     }
-    Ok(tracks)
+    tracks
 }

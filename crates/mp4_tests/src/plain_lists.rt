@@ -7,6 +7,7 @@ use mp4_media::{Mp4Reader, SamplePlace, read_mp4};
 use mp4_script::{ScriptFault, info_text, run_script};
 use std::alloc::Global;
 use std::fmt::Write;
+use std::process::Abort;
 use std::str;
 
 /// The bytes of a sample: None where there is none, `EndOfData` where it doesn't lie whole in the file.
@@ -36,8 +37,13 @@ fn place_of(movie: &Mp4Reader, file: &[u8], id: u32, k: u32) -> Result<Option<Sa
 
 /// Writes the line of a sample. The answer is whether there is one: no line follows that of one that isn't
 /// there.
-fn write_sample(text: &mut String, k: u32, place: &Result<Option<SamplePlace>>) -> Result<bool> {
-    match place {
+fn write_sample(
+    rt: &impl Abort,
+    text: &mut String,
+    k: u32,
+    place: &Result<Option<SamplePlace>>,
+) -> bool {
+    let (written, is_there) = match place {
         Ok(Some(place)) => {
             let SamplePlace {
                 offset,
@@ -49,27 +55,29 @@ fn write_sample(text: &mut String, k: u32, place: &Result<Option<SamplePlace>>) 
                 ..
             } = place;
             let sync = u8::from(*is_sync);
-            writeln!(
+            let written = writeln!(
                 text,
                 "{k} {offset} {size} {start_time} {duration} {rendering_offset} {sync}"
-            )?;
-            Ok(true)
+            );
+            (written, true)
         }
-        Ok(None) => {
-            writeln!(text, "{k} none")?;
-            Ok(false)
-        }
-        Err(error) => {
-            writeln!(text, "{k} {error}")?;
-            Ok(false)
-        }
-    }
+        Ok(None) => (writeln!(text, "{k} none"), false),
+        Err(error) => (writeln!(text, "{k} {error}"), false),
+    };
+    written.expect(rt, "memory");
+    is_there
 }
 
 /// Writes the lines of the samples of a track, up to the first that isn't there.
-fn write_samples(text: &mut String, movie: &Mp4Reader, file: &[u8], id: u32) -> Result<()> {
+fn write_samples(
+    rt: &impl Abort,
+    text: &mut String,
+    movie: &Mp4Reader,
+    file: &[u8],
+    id: u32,
+) -> Result<()> {
     for k in 1..=movie.sample_count(id)? {
-        if !write_sample(text, k, &place_of(movie, file, id, k))? {
+        if !write_sample(rt, text, k, &place_of(movie, file, id, k)) {
             break;
         }
     }
@@ -77,55 +85,60 @@ fn write_samples(text: &mut String, movie: &Mp4Reader, file: &[u8], id: u32) -> 
 }
 
 /// The lines of the samples of a track.
-pub fn samples_text(alloc: Global, file: &[u8], track_id: u32) -> Result<Vec<u8>> {
+pub fn samples_text(rt: &impl Abort, alloc: Global, file: &[u8], track_id: u32) -> Result<Vec<u8>> {
     let movie = read_mp4(alloc, file)?;
     let mut text = String::new(alloc);
-    write_samples(&mut text, &movie, file, track_id)?;
+    write_samples(rt, &mut text, &movie, file, track_id)?;
     Ok(text.into_bytes())
 }
 
 /// Writes the lines that describe a movie, which are today's: they were not made faster.
-fn write_info(alloc: Global, text: &mut String, file: &[u8]) -> Result<()> {
-    let info = info_text(alloc, file)?;
-    text.push_str(str::from_utf8(info.as_slice()).unwrap_or("no text"))?;
-    Ok(())
+fn write_info(rt: &impl Abort, alloc: Global, text: &mut String, file: &[u8]) {
+    let info = info_text(alloc, file).expect(rt, "the movie is described");
+    let info = str::from_utf8(info.as_slice()).unwrap_or("no text");
+    text.push_str(info).expect(rt, "memory");
 }
 
 /// The ids of a movie's tracks, rising.
-fn track_ids(alloc: Global, movie: &Mp4Reader) -> Result<Vec<u32>> {
+fn track_ids(rt: &impl Abort, alloc: Global, movie: &Mp4Reader) -> Vec<u32> {
     let mut ids = Vec::new(alloc);
     for id in movie.tracks().keys() {
-        ids.push(*id)?;
+        ids.push(*id).expect(rt, "memory");
     }
-    ids.sort()?;
-    Ok(ids)
+    ids.sort().expect(rt, "memory");
+    ids
 }
 
 /// Writes the lines of the samples of all tracks, by their ids.
 fn write_all_samples(
+    rt: &impl Abort,
     alloc: Global,
     text: &mut String,
     movie: &Mp4Reader,
     file: &[u8],
-) -> Result<()> {
-    for id in track_ids(alloc, movie)?.iter() {
-        writeln!(text, "samples {id}")?;
-        write_samples(text, movie, file, *id)?;
+) {
+    for id in track_ids(rt, alloc, movie).iter() {
+        writeln!(text, "samples {id}").expect(rt, "memory");
+        write_samples(rt, text, movie, file, *id).expect(rt, "the samples are listed");
     }
-    Ok(())
 }
 
 /// The lines that describe a file and all its samples.
-fn described(alloc: Global, file: &[u8]) -> Result<Vec<u8>> {
-    let movie = read_mp4(alloc, file)?;
+fn described(rt: &impl Abort, alloc: Global, file: &[u8]) -> Vec<u8> {
+    let movie = read_mp4(alloc, file).expect(rt, "the movie opens");
     let mut text = String::new(alloc);
-    write_info(alloc, &mut text, file)?;
-    write_all_samples(alloc, &mut text, &movie, file)?;
-    Ok(text.into_bytes())
+    write_info(rt, alloc, &mut text, file);
+    write_all_samples(rt, alloc, &mut text, &movie, file);
+    text.into_bytes()
 }
 
-/// The lines that describe the movie that a script makes and all its samples, or the fault of the script.
-pub fn show_text(alloc: Global, script: &[u8]) -> std::result::Result<Vec<u8>, ScriptFault> {
+/// The lines that describe the movie that a script makes and all its samples, or the fault of the script. Ends the test
+/// where that movie can't be read.
+pub fn show_text(
+    rt: &impl Abort,
+    alloc: Global,
+    script: &[u8],
+) -> std::result::Result<Vec<u8>, ScriptFault> {
     let movie = run_script(alloc, script)?;
-    described(alloc, movie.as_slice()).map_err(ScriptFault::End)
+    Ok(described(rt, alloc, movie.as_slice()))
 }

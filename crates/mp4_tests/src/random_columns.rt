@@ -1,15 +1,15 @@
 //! Long tracks whose durations, sizes, rendering offsets and sync samples are alike in long runs, follow a pattern or
 //! differ from one sample to the next: the movie is that of the plain model.
 
-use crate::asserts::{at_least, check};
+use crate::asserts::{assert_that, at_least};
 use crate::random_movies::random_bytes;
 use crate::written::{answers_alike, begun};
-use mp4_codec::Result;
 use mp4_entry::TrackType;
 use mp4_plain_movies::calls::{Call, ISOM, Media, Sample, Track};
 use mp4_plain_movies::plain_movie::PlainMovie;
 use mp4_plain_movies::random::Random;
 use std::alloc::Global;
+use std::process::Abort;
 
 /// How many samples a track has.
 const SAMPLES: u32 = 700;
@@ -134,21 +134,21 @@ fn count_order(reached: &mut Reached, order: Order) {
 }
 
 /// Makes the calls of a track of both. Whether the answers and the bytes are alike.
-fn track_is_alike(alloc: Global, pool: &[u8], orders: &Orders) -> Result<bool> {
-    let mut movie = PlainMovie::begin(alloc, &[], &ISOM)?;
-    let mut writer = begun(alloc, &[], &ISOM)?;
-    let mut alike = answers_alike(alloc, &mut writer, &mut movie, &Call::AddTrack(TEXT))?;
+fn track_is_alike(rt: &impl Abort, alloc: Global, pool: &[u8], orders: &Orders) -> bool {
+    let mut movie = PlainMovie::begin(alloc, &[], &ISOM).expect(rt, "memory");
+    let mut writer = begun(rt, alloc, &[], &ISOM);
+    let mut alike = answers_alike(rt, alloc, &mut writer, &mut movie, &Call::AddTrack(TEXT));
     for sample in 0..SAMPLES {
         let call = Call::WriteSample(1, sample_at(pool, orders, sample));
-        alike = answers_alike(alloc, &mut writer, &mut movie, &call)? && alike;
+        alike = answers_alike(rt, alloc, &mut writer, &mut movie, &call) && alike;
     }
-    alike = answers_alike(alloc, &mut writer, &mut movie, &Call::WriteEnd)? && alike;
-    Ok(alike && writer.into_writer() == movie.bytes)
+    alike = answers_alike(rt, alloc, &mut writer, &mut movie, &Call::WriteEnd) && alike;
+    alike && writer.into_writer() == movie.bytes
 }
 
 #[test]
 fn samples_in_runs_in_patterns_and_all_different_are_written_as_the_model_says(rt: HostRuntime) {
-    let pool = random_bytes(rt.alloc()).unwrap_or(Vec::new(rt.alloc()));
+    let pool = random_bytes(&rt, rt.alloc());
     let mut random = Random::new(8600);
     let mut reached = Reached {
         in_runs: 0,
@@ -160,8 +160,7 @@ fn samples_in_runs_in_patterns_and_all_different_are_written_as_the_model_says(r
         count_order(&mut reached, orders.durations);
         count_order(&mut reached, orders.sizes);
         count_order(&mut reached, orders.rendering_offsets);
-        let alike = track_is_alike(rt.alloc(), &pool, &orders).unwrap_or(false);
-        check(&rt, case, Ok(alike));
+        assert_that(&rt, case, track_is_alike(&rt, rt.alloc(), &pool, &orders));
     }
     at_least(&rt, "lists in runs", reached.in_runs, 20);
     at_least(&rt, "lists one by one", reached.one_by_one, 20);

@@ -1,7 +1,7 @@
 //! Cursors over random tracks, from fixed seeds: whatever numbers a cursor is asked for, in no order and in order, it
 //! answers each as the look-up does.
 
-use crate::asserts::{at_least, check};
+use crate::asserts::{assert_that, at_least};
 use crate::queries::are_same_refusal;
 use crate::random_fragments::random_file;
 use crate::tracks::holds_of;
@@ -12,6 +12,7 @@ use mp4_plain_movies::random::Random;
 use mp4_plain_movies::random_tables::{RandomTables, break_one, put_all};
 use mp4_samples::{Place, SamplePlace};
 use std::alloc::Global;
+use std::process::Abort;
 
 /// How many numbers a cursor is asked for.
 const QUERIES: u32 = 100;
@@ -28,14 +29,14 @@ fn query_after(random: &mut Random, number: u32, count: u32) -> u32 {
 }
 
 /// The numbers that a cursor over so many samples is asked for.
-fn queries(alloc: Global, random: &mut Random, count: u32) -> Result<Vec<u32>> {
+fn queries(rt: &impl Abort, alloc: Global, random: &mut Random, count: u32) -> Vec<u32> {
     let mut numbers = Vec::new(alloc);
     let mut number = 0u32;
     for _ in 0..QUERIES {
         number = query_after(random, number, count);
-        numbers.push(number)?;
+        numbers.push(number).expect(rt, "memory");
     }
-    Ok(numbers)
+    numbers
 }
 
 /// Whether a number follows another.
@@ -91,47 +92,51 @@ fn agrees(track: &Mp4Track, numbers: &[u32]) -> bool {
 
 /// Whether a cursor over a track of random tables, of which so many changes were made, answers as the look-up does; how
 /// many numbers followed the one before is added to a count.
-fn tables_agree(alloc: Global, seed: u64, changes: u32, count: &mut u32) -> Result<bool> {
+fn tables_agree(rt: &impl Abort, alloc: Global, seed: u64, changes: u32, count: &mut u32) -> bool {
     let mut random = Random::new(seed);
     let mut tables = RandomTables::new(alloc);
-    let samples = put_all(&mut tables, &mut random)?;
+    let samples = put_all(&mut tables, &mut random).expect(rt, "memory");
     for _ in 0..changes {
-        break_one(&mut tables, &mut random, samples)?;
+        break_one(&mut tables, &mut random, samples).expect(rt, "memory");
     }
-    let numbers = queries(alloc, &mut random, samples)?;
+    let numbers = queries(rt, alloc, &mut random, samples);
     let numbers = numbers.as_slice();
     *count = count.wrapping_add(followed(numbers));
-    holds_of(alloc, &tables.with(&mut random, samples), move |track| {
-        agrees(track, numbers)
-    })
+    holds_of(
+        rt,
+        alloc,
+        &tables.with(&mut random, samples),
+        move |track| { agrees(track, numbers) },
+    )
 }
 
 /// Whether a cursor over the track of an id answers as the look-up does.
 fn track_agrees(
+    rt: &impl Abort,
     alloc: Global,
     reader: &Mp4Reader,
     id: u32,
     random: &mut Random,
     count: &mut u32,
-) -> Result<bool> {
-    let Some(track) = reader.tracks().get(&id) else {
-        return Ok(false);
-    };
-    let numbers = queries(alloc, random, track.sample_count()?)?;
+) -> bool {
+    let track = reader.track(id).expect(rt, "a track");
+    let samples = track.sample_count().expect(rt, "a number of samples");
+    let numbers = queries(rt, alloc, random, samples);
     *count = count.wrapping_add(followed(&numbers));
-    Ok(agrees(track, &numbers))
+    agrees(track, &numbers)
 }
 
 /// Whether cursors over the tracks of a random file of fragments answer as the look-up does.
-fn file_agrees(alloc: Global, seed: u64, count: &mut u32) -> Result<bool> {
+fn file_agrees(rt: &impl Abort, alloc: Global, seed: u64, count: &mut u32) -> bool {
     let mut random = Random::new(seed);
-    let file = random_file(alloc, &mut random)?;
-    let reader = read_mp4(alloc, &file.bytes)?;
+    let file = random_file(rt, alloc, &mut random);
+    let reader = read_mp4(alloc, &file.bytes).expect(rt, "the movie opens");
     let mut all = true;
     for trak in reader.moov.traks.as_slice() {
-        all = all && track_agrees(alloc, &reader, trak.tkhd.track_id, &mut random, count)?;
+        let id = trak.tkhd.track_id;
+        all = all && track_agrees(rt, alloc, &reader, id, &mut random, count);
     }
-    Ok(all)
+    all
 }
 
 /// What is counted, in the words of a failed test.
@@ -141,8 +146,8 @@ const FOLLOWED: &str = "numbers that follow the one before";
 fn cursors_over_five_hundred_tracks_answer_as_look_ups_do(rt: HostRuntime) {
     let mut count = 0u32;
     for seed in 0..500 {
-        let answer = tables_agree(rt.alloc(), seed, (seed % 4) as u32, &mut count);
-        check(&rt, seed, answer);
+        let answer = tables_agree(&rt, rt.alloc(), seed, (seed % 4) as u32, &mut count);
+        assert_that(&rt, seed, answer);
     }
     at_least(&rt, FOLLOWED, count, 30_000);
 }
@@ -151,7 +156,8 @@ fn cursors_over_five_hundred_tracks_answer_as_look_ups_do(rt: HostRuntime) {
 fn cursors_over_two_hundred_files_of_fragments_answer_as_look_ups_do(rt: HostRuntime) {
     let mut count = 0u32;
     for seed in 0..200 {
-        check(&rt, seed, file_agrees(rt.alloc(), seed, &mut count));
+        let answer = file_agrees(&rt, rt.alloc(), seed, &mut count);
+        assert_that(&rt, seed, answer);
     }
     at_least(&rt, FOLLOWED, count, 18_000);
 }

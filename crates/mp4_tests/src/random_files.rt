@@ -1,6 +1,6 @@
 //! Files of random boxes in a random order, from fixed seeds, some of them cut: each is opened as a plain program says.
 
-use crate::asserts::check;
+use crate::asserts::assert_that;
 use crate::plain_files::{PlainFile, put_boxes};
 use crate::queries::{are_same_refusal, locates, reads_there};
 use crate::walked_lookup::{WalkedPlace, walk};
@@ -8,6 +8,7 @@ use mp4_codec::{BoxType, Error, Result};
 use mp4_media::{Mp4Reader, read_mp4};
 use mp4_plain_movies::random::Random;
 use std::alloc::Global;
+use std::process::Abort;
 
 /// The first of the track fragments whose track isn't there.
 fn unknown_part(file: &PlainFile) -> Option<u32> {
@@ -149,16 +150,16 @@ fn is_answered(alloc: Global, file: &PlainFile, fault: &Option<Error>) -> bool {
 }
 
 /// Whether the file of a seed is opened as a plain program says.
-fn is_opened_so(alloc: Global, seed: u64) -> Result<bool> {
+fn is_opened_so(rt: &impl Abort, alloc: Global, seed: u64) -> bool {
     let mut random = Random::new(seed);
     let mut file = PlainFile::new(alloc);
-    let cut = put_boxes(alloc, &mut file, &mut random)?;
-    Ok(is_answered(alloc, &file, &cut.or(fault(&file))))
+    let cut = put_boxes(rt, alloc, &mut file, &mut random);
+    is_answered(alloc, &file, &cut.or(fault(&file)))
 }
 
 #[test]
 fn three_hundred_random_files_are_opened_as_a_plain_program_says(rt: HostRuntime) {
     for seed in 0..300 {
-        check(&rt, seed, is_opened_so(rt.alloc(), seed));
+        assert_that(&rt, seed, is_opened_so(&rt, rt.alloc(), seed));
     }
 }

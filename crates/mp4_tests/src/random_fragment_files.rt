@@ -1,7 +1,7 @@
 //! Random files of fragments, from fixed seeds: each number of each track is answered as a plain program says, which
 //! writes all samples out.
 
-use crate::asserts::check;
+use crate::asserts::assert_that;
 use crate::plain_fragments::{PlainTrack, written_out};
 use crate::queries::{locates, reads_there};
 use crate::random_fragments::random_file;
@@ -10,6 +10,7 @@ use mp4_codec::{Error, Result};
 use mp4_media::{Mp4Reader, read_mp4};
 use mp4_plain_movies::random::Random;
 use std::alloc::Global;
+use std::process::Abort;
 
 /// How many samples the movie box counts for the track at an index.
 fn counted(reader: &Mp4Reader, index: usize) -> u32 {
@@ -72,18 +73,18 @@ fn all_are_answered(bytes: &[u8], reader: &mut Mp4Reader, tracks: &[PlainTrack])
 }
 
 /// Whether the file of a seed is answered as the plain program says.
-fn is_answered_so(alloc: Global, seed: u64) -> Result<bool> {
+fn is_answered_so(rt: &impl Abort, alloc: Global, seed: u64) -> bool {
     let mut random = Random::new(seed);
-    let file = random_file(alloc, &mut random)?;
-    let mut reader = read_mp4(alloc, &file.bytes)?;
+    let file = random_file(rt, alloc, &mut random);
+    let mut reader = read_mp4(alloc, &file.bytes).expect(rt, "the movie opens");
     let traks = reader.moov.traks.as_slice();
-    let tracks = written_out(alloc, traks, &file.defaults, &file.fragments)?;
-    Ok(all_are_answered(&file.bytes, &mut reader, &tracks))
+    let tracks = written_out(rt, alloc, traks, &file.defaults, &file.fragments);
+    all_are_answered(&file.bytes, &mut reader, &tracks)
 }
 
 #[test]
 fn each_number_of_four_hundred_random_files_is_answered_as_a_plain_program_says(rt: HostRuntime) {
     for seed in 0..400 {
-        check(&rt, seed, is_answered_so(rt.alloc(), seed));
+        assert_that(&rt, seed, is_answered_so(&rt, rt.alloc(), seed));
     }
 }

@@ -1,9 +1,8 @@
 //! Random lists of calls of a writer, from fixed seeds, refused ones among them: each call answers
 //! as the plain model says, and the bytes are those of the model.
 
-use crate::asserts::check;
+use crate::asserts::assert_that;
 use crate::written::{answers_alike, begun};
-use mp4_codec::Result;
 use mp4_entry::TrackType;
 use mp4_media::Mp4Writer;
 use mp4_plain_movies::calls::{Beginning, Call, ISOM, Media, Picture, Sample, Sound, Track};
@@ -200,70 +199,71 @@ pub fn random_call<'a>(habits: &Habits<'a>, random: &mut Random, tracks: u32) ->
 
 /// Makes so many calls of both. Whether all answer alike.
 fn all_answer_alike<'a>(
+    rt: &impl Abort,
     alloc: Global,
     writer: &mut Mp4Writer,
     movie: &mut PlainMovie<'a>,
     habits: &Habits<'a>,
     random: &mut Random,
-) -> Result<bool> {
+) -> bool {
     let mut all = true;
     for _ in 0..random.byte() {
         let tracks = u32::try_from(movie.tracks.len()).unwrap_or(0);
         let call = random_call(habits, random, tracks);
-        all = answers_alike(alloc, writer, movie, &call)? && all;
+        all = answers_alike(rt, alloc, writer, movie, &call) && all;
     }
-    Ok(all)
+    all
 }
 
 /// Makes the calls of a list and mostly an end. Whether the answers and the bytes are alike.
-fn list_is_alike(alloc: Global, pool: &[u8], seed: u64) -> Result<bool> {
+fn list_is_alike(rt: &impl Abort, alloc: Global, pool: &[u8], seed: u64) -> bool {
     let mut random = Random::new(seed);
     let habits = Habits::new(pool, &mut random);
     let beginning = random_beginning(&mut random);
     let front = random.few();
     let buffer = habits.some(&mut random, front);
-    let mut movie = PlainMovie::begin(alloc, buffer, &beginning)?;
-    let mut writer = begun(alloc, buffer, &beginning)?;
-    let mut alike = all_answer_alike(alloc, &mut writer, &mut movie, &habits, &mut random)?;
+    let mut movie = PlainMovie::begin(alloc, buffer, &beginning).expect(rt, "memory");
+    let mut writer = begun(rt, alloc, buffer, &beginning);
+    let mut alike = all_answer_alike(rt, alloc, &mut writer, &mut movie, &habits, &mut random);
     if random.below(8) > 0 {
-        alike = answers_alike(alloc, &mut writer, &mut movie, &Call::WriteEnd)? && alike;
+        alike = answers_alike(rt, alloc, &mut writer, &mut movie, &Call::WriteEnd) && alike;
     }
-    Ok(alike && writer.into_writer() == movie.bytes)
+    alike && writer.into_writer() == movie.bytes
 }
 
 /// The bytes that a writer makes of the calls of a list and an end, and the model's movie.
 pub fn random_movie<'a>(
+    rt: &impl Abort,
     alloc: Global,
     pool: &'a [u8],
     seed: u64,
-) -> Result<(Vec<u8>, PlainMovie<'a>)> {
+) -> (Vec<u8>, PlainMovie<'a>) {
     let mut random = Random::new(seed);
     let habits = Habits::new(pool, &mut random);
     let beginning = random_beginning(&mut random);
-    let mut movie = PlainMovie::begin(alloc, &[], &beginning)?;
-    let mut writer = begun(alloc, &[], &beginning)?;
-    let _ = all_answer_alike(alloc, &mut writer, &mut movie, &habits, &mut random)?;
-    let _ = answers_alike(alloc, &mut writer, &mut movie, &Call::WriteEnd)?;
-    Ok((writer.into_writer(), movie))
+    let mut movie = PlainMovie::begin(alloc, &[], &beginning).expect(rt, "memory");
+    let mut writer = begun(rt, alloc, &[], &beginning);
+    all_answer_alike(rt, alloc, &mut writer, &mut movie, &habits, &mut random);
+    answers_alike(rt, alloc, &mut writer, &mut movie, &Call::WriteEnd);
+    (writer.into_writer(), movie)
 }
 
 /// As many bytes as a parameter set that is too long has, and as many more as the place where one
 /// may begin.
-pub fn random_bytes(alloc: Global) -> Result<Vec<u8>> {
+pub fn random_bytes(rt: &impl Abort, alloc: Global) -> Vec<u8> {
     let mut random = Random::new(14496);
     let mut bytes = Vec::new(alloc);
     for _ in 0..65536 + 256 {
-        bytes.push(random.byte())?;
+        bytes.push(random.byte()).expect(rt, "memory");
     }
-    Ok(bytes)
+    bytes
 }
 
 /// Ends the test unless the lists of these seeds are alike.
 fn check_lists(rt: &(impl Abort + AllocGlobal), first: u64, end: u64) {
-    let pool = random_bytes(rt.alloc()).unwrap_or(Vec::new(rt.alloc()));
-    check(rt, "bytes", Ok(!pool.is_empty()));
+    let pool = random_bytes(rt, rt.alloc());
     for seed in first..end {
-        check(rt, seed, list_is_alike(rt.alloc(), &pool, seed));
+        assert_that(rt, seed, list_is_alike(rt, rt.alloc(), &pool, seed));
     }
 }
 

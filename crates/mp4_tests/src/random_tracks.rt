@@ -1,7 +1,7 @@
 //! Tracks of random tables, from fixed seeds: at each number both lookups answer as a walk over the tables
 //! does, and say how many numbers they compared.
 
-use crate::asserts::check;
+use crate::asserts::assert_that;
 use crate::queries::are_same_refusal;
 use crate::tracks::holds_of;
 use crate::walked_lookup::{WalkedPlace, walk};
@@ -12,6 +12,7 @@ use mp4_plain_movies::random::Random;
 use mp4_plain_movies::random_tables::{RandomTables, break_one, put_all};
 use mp4_samples::{Comparisons, SamplePlace};
 use std::alloc::Global;
+use std::process::Abort;
 
 /// How many binary digits a number has.
 fn digits(number: usize) -> u32 {
@@ -56,13 +57,14 @@ fn is_same_place(guessed: &SamplePlace, place: &SamplePlace) -> bool {
 }
 
 /// Whether both refusals are equal, and their messages.
-fn are_equal_refusals(alloc: Global, one: &Error, other: &Error) -> Result<bool> {
-    let messages = format!(in alloc; "{one}")? == format!(in alloc; "{other}")?;
-    Ok(messages && one == other)
+fn are_equal_refusals(rt: &impl Abort, alloc: Global, one: &Error, other: &Error) -> bool {
+    let message = format!(in alloc; "{one}").expect(rt, "memory");
+    message == format!(in alloc; "{other}").expect(rt, "memory") && one == other
 }
 
 /// Whether both lookups answer the same.
 fn both_are_same(
+    rt: &impl Abort,
     alloc: Global,
     stbl: &StblBox,
     guessed: &Result<Option<SamplePlace>>,
@@ -73,7 +75,7 @@ fn both_are_same(
         (Ok(Some(guessed)), Ok(Some(place))) => {
             is_same_place(guessed, place) && all_are_few(&guessed.comparisons, stbl)
         }
-        (Err(one), Err(other)) => matches!(are_equal_refusals(alloc, one, other), Ok(true)),
+        (Err(one), Err(other)) => are_equal_refusals(rt, alloc, one, other),
         _ => false,
     }
 }
@@ -92,55 +94,55 @@ fn is_as_walked(
 }
 
 /// Whether both lookups and the walk answer the same at a number.
-fn agrees_at(alloc: Global, track: &Mp4Track, k: u32) -> bool {
+fn agrees_at(rt: &impl Abort, alloc: Global, track: &Mp4Track, k: u32) -> bool {
     let stbl = &track.trak.mdia.minf.stbl;
     let answer = track.locate(k);
     is_as_walked(&answer, &walk(stbl, 1, k))
-        && both_are_same(alloc, stbl, &track.locate_by_guess(k), &answer)
+        && both_are_same(rt, alloc, stbl, &track.locate_by_guess(k), &answer)
 }
 
 /// Whether both lookups and the walk answer the same at each number up past the last.
-fn agrees(alloc: Global, track: &Mp4Track, count: u32) -> bool {
+fn agrees(rt: &impl Abort, alloc: Global, track: &Mp4Track, count: u32) -> bool {
     let mut all = true;
     for k in 0..=count.wrapping_add(3) {
-        all = all && agrees_at(alloc, track, k);
+        all = all && agrees_at(rt, alloc, track, k);
     }
-    all && agrees_at(alloc, track, u32::MAX)
+    all && agrees_at(rt, alloc, track, u32::MAX)
 }
 
 /// Whether both lookups answer as the walk does in tables that agree with each other.
-fn consistent_tables_agree(alloc: Global, seed: u64) -> Result<bool> {
+fn consistent_tables_agree(rt: &impl Abort, alloc: Global, seed: u64) -> bool {
     let mut random = Random::new(seed);
     let mut tables = RandomTables::new(alloc);
-    let count = put_all(&mut tables, &mut random)?;
-    holds_of(alloc, &tables.with(&mut random, count), move |track| {
-        agrees(alloc, track, count)
+    let count = put_all(&mut tables, &mut random).expect(rt, "memory");
+    holds_of(rt, alloc, &tables.with(&mut random, count), move |track| {
+        agrees(rt, alloc, track, count)
     })
 }
 
 /// Whether both lookups answer as the walk does in tables of which three changes were made.
-fn broken_tables_agree(alloc: Global, seed: u64) -> Result<bool> {
+fn broken_tables_agree(rt: &impl Abort, alloc: Global, seed: u64) -> bool {
     let mut random = Random::new(seed);
     let mut tables = RandomTables::new(alloc);
-    let count = put_all(&mut tables, &mut random)?;
+    let count = put_all(&mut tables, &mut random).expect(rt, "memory");
     for _ in 0..3 {
-        break_one(&mut tables, &mut random, count)?;
+        break_one(&mut tables, &mut random, count).expect(rt, "memory");
     }
-    holds_of(alloc, &tables.with(&mut random, count), move |track| {
-        agrees(alloc, track, count)
+    holds_of(rt, alloc, &tables.with(&mut random, count), move |track| {
+        agrees(rt, alloc, track, count)
     })
 }
 
 #[test]
 fn fifteen_hundred_consistent_tracks_are_found_as_by_a_walk(rt: HostRuntime) {
     for seed in 0..1500 {
-        check(&rt, seed, consistent_tables_agree(rt.alloc(), seed));
+        assert_that(&rt, seed, consistent_tables_agree(&rt, rt.alloc(), seed));
     }
 }
 
 #[test]
 fn fifteen_hundred_broken_tracks_are_found_as_by_a_walk(rt: HostRuntime) {
     for seed in 0..1500 {
-        check(&rt, seed, broken_tables_agree(rt.alloc(), seed));
+        assert_that(&rt, seed, broken_tables_agree(&rt, rt.alloc(), seed));
     }
 }

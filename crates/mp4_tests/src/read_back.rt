@@ -10,6 +10,7 @@ use mp4_plain_movies::plain_movie::PlainMovie;
 use mp4_plain_movies::plain_tracks::{PlainTrack, ticks};
 use mp4_samples::SampleRef;
 use std::alloc::Global;
+use std::process::Abort;
 
 fn media_type_of(media: &Media) -> MediaType {
     match media {
@@ -86,7 +87,7 @@ pub fn tracks_are_read(reader: &mut Mp4Reader, tracks: &[PlainTrack]) -> bool {
 }
 
 /// Whether the movie of these bytes has the tracks of the model's.
-pub fn is_read_back(alloc: Global, bytes: &[u8], movie: &PlainMovie) -> Result<bool> {
-    let mut reader = read_mp4(alloc, bytes)?;
-    Ok(tracks_are_read(&mut reader, &movie.tracks))
+pub fn is_read_back(rt: &impl Abort, alloc: Global, bytes: &[u8], movie: &PlainMovie) -> bool {
+    let mut reader = read_mp4(alloc, bytes).expect(rt, "the movie opens");
+    tracks_are_read(&mut reader, &movie.tracks)
 }

@@ -1,52 +1,51 @@
 //! What a writer writes is read back: of each track the samples that were accepted, as the plain model lists them.
 
-use crate::asserts::check;
+use crate::asserts::assert_that;
 use crate::random_movies::{random_bytes, random_movie};
 use crate::read_back::is_read_back;
 use crate::writer_calls::{config_of, writer_call};
 use crate::written::{movie_of, written};
-use mp4_codec::{BoxType, Error, Result};
+use mp4_codec::{BoxType, Error};
 use mp4_media::{RoundTrip, SampleQuery, WriterCall, write_and_read};
 use mp4_plain_movies::calls::{Call, ISOM, add_text, write_sync};
 use mp4_plain_movies::listed_calls::{five_calls, text_calls};
 use std::alloc::Global;
+use std::process::Abort;
 
 /// Whether what a writer makes of calls and an end is read back.
-fn calls_are_read_back(alloc: Global, calls: &[Call]) -> Result<bool> {
-    let bytes = written(alloc, &[], &ISOM, calls)?;
-    let movie = movie_of(alloc, &[], &ISOM, calls)?;
-    is_read_back(alloc, &bytes, &movie)
+fn calls_are_read_back(rt: &impl Abort, alloc: Global, calls: &[Call]) -> bool {
+    let bytes = written(rt, alloc, &[], &ISOM, calls);
+    let movie = movie_of(rt, alloc, &[], &ISOM, calls);
+    is_read_back(rt, alloc, &bytes, &movie)
 }
 
 #[test]
 fn written_movies_are_read_back(rt: HostRuntime) {
-    let text = calls_are_read_back(rt.alloc(), &text_calls());
-    check(&rt, "three texts", text);
-    let five = calls_are_read_back(rt.alloc(), &five_calls());
-    check(&rt, "five tracks", five);
+    let text = calls_are_read_back(&rt, rt.alloc(), &text_calls());
+    assert_that(&rt, "three texts", text);
+    let five = calls_are_read_back(&rt, rt.alloc(), &five_calls());
+    assert_that(&rt, "five tracks", five);
 }
 
 /// Whether what a writer makes of the random list of a seed is read back.
-fn list_is_read_back(alloc: Global, pool: &[u8], seed: u64) -> Result<bool> {
-    let (bytes, movie) = random_movie(alloc, pool, seed)?;
-    is_read_back(alloc, &bytes, &movie)
+fn list_is_read_back(rt: &impl Abort, alloc: Global, pool: &[u8], seed: u64) -> bool {
+    let (bytes, movie) = random_movie(rt, alloc, pool, seed);
+    is_read_back(rt, alloc, &bytes, &movie)
 }
 
 #[test]
 fn three_hundred_lists_of_calls_are_read_back(rt: HostRuntime) {
-    let pool = random_bytes(rt.alloc()).unwrap_or(Vec::new(rt.alloc()));
-    check(&rt, "bytes", Ok(!pool.is_empty()));
+    let pool = random_bytes(&rt, rt.alloc());
     for seed in 0..300 {
-        check(&rt, seed, list_is_read_back(rt.alloc(), &pool, seed));
+        assert_that(&rt, seed, list_is_read_back(&rt, rt.alloc(), &pool, seed));
     }
 }
 
 /// The calls that add a track of text and write a sample of it, without an end.
-fn unended_calls(alloc: Global) -> Result<Vec<WriterCall>> {
-    let mut calls = Vec::new(alloc);
-    calls.push(writer_call(alloc, &add_text(1000))?)?;
-    calls.push(writer_call(alloc, &write_sync(1, 500, b"abc"))?)?;
-    Ok(calls)
+fn unended_calls(rt: &impl Abort, alloc: Global) -> Vec<WriterCall> {
+    let add = writer_call(rt, alloc, &add_text(1000));
+    let write = writer_call(rt, alloc, &write_sync(1, 500, b"abc"));
+    vec![in alloc; add, write].expect(rt, "memory")
 }
 
 /// Whether both calls were Ok, and what was written has no movie: the file type and an empty mdat.
@@ -58,7 +57,7 @@ fn has_no_movie(trip: &RoundTrip) -> bool {
 }
 
 /// Whether calls without an end are answered, and what they wrote isn't opened.
-fn unended_movie_is_refused(alloc: Global) -> Result<bool> {
+fn unended_movie_is_refused(rt: &impl Abort, alloc: Global) -> bool {
     let query = SampleQuery {
         bytes: &[],
         start: 0,
@@ -66,14 +65,14 @@ fn unended_movie_is_refused(alloc: Global) -> Result<bool> {
         track_id: 1,
         number: 1,
     };
-    let config = config_of(alloc, &ISOM)?;
-    let calls = unended_calls(alloc)?;
+    let config = config_of(rt, alloc, &ISOM);
+    let calls = unended_calls(rt, alloc);
     let mut buffer = Vec::new(alloc);
-    let trip = write_and_read(alloc, &config, &calls, &mut buffer, &query)?;
-    Ok(has_no_movie(&trip))
+    let trip = write_and_read(alloc, &config, &calls, &mut buffer, &query);
+    has_no_movie(&trip.expect(rt, "the calls are made"))
 }
 
 #[test]
 fn a_list_of_calls_without_an_end_makes_no_movie(rt: HostRuntime) {
-    check(&rt, 1, unended_movie_is_refused(rt.alloc()));
+    assert_that(&rt, 1, unended_movie_is_refused(&rt, rt.alloc()));
 }

@@ -1,11 +1,12 @@
 //! Functions of which docs/CALLING.md shows the first, and README the last.
 
-use crate::asserts::check;
+use crate::asserts::assert_that;
 use bytes::Bytes;
 use mp4_media::{
     FourCC, Items, Mp4Config, Mp4Sample, Mp4Writer, Result, TrackConfig, TtxtConfig, read_mp4,
 };
 use std::alloc::Global;
+use std::process::Abort;
 
 /// The bytes of a movie of one text track, in which each line lasts for a second.
 fn subtitles(alloc: Global, lines: &[&[u8]]) -> Result<Vec<u8>> {
@@ -33,12 +34,12 @@ fn subtitles(alloc: Global, lines: &[&[u8]]) -> Result<Vec<u8>> {
 }
 
 /// The text that describes the header of a movie.
-fn header_text(alloc: Global, file: &[u8]) -> Result<String> {
-    let movie = read_mp4(alloc, file)?;
+fn header_text(rt: &impl Abort, alloc: Global, file: &[u8]) -> String {
+    let movie = read_mp4(alloc, file).expect(rt, "the movie opens");
     let brand = movie.major_brand();
     let size = movie.size();
-    let milliseconds = movie.duration()?;
-    Ok(format!(in alloc; "{brand}: {size} bytes, {milliseconds} ms")?)
+    let milliseconds = movie.duration().expect(rt, "a duration");
+    format!(in alloc; "{brand}: {size} bytes, {milliseconds} ms").expect(rt, "memory")
 }
 
 /// The bytes of all samples of a track, one after the other.
@@ -52,17 +53,18 @@ fn track_bytes(alloc: Global, file: &[u8], track_id: u32) -> Result<Vec<u8>> {
 }
 
 /// Whether a movie of two lines is described so, and holds them.
-fn holds_two_lines(alloc: Global, expected: &str) -> Result<bool> {
-    let file = subtitles(alloc, &[b"Hello, ", b"world"])?;
-    let is_described = header_text(alloc, &file)?.as_str() == expected;
-    Ok(is_described && track_bytes(alloc, &file, 1)?.as_slice() == b"Hello, world".as_slice())
+fn holds_two_lines(rt: &impl Abort, alloc: Global, expected: &str) -> bool {
+    let file = subtitles(alloc, &[b"Hello, ", b"world"]).expect(rt, "the movie is written");
+    let is_described = header_text(rt, alloc, &file).as_str() == expected;
+    let bytes = track_bytes(alloc, &file, 1).expect(rt, "the movie is read");
+    is_described && bytes.as_slice() == b"Hello, world".as_slice()
 }
 
 #[test]
 fn a_movie_of_two_lines_is_described_and_read(rt: HostRuntime) {
-    check(
+    assert_that(
         &rt,
         1,
-        holds_two_lines(rt.alloc(), "isom: 583 bytes, 2000 ms"),
+        holds_two_lines(&rt, rt.alloc(), "isom: 583 bytes, 2000 ms"),
     );
 }

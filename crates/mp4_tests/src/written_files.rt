@@ -1,13 +1,13 @@
 //! Lists of calls of a writer that writes to a file: it answers as the plain model says and the file has the model's
 //! bytes, and where the file refuses a call, that is answered, and no later call is made.
 
-use crate::asserts::{at_least, check};
+use crate::asserts::{assert_that, at_least};
 use crate::random_movies::{Habits, random_beginning, random_bytes, random_call};
 use crate::writer_calls::{config_of, media_track, writer_call};
 use crate::written::is_expected;
-use mp4_codec::{Error, Result};
+use mp4_codec::Error;
 use mp4_media::{
-    ByteSink, Mp4FileWriter, SampleRef, SeekSink, SinkError, TrackConfig, WriteError, WriterCall,
+    ByteSink, Mp4FileWriter, SampleRef, SeekSink, TrackConfig, WriteError, WriterCall,
 };
 use mp4_plain_movies::calls::{Beginning, Call, Media};
 use mp4_plain_movies::plain_movie::PlainMovie;
@@ -15,9 +15,10 @@ use mp4_plain_movies::random::Random;
 use std::alloc::Global;
 use std::io;
 use std::io::{Cursor, ErrorKind, Seek, SeekFrom, Write};
+use std::process::Abort;
 
 /// What a call of the writer answers.
-type Answer = std::result::Result<(), WriteError>;
+type Answer = Result<(), WriteError>;
 
 /// Makes a call, with the bytes of a sample borrowed.
 fn make<S: ByteSink>(writer: &mut Mp4FileWriter<S>, call: &WriterCall) -> Answer {
@@ -51,47 +52,53 @@ fn is_answer(answer: Answer, expected: &Option<Error>) -> bool {
 type FileSink = SeekSink<Cursor<Vec<u8>>>;
 
 /// A sink that has these bytes.
-fn sink_with(alloc: Global, bytes: &[u8]) -> std::result::Result<FileSink, SinkError> {
-    let mut sink = SeekSink::new(alloc, Cursor::new(Vec::new(alloc)))?;
-    sink.append(bytes)?;
-    Ok(sink)
+fn sink_with(rt: &impl Abort, alloc: Global, bytes: &[u8]) -> FileSink {
+    let file = Cursor::new(Vec::new(alloc));
+    let mut sink = SeekSink::new(alloc, file).expect(rt, "memory");
+    sink.append(bytes).expect(rt, "the bytes are written");
+    sink
 }
 
 /// What a file has, after the bytes that wait were written.
-fn bytes_of(mut sink: FileSink) -> std::result::Result<Vec<u8>, SinkError> {
-    sink.flush()?;
-    Ok(sink.into_inner().into_inner())
+fn bytes_of(rt: &impl Abort, mut sink: FileSink) -> Vec<u8> {
+    sink.flush().expect(rt, "the bytes are written");
+    sink.into_inner().into_inner()
 }
 
 /// A writer to a file that has these bytes.
 fn writer_after(
+    rt: &impl Abort,
     alloc: Global,
     front: &[u8],
     beginning: &Beginning,
-) -> std::result::Result<Mp4FileWriter<FileSink>, WriteError> {
-    let config = config_of(alloc, beginning)?;
-    Mp4FileWriter::write_start(alloc, sink_with(alloc, front)?, &config)
+) -> Mp4FileWriter<FileSink> {
+    let config = config_of(rt, alloc, beginning);
+    let sink = sink_with(rt, alloc, front);
+    Mp4FileWriter::write_start(alloc, sink, &config).expect(rt, "a writer")
 }
 
 /// Makes a call of a writer and of the model. Whether both answer alike.
 fn is_made_alike<'a>(
+    rt: &impl Abort,
     alloc: Global,
     writer: &mut Mp4FileWriter<FileSink>,
     movie: &mut PlainMovie<'a>,
     call: &Call<'a>,
-) -> Result<bool> {
-    let expected = movie.make(call)?;
-    Ok(is_answer(make(writer, &writer_call(alloc, call)?), &expected))
+) -> bool {
+    let expected = movie.make(call).expect(rt, "memory");
+    let call = writer_call(rt, alloc, call);
+    is_answer(make(writer, &call), &expected)
 }
 
 /// Makes the calls of a list and mostly an end. Whether all answers are alike.
 fn calls_are_alike<'a>(
+    rt: &impl Abort,
     alloc: Global,
     habits: &Habits<'a>,
     random: &mut Random,
     writer: &mut Mp4FileWriter<FileSink>,
     movie: &mut PlainMovie<'a>,
-) -> Result<bool> {
+) -> bool {
     let mut alike = true;
     for k in 0..random.byte() {
         let tracks = u32::try_from(movie.tracks.len()).unwrap_or(0);
@@ -99,34 +106,32 @@ fn calls_are_alike<'a>(
             250 => Call::WriteEnd,
             _ => random_call(habits, random, tracks),
         };
-        alike = is_made_alike(alloc, writer, movie, &call)? && alike;
+        alike = is_made_alike(rt, alloc, writer, movie, &call) && alike;
     }
     if random.below(8) > 0 {
-        alike = is_made_alike(alloc, writer, movie, &Call::WriteEnd)? && alike;
+        alike = is_made_alike(rt, alloc, writer, movie, &Call::WriteEnd) && alike;
     }
-    Ok(alike)
+    alike
 }
 
 /// Makes the calls of a list and mostly an end of a writer to a file and of the model. Whether all answers and the
 /// bytes are alike.
-fn list_is_alike(alloc: Global, pool: &[u8], seed: u64) -> std::result::Result<bool, WriteError> {
+fn list_is_alike(rt: &impl Abort, alloc: Global, pool: &[u8], seed: u64) -> bool {
     let mut random = Random::new(seed);
     let habits = Habits::new(pool, &mut random);
     let beginning = random_beginning(&mut random);
     let front = habits.some(&mut random, 7);
-    let mut movie = PlainMovie::begin(alloc, front, &beginning)?;
-    let mut writer = writer_after(alloc, front, &beginning)?;
-    let alike = calls_are_alike(alloc, &habits, &mut random, &mut writer, &mut movie)?;
-    Ok(alike && bytes_of(writer.into_inner())? == movie.bytes)
+    let mut movie = PlainMovie::begin(alloc, front, &beginning).expect(rt, "memory");
+    let mut writer = writer_after(rt, alloc, front, &beginning);
+    let alike = calls_are_alike(rt, alloc, &habits, &mut random, &mut writer, &mut movie);
+    alike && bytes_of(rt, writer.into_inner()) == movie.bytes
 }
 
 #[test]
 fn a_thousand_lists_of_calls_are_written_to_files_as_the_model_says(rt: HostRuntime) {
-    let pool = random_bytes(rt.alloc()).unwrap_or(Vec::new(rt.alloc()));
-    check(&rt, "bytes", Ok(!pool.is_empty()));
+    let pool = random_bytes(&rt, rt.alloc());
     for seed in 2000..3000 {
-        let alike = list_is_alike(rt.alloc(), &pool, seed).unwrap_or(false);
-        check(&rt, seed, Ok(alike));
+        assert_that(&rt, seed, list_is_alike(&rt, rt.alloc(), &pool, seed));
     }
 }
 
@@ -191,12 +196,13 @@ impl Replies {
 
 /// A writer to a file, which has nothing.
 fn writer_to<W: Write + Seek + Drop>(
+    rt: &impl Abort,
     alloc: Global,
     disk: W,
-) -> std::result::Result<Mp4FileWriter<SeekSink<W>>, WriteError> {
-    let config = config_of(alloc, &random_beginning(&mut Random::new(1)))?;
-    let sink = SeekSink::new(alloc, disk)?;
-    Mp4FileWriter::write_start(alloc, sink, &config)
+) -> Mp4FileWriter<SeekSink<W>> {
+    let config = config_of(rt, alloc, &random_beginning(&mut Random::new(1)));
+    let sink = SeekSink::new(alloc, disk).expect(rt, "memory");
+    Mp4FileWriter::write_start(alloc, sink, &config).expect(rt, "a writer")
 }
 
 /// Adds a track, writes forty samples of 10,000 bytes, each a chunk, and an end, twice. What was answered.
@@ -225,30 +231,27 @@ fn replies_to_forty<W: Write + Seek + Drop>(
 
 /// What a writer to a file answers so, and the file.
 fn written_to<W: Write + Seek + Drop>(
+    rt: &impl Abort,
     alloc: Global,
     pool: &[u8],
     disk: W,
-) -> std::result::Result<(Replies, W), WriteError> {
-    let track = media_track(alloc, &Media::Text)?;
-    let mut writer = writer_to(alloc, disk)?;
+) -> (Replies, W) {
+    let track = media_track(rt, alloc, &Media::Text);
+    let mut writer = writer_to(rt, alloc, disk);
     let replies = replies_to_forty(&mut writer, &track, pool);
     drop(track);
-    Ok((replies, writer.into_inner().into_inner()))
+    (replies, writer.into_inner().into_inner())
 }
 
 /// What a file answers that refuses from that call on.
-fn replies_of_a_full_disk(
-    alloc: Global,
-    pool: &[u8],
-    refused: u32,
-) -> std::result::Result<Replies, WriteError> {
+fn replies_of_a_full_disk(rt: &impl Abort, alloc: Global, pool: &[u8], refused: u32) -> Replies {
     let disk = FullDisk {
         file: Cursor::new(Vec::new(alloc)),
         calls: 0,
         refused,
     };
-    let (replies, _disk) = written_to(alloc, pool, disk)?;
-    Ok(replies)
+    let (replies, _disk) = written_to(rt, alloc, pool, disk);
+    replies
 }
 
 /// Whether of 43 calls one is refused for the disk, those before it are Ok, and all after it failed since it was. Where
@@ -262,11 +265,11 @@ fn is_refused_once(replies: Replies) -> bool {
 
 #[test]
 fn a_writer_stops_where_its_file_is_full(rt: HostRuntime) {
-    let pool = random_bytes(rt.alloc()).unwrap_or(Vec::new(rt.alloc()));
+    let pool = random_bytes(&rt, rt.alloc());
     let mut refusals = 0u32;
     for refused in 0..20 {
-        let replies = replies_of_a_full_disk(rt.alloc(), &pool, refused).unwrap_or_default();
-        check(&rt, refused, Ok(is_refused_once(replies)));
+        let replies = replies_of_a_full_disk(&rt, rt.alloc(), &pool, refused);
+        assert_that(&rt, refused, is_refused_once(replies));
         refusals = refusals.saturating_add(replies.refused);
     }
     at_least(&rt, "refusals", refusals, 9);
@@ -297,22 +300,22 @@ impl Seek for ShortWrites {
 }
 
 /// Whether a file that takes few bytes of each write has the bytes of one that takes all, and how many writes it was.
-fn is_written_in_parts(alloc: Global, pool: &[u8]) -> std::result::Result<(bool, u32), WriteError> {
-    let (_, whole) = written_to(alloc, pool, Cursor::new(Vec::new(alloc)))?;
+fn is_written_in_parts(rt: &impl Abort, alloc: Global, pool: &[u8]) -> (bool, u32) {
+    let (_, whole) = written_to(rt, alloc, pool, Cursor::new(Vec::new(alloc)));
     let short = ShortWrites {
         file: Cursor::new(Vec::new(alloc)),
         writes: 0,
     };
-    let (replies, parts) = written_to(alloc, pool, short)?;
+    let (replies, parts) = written_to(rt, alloc, pool, short);
     let ShortWrites { file, writes } = parts;
     let is_same = file.into_inner() == whole.into_inner();
-    Ok((is_same && replies.ok == 42, writes))
+    (is_same && replies.ok == 42, writes)
 }
 
 #[test]
 fn a_file_that_takes_few_bytes_of_each_write_gets_all(rt: HostRuntime) {
-    let pool = random_bytes(rt.alloc()).unwrap_or(Vec::new(rt.alloc()));
-    let (is_same, writes) = is_written_in_parts(rt.alloc(), &pool).unwrap_or((false, 0));
-    check(&rt, "a file", Ok(is_same));
+    let pool = random_bytes(&rt, rt.alloc());
+    let (is_same, writes) = is_written_in_parts(&rt, rt.alloc(), &pool);
+    assert_that(&rt, "a file", is_same);
     at_least(&rt, "writes", writes, 50_000);
 }
