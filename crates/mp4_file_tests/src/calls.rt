@@ -2,8 +2,8 @@
 //! window, each part that is larger, and each sample.
 
 use crate::asserts::assert_equal;
+use crate::disk::Disk;
 use crate::movies::{fragmented_file, many_boxes, padded_file, two_terabytes};
-use crate::sources::Disk;
 use mp4_media::{Mp4File, SeekSource};
 use std::alloc::Global;
 use std::process::Abort;

@@ -2,8 +2,8 @@
 
 use crate::answers::{has_same_boxes, is_read, kind_of, reads_track};
 use crate::asserts::{assert_equal, assert_that};
+use crate::disk::Disk;
 use crate::movies::{SECOND_CHUNK, fragmented_file, movie_file, put, with_number};
-use crate::sources::Disk;
 use mp4_codec::Error;
 use mp4_media::{FileError, Mp4File, Mp4Sample, SeekSource, read_mp4};
 use std::alloc::Global;

@@ -2,8 +2,8 @@
 
 use crate::answers::{has_same_boxes, reads_track};
 use crate::asserts::{assert_equal, assert_that};
+use crate::disk::Disk;
 use crate::movies::{fragmented_file, movie_file, padded_file};
-use crate::sources::Disk;
 use mp4_media::{ByteSource, Mp4File, SeekSource, Window, read_mp4};
 use std::alloc::Global;
 use std::io::Cursor;

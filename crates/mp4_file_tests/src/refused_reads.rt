@@ -2,8 +2,8 @@
 
 use crate::answers::{has_same_boxes, is_read, is_read_into, kind_of};
 use crate::asserts::assert_that;
+use crate::disk::Disk;
 use crate::movies::{fragmented_file, padded_file};
-use crate::sources::Disk;
 use mp4_media::{ByteSource, FileError, Mp4File, Mp4Reader, SeekSource, read_mp4};
 use std::alloc::Global;
 use std::io::ErrorKind;

@@ -1,7 +1,8 @@
 //! Files as sources: how often they are asked, and files that give less than is asked or change their length.
 
 use crate::asserts::assert_that;
-use crate::sources::{Disk, agrees_at, kind_of, many_bytes};
+use crate::disk::Disk;
+use crate::parts::{agrees_at, kind_of, many_bytes};
 use mp4_source::{ByteSource, SeekSource, Window};
 use std::alloc::Global;
 use std::io::ErrorKind;
@@ -16,7 +17,7 @@ fn calls(rt: &impl Abort, alloc: Global, parts: &[(u64, usize)]) -> (u64, u64) {
         source.part(*place, *n, &mut room).expect(rt, "a part");
     }
     let disk = source.into_inner();
-    (disk.seeks, disk.reads)
+    (disk.seeks, disk.calls.saturating_sub(disk.seeks))
 }
 
 #[test]
@@ -34,11 +35,12 @@ fn a_part_is_a_seek_and_a_read(rt: HostRuntime) {
     );
 }
 
-/// Whether a file that gives so many bytes a read answers as the bytes in memory do, without a window and with one.
-fn agrees_by(rt: &impl Abort, alloc: Global, most: usize) -> bool {
+/// Whether a file whose reads give this share of what is asked for answers as the bytes in memory do, without a window
+/// and with one.
+fn agrees_by(rt: &impl Abort, alloc: Global, share: usize) -> bool {
     let bytes = many_bytes(rt, alloc, 1000);
     let mut disk = Disk::new(bytes.as_slice());
-    disk.most = most;
+    disk.share = share;
     let mut source = SeekSource::new(disk);
     let mut room = Vec::new(alloc);
     let parts = [
@@ -58,8 +60,8 @@ fn agrees_by(rt: &impl Abort, alloc: Global, most: usize) -> bool {
 
 #[test]
 fn a_file_may_give_less_than_is_asked(rt: HostRuntime) {
-    for most in [1, 2, 7, 1000] {
-        assert_that(&rt, most, agrees_by(&rt, rt.alloc(), most));
+    for share in [1, 2, 7, 1000] {
+        assert_that(&rt, share, agrees_by(&rt, rt.alloc(), share));
     }
 }
 
@@ -70,6 +72,7 @@ fn kinds(rt: &impl Abort, alloc: Global, len: usize, later_len: usize) -> [Optio
     let mut disk = Disk::new(bytes.as_slice());
     disk.len = len;
     disk.later_len = later_len;
+    disk.changes_after = 1;
     let mut window = Window::new(alloc, SeekSource::new(disk)).expect(rt, "a window");
     let mut room = Vec::new(alloc);
     let last = kind_of(window.part(len.saturating_sub(8) as u64, 8, &mut room));

@@ -1,4 +1,4 @@
-//! Sources and files of the tests.
+//! A file of the tests that is read.
 
 ghost use Rattle.std.specs.Prelude.{◌≤◌, length};
 
@@ -20,6 +20,8 @@ pub struct Disk<'a> {
     pub refused: u64,
     pub position: u64,
     pub calls: u64,
+    /// How many of the calls are seeks; the others are reads.
+    pub seeks: u64,
 }
 
 impl<'a> Disk<'a> {
@@ -34,6 +36,7 @@ impl<'a> Disk<'a> {
             refused: 0,
             position: 0,
             calls: 0,
+            seeks: 0,
         }
     }
 
@@ -83,6 +86,7 @@ impl Read for Disk<'_> {
 
 impl Seek for Disk<'_> {
     fn seek(&mut self, to: SeekFrom) -> io::Result<u64> {
+        self.seeks = self.seeks.saturating_add(1);
         self.count()?;
         match to {
             SeekFrom::Start(place) => self.position = place,

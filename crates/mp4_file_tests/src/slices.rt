@@ -2,7 +2,7 @@
 
 use crate::asserts::assert_that;
 use crate::caller::two_bytes;
-use crate::sources::{agrees_at, kind_of};
+use crate::parts::{agrees_at, kind_of};
 use mp4_source::ByteSource;
 use std::alloc::Global;
 use std::io::ErrorKind;

@@ -1,8 +1,8 @@
 //! Sinks: a file holds what a buffer in memory does after the same calls, and is written seldom.
 
 use crate::asserts::assert_that;
-use crate::disks::WrittenDisk;
-use crate::sources::{Numbers, many_bytes};
+use crate::parts::{Numbers, many_bytes};
+use crate::written_disk::WrittenDisk;
 use mp4_source::{ByteSink, CountingSink, SeekSink, SinkError, WAITING_SIZE};
 use std::alloc::Global;
 use std::io::ErrorKind;

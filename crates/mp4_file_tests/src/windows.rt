@@ -1,7 +1,7 @@
 //! A window: its answers are those of its source, which is asked seldom.
 
 use crate::asserts::assert_that;
-use crate::sources::{Numbers, Refusing, agrees, agrees_at, many_bytes};
+use crate::parts::{Numbers, Refusing, agrees, agrees_at, many_bytes};
 use mp4_source::{BLOCK_SIZE, ByteSource, Window};
 use std::alloc::Global;
 use std::process::Abort;

@@ -1,11 +1,11 @@
-//! Sources and files of the tests.
+//! Parts of sources, compared with bytes in memory.
 
 ghost use Rattle.std.specs.Prelude.{◌≡◌, Some};
 
 use mp4_source::{ByteSource, SourceError};
 use std::alloc::Global;
 use std::io;
-use std::io::{ErrorKind, Read, Seek, SeekFrom};
+use std::io::ErrorKind;
 use std::process::Abort;
 
 /// So many bytes, of which those near each other differ.
@@ -79,69 +79,6 @@ impl ByteSource for Refusing<'_> {
         }
         let mut all: &[u8] = self.bytes;
         all.read_exact_at(place, buf)
-    }
-}
-
-/// Bytes that read and seek as a file does, and count these calls.
-#[derive(Drop)]
-pub struct Disk<'a> {
-    pub bytes: &'a [u8],
-    /// How many of the bytes there are.
-    pub len: usize,
-    /// How many there are once the length was asked for.
-    pub later_len: usize,
-    /// How many bytes a read gives at most.
-    pub most: usize,
-    pub position: u64,
-    pub reads: u64,
-    pub seeks: u64,
-}
-
-impl<'a> Disk<'a> {
-    /// All bytes, any number of them in a read.
-    pub fn new(bytes: &'a [u8]) -> Self {
-        Disk {
-            bytes,
-            len: bytes.len(),
-            later_len: bytes.len(),
-            most: usize::MAX,
-            position: 0,
-            reads: 0,
-            seeks: 0,
-        }
-    }
-}
-
-/// The bytes from a place up to another, or up to their end.
-fn between(bytes: &[u8], start: u64, end: usize) -> &[u8] {
-    let end = end.min(bytes.len());
-    let start = start.min(end as u64) as usize;
-    &bytes[start..end]
-}
-
-impl Read for Disk<'_> {
-    fn read(&mut self, buf: &mut [u8]) -> io::Result<usize> {
-        self.reads = self.reads.saturating_add(1);
-        let mut rest: &[u8] = between(self.bytes, self.position, self.len);
-        let most = self.most.min(buf.len());
-        let n = rest.read(&mut buf[..most])?;
-        self.position = self.position.saturating_add(n as u64);
-        Ok(n)
-    }
-}
-
-impl Seek for Disk<'_> {
-    fn seek(&mut self, to: SeekFrom) -> io::Result<u64> {
-        self.seeks = self.seeks.saturating_add(1);
-        match to {
-            SeekFrom::Start(place) => self.position = place,
-            SeekFrom::End(_) => {
-                self.position = self.len as u64;
-                self.len = self.later_len;
-            }
-            SeekFrom::Current(_) => return Err(io::Error::from(ErrorKind::Unsupported)),
-        }
-        Ok(self.position)
     }
 }
 
