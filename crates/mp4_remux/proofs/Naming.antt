@@ -1,6 +1,6 @@
 -- Boxes that are found among the bytes of a file begin where they are said to.
 use Rattle.std.proofs.Common.{◌≡◌, ◌∙◌, ℕ, zero, suc, ◌+◌, ◌-◌, ◌≤◌, ◌==◌, ◌++◌, Bool, true, false, nat_lt}
-use Rattle.std.proofs.Common.{List, [], ◌∷◌, length, take, drop, Option, None, Some, IfSome, Result, Ok, Err, IfErr}
+use Rattle.std.proofs.Common.{List, [], ◌∷◌, length, take, drop, Option, None, Some, IfSome, Result, Ok, Err}
 use Rattle.std.proofs.Common.{inr, if◌then◌else◌, refl, sym, ap, subst, arith, take-take, drop-drop}
 use Rattle.std.proofs.lemmas.Bool.{eqb-true, le-ltb, ltb-false, ltb-true}
 use Rattle.std.proofs.lemmas.List.{drop-take, length-append, length-drop, length-take-le, take-append-drop}

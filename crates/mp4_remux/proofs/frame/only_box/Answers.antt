@@ -1,4 +1,4 @@
-use Rattle.std.proofs.Common.{Some, ap, arith, refl, slice_index_or}
+use Rattle.std.proofs.Common.{arith, refl, slice_index_or}
 use Rattle.mp4_codec.specs.declared.box_type.BoxType.TheVariants.{FtypBox}
 use Rattle.mp4_remux.proofs.Numbered.{at_index}
 use Rattle.mp4_remux.proofs.frame.only_box.Goals as goal
