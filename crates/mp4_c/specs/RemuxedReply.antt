@@ -26,7 +26,7 @@ abbrev pub GaveRefusal : RemuxError → List ℕ → List ℕ → Answer → Typ
 GaveRefusal e old new answer = Gave (record { answer = not_remuxed e; room = old }) new answer
 
 -- Why a file in memory isn't rewritten: neither a source nor a sink refuses; where the file has a fault, it is refused
--- for the first one, or memory ran out; a box that the refusal names begins where it says; and something more is so.
+-- for the first one, or memory ran out; what the refusal says of the file is so; and something more is so.
 pub record IsNotRewritten (file : List ℕ) (IsMore : RemuxError → Type 0) (e : RemuxError) : Type 0 where
   pub refused : IsRefusalOf ⊥ ⊥ e
   pub fault : (c : Cause) → IsFaultyFile (length file) (here file 0) c → IsCause false c e

@@ -1,6 +1,7 @@
 -- The ids of the tracks that are kept.
 use Rattle.std.proofs.Common.{◌≡◌, ◌∙◌, ℕ, ◌+◌, ◌<◌, ◌≤◌, ◌==◌, ◌++◌, ◌∷◌, [], true, false, List, length}
 use Rattle.std.proofs.Common.{drop, slice_index_or, sym, ap, refl, subst, arith, append_assoc, Bool, nat_lt, inl, inr}
+use Rattle.std.proofs.Common.{◌||◌, eq-eqb}
 use Rattle.std.proofs.Common.{Option, None, Some, Result, Err}
 use Rattle.std.proofs.lemmas.Bool.{ltb-false, ltb-true}
 use Rattle.std.proofs.lemmas.List.{append-nil}
@@ -13,7 +14,8 @@ use Rattle.mp4_remux.specs.declared.error.RemuxError.{RemuxError}
 use Rattle.mp4_remux.specs.declared.error.RemuxError.TheVariants.{Mp4}
 use Rattle.mp4_remux.specs.Errors.{IsNoFault, SaysMissing}
 use Rattle.mp4_remux.specs.Reads.{AreThere, IsMissing, SaysFirst}
-use Rattle.mp4_remux.specs.Remuxed.{IsOnlyFile, kept_of}
+use Rattle.mp4_remux.specs.Remuxed.{IsOnlyFile, ids_of, kept_of}
+use Rattle.mp4_remux.specs.Why.{AreKept}
 use Rattle.mp4_remux.proofs.Numbered.{drop_next, drop_all}
 
 module _ (ids all kept : List ℕ) (i x d : ℕ) (lt : i < length all) (is : x ≡ slice_index_or all i d)
@@ -42,6 +44,27 @@ unfolding kept_of
 kept_all ids all kept i le e =
     sym (append-nil kept) ∙ ap (λ (ys : List ℕ). kept ++ ys) (sym (ap (λ (ys : List ℕ). kept_of ids ys)
     (drop_all all i le))) ∙ e
+
+-- all of them are kept
+all_kept : (ids ys : List ℕ)
+    → ((x : ℕ) → list_any (λ y. y == x) ys ≡ true → list_any (λ y. y == x) ids ≡ true) → kept_of ids ys ≡ ys
+unfolding kept_of
+all_kept ids [] each = refl
+all_kept ids (y ∷ ys) each =
+    let this : list_any (λ z. z == y) (y ∷ ys) ≡ true = rw (eq-eqb y y refl) refl in
+    let kept = each y this in
+    rw kept (ap (λ (zs : List ℕ). y ∷ zs) (all_kept ids ys (λ x is. each x (by x is (y == x)))))
+  where
+    by : (x : ℕ) → list_any (λ z. z == x) ys ≡ true → (b : Bool) → b || list_any (λ z. z == x) ys ≡ true
+    by x is true = refl
+    by x is false = is
+
+-- all tracks of a movie are some of them
+pub are_all : (movie : OpenedFile) (ids : List ℕ) → ids ≡ ids_of movie.moov → AreKept movie ids
+are_all movie ids is = (
+  ids_of movie.moov,
+  is ∙ sym (all_kept (ids_of movie.moov) (ids_of movie.moov) (λ x among. among)),
+)
 
 -- IDS THAT AREN'T THERE
 

@@ -1,6 +1,6 @@
 -- Boxes that are found among the bytes of a file begin where they are said to.
 use Rattle.std.proofs.Common.{◌≡◌, ◌∙◌, ℕ, zero, suc, ◌+◌, ◌-◌, ◌≤◌, ◌==◌, ◌++◌, Bool, true, false, nat_lt}
-use Rattle.std.proofs.Common.{List, [], ◌∷◌, length, take, drop, Option, None, Some, IfSome, Result, Ok, Err, IfErr}
+use Rattle.std.proofs.Common.{List, [], ◌∷◌, length, take, drop, Option, None, Some, IfSome, Result, Ok, Err}
 use Rattle.std.proofs.Common.{inr, if◌then◌else◌, refl, sym, ap, subst, arith, take-take, drop-drop}
 use Rattle.std.proofs.lemmas.Bool.{eqb-true, le-ltb, ltb-false, ltb-true}
 use Rattle.std.proofs.lemmas.List.{drop-take, length-append, length-drop, length-take-le, take-append-drop}
@@ -14,25 +14,24 @@ use Rattle.mp4_codec.specs.Cursor.{Cursor, Head, here, take_at, head_with, head_
 use Rattle.mp4_codec.specs.Steps.{ok_is, both_steps}
 use Rattle.mp4_codec.specs.declared.box_type.BoxType.{BoxType}
 use Rattle.mp4_codec.specs.declared.header.BoxHeader.{BoxHeader}
-use Rattle.mp4_media.specs.FileGrammar.{between}
+use Rattle.mp4_media.specs.FileGrammar.{IsFile, between}
 use Rattle.mp4_source.specs.Answers.{IsLength}
 use Rattle.mp4_source.specs.Source.{IsPartOf}
-use Rattle.mp4_source.specs.declared.file_error.FileError.{FileError}
-use Rattle.mp4_source.specs.declared.file_error.FileError.TheVariants.{Mp4 as of_mp4, Io as file_refused}
-use Rattle.mp4_remux.specs.declared.layout_error.LayoutError.{LayoutError}
-use Rattle.mp4_remux.specs.declared.layout_error.LayoutError.TheVariants.{Mp4 as of_movie, TooManySamples as too_many}
-use Rattle.mp4_remux.specs.declared.layout_error.LayoutError.TheVariants.{StartsElsewhere as elsewhere}
-use Rattle.mp4_remux.specs.declared.layout_error.LayoutError.TheVariants.{SameIds as same_ids, OtherTracks as other}
-use Rattle.mp4_remux.specs.declared.layout_error.LayoutError.TheVariants.{Differs as differs}
 use Rattle.mp4_remux.specs.declared.error.RemuxError.{RemuxError}
 use Rattle.mp4_remux.specs.declared.error.RemuxError.TheVariants.{Mp4, Read, Write, Twice, SaysPlaces}
 use Rattle.mp4_remux.specs.declared.error.RemuxError.TheVariants.{TooManySamples, OtherTracks, Differs}
 use Rattle.mp4_remux.specs.declared.error.RemuxError.TheVariants.{SaysOfSamples, StartsElsewhere, SameIds}
 use Rattle.mp4_remux.specs.declared.top_level.TopBox.{TopBox}
-use Rattle.mp4_remux.specs.Errors.{CopyFails, of_file, of_layout}
 use Rattle.mp4_remux.specs.Front.{AreBoxes, IsTopBox}
 use Rattle.mp4_remux.specs.Kept.{IsFirstBox}
-use Rattle.mp4_remux.specs.Named.{EndsAt, HasBox, HasBoxWithin, IsOneOf, IsPlacing, NamesBy, placing_others}
+use Rattle.mp4_remux.specs.Named.{AreTwo, EndsAt, HasBox, HasBoxWithin, HasTwo, IsOneOf, IsPlacing, IsSingle, NamesBox}
+use Rattle.mp4_remux.specs.Named.{IsWhy, HasManyOf, NamesBy, OpensTo, SaysBy, SaysMany, SaysNone, SaysTwice}
+use Rattle.mp4_remux.specs.Named.{placing_others}
+use Rattle.mp4_remux.specs.Why.{AreKept, HasMore, HasSameIds, HasTooMany, HaveSamples, IsApart, most_samples}
+use Rattle.mp4_remux.specs.Errors.{of_layout}
+use Rattle.mp4_remux.specs.declared.layout_error.LayoutError.{LayoutError}
+use Rattle.mp4_media.specs.FileBoxes.{OpenedFile}
+use Rattle.mp4_remux.proofs.Counting.{more_among}
 
 -- HEADERS
 
@@ -269,50 +268,134 @@ index_places name code is same = by (code == 0x73696478) refl same
 
 -- REFUSALS
 
-pub names_as : (P Q : BoxType → ℕ → Type 0) → ((name : BoxType) (place : ℕ) → P name place → Q name place)
-    → (e : RemuxError) → NamesBy P e → NamesBy Q e
-names_as P Q also (Mp4 e) says = tt
-names_as P Q also (Read e) says = tt
-names_as P Q also (Write e) says = tt
-names_as P Q also (Twice name) says = tt
-names_as P Q also (SaysPlaces name place) says = (says.0, also name place says.1)
-names_as P Q also (TooManySamples track) says = tt
-names_as P Q also (SaysOfSamples name place) says = (says.0, also name place says.1)
-names_as P Q also (StartsElsewhere track number) says = tt
-names_as P Q also SameIds says = tt
-names_as P Q also OtherTracks says = tt
-names_as P Q also (Differs track number) says = tt
+-- what is said of a box that is named, of two boxes of a type, of a track and of a movie, is said of another
+pub says_as : (P Q : BoxType → ℕ → Type 0) (T U : BoxType → Type 0) (A B : ℕ → Type 0)
+    (M N : (OpenedFile → Type 0) → Type 0) → ((name : BoxType) (place : ℕ) → P name place → Q name place)
+    → ((name : BoxType) → T name → U name) → ((track : ℕ) → A track → B track)
+    → ((IsSo : OpenedFile → Type 0) → M IsSo → N IsSo) → (e : RemuxError) → SaysBy P T A M e → SaysBy Q U B N e
+says_as P Q T U A B M N also both many movie (Mp4 e) says = tt
+says_as P Q T U A B M N also both many movie (Read e) says = tt
+says_as P Q T U A B M N also both many movie (Write e) says = tt
+says_as P Q T U A B M N also both many movie (Twice name) says = both name says
+says_as P Q T U A B M N also both many movie (SaysPlaces name place) says = (says.0, also name place says.1)
+says_as P Q T U A B M N also both many movie (TooManySamples track) says = many track says
+says_as P Q T U A B M N also both many movie (SaysOfSamples name place) says = (says.0, also name place says.1)
+says_as P Q T U A B M N also both many movie (StartsElsewhere track number) says =
+    movie (λ o. IsApart o track number) says
+says_as P Q T U A B M N also both many movie SameIds says = movie HasSameIds says
+says_as P Q T U A B M N also both many movie OtherTracks says = tt
+says_as P Q T U A B M N also both many movie (Differs track number) says = tt
 
-pub names_none : (P : BoxType → ℕ → Type 0) (e : RemuxError) → NamesBy (λ name place. ⊥) e → NamesBy P e
-names_none P e says = names_as (λ name place. ⊥) P (λ name place no. absurd no) e says
+-- what is known of a box that is named, of a type of which there are two boxes, of a track and of a movie
+abbrev BoxKnown : Option (List ℕ) → BoxType → ℕ → Type 0
+BoxKnown known name place = IfSome known (λ xs. HasBox xs name place)
 
--- what a file or a sample is refused for names no box
-pub file_names_none : (P : BoxType → ℕ → Type 0) (e : FileError) → NamesBy P (of_file e)
-file_names_none P (of_mp4 e) = tt
-file_names_none P (file_refused e) = tt
+abbrev TwiceKnown : Option (List ℕ) → BoxType → Type 0
+TwiceKnown known name = IsSingle name × IfSome known (λ xs. HasTwo xs name)
 
-pub layout_names_none : (P : BoxType → ℕ → Type 0) (e : LayoutError) → NamesBy P (of_layout e)
-layout_names_none P (of_movie e) = tt
-layout_names_none P (too_many track) = tt
-layout_names_none P (elsewhere track number) = tt
-layout_names_none P same_ids = tt
-layout_names_none P other = tt
-layout_names_none P (differs track number) = tt
+abbrev ManyKnown : Option (List ℕ) → ℕ → Type 0
+ManyKnown known track = IfSome known (λ xs. OpensTo (λ movie. HasTooMany (length xs) movie track) xs)
 
-pub copy_names_none : {X : Type 0} (P : BoxType → ℕ → Type 0) (Refuses : Type 0) (can_refuse : Bool)
-    (result : Result X RemuxError) → IfErr result (CopyFails Refuses can_refuse) → IfErr result (NamesBy P)
-copy_names_none {X} P Refuses can_refuse (Ok x) fails = tt
-copy_names_none {X} P Refuses can_refuse (Err e) fails = by e fails
+abbrev MovieKnown : Option (List ℕ) → (OpenedFile → Type 0) → Type 0
+MovieKnown known IsSo = IfSome known (OpensTo IsSo)
+
+abbrev NoBox : BoxType → ℕ → Type 0
+NoBox name place = ⊥
+
+abbrev NoType : BoxType → Type 0
+NoType name = ⊥
+
+abbrev NoTrack : ℕ → Type 0
+NoTrack track = ⊥
+
+abbrev NoMovie : (OpenedFile → Type 0) → Type 0
+NoMovie IsSo = ⊥
+
+-- a box that is named is there
+pub names_known : (known : Option (List ℕ)) (P : BoxType → ℕ → Type 0)
+    → ((name : BoxType) (place : ℕ) → P name place → IfSome known (λ xs. HasBox xs name place)) → (e : RemuxError)
+    → NamesBy P e → NamesBox known e
+names_known known P also e says =
+    says_as P (BoxKnown known) NoType (TwiceKnown known) NoTrack (ManyKnown known) NoMovie (MovieKnown known) also
+    (λ name no. absurd no) (λ track no. absurd no) (λ IsSo no. absurd no) e says
+
+-- two boxes of a type are there
+pub twice_known : (known : Option (List ℕ)) (boxes : List TopBox) (name : BoxType)
+    → IfSome known (λ xs. AreBoxes xs 0 boxes) → IsSingle name → (e : RemuxError)
+    → SaysTwice (λ n. (n ≡ name) × AreTwo boxes n) e → NamesBox known e
+twice_known known boxes name are single e says =
+    says_as NoBox (BoxKnown known) (λ n. (n ≡ name) × AreTwo boxes n) (TwiceKnown known) NoTrack (ManyKnown known)
+    NoMovie (MovieKnown known) (λ n place no. absurd no) (by known are) (λ track no. absurd no)
+    (λ IsSo no. absurd no) e says
   where
-    by : (e : RemuxError) → CopyFails Refuses can_refuse e → NamesBy P e
-    by (Mp4 e) fails = tt
-    by (Read e) fails = tt
-    by (Write e) fails = tt
-    by (Twice name) fails = tt
-    by (SaysPlaces name place) fails = absurd fails
-    by (TooManySamples track) fails = tt
-    by (SaysOfSamples name place) fails = absurd fails
-    by (StartsElsewhere track number) fails = tt
-    by SameIds fails = tt
-    by OtherTracks fails = tt
-    by (Differs track number) fails = tt
+    by : (known : Option (List ℕ)) → IfSome known (λ xs. AreBoxes xs 0 boxes) → (n : BoxType)
+        → (n ≡ name) × AreTwo boxes n → IsSingle n × IfSome known (λ xs. HasTwo xs n)
+    by None are n two = (subst IsSingle (sym two.0) single, tt)
+    by (Some xs) are n two = (subst IsSingle (sym two.0) single, (boxes, (are, two.1)))
+
+-- a movie is the one that the known bytes open to
+pub why_known : (known : Option (List ℕ)) (len : ℕ) (movie : OpenedFile) (tracks : List ℕ) → IsLength known len
+    → IfSome known (λ xs. IsFile (length xs) (here xs 0) movie) → AreKept movie tracks → (e : LayoutError)
+    → IsWhy tracks (most_samples len) movie e → NamesBox known (of_layout e)
+why_known known len movie tracks measured opened kept e why =
+    says_as NoBox (BoxKnown known) NoType (TwiceKnown known) (HasMore tracks (most_samples len) movie)
+    (ManyKnown known) (λ IsSo. IsSo movie) (MovieKnown known) (λ n place no. absurd no) (λ n no. absurd no)
+    (many known measured opened) (so known opened) (of_layout e) why
+  where
+    so : (known : Option (List ℕ)) → IfSome known (λ xs. IsFile (length xs) (here xs 0) movie)
+        → (IsSo : OpenedFile → Type 0) → IsSo movie → IfSome known (OpensTo IsSo)
+    so None opened IsSo is = tt
+    so (Some xs) opened IsSo is = (movie, (opened, is))
+
+    many : (known : Option (List ℕ)) → IsLength known len
+        → IfSome known (λ xs. IsFile (length xs) (here xs 0) movie) → (track : ℕ)
+        → HasMore tracks (most_samples len) movie track
+        → IfSome known (λ xs. OpensTo (λ o. HasTooMany (length xs) o track) xs)
+    many None measured opened track more = tt
+    many (Some xs) measured opened track more = (
+      movie,
+      (
+        opened,
+        (tracks, (kept, subst (λ n. HasMore tracks (most_samples n) movie track) measured more)),
+      ),
+    )
+
+-- what is for nothing of a movie is for whatever of it
+pub why_anyhow : (tracks : List ℕ) (most : ℕ) (movie : OpenedFile) (e : LayoutError) → SaysNone e
+    → IsWhy tracks most movie e
+why_anyhow tracks most movie e says =
+    says_as NoBox NoBox NoType NoType NoTrack (HasMore tracks most movie) NoMovie (λ IsSo. IsSo movie)
+    (λ n place no. no) (λ n no. no) (λ track no. absurd no) (λ IsSo no. absurd no) (of_layout e) says
+
+-- why no layout is made of one track is why none is made of several
+pub why_among : (t left most : ℕ) (tracks : List ℕ) (movie : OpenedFile) (i n : ℕ) → slice_get tracks i ≡ Some t
+    → HaveSamples movie tracks i n → most ≡ left + n → (e : LayoutError) → IsWhy (t ∷ []) left movie e
+    → IsWhy tracks most movie e
+why_among t left most tracks movie i n there have is e why =
+    says_as NoBox NoBox NoType NoType (HasMore (t ∷ []) left movie) (HasMore tracks most movie) (λ IsSo. IsSo movie)
+    (λ IsSo. IsSo movie) (λ name place no. no) (λ name no. no) (more_among t left most tracks movie i n there have is)
+    (λ IsSo so. so) (of_layout e) why
+
+-- a refusal for nothing of that kind is one for too many samples whatever these are
+pub many_anyhow : (IsMany : ℕ → Type 0) (e : RemuxError) → NamesBy (λ name place. ⊥) e → SaysMany IsMany e
+many_anyhow IsMany e says =
+    says_as NoBox NoBox NoType NoType NoTrack IsMany NoMovie NoMovie (λ name place no. no) (λ name no. no)
+    (λ track no. absurd no) (λ IsSo no. no) e says
+
+-- one for those of a track among others
+pub many_known : (known : Option (List ℕ)) (len : ℕ) (movie : OpenedFile) (ids : List ℕ) (t left i n : ℕ)
+    → IsLength known len → IfSome known (λ xs. IsFile (length xs) (here xs 0) movie) → slice_get ids i ≡ Some t
+    → HaveSamples movie ids i n → most_samples len ≡ left + n → (e : RemuxError)
+    → SaysMany (HasMore (t ∷ []) left movie) e → SaysMany (λ track. IfSome known (HasManyOf ids track)) e
+many_known known len movie ids t left i n measured opened there have is e says =
+    says_as NoBox NoBox NoType NoType (HasMore (t ∷ []) left movie) (λ track. IfSome known (HasManyOf ids track))
+    NoMovie NoMovie (λ name place no. no) (λ name no. no)
+    (λ track more. by known measured opened track
+    (more_among t left (most_samples len) ids movie i n there have is track more)) (λ IsSo no. no) e says
+  where
+    by : (known : Option (List ℕ)) → IsLength known len
+        → IfSome known (λ xs. IsFile (length xs) (here xs 0) movie) → (track : ℕ)
+        → HasMore ids (most_samples len) movie track → IfSome known (HasManyOf ids track)
+    by None measured opened track more = tt
+    by (Some xs) measured opened track more =
+        (movie, (opened, subst (λ k. HasMore ids (most_samples k) movie track) measured more))

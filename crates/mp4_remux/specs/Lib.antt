@@ -10,3 +10,4 @@ pub mod References
 pub mod Remuxed
 pub mod Same
 pub mod Splice
+pub mod Why

@@ -1,7 +1,7 @@
 //! Whether every sample of a file that was written is that of another.
 
 ghost use Rattle.std.specs.Prelude.{◌≡◌, ◌↔◌, ◌≤◌, ◌<◌, ◌-◌, ◌^◌, ℕ, Bool, Option, Some, length, option_map, slice_get};
-ghost use Rattle.std.specs.Prelude.{IfErr, IfOk, IfSome, Ok, OnOk, IsTrue};
+ghost use Rattle.std.specs.Prelude.{◌∷◌, [], IfErr, IfOk, IfSome, Ok, OnOk, IsTrue};
 ghost use Rattle.mp4_codec.specs.Cursor.{here};
 ghost use Rattle.mp4_codec.specs.declared.error.Error.TheVariants.{OutOfMemory};
 ghost use Rattle.mp4_media.specs.FileBoxes.{opened_movie};
@@ -11,6 +11,8 @@ ghost use Rattle.mp4_media.specs.Reading.{sample_in, sample_there};
 ghost use Rattle.mp4_samples.specs.Samples.{TimedSample};
 ghost use Rattle.mp4_remux.specs.Errors.{IsNamed, IsRefusalOf, MayRefuse, SaysFault, SaysOther, TakesMemory};
 ghost use Rattle.mp4_source.specs.Source.{HasPart};
+ghost use Rattle.mp4_remux.specs.Named.{HasManyOf, NamesBy, SaysMany};
+ghost use Rattle.mp4_remux.specs.Why.{HasMore, HasSample, HasSamples};
 ghost use Rattle.mp4_remux.specs.Remuxed.{AreOthers, IsChecked, IsNoFile, IsOnlyFile, IsSameNumber, IsSameTrack};
 
 use crate::error::RemuxError;
@@ -34,6 +36,7 @@ fn open_file<S: ByteSource + Drop>(alloc: Global, source: S) -> Result<Mp4File<S
     ensures only { IfOk result (λ f. IsOnlyFile (S.contents source) (opened_movie f.movie)) }
     ensures memory { TakesMemory (S.contents source) result }
     ensures room { OnOk result (HasPart (S.contents source) 0 8) }
+    ensures many { IfErr result (NamesBy (λ _ _. ⊥)) }
 {
     let mut source = source;
     let len = match source.len() {
@@ -55,6 +58,7 @@ fn open_written<S: ByteSource + Drop>(alloc: Global, source: S) -> Result<Mp4Fil
     ensures refused { IfErr result (IsRefusalOf ⊥ (MayRefuse (S.contents source) (S.can_refuse source))) }
     ensures opens { IfErr result (λ e. SaysOther e → IsNoFile (S.contents source)) }
     ensures only { IfOk result (λ f. IsOnlyFile (S.contents source) (opened_movie f.movie)) }
+    ensures many { IfErr result (NamesBy (λ _ _. ⊥)) }
 {
     match open_file(alloc, source) {
         Ok(file) => Ok(file),
@@ -80,6 +84,7 @@ fn read_written<S: ByteSource + Drop>(
         (IsRefusalOf ⊥ (MayRefuse (S.contents after.old.source) (S.can_refuse after.old.source))) }
     ensures other { IfErr result (λ e. SaysOther e → IfSome (S.contents after.old.source) (λ ys.
         (o : Option TimedSample) → sample_in ys after.old.movie.tracks track_id k ≡ Ok o → ⊥)) }
+    ensures many { IfErr result (NamesBy (λ _ _. ⊥)) }
 {
     match after.read_sample_into(track_id, k, buffer) {
         Ok(sample) => Ok(sample),
@@ -132,6 +137,8 @@ fn check_sample<S: ByteSource + Drop, T: ByteSource + Drop>(
     ensures other { IfErr result (λ e. SaysOther e → IfSome (S.contents before.old.source) (λ xs.
         IfSome (T.contents after.old.source) (λ ys. (there : Bool) → IsSameNumber xs ys (opened_movie before.old.movie)
         (opened_movie after.old.movie) track_id k there → ⊥))) }
+    ensures was { IfOk result (λ there. IsTrue there → HasSample (opened_movie before.old.movie) track_id k) }
+    ensures many { IfErr result (NamesBy (λ _ _. ⊥)) }
 {
     let kept = before.read_sample_into(track_id, k, read)?;
     let moved = read_written(after, track_id, k, written)?;
@@ -180,6 +187,8 @@ fn count_checked<S: ByteSource + Drop, T: ByteSource + Drop>(
     ensures other { IfErr result (λ e. SaysOther e → IfSome (S.contents before.old.source) (λ xs.
         IfSome (T.contents after.old.source) (λ ys. IsSameTrack xs ys (opened_movie before.old.movie)
         (opened_movie after.old.movie) track_id → ⊥))) }
+    ensures counted { IfOk result (λ count. HasSamples (opened_movie before.old.movie) track_id count) }
+    ensures many { IfErr result (SaysMany (HasMore (track_id ∷ []) most (opened_movie before.old.movie))) }
 {
     let count = before.sample_count(track_id)?;
     let Ok(written_count) = after.sample_count(track_id) else {
@@ -211,8 +220,8 @@ fn count_checked<S: ByteSource + Drop, T: ByteSource + Drop>(
 /// Refused as [`Mp4File::open`] and [`Mp4File::read_sample_into`] of the file before, as `TrakNotFound` for an id that
 /// it doesn't have, and: `OtherTracks` where the written file doesn't open, or has other tracks, or one with more or
 /// fewer samples; `Differs` where a sample is another, or can't be read there; `TooManySamples` where the tracks have
-/// more than the file before has bytes. `Read` where the source of the file before refuses, `Write` where that of the
-/// written file does.
+/// more than the file before has bytes, or than 4,294,967,294. `Read` where the source of the file before refuses,
+/// `Write` where that of the written file does.
 pub fn check_samples<S: ByteSource + Drop, T: ByteSource + Drop>(
     alloc: Global,
     before: S,
@@ -226,6 +235,7 @@ pub fn check_samples<S: ByteSource + Drop, T: ByteSource + Drop>(
     ensures fault { SaysFault (S.contents before) (S.can_refuse before) result }
     ensures other { IfErr result (λ e. SaysOther e → AreOthers (S.contents before) (T.contents after) ids.now) }
     ensures memory { TakesMemory (S.contents before) result }
+    ensures many { IfErr result (SaysMany (λ track. IfSome (S.contents before) (HasManyOf ids.now track))) }
 {
     let mut before = open_file(alloc, before)?;
     let mut after = open_written(alloc, after)?;

@@ -1,6 +1,10 @@
 //! The data of samples, closed up: what lies between it is left out.
 
-ghost use Rattle.std.specs.Prelude.{◌<◌, ◌≤◌, ◌-◌, ◌^◌, IfOk};
+ghost use Rattle.std.specs.Prelude.{◌<◌, ◌≤◌, ◌-◌, ◌^◌, ◌∷◌, [], IfErr, IfOk};
+ghost use Rattle.mp4_media.specs.FileBoxes.{opened_movie};
+ghost use Rattle.mp4_media.specs.MovieTracks.{AreTracks};
+ghost use Rattle.mp4_remux.specs.Named.{IsWhy};
+ghost use Rattle.mp4_remux.specs.Why.{HasSamples};
 
 use crate::layout_error::LayoutError;
 use crate::moves::Move;
@@ -54,7 +58,10 @@ fn push_track(
     extents: &mut Vec<Extent>,
 ) -> Result<u32, LayoutError>
     requires most { most < 2 ^ 32 - 1 }
+    requires tracks { AreTracks movie.now.moov movie.now.moofs movie.now.moof_places movie.now.tracks }
     ensures few { IfOk result (λ count. count ≤ most) }
+    ensures counted { IfOk result (λ count. HasSamples (opened_movie movie.now) track_id count) }
+    ensures why { IfErr result (IsWhy (track_id ∷ []) most (opened_movie movie.now)) }
 {
     let mut k = 0;
     while k <= most {
@@ -82,6 +89,8 @@ pub(crate) fn data_of(
     most: u32,
 ) -> Result<Vec<Extent>, LayoutError>
     requires most { most < 2 ^ 32 - 1 }
+    requires tracks { AreTracks movie.now.moov movie.now.moofs movie.now.moof_places movie.now.tracks }
+    ensures why { IfErr result (IsWhy ids.now most (opened_movie movie.now)) }
 {
     let mut extents = Vec::new(alloc);
     let mut left = most;

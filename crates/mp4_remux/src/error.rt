@@ -30,7 +30,7 @@ pub enum RemuxError {
     #[error("a box {0} at byte {1} says places of the file, which would be wrong")]
     SaysPlaces(BoxType, u64),
     /// The track with this id has more samples than are compared: with those of the tracks before it, more than the
-    /// file has bytes.
+    /// file has bytes, or more than 4,294,967,294.
     #[error("track {0} has more samples than the file has bytes")]
     TooManySamples(u32),
     /// A box of this type, which begins at this byte, says something of samples that the tables which are made of

@@ -3,7 +3,7 @@
 ghost use Rattle.std.specs.Prelude.{◌≡◌, IfSome, IfErr, IfOk};
 ghost use Rattle.mp4_source.specs.Answers.{IsLength};
 ghost use Rattle.mp4_remux.specs.Errors.{IsRefusalOf, MayRefuse};
-ghost use Rattle.mp4_remux.specs.Named.{EndsAt, NamesBox, NamesBy};
+ghost use Rattle.mp4_remux.specs.Named.{AreTwo, EndsAt, NamesBox, NamesBy, SaysTwice};
 ghost use Rattle.mp4_media.specs.FileGrammar.{between};
 ghost use Rattle.mp4_remux.specs.Front.{AreBoxes, IsBoxOf};
 ghost use Rattle.mp4_remux.specs.Gathered.{IsFrameOf};
@@ -19,17 +19,19 @@ use std::alloc::{AllocError, Global};
 
 /// The only box of a type; `Twice` where there are two.
 pub(crate) fn only_box(boxes: &[TopBox], name: BoxType) -> Result<Option<TopBox>, RemuxError>
-    ensures names { IfErr result (NamesBy (λ _ _. ⊥)) }
+    ensures names { IfErr result (SaysTwice (λ n. (n ≡ name) × AreTwo boxes.now n)) }
     ensures refused { IfErr result (IsRefusalOf ⊥ ⊥) }
 {
     let mut found: Option<TopBox> = None;
-    for one in boxes {
-        if one.name == name {
-            if let Some(_) = found {
-                return Err(RemuxError::Twice(name));
-            }
-            found = Some(*one);
+    for i in 0..boxes.len() {
+        let one = boxes[i];
+        if !is_equal(&one.name, &name) {
+            continue;
         }
+        if let Some(_) = found {
+            return Err(RemuxError::Twice(name));
+        }
+        found = Some(one);
     }
     Ok(found)
 }

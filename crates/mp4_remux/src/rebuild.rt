@@ -1,6 +1,6 @@
 //! A movie of some of its tracks, and one whose fragments are gathered.
 
-ghost use Rattle.std.specs.Prelude.{◌≡◌, ◌≤◌, ◌<◌, ◌-◌, ◌^◌, ◌++◌, ◌↔◌, ℕ, List, [], length, None};
+ghost use Rattle.std.specs.Prelude.{◌≡◌, ◌≤◌, ◌<◌, ◌-◌, ◌^◌, ◌++◌, ◌∷◌, ◌↔◌, ℕ, List, [], length, None};
 ghost use Rattle.std.specs.Prelude.{IfSome, IfErr, IfOk, OnOk, IsTrue, IsFalse};
 ghost use Rattle.mp4_codec.specs.Cursor.{here};
 ghost use Rattle.mp4_media.specs.FileBoxes.{opened_movie};
@@ -10,7 +10,8 @@ ghost use Rattle.mp4_remux.specs.Gathered.{BeginsWith, HasMoreThanTables, Writes
 ghost use Rattle.mp4_remux.specs.Gathered.{WritesRebuilt};
 ghost use Rattle.mp4_remux.specs.Headers.{changed_by, made_of};
 ghost use Rattle.mp4_remux.specs.Kept.{IsKept, tracks};
-ghost use Rattle.mp4_remux.specs.Named.{NamesBox};
+ghost use Rattle.mp4_remux.specs.Named.{IsWhy, NamesBox, SaysNone};
+ghost use Rattle.mp4_remux.specs.Why.{AreKept, most_samples};
 ghost use Rattle.mp4_remux.specs.References.{references_in};
 ghost use Rattle.mp4_remux.specs.declared.made.Made.TheVariants.{Tables};
 ghost use Rattle.mp4_remux.specs.Splice.{spliced};
@@ -69,6 +70,8 @@ fn track_edit(
     most: u32,
 ) -> Result<TrackEdit, LayoutError>
     requires most { most < 2 ^ 32 - 1 }
+    requires tracks { AreTracks movie.now.moov movie.now.moofs movie.now.moof_places movie.now.tracks }
+    ensures why { IfErr result (IsWhy (trak.now.tkhd.track_id ∷ []) most (opened_movie movie.now)) }
 {
     if !has_fragments(movie) {
         return Ok(TrackEdit::Moved);
@@ -100,13 +103,15 @@ fn edit_of(
     most: u32,
 ) -> Result<MovieEdit, LayoutError>
     requires most { most < 2 ^ 32 - 1 }
+    requires tracks { AreTracks movie.now.moov movie.now.moofs movie.now.moof_places movie.now.tracks }
+    ensures why { IfErr result (IsWhy ids.now most (opened_movie movie.now)) }
 {
     let mut edit = MovieEdit::of_offsets(alloc);
     let mut duration = 0;
     let mut kept = 0;
     for trak in movie.moov.traks.as_slice() {
         let mut one = TrackEdit::Dropped;
-        if ids.get(kept) == Some(&trak.tkhd.track_id) {
+        if kept < ids.len() && ids[kept] == trak.tkhd.track_id {
             one = track_edit(alloc, movie, trak, moves, most)?;
             kept += 1;
         }
@@ -209,6 +214,7 @@ fn made_bytes(
     ensures kept { IfOk result (λ x. IfSome x (λ made. (movie : List ℕ) × (made.items ≡ movie ++ header.now)
         × ((length movie ≡ movie_len.new) × (IsKept (changed_by keeps.now.what) tracks frame.now.movie_bytes.items movie
         × (references_in movie keeps.now.ids.now ≡ keeps.now.references.now))))) }
+    ensures why { IfErr result SaysNone }
 {
     let mut made = edited(alloc, &frame.movie_bytes, edit, moves)?;
     let len = made.len() as u64;
@@ -234,6 +240,7 @@ fn plan_data(
 ) -> Result<(Vec<u8>, Vec<Piece>), LayoutError>
     ensures begins { IfOk result (λ x. BeginsWith keeps.now.what keeps.now.ids.now keeps.now.references.now
         frame.now.file_type frame.now.movie_bytes.items x.0.items x.1.items) }
+    ensures why { IfErr result SaysNone }
 {
     let header = data_header(alloc, len_of(extents))?;
     let mut movie_len = frame.movie_bytes.len() as u64;
@@ -265,9 +272,11 @@ fn plan(
     keeps: &Keeps,
     len: u64,
 ) -> Result<Layout, LayoutError>
+    requires { AreTracks movie.now.moov movie.now.moofs movie.now.moof_places movie.now.tracks }
     ensures source_len { IfOk result (λ l. l.source_len ≡ len) }
     ensures begins { IfOk result (λ l. BeginsWith keeps.now.what keeps.now.ids.now keeps.now.references.now
         frame.now.file_type frame.now.movie_bytes.items l.made.items l.pieces.items) }
+    ensures why { IfErr result (IsWhy keeps.now.ids.now (most_samples len) (opened_movie movie.now)) }
 {
     let most = most_samples(len);
     let extents = data_of(alloc, movie, keeps.ids, len, most)?;
@@ -294,6 +303,7 @@ fn write_chosen<S: ByteSource + Drop, K: ByteSink>(
     requires len { IsLength (S.contents source) len }
     requires tracks { AreTracks movie.now.moov movie.now.moofs movie.now.moof_places movie.now.tracks }
     requires opened { IfSome (S.contents source) (λ xs. IsFile (length xs) (here xs 0) (opened_movie movie.now)) }
+    requires kept { AreKept (opened_movie movie.now) ids.now }
     ensures written { IfOk result (λ gone. IfSome (S.contents source) (λ xs. WritesRebuilt xs (opened_movie movie.now)
         all.now ids.now gone.items (K.contents sink.old) (K.contents sink.new))) }
     ensures names { IfErr result (NamesBox (S.contents source)) }

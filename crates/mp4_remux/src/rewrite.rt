@@ -14,6 +14,7 @@ ghost use Rattle.mp4_remux.specs.Named.{NamesBox, NamesBy};
 ghost use Rattle.mp4_remux.specs.declared.error.RemuxError.TheVariants.{Mp4};
 ghost use Rattle.mp4_codec.specs.declared.error.Error.TheVariants.{OutOfMemory};
 ghost use Rattle.mp4_source.specs.Source.{HasPart};
+ghost use Rattle.mp4_remux.specs.Why.{AreKept};
 ghost use Rattle.mp4_remux.specs.Remuxed.{IsNoFile, IsOnlyFile, WritesRemuxed};
 ghost use Rattle.mp4_remux.specs.Splice.{spliced};
 
@@ -101,6 +102,7 @@ pub(crate) fn write_layout<S: ByteSource + Drop, K: ByteSink>(
     requires tracks { AreTracks before.now.moov before.now.moofs before.now.moof_places before.now.tracks }
     requires opened { IfSome (S.contents source) (λ xs.
         IsFile (length xs) (here xs 0) (opened_movie before.now)) }
+    requires kept { AreKept (opened_movie before.now) ids.now }
     ensures written { OnOk result (IfSome (S.contents source) (λ xs.
         WritesRemuxed xs (spliced xs layout.now.made.items layout.now.pieces.items) (opened_movie before.now) made
         ids.now (K.contents sink.old) (K.contents sink.new))) }

@@ -1,16 +1,18 @@
 //! Whether every sample is read as before.
 
-ghost use Rattle.std.specs.Prelude.{◌≡◌, ◌↔◌, ◌-◌, ◌<◌, ◌≤◌, ◌^◌, ℕ, [], Some, Ok, IfOk, OnOk, IsTrue};
-ghost use Rattle.std.specs.Prelude.{is_some, option_map, slice_get};
+ghost use Rattle.std.specs.Prelude.{◌≡◌, ◌↔◌, ◌-◌, ◌<◌, ◌≤◌, ◌^◌, ◌∷◌, ℕ, [], Some, Ok, IfErr, IfOk, IfSome};
+ghost use Rattle.std.specs.Prelude.{OnOk, IsTrue, is_some, option_map, slice_get};
 ghost use Rattle.mp4_boxes.specs.declared.trak.TrakBox.{TrakBox};
 ghost use Rattle.mp4_samples.specs.Places.{place_of};
 ghost use Rattle.mp4_media.specs.FileBoxes.{opened_movie};
 ghost use Rattle.mp4_media.specs.MovieTracks.{AreTracks};
 ghost use Rattle.mp4_remux.specs.Headers.{IsShownUntil};
+ghost use Rattle.mp4_remux.specs.Named.{IsWhy, SaysNone};
 ghost use Rattle.mp4_remux.specs.Reads.{place_in};
 ghost use Rattle.mp4_remux.specs.Remuxed.{ids_of};
 ghost use Rattle.mp4_remux.specs.declared.made.Made.TheVariants.{Tables};
 ghost use Rattle.mp4_remux.specs.Same.{IsSamePlace, IsNumberAsBefore, IsTrackAsBefore};
+ghost use Rattle.mp4_remux.specs.Why.{HasSample, HasSamples, most_samples};
 
 use crate::layout::Layout;
 use crate::layout_error::LayoutError;
@@ -53,6 +55,8 @@ fn check_sample(
     ensures same { IfOk result (λ p. IsNumberAsBefore layout.now.source_len layout.now.made.items
         layout.now.pieces.items (opened_movie before.now) (opened_movie after.now) track_id k (is_some p)) }
     ensures there { IfOk result (λ p. place_in (opened_movie after.now) track_id k ≡ Ok (option_map place_of p)) }
+    ensures was { IfOk result (λ p. IfSome p (λ _. HasSample (opened_movie before.now) track_id k)) }
+    ensures why { IfErr result SaysNone }
 {
     let Some(kept) = before.place(track_id, k)? else {
         return match after.place(track_id, k)? {
@@ -83,7 +87,10 @@ pub(crate) fn place_of_any(
     movie: &Movie,
     track_id: u32,
     k: u32,
-) -> mp4_media::Result<Option<SamplePlace>> {
+) -> mp4_media::Result<Option<SamplePlace>>
+    requires { AreTracks movie.now.moov movie.now.moofs movie.now.moof_places movie.now.tracks }
+    ensures { IfOk result (λ p. IfSome p (λ s. place_in (opened_movie movie.now) track_id k ≡ Ok (Some (place_of s)))) }
+{
     let place = movie.place(track_id, k);
     if let Err(_) = place {
         if k == 1 && movie.sample_count(track_id)? == 0 {
@@ -118,6 +125,8 @@ fn count_same(
     ensures end { IfOk result (λ same. same.end < 2 ^ 64 - 1
         → IsShownUntil (opened_movie after.now) track_id same.end) }
     ensures few { IfOk result (λ same. same.count ≤ most) }
+    ensures counted { IfOk result (λ same. HasSamples (opened_movie before.now) track_id same.count) }
+    ensures why { IfErr result (IsWhy (track_id ∷ []) most (opened_movie before.now)) }
 {
     let count = before.sample_count(track_id)?;
     if after.sample_count(track_id)? != count {
@@ -156,6 +165,8 @@ fn check_track(
     ensures media { OnOk result (made ≡ Tables
         → IsShownUntil (opened_movie after.now) trak.now.tkhd.track_id trak.now.mdia.mdhd.duration) }
     ensures few { IfOk result (λ count. count ≤ most) }
+    ensures counted { IfOk result (λ count. HasSamples (opened_movie before.now) trak.now.tkhd.track_id count) }
+    ensures why { IfErr result (IsWhy (trak.now.tkhd.track_id ∷ []) most (opened_movie before.now)) }
 {
     let same = count_same(before, after, layout, trak.tkhd.track_id, most)?;
     if !made.has_tables() {
@@ -186,16 +197,17 @@ fn has_ids(movie: &Movie, ids: &[u32]) -> bool
 }
 
 /// How many samples of a file of so many bytes are compared at most: as many as it has bytes, so that a small file
-/// takes no long time.
+/// takes no long time, and no more than `MOST_SAMPLES`.
 pub(crate) fn most_samples(len: u64) -> u32
-    ensures { result < 2 ^ 32 - 1 }
+    ensures few { result < 2 ^ 32 - 1 }
+    ensures most { result ≡ most_samples len }
 {
     len.min(MOST_SAMPLES) as u32
 }
 
 /// Checks that a movie which is opened from a layout has tracks of these ids and no fragments, and that each is read as
 /// in its file; and where tables were made, that its media last until all samples have been shown. `SameIds` where two
-/// of that have one id; `TooManySamples` where the samples are more than the file has bytes.
+/// of that have one id; `TooManySamples` where the samples are more than `most_samples` says.
 pub(crate) fn check_same(
     before: &Movie,
     after: &Movie,
@@ -212,6 +224,7 @@ pub(crate) fn check_same(
         (opened_movie before.now) (opened_movie after.now) t.tkhd.track_id) }
     ensures media { OnOk result (made ≡ Tables → (t : TrakBox) (i : ℕ) → slice_get after.now.moov.traks i ≡ Some t
         → IsShownUntil (opened_movie after.now) t.tkhd.track_id t.mdia.mdhd.duration) }
+    ensures why { IfErr result (IsWhy ids.now (most_samples layout.now.source_len) (opened_movie before.now)) }
 {
     if before.tracks().len() < before.moov.traks.len() {
         return Err(LayoutError::SameIds);

@@ -1,6 +1,9 @@
 //! The tables of a track, made of its samples with the fewest entries (ISO/IEC 14496-12, 8.6 and 8.7).
 
-ghost use Rattle.std.specs.Prelude.{◌<◌, ◌-◌, ◌^◌};
+ghost use Rattle.std.specs.Prelude.{◌≡◌, ◌+◌, ◌<◌, ◌-◌, ◌^◌, ◌∷◌, [], min, IfErr, OnOk};
+ghost use Rattle.mp4_media.specs.FileBoxes.{opened_movie};
+ghost use Rattle.mp4_media.specs.MovieTracks.{AreTracks};
+ghost use Rattle.mp4_remux.specs.Named.{IsWhy};
 
 use crate::descriptions::Descriptions;
 use crate::layout_error::LayoutError;
@@ -52,7 +55,9 @@ pub(crate) struct MadeTables {
 }
 
 impl SampleTables {
-    fn new(alloc: Global) -> Self {
+    fn new(alloc: Global) -> Self
+        ensures { result.duration ≡ 0 }
+    {
         SampleTables {
             durations: Vec::new(alloc),
             rendering_offsets: Vec::new(alloc),
@@ -66,7 +71,10 @@ impl SampleTables {
     }
 
     /// Adds sample `k`, the one after those that are there, whose data begins at this place.
-    fn push(&mut self, k: u32, sample: &SamplePlace, place: u64, description: u32) -> Put {
+    fn push(&mut self, k: u32, sample: &SamplePlace, place: u64, description: u32) -> Put
+        ensures { OnOk result
+            (self.new.duration ≡ min (self.old.duration + sample.now.duration) 18446744073709551615) }
+    {
         push_duration(&mut self.durations, sample.duration)?;
         push_offset(&mut self.rendering_offsets, sample.rendering_offset)?;
         self.sizes.push(sample.size)?;
@@ -290,6 +298,8 @@ pub(crate) fn tables_of(
     most: u32,
 ) -> Result<MadeTables, LayoutError>
     requires most { most < 2 ^ 32 - 1 }
+    requires tracks { AreTracks movie.now.moov movie.now.moofs movie.now.moof_places movie.now.tracks }
+    ensures why { IfErr result (IsWhy (track_id ∷ []) most (opened_movie movie.now)) }
 {
     let mut descriptions = Descriptions::of(alloc, movie.track(track_id)?, &movie.moov.mvex)?;
     let mut tables = SampleTables::new(alloc);

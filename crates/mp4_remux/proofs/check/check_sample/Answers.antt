@@ -2,6 +2,7 @@ use Rattle.std.proofs.Common.{◌∙◌, Err, ap}
 use Rattle.std.proofs.lemmas.Result.{err_from_is_err_and}
 use Rattle.mp4_remux.specs.declared.error.RemuxError.{RemuxError}
 use Rattle.mp4_remux.proofs.Checking.{answered_otherwise, both_read, none_read, refused_after, same_there}
+use Rattle.mp4_remux.proofs.Counting.{read_has_sample}
 use Rattle.mp4_remux.proofs.check.check_sample.Goals as goal
 
 pub returns-in-None-clause-same : goal.returns-in-None-clause-same
@@ -18,6 +19,11 @@ returns-clause-same g c =
     c.requires.before c.requires.after c.args.k c.in-Some.kept c.in-Some-moved-2.moved _ _
     (rw c.in-Some.is at c.in_ok-kept.ensures.answer) (rw c.in-Some-moved-2.is at c.in_ok-moved.ensures.answer)
     (rw (c.as_slice.ensures.value, c.as_slice-2.ensures.value) at (c.is_same_sample.ensures.0 cc))
+
+pub returns-clause-was : goal.returns-clause-was
+returns-clause-was g c = λ _.
+    read_has_sample c.args.before.now.movie c.requires.before c.args.before.now.len c.args.track_id c.args.k
+    c.in-Some.kept (rw c.in-Some.is at c.in_ok-kept.ensures.place)
 
 pub returns-in_err-moved-clause-other : goal.returns-in_err-moved-clause-other
 returns-in_err-moved-clause-other g c =

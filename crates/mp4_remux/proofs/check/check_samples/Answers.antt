@@ -1,9 +1,11 @@
-use Rattle.std.proofs.Common.{arith, ◌∙◌, Err, IfSome, ap, sym, length}
+use Rattle.std.proofs.Common.{arith, ◌+◌, ◌∙◌, Err, IfSome, ap, sym, length}
 use Rattle.std.specs.Prelude.{slice_index_or}
 use Rattle.mp4_media.specs.declared.movie.Movie.{Movie}
 use Rattle.mp4_media.specs.FileBoxes.{opened_movie}
 use Rattle.mp4_remux.specs.Remuxed.{IsSameTrack}
 use Rattle.mp4_remux.proofs.Sameness.{got_within}
+use Rattle.mp4_remux.proofs.Counting.{more_samples}
+use Rattle.mp4_remux.proofs.Naming.{many_known}
 use Rattle.mp4_remux.proofs.Checking.{checked, id_more, more_or_fewer, no_file_after, no_file_before, other_is_named}
 use Rattle.mp4_remux.proofs.Checking.{track_is_other}
 use Rattle.mp4_remux.proofs.Numbered.{at_index}
@@ -22,6 +24,16 @@ loop-i-preserved g c =
       upto = omega (arith, c.loop-i-test.true);
       few = omega (arith, inv.few);
       ids = inv.ids;
+      have = (
+        inv.have.0 + c.in_ok-left.field-0,
+        (
+          more_samples (opened_movie before.movie) c.args.ids.now c.loop-i.i inv.have.0 c.in_ok-left.field-0
+              (slice_index_or c.args.ids.now c.loop-i.i 0) inv.have.1.0
+              (at_index c.args.ids.now c.loop-i.i 0 (omega (arith, c.loop-i-test.true)))
+              (rw inv.movie at track.counted),
+          omega (arith, inv.have.1.1, track.few),
+        ),
+      );
       movie = track.movie ∙ inv.movie;
       movie_after = track.movie_after ∙ inv.movie_after;
       contents = track.contents ∙ inv.contents;
@@ -102,3 +114,15 @@ returns-then-len-ids-clause-other g c =
     λ _. more_or_fewer after.after.movie (g.S.ByteSource.contents c.args.before)
     (g.T.ByteSource.contents c.args.after) c.args.ids.now after.ensures.only
     (λ is. c.if-len-ids.true (c.len.ensures.value ∙ ap (λ (m : Movie). length m.moov.traks) c.deref.ensures ∙ is))
+
+pub returns-in_err-left-clause-many : goal.returns-in_err-left-clause-many
+returns-in_err-left-clause-many g c =
+    let p = err_from_is_err_and c.from_residual-in_err-left.result c.from_residual-in_err-left.ensures.1 in
+    let inv = c.loop-i.invariant in
+    let before = c.in_ok-before in
+    rw (p.1 ∙ ap (λ (e : RemuxError). Err e) p.2)
+    (many_known (g.S.ByteSource.contents c.args.before) before.before.len (opened_movie before.before.movie)
+    c.args.ids.now (slice_index_or c.args.ids.now c.loop-i.i 0) c.loop-i.left c.loop-i.i inv.have.0
+    (rw (before.ensures.contents, c.source_len.ensures.len) at c.source_len.ensures.value) before.ensures.file
+    (at_index c.args.ids.now c.loop-i.i 0 (omega (arith, c.loop-i-test.true))) inv.have.1.0 inv.have.1.1 _
+    (rw inv.movie at c.in_err-left.ensures.many))

@@ -1,6 +1,7 @@
-use Rattle.std.proofs.Common.{◌-◌, ◌≡◌, ◌≤◌, ◌<◌, ℕ, Some, IfSome, length, slice_get}
+use Rattle.std.proofs.Common.{◌-◌, ◌+◌, ◌≡◌, ◌≤◌, ◌<◌, ℕ, Some, IfSome, length, slice_get}
 use Rattle.mp4_media.specs.FileBoxes.{opened_movie}
 use Rattle.mp4_remux.specs.Remuxed.{IsSameTrack}
+use Rattle.mp4_remux.specs.Why.{HaveSamples, most_samples}
 use Rattle.mp4_remux.proofs.check.check_samples.Given as goal
 
 -- the tracks that were looked at are the same, and the files are as they were
@@ -9,6 +10,8 @@ invariant-loop-i g l = record {
   upto : l.i ≤ length l.ids;
   few : l.left < 4294967295;
   ids : l.ids ≡ l.fn.ids;
+  have : (n : ℕ) × (HaveSamples (opened_movie l.initial.before.movie) l.fn.ids l.i n
+      × (most_samples l.initial.before.len ≡ l.left + n));
   movie : l.before.movie ≡ l.initial.before.movie;
   movie_after : l.after.movie ≡ l.initial.after.movie;
   contents : g.S.ByteSource.contents l.before.source ≡ g.S.ByteSource.contents l.initial.before.source;

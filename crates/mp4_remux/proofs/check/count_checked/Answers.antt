@@ -1,4 +1,7 @@
-use Rattle.std.proofs.Common.{arith, Ok, Err, ap, refl, ◌∙◌}
+use Rattle.std.proofs.Common.{arith, Ok, Err, ap, inr, refl, ◌∙◌}
+use Rattle.mp4_media.specs.FileBoxes.{opened_movie}
+use Rattle.mp4_remux.proofs.Counting.{past_most}
+use Rattle.mp4_remux.proofs.Naming.{many_anyhow}
 use Rattle.std.proofs.lemmas.Result.{err_from_is_err_and}
 use Rattle.mp4_remux.specs.declared.error.RemuxError.{RemuxError}
 use Rattle.mp4_remux.proofs.Checking.{counted_otherwise, empty_is_read, got_ok, next_is_other, one_more}
@@ -38,6 +41,7 @@ loop-k-preserved g c =
           (g.S.ByteSource.contents c.args.before.now.source) (g.T.ByteSource.contents c.args.after.now.source)
           c.loop-k.k inv.same
           (rw (inv.movie, inv.movie_after, inv.contents, inv.contents_after, c.if-not-branch.false) at sample.same);
+      have = inr (rw inv.movie at (sample.was c.if-not-branch.false));
       id = inv.id;
       movie = sample.movie ∙ inv.movie;
       movie_after = sample.movie_after ∙ inv.movie_after;
@@ -76,3 +80,14 @@ returns-in_err-check_sample-clause-other g c =
     c.requires.before c.requires.after c.loop-k.k c.in_ok-count.count inv.same was c.if-count-eq0.false
     (rw (inv.movie, inv.movie_after, inv.contents, inv.contents_after)
     at (c.in_err-check_sample.ensures.other other)))
+
+pub returns-in_err-check_sample-clause-many : goal.returns-in_err-check_sample-clause-many
+returns-in_err-check_sample-clause-many g c =
+    let p = err_from_is_err_and c.from_residual-in_err-check_sample.result
+    c.from_residual-in_err-check_sample.ensures.1 in
+    rw (p.1 ∙ ap (λ (e : RemuxError). Err e) p.2) (many_anyhow _ _ c.in_err-check_sample.ensures.many)
+
+pub returns-clause-many : goal.returns-clause-many
+returns-clause-many g c =
+    past_most (opened_movie c.args.before.now.movie) c.args.track_id c.loop-k.k c.args.most c.loop-k.invariant.have
+    (omega (arith, c.loop-k-test.false))

@@ -1,4 +1,6 @@
 use Rattle.std.proofs.Common.{◌-◌, ◌+◌, ◌≡◌, ◌≤◌}
+use Rattle.mp4_media.specs.FileBoxes.{opened_movie}
+use Rattle.mp4_remux.specs.Why.{HasSamples}
 use Rattle.mp4_remux.proofs.Checking.{AreRead}
 use Rattle.mp4_remux.proofs.check.count_checked.Given as goal
 
@@ -9,6 +11,7 @@ invariant-loop-k g l = record {
   most : l.most ≡ l.fn.most;
   same : AreRead l.fn.before.movie l.fn.after.movie l.track_id (g.S.ByteSource.contents l.fn.before.source)
       (g.T.ByteSource.contents l.fn.after.source) l.k;
+  have : HasSamples (opened_movie l.fn.before.movie) l.fn.track_id l.k;
   id : l.track_id ≡ l.fn.track_id;
   movie : l.before.movie ≡ l.fn.before.movie;
   movie_after : l.after.movie ≡ l.fn.after.movie;

@@ -1,10 +1,15 @@
-use Rattle.std.proofs.Common.{◌-◌, ◌≤◌, ◌<◌, length}
+use Rattle.std.proofs.Common.{◌-◌, ◌+◌, ◌≡◌, ◌≤◌, ◌<◌, ℕ, length}
+use Rattle.mp4_media.specs.FileBoxes.{opened_movie}
+use Rattle.mp4_remux.specs.Why.{HaveSamples}
 use Rattle.mp4_remux.proofs.data.data_of.Given as goal
 
+-- the tracks that were looked at have the samples that aren't left
 abbrev pub invariant-loop-i : goal.invariant-loop-i
 invariant-loop-i l = record {
   upto : l.i ≤ length l.ids;
   few : l.left < 4294967295;
+  ids : l.ids ≡ l.fn.ids;
+  have : (n : ℕ) × (HaveSamples (opened_movie l.fn.movie) l.fn.ids l.i n × (l.fn.most ≡ l.left + n));
 }
 
 abbrev pub decreases-loop-i : goal.decreases-loop-i

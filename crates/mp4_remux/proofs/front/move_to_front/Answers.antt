@@ -3,6 +3,7 @@ use Rattle.mp4_media.specs.FileBoxes.{opened_movie}
 use Rattle.mp4_remux.proofs.Fronting.{writes_moved}
 use Rattle.std.proofs.lemmas.Result.{err_from_is_err_and}
 use Rattle.mp4_remux.specs.declared.error.RemuxError.{RemuxError}
+use Rattle.mp4_remux.proofs.Choosing.{are_all}
 use Rattle.mp4_remux.proofs.Faults.{moved_later, no_fault, no_file_to_move, passed_on, refused_anyhow, refused_unnamed}
 use Rattle.mp4_remux.specs.Front.{HasToMove}
 use Rattle.mp4_remux.proofs.front.move_to_front.Goals as goal
@@ -70,3 +71,7 @@ returns-clause-as_it_is g c =
     refused_anyhow (HasToMove (g.S.ByteSource.contents c.args.source)) c.write_layout.result
     (moved_later (g.S.ByteSource.contents c.args.source)
     (rw (c.in-Some.is, c.in_ok-source.ensures.contents) at c.in_ok-source-2.ensures.later))
+
+pub write_layout-requires-clause-kept : goal.write_layout-requires-clause-kept
+write_layout-requires-clause-kept g c =
+    are_all (opened_movie c.in_ok-source.before) _ (c.deref.ensures.value ∙ c.in_ok-ids.ensures.ids)

@@ -1,7 +1,7 @@
 use Rattle.std.proofs.Common.{◌∙◌, Err, ap}
 use Rattle.std.proofs.lemmas.Result.{err_from_is_err_and}
 use Rattle.mp4_remux.specs.declared.error.RemuxError.{RemuxError}
-use Rattle.mp4_remux.proofs.Naming.{names_as, one_of_known}
+use Rattle.mp4_remux.proofs.Naming.{names_known, one_of_known}
 use Rattle.mp4_remux.proofs.Fronting.{was_moved}
 use Rattle.mp4_remux.proofs.front.plan_moved.Goals as goal
 
@@ -25,5 +25,6 @@ returns-in_err-check_moved-clause-names g c =
     let p = err_from_is_err_and c.from_residual-in_err-check_moved.result
     c.from_residual-in_err-check_moved.ensures.1 in
     rw (p.1 ∙ ap (λ (e : RemuxError). Err e) p.2)
-    (names_as _ _ (one_of_known (g.S.ByteSource.contents c.args.source) c.args.boxes.now c.requires.boxes) _
+    (names_known (g.S.ByteSource.contents c.args.source) _
+    (one_of_known (g.S.ByteSource.contents c.args.source) c.args.boxes.now c.requires.boxes) _
     c.in_err-check_moved.ensures.names)

@@ -66,3 +66,10 @@ returns-clause-missing g c =
     none_missing (g.S.ByteSource.contents c.args.source) (g.S.ByteSource.can_refuse c.args.source)
     (opened_movie c.in_ok-source.movie) c.args.ids.now c.write_chosen.result c.in_ok-source.ensures.only
     c.in_ok-kept.ensures.there
+
+pub write_chosen-requires-clause-kept : goal.write_chosen-requires-clause-kept
+write_chosen-requires-clause-kept g c = (
+  c.args.ids.now,
+  c.deref-3.ensures.value ∙ c.in_ok-kept.ensures.ids
+      ∙ ap (kept_of c.args.ids.now) (c.deref.ensures.value ∙ c.in_ok-all.ensures.ids),
+)

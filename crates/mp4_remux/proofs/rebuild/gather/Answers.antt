@@ -4,6 +4,7 @@ use Rattle.mp4_remux.proofs.Rebuilding.{made_not_alone, not_alone, writes_as_it_
 use Rattle.mp4_remux.specs.Gathered.{HasMoreThanTables}
 use Rattle.std.proofs.lemmas.Result.{err_from_is_err_and}
 use Rattle.mp4_remux.specs.declared.error.RemuxError.{RemuxError}
+use Rattle.mp4_remux.proofs.Choosing.{are_all}
 use Rattle.mp4_remux.proofs.Faults.{no_fault, passed_on, refused_anyhow, refused_unnamed}
 use Rattle.mp4_remux.proofs.rebuild.gather.Goals as goal
 
@@ -66,3 +67,7 @@ returns-in_err-write_chosen-clause-as_it_is g c =
     c.from_residual-in_err-write_chosen.result
     (made_not_alone (g.S.ByteSource.contents c.args.source) (opened_movie c.in_ok-source.movie)
     (c.has_fragments.ensures.some cc) c.in_ok-source.ensures.only)
+
+pub write_chosen-requires-clause-kept : goal.write_chosen-requires-clause-kept
+write_chosen-requires-clause-kept g c =
+    are_all (opened_movie c.in_ok-source.movie) _ (c.deref-2.ensures.value ∙ c.in_ok-ids.ensures.ids)

@@ -2,6 +2,7 @@ use Rattle.std.proofs.Common.{◌≡◌, ◌∙◌, ℕ, List, Ok, Err, ap}
 use Rattle.std.proofs.lemmas.Result.{err_from_is_err_and}
 use Rattle.mp4_remux.specs.declared.error.RemuxError.{RemuxError}
 use Rattle.mp4_remux.proofs.Faults.{refused_layout}
+use Rattle.mp4_remux.proofs.Naming.{why_known}
 use Rattle.mp4_media.specs.FileBoxes.{opened_movie}
 use Rattle.mp4_remux.specs.References.{leaves_some, references_in}
 use Rattle.mp4_remux.proofs.Finding.{left_out_by, staying_by}
@@ -31,3 +32,10 @@ returns-in_err-layout-clause-refused g c =
     let p = err_from_is_err_and c.from_residual-in_err-layout.result c.from_residual-in_err-layout.ensures.1 in
     refused_layout _ _ c.in_err-layout.field-0.0 c.from_residual-in_err-layout.result
     (p.1 ∙ ap (λ (e : RemuxError). Err e) p.2)
+
+pub returns-in_err-layout-clause-names : goal.returns-in_err-layout-clause-names
+returns-in_err-layout-clause-names g c =
+    let p = err_from_is_err_and c.from_residual-in_err-layout.result c.from_residual-in_err-layout.ensures.1 in
+    rw (p.1 ∙ ap (λ (e : RemuxError). Err e) p.2)
+    (why_known (g.S.ByteSource.contents c.args.source) c.args.len (opened_movie c.args.movie.now) c.args.ids.now
+    c.requires.len c.requires.opened c.requires.kept _ c.in_err-layout.ensures.why)

@@ -6,6 +6,7 @@ use Rattle.mp4_codec.specs.Cursor.{here}
 use Rattle.mp4_media.specs.FileBoxes.{opened_movie}
 use Rattle.mp4_media.specs.FileGrammar.{IsFile}
 use Rattle.mp4_remux.proofs.HeaderLaws.{durations_of}
+use Rattle.mp4_remux.proofs.Naming.{why_known}
 use Rattle.mp4_remux.proofs.Rewriting.{on_ok, measured_after, same_splice, writes_remuxed}
 use Rattle.mp4_remux.proofs.rewrite.write_layout.Goals as goal
 
@@ -41,3 +42,10 @@ returns-in_err-check_same-clause-refused g c =
     let p = err_from_is_err_and c.from_residual-in_err-check_same.result c.from_residual-in_err-check_same.ensures.1 in
     refused_layout _ _ c.in_err-check_same.field-0.0 c.from_residual-in_err-check_same.result
     (p.1 ∙ ap (λ (e : RemuxError). Err e) p.2)
+
+pub returns-in_err-check_same-clause-names : goal.returns-in_err-check_same-clause-names
+returns-in_err-check_same-clause-names g c =
+    let p = err_from_is_err_and c.from_residual-in_err-check_same.result c.from_residual-in_err-check_same.ensures.1 in
+    rw (p.1 ∙ ap (λ (e : RemuxError). Err e) p.2)
+    (why_known (g.S.ByteSource.contents c.args.source) c.args.layout.now.source_len (opened_movie c.args.before.now)
+    c.args.ids.now c.requires.len c.requires.opened c.requires.kept _ c.in_err-check_same.ensures.why)

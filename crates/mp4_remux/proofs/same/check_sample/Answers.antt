@@ -23,6 +23,13 @@ returns-clause-same c =
     (rw c.in-Some.is at c.in_ok-kept.ensures) (rw c.in-Some-3.is at c.in_ok-moved.ensures)
     (c.if-not-is_same.ensures refl)
 
+pub returns-clause-was : goal.returns-clause-was
+returns-clause-was c = (
+  place_of c.in-Some.kept,
+  placed_there c.args.before.now c.requires.before c.args.track_id c.args.k
+      ∙ (rw c.in-Some.is at c.in_ok-kept.ensures),
+)
+
 pub returns-clause-there : goal.returns-clause-there
 returns-clause-there c =
     placed_there c.args.after.now c.requires.after c.args.track_id c.args.k

@@ -1,4 +1,8 @@
-use Rattle.std.proofs.Common.{◌+◌, ◌<◌, arith, Ok, ap, subst, sym, ◌∙◌}
+use Rattle.std.proofs.Common.{◌+◌, ◌<◌, arith, Ok, Err, ap, inr, subst, sym, ◌∙◌}
+use Rattle.std.proofs.lemmas.Result.{err_from_is_err_and}
+use Rattle.mp4_remux.specs.declared.layout_error.LayoutError.{LayoutError}
+use Rattle.mp4_remux.proofs.Counting.{past_most}
+use Rattle.mp4_remux.proofs.Naming.{why_anyhow}
 use Rattle.mp4_samples.specs.Places.{place_of}
 use Rattle.mp4_media.specs.FileBoxes.{opened_movie}
 use Rattle.mp4_remux.proofs.Sameness.{one_more, track_as_before, empty_track, counted_there}
@@ -28,6 +32,7 @@ loop-k-preserved c =
           one_more l.source_len l.made.items l.pieces.items c.args.before.now c.args.after.now c.args.track_id
           c.loop-k.k
           c.loop-k.invariant.same (rw c.in-Some.is at c.in_ok-sample.ensures.same);
+      have = inr (rw c.in-Some.is at c.in_ok-sample.ensures.was);
       shown =
           subst (λ n. n < 18446744073709551615
           → AreShown (opened_movie c.args.after.now) c.args.track_id (c.loop-k.k + 1) n) (sym c.max-end.ensures)
@@ -48,3 +53,13 @@ returns-then-is_nowhere-2-clause-end c = λ few.
     nothing_shown (opened_movie c.args.after.now) c.args.track_id
     (counted_there c.args.after.now c.requires.after c.args.track_id
     ∙ c.in_ok-sample_count.ensures ∙ ap Ok (c.if-branch-count.false ∙ c.if-count-eq0.true))
+
+pub returns-in_err-sample-clause-why : goal.returns-in_err-sample-clause-why
+returns-in_err-sample-clause-why c =
+    let p = err_from_is_err_and c.from_residual-in_err-sample.result c.from_residual-in_err-sample.ensures.1 in
+    rw (p.1 ∙ ap (λ (e : LayoutError). Err e) p.2) (why_anyhow _ _ _ _ c.in_err-sample.ensures.why)
+
+pub returns-clause-why : goal.returns-clause-why
+returns-clause-why c =
+    past_most (opened_movie c.args.before.now) c.args.track_id c.loop-k.k c.args.most c.loop-k.invariant.have
+    (omega (arith, c.loop-k-test.false))

@@ -2,6 +2,7 @@ use Rattle.std.proofs.Common.{◌-◌, ◌+◌, ◌≡◌, ◌≤◌, ◌<◌}
 use Rattle.mp4_media.specs.FileBoxes.{opened_movie}
 use Rattle.mp4_remux.proofs.Sameness.{AreAsBefore}
 use Rattle.mp4_remux.proofs.Showing.{AreShown}
+use Rattle.mp4_remux.specs.Why.{HasSamples}
 use Rattle.mp4_remux.proofs.same.count_same.Given as goal
 
 -- the numbers up to this one have the same samples, which have been shown at the end
@@ -11,6 +12,7 @@ invariant-loop-k l = record {
   most : l.most ≡ l.fn.most;
   same : AreAsBefore l.layout.source_len l.layout.made.items l.layout.pieces.items l.before l.after
       l.track_id l.k;
+  have : HasSamples (opened_movie l.before) l.track_id l.k;
   shown : l.end < 18446744073709551615 → AreShown (opened_movie l.after) l.track_id l.k l.end;
 }
 
