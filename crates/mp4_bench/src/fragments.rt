@@ -1,11 +1,8 @@
 //! Files of movie fragments.
 
-use crate::files::{put_file_type, put_movie_header, put_track};
-use crate::parts::{Names, Parts, SOUND, VIDEO};
-use crate::seek::{PICTURE, SEQUENCE};
+use crate::files::{put_file_type, put_movie_header, put_pieces, put_sound, put_video};
+use crate::parts::Parts;
 use crate::tables::Lists;
-use mp4_plain_movies::calls::Media;
-use mp4_plain_movies::listed_calls::{SMALL, STEREO};
 use mp4_plain_movies::plain_bytes::{begin_box, end_box, put, put_pair};
 use mp4_plain_movies::random::Random;
 use std::alloc::{AllocError, Global};
@@ -24,26 +21,8 @@ pub struct Shape {
     pub lists_all: bool,
 }
 
-/// The movie box of a file of fragments: two tracks without samples, and their defaults.
-fn put_movie(alloc: Global, bytes: &mut Vec<u8>, parts: &Parts) -> Result<(), AllocError> {
-    let movie = begin_box(bytes, b"moov")?;
-    put_movie_header(bytes)?;
-    let none = Lists::new(alloc);
-    let media = Media::Avc(SMALL, &SEQUENCE, &PICTURE);
-    let names = Names {
-        id: 1,
-        handler: VIDEO,
-        timescale: 1000,
-        duration: 0,
-    };
-    put_track(bytes, parts, &names, &media, &none)?;
-    let names = Names {
-        id: 2,
-        handler: SOUND,
-        timescale: 48000,
-        duration: 0,
-    };
-    put_track(bytes, parts, &names, &Media::Aac(STEREO), &none)?;
+/// The defaults of the fragments of two tracks.
+fn put_defaults(bytes: &mut Vec<u8>) -> Result<(), AllocError> {
     let extends = begin_box(bytes, b"mvex")?;
     for id in 1..=2 {
         bytes.extend_from_slice(b"\0\0\0\x20trex\0\0\0\0")?;
@@ -52,8 +31,32 @@ fn put_movie(alloc: Global, bytes: &mut Vec<u8>, parts: &Parts) -> Result<(), Al
         put(bytes, 0x10000)?;
     }
     end_box(bytes, extends);
+    Ok(())
+}
+
+/// The movie box of a file of fragments: two tracks without samples, and their defaults.
+fn put_movie(alloc: Global, bytes: &mut Vec<u8>, parts: &Parts) -> Result<(), AllocError> {
+    let none = Lists::new(alloc);
+    let movie = begin_box(bytes, b"moov")?;
+    put_movie_header(bytes)?;
+    put_video(bytes, parts, &none)?;
+    put_sound(bytes, parts, &none)?;
+    put_defaults(bytes)?;
     end_box(bytes, movie);
     Ok(())
+}
+
+/// A sample of a run; the answer is how many bytes it has.
+fn put_sample(bytes: &mut Vec<u8>, random: &mut Random, shape: &Shape) -> Result<u32, AllocError> {
+    let size = random.below(24).wrapping_add(shape.least);
+    if !shape.lists_all {
+        put(bytes, size)?;
+        return Ok(size);
+    }
+    put_pair(bytes, random.below(80), size)?;
+    let flags = random.below(2).wrapping_mul(0x10000);
+    put_pair(bytes, flags, random.below(160))?;
+    Ok(size)
 }
 
 /// A run of so many samples; the answer is how many bytes they have.
@@ -72,18 +75,7 @@ fn put_run(
     }
     let mut sum = 0u32;
     for _ in 0..count {
-        let size = random.below(24).wrapping_add(shape.least);
-        sum = sum.wrapping_add(size);
-        if shape.lists_all {
-            put_pair(bytes, random.below(80), size)?;
-            put_pair(
-                bytes,
-                random.below(2).wrapping_mul(0x10000),
-                random.below(160),
-            )?;
-        } else {
-            put(bytes, size)?;
-        }
+        sum = sum.wrapping_add(put_sample(bytes, random, shape)?);
     }
     end_box(bytes, start);
     Ok(sum)
@@ -100,10 +92,13 @@ fn put_part(
     shape: &Shape,
 ) -> Result<u32, AllocError> {
     let start = begin_box(bytes, b"traf")?;
-    bytes.extend_from_slice(b"\0\0\0\x10tfhd\0\x02\0\0")?;
-    put(bytes, id)?;
-    bytes.extend_from_slice(b"\0\0\0\x14tfdt\x01\0\0\0")?;
-    bytes.extend_from_slice(&time.to_be_bytes())?;
+    let headers: [&[u8]; 4] = [
+        b"\0\0\0\x10tfhd\0\x02\0\0",
+        &id.to_be_bytes(),
+        b"\0\0\0\x14tfdt\x01\0\0\0",
+        &time.to_be_bytes(),
+    ];
+    put_pieces(bytes, &headers)?;
     let sum = put_run(bytes, random, count, offset, shape)?;
     end_box(bytes, start);
     Ok(sum)
