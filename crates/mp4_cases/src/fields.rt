@@ -73,10 +73,10 @@ impl Row {
     /// Reads an unsigned number; false where the word names none.
     fn unsigned(&mut self, fields: &mut Fields, word: &str) -> Result<bool, Error> {
         match word {
-            "u8" => self.number(fields.u8(), put_u8),
-            "u16" => self.number(fields.u16(), put_u16),
-            "u24" => self.number(fields.u24(), put_u24),
-            "u32" => self.number(fields.u32(), put_u32),
+            "u8" => self.number(fields.u8(), |out, number| put_u8(out, number)),
+            "u16" => self.number(fields.u16(), |out, number| put_u16(out, number)),
+            "u24" => self.number(fields.u24(), |out, number| put_u24(out, number)),
+            "u32" => self.number(fields.u32(), |out, number| put_u32(out, number)),
             _ => Ok(false),
         }
     }
@@ -91,10 +91,10 @@ impl Row {
     /// Reads another number; false where the word names none.
     fn other_number(&mut self, fields: &mut Fields, word: &str) -> Result<bool, Error> {
         match word {
-            "u64" => self.number(fields.u64(), put_u64),
-            "i16" => self.number(fields.i16(), put_i16),
-            "i32" => self.number(fields.i32(), put_i32),
-            "code" => self.number(fields.four_cc(), put_four_cc),
+            "u64" => self.number(fields.u64(), |out, number| put_u64(out, number)),
+            "i16" => self.number(fields.i16(), |out, number| put_i16(out, number)),
+            "i32" => self.number(fields.i32(), |out, number| put_i32(out, number)),
+            "code" => self.number(fields.four_cc(), |out, number| put_four_cc(out, number)),
             "version-0" => self.versioned(fields, 0),
             "version-1" => self.versioned(fields, 1),
             "version-2" => self.versioned(fields, 2),
@@ -127,7 +127,11 @@ impl Row {
         match word {
             "u32" => self.list::<u32>(alloc, fields, count),
             "u64" => self.list::<u64>(alloc, fields, count),
-            "bytes" => self.bytes(alloc, fields.bytes(count), put_bytes),
+            "bytes" => self.bytes(
+                alloc,
+                fields.bytes(count),
+                |out, bytes| put_bytes(out, bytes),
+            ),
             "zeros" => self.zeros(alloc, fields, count),
             _ => Ok(false),
         }

@@ -88,9 +88,13 @@ fn metadata_of_tags(
 }
 
 fn metadata(alloc: Global, bytes: &[u8], form: &str) -> Result<String, AllocError> {
-    match (tags_of(alloc, bytes), opened(alloc, bytes)) {
-        (Ok(tags), Ok(movie)) => metadata_of_tags(alloc, &movie, tags, form),
-        (Err(error), _) | (_, Err(error)) => file_refusal(alloc, &error),
+    let tags = match tags_of(alloc, bytes) {
+        Ok(tags) => tags,
+        Err(error) => return file_refusal(alloc, &error),
+    };
+    match opened(alloc, bytes) {
+        Ok(movie) => metadata_of_tags(alloc, &movie, tags, form),
+        Err(error) => file_refusal(alloc, &error),
     }
 }
 
