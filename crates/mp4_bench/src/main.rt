@@ -151,18 +151,16 @@ fn do_named(
     digest: &mut Digest,
 ) -> Result<bool, Failure> {
     let alloc = rt.alloc();
-    let done = match (name, file, job_of(name)) {
-        ("all", _, _) => do_all(alloc, seed, parts, digest),
-        ("record_file", Some(file), _) => record_file(
-            rt,
-            alloc,
-            file.as_str(),
-            seed,
-            parts,
-            digest,
-        ),
-        (_, _, Some(job)) => do_job(alloc, job, seed, parts, digest),
-        _ => return Ok(false),
+    let done = match name {
+        "all" => do_all(alloc, seed, parts, digest),
+        "record_file" => match file {
+            Some(file) => record_file(rt, alloc, file.as_str(), seed, parts, digest),
+            None => return Ok(false),
+        },
+        _ => match job_of(name) {
+            Some(job) => do_job(alloc, job, seed, parts, digest),
+            None => return Ok(false),
+        },
     };
     done?;
     Ok(true)

@@ -7,6 +7,7 @@ use mp4_media::{
 };
 use std::alloc::{AllocError, Global};
 use std::fmt::Write;
+use std::str;
 
 /// How many samples are walked over to the one that is asked for, at most.
 const MOST_WALKED: u32 = 100;
@@ -22,19 +23,20 @@ pub struct OpenedFile<'a> {
     pub buffer: Vec<u8>,
 }
 
+/// Writes two digits for each byte.
+fn write_digits(text: &mut String, bytes: &[u8]) -> Result<(), AllocError> {
+    for byte in bytes {
+        write!(text, "{byte:02x}")?;
+    }
+    Ok(())
+}
+
 /// Writes bytes: a text where all are letters or digits, else two digits for each.
 fn write_bytes(text: &mut String, bytes: &[u8]) -> Result<(), AllocError> {
-    if !bytes.iter().all(u8::is_ascii_alphanumeric) {
-        for byte in bytes {
-            write!(text, "{byte:02x}")?;
-        }
-        return Ok(());
+    match str::from_utf8(bytes) {
+        Ok(letters) if bytes.iter().all(u8::is_ascii_alphanumeric) => write!(text, "'{letters}'"),
+        _ => write_digits(text, bytes),
     }
-    text.push_str("'")?;
-    for byte in bytes {
-        text.push(char::from(*byte))?;
-    }
-    text.push_str("'")
 }
 
 /// Where sample `k` of a track is.

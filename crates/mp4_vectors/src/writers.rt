@@ -123,6 +123,17 @@ fn answer_after(alloc: Global, writer: Mp4Writer, calls: &[WriterCall], question
     answer_of_made(alloc, &writer.into_writer(), question)
 }
 
+/// The same of the writer that a text begins; None where it begins none.
+fn answer_of_calls(alloc: Global, beginning: &str, calls: &[WriterCall], question: &str) -> Answer {
+    let Some(Beginning { buffer, config }) = beginning_of(alloc, beginning)? else {
+        return Ok(None);
+    };
+    match Mp4Writer::write_start(alloc, buffer, &config) {
+        Ok(writer) => answer_after(alloc, writer, calls, question),
+        Err(error) => refused(alloc, &error),
+    }
+}
+
 /// What a writer answers to a question, whose beginning and calls are the parts of these words; None where they aren't
 /// any.
 pub fn answer_of_writer(alloc: Global, words: &str, question: &str) -> Answer {
@@ -130,14 +141,8 @@ pub fn answer_of_writer(alloc: Global, words: &str, question: &str) -> Answer {
     let [beginning, calls @ ..] = texts.as_slice() else {
         return Ok(None);
     };
-    let Some(calls) = calls_of(alloc, calls)? else {
-        return Ok(None);
-    };
-    let Some(Beginning { buffer, config }) = beginning_of(alloc, beginning)? else {
-        return Ok(None);
-    };
-    match Mp4Writer::write_start(alloc, buffer, &config) {
-        Ok(writer) => answer_after(alloc, writer, &calls, question),
-        Err(error) => refused(alloc, &error),
+    match calls_of(alloc, calls)? {
+        Some(calls) => answer_of_calls(alloc, beginning, &calls, question),
+        None => Ok(None),
     }
 }
