@@ -33,6 +33,22 @@ pub fn put_pieces(bytes: &mut Vec<u8>, pieces: &[&[u8]]) -> Result<(), AllocErro
     Ok(())
 }
 
+/// Numbers of 32 bits, one after the other.
+pub fn put_numbers(bytes: &mut Vec<u8>, numbers: &[u32]) -> Result<(), AllocError> {
+    for number in numbers {
+        put(bytes, *number)?;
+    }
+    Ok(())
+}
+
+/// A box of this payload.
+pub fn put_box(bytes: &mut Vec<u8>, kind: &[u8], payload: &[u8]) -> Result<(), AllocError> {
+    let start = begin_box(bytes, kind)?;
+    bytes.extend_from_slice(payload)?;
+    end_box(bytes, start);
+    Ok(())
+}
+
 /// The file type and the header of a movie.
 pub fn put_file_type(bytes: &mut Vec<u8>) -> Result<(), AllocError> {
     bytes.extend_from_slice(&EMPTY_MOVIE[..32])

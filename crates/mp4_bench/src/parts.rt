@@ -18,12 +18,27 @@ const DURATION_IN_MDHD: usize = 24;
 const HANDLER_IN_HDLR: usize = 16;
 
 /// The boxes of a track that each file has.
-#[derive(Drop)]
 pub struct Parts {
     tkhd: Vec<u8>,
     mdhd: Vec<u8>,
     hdlr: Vec<u8>,
     dinf: Vec<u8>,
+}
+
+/// Taken apart here, and not at each end of each function that owns them.
+impl Drop for Parts {
+    fn drop(self) {
+        let Parts {
+            tkhd,
+            mdhd,
+            hdlr,
+            dinf,
+        } = self;
+        drop(tkhd);
+        drop(mdhd);
+        drop(hdlr);
+        drop(dinf);
+    }
 }
 
 /// What a track is called by, and how its time is counted.

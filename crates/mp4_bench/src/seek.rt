@@ -30,20 +30,27 @@ struct Tables {
     bytes: u64,
 }
 
+impl Tables {
+    /// Lists where the chunks of the three tracks begin, and how many bytes their samples span.
+    fn list_chunks(&mut self) -> Result<(), AllocError> {
+        let video = list_chunks(&mut self.video, 10, DATA, 180)?;
+        let sound = list_chunks(&mut self.sound, 15, DATA, 400)?;
+        let text = list_chunks(&mut self.text, 1, DATA, 5000)?;
+        self.bytes = video.max(sound).max(text);
+        Ok(())
+    }
+}
+
 /// The tables of a file with so many frames.
 fn file_tables(alloc: Global, random: &mut Random, frames: u32) -> Result<Tables, AllocError> {
-    let mut video = camera_tables(alloc, random, frames)?;
-    let mut sound = sound_tables(alloc, random, frames.wrapping_add(frames / 2))?;
-    let mut text = text_tables(alloc, random, frames / 100)?;
-    let first = list_chunks(&mut video, 10, DATA, 180)?;
-    let second = list_chunks(&mut sound, 15, DATA, 400)?;
-    let third = list_chunks(&mut text, 1, DATA, 5000)?;
-    Ok(Tables {
-        video,
-        sound,
-        text,
-        bytes: first.max(second).max(third),
-    })
+    let mut tables = Tables {
+        video: camera_tables(alloc, random, frames)?,
+        sound: sound_tables(alloc, random, frames.wrapping_add(frames / 2))?,
+        text: text_tables(alloc, random, frames / 100)?,
+        bytes: 0,
+    };
+    tables.list_chunks()?;
+    Ok(tables)
 }
 
 /// The movie box of a file of these tables.
