@@ -28,12 +28,14 @@ fn sample_of(pattern: &[u8], turn: u32) -> SampleRef<'_> {
     }
 }
 
-/// Writes the samples of a track, and the end of the movie.
-fn write_samples<S: ByteSink + Drop>(
+/// Writes a track of so many samples, and the end of the movie.
+fn write_track<S: ByteSink + Drop>(
+    alloc: Global,
     writer: &mut Mp4FileWriter<S>,
     pattern: &[u8],
     samples: u32,
 ) -> Result<(), Failure> {
+    writer.add_track(&TrackConfig::from_ttxt(alloc, TtxtConfig {})?)?;
     for turn in 0..samples {
         writer.write_sample(1, &sample_of(pattern, turn))?;
     }
@@ -48,8 +50,7 @@ fn recorded<S: ByteSink + Drop>(
     samples: u32,
 ) -> Result<u64, Failure> {
     let mut writer = Mp4FileWriter::write_start(alloc, sink, &movie_config(alloc)?)?;
-    writer.add_track(&TrackConfig::from_ttxt(alloc, TtxtConfig {})?)?;
-    write_samples(&mut writer, pattern, samples)?;
+    write_track(alloc, &mut writer, pattern, samples)?;
     Ok(writer.into_inner().len())
 }
 
