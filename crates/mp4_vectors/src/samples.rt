@@ -301,42 +301,8 @@ pub fn outside(alloc: Global, file: &mut OpenedFile, id: u32) -> Result<String, 
     }
 }
 
-/// The least and the most that was counted of some look-ups: numbers that were compared in a table, or sizes that were
-/// read.
-#[derive(Clone, Copy)]
-struct CountRange {
-    name: &'static str,
-    least: u32,
-    most: u32,
-}
-
-impl CountRange {
-    /// That of no look-up.
-    fn new(name: &'static str) -> Self {
-        CountRange {
-            name,
-            least: u32::MAX,
-            most: 0,
-        }
-    }
-
-    /// Adds what was counted of a look-up.
-    fn add(&mut self, count: u32) {
-        self.least = self.least.min(count);
-        self.most = self.most.max(count);
-    }
-
-    /// Writes it after its name, and after those before: `stsc 1`, or `stsc 1..3` where samples differ.
-    fn write(&self, text: &mut String) -> Result<(), AllocError> {
-        let CountRange { name, least, most } = *self;
-        let separator = if text.is_empty() { "" } else { ", " };
-        if most > least {
-            write!(text, "{separator}{name} {least}..{most}")
-        } else {
-            write!(text, "{separator}{name} {least}")
-        }
-    }
-}
+/// The names of the counts of a lookup.
+const COUNTS: [&str; 6] = ["stsc", "stts", "ctts", "stss", "runs", "sizes"];
 
 /// How many numbers were compared in each table to find a sample, and how many sizes were read.
 fn counts_of(place: &SamplePlace) -> [u32; 6] {
@@ -350,44 +316,63 @@ fn counts_of(place: &SamplePlace) -> [u32; 6] {
     [stsc, stts, ctts, stss, runs, place.size_reads]
 }
 
-/// Adds the counts of a look-up.
-fn add_counts(ranges: &mut [CountRange; 6], counts: &[u32; 6]) {
-    for (range, count) in ranges.iter_mut().zip(counts.iter()) {
-        range.add(*count);
+/// The least and the most counts of some look-ups.
+#[derive(Clone, Copy)]
+struct CountRanges {
+    least: [u32; 6],
+    most: [u32; 6],
+}
+
+impl CountRanges {
+    /// Those of no look-up.
+    fn new() -> Self {
+        CountRanges {
+            least: [u32::MAX; 6],
+            most: [0; 6],
+        }
     }
+
+    /// Adds the counts of a look-up.
+    fn add(&mut self, counts: &[u32; 6]) {
+        for (least, count) in self.least.iter_mut().zip(counts.iter()) {
+            *least = (*least).min(*count);
+        }
+        for (most, count) in self.most.iter_mut().zip(counts.iter()) {
+            *most = (*most).max(*count);
+        }
+    }
+}
+
+/// Writes a count after its name, and after those before: `stsc 1`, or `stsc 1..3` where samples differ.
+fn write_count(text: &mut String, name: &str, least: u32, most: u32) -> Result<(), AllocError> {
+    let separator = if text.is_empty() { "" } else { ", " };
+    if most > least {
+        write!(text, "{separator}{name} {least}..{most}")
+    } else {
+        write!(text, "{separator}{name} {least}")
+    }
+}
+
+/// All counts, each after its name.
+fn counts_text(alloc: Global, ranges: &CountRanges) -> Result<String, AllocError> {
+    let CountRanges { least, most } = *ranges;
+    let mut text = String::new(alloc);
+    for ((name, least), most) in COUNTS.iter().zip(least).zip(most) {
+        write_count(&mut text, name, least, most)?;
+    }
+    Ok(text)
 }
 
 /// How many numbers were compared in each table to find each of these samples of a track that is there, and how many
 /// sizes were read.
-fn count_ranges(
-    movie: &Mp4Reader,
-    id: u32,
-    first: u32,
-    last: u32,
-) -> Result<[CountRange; 6], Error> {
-    let mut ranges = [
-        CountRange::new("stsc"),
-        CountRange::new("stts"),
-        CountRange::new("ctts"),
-        CountRange::new("stss"),
-        CountRange::new("runs"),
-        CountRange::new("sizes"),
-    ];
+fn count_ranges(movie: &Mp4Reader, id: u32, first: u32, last: u32) -> Result<CountRanges, Error> {
+    let mut ranges = CountRanges::new();
     for k in first..=last {
         if let Some(place) = located(movie, id, k)? {
-            add_counts(&mut ranges, &counts_of(&place));
+            ranges.add(&counts_of(&place));
         }
     }
     Ok(ranges)
-}
-
-/// All counts, one after the other.
-fn counts_text(alloc: Global, ranges: &[CountRange; 6]) -> Result<String, AllocError> {
-    let mut text = String::new(alloc);
-    for range in ranges.iter() {
-        range.write(&mut text)?;
-    }
-    Ok(text)
 }
 
 /// The same as a text.
