@@ -1,12 +1,11 @@
 //! Files of movie fragments.
 
-use crate::files::{put_file_type, put_movie_header, put_track};
-use crate::parts::{Names, Parts, SOUND, VIDEO};
-use crate::seek::{PICTURE, SEQUENCE};
+use crate::files::{
+    put_box, put_file_type, put_movie_header, put_numbers, put_pieces, put_sound, put_video,
+};
+use crate::parts::Parts;
 use crate::tables::Lists;
-use mp4_plain_movies::calls::Media;
-use mp4_plain_movies::listed_calls::{SMALL, STEREO};
-use mp4_plain_movies::plain_bytes::{begin_box, end_box, put, put_pair};
+use mp4_plain_movies::plain_bytes::{begin_box, end_box, put};
 use mp4_plain_movies::random::Random;
 use std::alloc::{AllocError, Global};
 
@@ -24,36 +23,40 @@ pub struct Shape {
     pub lists_all: bool,
 }
 
-/// The movie box of a file of fragments: two tracks without samples, and their defaults.
-fn put_movie(alloc: Global, bytes: &mut Vec<u8>, parts: &Parts) -> Result<(), AllocError> {
-    let movie = begin_box(bytes, b"moov")?;
-    put_movie_header(bytes)?;
-    let none = Lists::new(alloc);
-    let media = Media::Avc(SMALL, &SEQUENCE, &PICTURE);
-    let names = Names {
-        id: 1,
-        handler: VIDEO,
-        timescale: 1000,
-        duration: 0,
-    };
-    put_track(bytes, parts, &names, &media, &none)?;
-    let names = Names {
-        id: 2,
-        handler: SOUND,
-        timescale: 48000,
-        duration: 0,
-    };
-    put_track(bytes, parts, &names, &Media::Aac(STEREO), &none)?;
+/// The defaults of the fragments of two tracks.
+fn put_defaults(bytes: &mut Vec<u8>) -> Result<(), AllocError> {
     let extends = begin_box(bytes, b"mvex")?;
     for id in 1..=2 {
         bytes.extend_from_slice(b"\0\0\0\x20trex\0\0\0\0")?;
-        put_pair(bytes, id, 1)?;
-        put_pair(bytes, 40, 16)?;
-        put(bytes, 0x10000)?;
+        put_numbers(bytes, &[id, 1, 40, 16, 0x10000])?;
     }
     end_box(bytes, extends);
+    Ok(())
+}
+
+/// The movie box of a file of fragments: two tracks without samples, and their defaults.
+fn put_movie(alloc: Global, bytes: &mut Vec<u8>, parts: &Parts) -> Result<(), AllocError> {
+    let none = Lists::new(alloc);
+    let movie = begin_box(bytes, b"moov")?;
+    put_movie_header(bytes)?;
+    put_video(bytes, parts, &none)?;
+    put_sound(bytes, parts, &none)?;
+    put_defaults(bytes)?;
     end_box(bytes, movie);
     Ok(())
+}
+
+/// A sample of a run; the answer is how many bytes it has.
+fn put_sample(bytes: &mut Vec<u8>, random: &mut Random, shape: &Shape) -> Result<u32, AllocError> {
+    let size = random.below(24).wrapping_add(shape.least);
+    if shape.lists_all {
+        let duration = random.below(80);
+        let flags = random.below(2).wrapping_mul(0x10000);
+        put_numbers(bytes, &[duration, size, flags, random.below(160)])?;
+    } else {
+        put(bytes, size)?;
+    }
+    Ok(size)
 }
 
 /// A run of so many samples; the answer is how many bytes they have.
@@ -65,25 +68,14 @@ fn put_run(
     shape: &Shape,
 ) -> Result<u32, AllocError> {
     let start = begin_box(bytes, b"trun")?;
-    put_pair(bytes, if shape.lists_all { 0xf01 } else { 0x205 }, count)?;
-    put(bytes, offset)?;
-    if !shape.lists_all {
-        put(bytes, 0x2000000)?;
+    if shape.lists_all {
+        put_numbers(bytes, &[0xf01, count, offset])?;
+    } else {
+        put_numbers(bytes, &[0x205, count, offset, 0x2000000])?;
     }
     let mut sum = 0u32;
     for _ in 0..count {
-        let size = random.below(24).wrapping_add(shape.least);
-        sum = sum.wrapping_add(size);
-        if shape.lists_all {
-            put_pair(bytes, random.below(80), size)?;
-            put_pair(
-                bytes,
-                random.below(2).wrapping_mul(0x10000),
-                random.below(160),
-            )?;
-        } else {
-            put(bytes, size)?;
-        }
+        sum = sum.wrapping_add(put_sample(bytes, random, shape)?);
     }
     end_box(bytes, start);
     Ok(sum)
@@ -100,10 +92,13 @@ fn put_part(
     shape: &Shape,
 ) -> Result<u32, AllocError> {
     let start = begin_box(bytes, b"traf")?;
-    bytes.extend_from_slice(b"\0\0\0\x10tfhd\0\x02\0\0")?;
-    put(bytes, id)?;
-    bytes.extend_from_slice(b"\0\0\0\x14tfdt\x01\0\0\0")?;
-    bytes.extend_from_slice(&time.to_be_bytes())?;
+    let headers: [&[u8]; 4] = [
+        b"\0\0\0\x10tfhd\0\x02\0\0",
+        &id.to_be_bytes(),
+        b"\0\0\0\x14tfdt\x01\0\0\0",
+        &time.to_be_bytes(),
+    ];
+    put_pieces(bytes, &headers)?;
     let sum = put_run(bytes, random, count, offset, shape)?;
     end_box(bytes, start);
     Ok(sum)
@@ -119,18 +114,14 @@ fn put_fragment(
 ) -> Result<(), AllocError> {
     let time = u64::from(number).wrapping_mul(4000);
     let start = begin_box(bytes, b"moof")?;
-    bytes.extend_from_slice(b"\0\0\0\x10mfhd\0\0\0\0")?;
-    put(bytes, number)?;
+    put_pieces(bytes, &[b"\0\0\0\x10mfhd\0\0\0\0", &number.to_be_bytes()])?;
     let count = shape.fewest.wrapping_add(random.below(shape.more));
     let first = put_part(bytes, random, 1, time, count, 1000, shape)?;
     let count = shape.fewest.wrapping_add(random.below(shape.more));
     let second = put_part(bytes, random, 2, time, count, 2000, shape)?;
     end_box(bytes, start);
-    let data = begin_box(bytes, b"mdat")?;
     let length = first.wrapping_add(second) as usize;
-    bytes.extend_from_slice(pattern.get(..length).unwrap_or(pattern))?;
-    end_box(bytes, data);
-    Ok(())
+    put_box(bytes, b"mdat", pattern.get(..length).unwrap_or(pattern))
 }
 
 /// A file of fragments of this shape.
@@ -147,7 +138,6 @@ pub fn fragmented_file(
     for number in 1..=shape.fragments {
         put_fragment(&mut bytes, random, pattern, number, shape)?;
     }
-    bytes.extend_from_slice(b"\0\x01\0\x08free")?;
-    bytes.extend_from_slice(pattern)?;
+    put_pieces(&mut bytes, &[b"\0\x01\0\x08free", pattern])?;
     Ok(bytes)
 }

@@ -2,11 +2,12 @@
 //! random.
 
 use crate::digest::Digest;
+use crate::failure::Failure;
 use crate::files::pattern;
 use crate::fragments::{Shape, fragmented_file};
 use crate::parts::Parts;
 use crate::seek::{add_at_random, add_in_order};
-use mp4_media::{Result, read_mp4};
+use mp4_media::{Mp4Reader, read_mp4};
 use mp4_plain_movies::random::Random;
 use std::alloc::Global;
 
@@ -40,23 +41,22 @@ fn shapes(parts: u32) -> [Shape; 3] {
     ]
 }
 
-/// Opens a file of fragments, and adds its samples: those of the first track in order, those of the second at random.
-fn add_file(alloc: Global, file: &[u8], seed: u32, digest: &mut Digest) -> Result<()> {
-    let movie = read_mp4(alloc, file)?;
+/// Adds the samples of a movie of fragments: those of the first track in order, those of the second at random.
+fn add_movie(movie: &Mp4Reader, seed: u32, digest: &mut Digest) -> Result<(), Failure> {
     digest.add(movie.size());
     digest.add(u64::from(movie.sample_count(1)?));
-    add_in_order(&movie, 1, digest)?;
-    add_at_random(&movie, TRACKS, seed, digest)
+    add_in_order(movie, 1, digest)?;
+    add_at_random(movie, TRACKS, seed, digest)
 }
 
 /// Reads files of fragments.
-pub fn live(alloc: Global, seed: u32, parts: u32, digest: &mut Digest) -> Result<()> {
+pub fn live(alloc: Global, seed: u32, parts: u32, digest: &mut Digest) -> Result<(), Failure> {
     let mut random = Random::new(u64::from(seed));
     let boxes = Parts::new(alloc)?;
     let pattern = pattern(alloc, &mut random)?;
     for shape in shapes(parts) {
         let file = fragmented_file(alloc, &mut random, &boxes, &pattern, &shape)?;
-        add_file(alloc, &file, random.next(), digest)?;
+        add_movie(&read_mp4(alloc, &file)?, random.next(), digest)?;
     }
     Ok(())
 }

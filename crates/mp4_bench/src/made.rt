@@ -3,10 +3,9 @@
 use crate::files::pattern;
 use crate::fragments::{Shape, fragmented_file};
 use crate::parts::Parts;
-use crate::walk::{even_file, turning_file};
-use mp4_media::Result;
+use crate::text_files::{even_file, turning_file};
 use mp4_plain_movies::random::Random;
-use std::alloc::Global;
+use std::alloc::{AllocError, Global};
 
 /// How many samples the track of a file has for each thousandth of it.
 const SAMPLES: u32 = 1000;
@@ -20,7 +19,7 @@ fn file_of_fragments(
     random: &mut Random,
     boxes: &Parts,
     count: u32,
-) -> Result<Vec<u8>> {
+) -> Result<Vec<u8>, AllocError> {
     let pattern = pattern(alloc, random)?;
     let shape = Shape {
         fragments: count / IN_A_FRAGMENT,
@@ -30,20 +29,25 @@ fn file_of_fragments(
         least: 1,
         lists_all: false,
     };
-    Ok(fragmented_file(alloc, random, boxes, &pattern, &shape)?)
+    fragmented_file(alloc, random, boxes, &pattern, &shape)
 }
 
 /// The file of this kind, as large as so many thousandths of it: `even`, a track of one entry in each table, `turning`,
 /// one whose tables change at each sample, or `fragments`. None where there is no such kind.
-pub fn made(alloc: Global, kind: &str, seed: u32, parts: u32) -> Result<Option<Vec<u8>>> {
+pub fn made(
+    alloc: Global,
+    kind: &str,
+    seed: u32,
+    parts: u32,
+) -> Result<Option<Vec<u8>>, AllocError> {
     let mut random = Random::new(u64::from(seed));
     let boxes = Parts::new(alloc)?;
     let count = parts.wrapping_mul(SAMPLES);
     let file = match kind {
-        "even" => even_file(alloc, &mut random, &boxes, count)?,
-        "turning" => turning_file(alloc, &mut random, &boxes, count)?,
-        "fragments" => file_of_fragments(alloc, &mut random, &boxes, count)?,
+        "even" => even_file(alloc, &mut random, &boxes, count),
+        "turning" => turning_file(alloc, &mut random, &boxes, count),
+        "fragments" => file_of_fragments(alloc, &mut random, &boxes, count),
         _ => return Ok(None),
     };
-    Ok(Some(file))
+    file.map(Some)
 }

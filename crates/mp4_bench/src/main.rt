@@ -4,6 +4,7 @@
 #![tactic(auto)]
 
 mod digest;
+mod failure;
 mod files;
 mod fragments;
 mod list;
@@ -16,15 +17,16 @@ mod scan;
 mod script;
 mod seek;
 mod tables;
+mod text_files;
 mod walk;
 
 use crate::digest::Digest;
+use crate::failure::Failure;
 use crate::made::made;
 use crate::record_file::record_file;
 use crate::walk::Way;
-use mp4_media::{Error, Result};
 use mp4_script::decimal_in;
-use std::alloc::Global;
+use std::alloc::{AllocError, Global};
 use std::process::ExitCode;
 use std::{env, io};
 
@@ -39,11 +41,23 @@ const FILES: &[u8] = b"or a file: even | turning | fragments\n";
 /// How large a job is where nothing is said: the whole of it.
 const WHOLE: u32 = 1000;
 
+/// A job that is done in memory.
+#[derive(Clone, Copy)]
+enum Job {
+    Seek,
+    List,
+    Scan,
+    Live,
+    Record,
+    Script,
+    Walk(Way),
+}
+
 /// The arguments after the program's name. Where one of them isn't UTF-8 the answer is an empty list, which is no job.
-fn arguments(rt: &HostRuntime) -> Result<Vec<String>> {
+fn arguments(rt: &HostRuntime) -> Result<Vec<String>, AllocError> {
     match env::args(rt) {
-        Ok(args) => Ok(args.skip(1).collect(rt.alloc())?),
-        Err(error) if error.kind() == io::ErrorKind::OutOfMemory => Err(Error::OutOfMemory),
+        Ok(args) => args.skip(1).collect(rt.alloc()),
+        Err(error) if error.kind() == io::ErrorKind::OutOfMemory => Err(AllocError),
         Err(_) => Ok(Vec::new(rt.alloc())),
     }
 }
@@ -56,103 +70,136 @@ fn number_in(arguments: &[String], index: usize, otherwise: u32) -> u32 {
     }
 }
 
-/// Goes over samples in order, and by their numbers, looked up and asked of a cursor, and fails where they aren't the
-/// same.
-fn compare_ways(alloc: Global, seed: u32, parts: u32) -> Result<()> {
-    let mut in_order = Digest::new();
-    walk::walk(alloc, seed, parts, Way::InOrder, &mut in_order)?;
-    let mut by_numbers = Digest::new();
-    walk::walk(alloc, seed, parts, Way::ByNumbers, &mut by_numbers)?;
-    let mut by_cursor = Digest::new();
-    walk::walk(alloc, seed, parts, Way::ByCursor, &mut by_cursor)?;
-    if in_order.value() == by_numbers.value() && in_order.value() == by_cursor.value() {
-        Ok(())
-    } else {
-        Err(Error::InvalidData("samples in order are others than by their numbers"))
+/// The job of this name.
+fn job_of(name: &str) -> Option<Job> {
+    match name {
+        "seek" => Some(Job::Seek),
+        "list" => Some(Job::List),
+        "scan" => Some(Job::Scan),
+        "live" => Some(Job::Live),
+        "record" => Some(Job::Record),
+        "script" => Some(Job::Script),
+        "walk" => Some(Job::Walk(Way::InOrder)),
+        "numbers" => Some(Job::Walk(Way::ByNumbers)),
+        "cursor" => Some(Job::Walk(Way::ByCursor)),
+        "times" => Some(Job::Walk(Way::ByTimes)),
+        _ => None,
     }
 }
 
+/// Does a job, as large as so many thousandths of it.
+fn do_job(
+    alloc: Global,
+    job: Job,
+    seed: u32,
+    parts: u32,
+    digest: &mut Digest,
+) -> Result<(), Failure> {
+    match job {
+        Job::Seek => seek::seek(alloc, seed, parts, digest),
+        Job::List => list::list(alloc, seed, parts, digest),
+        Job::Scan => scan::scan(alloc, seed, parts, digest),
+        Job::Live => live::live(alloc, seed, parts, digest),
+        Job::Record => record::record(alloc, seed, parts, digest),
+        Job::Script => script::script(alloc, seed, parts, digest),
+        Job::Walk(way) => walk::walk(alloc, seed, parts, way, digest),
+    }
+}
+
+/// The digest of samples that are gone over in this way.
+fn walked(alloc: Global, seed: u32, parts: u32, way: Way) -> Result<u64, Failure> {
+    let mut digest = Digest::new();
+    walk::walk(alloc, seed, parts, way, &mut digest)?;
+    Ok(digest.value())
+}
+
+/// Goes over samples in order, and by their numbers, looked up and asked of a cursor, and fails where they aren't the
+/// same.
+fn compare_ways(alloc: Global, seed: u32, parts: u32) -> Result<(), Failure> {
+    let in_order = walked(alloc, seed, parts, Way::InOrder)?;
+    for way in [Way::ByNumbers, Way::ByCursor] {
+        if walked(alloc, seed, parts, way)? != in_order {
+            return Err(Failure::Different);
+        }
+    }
+    Ok(())
+}
+
 /// Does each of the jobs, as large as so many thousandths of it.
-fn run_all(alloc: Global, seed: u32, parts: u32, digest: &mut Digest) -> Result<()> {
-    seek::seek(alloc, seed, parts, digest)?;
-    list::list(alloc, seed, parts, digest)?;
-    scan::scan(alloc, seed, parts, digest)?;
-    live::live(alloc, seed, parts, digest)?;
-    record::record(alloc, seed, parts, digest)?;
-    script::script(alloc, seed, parts, digest)?;
+fn do_all(alloc: Global, seed: u32, parts: u32, digest: &mut Digest) -> Result<(), Failure> {
+    let jobs = [
+        Job::Seek,
+        Job::List,
+        Job::Scan,
+        Job::Live,
+        Job::Record,
+        Job::Script,
+    ];
+    for job in jobs {
+        do_job(alloc, job, seed, parts, digest)?;
+    }
     compare_ways(alloc, seed, parts)
 }
 
 /// Does the job of this name, as large as so many thousandths of it, and answers whether there is such a job.
-fn run_job(alloc: Global, name: &str, seed: u32, parts: u32, digest: &mut Digest) -> Result<bool> {
-    match name {
-        "all" => run_all(alloc, seed, parts, digest)?,
-        "seek" => seek::seek(alloc, seed, parts, digest)?,
-        "list" => list::list(alloc, seed, parts, digest)?,
-        "scan" => scan::scan(alloc, seed, parts, digest)?,
-        "live" => live::live(alloc, seed, parts, digest)?,
-        "record" => record::record(alloc, seed, parts, digest)?,
-        "script" => script::script(alloc, seed, parts, digest)?,
-        "walk" => walk::walk(alloc, seed, parts, Way::InOrder, digest)?,
-        "numbers" => walk::walk(alloc, seed, parts, Way::ByNumbers, digest)?,
-        "cursor" => walk::walk(alloc, seed, parts, Way::ByCursor, digest)?,
-        "times" => walk::walk(alloc, seed, parts, Way::ByTimes, digest)?,
-        _ => return Ok(false),
-    }
+fn do_named(
+    rt: &HostRuntime,
+    name: &str,
+    file: Option<&String>,
+    seed: u32,
+    parts: u32,
+    digest: &mut Digest,
+) -> Result<bool, Failure> {
+    let alloc = rt.alloc();
+    let done = match name {
+        "all" => do_all(alloc, seed, parts, digest),
+        "record_file" => match file {
+            Some(file) => record_file(rt, alloc, file.as_str(), seed, parts, digest),
+            None => return Ok(false),
+        },
+        _ => match job_of(name) {
+            Some(job) => do_job(alloc, job, seed, parts, digest),
+            None => return Ok(false),
+        },
+    };
+    done?;
     Ok(true)
 }
 
-/// Writes the file that the arguments say, and answers whether there is such a kind of file.
-fn write_file(rt: &HostRuntime, arguments: &[String], seed: u32, parts: u32) -> Result<bool> {
-    let Some(kind) = arguments.first() else {
-        return Ok(false);
-    };
-    match made(rt.alloc(), kind.as_str(), seed, parts)? {
-        None => Ok(false),
-        Some(file) => match rt.stdout().write_all(&file) {
-            Ok(()) => Ok(true),
-            Err(_) => Err(Error::InvalidData("the file can't be written")),
-        },
-    }
-}
-
 /// Does the job that the arguments say: its name, its seed, and how many thousandths of it are done. It prints the
-/// digest, or writes the file.
-fn run(rt: &HostRuntime) -> Result<bool> {
-    let arguments = arguments(rt)?;
-    let seed = number_in(&arguments, 1, 1);
-    let parts = number_in(&arguments, 2, WHOLE);
-    if write_file(rt, &arguments, seed, parts)? {
-        return Ok(true);
-    }
+/// digest, or writes the file. The answer is whether there is such a job.
+fn run(rt: &HostRuntime, arguments: &[String]) -> Result<bool, Failure> {
     let Some(name) = arguments.first() else {
         return Ok(false);
     };
+    let seed = number_in(arguments, 1, 1);
+    let parts = number_in(arguments, 2, WHOLE);
+    if let Some(file) = made(rt.alloc(), name.as_str(), seed, parts)? {
+        rt.stdout().write_all(&file)?;
+        return Ok(true);
+    }
     let mut digest = Digest::new();
-    match arguments.get(3) {
-        Some(file) if name.as_str() == "record_file" => {
-            record_file(rt, rt.alloc(), file.as_str(), seed, parts, &mut digest)?;
-        }
-        _ => {
-            if !run_job(rt.alloc(), name.as_str(), seed, parts, &mut digest)? {
-                return Ok(false);
-            }
-        }
+    let is_job = do_named(
+        rt,
+        name.as_str(),
+        arguments.get(3),
+        seed,
+        parts,
+        &mut digest,
+    )?;
+    if is_job {
+        println!(rt; "{:016x}", digest.value())?;
     }
-    match print_digest(rt, &digest) {
-        Ok(()) => Ok(true),
-        Err(_) => Err(Error::InvalidData("the digest can't be printed")),
-    }
+    Ok(is_job)
 }
 
-/// Prints the digest of a job that was done.
-fn print_digest(rt: &HostRuntime, digest: &Digest) -> io::Result<()> {
-    let value = digest.value();
-    println!(rt; "{value:016x}")
+/// The same of the arguments of the program.
+fn run_arguments(rt: &HostRuntime) -> Result<bool, Failure> {
+    run(rt, arguments(rt)?.as_slice())
 }
 
 fn main(rt: HostRuntime) -> ExitCode {
-    match run(&rt) {
+    match run_arguments(&rt) {
         Ok(true) => ExitCode::SUCCESS,
         Ok(false) => {
             let _ = rt.stderr().write_all(USAGE);
@@ -160,8 +207,8 @@ fn main(rt: HostRuntime) -> ExitCode {
             let _ = rt.stderr().write_all(FILES);
             ExitCode::FAILURE
         }
-        Err(_) => {
-            let _ = rt.stderr().write_all(b"mp4_bench: a job was refused\n");
+        Err(failure) => {
+            let _ = eprintln!(rt; "mp4_bench: {failure}");
             ExitCode::FAILURE
         }
     }

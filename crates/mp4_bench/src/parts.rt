@@ -18,7 +18,6 @@ const DURATION_IN_MDHD: usize = 24;
 const HANDLER_IN_HDLR: usize = 16;
 
 /// The boxes of a track that each file has.
-#[derive(Drop)]
 pub struct Parts {
     tkhd: Vec<u8>,
     mdhd: Vec<u8>,
@@ -26,26 +25,74 @@ pub struct Parts {
     dinf: Vec<u8>,
 }
 
+/// Taken apart here, and not at each end of each function that owns them.
+impl Drop for Parts {
+    fn drop(self) {
+        let Parts {
+            tkhd,
+            mdhd,
+            hdlr,
+            dinf,
+        } = self;
+        drop(tkhd);
+        drop(mdhd);
+        drop(hdlr);
+        drop(dinf);
+    }
+}
+
 /// What a track is called by, and how its time is counted.
 #[derive(Clone, Copy)]
 pub struct Names {
-    pub id: u32,
+    id: u32,
     /// The number of the four bytes of its handler.
-    pub handler: u32,
+    handler: u32,
     /// Ticks in a second.
-    pub timescale: u32,
+    timescale: u32,
     /// In these ticks.
-    pub duration: u32,
+    duration: u32,
 }
 
 /// The handler `vide`.
-pub const VIDEO: u32 = 0x7669_6465;
+const VIDEO: u32 = 0x7669_6465;
 
 /// The handler `soun`.
-pub const SOUND: u32 = 0x736f_756e;
+const SOUND: u32 = 0x736f_756e;
 
 /// The handler `sbtl`.
-pub const TEXT: u32 = 0x7362_746c;
+const TEXT: u32 = 0x7362_746c;
+
+impl Names {
+    /// Those of the first track, of video.
+    pub fn of_video(duration: u32) -> Self {
+        Names {
+            id: 1,
+            handler: VIDEO,
+            timescale: 1000,
+            duration,
+        }
+    }
+
+    /// Those of the second track, of sound.
+    pub fn of_sound(duration: u32) -> Self {
+        Names {
+            id: 2,
+            handler: SOUND,
+            timescale: 48000,
+            duration,
+        }
+    }
+
+    /// Those of a track of text.
+    pub fn of_text(id: u32, duration: u32) -> Self {
+        Names {
+            id,
+            handler: TEXT,
+            timescale: 1000,
+            duration,
+        }
+    }
+}
 
 impl Parts {
     pub fn new(alloc: Global) -> Result<Self, AllocError> {

@@ -1,14 +1,14 @@
 //! A recorder and a remuxer: movies are written sample by sample, opened again, and written anew from what was read.
 
 use crate::digest::Digest;
+use crate::failure::Failure;
 use crate::files::pattern;
 use bytes::Bytes;
 use mp4_media::{
-    FourCC, Items, Mp4Config, Mp4Reader, Mp4Sample, Mp4Writer, Result, TrackConfig, TtxtConfig,
-    read_mp4,
+    FourCC, Items, Mp4Config, Mp4Reader, Mp4Sample, Mp4Writer, TrackConfig, TtxtConfig, read_mp4,
 };
 use mp4_plain_movies::random::Random;
-use std::alloc::Global;
+use std::alloc::{AllocError, Global};
 
 const TRACKS: u32 = 3;
 
@@ -26,7 +26,7 @@ struct Recording {
 }
 
 /// What a movie is begun with.
-pub fn movie_config(alloc: Global) -> Result<Mp4Config> {
+pub fn movie_config(alloc: Global) -> Result<Mp4Config, AllocError> {
     let brands = vec![in alloc; FourCC::from(*b"isom"), FourCC::from(*b"mp41")]?;
     Ok(Mp4Config {
         major_brand: FourCC::from(*b"isom"),
@@ -36,22 +36,22 @@ pub fn movie_config(alloc: Global) -> Result<Mp4Config> {
     })
 }
 
-/// A writer of a movie with three tracks of text.
-fn begun(alloc: Global, timescale: u32) -> Result<Mp4Writer> {
-    let config = movie_config(alloc)?;
-    let mut writer = Mp4Writer::write_start(alloc, Vec::new(alloc), &config)?;
-    add_tracks(alloc, &mut writer, timescale)?;
-    Ok(writer)
-}
-
 /// Adds the tracks.
-fn add_tracks(alloc: Global, writer: &mut Mp4Writer, timescale: u32) -> Result<()> {
+fn add_tracks(alloc: Global, writer: &mut Mp4Writer, timescale: u32) -> Result<(), Failure> {
     for id in 1..=TRACKS {
         let mut config = TrackConfig::from_ttxt(alloc, TtxtConfig {})?;
         config.timescale = timescale.wrapping_add(id);
         writer.add_track(&config)?;
     }
     Ok(())
+}
+
+/// A writer of a movie with three tracks of text.
+fn begun(alloc: Global, timescale: u32) -> Result<Mp4Writer, Failure> {
+    let config = movie_config(alloc)?;
+    let mut writer = Mp4Writer::write_start(alloc, Vec::new(alloc), &config)?;
+    add_tracks(alloc, &mut writer, timescale)?;
+    Ok(writer)
 }
 
 /// A sample of a recording.
@@ -61,7 +61,7 @@ fn recorded_sample(
     pattern: &[u8],
     recording: &Recording,
     turn: u32,
-) -> Result<Mp4Sample> {
+) -> Result<Mp4Sample, AllocError> {
     let length = random.below(recording.bytes) as usize;
     let start = random.below(1024) as usize;
     let bytes = pattern
@@ -84,21 +84,21 @@ fn recorded_sample(
     })
 }
 
-/// Writes the samples of a recording, those of its tracks in turn.
+/// Writes the samples of a recording, those of its tracks in turn, and the end of the movie.
 fn write_samples(
     alloc: Global,
     writer: &mut Mp4Writer,
     random: &mut Random,
     pattern: &[u8],
     recording: &Recording,
-) -> Result<()> {
+) -> Result<(), Failure> {
     for turn in 0..recording.samples {
         for id in 1..=TRACKS {
             let sample = recorded_sample(alloc, random, pattern, recording, turn)?;
             writer.write_sample(id, &sample)?;
         }
     }
-    Ok(())
+    Ok(writer.write_end()?)
 }
 
 /// The bytes of a recording.
@@ -107,15 +107,14 @@ fn recorded(
     random: &mut Random,
     pattern: &[u8],
     recording: &Recording,
-) -> Result<Vec<u8>> {
+) -> Result<Vec<u8>, Failure> {
     let mut writer = begun(alloc, recording.timescale)?;
     write_samples(alloc, &mut writer, random, pattern, recording)?;
-    writer.write_end()?;
     Ok(writer.into_writer())
 }
 
-/// Copies the samples of all tracks of a movie into a writer, the tracks in turn.
-fn copy_samples(movie: &mut Mp4Reader, writer: &mut Mp4Writer) -> Result<()> {
+/// Copies the samples of all tracks of a movie into a writer, the tracks in turn, and writes the end of the movie.
+fn copy_samples(movie: &mut Mp4Reader, writer: &mut Mp4Writer) -> Result<(), Failure> {
     for k in 1..=movie.sample_count(1)? {
         for id in 1..=TRACKS {
             if let Some(sample) = movie.read_sample(id, k)? {
@@ -123,15 +122,13 @@ fn copy_samples(movie: &mut Mp4Reader, writer: &mut Mp4Writer) -> Result<()> {
             }
         }
     }
-    Ok(())
+    Ok(writer.write_end()?)
 }
 
 /// Writes a movie anew from what is read of it.
-fn remuxed(alloc: Global, file: &[u8], timescale: u32) -> Result<Vec<u8>> {
-    let mut movie = read_mp4(alloc, file)?;
+fn remuxed(alloc: Global, file: &[u8], timescale: u32) -> Result<Vec<u8>, Failure> {
     let mut writer = begun(alloc, timescale)?;
-    copy_samples(&mut movie, &mut writer)?;
-    writer.write_end()?;
+    copy_samples(&mut read_mp4(alloc, file)?, &mut writer)?;
     Ok(writer.into_writer())
 }
 
@@ -167,7 +164,7 @@ fn recordings(parts: u32) -> [Recording; 4] {
 }
 
 /// Records movies, and writes each anew.
-pub fn record(alloc: Global, seed: u32, parts: u32, digest: &mut Digest) -> Result<()> {
+pub fn record(alloc: Global, seed: u32, parts: u32, digest: &mut Digest) -> Result<(), Failure> {
     let mut random = Random::new(u64::from(seed));
     let pattern = pattern(alloc, &mut random)?;
     for recording in recordings(parts) {

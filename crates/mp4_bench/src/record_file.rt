@@ -1,12 +1,10 @@
 //! A recorder that writes to a file.
 
 use crate::digest::Digest;
+use crate::failure::Failure;
 use crate::files::pattern;
 use crate::record::movie_config;
-use mp4_media::{
-    ByteSink, Error, Mp4FileWriter, Result, SampleRef, SeekSink, TrackConfig, TtxtConfig,
-    WriteError,
-};
+use mp4_media::{ByteSink, Mp4FileWriter, SampleRef, SeekSink, TrackConfig, TtxtConfig};
 use mp4_plain_movies::random::Random;
 use std::alloc::Global;
 use std::fs::OpenOptions;
@@ -14,14 +12,6 @@ use std::rt::Files;
 
 /// How many bytes each sample has.
 const SAMPLE_SIZE: usize = 100;
-
-/// What a writer to a file is refused for.
-fn refused(error: WriteError) -> Error {
-    match error {
-        WriteError::Mp4(error) => error,
-        WriteError::Io(_) | WriteError::Failed => Error::InvalidData("the file can't be written"),
-    }
-}
 
 /// The sample of this turn, whose bytes lie in the pattern.
 fn sample_of(pattern: &[u8], turn: u32) -> SampleRef<'_> {
@@ -38,19 +28,29 @@ fn sample_of(pattern: &[u8], turn: u32) -> SampleRef<'_> {
     }
 }
 
+/// Writes a track of so many samples, and the end of the movie.
+fn write_track<S: ByteSink + Drop>(
+    alloc: Global,
+    writer: &mut Mp4FileWriter<S>,
+    pattern: &[u8],
+    samples: u32,
+) -> Result<(), Failure> {
+    writer.add_track(&TrackConfig::from_ttxt(alloc, TtxtConfig {})?)?;
+    for turn in 0..samples {
+        writer.write_sample(1, &sample_of(pattern, turn))?;
+    }
+    Ok(writer.write_end()?)
+}
+
 /// Writes a movie of one track to a sink, and answers how many bytes it has.
 fn recorded<S: ByteSink + Drop>(
     alloc: Global,
     sink: S,
     pattern: &[u8],
     samples: u32,
-) -> std::result::Result<u64, WriteError> {
+) -> Result<u64, Failure> {
     let mut writer = Mp4FileWriter::write_start(alloc, sink, &movie_config(alloc)?)?;
-    writer.add_track(&TrackConfig::from_ttxt(alloc, TtxtConfig {})?)?;
-    for turn in 0..samples {
-        writer.write_sample(1, &sample_of(pattern, turn))?;
-    }
-    writer.write_end()?;
+    write_track(alloc, &mut writer, pattern, samples)?;
     Ok(writer.into_inner().len())
 }
 
@@ -62,23 +62,14 @@ pub fn record_file(
     seed: u32,
     parts: u32,
     digest: &mut Digest,
-) -> Result<()> {
-    let mut random = Random::new(u64::from(seed));
-    let pattern = pattern(alloc, &mut random)?;
-    let Ok(file) = OpenOptions::new()
+) -> Result<(), Failure> {
+    let pattern = pattern(alloc, &mut Random::new(u64::from(seed)))?;
+    let file = OpenOptions::new()
         .write(true)
         .create(true)
         .truncate(true)
-        .open(rt, name)
-    else {
-        return Err(Error::InvalidData("the file can't be written"));
-    };
+        .open(rt, name)?;
     let sink = SeekSink::new(alloc, file)?;
-    match recorded(alloc, sink, &pattern, parts.wrapping_mul(1000)) {
-        Ok(len) => {
-            digest.add(len);
-            Ok(())
-        }
-        Err(error) => Err(refused(error)),
-    }
+    digest.add(recorded(alloc, sink, &pattern, parts.wrapping_mul(1000))?);
+    Ok(())
 }

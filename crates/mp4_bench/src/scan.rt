@@ -2,17 +2,16 @@
 //! and metadata with a picture.
 
 use crate::digest::Digest;
-use crate::files::{DATA, pattern, put_file_type, put_movie_header, put_track};
-use crate::parts::{Names, Parts, SOUND, VIDEO};
-use crate::seek::{PICTURE, SEQUENCE};
+use crate::failure::Failure;
+use crate::files::{
+    DATA, pattern, put_file_type, put_movie_header, put_pieces, put_sound, put_video,
+};
+use crate::parts::Parts;
 use crate::tables::{camera_tables, list_chunks, sound_tables};
-use mp4_media::Result;
-use mp4_plain_movies::calls::Media;
-use mp4_plain_movies::listed_calls::{SMALL, STEREO};
 use mp4_plain_movies::plain_bytes::{begin_box, end_box, put_over};
 use mp4_plain_movies::random::Random;
 use mp4_script::info_text;
-use std::alloc::Global;
+use std::alloc::{AllocError, Global};
 
 /// How many files there are for each thousandth of the job that is done.
 const FILES: u32 = 30;
@@ -32,31 +31,45 @@ const DURATION_IN_MVHD: usize = 24;
 const METADATA_HANDLER: [u8; 33] = *b"\0\0\0\x21hdlr\0\0\0\0\0\0\0\0mdir\0\0\0\0\0\0\0\0\0\0\0\0\0";
 
 /// An item of metadata with these bytes, of a type of data.
-fn put_item(bytes: &mut Vec<u8>, kind: &[u8], data_type: u8, value: &[u8]) -> Result<()> {
+fn put_item(
+    bytes: &mut Vec<u8>,
+    kind: &[u8],
+    data_type: u8,
+    value: &[u8],
+) -> Result<(), AllocError> {
     let item = begin_box(bytes, kind)?;
     let start = begin_box(bytes, b"data")?;
-    bytes.extend_from_slice(&[0, 0, 0, data_type, 0, 0, 0, 0])?;
-    bytes.extend_from_slice(value)?;
+    put_pieces(bytes, &[&[0, 0, 0, data_type, 0, 0, 0, 0], value])?;
     end_box(bytes, start);
     end_box(bytes, item);
     Ok(())
 }
 
-/// User data: a title, a year, a description and a picture.
-fn put_user_data(bytes: &mut Vec<u8>, picture: &[u8]) -> Result<()> {
+/// The items of metadata: a title, a year, a description and a picture.
+fn put_items(bytes: &mut Vec<u8>, picture: &[u8]) -> Result<(), AllocError> {
+    let items: [(&[u8], u8, &[u8]); 4] = [
+        (b"\xa9nam", 1, b"A holiday by the sea"),
+        (b"\xa9day", 1, b"2024"),
+        (
+            b"desc",
+            1,
+            b"Two weeks of waves, of which the last was the highest.",
+        ),
+        (b"covr", 13, picture),
+    ];
+    for (kind, data_type, value) in items {
+        put_item(bytes, kind, data_type, value)?;
+    }
+    Ok(())
+}
+
+/// User data: metadata with these items.
+fn put_user_data(bytes: &mut Vec<u8>, picture: &[u8]) -> Result<(), AllocError> {
     let user_data = begin_box(bytes, b"udta")?;
     let meta = begin_box(bytes, b"meta\0\0\0\0")?;
     bytes.extend_from_slice(&METADATA_HANDLER)?;
     let items = begin_box(bytes, b"ilst")?;
-    put_item(bytes, b"\xa9nam", 1, b"A holiday by the sea")?;
-    put_item(bytes, b"\xa9day", 1, b"2024")?;
-    put_item(
-        bytes,
-        b"desc",
-        1,
-        b"Two weeks of waves, of which the last was the highest.",
-    )?;
-    put_item(bytes, b"covr", 13, picture)?;
+    put_items(bytes, picture)?;
     end_box(bytes, items);
     end_box(bytes, meta);
     end_box(bytes, user_data);
@@ -71,50 +84,59 @@ struct Tracks {
 }
 
 /// A track of video with so many frames.
-fn video_track(alloc: Global, random: &mut Random, parts: &Parts, frames: u32) -> Result<Vec<u8>> {
+fn video_track(
+    alloc: Global,
+    random: &mut Random,
+    parts: &Parts,
+    frames: u32,
+) -> Result<Vec<u8>, AllocError> {
     let mut lists = camera_tables(alloc, random, frames)?;
     list_chunks(&mut lists, 10, DATA, 180)?;
-    let names = Names {
-        id: 1,
-        handler: VIDEO,
-        timescale: 1000,
-        duration: lists.duration,
-    };
-    let media = Media::Avc(SMALL, &SEQUENCE, &PICTURE);
     let mut bytes = Vec::new(alloc);
-    put_track(&mut bytes, parts, &names, &media, &lists)?;
+    put_video(&mut bytes, parts, &lists)?;
     Ok(bytes)
 }
 
 /// A track of sound with so many frames.
-fn sound_track(alloc: Global, random: &mut Random, parts: &Parts, frames: u32) -> Result<Vec<u8>> {
+fn sound_track(
+    alloc: Global,
+    random: &mut Random,
+    parts: &Parts,
+    frames: u32,
+) -> Result<Vec<u8>, AllocError> {
     let mut lists = sound_tables(alloc, random, frames)?;
     list_chunks(&mut lists, 20, DATA, 400)?;
-    let names = Names {
-        id: 2,
-        handler: SOUND,
-        timescale: 48000,
-        duration: lists.duration,
-    };
     let mut bytes = Vec::new(alloc);
-    put_track(&mut bytes, parts, &names, &Media::Aac(STEREO), &lists)?;
+    put_sound(&mut bytes, parts, &lists)?;
     Ok(bytes)
 }
 
+impl Tracks {
+    /// Adds a track of each kind with so many frames.
+    fn add(
+        &mut self,
+        alloc: Global,
+        random: &mut Random,
+        parts: &Parts,
+        frames: u32,
+    ) -> Result<(), AllocError> {
+        self.videos
+            .push(video_track(alloc, random, parts, frames)?)?;
+        self.sounds
+            .push(sound_track(alloc, random, parts, frames)?)?;
+        Ok(())
+    }
+}
+
 /// Tracks of random lengths.
-fn made_tracks(alloc: Global, random: &mut Random, parts: &Parts) -> Result<Tracks> {
+fn made_tracks(alloc: Global, random: &mut Random, parts: &Parts) -> Result<Tracks, AllocError> {
     let mut tracks = Tracks {
         videos: Vec::new(alloc),
         sounds: Vec::new(alloc),
     };
     for _ in 0..KINDS {
         let frames = FEWEST.wrapping_add(random.below(MORE));
-        tracks
-            .videos
-            .push(video_track(alloc, random, parts, frames)?)?;
-        tracks
-            .sounds
-            .push(sound_track(alloc, random, parts, frames)?)?;
+        tracks.add(alloc, random, parts, frames)?;
     }
     Ok(tracks)
 }
@@ -135,14 +157,15 @@ fn put_file(
     tracks: &Tracks,
     pattern: &[u8],
     number: u32,
-) -> Result<()> {
+) -> Result<(), AllocError> {
     put_file_type(bytes)?;
     let movie = begin_box(bytes, b"moov")?;
     let header = bytes.len();
     put_movie_header(bytes)?;
     put_over(bytes, header.wrapping_add(DURATION_IN_MVHD), number);
-    bytes.extend_from_slice(one_of(&tracks.videos, random))?;
-    bytes.extend_from_slice(one_of(&tracks.sounds, random))?;
+    let video = one_of(&tracks.videos, random);
+    let sound = one_of(&tracks.sounds, random);
+    put_pieces(bytes, &[video, sound])?;
     let end = random.below(65536) as usize;
     put_user_data(bytes, pattern.get(..end).unwrap_or(pattern))?;
     end_box(bytes, movie);
@@ -150,7 +173,7 @@ fn put_file(
 }
 
 /// Describes many files.
-pub fn scan(alloc: Global, seed: u32, parts: u32, digest: &mut Digest) -> Result<()> {
+pub fn scan(alloc: Global, seed: u32, parts: u32, digest: &mut Digest) -> Result<(), Failure> {
     let mut random = Random::new(u64::from(seed));
     let boxes = Parts::new(alloc)?;
     let pattern = pattern(alloc, &mut random)?;

@@ -1,7 +1,7 @@
 //! Subtitles: the movies of scripts of many lines are made and shown.
 
 use crate::digest::Digest;
-use mp4_media::{Error, Result};
+use crate::failure::Failure;
 use mp4_plain_movies::random::Random;
 use mp4_script::show_text;
 use std::alloc::{AllocError, Global};
@@ -44,7 +44,7 @@ struct Material {
 }
 
 /// Words at random.
-fn made_text(alloc: Global, random: &mut Random) -> std::result::Result<Vec<u8>, AllocError> {
+fn made_text(alloc: Global, random: &mut Random) -> Result<Vec<u8>, AllocError> {
     let mut text = Vec::new(alloc);
     for _ in 0..TEXT / 4 {
         let word = WORDS.get(random.below(8) as usize).unwrap_or(&"");
@@ -55,7 +55,7 @@ fn made_text(alloc: Global, random: &mut Random) -> std::result::Result<Vec<u8>,
 }
 
 /// What the lines of scripts are made of.
-fn made_material(alloc: Global, random: &mut Random) -> std::result::Result<Material, AllocError> {
+fn made_material(alloc: Global, random: &mut Random) -> Result<Material, AllocError> {
     let text = made_text(alloc, random)?;
     let mut beginnings = Vec::new(alloc);
     for _ in 0..BEGINNINGS {
@@ -72,7 +72,7 @@ fn put_line(
     random: &mut Random,
     material: &Material,
     shape: &Shape,
-) -> std::result::Result<(), AllocError> {
+) -> Result<(), AllocError> {
     if let Some(beginning) = material.beginnings.get(random.below(BEGINNINGS) as usize) {
         script.extend_from_slice(beginning.as_bytes())?;
     }
@@ -90,7 +90,7 @@ fn made_script(
     random: &mut Random,
     material: &Material,
     shape: &Shape,
-) -> std::result::Result<Vec<u8>, AllocError> {
+) -> Result<Vec<u8>, AllocError> {
     let mut script = Vec::new(alloc);
     script.extend_from_slice(b"track text 1000\ntrack text 90000\n")?;
     for _ in 0..shape.lines {
@@ -121,16 +121,13 @@ fn shapes(parts: u32) -> [Shape; 3] {
 }
 
 /// Shows the movies of scripts.
-pub fn script(alloc: Global, seed: u32, parts: u32, digest: &mut Digest) -> Result<()> {
+pub fn script(alloc: Global, seed: u32, parts: u32, digest: &mut Digest) -> Result<(), Failure> {
     let mut random = Random::new(u64::from(seed));
     let material = made_material(alloc, &mut random)?;
     for shape in shapes(parts) {
         for _ in 0..SCRIPTS {
             let script = made_script(alloc, &mut random, &material, &shape)?;
-            match show_text(alloc, &script) {
-                Ok(text) => digest.add_bytes(&text),
-                Err(_) => return Err(Error::OutOfMemory),
-            }
+            digest.add_bytes(&show_text(alloc, &script)?);
         }
     }
     Ok(())

@@ -2,15 +2,16 @@
 //! random.
 
 use crate::digest::Digest;
-use crate::files::{DATA, pattern, put_data, put_file_type, put_movie_header, put_track};
-use crate::parts::{Names, Parts, SOUND, TEXT, VIDEO};
+use crate::failure::Failure;
+use crate::files::{
+    DATA, pattern, put_data, put_file_type, put_movie_header, put_sound, put_text, put_video,
+};
+use crate::parts::Parts;
 use crate::tables::{Lists, camera_tables, list_chunks, sound_tables, text_tables};
-use mp4_media::{Mp4Reader, Result, read_mp4};
-use mp4_plain_movies::calls::Media;
-use mp4_plain_movies::listed_calls::{SMALL, STEREO};
+use mp4_media::{Mp4Reader, read_mp4};
 use mp4_plain_movies::plain_bytes::{begin_box, end_box};
 use mp4_plain_movies::random::Random;
-use std::alloc::Global;
+use std::alloc::{AllocError, Global};
 
 /// How many frames a file has for each thousandth of the job that is done.
 const FRAMES: u32 = 600;
@@ -19,12 +20,6 @@ const FRAMES: u32 = 600;
 const IN_ORDER: u32 = 4;
 
 const TRACKS: u32 = 3;
-
-/// The parameter sets of the video.
-pub const SEQUENCE: [u8; 24] =
-    *b"\x67\x64\0\x1f\xac\xd9\x40\x50\x05\xbb\x01\x10\0\0\x03\0\x10\0\0\x03\x03\xc0\xf1\x83";
-
-pub const PICTURE: [u8; 6] = *b"\x68\xeb\xe3\xcb\x22\xc0";
 
 /// The tables of the three tracks of a file, and how many bytes their samples span.
 #[derive(Drop)]
@@ -35,54 +30,47 @@ struct Tables {
     bytes: u64,
 }
 
+impl Tables {
+    /// Lists where the chunks of the three tracks begin, and how many bytes their samples span.
+    fn list_chunks(&mut self) -> Result<(), AllocError> {
+        let video = list_chunks(&mut self.video, 10, DATA, 180)?;
+        let sound = list_chunks(&mut self.sound, 15, DATA, 400)?;
+        let text = list_chunks(&mut self.text, 1, DATA, 5000)?;
+        self.bytes = video.max(sound).max(text);
+        Ok(())
+    }
+}
+
 /// The tables of a file with so many frames.
-fn file_tables(alloc: Global, random: &mut Random, frames: u32) -> Result<Tables> {
-    let mut video = camera_tables(alloc, random, frames)?;
-    let mut sound = sound_tables(alloc, random, frames.wrapping_add(frames / 2))?;
-    let mut text = text_tables(alloc, random, frames / 100)?;
-    let first = list_chunks(&mut video, 10, DATA, 180)?;
-    let second = list_chunks(&mut sound, 15, DATA, 400)?;
-    let third = list_chunks(&mut text, 1, DATA, 5000)?;
-    Ok(Tables {
-        video,
-        sound,
-        text,
-        bytes: first.max(second).max(third),
-    })
+fn file_tables(alloc: Global, random: &mut Random, frames: u32) -> Result<Tables, AllocError> {
+    let mut tables = Tables {
+        video: camera_tables(alloc, random, frames)?,
+        sound: sound_tables(alloc, random, frames.wrapping_add(frames / 2))?,
+        text: text_tables(alloc, random, frames / 100)?,
+        bytes: 0,
+    };
+    tables.list_chunks()?;
+    Ok(tables)
 }
 
 /// The movie box of a file of these tables.
-fn put_movie(bytes: &mut Vec<u8>, parts: &Parts, tables: &Tables) -> Result<()> {
+fn put_movie(bytes: &mut Vec<u8>, parts: &Parts, tables: &Tables) -> Result<(), AllocError> {
     let movie = begin_box(bytes, b"moov")?;
     put_movie_header(bytes)?;
-    let names = Names {
-        id: 1,
-        handler: VIDEO,
-        timescale: 1000,
-        duration: tables.video.duration,
-    };
-    let media = Media::Avc(SMALL, &SEQUENCE, &PICTURE);
-    put_track(bytes, parts, &names, &media, &tables.video)?;
-    let names = Names {
-        id: 2,
-        handler: SOUND,
-        timescale: 48000,
-        duration: tables.sound.duration,
-    };
-    put_track(bytes, parts, &names, &Media::Aac(STEREO), &tables.sound)?;
-    let names = Names {
-        id: 3,
-        handler: TEXT,
-        timescale: 1000,
-        duration: tables.text.duration,
-    };
-    put_track(bytes, parts, &names, &Media::Text, &tables.text)?;
+    put_video(bytes, parts, &tables.video)?;
+    put_sound(bytes, parts, &tables.sound)?;
+    put_text(bytes, parts, 3, &tables.text)?;
     end_box(bytes, movie);
     Ok(())
 }
 
 /// A file with so many frames.
-fn made_file(alloc: Global, random: &mut Random, parts: &Parts, frames: u32) -> Result<Vec<u8>> {
+fn made_file(
+    alloc: Global,
+    random: &mut Random,
+    parts: &Parts,
+    frames: u32,
+) -> Result<Vec<u8>, AllocError> {
     let tables = file_tables(alloc, random, frames)?;
     let pattern = pattern(alloc, random)?;
     let mut bytes = Vec::new(alloc);
@@ -93,7 +81,7 @@ fn made_file(alloc: Global, random: &mut Random, parts: &Parts, frames: u32) -> 
 }
 
 /// Adds a sample.
-fn add_sample(movie: &Mp4Reader, id: u32, k: u32, digest: &mut Digest) -> Result<()> {
+fn add_sample(movie: &Mp4Reader, id: u32, k: u32, digest: &mut Digest) -> Result<(), Failure> {
     match movie.read_sample_ref(id, k)? {
         Some(sample) => digest.add_sample(&sample),
         None => digest.add(0),
@@ -102,7 +90,7 @@ fn add_sample(movie: &Mp4Reader, id: u32, k: u32, digest: &mut Digest) -> Result
 }
 
 /// Adds all samples of a track in order.
-pub fn add_in_order(movie: &Mp4Reader, id: u32, digest: &mut Digest) -> Result<()> {
+pub fn add_in_order(movie: &Mp4Reader, id: u32, digest: &mut Digest) -> Result<(), Failure> {
     for k in 1..=movie.sample_count(id)? {
         add_sample(movie, id, k, digest)?;
     }
@@ -112,7 +100,12 @@ pub fn add_in_order(movie: &Mp4Reader, id: u32, digest: &mut Digest) -> Result<(
 /// Adds the samples of a track at random, each once.
 ///
 /// The numbers are those of a generator whose period is a power of two, so that none comes twice.
-pub fn add_at_random(movie: &Mp4Reader, id: u32, seed: u32, digest: &mut Digest) -> Result<()> {
+pub fn add_at_random(
+    movie: &Mp4Reader,
+    id: u32,
+    seed: u32,
+    digest: &mut Digest,
+) -> Result<(), Failure> {
     let count = movie.sample_count(id)?;
     let period = count.checked_next_power_of_two().unwrap_or(1);
     let mut k = seed % period.max(1);
@@ -125,35 +118,33 @@ pub fn add_at_random(movie: &Mp4Reader, id: u32, seed: u32, digest: &mut Digest)
     Ok(())
 }
 
-/// Opens a file and adds all its samples.
-fn add_file(
-    alloc: Global,
-    file: &[u8],
+/// Adds all samples of a movie.
+fn add_movie(
+    movie: &Mp4Reader,
     turn: u32,
     random: &mut Random,
     digest: &mut Digest,
-) -> Result<()> {
-    let movie = read_mp4(alloc, file)?;
+) -> Result<(), Failure> {
     digest.add(movie.size());
     for id in 1..=TRACKS {
         if turn < IN_ORDER {
-            add_in_order(&movie, id, digest)?;
+            add_in_order(movie, id, digest)?;
         } else {
-            add_at_random(&movie, id, random.next(), digest)?;
+            add_at_random(movie, id, random.next(), digest)?;
         }
     }
     Ok(())
 }
 
 /// Reads files in order, and one at random.
-pub fn seek(alloc: Global, seed: u32, parts: u32, digest: &mut Digest) -> Result<()> {
+pub fn seek(alloc: Global, seed: u32, parts: u32, digest: &mut Digest) -> Result<(), Failure> {
     let mut random = Random::new(u64::from(seed));
     let frames = parts.wrapping_mul(FRAMES);
     let parts = Parts::new(alloc)?;
     for turn in 0..=IN_ORDER {
         let frames = frames.wrapping_add(random.below(100));
         let file = made_file(alloc, &mut random, &parts, frames)?;
-        add_file(alloc, &file, turn, &mut random, digest)?;
+        add_movie(&read_mp4(alloc, &file)?, turn, &mut random, digest)?;
     }
     Ok(())
 }

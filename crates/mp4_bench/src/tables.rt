@@ -7,7 +7,6 @@ use mp4_plain_movies::random::Random;
 use std::alloc::{AllocError, Global};
 
 /// Tables of a track, as lists of what their entries say.
-#[derive(Drop)]
 pub struct Lists {
     /// Runs: how many samples, and how long each lasts.
     pub durations: Vec<(u32, u32)>,
@@ -27,6 +26,29 @@ pub struct Lists {
     pub count: u32,
     /// How long they last.
     pub duration: u32,
+}
+
+/// Taken apart here, and not at each end of each function that owns tables.
+impl Drop for Lists {
+    fn drop(self) {
+        let Lists {
+            durations,
+            rendering_offsets,
+            sync_samples,
+            chunks,
+            size: _,
+            sizes,
+            offsets,
+            count: _,
+            duration: _,
+        } = self;
+        drop(durations);
+        drop(rendering_offsets);
+        drop(sync_samples);
+        drop(chunks);
+        drop(sizes);
+        drop(offsets);
+    }
 }
 
 impl Lists {

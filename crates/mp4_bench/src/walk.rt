@@ -2,12 +2,12 @@
 //! cursor. Or a player that goes to random times.
 
 use crate::digest::Digest;
-use crate::files::{DATA, pattern};
+use crate::failure::Failure;
+use crate::files::pattern;
 use crate::fragments::{Shape, fragmented_file};
-use crate::list::made_file;
 use crate::parts::Parts;
-use crate::tables::{even_tables, list_chunks, list_sync_samples, turning_tables};
-use mp4_media::{Mp4Track, Place, Result, read_mp4};
+use crate::text_files::{even_file, turning_file};
+use mp4_media::{Mp4Track, Place, read_mp4};
 use mp4_plain_movies::random::Random;
 use std::alloc::Global;
 
@@ -33,7 +33,7 @@ fn add_place(digest: &mut Digest, place: &Place) {
 }
 
 /// Adds the places of a track, by a walk over them.
-fn add_in_order(track: &Mp4Track, digest: &mut Digest) -> Result<()> {
+fn add_in_order(track: &Mp4Track, digest: &mut Digest) -> Result<(), Failure> {
     for place in track.samples() {
         add_place(digest, &place?);
     }
@@ -41,7 +41,7 @@ fn add_in_order(track: &Mp4Track, digest: &mut Digest) -> Result<()> {
 }
 
 /// Adds the places of a track, each looked up by its number.
-fn add_by_numbers(track: &Mp4Track, digest: &mut Digest) -> Result<()> {
+fn add_by_numbers(track: &Mp4Track, digest: &mut Digest) -> Result<(), Failure> {
     for k in 1..=track.sample_count()? {
         if let Some(place) = track.locate_by_guess(k)? {
             add_place(digest, &place.place());
@@ -51,7 +51,7 @@ fn add_by_numbers(track: &Mp4Track, digest: &mut Digest) -> Result<()> {
 }
 
 /// Adds the places of a track, each asked of a cursor by its number.
-fn add_by_cursor(track: &Mp4Track, digest: &mut Digest) -> Result<()> {
+fn add_by_cursor(track: &Mp4Track, digest: &mut Digest) -> Result<(), Failure> {
     let mut cursor = track.sample_cursor();
     for k in 1..=track.sample_count()? {
         if let Some(place) = cursor.seek(k)? {
@@ -62,7 +62,7 @@ fn add_by_cursor(track: &Mp4Track, digest: &mut Digest) -> Result<()> {
 }
 
 /// Adds the samples at random times, as many as the track has, and the sync samples before them.
-fn add_by_times(track: &Mp4Track, random: &mut Random, digest: &mut Digest) -> Result<()> {
+fn add_by_times(track: &Mp4Track, random: &mut Random, digest: &mut Digest) -> Result<(), Failure> {
     let Some(range) = track.time_range() else {
         return Ok(());
     };
@@ -76,41 +76,24 @@ fn add_by_times(track: &Mp4Track, random: &mut Random, digest: &mut Digest) -> R
     Ok(())
 }
 
-/// Adds the places of the track of a file, as often as it is gone over.
-fn add_places(alloc: Global, file: &[u8], way: Way, digest: &mut Digest) -> Result<()> {
-    let movie = read_mp4(alloc, file)?;
-    let track = movie.track(1)?;
+/// Adds the places of a track, as often as it is gone over.
+fn add_passes(track: &Mp4Track, way: Way, digest: &mut Digest) -> Result<(), Failure> {
     let mut random = Random::new(1);
     for _ in 0..PASSES {
-        match way {
-            Way::InOrder => add_in_order(track, digest)?,
-            Way::ByNumbers => add_by_numbers(track, digest)?,
-            Way::ByCursor => add_by_cursor(track, digest)?,
-            Way::ByTimes => add_by_times(track, &mut random, digest)?,
-        }
+        let added = match way {
+            Way::InOrder => add_in_order(track, digest),
+            Way::ByNumbers => add_by_numbers(track, digest),
+            Way::ByCursor => add_by_cursor(track, digest),
+            Way::ByTimes => add_by_times(track, &mut random, digest),
+        };
+        added?;
     }
     Ok(())
 }
 
-/// A file of a track of one entry in each table.
-pub fn even_file(alloc: Global, random: &mut Random, boxes: &Parts, count: u32) -> Result<Vec<u8>> {
-    let size = random.below(16).wrapping_add(1);
-    let mut lists = even_tables(alloc, count, size)?;
-    let bytes = list_chunks(&mut lists, 48, DATA, 0)?;
-    made_file(alloc, random, boxes, &lists, bytes)
-}
-
-/// A file of a track whose tables change at each sample.
-pub fn turning_file(
-    alloc: Global,
-    random: &mut Random,
-    boxes: &Parts,
-    count: u32,
-) -> Result<Vec<u8>> {
-    let mut lists = turning_tables(alloc, random, count)?;
-    list_sync_samples(&mut lists, count, 1)?;
-    let bytes = list_chunks(&mut lists, 1, DATA, 0)?;
-    made_file(alloc, random, boxes, &lists, bytes)
+/// Adds the places of the track of a file.
+fn add_places(alloc: Global, file: &[u8], way: Way, digest: &mut Digest) -> Result<(), Failure> {
+    add_passes(read_mp4(alloc, file)?.track(1)?, way, digest)
 }
 
 /// Goes over a track of one entry in each table, and one whose tables change at each sample.
@@ -121,7 +104,7 @@ fn add_tables(
     count: u32,
     way: Way,
     digest: &mut Digest,
-) -> Result<()> {
+) -> Result<(), Failure> {
     let file = even_file(alloc, random, boxes, count)?;
     add_places(alloc, &file, way, digest)?;
     let file = turning_file(alloc, random, boxes, count)?;
@@ -136,7 +119,7 @@ fn add_fragments(
     count: u32,
     way: Way,
     digest: &mut Digest,
-) -> Result<()> {
+) -> Result<(), Failure> {
     let shapes = [
         Shape {
             fragments: count / 3,
@@ -162,7 +145,13 @@ fn add_fragments(
 }
 
 /// Goes over the samples of four files.
-pub fn walk(alloc: Global, seed: u32, parts: u32, way: Way, digest: &mut Digest) -> Result<()> {
+pub fn walk(
+    alloc: Global,
+    seed: u32,
+    parts: u32,
+    way: Way,
+    digest: &mut Digest,
+) -> Result<(), Failure> {
     let mut random = Random::new(u64::from(seed));
     let boxes = Parts::new(alloc)?;
     let count = parts.wrapping_mul(SAMPLES);

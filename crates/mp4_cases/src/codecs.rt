@@ -1,6 +1,7 @@
 //! What the numbers and codes of codec types stand for.
 
 use crate::encoded::encoded_word;
+use crate::refusals::{Answer, refusal};
 use mp4_codec::{Error, FourCC};
 use mp4_entry::{AudioObjectType, AvcProfile, ChannelConfig, SampleFreqIndex, TrackType};
 use std::alloc::{AllocError, Global};
@@ -60,40 +61,34 @@ fn sample_freq_index(alloc: Global, number: u8) -> Result<String, AllocError> {
 }
 
 /// The profile of video of two bytes: its number and the compatibility.
-fn avc_profile(alloc: Global, question: &str) -> Result<Option<String>, Error> {
+fn avc_profile(alloc: Global, question: &str) -> Answer {
     match encoded_word(alloc, question)?.as_slice() {
         [profile, compatibility] => {
-            let value = AvcProfile::try_from((*profile, *compatibility));
-            Ok(Some(told(alloc, &value)?))
+            told(alloc, &AvcProfile::try_from((*profile, *compatibility))).map(Some)
         },
         _ => Ok(None),
     }
 }
 
 /// The type of track of a handler, by its name, and its own handler where that is another.
-fn track_type_of(alloc: Global, handler: FourCC) -> Result<String, Error> {
-    let value = TrackType::try_from(&handler)?;
-    let other = if FourCC::from(value) == handler {
-        ""
-    } else {
-        ", of another handler"
-    };
-    Ok(format!(in alloc; "{value}{other}")?)
+fn track_type_of(alloc: Global, handler: FourCC) -> Result<String, AllocError> {
+    match TrackType::try_from(&handler) {
+        Ok(value) if FourCC::from(value) == handler => format!(in alloc; "{value}"),
+        Ok(value) => format!(in alloc; "{value}, of another handler"),
+        Err(error) => refusal(alloc, &error),
+    }
 }
 
 /// The type of track of a handler of four bytes.
-fn track_type(alloc: Global, question: &str) -> Result<Option<String>, Error> {
+fn track_type(alloc: Global, question: &str) -> Answer {
     match encoded_word(alloc, question)?.as_slice() {
-        [a, b, c, d] => {
-            let code = u32::from_be_bytes([*a, *b, *c, *d]);
-            Ok(Some(track_type_of(alloc, FourCC::from(code))?))
-        },
+        [a, b, c, d] => track_type_of(alloc, FourCC::from([*a, *b, *c, *d])).map(Some),
         _ => Ok(None),
     }
 }
 
 /// What a number stands for among the types of a name.
-fn answer_of_number(alloc: Global, types: &str, question: &str) -> Result<Option<String>, Error> {
+fn answer_of_number(alloc: Global, types: &str, question: &str) -> Answer {
     let Ok(number) = question.parse::<u8>() else {
         return Ok(None);
     };
@@ -103,15 +98,11 @@ fn answer_of_number(alloc: Global, types: &str, question: &str) -> Result<Option
         "sample_freq_index" => sample_freq_index(alloc, number),
         _ => return Ok(None),
     };
-    Ok(Some(answer?))
+    answer.map(Some)
 }
 
 /// What a number or a code stands for among the types of a name; None where it is no number, or the name isn't known.
-pub fn answer_of_codec(
-    alloc: Global,
-    types: &str,
-    question: &str,
-) -> Result<Option<String>, Error> {
+pub fn answer_of_codec(alloc: Global, types: &str, question: &str) -> Answer {
     match types {
         "avc_profile" => avc_profile(alloc, question),
         "track_type" => track_type(alloc, question),

@@ -1,7 +1,8 @@
 //! What a code of four bytes answers.
 
-use mp4_codec::{BoxType, Error, FourCC, Result};
-use std::alloc::Global;
+use crate::refusals::{Answer, refusal};
+use mp4_codec::{BoxType, Error, FourCC};
+use std::alloc::{AllocError, Global};
 use std::str;
 
 /// The code that bytes are; None where they aren't four.
@@ -13,21 +14,23 @@ fn code_of(bytes: &[u8]) -> Option<FourCC> {
 }
 
 /// The code that is read from bytes as a text.
-fn parsed(bytes: &[u8]) -> Result<FourCC> {
+fn parsed(bytes: &[u8]) -> Result<FourCC, Error> {
     match str::from_utf8(bytes) {
         Ok(text) => text.parse::<FourCC>(),
         Err(_) => Err(Error::InvalidData("a text in UTF-8")),
     }
 }
 
-/// The code that is read from bytes as a text.
-fn parsed_text(alloc: Global, bytes: &[u8]) -> Result<String> {
-    let code = parsed(bytes)?;
-    Ok(format!(in alloc; "{code:?}")?)
+/// The same as a text, or why none is read.
+fn parsed_text(alloc: Global, bytes: &[u8]) -> Result<String, AllocError> {
+    match parsed(bytes) {
+        Ok(code) => format!(in alloc; "{code:?}"),
+        Err(error) => refusal(alloc, &error),
+    }
 }
 
 /// What a code answers to a question; None where that is no question.
-fn answer(alloc: Global, code: FourCC, question: &str) -> Result<Option<String>> {
+fn answer(alloc: Global, code: FourCC, question: &str) -> Answer {
     let number = u32::from(code);
     let kind = BoxType::from(number);
     let answer = match question {
@@ -41,13 +44,13 @@ fn answer(alloc: Global, code: FourCC, question: &str) -> Result<Option<String>>
         "code of the type" => format!(in alloc; "{:?}", FourCC::from(kind)),
         _ => return Ok(None),
     };
-    Ok(Some(answer?))
+    answer.map(Some)
 }
 
 /// What the code that bytes are answers to a question; None where that is no question.
-pub fn answer_of_code(alloc: Global, bytes: &[u8], question: &str) -> Result<Option<String>> {
+pub fn answer_of_code(alloc: Global, bytes: &[u8], question: &str) -> Answer {
     if question == "parsed" {
-        return Ok(Some(parsed_text(alloc, bytes)?));
+        return parsed_text(alloc, bytes).map(Some);
     }
     match code_of(bytes) {
         Some(code) => answer(alloc, code, question),

@@ -2,12 +2,13 @@
 
 use crate::boxes::{copy_of, made};
 use crate::media::media_of;
-use mp4_codec::{BoxType, Result};
+use crate::refusals::{Answer, outcome};
+use mp4_codec::BoxType;
 use mp4_entry::{Avc1Box, Hev1Box, MediaConfig, Mp4aBox, StsdBox, Tx3gBox, Vp09Box};
 use std::alloc::Global;
 
 /// What the sample entry of a configuration answers.
-fn answer_of_entry(alloc: Global, config: &MediaConfig, question: &str) -> Result<Option<String>> {
+fn answer_of_entry(alloc: Global, config: &MediaConfig, question: &str) -> Answer {
     match config {
         MediaConfig::AvcConfig(config) => made(alloc, Avc1Box::new(alloc, config), question),
         MediaConfig::HevcConfig(config) => made(alloc, Hev1Box::new(alloc, config), question),
@@ -17,27 +18,21 @@ fn answer_of_entry(alloc: Global, config: &MediaConfig, question: &str) -> Resul
     }
 }
 
-/// Whether a configuration can be written.
-fn check_of(alloc: Global, config: &MediaConfig) -> Result<String> {
-    config.check()?;
-    Ok(String::from_str(alloc, "accepted")?)
-}
-
 /// The type of a configuration's track, of its media, or of its sample entry; None where that isn't asked.
-fn type_of(alloc: Global, config: &MediaConfig, question: &str) -> Result<Option<String>> {
+fn type_of(alloc: Global, config: &MediaConfig, question: &str) -> Answer {
     let answer = match question {
         "track_type" => format!(in alloc; "{}", config.track_type()),
         "media_type" => format!(in alloc; "{:?}", config.media_type()),
         "box_type" => format!(in alloc; "{}", BoxType::from(config.media_type())),
         _ => return Ok(None),
     };
-    Ok(Some(answer?))
+    answer.map(Some)
 }
 
 /// What a configuration answers to a question; None where that is no question.
-fn answer(alloc: Global, config: &MediaConfig, question: &str) -> Result<Option<String>> {
+fn answer(alloc: Global, config: &MediaConfig, question: &str) -> Answer {
     match question {
-        "check" => check_of(alloc, config).map(Some),
+        "check" => outcome(alloc, &config.check(), "accepted").map(Some),
         "copy" => copy_of(alloc, config).map(Some),
         "track_type" | "media_type" | "box_type" => type_of(alloc, config, question),
         _ => match question.strip_suffix(" stsd") {
@@ -51,7 +46,7 @@ fn answer(alloc: Global, config: &MediaConfig, question: &str) -> Result<Option<
 /// configuration.
 ///
 /// `value`, `size` and `written` are those of the sample entry, and with ` stsd` those of the sample description.
-pub fn answer_of_config(alloc: Global, words: &str, question: &str) -> Result<Option<String>> {
+pub fn answer_of_config(alloc: Global, words: &str, question: &str) -> Answer {
     match media_of(alloc, words)? {
         Some(config) => answer(alloc, &config, question),
         None => Ok(None),

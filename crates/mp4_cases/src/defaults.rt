@@ -2,8 +2,9 @@
 
 use crate::boxes::made;
 use crate::kinds::kind_named;
+use crate::refusals::Answer;
 use mp4_boxes::{EdtsBox, MdiaBox, MinfBox, MoovBox, StblBox, TrakBox};
-use mp4_codec::{BoxType, Result};
+use mp4_codec::BoxType;
 use mp4_entry::{
     Avc1Box, AvcCBox, EsdsBox, Hev1Box, HvcCBox, Mp4aBox, StsdBox, Tx3gBox, Vp09Box, VpccBox,
 };
@@ -19,7 +20,7 @@ use mp4_table::{Co64Box, CttsBox, StcoBox, StscBox, StssBox, StszBox, SttsBox};
 use std::alloc::Global;
 
 /// What the default value of a box of movie fragments answers.
-fn answer_of_fragment_box(alloc: Global, kind: BoxType, question: &str) -> Result<Option<String>> {
+fn answer_of_fragment_box(alloc: Global, kind: BoxType, question: &str) -> Answer {
     match kind {
         BoxType::EmsgBox => made(alloc, EmsgBox::default(alloc), question),
         BoxType::MehdBox => made(alloc, Ok(MehdBox::default()), question),
@@ -37,7 +38,7 @@ fn answer_of_fragment_box(alloc: Global, kind: BoxType, question: &str) -> Resul
 
 /// What the default value of a sample table, of a sample description or a box inside, or of a box of movie fragments
 /// answers.
-fn answer_of_sample_box(alloc: Global, kind: BoxType, question: &str) -> Result<Option<String>> {
+fn answer_of_sample_box(alloc: Global, kind: BoxType, question: &str) -> Answer {
     match kind {
         BoxType::Avc1Box => made(alloc, Avc1Box::default(alloc), question),
         BoxType::AvcCBox => made(alloc, AvcCBox::default(alloc), question),
@@ -62,7 +63,7 @@ fn answer_of_sample_box(alloc: Global, kind: BoxType, question: &str) -> Result<
 
 /// What the default value of a type of box answers to a question; None where that is no question, or the type isn't
 /// known.
-pub fn answer_of_default(alloc: Global, kind: &str, question: &str) -> Result<Option<String>> {
+pub fn answer_of_default(alloc: Global, kind: &str, question: &str) -> Answer {
     match kind_named(kind) {
         BoxType::DataBox => made(alloc, DataBox::default(alloc), question),
         BoxType::DinfBox => made(alloc, DinfBox::default(alloc), question),

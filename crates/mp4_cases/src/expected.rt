@@ -138,26 +138,19 @@ fn is_count(expected: &str, given: &str) -> bool {
 
 /// Whether each given count that no expected one names is as it is expected of the others.
 fn are_others(expected: &str, limit: &str, given: &str) -> bool {
-    let mut all = true;
-    for count in given.split(", ") {
+    given.split(", ").all(|count| {
         let (name, number) = parts_of(count);
         let is_named = expected.split(", ").any(|other| parts_of(other).0 == name);
-        all = all && (is_named || are_within(limit, number));
-    }
-    all
+        is_named || are_within(limit, number)
+    })
 }
 
 /// Whether each expected count is among those that were given; `others 0` is said of those that aren't named.
 fn are_counts(expected: &str, given: &str) -> bool {
-    let mut all = true;
-    for count in expected.split(", ") {
-        all = all
-            && match count.strip_prefix("others ") {
-                Some(limit) => are_others(expected, limit, given),
-                None => given.split(", ").any(|other| is_count(count, other)),
-            };
-    }
-    all
+    expected.split(", ").all(|count| match count.strip_prefix("others ") {
+        Some(limit) => are_others(expected, limit, given),
+        None => given.split(", ").any(|other| is_count(count, other)),
+    })
 }
 
 impl Expected {

@@ -1,6 +1,7 @@
 //! What numbers in fixed point answer.
 
-use mp4_codec::{FixedPointI8, FixedPointU8, FixedPointU16, Result};
+use crate::refusals::Answer;
+use mp4_codec::{FixedPointI8, FixedPointU8, FixedPointU16};
 use std::alloc::Global;
 use std::fmt;
 use std::fmt::{Debug, Display, Write};
@@ -41,7 +42,7 @@ fn answer<N: Debug, W: Display, B: Display>(
     raw: &B,
     raw_of_whole: &B,
     question: &str,
-) -> Result<Option<String>> {
+) -> Answer {
     let answer = match question {
         "value" => format!(in alloc; "{number:?}"),
         "whole" => format!(in alloc; "{whole}"),
@@ -49,11 +50,11 @@ fn answer<N: Debug, W: Display, B: Display>(
         "raw of the whole" => format!(in alloc; "{raw_of_whole}"),
         _ => return Ok(None),
     };
-    Ok(Some(answer?))
+    answer.map(Some)
 }
 
 /// What an unsigned number of 8 and 8 bits answers to a question; None where that is no question.
-pub fn answer_of_u8(alloc: Global, bytes: &[u8], question: &str) -> Result<Option<String>> {
+pub fn answer_of_u8(alloc: Global, bytes: &[u8], question: &str) -> Answer {
     let [high, low] = bytes else {
         return Ok(None);
     };
@@ -65,7 +66,7 @@ pub fn answer_of_u8(alloc: Global, bytes: &[u8], question: &str) -> Result<Optio
 }
 
 /// What a signed number of 8 and 8 bits answers to a question; None where that is no question.
-pub fn answer_of_i8(alloc: Global, bytes: &[u8], question: &str) -> Result<Option<String>> {
+pub fn answer_of_i8(alloc: Global, bytes: &[u8], question: &str) -> Answer {
     let [high, low] = bytes else {
         return Ok(None);
     };
@@ -77,7 +78,7 @@ pub fn answer_of_i8(alloc: Global, bytes: &[u8], question: &str) -> Result<Optio
 }
 
 /// What an unsigned number of 16 and 16 bits answers to a question; None where that is no question.
-pub fn answer_of_u16(alloc: Global, bytes: &[u8], question: &str) -> Result<Option<String>> {
+pub fn answer_of_u16(alloc: Global, bytes: &[u8], question: &str) -> Answer {
     let [a, b, c, d] = bytes else {
         return Ok(None);
     };

@@ -1,7 +1,8 @@
 //! What metadata says.
 
 use crate::encoded::digits;
-use mp4_codec::Result;
+use crate::refusals::{Answer, refusal};
+use mp4_codec::Error;
 use mp4_meta::{IlstBox, Metadata};
 use std::alloc::{AllocError, Global};
 use std::borrow::CowStr;
@@ -9,16 +10,17 @@ use std::borrow::CowStr;
 /// A text as a literal.
 fn text_of(
     alloc: Global,
-    text: Option<CowStr<'_, Global>>,
-) -> std::result::Result<String, AllocError> {
+    text: Result<Option<CowStr<'_, Global>>, Error>,
+) -> Result<String, AllocError> {
     match text {
-        Some(text) => format!(in alloc; "{:?}", text.as_str()),
-        None => String::from_str(alloc, "none"),
+        Ok(Some(text)) => format!(in alloc; "{:?}", text.as_str()),
+        Ok(None) => String::from_str(alloc, "none"),
+        Err(error) => refusal(alloc, &error),
     }
 }
 
 /// A year as a number.
-fn year_of(alloc: Global, year: Option<u32>) -> std::result::Result<String, AllocError> {
+fn year_of(alloc: Global, year: Option<u32>) -> Result<String, AllocError> {
     match year {
         Some(year) => format!(in alloc; "{year}"),
         None => String::from_str(alloc, "none"),
@@ -26,7 +28,7 @@ fn year_of(alloc: Global, year: Option<u32>) -> std::result::Result<String, Allo
 }
 
 /// The bytes of a picture.
-fn poster_of(alloc: Global, poster: Option<&[u8]>) -> std::result::Result<String, AllocError> {
+fn poster_of(alloc: Global, poster: Option<&[u8]>) -> Result<String, AllocError> {
     match poster {
         Some(bytes) => digits(alloc, bytes),
         None => String::from_str(alloc, "none"),
@@ -39,30 +41,22 @@ fn is_question(question: &str) -> bool {
 }
 
 /// What metadata answers to a question; None where that is no question.
-pub fn answer_of_metadata<M: Metadata>(
-    alloc: Global,
-    metadata: &M,
-    question: &str,
-) -> Result<Option<String>> {
+pub fn answer_of_metadata<M: Metadata>(alloc: Global, metadata: &M, question: &str) -> Answer {
     let answer = match question {
-        "title" => text_of(alloc, metadata.title()?),
+        "title" => text_of(alloc, metadata.title()),
         "year" => year_of(alloc, metadata.year()),
         "poster" => poster_of(alloc, metadata.poster()),
-        "summary" => text_of(alloc, metadata.summary()?),
+        "summary" => text_of(alloc, metadata.summary()),
         _ => return Ok(None),
     };
-    Ok(Some(answer?))
+    answer.map(Some)
 }
 
 /// What the metadata of a movie answers to a question; None where that is no question.
-pub fn answer_of_movie(
-    alloc: Global,
-    metadata: Option<&IlstBox>,
-    question: &str,
-) -> Result<Option<String>> {
+pub fn answer_of_movie(alloc: Global, metadata: Option<&IlstBox>, question: &str) -> Answer {
     match metadata {
         Some(list) => answer_of_metadata(alloc, list, question),
-        None if is_question(question) => Ok(Some(String::from_str(alloc, "no metadata")?)),
+        None if is_question(question) => String::from_str(alloc, "no metadata").map(Some),
         None => Ok(None),
     }
 }

@@ -1,8 +1,7 @@
 //! Questions that are said before they are asked, and whether their answers are as wanted.
 
 use crate::subjects::Subject;
-use mp4_media::Result;
-use std::alloc::Global;
+use std::alloc::{AllocError, Global};
 use std::io::Write;
 
 /// Where each question is said before it is asked and after it is answered; nowhere where there is no sink. A line that
@@ -20,7 +19,7 @@ impl<W: Write> Announced<W> {
         subject: Subject,
         question: &str,
         case: &str,
-    ) -> Result<()> {
+    ) -> Result<(), AllocError> {
         if let Some(sink) = &mut self.sink {
             let line = format!(in alloc; "? {subject:?} {question}, {case}\n")?;
             let _ = sink.write_all(line.as_bytes());

@@ -3,8 +3,8 @@
 use bytes::Bytes;
 use mp4_cases::encoded::{encoded_word, encoded_words};
 use mp4_cases::media::media_of;
-use mp4_media::{Mp4Sample, Result, Text, TrackConfig, TrackType, WriterCall};
-use std::alloc::Global;
+use mp4_media::{Mp4Sample, Text, TrackConfig, TrackType, WriterCall};
+use std::alloc::{AllocError, Global};
 use std::str;
 
 /// The kind of a track.
@@ -18,9 +18,9 @@ fn track_type_of(word: &str) -> Option<TrackType> {
 }
 
 /// The language that bytes encode.
-fn language_of(alloc: Global, word: &str) -> Result<Option<Text>> {
+fn language_of(alloc: Global, word: &str) -> Result<Option<Text>, AllocError> {
     match str::from_utf8(&encoded_word(alloc, word)?) {
-        Ok(language) => Ok(Some(Text::from_str(alloc, language)?)),
+        Ok(language) => Text::from_str(alloc, language).map(Some),
         Err(_) => Ok(None),
     }
 }
@@ -37,7 +37,7 @@ fn set<T: Drop>(place: &mut T, value: Option<T>) -> bool {
 }
 
 /// Changes what a track is added with: `timescale 3`, `language 'eng'` or `type video`. Whether that is such a change.
-fn set_option(alloc: Global, config: &mut TrackConfig, option: &str) -> Result<bool> {
+fn set_option(alloc: Global, config: &mut TrackConfig, option: &str) -> Result<bool, AllocError> {
     Ok(match option.split_once(' ') {
         Some(("timescale", number)) => set(&mut config.timescale, number.parse::<u32>().ok()),
         Some(("language", word)) => set(&mut config.language, language_of(alloc, word)?),
@@ -48,12 +48,14 @@ fn set_option(alloc: Global, config: &mut TrackConfig, option: &str) -> Result<b
 
 /// What a track is added with: its media, and after commas what differs from 1000 ticks a second, the language `und`
 /// and the kind of track of such media.
-fn track_of(alloc: Global, text: &str) -> Result<Option<TrackConfig>> {
+fn track_of(alloc: Global, text: &str) -> Result<Option<TrackConfig>, AllocError> {
     let (media, options) = text.split_once(", ").unwrap_or((text, ""));
     let Some(media) = media_of(alloc, media)? else {
         return Ok(None);
     };
-    let mut config = TrackConfig::from_media(alloc, media)?;
+    let Ok(mut config) = TrackConfig::from_media(alloc, media) else {
+        return Err(AllocError);
+    };
     let mut is_track = true;
     for option in options.split(", ") {
         if !option.is_empty() {
@@ -70,7 +72,7 @@ fn sample_of(
     times: (&str, &str),
     sync: &str,
     bytes: &[&str],
-) -> Result<Option<WriterCall>> {
+) -> Result<Option<WriterCall>, AllocError> {
     let (Ok(id), Ok(duration), Ok(rendering_offset)) = (
         id.parse::<u32>(),
         times.0.parse::<u32>(),
@@ -91,7 +93,7 @@ fn sample_of(
 
 /// The call that a text writes: `add_track ttxt, timescale 3`; `write_sample 1 500 0 sync 'abc'`, with the id of the
 /// track, duration, rendering offset, `sync` or `-`, and bytes; or `write_end`. None where it is no call.
-pub fn call_of(alloc: Global, text: &str) -> Result<Option<WriterCall>> {
+pub fn call_of(alloc: Global, text: &str) -> Result<Option<WriterCall>, AllocError> {
     if let Some(track) = text.strip_prefix("add_track ") {
         return Ok(track_of(alloc, track)?.map(WriterCall::AddTrack));
     }

@@ -1,21 +1,20 @@
 //! What is extracted of a track of a file.
 
-use crate::files::number;
-use crate::reports::{Answer, of_printing, opened};
+use mp4_cases::encoded::write_digits;
 use mp4_extract::{
     ExtractError, SampleFormat, Subtitle, SubtitleReader, SubtitleTimes, extract, write_line,
     write_srt,
 };
-use mp4_media::{Error, FileError};
-use std::alloc::Global;
-use std::fmt::Write as _;
+use mp4_media::Mp4File;
+use std::alloc::{AllocError, Global};
 use std::io;
 use std::io::{ErrorKind, Write};
 
 /// The samples that are asked for: those of a track from a number on, at most so many.
 #[derive(Clone, Copy)]
-pub struct Asked<'a> {
-    pub track: &'a str,
+pub struct Asked {
+    /// The id of the track.
+    pub track: u32,
     pub from: u32,
     pub count: u32,
 }
@@ -39,11 +38,11 @@ fn lacks_memory(error: &ExtractError) -> bool {
 }
 
 /// Why samples aren't extracted, in words.
-fn refusal(alloc: Global, error: ExtractError) -> Answer {
-    if lacks_memory(&error) {
-        return Err(FileError::from(Error::OutOfMemory));
+fn refusal(alloc: Global, error: &ExtractError) -> Result<String, AllocError> {
+    if lacks_memory(error) {
+        return Err(AllocError);
     }
-    Ok(format!(in alloc; "refused: {error}")?)
+    format!(in alloc; "refused: {error}")
 }
 
 /// A sink that holds so many more bytes at most.
@@ -69,42 +68,43 @@ impl Write for FullSink {
 /// How many samples are written into a sink of so many bytes, or why one isn't.
 pub fn extracted_into(
     alloc: Global,
-    bytes: &[u8],
+    movie: &mut Mp4File<&[u8]>,
     id: u32,
     format: SampleFormat,
     room: usize,
-) -> Answer {
-    let mut movie = opened(alloc, bytes)?;
+) -> Result<String, AllocError> {
     let mut sink = FullSink { room };
-    match extract(alloc, &mut movie, id, 1, u32::MAX, format, &mut sink) {
-        Ok(written) => Ok(format!(in alloc; "{written} samples")?),
-        Err(error) => refusal(alloc, error),
+    match extract(alloc, movie, id, 1, u32::MAX, format, &mut sink) {
+        Ok(written) => format!(in alloc; "{written} samples"),
+        Err(error) => refusal(alloc, &error),
     }
 }
 
 /// How many samples are written, or why one isn't, and the bytes that are.
-pub fn extracted(alloc: Global, bytes: &[u8], asked: Asked, format: SampleFormat) -> Answer {
+pub fn extracted(
+    alloc: Global,
+    movie: &mut Mp4File<&[u8]>,
+    asked: Asked,
+    format: SampleFormat,
+) -> Result<String, AllocError> {
     let Asked { track, from, count } = asked;
-    let mut movie = opened(alloc, bytes)?;
     let mut out = Vec::new(alloc);
-    let id = number(track);
-    let mut text = match extract(alloc, &mut movie, id, from, count, format, &mut out) {
+    let mut text = match extract(alloc, movie, track, from, count, format, &mut out) {
         Ok(written) => format!(in alloc; "{written} samples:")?,
-        Err(error) => refusal(alloc, error)?,
+        Err(error) => refusal(alloc, &error)?,
     };
-    for byte in out.iter() {
-        write!(text, " {byte:02x}")?;
-    }
+    write_digits(&mut text, &out)?;
     Ok(text)
 }
 
-/// Writes a subtitle, if it is shown, before which so many are; the answer is how many are then.
+/// Writes a subtitle, if it is shown, before which so many are; the answer is how many are then. A list of bytes takes
+/// all that there is memory for.
 fn write_shown(
     srt: bool,
     before: u64,
     subtitle: &Subtitle,
     out: &mut Vec<u8>,
-) -> Result<u64, FileError> {
+) -> Result<u64, AllocError> {
     if !subtitle.is_shown {
         return Ok(before);
     }
@@ -114,34 +114,52 @@ fn write_shown(
     } else {
         write_line(subtitle, out)
     };
-    written.map_err(of_printing)?;
-    Ok(shown)
+    match written {
+        Ok(()) => Ok(shown),
+        Err(_) => Err(AllocError),
+    }
 }
 
 /// Writes why a sample is refused, as a line.
-fn write_refusal(alloc: Global, error: ExtractError, out: &mut Vec<u8>) -> Result<(), FileError> {
-    let said = refusal(alloc, error)?;
-    writeln!(out, "{said}").map_err(of_printing)
+fn write_refusal(alloc: Global, error: &ExtractError, out: &mut Vec<u8>) -> Result<(), AllocError> {
+    out.extend_from_slice(refusal(alloc, error)?.as_bytes())?;
+    out.extend_from_slice(b"\n")
+}
+
+/// Writes the texts that a reader reads.
+fn write_texts(
+    alloc: Global,
+    movie: &mut Mp4File<&[u8]>,
+    reader: &mut SubtitleReader,
+    srt: bool,
+    out: &mut Vec<u8>,
+) -> Result<(), AllocError> {
+    let mut shown = 0u64;
+    for _ in 0..u32::MAX {
+        match reader.next(movie) {
+            Some(Ok(subtitle)) => shown = write_shown(srt, shown, &subtitle, out)?,
+            Some(Err(error)) => write_refusal(alloc, &error, out)?,
+            None => break,
+        }
+    }
+    Ok(())
 }
 
 /// The texts of a track of text that are shown, and why others are refused, with the ends of lines written out.
-pub fn texts(alloc: Global, bytes: &[u8], track: &str, srt: bool, times: SubtitleTimes) -> Answer {
-    let mut movie = opened(alloc, bytes)?;
-    let mut reader = match SubtitleReader::new(alloc, &movie, number(track), times) {
-        Ok(reader) => reader,
-        Err(error) => return refusal(alloc, error),
-    };
-    let mut out = Vec::new(alloc);
-    let mut shown = 0u64;
-    for _ in 0..u32::MAX {
-        let Some(answer) = reader.next(&mut movie) else {
-            break;
-        };
-        match answer {
-            Ok(subtitle) => shown = write_shown(srt, shown, &subtitle, &mut out)?,
-            Err(error) => write_refusal(alloc, error, &mut out)?,
+pub fn texts(
+    alloc: Global,
+    movie: &mut Mp4File<&[u8]>,
+    id: u32,
+    srt: bool,
+    times: SubtitleTimes,
+) -> Result<String, AllocError> {
+    match SubtitleReader::new(alloc, movie, id, times) {
+        Ok(mut reader) => {
+            let mut out = Vec::new(alloc);
+            write_texts(alloc, movie, &mut reader, srt, &mut out)?;
+            let text = String::from_utf8_lossy(alloc, out.as_slice())?;
+            format!(in alloc; "{text:?}")
         }
+        Err(error) => refusal(alloc, &error),
     }
-    let text = String::from_utf8_lossy(alloc, out.as_slice())?;
-    Ok(format!(in alloc; "{text:?}")?)
 }

@@ -1,12 +1,13 @@
 //! What a file answers of the samples of its tracks.
 
 use crate::sought::{SoughtFile, is_read_alike, is_read_into_alike, read_again};
-use crate::tracks::shown;
+use mp4_cases::refusals::{refusal, unless};
 use mp4_media::{
-    Comparisons, Error, Mp4Reader, Mp4Sample, Result, SamplePlace, SampleRef, Samples, read_mp4,
+    Comparisons, Error, Mp4Reader, Mp4Sample, SamplePlace, SampleRef, Samples, read_mp4,
 };
 use std::alloc::{AllocError, Global};
 use std::fmt::Write;
+use std::str;
 
 /// How many samples are walked over to the one that is asked for, at most.
 const MOST_WALKED: u32 = 100;
@@ -22,28 +23,29 @@ pub struct OpenedFile<'a> {
     pub buffer: Vec<u8>,
 }
 
-/// Writes bytes: a text where all are letters or digits, else two digits for each.
-fn write_bytes(text: &mut String, bytes: &[u8]) -> std::result::Result<(), AllocError> {
-    if !bytes.iter().all(u8::is_ascii_alphanumeric) {
-        for byte in bytes {
-            write!(text, "{byte:02x}")?;
-        }
-        return Ok(());
-    }
-    text.push_str("'")?;
+/// Writes two digits for each byte.
+fn write_digits(text: &mut String, bytes: &[u8]) -> Result<(), AllocError> {
     for byte in bytes {
-        text.push(char::from(*byte))?;
+        write!(text, "{byte:02x}")?;
     }
-    text.push_str("'")
+    Ok(())
+}
+
+/// Writes bytes: a text where all are letters or digits, else two digits for each.
+fn write_bytes(text: &mut String, bytes: &[u8]) -> Result<(), AllocError> {
+    match str::from_utf8(bytes) {
+        Ok(letters) if bytes.iter().all(u8::is_ascii_alphanumeric) => write!(text, "'{letters}'"),
+        _ => write_digits(text, bytes),
+    }
 }
 
 /// Where sample `k` of a track is.
-fn located(movie: &Mp4Reader, id: u32, k: u32) -> Result<Option<SamplePlace>> {
+pub fn located(movie: &Mp4Reader, id: u32, k: u32) -> Result<Option<SamplePlace>, Error> {
     movie.track(id)?.locate(k)
 }
 
 /// Whether the next of the samples that are given in order is as it was located.
-fn is_next(samples: &mut Samples, located: &Result<Option<SamplePlace>>) -> bool {
+fn is_next(samples: &mut Samples, located: &Result<Option<SamplePlace>, Error>) -> bool {
     match (samples.next(), located) {
         (Some(Ok(one)), Ok(Some(other))) => one == other.place(),
         (Some(Err(one)), Err(other)) => one == *other && samples.next().is_none(),
@@ -54,7 +56,12 @@ fn is_next(samples: &mut Samples, located: &Result<Option<SamplePlace>>) -> bool
 
 /// Whether sample `k` of a track is given in order as it was located: as the first from its number on, and after each
 /// of the three before it, if that one is there.
-fn is_in_order(movie: &Mp4Reader, id: u32, k: u32, located: &Result<Option<SamplePlace>>) -> bool {
+fn is_in_order(
+    movie: &Mp4Reader,
+    id: u32,
+    k: u32,
+    located: &Result<Option<SamplePlace>, Error>,
+) -> bool {
     let Some(track) = movie.tracks().get(&id) else {
         return true;
     };
@@ -76,7 +83,12 @@ fn is_in_order(movie: &Mp4Reader, id: u32, k: u32, located: &Result<Option<Sampl
 
 /// Whether sample `k` of a track is given with its bytes, by a walk from the first on, as it is read by its number, if
 /// those before it are there.
-fn is_read_in_order(movie: &Mp4Reader, id: u32, k: u32, read: &Result<Option<SampleRef>>) -> bool {
+fn is_read_in_order(
+    movie: &Mp4Reader,
+    id: u32,
+    k: u32,
+    read: &Result<Option<SampleRef>, Error>,
+) -> bool {
     let Ok(mut samples) = movie.samples(id) else {
         return *read == Err(Error::TrakNotFound(id));
     };
@@ -96,7 +108,7 @@ fn is_read_in_order(movie: &Mp4Reader, id: u32, k: u32, read: &Result<Option<Sam
 }
 
 /// Writes where a sample is: offset, size, start time, duration, rendering offset, and whether it is a sync sample.
-fn write_place(text: &mut String, place: &SamplePlace) -> std::result::Result<(), AllocError> {
+fn write_place(text: &mut String, place: &SamplePlace) -> Result<(), AllocError> {
     let sync = if place.is_sync { "sync" } else { "-" };
     write!(
         text,
@@ -108,8 +120,8 @@ fn write_place(text: &mut String, place: &SamplePlace) -> std::result::Result<()
 /// Writes where a sample is, that there is none, or why it is refused.
 fn write_located(
     text: &mut String,
-    located: &Result<Option<SamplePlace>>,
-) -> std::result::Result<(), AllocError> {
+    located: &Result<Option<SamplePlace>, Error>,
+) -> Result<(), AllocError> {
     match located {
         Ok(Some(place)) => write_place(text, place),
         Ok(None) => text.push_str("none"),
@@ -120,8 +132,8 @@ fn write_located(
 /// Writes the bytes of a sample that was located, or why they aren't read.
 fn write_read(
     text: &mut String,
-    read: &Result<Option<SampleRef>>,
-) -> std::result::Result<(), AllocError> {
+    read: &Result<Option<SampleRef>, Error>,
+) -> Result<(), AllocError> {
     text.push_str(" ")?;
     match read {
         Ok(Some(sample)) => write_bytes(text, sample.bytes),
@@ -149,8 +161,8 @@ fn is_at(place: &SamplePlace, sample: &SampleRef) -> bool {
 /// Whether what is read of a sample is what the bytes have where it was located.
 fn is_read_there(
     bytes: &[u8],
-    located: &Result<Option<SamplePlace>>,
-    read: &Result<Option<SampleRef>>,
+    located: &Result<Option<SamplePlace>, Error>,
+    read: &Result<Option<SampleRef>, Error>,
 ) -> bool {
     match (located, read) {
         (Ok(Some(place)), Ok(Some(sample))) => {
@@ -173,7 +185,7 @@ fn is_equal(copied: &Mp4Sample, borrowed: &SampleRef) -> bool {
 }
 
 /// A copy of sample `k` of a track, which is made once more where memory is refused.
-fn copied_again(movie: &mut Mp4Reader, id: u32, k: u32) -> Result<Option<Mp4Sample>> {
+fn copied_again(movie: &mut Mp4Reader, id: u32, k: u32) -> Result<Option<Mp4Sample>, Error> {
     match movie.read_sample(id, k) {
         Err(Error::OutOfMemory) => movie.read_sample(id, k),
         answer => answer,
@@ -181,7 +193,10 @@ fn copied_again(movie: &mut Mp4Reader, id: u32, k: u32) -> Result<Option<Mp4Samp
 }
 
 /// Whether a sample is copied as it is borrowed.
-fn is_copied(copied: &Result<Option<Mp4Sample>>, borrowed: &Result<Option<SampleRef>>) -> bool {
+fn is_copied(
+    copied: &Result<Option<Mp4Sample>, Error>,
+    borrowed: &Result<Option<SampleRef>, Error>,
+) -> bool {
     match (copied, borrowed) {
         (Ok(Some(one)), Ok(Some(other))) => is_equal(one, other),
         (Ok(None), Ok(None)) => true,
@@ -197,67 +212,93 @@ fn write_sample(
     id: u32,
     k: u32,
     has_bytes: bool,
-) -> std::result::Result<(), AllocError> {
+) -> Result<(), AllocError> {
     let located = located(&file.movie, id, k);
     let read = file.movie.read_sample_ref(id, k);
     write_located(text, &located)?;
     if has_bytes && matches!(&located, Ok(Some(_))) {
         write_read(text, &read)?;
     }
-    if !is_read_there(file.bytes, &located, &read) {
-        text.push_str(", read as another")?;
-    }
-    if !is_in_order(&file.movie, id, k, &located) || !is_read_in_order(&file.movie, id, k, &read) {
-        text.push_str(", in order as another")?;
-    }
-    if !is_copied(&copied_again(&mut file.movie, id, k), &read) {
-        text.push_str(", copied as another")?;
-    }
-    if !is_read_alike(&read_again(&mut file.sought, id, k), &read)
-        || !is_read_into_alike(&mut file.sought, id, k, &mut file.buffer, &read)
-    {
-        text.push_str(", sought as another")?;
-    }
-    Ok(())
+    let there = is_read_there(file.bytes, &located, &read);
+    let in_order = is_in_order(&file.movie, id, k, &located)
+        && is_read_in_order(&file.movie, id, k, &read);
+    let copied = is_copied(&copied_again(&mut file.movie, id, k), &read);
+    let sought = is_read_alike(&read_again(&mut file.sought, id, k), &read)
+        && is_read_into_alike(&mut file.sought, id, k, &mut file.buffer, &read);
+    write!(
+        text,
+        "{}{}{}{}",
+        unless(there, ", read as another"),
+        unless(in_order, ", in order as another"),
+        unless(copied, ", copied as another"),
+        unless(sought, ", sought as another")
+    )
 }
 
 /// Where sample `k` of a track is.
-pub fn place(alloc: Global, file: &mut OpenedFile, id: u32, k: u32) -> Result<String> {
+pub fn place(alloc: Global, file: &mut OpenedFile, id: u32, k: u32) -> Result<String, AllocError> {
     let mut text = String::new(alloc);
     write_sample(&mut text, file, id, k, false)?;
     Ok(text)
 }
 
 /// Where sample `k` of a track is, and its bytes.
-pub fn sample(alloc: Global, file: &mut OpenedFile, id: u32, k: u32) -> Result<String> {
+pub fn sample(alloc: Global, file: &mut OpenedFile, id: u32, k: u32) -> Result<String, AllocError> {
     let mut text = String::new(alloc);
     write_sample(&mut text, file, id, k, true)?;
     Ok(text)
 }
 
-/// The samples of a track, one after the other.
-pub fn samples(alloc: Global, file: &mut OpenedFile, id: u32) -> Result<String> {
+/// Writes sample `k` of a track and its bytes after those before.
+fn write_next(text: &mut String, file: &mut OpenedFile, id: u32, k: u32) -> Result<(), AllocError> {
+    if !text.is_empty() {
+        text.push_str(" / ")?;
+    }
+    write_sample(text, file, id, k, true)
+}
+
+/// So many samples of a track, one after the other.
+fn first_samples(
+    alloc: Global,
+    file: &mut OpenedFile,
+    id: u32,
+    count: u32,
+) -> Result<String, AllocError> {
     let mut text = String::new(alloc);
-    for k in 1..=file.movie.sample_count(id)? {
-        if k > 1 {
-            text.push_str(" / ")?;
-        }
-        write_sample(&mut text, file, id, k, true)?;
+    for k in 1..=count {
+        write_next(&mut text, file, id, k)?;
+    }
+    Ok(text)
+}
+
+/// The samples of a track, one after the other.
+pub fn samples(alloc: Global, file: &mut OpenedFile, id: u32) -> Result<String, AllocError> {
+    match file.movie.sample_count(id) {
+        Ok(count) => first_samples(alloc, file, id, count),
+        Err(error) => refusal(alloc, &error),
+    }
+}
+
+/// What the numbers are answered with that no sample of a track with so many has.
+fn samples_outside(
+    alloc: Global,
+    file: &mut OpenedFile,
+    id: u32,
+    count: u32,
+) -> Result<String, AllocError> {
+    let mut text = String::new(alloc);
+    for k in [0, count.saturating_add(1), u32::MAX] {
+        write_next(&mut text, file, id, k)?;
     }
     Ok(text)
 }
 
 /// What the numbers 0, the one after the last sample of a track, and 4294967295 are answered with.
-pub fn outside(alloc: Global, file: &mut OpenedFile, id: u32) -> Result<String> {
-    let after = file.movie.sample_count(id)?.saturating_add(1);
-    let mut text = String::new(alloc);
-    for k in [0, after, u32::MAX] {
-        if !text.is_empty() {
-            text.push_str(" / ")?;
-        }
-        write_sample(&mut text, file, id, k, true)?;
+pub fn outside(alloc: Global, file: &mut OpenedFile, id: u32) -> Result<String, AllocError> {
+    match file.movie.sample_count(id) {
+        Ok(count) => samples_outside(alloc, file, id, count),
+        Err(error) => refusal(alloc, &error),
     }
-    Ok(text)
 }
 
 /// The names of the counts of a lookup.
@@ -275,54 +316,77 @@ fn counts_of(place: &SamplePlace) -> [u32; 6] {
     [stsc, stts, ctts, stss, runs, place.size_reads]
 }
 
-/// Lowers each number to a count that is smaller.
-fn lower(least: &mut [u32; 6], counts: &[u32; 6]) {
-    for (number, count) in least.iter_mut().zip(counts.iter()) {
-        *number = (*number).min(*count);
+/// The least and the most counts of some look-ups.
+#[derive(Clone, Copy)]
+struct CountRanges {
+    least: [u32; 6],
+    most: [u32; 6],
+}
+
+impl CountRanges {
+    /// Those of no look-up.
+    fn new() -> Self {
+        CountRanges {
+            least: [u32::MAX; 6],
+            most: [0; 6],
+        }
+    }
+
+    /// Adds the counts of a look-up.
+    fn add(&mut self, counts: &[u32; 6]) {
+        for (least, count) in self.least.iter_mut().zip(counts.iter()) {
+            *least = (*least).min(*count);
+        }
+        for (most, count) in self.most.iter_mut().zip(counts.iter()) {
+            *most = (*most).max(*count);
+        }
     }
 }
 
-/// Raises each number to a count that is larger.
-fn raise(most: &mut [u32; 6], counts: &[u32; 6]) {
-    for (number, count) in most.iter_mut().zip(counts.iter()) {
-        *number = (*number).max(*count);
+/// Writes a count after its name, and after those before: `stsc 1`, or `stsc 1..3` where samples differ.
+fn write_count(text: &mut String, name: &str, least: u32, most: u32) -> Result<(), AllocError> {
+    let separator = if text.is_empty() { "" } else { ", " };
+    if most > least {
+        write!(text, "{separator}{name} {least}..{most}")
+    } else {
+        write!(text, "{separator}{name} {least}")
     }
 }
 
-/// Writes each count after its name, as `stsc 1`, or `stsc 1..3` where samples differ.
-fn counts_text(alloc: Global, least: [u32; 6], most: [u32; 6]) -> Result<String> {
+/// All counts, each after its name.
+fn counts_text(alloc: Global, ranges: &CountRanges) -> Result<String, AllocError> {
+    let CountRanges { least, most } = *ranges;
     let mut text = String::new(alloc);
     for ((name, least), most) in COUNTS.iter().zip(least).zip(most) {
-        if !text.is_empty() {
-            text.push_str(", ")?;
-        }
-        write!(text, "{name} {least}")?;
-        if most > least {
-            write!(text, "..{most}")?;
-        }
+        write_count(&mut text, name, least, most)?;
     }
     Ok(text)
 }
 
 /// How many numbers were compared in each table to find each of these samples of a track that is there, and how many
 /// sizes were read.
+fn count_ranges(movie: &Mp4Reader, id: u32, first: u32, last: u32) -> Result<CountRanges, Error> {
+    let mut ranges = CountRanges::new();
+    for k in first..=last {
+        if let Some(place) = located(movie, id, k)? {
+            ranges.add(&counts_of(&place));
+        }
+    }
+    Ok(ranges)
+}
+
+/// The same as a text.
 pub fn comparisons(
     alloc: Global,
     movie: &Mp4Reader,
     id: u32,
     first: u32,
     last: u32,
-) -> Result<String> {
-    let mut least = [u32::MAX; 6];
-    let mut most = [0; 6];
-    for k in first..=last {
-        if let Some(place) = located(movie, id, k)? {
-            let counts = counts_of(&place);
-            lower(&mut least, &counts);
-            raise(&mut most, &counts);
-        }
+) -> Result<String, AllocError> {
+    match count_ranges(movie, id, first, last) {
+        Ok(ranges) => counts_text(alloc, &ranges),
+        Err(error) => refusal(alloc, &error),
     }
-    counts_text(alloc, least, most)
 }
 
 /// A sample without where it lies.
@@ -334,44 +398,31 @@ fn without_place(sample: Option<SampleRef<'_>>) -> Option<SampleRef<'_>> {
     })
 }
 
-/// Whether two samples of a track are equal but for where they lie, as they are borrowed and as they are copied.
+/// Whether two samples of a track are equal but for where they lie, as they are borrowed, and as they are copied.
+fn are_equal(movie: &mut Mp4Reader, id: u32, one: u32, other: u32) -> Result<(bool, bool), Error> {
+    let is_borrowed = without_place(movie.read_sample_ref(id, one)?)
+        == without_place(movie.read_sample_ref(id, other)?);
+    let is_copied = movie.read_sample(id, one)? == movie.read_sample(id, other)?;
+    Ok((is_borrowed, is_copied))
+}
+
+/// The same as a text.
 pub fn compared(
     alloc: Global,
     movie: &mut Mp4Reader,
     id: u32,
     one: u32,
     other: u32,
-) -> Result<String> {
-    let is_borrowed = without_place(movie.read_sample_ref(id, one)?)
-        == without_place(movie.read_sample_ref(id, other)?);
-    let is_copied = movie.read_sample(id, one)? == movie.read_sample(id, other)?;
-    let text = match (is_borrowed, is_copied) {
-        (true, true) => "equal",
-        (false, false) => "different",
-        _ => "equal in one way",
-    };
-    Ok(String::from_str(alloc, text)?)
+) -> Result<String, AllocError> {
+    match are_equal(movie, id, one, other) {
+        Ok((true, true)) => String::from_str(alloc, "equal"),
+        Ok((false, false)) => String::from_str(alloc, "different"),
+        Ok(_) => String::from_str(alloc, "equal in one way"),
+        Err(error) => refusal(alloc, &error),
+    }
 }
 
 /// A sample that is kept after the movie that it was read of.
-fn kept(alloc: Global, bytes: &[u8], id: u32, k: u32) -> Result<Option<SampleRef<'_>>> {
-    let movie = read_mp4(alloc, bytes)?;
-    movie.read_sample_ref(id, k)
-}
-
-/// A value and its type's words for it, as a program prints them.
-pub fn printed(
-    alloc: Global,
-    file: &mut OpenedFile,
-    question: &str,
-    id: u32,
-    k: u32,
-) -> Result<Option<String>> {
-    let answer = match question {
-        "located" => shown(alloc, located(&file.movie, id, k)),
-        "borrowed" => shown(alloc, kept(alloc, file.bytes, id, k)),
-        "copied" => shown(alloc, file.movie.read_sample(id, k)),
-        _ => return Ok(None),
-    };
-    Ok(Some(answer?))
+pub fn kept(alloc: Global, bytes: &[u8], id: u32, k: u32) -> Result<Option<SampleRef<'_>>, Error> {
+    read_mp4(alloc, bytes)?.read_sample_ref(id, k)
 }

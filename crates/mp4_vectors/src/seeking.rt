@@ -1,8 +1,9 @@
 //! What a file answers to a seeker.
 
-use mp4_media::{FoundNumber, Mp4Reader, Mp4Track, Place, Result};
-use std::alloc::Global;
-use std::fmt::Write;
+use crate::files::number;
+use mp4_cases::refusals::{Answer, refusal, refused, unless};
+use mp4_media::{FoundNumber, Mp4Reader, Mp4Track, Place};
+use std::alloc::{AllocError, Global};
 
 /// How many samples after the one that was found are looked at, at most.
 const MOST_LATER: u32 = 100;
@@ -53,30 +54,23 @@ fn is_one(track: &Mp4Track, number: Option<u32>, sought: Sought) -> bool {
     }
 }
 
-/// Writes a number that was found, and whether it is what samples in their order say.
+/// A number that was found, and whether it is what samples in their order say.
 fn found(
     alloc: Global,
     number: Option<u32>,
     counted: FoundNumber,
     is_right: bool,
-) -> Result<String> {
-    let mut text = String::new(alloc);
+) -> Result<String, AllocError> {
+    let counted = unless(counted.number == number, ", counted as another");
+    let located = unless(is_right, ", located as another");
     match number {
-        None => text.push_str("none")?,
-        Some(number) => write!(text, "{number}")?,
+        None => format!(in alloc; "none{counted}{located}"),
+        Some(number) => format!(in alloc; "{number}{counted}{located}"),
     }
-    if counted.number != number {
-        text.push_str(", counted as another")?;
-    }
-    if !is_right {
-        text.push_str(", located as another")?;
-    }
-    Ok(text)
 }
 
 /// The last sample that is decoded at or before a time.
-pub fn sample_at(alloc: Global, movie: &Mp4Reader, id: u32, time: u64) -> Result<String> {
-    let track = movie.track(id)?;
+fn sample_at(alloc: Global, track: &Mp4Track, time: u64) -> Result<String, AllocError> {
     let number = track.sample_at(time);
     let sought = Sought::DecodedBy(time);
     let is_right = is_one(track, number, sought) && is_last(track, number, u32::MAX, sought);
@@ -84,34 +78,51 @@ pub fn sample_at(alloc: Global, movie: &Mp4Reader, id: u32, time: u64) -> Result
 }
 
 /// The last sync sample up to a number.
-pub fn sync_sample(alloc: Global, movie: &Mp4Reader, id: u32, k: u32) -> Result<String> {
-    let track = movie.track(id)?;
+fn sync_sample(alloc: Global, track: &Mp4Track, k: u32) -> Result<String, AllocError> {
     let number = track.sync_sample_at_or_before(k);
     let is_right = is_one(track, number, Sought::Sync) && is_last(track, number, k, Sought::Sync);
-    found(
-        alloc,
-        number,
-        track.find_sync_sample_at_or_before(k),
-        is_right,
-    )
+    let counted = track.find_sync_sample_at_or_before(k);
+    found(alloc, number, counted, is_right)
 }
 
-/// How many times are compared for the last sample that is decoded at or before a time.
-pub fn comparisons_by_time(alloc: Global, movie: &Mp4Reader, id: u32, time: u64) -> Result<String> {
-    let found = movie.track(id)?.find_sample_at(time);
-    Ok(format!(in alloc; "{}", found.comparisons)?)
+/// What a track answers to a seeker who asks for a number or a time; None where that is no question.
+fn answer(alloc: Global, track: &Mp4Track, question: &str, word: &str) -> Answer {
+    let k = number(word);
+    let time = word.parse::<u64>().unwrap_or(0);
+    let answer = match question {
+        "sample_at" => sample_at(alloc, track, time),
+        "sync_sample" => sync_sample(alloc, track, k),
+        // How many times, and how many numbers, are compared for the same.
+        "comparisons_by_time" => { format!(in alloc; "{}", track.find_sample_at(time).comparisons) }
+        "comparisons_by_sync" => {
+            format!(in alloc; "{}", track.find_sync_sample_at_or_before(k).comparisons)
+        }
+        _ => return Ok(None),
+    };
+    answer.map(Some)
 }
 
-/// How many numbers are compared for the last sync sample up to a number.
-pub fn comparisons_by_sync(alloc: Global, movie: &Mp4Reader, id: u32, k: u32) -> Result<String> {
-    let found = movie.track(id)?.find_sync_sample_at_or_before(k);
-    Ok(format!(in alloc; "{}", found.comparisons)?)
+/// What the track of an id answers to a seeker who asks for a number or a time; None where that is no question.
+pub fn answer_of_seeker(
+    alloc: Global,
+    movie: &Mp4Reader,
+    id: u32,
+    question: &str,
+    word: &str,
+) -> Answer {
+    match movie.track(id) {
+        Ok(track) => answer(alloc, track, question, word),
+        Err(error) => refused(alloc, &error),
+    }
 }
 
 /// When a track begins and ends.
-pub fn time_range(alloc: Global, movie: &Mp4Reader, id: u32) -> Result<String> {
-    match movie.track(id)?.time_range() {
-        None => Ok(String::from_str(alloc, "none")?),
-        Some(range) => Ok(format!(in alloc; "{} to {}", range.start, range.end)?),
+pub fn time_range(alloc: Global, movie: &Mp4Reader, id: u32) -> Result<String, AllocError> {
+    match movie.track(id) {
+        Ok(track) => match track.time_range() {
+            None => String::from_str(alloc, "none"),
+            Some(range) => format!(in alloc; "{} to {}", range.start, range.end),
+        },
+        Err(error) => refusal(alloc, &error),
     }
 }

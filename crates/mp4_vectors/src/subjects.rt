@@ -15,9 +15,8 @@ use mp4_cases::fixed_point::{answer_of_i8, answer_of_u8, answer_of_u16};
 use mp4_cases::framing::{answer_of_children, answer_of_header};
 use mp4_cases::kinds::answer_of_box;
 use mp4_cases::languages::answer_of_language;
-use mp4_cases::refusals::refusal;
-use mp4_media::Result;
-use std::alloc::Global;
+use mp4_cases::refusals::Answer;
+use std::alloc::{AllocError, Global};
 
 /// What is asked.
 #[derive(Clone, Copy, Debug, Drop)]
@@ -71,24 +70,25 @@ pub fn bytes_of(
     names: &Names,
     subject: Subject,
     words: &str,
-) -> Result<Option<Vec<u8>>> {
+) -> Result<Option<Vec<u8>>, AllocError> {
     match subject {
         Subject::Codec | Subject::Config | Subject::Default | Subject::Mdat | Subject::Writer => {
             Ok(Some(Vec::new(alloc)))
         }
-        Subject::Script => Ok(script_of(alloc, words)?),
-        _ => Ok(encoded(alloc, names, words)?),
+        Subject::Script => script_of(alloc, words),
+        _ => encoded(alloc, names, words),
     }
 }
 
-/// What a subject answers to a question, or why it refuses it.
-fn answer_of_subject(
+/// What a subject answers to a question; None where that is no question. `words` is what is after the subject's
+/// word, and `bytes` is what they encode if they encode bytes.
+pub fn answer(
     alloc: Global,
     subject: Subject,
     words: &str,
     bytes: &[u8],
     question: &str,
-) -> Result<Option<String>> {
+) -> Answer {
     match subject {
         Subject::Box => answer_of_box(alloc, bytes, question),
         Subject::Children => answer_of_children(alloc, bytes, question),
@@ -107,20 +107,5 @@ fn answer_of_subject(
         Subject::Report => answer_of_report(alloc, bytes, question),
         Subject::Script => answer_of_script(alloc, bytes, question),
         Subject::Writer => answer_of_writer(alloc, words, question),
-    }
-}
-
-/// What a subject answers to a question; None where that is no question. `words` is what is after the subject's
-/// word, and `bytes` is what they encode if they encode bytes.
-pub fn answer(
-    alloc: Global,
-    subject: Subject,
-    words: &str,
-    bytes: &[u8],
-    question: &str,
-) -> Result<Option<String>> {
-    match answer_of_subject(alloc, subject, words, bytes, question) {
-        Err(error) => Ok(Some(refusal(alloc, &error)?)),
-        answer => answer,
     }
 }

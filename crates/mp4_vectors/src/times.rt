@@ -1,9 +1,9 @@
 //! Samples that are looked for by the times that are shown of them.
 
 use crate::reports::opened;
-use mp4_media::{FileError, Mp4Track};
+use mp4_media::{Movie, Mp4Track};
 use mp4_readable::{DecimalTime, TickClock};
-use std::alloc::Global;
+use std::alloc::{AllocError, Global};
 
 /// How many samples of a track are looked for at most.
 const MOST: u32 = 1000;
@@ -16,7 +16,7 @@ pub struct Found {
 }
 
 /// The tick that is read of the time that is shown of another.
-fn tick_shown(alloc: Global, tick: u64, timescale: u32) -> Result<Option<u64>, FileError> {
+fn tick_shown(alloc: Global, tick: u64, timescale: u32) -> Result<Option<u64>, AllocError> {
     let clock = TickClock {
         ticks: i128::from(tick),
         timescale,
@@ -27,7 +27,7 @@ fn tick_shown(alloc: Global, tick: u64, timescale: u32) -> Result<Option<u64>, F
 
 /// Looks for the first samples of a track by the times that are shown of them: found is the last that is decoded then,
 /// which isn't before the one that was looked for.
-fn look_for(alloc: Global, track: &Mp4Track, found: &mut Found) -> Result<(), FileError> {
+fn look_for(alloc: Global, track: &Mp4Track, found: &mut Found) -> Result<(), AllocError> {
     let timescale = track.timescale();
     let mut number = 0u32;
     for place in track.samples().take(MOST as usize) {
@@ -44,13 +44,19 @@ fn look_for(alloc: Global, track: &Mp4Track, found: &mut Found) -> Result<(), Fi
     Ok(())
 }
 
-/// The same of all tracks of the file of these bytes; of none, where it doesn't open.
-pub fn found_in(alloc: Global, bytes: &[u8]) -> Result<Found, FileError> {
+/// The same of all tracks of a movie.
+fn found_in_movie(alloc: Global, movie: &Movie) -> Result<Found, AllocError> {
     let mut found = Found::default();
-    if let Ok(movie) = opened(alloc, bytes) {
-        for track in movie.tracks().values() {
-            look_for(alloc, track, &mut found)?;
-        }
+    for track in movie.tracks().values() {
+        look_for(alloc, track, &mut found)?;
     }
     Ok(found)
+}
+
+/// The same of all tracks of the file of these bytes; of none, where it doesn't open.
+pub fn found_in(alloc: Global, bytes: &[u8]) -> Result<Found, AllocError> {
+    match opened(alloc, bytes) {
+        Ok(movie) => found_in_movie(alloc, &*movie),
+        Err(_) => Ok(Found::default()),
+    }
 }

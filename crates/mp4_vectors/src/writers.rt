@@ -1,18 +1,17 @@
 //! What a writer of movies answers to its calls, and what the file is that it wrote.
 
 use crate::calls::call_of;
-use crate::files::answer_of_file;
-use mp4_cases::encoded::{digits, encoded_word};
-use mp4_cases::refusals::refusal;
-use mp4_media::{Error, FourCC, Items, Mp4Config, Mp4Writer, Result, WriterCall};
-use std::alloc::Global;
+use crate::scripts::answer_of_made;
+use mp4_cases::encoded::encoded_word;
+use mp4_cases::refusals::{Answer, outcome, refused};
+use mp4_media::{Error, FourCC, Items, Mp4Config, Mp4Writer, WriterCall};
+use std::alloc::{AllocError, Global};
 
-/// What came of the calls of a writer.
+/// What a writer begins with: the bytes of its buffer, and what its movie is begun with.
 #[derive(Drop)]
-struct Outcome {
-    /// The answer to the last call.
-    reply: String,
-    bytes: Vec<u8>,
+struct Beginning {
+    buffer: Vec<u8>,
+    config: Mp4Config,
 }
 
 /// Whether a question is a call of a writer.
@@ -31,7 +30,7 @@ fn code_of(bytes: &[u8]) -> Option<FourCC> {
 }
 
 /// The codes that bytes are.
-fn codes_of(alloc: Global, bytes: &[u8]) -> Result<Items<FourCC>> {
+fn codes_of(alloc: Global, bytes: &[u8]) -> Result<Items<FourCC>, AllocError> {
     let mut codes = Items::new(alloc);
     for four in bytes.chunks(4) {
         if let Some(code) = code_of(four) {
@@ -48,7 +47,7 @@ fn config_of(
     version: &str,
     brands: &str,
     timescale: &str,
-) -> Result<Option<Mp4Config>> {
+) -> Result<Option<Mp4Config>, AllocError> {
     let major_brand = encoded_word(alloc, major_brand)?;
     let Some(major_brand) = code_of(&major_brand) else {
         return Ok(None);
@@ -66,39 +65,26 @@ fn config_of(
     }))
 }
 
-/// The writer that a text begins: `'isom' 512 'isommp41' timescale 1000`, and where it is so `after 'ab'`, the bytes
+/// The beginning that a text writes: `'isom' 512 'isommp41' timescale 1000`, and where it is so `after 'ab'`, the bytes
 /// of the buffer.
-fn writer_of(alloc: Global, text: &str) -> Result<Option<Mp4Writer>> {
+fn beginning_of(alloc: Global, text: &str) -> Result<Option<Beginning>, AllocError> {
     let words: Vec<&str> = text.split(' ').collect(alloc)?;
-    let (config, buffer) = match words.as_slice() {
-        [brand, version, brands, "timescale", timescale] => {
-            (config_of(alloc, brand, version, brands, timescale)?, "")
-        },
-        [
-            brand,
-            version,
-            brands,
-            "timescale",
-            timescale,
-            "after",
-            buffer,
-        ] => {
-            (
-                config_of(alloc, brand, version, brands, timescale)?,
-                *buffer,
-            )
-        },
-        _ => return Ok(None),
-    };
-    let Some(config) = config else {
+    let [brand, version, brands, "timescale", timescale, more @ ..] = words.as_slice() else {
         return Ok(None);
     };
-    let buffer = encoded_word(alloc, buffer)?;
-    Ok(Some(Mp4Writer::write_start(alloc, buffer, &config)?))
+    let buffer = match more {
+        [] => Vec::new(alloc),
+        ["after", buffer] => encoded_word(alloc, buffer)?,
+        _ => return Ok(None),
+    };
+    match config_of(alloc, brand, version, brands, timescale)? {
+        Some(config) => Ok(Some(Beginning { buffer, config })),
+        None => Ok(None),
+    }
 }
 
 /// The calls of a list; None where one is no call.
-fn calls_of(alloc: Global, texts: &[&str]) -> Result<Option<Vec<WriterCall>>> {
+fn calls_of(alloc: Global, texts: &[&str]) -> Result<Option<Vec<WriterCall>>, AllocError> {
     let mut calls = Vec::new(alloc);
     for text in texts {
         match call_of(alloc, text)? {
@@ -109,63 +95,54 @@ fn calls_of(alloc: Global, texts: &[&str]) -> Result<Option<Vec<WriterCall>>> {
     Ok(Some(calls))
 }
 
-/// What a call was answered.
-fn reply_of(alloc: Global, reply: &Result<()>) -> Result<String> {
-    let text = match reply {
-        Ok(()) => String::from_str(alloc, "ok"),
-        Err(error) => refusal(alloc, error),
-    };
-    Ok(text?)
-}
-
 /// Makes a call, and makes it once more where memory is refused: that leaves the writer as it was.
-fn perform_again(writer: &mut Mp4Writer, call: &WriterCall) -> Result<()> {
+fn perform_again(writer: &mut Mp4Writer, call: &WriterCall) -> Result<(), Error> {
     match writer.perform(call) {
         Err(Error::OutOfMemory) => writer.perform(call),
         answer => answer,
     }
 }
 
-/// What comes of calls.
-fn run(alloc: Global, writer: Mp4Writer, calls: &[WriterCall]) -> Result<Outcome> {
-    let mut writer = writer;
+/// Makes calls, and answers what the last one is answered.
+fn perform_all(writer: &mut Mp4Writer, calls: &[WriterCall]) -> Result<(), Error> {
     let mut reply = Ok(());
     for call in calls {
-        reply = perform_again(&mut writer, call);
+        reply = perform_again(writer, call);
     }
-    let reply = reply_of(alloc, &reply)?;
-    Ok(Outcome {
-        reply,
-        bytes: writer.into_writer(),
-    })
+    reply
 }
 
-/// What comes of a beginning and its calls; None where they aren't any.
-fn written(alloc: Global, words: &str) -> Result<Option<Outcome>> {
+/// What a writer answers to a question after its calls: to its last call its reply, and to any other what its bytes
+/// are.
+fn answer_after(alloc: Global, writer: Mp4Writer, calls: &[WriterCall], question: &str) -> Answer {
+    let mut writer = writer;
+    let reply = perform_all(&mut writer, calls);
+    if is_call(question) {
+        return outcome(alloc, &reply, "ok").map(Some);
+    }
+    answer_of_made(alloc, &writer.into_writer(), question)
+}
+
+/// The same of the writer that a text begins; None where it begins none.
+fn answer_of_calls(alloc: Global, beginning: &str, calls: &[WriterCall], question: &str) -> Answer {
+    let Some(Beginning { buffer, config }) = beginning_of(alloc, beginning)? else {
+        return Ok(None);
+    };
+    match Mp4Writer::write_start(alloc, buffer, &config) {
+        Ok(writer) => answer_after(alloc, writer, calls, question),
+        Err(error) => refused(alloc, &error),
+    }
+}
+
+/// What a writer answers to a question, whose beginning and calls are the parts of these words; None where they aren't
+/// any.
+pub fn answer_of_writer(alloc: Global, words: &str, question: &str) -> Answer {
     let texts: Vec<&str> = words.split(" / ").collect(alloc)?;
     let [beginning, calls @ ..] = texts.as_slice() else {
         return Ok(None);
     };
-    let Some(calls) = calls_of(alloc, calls)? else {
-        return Ok(None);
-    };
-    match writer_of(alloc, beginning)? {
-        Some(writer) => Ok(Some(run(alloc, writer, &calls)?)),
+    match calls_of(alloc, calls)? {
+        Some(calls) => answer_of_calls(alloc, beginning, &calls, question),
         None => Ok(None),
-    }
-}
-
-/// What a writer answers to a question: to its last call its reply, and to any other what its bytes are.
-pub fn answer_of_writer(alloc: Global, words: &str, question: &str) -> Result<Option<String>> {
-    let Some(written) = written(alloc, words)? else {
-        return Ok(None);
-    };
-    if is_call(question) {
-        return Ok(Some(written.reply));
-    }
-    match question {
-        "finished" => Ok(Some(digits(alloc, &written.bytes)?)),
-        "length" => Ok(Some(format!(in alloc; "{}", written.bytes.len())?)),
-        _ => answer_of_file(alloc, &written.bytes, question),
     }
 }
