@@ -1,6 +1,6 @@
-//! What the contracts of `mp4_source` and `mp4_media` don't say of files: how often a source is asked; sources that refuse
-//! a call, give less than is asked for or change their length; and that a file is opened and read alike whatever its
-//! bytes are read from. And a caller that any source serves.
+//! What the contracts of `mp4_source` and `mp4_media` don't say of files: how often a source is asked; sources that
+//! refuse a call, give less than is asked for or change their length; and that a file is opened and read alike whatever
+//! its bytes are read from. And callers that any source or any sink serves.
 #![tactic(auto)]
 
 #[cfg(test)]
