@@ -1,4 +1,4 @@
-//! A remuxer: where all samples of tracks lie, in their order: by a walk, or each by its number, of a look-up or of a
+//! A remuxer: where all samples of tracks lie, in their order: by a walk, or each by its number, of a lookup or of a
 //! cursor. Or a player that goes to random times.
 
 use crate::digest::Digest;

@@ -9,7 +9,7 @@ use crate::opened_file::opened;
 use mp4_media::Mp4Reader;
 use std::alloc::Global;
 
-/// Hands out a number that was found; 0 where there is none.
+/// Answers a number that was found; 0 where there is none.
 fn found(answer: Option<u32>, number: &mut u32) -> Answer
     ensures { Gave (number_reply answer) number.new result }
 {

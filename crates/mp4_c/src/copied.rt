@@ -1,4 +1,4 @@
-//! Bytes that are handed out where they fit.
+//! Bytes that are copied where they fit.
 
 ghost use Rattle.std.specs.Prelude.{◌≡◌};
 ghost use Rattle.mp4_c.specs.Rooms.{copied, with_front};

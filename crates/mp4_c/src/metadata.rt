@@ -16,7 +16,7 @@ use mp4_media::{Error, IlstBox, Metadata, Mp4Reader, Mp4Track, Result};
 use std::alloc::Global;
 use std::borrow::CowStr;
 
-/// Hands out a text that was found, if one was.
+/// Copies a text that was found, if one was.
 fn text_found(words: Option<CowStr<'_, Global>>, room: &mut [u8]) -> Answer
     ensures { Gave (found_reply (option_map cow_str_bytes words.entry) room.old) room.new result }
 {
@@ -26,7 +26,7 @@ fn text_found(words: Option<CowStr<'_, Global>>, room: &mut [u8]) -> Answer
     }
 }
 
-/// Hands out a text, if there is one.
+/// Copies a text, if there is one.
 fn text(answer: Result<Option<CowStr<'_, Global>>>, room: &mut [u8]) -> Answer
     ensures { (found : Option (List ℕ)) → Answers (option_map cow_str_bytes) answer.entry (Ok found)
         → GaveOrOutOfMemory (found_reply found room.old) room.old room.new result }
@@ -37,7 +37,7 @@ fn text(answer: Result<Option<CowStr<'_, Global>>>, room: &mut [u8]) -> Answer
     }
 }
 
-/// Hands out the decimal digits of a number.
+/// Copies the decimal digits of a number.
 fn digits_of(alloc: Global, n: u32, room: &mut [u8]) -> Answer
     ensures { GaveOrOutOfMemory (found_reply (Some (decimal n)) room.old) room.old room.new result }
 {
@@ -47,7 +47,7 @@ fn digits_of(alloc: Global, n: u32, room: &mut [u8]) -> Answer
     }
 }
 
-/// Hands out the decimal digits of a number, if there is one.
+/// Copies the decimal digits of a number, if there is one.
 fn digits(alloc: Global, number: Option<u32>, room: &mut [u8]) -> Answer
     ensures { GaveOrOutOfMemory (found_reply (option_map decimal number) room.old) room.old room.new result }
 {
@@ -57,7 +57,7 @@ fn digits(alloc: Global, number: Option<u32>, room: &mut [u8]) -> Answer
     }
 }
 
-/// Hands out bytes, if there are any.
+/// Copies bytes, if there are any.
 fn picture(bytes: Option<&[u8]>, room: &mut [u8]) -> Answer
     ensures { Gave (found_reply (option_map (λ b. b.now) bytes.entry) room.old) room.new result }
 {
@@ -67,7 +67,7 @@ fn picture(bytes: Option<&[u8]>, room: &mut [u8]) -> Answer
     }
 }
 
-/// Hands out what a list of items says at a key of 1 to 4.
+/// Copies what a list of items says at a key of 1 to 4.
 fn item(alloc: Global, items: &IlstBox, key: u32, room: &mut [u8]) -> Answer
     ensures { GaveOrOutOfMemory (found_reply (item_bytes key items.now) room.old) room.old room.new result }
 {
@@ -79,7 +79,7 @@ fn item(alloc: Global, items: &IlstBox, key: u32, room: &mut [u8]) -> Answer
     }
 }
 
-/// Hands out what a movie says at a key.
+/// Copies what a movie says at a key.
 fn metadata_of(alloc: Global, movie: &Mp4Reader, key: u32, room: &mut [u8]) -> Answer
     ensures { GaveMetadata key movie.now room.old room.new result }
 {
@@ -107,7 +107,7 @@ pub extern "C" fn mp4_c_metadata(alloc: Global, file: &[u8], key: u32, room: &mu
     }
 }
 
-/// Hands out the bytes of a parameter set.
+/// Copies the bytes of a parameter set.
 fn copy_set(set: Result<&[u8]>, room: &mut [u8]) -> Answer
     ensures { (bytes : Result (List ℕ) Cause) → Gives (λ b. b.now) set.entry bytes
         → Gave (bytes_reply bytes room.old) room.new result }
@@ -118,7 +118,7 @@ fn copy_set(set: Result<&[u8]>, room: &mut [u8]) -> Answer
     }
 }
 
-/// Hands out the first parameter set of a kind of a track.
+/// Copies the first parameter set of a kind of a track.
 fn copy_set_of(track: &Mp4Track, kind: u32, room: &mut [u8]) -> Answer
     ensures { GaveSet kind track.now room.old room.new result }
 {
@@ -129,7 +129,7 @@ fn copy_set_of(track: &Mp4Track, kind: u32, room: &mut [u8]) -> Answer
     }
 }
 
-/// Hands out the first parameter set of a kind of the track with this id.
+/// Copies the first parameter set of a kind of the track with this id.
 fn copy_set_in(movie: &Mp4Reader, track_id: u32, kind: u32, room: &mut [u8]) -> Answer
     ensures { OnTrack track_id (GaveSet kind) movie.now room.old room.new result }
 {

@@ -11,7 +11,7 @@ use crate::copied::copy_to_front;
 use mp4_remux::{RemuxError, choose, gather, move_to_front};
 use std::alloc::Global;
 
-/// Hands out the bytes of a movie that was rewritten, or why it wasn't.
+/// Copies the bytes of a movie that was rewritten, or why it wasn't.
 fn copy_made(made: Result<Vec<u8>, RemuxError>, room: &mut [u8]) -> Answer
     ensures made { IfOk made (λ bytes. GaveMade bytes.items room.old room.new result) }
     ensures refused { IfErr made (λ e. GaveRefusal e room.old room.new result) }

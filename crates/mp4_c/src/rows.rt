@@ -7,7 +7,7 @@ ghost use Rattle.mp4_c.specs.Rows.{GaveRowAt, GaveSyncRow, IsCountBy, IsLastSync
 use crate::answer::Answer;
 use crate::samples::SampleRow;
 
-/// Hands out the number of a row, which is how many rows there are up to it; 0 where there is none.
+/// Answers the number of a row, which is how many rows there are up to it; 0 where there is none.
 fn found(count: usize, number: &mut u64) -> Answer
     ensures { Gave (row_reply count) number.new result }
 {

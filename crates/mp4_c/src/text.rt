@@ -115,7 +115,7 @@ fn words_of_answer(
     }
 }
 
-/// Hands out the words of an error.
+/// Copies the words of an error.
 fn copy_words(words: std::result::Result<String, AllocError>, room: &mut [u8]) -> Answer
     ensures { GaveWords room.old room.new result }
 {

@@ -25,7 +25,7 @@ use Rattle.mp4_extract.specs.Extracting.{AreSamplesIn, IsReadIn}
 use Rattle.mp4_extract.specs.Neighbours.{AreNeighbours}
 use Rattle.mp4_extract.proofs.Refused.{of_bytes}
 
--- where a track's look-ups lead
+-- where a track's lookups lead
 abbrev pub places_of : Mp4Track → ℕ → Result (Option Place) Cause
 places_of t k = answer_at t.trak t.trafs (track_runs t) k
 
@@ -56,7 +56,7 @@ module _ (places : ℕ → Result (Option Place) Cause) (k : ℕ) where
       → AreNeighbours places k offset (n + 1) sum
   one_more_there offset n size sum p before here begins is = rw add-one (size, p, before, here, begins, is)
 
--- the same by other look-ups that answer the same
+-- the same by other lookups that answer the same
 pub there_too : (places others : ℕ → Result (Option Place) Cause) → ((j : ℕ) → places j ≡ others j)
     → (k offset n size : ℕ) → AreNeighbours places k offset n size → AreNeighbours others k offset n size
 there_too places others same k offset zero size there = there

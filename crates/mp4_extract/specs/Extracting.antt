@@ -84,7 +84,7 @@ abbrev pub IsPut : List ℕ → Option (List ℕ) → Option (List ℕ) → Resu
 IsPut bytes old new (Ok done) = Appends old new bytes
 IsPut bytes old new (Err e) = HasFront bytes old new
 
--- where a sample lies, where its look-up answers it
+-- where a sample lies, where its lookup answers it
 abbrev pub offset_of : Result (Option Place) Cause → Option ℕ
 offset_of (Ok (Some p)) = Some p.offset
 offset_of (Ok None) = None

@@ -1,6 +1,6 @@
 //! A walk over the samples of a track's runs.
 
-// The steps of a look-up are kept inline: docs/PERF.md, "Why these are calls".
+// The steps of a lookup are kept inline: docs/PERF.md, "Why these are calls".
 
 ghost use Rattle.std.specs.Prelude.{◌≡◌, ◌-◌, ◌^◌, ◌<◌, ◌≤◌, List, Some, slice_get, IfSome, IsTrue, IsFalse};
 ghost use Rattle.mp4_fragments.specs.RunSamples.{PlacedRun, all_run_samples};

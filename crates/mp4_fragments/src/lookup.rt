@@ -1,6 +1,6 @@
 //! A sample of a track's fragments by its number.
 
-// The steps of a look-up are kept inline: docs/PERF.md, "Why these are calls".
+// The steps of a lookup are kept inline: docs/PERF.md, "Why these are calls".
 
 ghost use Rattle.std.specs.Prelude.{◌≡◌, ◌-◌, ◌^◌, ◌<◌, ◌≤◌, List, Some, None, length, min, slice_get, IfNone, IfSome};
 ghost use Rattle.std.specs.Option.{option_map};

@@ -1,6 +1,6 @@
-//! The counters of a look-up.
+//! The counters of a lookup.
 
-// The steps of a look-up are kept inline: docs/PERF.md, "Why these are calls".
+// The steps of a lookup are kept inline: docs/PERF.md, "Why these are calls".
 
 ghost use Rattle.std.specs.Prelude.{◌≡◌};
 ghost use Rattle.mp4_samples.specs.Places.{place_of};
@@ -9,7 +9,7 @@ ghost use Rattle.mp4_lookup.specs.Costs.{AreFresh, comparisons_counted};
 use mp4_samples::{Comparisons, Place, SamplePlace};
 use mp4_search::{LookedUp, Readings};
 
-/// What one look-up has read: a counter for each table that it searches, one for the runs of fragments, and one for the
+/// What one lookup has read: a counter for each table that it searches, one for the runs of fragments, and one for the
 /// running sums of sizes. Each step borrows its own.
 #[derive(Debug, Drop)]
 pub struct Counters {
@@ -22,7 +22,7 @@ pub struct Counters {
 }
 
 impl Counters {
-    /// The counters of a look-up in this, before its first step.
+    /// The counters of a lookup in this, before its first step.
     pub fn of<T: LookedUp>(whole: &T) -> Self
         ensures { AreFresh result }
     {
@@ -48,7 +48,7 @@ impl Counters {
             runs: self.runs.count(),
         }
     }
-    /// A place, and what its look-up has counted.
+    /// A place, and what its lookup has counted.
     #[inline(always)]
     pub fn counted(&self, place: Place) -> SamplePlace
         ensures place { place_of result ≡ place }

@@ -1,6 +1,6 @@
 //! The samples of a track in their order.
 
-// The steps of a look-up are kept inline: docs/PERF.md, "Why these are calls".
+// The steps of a lookup are kept inline: docs/PERF.md, "Why these are calls".
 
 ghost use Rattle.std.specs.Prelude.{◌≡◌, ◌+◌, ◌-◌, ◌^◌, ◌<◌, IfOk, IfSome, IsTrue, Some};
 ghost use Rattle.std.specs.Iterator.{YieldsFirstBy, item_count};

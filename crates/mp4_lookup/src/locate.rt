@@ -1,7 +1,7 @@
 //! Where the samples of a track lie, by their numbers: those of the movie box first, then those that fragments add
 //! (ISO/IEC 14496-12, 8.6, 8.7 and 8.8).
 
-// The steps of a look-up are kept inline: docs/PERF.md, "Why these are calls".
+// The steps of a lookup are kept inline: docs/PERF.md, "Why these are calls".
 
 ghost use Rattle.std.specs.Prelude.{◌≡◌, ◌-◌, ◌^◌, ◌<◌, false, Some, length, min, option_map, slice_get};
 ghost use Rattle.std.specs.Prelude.{IsTrue};

@@ -1,7 +1,7 @@
 //! Where a sample lies: its entry of stsc, its chunk, and the sizes before it in the chunk (ISO/IEC 14496-12,
 //! 8.7.3 to 8.7.5).
 
-// The steps of a look-up are kept inline: docs/PERF.md, "Why these are calls".
+// The steps of a lookup are kept inline: docs/PERF.md, "Why these are calls".
 
 ghost use Rattle.mp4_codec.specs.ExactTest.{by_test, field_tests};
 ghost use Rattle.std.specs.Prelude.{◌≡◌, ℕ, ◌+◌, ◌-◌, ◌^◌, ◌<◌, ◌≤◌, map, length, sum, slice_get, slice_range};

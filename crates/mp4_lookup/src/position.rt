@@ -1,6 +1,6 @@
 //! Where a walk over the samples of a track is in its tables.
 
-// The steps of a look-up are kept inline: docs/PERF.md, "Why these are calls".
+// The steps of a lookup are kept inline: docs/PERF.md, "Why these are calls".
 
 ghost use Rattle.std.specs.Prelude.{◌+◌, IfOk, IfSome};
 ghost use Rattle.mp4_codec.specs.Cause.{Gives};

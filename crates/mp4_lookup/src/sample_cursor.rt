@@ -44,7 +44,7 @@ impl Mp4Track {
         }
     }
 
-    /// Where sample `k` lies, by a look-up.
+    /// Where sample `k` lies, by a lookup.
     // Kept a call: docs/PERF.md, "Why these are calls".
     #[inline(never)]
     fn look_up(&self, k: u32) -> Result<Option<Place>>
@@ -75,7 +75,7 @@ impl<'t> SampleCursor<'t> {
         }
     }
 
-    /// Where sample `k` lies: by a step where it comes next in the walk, and else by a look-up.
+    /// Where sample `k` lies: by a step where it comes next in the walk, and else by a lookup.
     #[inline(always)]
     fn answer(&mut self, k: u32) -> Result<Option<Place>>
         ensures rule { Gives (λ p. p) result (answer_at (track_of self.old).trak (track_of self.old).trafs

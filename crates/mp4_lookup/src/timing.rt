@@ -1,6 +1,6 @@
 //! When a sample is decoded and shown, and whether it is a sync sample (ISO/IEC 14496-12, 8.6.1 and 8.6.2).
 
-// The steps of a look-up are kept inline: docs/PERF.md, "Why these are calls".
+// The steps of a lookup are kept inline: docs/PERF.md, "Why these are calls".
 
 ghost use Rattle.std.specs.Prelude.{◌≡◌, ℕ, ◌+◌, ◌-◌, ◌*◌, ◌^◌, ◌<◌, ◌≤◌, List, length, pos, get_or, slice_index};
 ghost use Rattle.std.specs.Prelude.{IfErr, IfNone, IfSome, IsTrue, OnOk};

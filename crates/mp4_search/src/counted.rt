@@ -7,11 +7,11 @@ use crate::line::{Line, line_of};
 use mp4_codec::Items;
 use std::marker::Model;
 
-/// What is looked up in as a whole. A look-up in it begins with the counters of its readings, and each of its steps
+/// What is looked up in as a whole. A lookup in it begins with the counters of its readings, and each of its steps
 /// borrows the one that it raises: a step can make no other, since it borrows no such whole.
 pub trait LookedUp {}
 
-/// How many numbers one step of a look-up has read. Only the calls of this crate that read numbers raise it, by one
+/// How many numbers one step of a lookup has read. Only the calls of this crate that read numbers raise it, by one
 /// where each is read.
 #[derive(Debug, Drop)]
 pub struct Readings {
@@ -25,7 +25,7 @@ impl Model for Readings {
 }
 
 impl Readings {
-    /// The counter of a step of a look-up in this: no reading yet.
+    /// The counter of a step of a lookup in this: no reading yet.
     pub fn of<T: LookedUp>(_whole: &T) -> Self
         ensures { result ≡ 0 }
     {

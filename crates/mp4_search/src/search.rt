@@ -194,7 +194,7 @@ pub(crate) fn last_at_most(numbers: &SearchedNumbers, key: u32) -> (Option<Searc
 
 impl SearchedNumbers {
     /// How many numbers are at most `key`. No comparison is counted: it is for what is made of the numbers before they
-    /// are looked up in. So it takes them alone, which no step of a look-up has.
+    /// are looked up in. So it takes them alone, which no step of a lookup has.
     pub fn count_at_most(&mut self, key: u32) -> usize
         requires { IsNonDecreasing self.old }
         ensures within { result ≤ length self.old }

@@ -1,5 +1,5 @@
 //! Cursors over random tracks, from fixed seeds: whatever numbers a cursor is asked for, in no order and in order, it
-//! answers each as the look-up does.
+//! answers each as the lookup does.
 
 use crate::asserts::{assert_that, at_least};
 use crate::queries::are_same_refusal;
@@ -53,7 +53,7 @@ fn followed(numbers: &[u32]) -> u32 {
     count
 }
 
-/// What the look-up answers.
+/// What the lookup answers.
 fn located(track: &Mp4Track, k: u32) -> Result<Option<SamplePlace>> {
     track.locate(k)
 }
@@ -67,7 +67,7 @@ fn answered(cursor: &mut SampleCursor, k: u32, before: u32) -> Result<Option<Pla
     }
 }
 
-/// Whether a cursor and the look-up answer the same, the texts of refusals left out.
+/// Whether a cursor and the lookup answer the same, the texts of refusals left out.
 fn is_located(answer: &Result<Option<Place>>, located: &Result<Option<SamplePlace>>) -> bool {
     match (answer, located) {
         (Ok(None), Ok(None)) => true,
@@ -77,7 +77,7 @@ fn is_located(answer: &Result<Option<Place>>, located: &Result<Option<SamplePlac
     }
 }
 
-/// Whether a cursor answers as the look-up does at each of these numbers.
+/// Whether a cursor answers as the lookup does at each of these numbers.
 fn agrees(track: &Mp4Track, numbers: &[u32]) -> bool {
     let mut cursor = track.sample_cursor();
     let mut before = 0u32;
@@ -90,7 +90,7 @@ fn agrees(track: &Mp4Track, numbers: &[u32]) -> bool {
     all
 }
 
-/// Whether a cursor over a track of random tables, of which so many changes were made, answers as the look-up does; how
+/// Whether a cursor over a track of random tables, of which so many changes were made, answers as the lookup does; how
 /// many numbers followed the one before is added to a count.
 fn tables_agree(rt: &impl Abort, alloc: Global, seed: u64, changes: u32, count: &mut u32) -> bool {
     let mut random = Random::new(seed);
@@ -110,7 +110,7 @@ fn tables_agree(rt: &impl Abort, alloc: Global, seed: u64, changes: u32, count: 
     )
 }
 
-/// Whether a cursor over the track of an id answers as the look-up does.
+/// Whether a cursor over the track of an id answers as the lookup does.
 fn track_agrees(
     rt: &impl Abort,
     alloc: Global,
@@ -126,7 +126,7 @@ fn track_agrees(
     agrees(track, &numbers)
 }
 
-/// Whether cursors over the tracks of a random file of fragments answer as the look-up does.
+/// Whether cursors over the tracks of a random file of fragments answer as the lookup does.
 fn file_agrees(rt: &impl Abort, alloc: Global, seed: u64, count: &mut u32) -> bool {
     let mut random = Random::new(seed);
     let file = random_file(rt, alloc, &mut random);

@@ -316,7 +316,7 @@ fn counts_of(place: &SamplePlace) -> [u32; 6] {
     [stsc, stts, ctts, stss, runs, place.size_reads]
 }
 
-/// The least and the most counts of some look-ups.
+/// The least and the most counts of some lookups.
 #[derive(Clone, Copy)]
 struct CountRanges {
     least: [u32; 6],
@@ -324,7 +324,7 @@ struct CountRanges {
 }
 
 impl CountRanges {
-    /// Those of no look-up.
+    /// Those of no lookup.
     fn new() -> Self {
         CountRanges {
             least: [u32::MAX; 6],
@@ -332,7 +332,7 @@ impl CountRanges {
         }
     }
 
-    /// Adds the counts of a look-up.
+    /// Adds the counts of a lookup.
     fn add(&mut self, counts: &[u32; 6]) {
         for (least, count) in self.least.iter_mut().zip(counts.iter()) {
             *least = (*least).min(*count);
