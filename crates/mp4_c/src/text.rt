@@ -1,6 +1,9 @@
 //! What an answer says in words.
 
-ghost use Rattle.mp4_c.specs.ErrorText.{GaveWords};
+ghost use Rattle.std.specs.Prelude.{◌≡◌, ◌⊎◌, ◌<◌, ◌≤◌, IfNone, IfSome};
+ghost use Rattle.mp4_codec.specs.Cause.{cause_of};
+ghost use Rattle.mp4_c.specs.Answers.{code_bytes, limit_number, refused};
+ghost use Rattle.mp4_c.specs.ErrorText.{GaveWords, IsErrorOf, IsRemuxErrorOf, named, plain_words};
 
 use crate::answer::{Answer, NOT_PRESENT, NULL_POINTER, UNKNOWN_CHOICE};
 use crate::copied::copy_to_front;
@@ -10,7 +13,10 @@ use mp4_remux::RemuxError;
 use std::alloc::{AllocError, Global};
 
 /// The limit of a number.
-fn limit_of(number: u32) -> Option<Limit> {
+fn limit_of(number: u32) -> Option<Limit>
+    ensures some { IfSome result (λ l. limit_number l ≡ number) }
+    ensures none { IfNone result ((number ≡ 0) ⊎ (6 < number)) }
+{
     match number {
         1 => Some(Limit::SampleBytes),
         2 => Some(Limit::SampleCount),
@@ -23,12 +29,19 @@ fn limit_of(number: u32) -> Option<Limit> {
 }
 
 /// The type of box of these bytes.
-fn box_type_of(bytes: [u8; 4]) -> BoxType {
+fn box_type_of(bytes: [u8; 4]) -> BoxType
+    ensures { code_bytes result ≡ bytes }
+{
     BoxType::from(u32::from_be_bytes(bytes))
 }
 
 /// The error that names a box of a track or of a fragment.
-fn box_error_of(answer: &Answer) -> Option<Error> {
+#[tactic(auto, unfolding(crate::specs::ErrorText::named))]
+fn box_error_of(answer: &Answer) -> Option<Error>
+    ensures some { IfSome result (λ e. refused (cause_of e) ≡ named answer.now) }
+    ensures none { IfNone result ((answer.now.code < 7) ⊎ (12 < answer.now.code)
+        ⊎ ((answer.now.code ≡ 12) × (256 ≤ answer.now.number))) }
+{
     let id = answer.track_id;
     let name = box_type_of(answer.box_type);
     match answer.code {
@@ -46,7 +59,10 @@ fn box_error_of(answer: &Answer) -> Option<Error> {
 }
 
 /// The error of an answer; None for an answer without one.
-fn error_of(answer: &Answer) -> Option<Error> {
+#[tactic(auto, unfolding(crate::specs::ErrorText::named))]
+fn error_of(answer: &Answer) -> Option<Error>
+    ensures { IsErrorOf answer.now result }
+{
     match answer.code {
         1 => Some(Error::EndOfData),
         2 => Some(Error::OutOfMemory),
@@ -69,7 +85,10 @@ fn error_of(answer: &Answer) -> Option<Error> {
 }
 
 /// Why a movie isn't rewritten, by an answer; None for another answer.
-fn remux_error_of(answer: &Answer) -> Option<RemuxError> {
+#[tactic(auto, unfolding(crate::specs::ErrorText::named_of_remux))]
+fn remux_error_of(answer: &Answer) -> Option<RemuxError>
+    ensures { IsRemuxErrorOf answer.now result }
+{
     let id = answer.track_id;
     let name = box_type_of(answer.box_type);
     match answer.code {
@@ -86,7 +105,10 @@ fn remux_error_of(answer: &Answer) -> Option<RemuxError> {
 }
 
 /// The words of an answer without an error.
-fn plain_words(code: u32) -> &'static str {
+#[tactic(auto, unfolding(crate::specs::ErrorText::plain_words))]
+fn plain_words(code: u32) -> &'static str
+    ensures { result.now ≡ plain_words code }
+{
     match code {
         0 => "no error",
         NOT_PRESENT => "not present",
