@@ -20,7 +20,7 @@ use Rattle.mp4_search.specs.Search.{IsLastAtMost}
 use Rattle.mp4_search.proofs.SumLaws.{before_found, past_found}
 use Rattle.std.specs.Option.{option_map}
 use Rattle.mp4_fragments.specs.Index.{Find, Indexes, IsOnly, placed_at, run_sample_in}
-use Rattle.mp4_fragments.specs.declared.index.RunEntry.{RunEntry}
+use Rattle.mp4_fragments.specs.Entry.{Entry}
 use Rattle.mp4_fragments.specs.declared.index.RunIndex.{RunIndex}
 use Rattle.mp4_fragments.proofs.Finding.{entry_of, length-entries, right_by, slice_get-all_run_samples}
 use Rattle.mp4_fragments.proofs.Finding.{run_sample_found, slice_get-all_run_samples_past}
@@ -105,22 +105,22 @@ of_none None P Q p f = f p
 of_none (Some x) P Q p f = tt
 
 -- the run of an entry that was read out of a copy of the entries
-pub placed_by : (find : Find) (es : List RunEntry) (runs : List PlacedRun) (index : RunIndex) (i : ℕ) (entry : RunEntry)
+pub placed_by : (find : Find) (es : List Entry) (runs : List PlacedRun) (index : RunIndex) (i : ℕ) (entry : Entry)
     (d : PlacedRun) → Indexes find runs index → es ≡ index.entries → entry ≡ get_or es i entry → i < length runs
     → placed_at find entry ≡ Some (get_or runs i d)
 placed_by find es runs index i entry d s e1 is h =
-    ap (placed_at find) (is ∙ ap (λ (xs : List RunEntry). get_or xs i entry) e1)
+    ap (placed_at find) (is ∙ ap (λ (xs : List Entry). get_or xs i entry) e1)
     ∙ entry_of find runs index i entry d s h
 
 -- what is known of a cursor before sample j of an entry's run
-abbrev pub IsBefore : Find → RunEntry → ℕ → ℕ → ℕ → RunCursor → Type 0
+abbrev pub IsBefore : Find → Entry → ℕ → ℕ → ℕ → RunCursor → Type 0
 IsBefore find entry i j number c = (c.entry ≡ i) × (c.passed ≡ j) × (c.number ≡ number)
     × (j < c.run.now.sample_count) × (j < 2 ^ 32 - 1)
     × ((p : PlacedRun) → placed_at find entry ≡ Some p → IsIn p c)
 
 -- such a cursor, by the samples of the runs before
-in_runs : (find : Find) (es : List RunEntry) (runs : List PlacedRun) (index : RunIndex) (i j number : ℕ)
-    (entry : RunEntry) (c : RunCursor) → Indexes find runs index → es ≡ index.entries → entry ≡ get_or es i entry
+in_runs : (find : Find) (es : List Entry) (runs : List PlacedRun) (index : RunIndex) (i j number : ℕ)
+    (entry : Entry) (c : RunCursor) → Indexes find runs index → es ≡ index.entries → entry ≡ get_or es i entry
     → i < length runs → number ≡ sum_by run_count (take i runs) + j → IsBefore find entry i j number c
     → IsInRuns runs c × (c.number ≡ number) × (c.passed < c.run.now.sample_count) × (c.passed < 2 ^ 32 - 1)
 in_runs find es runs index i j number entry c s e1 is within counted at =
@@ -143,8 +143,8 @@ in_runs find es runs index i j number entry c s e1 is within counted at =
     )
 
 -- a cursor before the sample with a number that was searched
-pub found_at : (find : Find) (es : List RunEntry) (runs : List PlacedRun) (index : RunIndex) (key i number : ℕ)
-    (entry : RunEntry) (c : Option RunCursor) → key < 2 ^ 32 - 1 → Indexes find runs index → es ≡ index.entries
+pub found_at : (find : Find) (es : List Entry) (runs : List PlacedRun) (index : RunIndex) (key i number : ℕ)
+    (entry : Entry) (c : Option RunCursor) → key < 2 ^ 32 - 1 → Indexes find runs index → es ≡ index.entries
     → entry ≡ get_or es i entry → IsLastAtMost index.counts key i → number ≡ slice_index index.counts i
     → IfSome c (IsBefore find entry i (key - number) key)
     → IfSome c (λ x. IsInRuns runs x × (x.number ≡ key) × (x.passed < x.run.now.sample_count)
@@ -155,8 +155,8 @@ found_at find es runs index key i number entry c limit s e1 is at e2 before =
     in_runs find es runs index i (key - number) key entry x s e1 is found.0 (omega (arith, e2, found.1, found.2)))
 
 -- none is found past the last sample
-pub found_none : (find : Find) (es : List RunEntry) (runs : List PlacedRun) (index : RunIndex) (key i number : ℕ)
-    (entry : RunEntry) (c : Option RunCursor) → key < 2 ^ 32 - 1 → Indexes find runs index → es ≡ index.entries
+pub found_none : (find : Find) (es : List Entry) (runs : List PlacedRun) (index : RunIndex) (key i number : ℕ)
+    (entry : Entry) (c : Option RunCursor) → key < 2 ^ 32 - 1 → Indexes find runs index → es ≡ index.entries
     → entry ≡ get_or es i entry → IsLastAtMost index.counts key i → number ≡ slice_index index.counts i
     → IfNone c ((p : PlacedRun) → placed_at find entry ≡ Some p → p.run.sample_count ≤ key - number)
     → IfNone c (slice_get (all_run_samples runs) key ≡ None)
@@ -204,7 +204,7 @@ sample_is m p v at is size duration shown sync =
     same ∙ ap with_values is
 
 -- a cursor before the first sample of the next run
-pub next_at : (find : Find) (es : List RunEntry) (runs : List PlacedRun) (index : RunIndex) (entry : RunEntry)
+pub next_at : (find : Find) (es : List Entry) (runs : List PlacedRun) (index : RunIndex) (entry : Entry)
     (e : RunEnd) (c : Option RunCursor) → Indexes find runs index → IsRunEnd runs e → es ≡ index.entries
     → entry ≡ get_or es (e.entry + 1) entry → e.entry + 1 < length runs
     → IfSome c (IsBefore find entry (e.entry + 1) 0 e.number)
@@ -215,7 +215,7 @@ next_at find es runs index entry e c s at e1 is within before =
     in_runs find es runs index (e.entry + 1) 0 e.number entry x s e1 is within (omega (arith, at.counted)))
 
 -- where the run of an entry begins
-placed_begins : (find : Find) (e : RunEntry) (p : PlacedRun) → placed_at find e ≡ Some p → p.at ≡ e.at
+placed_begins : (find : Find) (e : Entry) (p : PlacedRun) → placed_at find e ≡ Some p → p.at ≡ e.at
 unfolding placed_at
 placed_begins find e p =
     elim (find e.traf e.run) as
@@ -225,7 +225,7 @@ placed_begins find e p =
     ]
 
 -- the one sample of a run, as its entry has it
-pub only_sample : (find : Find) (entry : RunEntry) (v : SampleValues) (m : RunSample) (p : PlacedRun) (j : ℕ)
+pub only_sample : (find : Find) (entry : Entry) (v : SampleValues) (m : RunSample) (p : PlacedRun) (j : ℕ)
     → placed_at find entry ≡ Some p → IsOnly p v → j ≡ 0
     → ((run : TrunBox) (defaults : SampleDefaults) → m.at ≡ at_run_sample run defaults entry.at 0) → m.size ≡ v.size
     → m.duration ≡ v.duration → m.rendering_offset ≡ v.rendering_offset → m.is_sync ≡ v.is_sync
@@ -240,8 +240,8 @@ pub no_other : (p : PlacedRun) (v : SampleValues) (j : ℕ) → IsOnly p v → 1
 no_other p v j only h = rw (le-ltb j (run_count p) (omega (arith, only.0, h))) refl
 
 -- what a run that was found has at a number, by what its entry says
-pub found_by : (find : Find) (es : List RunEntry) (runs : List PlacedRun) (index : RunIndex) (key i number : ℕ)
-    (entry : RunEntry) (answer : Option RunSample) → key < 2 ^ 32 - 1 → Indexes find runs index → es ≡ index.entries
+pub found_by : (find : Find) (es : List Entry) (runs : List PlacedRun) (index : RunIndex) (key i number : ℕ)
+    (entry : Entry) (answer : Option RunSample) → key < 2 ^ 32 - 1 → Indexes find runs index → es ≡ index.entries
     → entry ≡ get_or es i entry → IsLastAtMost index.counts key i → number ≡ slice_index index.counts i
     → ((p : PlacedRun) → placed_at find entry ≡ Some p → answer ≡ run_sample_in (key - number) p)
     → answer ≡ slice_get (all_run_samples runs) key
@@ -254,7 +254,7 @@ found_by find es (d ∷ rest) index key i number entry answer limit s e1 is at e
     answered (get_or runs i d) there ∙ rw e2 (run_sample_found runs index.counts key i d limit s.counts at)
 
 -- the one sample of the run after the end of another, as its entry has it
-only_of : (find : Find) (es : List RunEntry) (runs : List PlacedRun) (index : RunIndex) (entry : RunEntry) (e : RunEnd)
+only_of : (find : Find) (es : List Entry) (runs : List PlacedRun) (index : RunIndex) (entry : Entry) (e : RunEnd)
     (v : SampleValues) (d : PlacedRun) → Indexes find runs index → es ≡ index.entries
     → entry ≡ get_or es (e.entry + 1) entry → e.entry + 1 < length runs → entry.only ≡ Some v
     → (placed_at find entry ≡ Some (get_or runs (e.entry + 1) d)) × IsOnly (get_or runs (e.entry + 1) d) v
@@ -266,7 +266,7 @@ only_of find es runs index entry e v d s e1 is within only =
       rw only at (right.only (get_or runs (e.entry + 1) d) there),
     )
 
-pub only_at : (find : Find) (es : List RunEntry) (runs : List PlacedRun) (index : RunIndex) (entry : RunEntry)
+pub only_at : (find : Find) (es : List Entry) (runs : List PlacedRun) (index : RunIndex) (entry : Entry)
     (e : RunEnd) (v : SampleValues) (m : RunSample) → Indexes find runs index → IsRunEnd runs e → es ≡ index.entries
     → entry ≡ get_or es (e.entry + 1) entry → e.entry + 1 < length runs → entry.only ≡ Some v
     → ((run : TrunBox) (defaults : SampleDefaults) → m.at ≡ at_run_sample run defaults entry.at 0) → m.size ≡ v.size
@@ -288,7 +288,7 @@ only_at find es (d ∷ rest) index entry e v m s at e1 is within only begins e2 
     ∙ ap (λ j. Some (run_sample_of p j)) none ∙ ap Some (sym one)
 
 -- the walk after it
-pub only_end : (find : Find) (es : List RunEntry) (runs : List PlacedRun) (index : RunIndex) (entry : RunEntry)
+pub only_end : (find : Find) (es : List Entry) (runs : List PlacedRun) (index : RunIndex) (entry : Entry)
     (e next : RunEnd) (v : SampleValues) → Indexes find runs index → IsRunEnd runs e → es ≡ index.entries
     → entry ≡ get_or es (e.entry + 1) entry → e.entry + 1 < length runs → entry.only ≡ Some v
     → next.entry ≡ e.entry + 1 → next.number ≡ e.number + 1 → IsRunEnd runs next

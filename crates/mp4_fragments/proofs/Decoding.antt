@@ -20,7 +20,7 @@ use Rattle.mp4_fragments.specs.ByTime.{earlier, first_decoded, in_run_by, run_sa
 use Rattle.mp4_moof.specs.declared.trun.TrunBox.{TrunBox}
 use Rattle.mp4_fragments.specs.Index.{Find, Indexes, placed_at}
 use Rattle.mp4_fragments.specs.declared.defaults.SampleDefaults.{SampleDefaults}
-use Rattle.mp4_fragments.specs.declared.index.RunEntry.{RunEntry}
+use Rattle.mp4_fragments.specs.Entry.{Entry}
 use Rattle.mp4_fragments.specs.declared.index.RunIndex.{RunIndex}
 use Rattle.mp4_fragments.specs.declared.run_samples.RunStart.{RunStart}
 use Rattle.mp4_fragments.proofs.Finding.{entry_of, length-all_run_samples, length-entries, slice_get-all_run_samples}
@@ -302,7 +302,7 @@ late_on time x (Some t) h =
         (cases_lt time t)
 
 -- the run of an entry
-pub placed_is : (find : Find) (e : RunEntry) (run : TrunBox) (defaults : SampleDefaults) (p : PlacedRun)
+pub placed_is : (find : Find) (e : Entry) (run : TrunBox) (defaults : SampleDefaults) (p : PlacedRun)
     → Some (run, defaults) ≡ find e.traf e.run → placed_at find e ≡ Some p
     → p ≡ record { at = e.at; run = run; defaults = defaults }
 unfolding placed_at
@@ -310,13 +310,13 @@ placed_is find e run defaults p found there =
     let here : placed_at find e ≡ Some (record { at = e.at; run = run; defaults = defaults }) = rw (← found) refl in
     same_Some _ _ (sym there ∙ here)
 
-pub placed_here : (find : Find) (e : RunEntry) (run : TrunBox) (defaults : SampleDefaults)
+pub placed_here : (find : Find) (e : Entry) (run : TrunBox) (defaults : SampleDefaults)
     → Some (run, defaults) ≡ find e.traf e.run
     → placed_at find e ≡ Some (record { at = e.at; run = run; defaults = defaults })
 unfolding placed_at
 placed_here find e run defaults found = rw (← found) refl
 
-pub placed_nowhere : (find : Find) (e : RunEntry) (p : PlacedRun) → None ≡ find e.traf e.run
+pub placed_nowhere : (find : Find) (e : Entry) (p : PlacedRun) → None ≡ find e.traf e.run
     → placed_at find e ≡ Some p → ⊥
 unfolding placed_at
 placed_nowhere find e p none there =
@@ -369,8 +369,8 @@ past_end find runs index end r s within large =
     omega (arith, s.counts.count, s.counts.each r (omega (arith, s.counts.count)))
 
 -- the run whose entry is read next is kept
-pub begin_kept : (find : Find) (es : List RunEntry) (runs : List PlacedRun) (index : RunIndex) (end r : ℕ)
-    (entry : RunEntry) (begin : Option ℕ) → Indexes find runs index → es ≡ index.entries → entry ≡ get_or es r entry
+pub begin_kept : (find : Find) (es : List Entry) (runs : List PlacedRun) (index : RunIndex) (end r : ℕ)
+    (entry : Entry) (begin : Option ℕ) → Indexes find runs index → es ≡ index.entries → entry ≡ get_or es r entry
     → r < length index.entries → sum_by run_count (take r runs) < end
     → ((p : PlacedRun) → placed_at find entry ≡ Some p → begin ≡ first_decoded p)
     → begin_of runs end r ≡ begin
@@ -380,7 +380,7 @@ begin_kept find es (d ∷ runs) index end r entry begin s e1 is h below mine =
     let all = d ∷ runs in
     let within : r < length all = omega (arith, h, length-entries find all index s, s.counts.count) in
     let there : placed_at find entry ≡ Some (get_or all r d) =
-    ap (placed_at find) (is ∙ ap (λ (xs : List RunEntry). get_or xs r entry) e1)
+    ap (placed_at find) (is ∙ ap (λ (xs : List Entry). get_or xs r entry) e1)
     ∙ entry_of find all index r entry d s within in
     begin_is all end r d within below ∙ sym (mine (get_or all r d) there)
 
@@ -582,8 +582,8 @@ run_found find (d ∷ runs) index end time c i times s earliest at some e small 
     )
 
 -- its samples that are decoded at or before the time: some, and the last of all
-pub answer_early : (find : Find) (es : List RunEntry) (runs : List PlacedRun) (index : RunIndex)
-    (end time c i before run_samples : ℕ) (entry : RunEntry) (times : List ℕ) → Indexes find runs index
+pub answer_early : (find : Find) (es : List Entry) (runs : List PlacedRun) (index : RunIndex)
+    (end time c i before run_samples : ℕ) (entry : Entry) (times : List ℕ) → Indexes find runs index
     → es ≡ index.entries → entry ≡ get_or es i entry → AreEarliest (begin_of runs end) 0 times
     → ArePartedAt (runs_by times time) (length times) c → 1 ≤ c → i ≡ c - 1 → time < 2 ^ 64 → end < 2 ^ 32
     → before ≡ slice_index index.counts i
@@ -617,8 +617,8 @@ parted_once has n a b s t =
     (cases_lt a b)
 
 -- what is counted in the run that was found is counted in the last run that begins so early
-pub counted_early : (find : Find) (es : List RunEntry) (runs : List PlacedRun) (index : RunIndex)
-    (end time c i before old new : ℕ) (entry : RunEntry) (times : List ℕ) → Indexes find runs index
+pub counted_early : (find : Find) (es : List Entry) (runs : List PlacedRun) (index : RunIndex)
+    (end time c i before old new : ℕ) (entry : Entry) (times : List ℕ) → Indexes find runs index
     → es ≡ index.entries → entry ≡ get_or es i entry → AreEarliest (begin_of runs end) 0 times
     → ArePartedAt (runs_by times time) (length times) c → 1 ≤ c → i ≡ c - 1 → end < 2 ^ 32
     → before ≡ slice_index index.counts i

@@ -15,7 +15,7 @@ use Rattle.mp4_search.specs.Sums.{CountsBefore}
 use Rattle.mp4_fragments.specs.RunSamples.{PlacedRun, all_run_samples, run_sample_of, run_samples_of, run_count}
 use Rattle.mp4_fragments.specs.Index.{Find, placed_at, run_sample_in, IsRight, Indexes}
 use Rattle.mp4_fragments.specs.declared.index.RunIndex.{RunIndex}
-use Rattle.mp4_fragments.specs.declared.index.RunEntry.{RunEntry}
+use Rattle.mp4_fragments.specs.Entry.{Entry}
 use Rattle.mp4_fragments.specs.declared.run_samples.RunSample.{RunSample}
 use Rattle.mp4_search.proofs.SumLaws.{before_found, past_found, none_found}
 
@@ -72,7 +72,7 @@ run_sample_found runs counts key i d limit s at =
     (cases_lt j (run_count (get_or runs i d)))
 
 -- the entry of a run
-pub entry_of : (find : Find) (runs : List PlacedRun) (index : RunIndex) (i : ℕ) (e : RunEntry) (d : PlacedRun)
+pub entry_of : (find : Find) (runs : List PlacedRun) (index : RunIndex) (i : ℕ) (e : Entry) (d : PlacedRun)
     → Indexes find runs index → i < length runs → placed_at find (get_or index.entries i e) ≡ Some (get_or runs i d)
 entry_of find runs index i e d s h =
     let so_many : length index.entries ≡ length runs = sym (length-map index.entries (placed_at find))
@@ -87,7 +87,7 @@ length-entries find runs index s = sym (length-map index.entries (placed_at find
     ∙ length-map runs (λ (p : PlacedRun). Some p) ∙ sym s.counts.count
 
 -- what is found by the entry is the sample at the number
-pub located : (find : Find) (runs : List PlacedRun) (index : RunIndex) (key i : ℕ) (e : RunEntry)
+pub located : (find : Find) (runs : List PlacedRun) (index : RunIndex) (key i : ℕ) (e : Entry)
     → key < 2 ^ 32 - 1 → Indexes find runs index → IsLastAtMost index.counts key i →
     option_and_then (run_sample_in (key - slice_index index.counts i)) (placed_at find (get_or index.entries i e))
     ≡ slice_get (all_run_samples runs) key
@@ -105,21 +105,21 @@ located_none find runs index key s above =
     slice_get-all_run_samples_past runs key 0 (omega (arith, none)) (omega arith)
 
 -- the same of an entry that was read out of a copy of the entries
-pub located_by : (find : Find) (es : List RunEntry) (runs : List PlacedRun) (index : RunIndex) (key i number : ℕ)
-    (entry : RunEntry) (answer : Option RunSample) → key < 2 ^ 32 - 1 → Indexes find runs index →
+pub located_by : (find : Find) (es : List Entry) (runs : List PlacedRun) (index : RunIndex) (key i number : ℕ)
+    (entry : Entry) (answer : Option RunSample) → key < 2 ^ 32 - 1 → Indexes find runs index →
     es ≡ index.entries → entry ≡ get_or es i entry → IsLastAtMost index.counts key i
     → number ≡ slice_index index.counts i →
     answer ≡ option_and_then (run_sample_in (key - number)) (placed_at find entry)
     → answer ≡ slice_get (all_run_samples runs) key
 located_by find es runs index key i number entry answer limit s e1 is at e2 answered =
     rw e2 at answered
-    ∙ ap (λ (e : RunEntry). option_and_then (run_sample_in (key - slice_index index.counts i)) (placed_at find e)) (is
-    ∙ ap (λ (xs : List RunEntry). get_or xs i entry) e1)
+    ∙ ap (λ (e : Entry). option_and_then (run_sample_in (key - slice_index index.counts i)) (placed_at find e)) (is
+    ∙ ap (λ (xs : List Entry). get_or xs i entry) e1)
     ∙ located find runs index key i entry limit s at
 
-pub right_by : (find : Find) (es : List RunEntry) (runs : List PlacedRun) (index : RunIndex) (i : ℕ)
-    (entry : RunEntry) → Indexes find runs index →
+pub right_by : (find : Find) (es : List Entry) (runs : List PlacedRun) (index : RunIndex) (i : ℕ)
+    (entry : Entry) → Indexes find runs index →
     es ≡ index.entries → entry ≡ get_or es i entry → i < length index.entries → IsRight find entry
 right_by find es runs index i entry s e1 is h =
-    let there : get_or index.entries i entry ≡ entry = sym (is ∙ ap (λ (xs : List RunEntry). get_or xs i entry) e1) in
-    subst (λ (e : RunEntry). IsRight find e) there (s.right i entry h)
+    let there : get_or index.entries i entry ≡ entry = sym (is ∙ ap (λ (xs : List Entry). get_or xs i entry) e1) in
+    subst (λ (e : Entry). IsRight find e) there (s.right i entry h)

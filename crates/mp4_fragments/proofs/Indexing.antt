@@ -9,7 +9,7 @@ use Rattle.mp4_search.specs.Sums.{CountsBefore}
 use Rattle.mp4_fragments.specs.RunSamples.{PlacedRun, run_count}
 use Rattle.mp4_fragments.specs.Index.{Find, placed_at, IsRight, Indexes, Pushed}
 use Rattle.mp4_fragments.specs.declared.index.RunIndex.{RunIndex}
-use Rattle.mp4_fragments.specs.declared.index.RunEntry.{RunEntry}
+use Rattle.mp4_fragments.specs.Entry.{Entry}
 
 pub CountsBefore-push : (runs : List PlacedRun) (counts : List ℕ) (before : ℕ) (p : PlacedRun)
     → CountsBefore run_count runs counts → before ≡ min (2 ^ 32 - 1) (sum_by run_count runs)
@@ -32,7 +32,7 @@ CountsBefore-push runs counts before p s e = record {
 capped : (limit a b c : ℕ) → a ≡ min limit b → min (a + c) limit ≡ min limit (b + c)
 capped limit a b c e = omega arith
 
-pub Indexes-push : (find : Find) (runs : List PlacedRun) (old new : RunIndex) (entry : RunEntry) (p : PlacedRun)
+pub Indexes-push : (find : Find) (runs : List PlacedRun) (old new : RunIndex) (entry : Entry) (p : PlacedRun)
     → Pushed old new entry (run_count p) → placed_at find entry ≡ Some p → IsRight find entry
     → Indexes find runs old → Indexes find (runs ++ p ∷ []) new
 Indexes-push find runs old new entry p pushed there right s =

@@ -13,7 +13,7 @@ use Rattle.mp4_fragments.specs.Index.{Find, Indexes, placed_at}
 use Rattle.mp4_fragments.specs.RunSamples.{PlacedRun, all_run_samples, is_sync_in, run_sample_of, run_count}
 use Rattle.mp4_fragments.specs.Sync.{AreBuilt, AreSpans, sync_at}
 use Rattle.mp4_fragments.specs.declared.defaults.SampleDefaults.{SampleDefaults}
-use Rattle.mp4_fragments.specs.declared.index.RunEntry.{RunEntry}
+use Rattle.mp4_fragments.specs.Entry.{Entry}
 use Rattle.mp4_fragments.specs.declared.index.RunIndex.{RunIndex}
 use Rattle.mp4_fragments.specs.declared.sync.SpanBuilder.{SpanBuilder}
 use Rattle.mp4_fragments.proofs.Finding.{entry_of, length-all_run_samples, length-entries, slice_get-all_run_samples}
@@ -58,8 +58,8 @@ none_built has b firsts lasts begun count = record {
 }
 
 -- the spans of one run more
-pub entry_built : (find : Find) (es : List RunEntry) (runs : List PlacedRun) (index : RunIndex) (end r : ℕ)
-    (entry : RunEntry) (old new : SpanBuilder) → Indexes find runs index → es ≡ index.entries
+pub entry_built : (find : Find) (es : List Entry) (runs : List PlacedRun) (index : RunIndex) (end r : ℕ)
+    (entry : Entry) (old new : SpanBuilder) → Indexes find runs index → es ≡ index.entries
     → entry ≡ get_or es r entry → r < length es
     → old.end ≡ end → old.count ≡ min end (sum_by run_count (take r runs)) → AreBuilt (sync_at runs) old
     → ((p : PlacedRun) → placed_at find entry ≡ Some p → (has : ℕ → Bool) → AreBuilt has old
@@ -68,14 +68,14 @@ pub entry_built : (find : Find) (es : List RunEntry) (runs : List PlacedRun) (in
     → ((p : PlacedRun) → placed_at find entry ≡ Some p → new.count ≡ min (old.count + run_count p) old.end)
     → AreBuilt (sync_at runs) new × (new.count ≡ min end (sum_by run_count (take (r + 1) runs)))
 entry_built find es [] index end r entry old new s e is h own count built made counted =
-    absurd (omega (arith, h, ap (λ (xs : List RunEntry). length xs) e, length-entries find [] index s, s.counts.count))
+    absurd (omega (arith, h, ap (λ (xs : List Entry). length xs) e, length-entries find [] index s, s.counts.count))
 entry_built find es (d ∷ rest) index end r entry old new s e is h own count built made counted =
     let runs = d ∷ rest in
     let p = get_or runs r d in
-    let so_many = ap (λ (xs : List RunEntry). length xs) e in
+    let so_many = ap (λ (xs : List Entry). length xs) e in
     let within : r < length runs = omega (arith, h, so_many, length-entries find runs index s, s.counts.count) in
     let there : placed_at find entry ≡ Some p =
-    ap (placed_at find) (is ∙ ap (λ (xs : List RunEntry). get_or xs r entry) e)
+    ap (placed_at find) (is ∙ ap (λ (xs : List Entry). get_or xs r entry) e)
     ∙ entry_of find runs index r entry d s within in
     let more = sum_by_more run_count runs r d within in
     let grown = counted p there in (

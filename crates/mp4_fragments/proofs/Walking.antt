@@ -16,9 +16,8 @@ use Rattle.mp4_fragments.specs.Index.{Find, placed_at, IsOnly, IsRight, Indexes,
 use Rattle.mp4_fragments.specs.Index.{run_at}
 use Rattle.mp4_fragments.specs.Index.{run_of_traf}
 use Rattle.mp4_fragments.specs.declared.index.RunIndex.{RunIndex}
-use Rattle.mp4_fragments.specs.declared.index.RunEntry.{RunEntry}
+use Rattle.mp4_fragments.specs.Entry.{Entry}
 use Rattle.mp4_fragments.specs.declared.run_samples.RunStart.{RunStart}
-use Rattle.mp4_fragments.specs.declared.run_samples.SampleValues.{SampleValues}
 use Rattle.mp4_fragments.specs.declared.defaults.SampleDefaults.{SampleDefaults}
 use Rattle.mp4_fragments.proofs.Indexing.{Indexes-push}
 
@@ -55,7 +54,7 @@ Walks-whole {X} knows f xs i a b j k e walks =
     let P : List X → Type 0 = λ ys. Walks knows (λ walk. fold f walk ys) a b j k in
     subst P (take_all i xs (omega arith)) walks
 
-right_at : (find : Find) (e : RunEntry) (p : PlacedRun) → placed_at find e ≡ Some p
+right_at : (find : Find) (e : Entry) (p : PlacedRun) → placed_at find e ≡ Some p
     → AreCheckpoints p.run p.defaults p.at e.checks → IfSome e.only (IsOnly p) → IsRight find e
 right_at find e p there checks only = record {
   only = λ q other.
@@ -68,22 +67,21 @@ right_at find e p there checks only = record {
 
 -- a run
 pub Walks-run : (knows : Find → Type 0) (base_data_offset : Option ℕ) (defaults : SampleDefaults) (run : TrunBox)
-    (a at after : RunStart) (checks : List RunStart) (only : Option SampleValues) (old new : RunIndex) (t i : ℕ) →
+    (a at after : RunStart) (entry : Entry) (old new : RunIndex) (t i : ℕ) →
     ((find : Find) → knows find → find t i ≡ Some (run, defaults)) →
     at ≡ begins base_data_offset run a → after ≡ at_run_sample run defaults at run.sample_count
-    → AreCheckpoints run defaults at checks
-    → ((first : RunStart) → IfSome only (IsOnly (record { at = first; run = run; defaults = defaults }))) →
-    Pushed old new (record { at = at; checks = checks; only = only; traf = t; run = i }) run.sample_count →
+    → entry.at ≡ at → entry.traf ≡ t → entry.run ≡ i → AreCheckpoints run defaults at entry.checks
+    → ((first : RunStart) → IfSome entry.only (IsOnly (record { at = first; run = run; defaults = defaults }))) →
+    Pushed old new entry run.sample_count →
     Walks knows (λ walk. with_run base_data_offset defaults walk run) a after old new
 unfolding with_run placed_at
-Walks-run knows base_data_offset defaults run a at after checks only old new t i there e1 e2 right one pushed =
+Walks-run knows base_data_offset defaults run a at after entry old new t i there e1 e2 e3 e4 e5 right one pushed =
     let placed : RunStart → PlacedRun = λ a. record { at = a; run = run; defaults = defaults } in
     let begin : RunStart = begins base_data_offset run a in
-    let entry : RunEntry = record { at = at; checks = checks; only = only; traf = t; run = i } in
     record {
       at = λ runs. e2 ∙ ap (λ (a : RunStart). at_run_sample run defaults a run.sample_count) e1;
       index = λ find runs known s.
-          let found : placed_at find entry ≡ Some (placed at) = rw (there find known) refl in
+          let found : placed_at find entry ≡ Some (placed at) = rw (e3, e4, e5, there find known) refl in
           Indexes-push find runs old new entry (placed begin) pushed (found ∙ ap (λ (a : RunStart). Some
           (placed a)) e1) (right_at find entry (placed at) found right (one at)) s;
     }

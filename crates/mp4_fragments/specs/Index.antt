@@ -11,7 +11,7 @@ use Rattle.mp4_fragments.specs.Defaults.{defaults_in}
 use Rattle.mp4_fragments.specs.Fragments.{Walk}
 use Rattle.mp4_fragments.specs.RunSamples.{PlacedRun, run_sample_of, run_count, values_of}
 use Rattle.mp4_fragments.specs.declared.defaults.SampleDefaults.{SampleDefaults}
-use Rattle.mp4_fragments.specs.declared.index.RunEntry.{RunEntry}
+use Rattle.mp4_fragments.specs.Entry.{Entry}
 use Rattle.mp4_fragments.specs.declared.index.RunIndex.{RunIndex}
 use Rattle.mp4_fragments.specs.declared.run_samples.RunStart.{RunStart}
 use Rattle.mp4_fragments.specs.declared.run_samples.RunSample.{RunSample}
@@ -28,7 +28,7 @@ unfoldable pub run_at : List TrafBox → SampleDefaults → Find
 run_at trafs track t i = option_and_then (run_of_traf track i) (slice_get trafs t)
 
 -- the run that an entry is of
-unfoldable pub placed_at : Find → RunEntry → Option PlacedRun
+unfoldable pub placed_at : Find → Entry → Option PlacedRun
 placed_at find e = option_map (λ x. record { at = e.at; run = x.0; defaults = x.1 }) (find e.traf e.run)
 
 -- the runs of an index of these fragments
@@ -40,14 +40,14 @@ abbrev pub IsOnly : PlacedRun → SampleValues → Type 0
 IsOnly p v = (run_count p ≡ 1) × (v ≡ values_of p 0)
 
 -- the checkpoints of an entry are those of its run, and what it has of a sample is the run's only one
-pub record IsRight (find : Find) (e : RunEntry) : Type 0 where
+pub record IsRight (find : Find) (e : Entry) : Type 0 where
   pub only : (p : PlacedRun) → placed_at find e ≡ Some p → IfSome e.only (IsOnly p)
   pub checks : (p : PlacedRun) → placed_at find e ≡ Some p → AreCheckpoints p.run p.defaults p.at e.checks
 
 -- the index of these runs
 pub record Indexes (find : Find) (runs : List PlacedRun) (index : RunIndex) : Type 0 where
   pub entries : map (placed_at find) index.entries ≡ map Some runs
-  pub right : (i : ℕ) (d : RunEntry) → i < length index.entries → IsRight find (get_or index.entries i d)
+  pub right : (i : ℕ) (d : Entry) → i < length index.entries → IsRight find (get_or index.entries i d)
   pub counts : CountsBefore run_count runs index.counts
   pub before : index.before ≡ min (2 ^ 32 - 1) (sum_by run_count runs)
   pub total : index.total ≡ min (2 ^ 64 - 1) (sum_by run_count runs)
@@ -60,7 +60,7 @@ pub record Walks (knows : Find → Type 0) (step : Walk → Walk) (first after :
       → Indexes find (step (record { at = first; runs = runs })).runs new
 
 -- one more run
-pub record Pushed (old new : RunIndex) (entry : RunEntry) (count : ℕ) : Type 0 where
+pub record Pushed (old new : RunIndex) (entry : Entry) (count : ℕ) : Type 0 where
   pub counts : new.counts ≡ old.counts ++ old.before ∷ []
   pub entries : new.entries ≡ old.entries ++ entry ∷ []
   pub before : new.before ≡ min (old.before + count) (2 ^ 32 - 1)

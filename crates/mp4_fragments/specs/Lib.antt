@@ -4,6 +4,7 @@ pub mod Defaults
 pub mod BaseDataOffsets
 pub mod Fragments
 pub mod Checkpoints
+pub mod Entry
 pub mod Index
 pub mod Cursor
 pub mod ByTime

@@ -10,7 +10,8 @@ ghost use Rattle.mp4_fragments.specs.RunSamples.{PlacedRun, at_run_sample, run_c
 ghost use Rattle.mp4_search.specs.Partition.{AnswersLast, ArePartedAt, asked_in};
 
 use crate::defaults::SampleDefaults;
-use crate::index::{RunEntry, RunIndex};
+use crate::entry::RunEntry;
+use crate::index::RunIndex;
 use crate::lookup::run_of;
 use crate::run_samples::RunStart;
 use crate::run_starts::at_by_checkpoints;
@@ -78,14 +79,14 @@ fn run_samples_by(
         → readings.new ≡ readings.old + asked_in (in_run_by p time) (min n (run_count p)) }
     ensures few { readings.new ≤ readings.old + 32 }
 {
-    let Some((run, defaults)) = run_of(trafs, track, entry.traf, entry.run) else {
+    let Some((run, defaults)) = run_of(trafs, track, entry) else {
         return 0;
     };
     let run_samples = RunSamplesBy {
         run,
         defaults,
-        first: entry.at,
-        checks: entry.checks.as_slice(),
+        first: entry.at(),
+        checks: entry.checks(),
         time,
     };
     let n = n.min(run.sample_count);

@@ -3,28 +3,11 @@
 ghost use Rattle.std.specs.Prelude.{◌≡◌, ℕ, ◌+◌, ◌-◌, ◌^◌, min, [], ◌∷◌, ◌++◌, IfOk};
 ghost use Rattle.mp4_fragments.specs.Index.{Pushed};
 
-use crate::run_samples::{RunStart, SampleValues};
-use mp4_codec::{DebugItem, Items};
+use crate::entry::RunEntry;
+use mp4_codec::Items;
 use mp4_search::SearchedNumbers;
 use std::alloc::{AllocError, Global};
 use std::marker::Model;
-
-/// A run: where it is, and where its samples begin.
-#[derive(Debug, Drop)]
-pub(crate) struct RunEntry {
-    /// Where and when its first sample begins.
-    pub at: RunStart,
-    /// Where every 64th sample begins, from the 64th on, if the run lists sizes or durations.
-    pub checks: Items<RunStart>,
-    /// What its sample has, if it has one alone: a walk over such runs looks at their entries and at nothing else.
-    pub only: Option<SampleValues>,
-    /// The number of its fragment among those of the track, counted from 0.
-    pub traf: usize,
-    /// Its number in the fragment, counted from 0.
-    pub run: usize,
-}
-
-impl DebugItem for RunEntry {}
 
 /// The runs of a track's fragments, one entry each: however many samples a run has, none is written out.
 #[derive(Debug, Drop)]

@@ -5,6 +5,7 @@ mod base_data_offsets;
 mod by_time;
 mod cursor;
 mod defaults;
+mod entry;
 mod index;
 mod lookup;
 mod placing;

@@ -11,7 +11,8 @@ ghost use Rattle.mp4_fragments.specs.Index.{Find, Indexes, IsRight, placed_at, r
 
 use crate::cursor::{RunCursor, RunEnd, RunPosition};
 use crate::defaults::SampleDefaults;
-use crate::index::{RunEntry, RunIndex};
+use crate::entry::RunEntry;
+use crate::index::RunIndex;
 use crate::run_samples::{RunSample, RunStart, run_sample_run_start};
 use crate::run_starts::{add, at_by_checkpoints};
 use mp4_moof::{TrafBox, TrunBox};
@@ -19,7 +20,7 @@ use mp4_search::{ByGuess, Readings, Search};
 
 /// Run `i` of fragment `t` of a track, and what its samples have where it says nothing.
 #[tactic(auto, unfolding(crate::specs::Index::run_at, crate::specs::Index::run_of_traf))]
-pub(crate) fn run_of(
+fn run_numbered(
     trafs: &[TrafBox],
     track: SampleDefaults,
     t: usize,
@@ -34,6 +35,18 @@ pub(crate) fn run_of(
             Some(run) => Some((run, track.in_traf(traf))),
         },
     }
+}
+
+/// The run of an entry, and what its samples have where it says nothing.
+#[inline(always)]
+pub(crate) fn run_of<'t>(
+    trafs: &'t [TrafBox],
+    track: SampleDefaults,
+    entry: &RunEntry,
+) -> Option<(&'t TrunBox, SampleDefaults)>
+    ensures { option_map (λ x. (x.0.now, x.1)) result ≡ run_at trafs.now track entry.now.traf entry.now.run }
+{
+    run_numbered(trafs, track, entry.traf(), entry.run())
 }
 
 /// A walk before sample `j` of the run of the entry with this index, if it has so many; the number of that sample over
@@ -54,7 +67,7 @@ fn cursor_in<'t>(
     ensures none { IfNone result ((p : PlacedRun) → placed_at (run_at trafs.now track) entry.now ≡ Some p
         → p.run.sample_count ≤ j) }
 {
-    let Some((run, defaults)) = run_of(trafs, track, entry.traf, entry.run) else {
+    let Some((run, defaults)) = run_of(trafs, track, entry) else {
         return None;
     };
     if j >= run.sample_count {
@@ -66,7 +79,7 @@ fn cursor_in<'t>(
         entry: index,
         passed: j,
         number,
-        at: at_by_checkpoints(run, defaults, entry.at, entry.checks.as_slice(), j),
+        at: at_by_checkpoints(run, defaults, entry.at(), entry.checks(), j),
     })
 }
 
@@ -95,20 +108,20 @@ fn run_sample_at(
     requires { IsRight (run_at trafs.now track) entry.now }
     ensures { (p : PlacedRun) → placed_at (run_at trafs.now track) entry.now ≡ Some p → result ≡ run_sample_in j p }
 {
-    if let Some(values) = entry.only {
+    if let Some(values) = entry.only() {
         return if j == 0 {
-            Some(values.begin_at(first_start(entry.at)))
+            Some(values.begin_at(first_start(entry.at())))
         } else {
             None
         };
     }
-    let Some((run, defaults)) = run_of(trafs, track, entry.traf, entry.run) else {
+    let Some((run, defaults)) = run_of(trafs, track, entry) else {
         return None;
     };
     if j >= run.sample_count {
         return None;
     }
-    let at = at_by_checkpoints(run, defaults, entry.at, entry.checks.as_slice(), j);
+    let at = at_by_checkpoints(run, defaults, entry.at(), entry.checks(), j);
     Some(run_sample_run_start(run, defaults, at, j))
 }
 
@@ -179,12 +192,12 @@ impl RunIndex {
         let Some(entry) = entries.get(index) else {
             return None;
         };
-        if let Some(values) = entry.only {
+        if let Some(values) = entry.only() {
             *position = Some(RunPosition::AfterRun(RunEnd {
                 entry: index,
                 number: end.number + 1,
             }));
-            return Some(values.begin_at(first_start(entry.at)));
+            return Some(values.begin_at(first_start(entry.at())));
         }
         let Some(mut cursor) = cursor_in(trafs, track, entry, index, 0, end.number) else {
             return None;

@@ -1,16 +1,17 @@
 //! One pass over the fragments of a track, which places its runs.
 
-ghost use Rattle.std.specs.Prelude.{◌≡◌, ℕ, ◌-◌, ◌^◌, ◌<◌, List, length, min, IfOk, IfSome, Some, fold, zip};
+ghost use Rattle.std.specs.Prelude.{◌≡◌, ℕ, ◌-◌, ◌^◌, ◌<◌, List, length, min, IfOk, Some, fold, zip};
 ghost use Rattle.std.specs.List.{sum_by};
 ghost use Rattle.mp4_fragments.specs.BaseDataOffsets.{data_begins};
 ghost use Rattle.mp4_fragments.specs.Defaults.{defaults_in};
 ghost use Rattle.mp4_fragments.specs.Fragments.{begins, first_time, has_run_samples, with_run, with_traf, placed_runs};
-ghost use Rattle.mp4_fragments.specs.Index.{Indexes, IsOnly, Walks, KnowsRuns, KnowsTrafs, run_at};
+ghost use Rattle.mp4_fragments.specs.Index.{Indexes, Walks, KnowsRuns, KnowsTrafs, run_at};
 
 use crate::defaults::SampleDefaults;
-use crate::index::{RunEntry, RunIndex, RunIndexBuilder};
-use crate::run_samples::{RunStart, SampleValues, values_of};
-use crate::run_starts::{at_by_checkpoints, checkpoints, data_begin};
+use crate::entry::RunEntry;
+use crate::index::{RunIndex, RunIndexBuilder};
+use crate::run_samples::RunStart;
+use crate::run_starts::{at_by_checkpoints, data_begin};
 use mp4_moof::{TfdtBox, TrafBox, TrunBox};
 use std::alloc::{AllocError, Global};
 
@@ -42,18 +43,6 @@ fn any_run_samples(traf: &TrafBox) -> bool
     traf.truns.as_slice().iter().any(|run| 0 < run.sample_count)
 }
 
-/// What the sample of a run of one has.
-fn only_values(run: &TrunBox, defaults: SampleDefaults) -> Option<SampleValues>
-    ensures { (first : RunStart)
-        → IfSome result (IsOnly (record { at = first; run = run.now; defaults = defaults })) }
-{
-    if run.sample_count == 1 {
-        Some(values_of(run, defaults, 0))
-    } else {
-        None
-    }
-}
-
 /// Places run `i` of fragment `t` after `end`, and adds it to the index. The answer is its end.
 fn add_run(
     alloc: Global,
@@ -70,18 +59,9 @@ fn add_run(
         (λ walk. with_run base_data_offset defaults walk run.now) end after index.old index.new) }
 {
     let at = run_begin(base_data_offset, run, end);
-    let checks = checkpoints(alloc, run, defaults, at)?;
-    let after = at_by_checkpoints(run, defaults, at, checks.as_slice(), run.sample_count);
-    index.push(
-        RunEntry {
-            at,
-            checks,
-            only: only_values(run, defaults),
-            traf: t,
-            run: i,
-        },
-        run.sample_count,
-    )?;
+    let entry = RunEntry::of(alloc, t, i, run, defaults, at)?;
+    let after = at_by_checkpoints(run, defaults, at, entry.checks(), run.sample_count);
+    index.push(entry, run.sample_count)?;
     Ok(after)
 }
 

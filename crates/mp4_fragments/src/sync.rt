@@ -11,7 +11,8 @@ ghost use Rattle.mp4_search.specs.Digits.{digits};
 ghost use Rattle.mp4_search.specs.Partition.{AnswersLast, asked_in};
 
 use crate::defaults::SampleDefaults;
-use crate::index::{RunEntry, RunIndex};
+use crate::entry::RunEntry;
+use crate::index::RunIndex;
 use crate::lookup::run_of;
 use crate::run_samples::{IS_NO_SYNC_SAMPLE, is_sync};
 use mp4_moof::{TrafBox, TrunBox};
@@ -178,7 +179,7 @@ impl SpanBuilder {
         ensures within { OnOk result (self.new.count ≤ self.new.end) }
         ensures end { self.new.end ≡ self.old.end }
     {
-        match run_of(trafs, track, entry.traf, entry.run) {
+        match run_of(trafs, track, entry) {
             None => Ok(()),
             Some((run, defaults)) => self.add_run(run, defaults),
         }

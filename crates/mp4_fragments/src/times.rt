@@ -7,7 +7,8 @@ ghost use Rattle.mp4_fragments.specs.Index.{Indexes, placed_at, run_at, runs_of}
 ghost use Rattle.mp4_fragments.specs.RunSamples.{PlacedRun, run_count};
 
 use crate::defaults::SampleDefaults;
-use crate::index::{RunEntry, RunIndex};
+use crate::entry::RunEntry;
+use crate::index::RunIndex;
 use crate::lookup::run_of;
 use mp4_moof::TrafBox;
 use std::alloc::{AllocError, Global};
@@ -25,13 +26,13 @@ pub struct RunTimes {
 fn begin_of(trafs: &[TrafBox], track: SampleDefaults, entry: &RunEntry) -> Option<u64>
     ensures { (p : PlacedRun) → placed_at (run_at trafs.now track) entry.now ≡ Some p → result ≡ first_decoded p }
 {
-    let Some((run, _)) = run_of(trafs, track, entry.traf, entry.run) else {
+    let Some((run, _)) = run_of(trafs, track, entry) else {
         return None;
     };
     if run.sample_count == 0 {
         return None;
     }
-    entry.at.time
+    entry.at().time
 }
 
 /// The earlier of two times, of which either may be unknown.

@@ -26,7 +26,7 @@ at_by_checkpoints-requires c =
     let e = c.in-Some.ensures in
     let p : PlacedRun = record { at = c.args.entry.now.at; run = c.in-Some.run'.now; defaults = c.in-Some.defaults } in
     let there : placed_at (run_at c.args.trafs.now c.args.track) c.args.entry.now ≡ Some p = rw (← e) refl in
-    rw c.as_slice.ensures (c.requires.checks p there)
+    rw (c.at.ensures, c.checks.ensures) (c.requires.checks p there)
 
 pub returns-clause-some : goal.returns-clause-some
 unfolding placed_at
@@ -42,6 +42,6 @@ returns-clause-some c =
       λ p there. rw (same_Some p q (sym there ∙ here)) (record {
         run = refl;
         defaults = refl;
-        begins = c.at_by_checkpoints.ensures;
+        begins = rw (← c.at.ensures) c.at_by_checkpoints.ensures;
       }),
     )

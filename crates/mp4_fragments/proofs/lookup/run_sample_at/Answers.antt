@@ -9,13 +9,13 @@ use Rattle.mp4_fragments.proofs.lookup.run_sample_at.Goals as goal
 pub returns-then-j-eq0 : goal.returns-then-j-eq0
 returns-then-j-eq0 c = λ p there.
     only_sample (run_at c.args.trafs.now c.args.track) c.args.entry.now c.in-Some.values c.begin_at.result p c.args.j
-    there (rw c.in-Some.is at (c.requires.only p there)) (omega (arith, c.if-j-eq0.true))
-    (λ run defaults. rw c.begin_at.ensures (c.first_start.ensures run defaults)) (rw c.begin_at.ensures refl)
+    there (rw (← c.only.ensures, c.in-Some.is) at (c.requires.only p there)) (omega (arith, c.if-j-eq0.true))
+    (λ run defaults. rw (c.begin_at.ensures, ← c.at.ensures) (c.first_start.ensures run defaults)) (rw c.begin_at.ensures refl)
     (rw c.begin_at.ensures refl) (rw c.begin_at.ensures refl) (rw c.begin_at.ensures refl)
 
 pub returns-else-j-eq0 : goal.returns-else-j-eq0
 returns-else-j-eq0 c = λ p there.
-    no_other p c.in-Some.values c.args.j (rw c.in-Some.is at (c.requires.only p there))
+    no_other p c.in-Some.values c.args.j (rw (← c.only.ensures, c.in-Some.is) at (c.requires.only p there))
     (omega (arith, c.if-j-eq0.false))
 
 pub returns-in_default-run_of : goal.returns-in_default-run_of
@@ -40,7 +40,7 @@ at_by_checkpoints-at-requires c =
     let e = c.in-Some-run_of.ensures in
     let p : PlacedRun = record { at = c.args.entry.now.at; run = c.in-Some-run_of.run'.now; defaults = c.in-Some-run_of.defaults } in
     let there : placed_at (run_at c.args.trafs.now c.args.track) c.args.entry.now ≡ Some p = rw (← e) refl in
-    rw c.as_slice.ensures (c.requires.checks p there)
+    rw (c.at-2.ensures, c.checks.ensures) (c.requires.checks p there)
 
 pub returns : goal.returns
 unfolding placed_at
@@ -49,4 +49,5 @@ returns c = λ p there.
     let q : PlacedRun = record { at = c.args.entry.now.at; run = c.in-Some-run_of.run'.now; defaults = c.in-Some-run_of.defaults } in
     let here : placed_at (run_at c.args.trafs.now c.args.track) c.args.entry.now ≡ Some q = rw (← e) refl in
     rw (same_Some p q (sym there ∙ here)) (rw (lt-ltb c.args.j q.run.sample_count (omega (arith, c.if-j-run.false)))
-    (ap Some (c.run_sample_run_start.ensures c.args.entry.now.at c.at_by_checkpoints-at.ensures)))
+    (ap Some (c.run_sample_run_start.ensures c.args.entry.now.at
+    (rw (← c.at-2.ensures) c.at_by_checkpoints-at.ensures))))

@@ -1,7 +1,7 @@
 use Rattle.std.proofs.Common.{◌≤◌, List, length, ap, ◌∙◌, arith}
 use Rattle.mp4_fragments.specs.Index.{run_at, runs_of}
 use Rattle.mp4_fragments.specs.Sync.{sync_at}
-use Rattle.mp4_fragments.specs.declared.index.RunEntry.{RunEntry}
+use Rattle.mp4_fragments.specs.Entry.{Entry}
 use Rattle.mp4_fragments.proofs.Finding.{length-entries}
 use Rattle.mp4_fragments.proofs.Syncing.{all_built, entry_built}
 use Rattle.mp4_fragments.proofs.sync.spans_of.Goals as goal
@@ -30,7 +30,7 @@ all_passed c =
     let runs = runs_of c.args.trafs.now c.args.track c.args.index.now in
     omega (
       arith,
-      ap (λ (es : List RunEntry). length es) c.as_slice-entry-items.ensures,
+      ap (λ (es : List Entry). length es) c.as_slice-entry-items.ensures,
       length-entries find runs c.args.index.now c.requires,
       c.requires.counts.count,
     )

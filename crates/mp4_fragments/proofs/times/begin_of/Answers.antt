@@ -18,4 +18,4 @@ pub returns : goal.returns
 returns c = λ p there.
     let is = placed_is (run_at c.args.trafs.now c.args.track) c.args.entry.now c.in-Some.run'.now c.in-Some.field-0-1 p
     c.in-Some.ensures there in
-    rw (is, lt-ltb 0 c.in-Some.run'.now.sample_count (omega (arith, c.if-run-eq0.false))) refl
+    rw (is, lt-ltb 0 c.in-Some.run'.now.sample_count (omega (arith, c.if-run-eq0.false)), c.at.ensures) refl

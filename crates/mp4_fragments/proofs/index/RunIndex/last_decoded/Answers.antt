@@ -1,7 +1,7 @@
 use Rattle.std.proofs.Common.{◌≤◌, List, length, ap, arith}
 use Rattle.mp4_search.proofs.Digits.{digits_64, digits_grow}
 use Rattle.mp4_fragments.specs.ByTime.{AreEarliest, IsCountByTime, begin_of, runs_by}
-use Rattle.mp4_fragments.specs.declared.index.RunEntry.{RunEntry}
+use Rattle.mp4_fragments.specs.Entry.{Entry}
 use Rattle.mp4_fragments.specs.Index.{run_at, runs_of}
 use Rattle.mp4_fragments.proofs.Decoding.{answer_early, counted_early, few_times, late_runs, none_early, parted_once}
 use Rattle.mp4_fragments.proofs.Decoding.{run_found, runs_parted}
@@ -67,7 +67,7 @@ offset_bounds-as_slice-index c =
     let found = run_found known runs index c.args.end c.args.time c.partition_point-count.result c.in-Some.index
     c.as_slice.result.now c.requires.indexed earliest c.partition_point-count.ensures.point c.in-Some.ensures.0
     c.in-Some.ensures.1 (omega arith) in
-    omega (arith, found.2, ap (λ (es : List RunEntry). length es) c.as_slice-2.ensures, c.as_slice-2.type_inv.1)
+    omega (arith, found.2, ap (λ (es : List Entry). length es) c.as_slice-2.ensures, c.as_slice-2.type_inv.1)
 
 pub bounds-as_slice-index : goal.bounds-as_slice-index
 bounds-as_slice-index c =

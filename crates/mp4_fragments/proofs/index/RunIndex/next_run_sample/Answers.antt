@@ -1,4 +1,4 @@
-use Rattle.std.proofs.Common.{◌+◌, ◌<◌, length, refl, arith}
+use Rattle.std.proofs.Common.{◌+◌, ◌<◌, length, refl, sym, ◌∙◌, arith}
 use Rattle.mp4_fragments.specs.Index.{run_at, runs_of}
 use Rattle.mp4_fragments.proofs.Cursors.{next_at, only_at, only_end}
 use Rattle.mp4_fragments.proofs.Finding.{length-entries}
@@ -14,8 +14,8 @@ returns-in-Some-only-clause-run_sample c =
     let within : c.args.end.entry + 1 < length index.entries = rw c.as_slice-entries.ensures at got.3.0 in
     only_at find c.as_slice-entries.result.now runs index c.in-Some.entry.now c.args.end c.in-Some-only.values _
     c.requires.indexed c.requires.end c.as_slice-entries.ensures got.1
-    (omega (arith, within, many, c.requires.indexed.counts.count)) c.in-Some-only.is
-    (λ run defaults. rw c.begin_at.ensures (c.first_start.ensures run defaults)) (rw c.begin_at.ensures refl)
+    (omega (arith, within, many, c.requires.indexed.counts.count)) (sym c.only.ensures ∙ c.in-Some-only.is)
+    (λ run defaults. rw (c.begin_at.ensures, ← c.at.ensures) (c.first_start.ensures run defaults)) (rw c.begin_at.ensures refl)
     (rw c.begin_at.ensures refl) (rw c.begin_at.ensures refl) (rw c.begin_at.ensures refl)
 
 pub returns-in-Some-only-clause-position : goal.returns-in-Some-only-clause-position
@@ -28,7 +28,8 @@ returns-in-Some-only-clause-position c =
     let within : c.args.end.entry + 1 < length index.entries = rw c.as_slice-entries.ensures at got.3.0 in
     only_end find c.as_slice-entries.result.now runs index c.in-Some.entry.now c.args.end _ c.in-Some-only.values
     c.requires.indexed c.requires.end c.as_slice-entries.ensures got.1
-    (omega (arith, within, many, c.requires.indexed.counts.count)) c.in-Some-only.is refl refl
+    (omega (arith, within, many, c.requires.indexed.counts.count)) (sym c.only.ensures ∙ c.in-Some-only.is)
+    refl refl
 
 pub returns-clause-run_sample : goal.returns-clause-run_sample
 returns-clause-run_sample c =
