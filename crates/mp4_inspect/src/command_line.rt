@@ -20,8 +20,8 @@ pub enum Unclear {
     Message(Error),
     /// `--at` has no time.
     Time,
-    /// There is no command.
-    NoCommand,
+    /// What a command requires isn't there.
+    Lacking(&'static str),
 }
 
 impl From<AllocError> for Unclear {
@@ -45,7 +45,7 @@ impl fmt::Display for Unclear {
                     "error: --at takes seconds, as 12.5, or a time as it is shown, as 0:00:12.5\n",
                 )
             }
-            Unclear::NoCommand => f.write_str("error: a command is required\n"),
+            Unclear::Lacking(what) => write!(f, "error: {what} is required\n"),
         }
     }
 }
@@ -55,9 +55,22 @@ impl Unclear {
     pub fn is_mistake(&self) -> bool {
         match self {
             Unclear::Message(error) => error.use_stderr(),
-            Unclear::Time | Unclear::NoCommand => true,
+            Unclear::Time | Unclear::Lacking(_) => true,
         }
     }
+}
+
+/// What a command requires; clap refuses words without it.
+fn required<T>(value: Option<T>, what: &'static str) -> Result<T, Unclear> {
+    match value {
+        Some(value) => Ok(value),
+        None => Err(Unclear::Lacking(what)),
+    }
+}
+
+/// The track that is asked for.
+fn track_in(arguments: &ArgMatches<'_>) -> Result<u32, Unclear> {
+    required(arguments.get_one::<u32>("track"), "a track")
 }
 
 /// Where the samples that are asked for begin.
@@ -74,7 +87,7 @@ fn first_in<'a>(arguments: &ArgMatches<'a>) -> Result<First<'a>, Unclear> {
 /// The samples that are asked for.
 fn samples_in<'a>(arguments: &ArgMatches<'a>) -> Result<SamplesRequest<'a>, Unclear> {
     Ok(SamplesRequest {
-        track_id: arguments.get_one::<u32>("track").unwrap_or(0),
+        track_id: track_in(arguments)?,
         first: first_in(arguments)?,
         count: arguments.get_one::<u32>("count").unwrap_or(u32::MAX),
     })
@@ -97,18 +110,18 @@ fn format_in(arguments: &ArgMatches<'_>) -> SampleFormat {
 }
 
 /// The samples that are written. Where there is no folder, a file was given.
-fn extract_in<'a>(arguments: &ArgMatches<'a>) -> ExtractRequest<'a> {
+fn extract_in<'a>(arguments: &ArgMatches<'a>) -> Result<ExtractRequest<'a>, Unclear> {
     let target = match arguments.get_str("each") {
         Some(folder) => Target::Folder(folder),
-        None => Target::File(arguments.get_str("out").unwrap_or("")),
+        None => Target::File(required(arguments.get_str("out"), "a file to write")?),
     };
-    ExtractRequest {
-        track_id: arguments.get_one::<u32>("track").unwrap_or(0),
+    Ok(ExtractRequest {
+        track_id: track_in(arguments)?,
         target,
         from: arguments.get_one::<u32>("from").unwrap_or(1),
         count: arguments.get_one::<u32>("count").unwrap_or(u32::MAX),
         format: format_in(arguments),
-    }
+    })
 }
 
 /// How texts are printed.
@@ -123,7 +136,7 @@ fn layout_in(arguments: &ArgMatches<'_>) -> TextLayout {
     }
 }
 
-/// What a command of this kind asks. Each argument that is required was given.
+/// What a command of this kind asks.
 fn question_in<'a>(kind: Kind, arguments: &ArgMatches<'a>) -> Result<Question<'a>, Unclear> {
     let json = arguments.get_flag("json");
     let question = match kind {
@@ -140,9 +153,9 @@ fn question_in<'a>(kind: Kind, arguments: &ArgMatches<'a>) -> Result<Question<'a
             samples: samples_in(arguments)?,
             json,
         }),
-        Kind::Extract => Question::Movie(MovieQuestion::Extract(extract_in(arguments))),
+        Kind::Extract => Question::Movie(MovieQuestion::Extract(extract_in(arguments)?)),
         Kind::Subtitles => Question::Movie(MovieQuestion::Subtitles(SubtitlesRequest {
-            track: arguments.get_one::<u32>("track").unwrap_or(0),
+            track: track_in(arguments)?,
             layout: layout_in(arguments),
         })),
         Kind::Metadata => Question::Metadata {
@@ -157,15 +170,10 @@ fn question_in<'a>(kind: Kind, arguments: &ArgMatches<'a>) -> Result<Question<'a
 /// `--help` too.
 pub fn request_in<'a>(alloc: Global, words: &'a [String]) -> Result<Request<'a>, Unclear> {
     let matches = command(alloc)?.try_get_matches_from(words)?;
-    // A subcommand is required, so one of these is there.
-    let Some((name, arguments)) = matches.subcommand() else {
-        return Err(Unclear::NoCommand);
-    };
-    let Some(kind) = Kind::named(name) else {
-        return Err(Unclear::NoCommand);
-    };
+    let (name, arguments) = required(matches.subcommand(), "a command")?;
+    let kind = required(Kind::named(name), "a command")?;
     Ok(Request {
-        file: arguments.get_str("file").unwrap_or(""),
+        file: required(arguments.get_str("file"), "a file")?,
         limit: limit_in(arguments),
         question: question_in(kind, arguments)?,
     })
