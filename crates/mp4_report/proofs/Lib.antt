@@ -3,3 +3,4 @@ pub mod Digits
 pub mod Ids
 pub mod Numbers
 pub mod Sounds
+pub mod Texts

@@ -7,3 +7,4 @@ pub mod Sounds
 pub mod Summaries
 pub mod TagValues
 pub mod Tracks
+pub mod UserData
