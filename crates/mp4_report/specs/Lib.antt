@@ -5,5 +5,7 @@ pub mod Rates
 pub mod Samples
 pub mod Sounds
 pub mod Summaries
+pub mod TagNames
 pub mod TagValues
 pub mod Tracks
+pub mod UserData

@@ -1,11 +1,14 @@
 -- What values of metadata are (QuickTime file format, "Well-known types").
-use Rattle.std.specs.Prelude.{◌≡◌, ℕ, ◌+◌, ◌*◌, ◌^◌, ◌==◌, ◌||◌, nat_lt, Bool, ◌++◌, if◌then◌else◌}
-use Rattle.std.specs.Prelude.{List, [], length, fold, take, drop}
+use Rattle.std.specs.Prelude.{◌≡◌, ℕ, ◌+◌, ◌*◌, ◌/◌, ◌^◌, ◌==◌, ◌||◌, nat_lt, Bool, ◌++◌, if◌then◌else◌}
+use Rattle.std.specs.Prelude.{List, [], length, fold, map, take, drop}
 use Rattle.std.specs.Prelude.{Option, Some, None, IsSome, MatchOption, option_map, ℤ, pos, ◌-ℤ◌, codes}
 use Rattle.std.specs.Option.{option_map_or}
+use Rattle.std.specs.Char.Utf16.{utf16_lossy_chars}
+use Rattle.std.specs.Str.{encode_utf8_all}
 use Rattle.std.specs.Str.Lossy.{utf8_lossy}
 use Rattle.std.specs.Fmt.{decimal, signed_decimal}
 use Rattle.std.specs.Int.{w16, w32, from_be_bytes}
+use Rattle.std.specs.Simd.{first_chunks}
 use Rattle.mp4_codec.specs.declared.four_cc.FourCC.{FourCC}
 use Rattle.mp4_report.specs.declared.tag_value.ValueForm.{ValueForm}
 use Rattle.mp4_report.specs.declared.tag_value.ValueForm.TheVariants.{Picture, Utf8, Utf16, Number, Signed}
@@ -63,11 +66,19 @@ form_of kind item value =
     if (kind == 21) || (kind == 65) || (kind == 66) || (kind == 67) || (kind == 74) then signed_form value else
     if (kind == 22) || (kind == 75) || (kind == 76) || (kind == 77) || (kind == 78) then number_form value else Bytes
 
--- the text of a value in its form; of UTF-16 and of bytes alone it isn't said here
+-- the numbers of 16 bits in bytes, the high byte first; a last byte alone is in none
+abbrev pub utf16_units : List ℕ → List ℕ
+utf16_units bytes = map (from_be_bytes w16) (first_chunks 2 (length bytes / 2) bytes)
+
+-- the text in UTF-16 that bytes are, with U+FFFD for each surrogate without its partner
+unfoldable pub utf16_text : List ℕ → List ℕ
+utf16_text bytes = encode_utf8_all (utf16_lossy_chars (utf16_units bytes))
+
+-- the text of a value in its form; how bytes are counted isn't said here
 abbrev pub IsValueText : ValueForm → List ℕ → Option (List ℕ) → Type 0
 IsValueText Picture value text = text ≡ None
 IsValueText Utf8 value text = text ≡ Some (utf8_lossy value)
-IsValueText Utf16 value text = IsSome text
+IsValueText Utf16 value text = text ≡ Some (utf16_text value)
 IsValueText (Number number) value text = text ≡ Some (decimal number)
 IsValueText (Signed number) value text = text ≡ Some (signed_decimal number)
 IsValueText (Position number) value text = text ≡ Some (decimal number)

@@ -19,6 +19,7 @@ mod tag_names;
 mod tag_value;
 mod tags;
 mod tracks;
+mod user_data;
 
 pub use codec_name::{CodecName, HevcName};
 pub use metadata::{CoverReport, MetadataReport, cover_of, metadata_of};

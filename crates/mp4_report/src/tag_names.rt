@@ -1,5 +1,8 @@
 //! The names of metadata, by the types of its boxes.
 
+ghost use Rattle.std.specs.Prelude.{◌≡◌, map, option_copied};
+ghost use Rattle.mp4_report.specs.TagNames.{name_in, name_of};
+
 use mp4_codec::FourCC;
 
 /// The names of items of iTunes, which the QuickTime file format has for texts of user data too.
@@ -46,12 +49,23 @@ static NAMES: [([u8; 4], &str); 40] = [
     (*b"stik", "media_kind"),
 ];
 
-/// The name of what a box of this type says; `None` for a type without a name here.
-pub(crate) fn name_of(code: FourCC) -> Option<&'static str> {
-    for (named, name) in &NAMES {
+/// The name that a list has for this type of box.
+#[tactic(auto, using(crate::proofs::Names::name_steps))]
+fn name_in(names: &[([u8; 4], &'static str)], code: FourCC) -> Option<&'static str>
+    ensures { option_copied result ≡ name_in (map (λ pair. (pair.0, pair.1.now)) names.now) code.value }
+{
+    for (named, name) in names {
         if *named == code.value {
             return Some(*name);
         }
     }
     None
+}
+
+/// The name of what a box of this type says; `None` for a type without a name here.
+#[tactic(auto, unfolding(crate::specs::TagNames::names))]
+pub(crate) fn name_of(code: FourCC) -> Option<&'static str>
+    ensures { option_copied result ≡ name_of code }
+{
+    name_in(&NAMES, code)
 }

@@ -2,7 +2,7 @@
 
 ghost use Rattle.std.specs.Prelude.{◌≡◌, ◌<◌, ◌≤◌, ◌^◌, IfOk, IfSome, length, option_map, string_bytes};
 ghost use Rattle.mp4_report.specs.TagValues.{IsShownValue, IsValueText, form_of, number_form, number_in};
-ghost use Rattle.mp4_report.specs.TagValues.{position_form, signed_form, signed_in, unsaid_form};
+ghost use Rattle.mp4_report.specs.TagValues.{position_form, signed_form, signed_in, unsaid_form, utf16_text};
 
 use mp4_codec::FourCC;
 use mp4_readable::Grouped;
@@ -135,13 +135,16 @@ fn form_of(kind: u32, item: FourCC, value: &[u8]) -> ValueForm
     }
 }
 
-/// A text in UTF-16, the high byte first; what isn't one is shown as U+FFFD.
-fn utf16_text(alloc: Global, bytes: &[u8]) -> Result<String, AllocError> {
+/// A text in UTF-16, the high byte first; what isn't one is shown as U+FFFD. A last byte alone is passed
+/// over.
+#[tactic(auto, unfolding(crate::specs::TagValues::utf16_text))]
+pub(crate) fn utf16_text(alloc: Global, bytes: &[u8]) -> Result<String, AllocError>
+    ensures { IfOk result (λ text. string_bytes text ≡ utf16_text bytes.now) }
+{
+    let (pairs, _) = bytes.as_chunks::<2>();
     let mut units = Vec::new(alloc);
-    for pair in bytes.chunks_exact(2) {
-        if let [high, low] = pair {
-            units.push(u16::from_be_bytes([*high, *low]))?;
-        }
+    for pair in pairs {
+        units.push(u16::from_be_bytes(*pair))?;
     }
     String::from_utf16_lossy(alloc, units.as_slice())
 }
@@ -185,52 +188,4 @@ pub(crate) fn shown_value(
     let value = data.get(DATA_HEAD as usize..).unwrap_or(&[]);
     let form = form_of(u32::from_be_bytes([a, b, c, d]), item, value);
     text_of(alloc, form, value)
-}
-
-/// The characters of Mac OS Roman from 0x80 on.
-const MAC_ROMAN: &str = "ÄÅÇÉÑÖÜáàâäãåçéèêëíìîïñóòôöõúùûü†°¢£§•¶ß®©™´¨≠ÆØ∞±≤≥¥µ∂∑∏π∫ªºΩæø\
-    ¿¡¬√ƒ≈∆«»…\u{a0}ÀÃÕŒœ–—“”‘’÷◊ÿŸ⁄€‹›ﬁﬂ‡·‚„‰ÂÊÁËÈÍÎÏÌÓÔ\u{f8ff}ÒÚÛÙıˆ˜¯˘˙˚¸˝˛ˇ";
-
-/// The character of a byte in Mac OS Roman.
-fn mac_char(byte: u8) -> char {
-    match byte.checked_sub(0x80) {
-        Some(index) => MAC_ROMAN
-            .chars()
-            .nth(usize::from(index))
-            .unwrap_or('\u{fffd}'),
-        None => char::from(byte),
-    }
-}
-
-/// A text of user data: of a language of Macintosh, whose codes are below 0x400, in Mac OS Roman where it is no UTF-8;
-/// else in UTF-16 after a byte order mark, or in UTF-8.
-pub(crate) fn mac_text(alloc: Global, bytes: &[u8], language: u16) -> Result<String, AllocError> {
-    if let [0xfe, 0xff, text @ ..] = bytes {
-        return utf16_text(alloc, text);
-    }
-    if let Ok(text) = str::from_utf8(bytes) {
-        return String::from_str(alloc, text);
-    }
-    if language >= 0x400 {
-        return String::from_utf8_lossy(alloc, bytes);
-    }
-    let mut text = String::new(alloc);
-    for byte in bytes {
-        text.push(mac_char(*byte))?;
-    }
-    Ok(text)
-}
-
-/// The language of ISO 639-2/T that three letters of five bits say; `None` of codes of Macintosh, and where none is
-/// said.
-pub(crate) fn language_of(alloc: Global, code: u16) -> Result<Option<String>, AllocError> {
-    if code < 0x400 || code == 0x7fff {
-        return Ok(None);
-    }
-    let mut text = String::new(alloc);
-    for shift in [10u32, 5, 0] {
-        let letter = (code.wrapping_shr(shift) & 0x1f) as u8;
-        text.push(char::from(0x60 | letter))?;
-    }
-    Ok(Some(text))
 }

@@ -3,7 +3,8 @@
 
 use crate::boxes_within::{BoxPart, Looking, Part};
 use crate::tag_names::name_of;
-use crate::tag_value::{DATA_HEAD, language_of, mac_text, shown_value};
+use crate::tag_value::{DATA_HEAD, shown_value};
+use crate::user_data::{language_of, mac_text};
 use mp4_codec::FourCC;
 use mp4_readable::Code;
 use mp4_source::{ByteSource, FileError, Window};
