@@ -1,7 +1,7 @@
 //! The language of a track.
 
-ghost use Rattle.std.specs.Prelude.{◌≡◌, ◌-◌, ◌<◌, option_copied};
-ghost use Rattle.mp4_report.specs.Languages.{IsLanguage, language_form};
+ghost use Rattle.std.specs.Prelude.{◌≡◌, ◌-◌, ◌<◌, map, option_copied, slice_get};
+ghost use Rattle.mp4_report.specs.Languages.{language_form, language_said, macintosh_language};
 
 /// The smallest character of a language in a media header, which stands for 0.
 const ZERO: u8 = 0x60;
@@ -44,11 +44,21 @@ enum LanguageForm {
     Unknown,
 }
 
+/// The language at an index of a table.
+fn language_at(languages: &[&'static str], index: usize) -> Option<&'static str>
+    ensures { option_copied result ≡ slice_get (map (λ language. language.now) languages.now) index }
+{
+    languages.get(index).copied()
+}
+
 /// The language of a code of Macintosh.
-fn macintosh_language(code: usize) -> Option<&'static str> {
+#[tactic(auto, unfolding(crate::specs::Languages::macintosh_language, crate::specs::Languages::first_languages, crate::specs::Languages::later_languages))]
+fn macintosh_language(code: usize) -> Option<&'static str>
+    ensures { option_copied result ≡ macintosh_language code }
+{
     match code.checked_sub(LATER) {
-        None => FIRST_LANGUAGES.get(code).copied(),
-        Some(later) => LATER_LANGUAGES.get(later).copied(),
+        None => language_at(&FIRST_LANGUAGES, code),
+        Some(later) => language_at(&LATER_LANGUAGES, later),
     }
 }
 
@@ -85,7 +95,7 @@ fn form_of(characters: &[u8]) -> LanguageForm
 /// and the language isn't known where they aren't three letters (QuickTime File Format, "Language Code
 /// Values").
 pub(crate) fn language_of(characters: &str) -> Option<&str>
-    ensures { IsLanguage (language_form characters.now) characters.now (option_copied result) }
+    ensures { option_copied result ≡ language_said characters.now }
 {
     match form_of(characters.as_bytes()) {
         LanguageForm::Macintosh(code) => macintosh_language(code),

@@ -1,7 +1,7 @@
 //! What the tracks of a file are.
 
 ghost use Rattle.std.specs.Prelude.{◌≡◌, IfOk, None, Some, if◌then◌else◌, option_map, string_bytes};
-ghost use Rattle.mp4_report.specs.Languages.{IsLanguage, language_form};
+ghost use Rattle.mp4_report.specs.Languages.{language_said};
 ghost use Rattle.mp4_report.specs.Rates.{thousandths_rate_of};
 ghost use Rattle.mp4_report.specs.Sounds.{sound_of};
 ghost use Rattle.mp4_report.specs.Tracks.{edits_of, is_video, kind_of, milliseconds, picture_size, thousandths};
@@ -157,8 +157,8 @@ fn ticks_of(track: &Mp4Track) -> Option<u64>
 
 /// The language of a track.
 fn language_text(alloc: Global, track: &Mp4Track) -> Result<Option<String>, AllocError>
-    ensures { IfOk result (λ text. let said = track.now.trak.mdia.mdhd.language in
-        IsLanguage (language_form said) said (option_map string_bytes text)) }
+    ensures { IfOk result (λ text.
+        option_map string_bytes text ≡ language_said track.now.trak.mdia.mdhd.language) }
 {
     match language_of(track.language()) {
         Some(language) => Ok(Some(String::from_str(alloc, language)?)),
@@ -244,8 +244,8 @@ fn report_of(
     summary: SampleSummary,
 ) -> Result<TrackReport, AllocError>
     ensures fields { IfOk result (λ report. report ≡ with_fields id track.now summary report) }
-    ensures language { IfOk result (λ report. let said = track.now.trak.mdia.mdhd.language in
-        IsLanguage (language_form said) said (option_map string_bytes report.language)) }
+    ensures language { IfOk result (λ report.
+        option_map string_bytes report.language ≡ language_said track.now.trak.mdia.mdhd.language) }
 {
     let kind = kind_of(track.trak.mdia.hdlr.handler_type);
     let timescale = track.timescale();
