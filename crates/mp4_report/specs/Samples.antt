@@ -9,13 +9,14 @@ use Rattle.mp4_samples.specs.Tables.{tables_of}
 use Rattle.mp4_samples.specs.declared.sample.Place.{Place}
 use Rattle.mp4_lookup.specs.declared.track.Mp4Track.{Mp4Track}
 use Rattle.mp4_lookup.specs.ByTime.{sample_by}
-use Rattle.mp4_lookup.specs.InOrder.{samples_left}
+use Rattle.mp4_lookup.specs.InOrder.{answers_from, samples_left}
 use Rattle.mp4_lookup.specs.TrackRuns.{track_runs}
 use Rattle.mp4_readable.specs.DecimalTime.{ticks_of}
 use Rattle.mp4_report.specs.declared.samples.First.{First}
 use Rattle.mp4_report.specs.declared.samples.First.TheVariants.{Number, Time}
 use Rattle.mp4_report.specs.declared.samples.SampleReport.{SampleReport}
 use Rattle.mp4_report.specs.declared.samples.SampleRows.{SampleRows}
+use Rattle.mp4_report.specs.declared.samples.SamplesRequest.{SamplesRequest}
 
 -- the row of the sample of a number in a file of so many bytes: each field is the library's answer
 abbrev pub row_of : ℕ → ℕ → Place → SampleReport
@@ -67,3 +68,11 @@ IsFirstNumber track (Time time) first =
     × (AnswersLast (sample_by (tables_of track.trak) (track_runs track)
     (ticks_of time track.trak.mdia.mdhd.timescale)) (2 ^ 32) found)
     × (first ≡ unwrap_or found 1)
+
+-- rows before the first sample that is asked for, in a file of so many bytes
+pub record AreRows (file_size : ℕ) (request : SamplesRequest) (rows : SampleRows) : Type 0 where
+  pub size : rows.file_size ≡ file_size
+  pub first : IsFirstNumber rows.track.now request.first rows.number
+  pub samples : samples_left rows.samples ≡ answers_from (2 ^ 32 - rows.number) rows.track.now rows.number
+  pub left : rows.left ≡ (if is_empty rows.track.now then 0 else request.count)
+  pub refused : rows.refused ≡ None

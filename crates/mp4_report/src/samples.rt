@@ -1,9 +1,11 @@
 //! The samples of a track: where they lie, and when they are decoded and shown.
 
 ghost use Rattle.std.specs.Prelude.{◌≡◌, ◌+◌, ◌-◌, ◌^◌, ◌==◌, if◌then◌else◌, drop, min, None, option_map, IfSome};
+ghost use Rattle.std.specs.Prelude.{Err, IfErr, IfOk, Ok};
 ghost use Rattle.mp4_codec.specs.Cause.{cause_of};
 ghost use Rattle.mp4_lookup.specs.InOrder.{samples_left};
-ghost use Rattle.mp4_report.specs.Samples.{IsFirstNumber, is_empty, next_refusal, next_row, row_of};
+ghost use Rattle.mp4_media.specs.Reading.{needed_track};
+ghost use Rattle.mp4_report.specs.Samples.{AreRows, IsFirstNumber, is_empty, next_refusal, next_row, row_of};
 
 use crate::past_end::is_in_file;
 use crate::spans::{Span, Spans};
@@ -103,7 +105,13 @@ pub struct SampleRows<'m> {
 impl<'m> SampleRows<'m> {
     /// Before the first sample that is asked for of a movie whose file has so many bytes. `TrakNotFound`
     /// where there is no such track.
-    pub fn new(movie: &'m Movie, file_size: u64, request: SamplesRequest) -> Result<Self> {
+    pub fn new(movie: &'m Movie, file_size: u64, request: SamplesRequest) -> Result<Self>
+        ensures track { IfOk result (λ rows.
+            needed_track movie.now.tracks request.entry.track_id ≡ Ok rows.track.now) }
+        ensures rows { IfOk result (λ rows. AreRows file_size request.entry rows) }
+        ensures refused { IfErr result (λ e.
+            needed_track movie.now.tracks request.entry.track_id ≡ Err (cause_of e)) }
+    {
         let SamplesRequest {
             track_id,
             first,
@@ -144,6 +152,7 @@ impl<'m> SampleRows<'m> {
             then samples_left self.old.samples else drop 1 (samples_left self.old.samples)) }
         ensures number { IfSome result (λ _. self.new.number ≡ min (self.old.number + 1) (2 ^ 32 - 1)) }
         ensures left { IfSome result (λ _. self.new.left + 1 ≡ self.old.left) }
+        ensures track { self.new.track.now ≡ self.old.track.now }
         ensures file_size { self.new.file_size ≡ self.old.file_size }
         ensures refused { option_map cause_of self.new.refused ≡ next_refusal self.old }
     {
