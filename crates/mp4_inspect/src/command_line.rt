@@ -170,7 +170,9 @@ fn question_in<'a>(kind: Kind, arguments: &ArgMatches<'a>) -> Result<Question<'a
 /// `--help` too.
 pub fn request_in<'a>(alloc: Global, words: &'a [String]) -> Result<Request<'a>, Unclear> {
     let matches = command(alloc)?.try_get_matches_from(words)?;
-    let (name, arguments) = required(matches.subcommand(), "a command")?;
+    let Some((name, arguments)) = matches.subcommand() else {
+        return Err(Unclear::Lacking("a command"));
+    };
     let kind = required(Kind::named(name), "a command")?;
     Ok(Request {
         file: required(arguments.get_str("file"), "a file")?,
