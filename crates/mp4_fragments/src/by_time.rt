@@ -2,8 +2,8 @@
 
 ghost use Rattle.std.proofs.Props.{props};
 ghost use Rattle.std.specs.Prelude.{◌≡◌, ℕ, ◌+◌, ◌-◌, ◌^◌, ◌<◌, ◌≤◌, Some, length, min};
-ghost use Rattle.mp4_fragments.specs.ByTime.{AreEarliest, IsCountByTime, begin_of, decoded_by, in_run_by, run_sample_by};
-ghost use Rattle.mp4_fragments.specs.ByTime.{runs_by};
+ghost use Rattle.mp4_fragments.specs.ByTime.{AreEarliest, IsCountByTime, begin_of, decoded_by, in_run_by};
+ghost use Rattle.mp4_fragments.specs.ByTime.{run_sample_by, runs_by};
 ghost use Rattle.mp4_fragments.specs.Checkpoints.{AreCheckpoints};
 ghost use Rattle.mp4_fragments.specs.Index.{Indexes, IsRight, placed_at, run_at, runs_of};
 ghost use Rattle.mp4_fragments.specs.RunSamples.{PlacedRun, at_run_sample, run_count};

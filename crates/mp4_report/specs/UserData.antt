@@ -16,7 +16,7 @@ mac_roman =
     ++ codes "¿¡¬√ƒ≈∆«»…" ++ (0xa0 ∷ codes "ÀÃÕŒœ")
     ++ codes "–—“”‘’÷◊ÿŸ⁄€‹›ﬁﬂ"
     ++ codes "‡·‚„‰ÂÊÁËÈÍÎÏÌÓÔ"
-    ++ codes "" ++ (0xf8ff ∷ codes "ÒÚÛÙıˆ˜¯˘˙˚¸˝˛ˇ")
+    ++ (0xf8ff ∷ codes "ÒÚÛÙıˆ˜¯˘˙˚¸˝˛ˇ")
 
 -- the character of a byte in it: below 0x80 that of ASCII
 abbrev pub mac_char : ℕ → ℕ

@@ -10,8 +10,9 @@ returns-in_default-clause-point c = λ p there.
 
 pub invariant_of-run_samples : goal.invariant_of-run_samples
 invariant_of-run_samples c = record {
-  right = rw (c.at.ensures, c.checks.ensures) (c.requires.right.checks _ (placed_here (run_at c.args.trafs.now c.args.track)
-      c.args.entry.now c.in-Some.run'.now c.in-Some.defaults c.in-Some.ensures));
+  right = rw (c.at.ensures, c.checks.ensures) (c.requires.right.checks _
+      (placed_here (run_at c.args.trafs.now c.args.track) c.args.entry.now c.in-Some.run'.now
+      c.in-Some.defaults c.in-Some.ensures));
   counted = omega arith;
 }
 

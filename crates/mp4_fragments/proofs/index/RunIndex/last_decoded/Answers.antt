@@ -31,7 +31,11 @@ returns-in_default-clause-counted c =
     let counted : IsCountByTime runs times c.args.end c.args.time c.partition_point-count.new.readings = record {
       none = λ _. omega (arith, c.requires.fresh, c.partition_point-count.ensures.counted);
       some = λ r p last there.
-          absurd (omega (arith, parted_once (runs_by times c.args.time) (length times) _ _ at last, c.in_default.ensures));
+          absurd (omega (
+            arith,
+            parted_once (runs_by times c.args.time) (length times) _ _ at last,
+            c.in_default.ensures,
+          ));
       few = omega (arith, c.requires.fresh, many, c.partition_point-count.ensures.few);
     } in
     rw c.as_slice.ensures.value at counted

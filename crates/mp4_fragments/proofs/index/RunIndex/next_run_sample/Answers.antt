@@ -15,8 +15,9 @@ returns-in-Some-only-clause-run_sample c =
     only_at find c.as_slice-entries.result.now runs index c.in-Some.entry.now c.args.end c.in-Some-only.values _
     c.requires.indexed c.requires.end c.as_slice-entries.ensures got.1
     (omega (arith, within, many, c.requires.indexed.counts.count)) (sym c.only.ensures ∙ c.in-Some-only.is)
-    (λ run defaults. rw (c.begin_at.ensures, ← c.at.ensures) (c.first_start.ensures run defaults)) (rw c.begin_at.ensures refl)
+    (λ run defaults. rw (c.begin_at.ensures, ← c.at.ensures) (c.first_start.ensures run defaults))
     (rw c.begin_at.ensures refl) (rw c.begin_at.ensures refl) (rw c.begin_at.ensures refl)
+    (rw c.begin_at.ensures refl)
 
 pub returns-in-Some-only-clause-position : goal.returns-in-Some-only-clause-position
 returns-in-Some-only-clause-position c =
