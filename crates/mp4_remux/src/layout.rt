@@ -1,6 +1,6 @@
 //! Where the bytes of a splice come from.
 
-ghost use Rattle.std.specs.Prelude.{◌≡◌, ◌↔◌, ◌+◌, ◌≤◌, ◌<◌, length, IfOk, IfSome, IsTrue};
+ghost use Rattle.std.specs.Prelude.{◌≡◌, ◌↔◌, ◌+◌, ◌≤◌, ◌<◌, ◌^◌, ℕ, length, IfOk, IfNone, IfSome, IsTrue};
 ghost use Rattle.mp4_remux.specs.Splice.{of_origin, Follow, Follow-prop, IsPieceAt, IsPartOfBoth};
 
 use crate::piece::{Origin, Piece};
@@ -31,7 +31,8 @@ fn len_of(origin: Origin, source_len: u64, made_len: u64) -> u64
 /// Where pieces end, of which each begins where the one before ends, the first at 0, has a byte, and lies whole in the
 /// file or in the bytes that were made, which have so many bytes; none where they aren't so.
 fn end_of(pieces: &[Piece], source_len: u64, made_len: u64) -> Option<u64>
-    ensures { IfSome result (λ end. Follow source_len made_len 0 pieces.now end) }
+    ensures follow { IfSome result (λ end. Follow source_len made_len 0 pieces.now end) }
+    ensures none { IfNone result ((end : ℕ) → end < 2 ^ 64 → Follow source_len made_len 0 pieces.now end → ⊥) }
 {
     let mut end: u64 = 0;
     let mut i = 0;
@@ -48,11 +49,14 @@ fn end_of(pieces: &[Piece], source_len: u64, made_len: u64) -> Option<u64>
 }
 
 impl Layout {
-    /// A layout of a file of so many bytes. None where the pieces don't follow each other, or one passes what it is of.
+    /// A layout of a file of so many bytes. None where the pieces don't follow each other, one passes what it is of, or
+    /// all of them have more bytes than 64 bits count.
     pub fn new(source_len: u64, made: Vec<u8>, pieces: Vec<Piece>) -> Option<Self>
         ensures source_len { IfSome result (λ l. l.source_len ≡ source_len) }
         ensures made { IfSome result (λ l. l.made.items ≡ made.items) }
         ensures pieces { IfSome result (λ l. l.pieces.items ≡ pieces.items) }
+        ensures none { IfNone result ((end : ℕ) → end < 2 ^ 64
+            → Follow source_len (length made.items) 0 pieces.items end → ⊥) }
     {
         let len = end_of(&pieces, source_len, made.len() as u64)?;
         Some(Layout {
