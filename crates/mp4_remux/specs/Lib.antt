@@ -1,4 +1,5 @@
 pub mod Alike
+pub mod Caused
 pub mod Errors
 pub mod Front
 pub mod Gathered
