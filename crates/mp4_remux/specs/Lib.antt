@@ -5,6 +5,7 @@ pub mod Front
 pub mod Gathered
 pub mod Headers
 pub mod Kept
+pub mod Moved
 pub mod Named
 pub mod Reads
 pub mod References

@@ -18,7 +18,7 @@ use crate::frame::{check_header, check_metadata, checked_bytes, only_box};
 use crate::kept::is_kept;
 use crate::layout::Layout;
 use crate::made::{Made, OFFSETS};
-use crate::moves::{Move, Moves};
+use crate::moves::Moves;
 use crate::movie_box::{MovieEdit, edited};
 use crate::piece::{Origin, Piece};
 use crate::piece_list::push_piece;
@@ -72,23 +72,6 @@ fn front_pieces(
     Ok(pieces)
 }
 
-/// Where the bytes of the file are by such pieces, in its order.
-fn moves_of(alloc: Global, pieces: &[Piece]) -> Result<Vec<Move>, AllocError> {
-    let mut moves = Vec::with_capacity(alloc, pieces.len())?;
-    for piece in pieces {
-        match piece.origin {
-            Origin::Kept => moves.push(Move {
-                from: piece.place,
-                end: piece.place + piece.len,
-                to: piece.at,
-            })?,
-            Origin::Made => {}
-        }
-    }
-    moves.sort_by_key(|one| one.from)?;
-    Ok(moves)
-}
-
 /// The bytes of a movie box, as they are when it is in front, and the pieces of that file. Its chunk offsets are those
 /// of where the data is then, which depends on the length of the box: a table that becomes `co64` makes it longer.
 fn plan_front(
@@ -106,10 +89,10 @@ fn plan_front(
     let mut movie_len = movie_bytes.len() as u64;
     for _ in 0..tries {
         let pieces = front_pieces(alloc, file_type, movie, movie_len, len)?;
-        let list = moves_of(alloc, &pieces)?;
-        let moves = Moves {
-            list: &list,
-            base: 0,
+        let moves = Moves::Front {
+            file_type,
+            movie,
+            movie_len,
         };
         let made = edited(alloc, movie_bytes, &edit, &moves)?;
         if made.len() as u64 == movie_len {

@@ -1,5 +1,10 @@
 //! Where the bytes of a file are in the rewritten one.
 
+ghost use Rattle.std.specs.Prelude.{◌≡◌};
+ghost use Rattle.mp4_remux.specs.Moved.{IsPlaceBy, bytes_before, place_in_front};
+
+use crate::top_level::TopBox;
+
 /// Bytes of a file that are elsewhere in the rewritten one. Places are in bytes and count from 0.
 #[derive(Debug, Clone, Copy)]
 pub(crate) struct Move {
@@ -12,22 +17,73 @@ pub(crate) struct Move {
 
 /// Where all bytes of a file are, those that stay with the others.
 #[derive(Debug, Clone, Copy)]
-pub(crate) struct Moves<'a> {
-    /// In the order of the file.
-    pub list: &'a [Move],
-    /// The place from which those that they say count.
-    pub base: u64,
+pub(crate) enum Moves<'a> {
+    /// Where these moves say, which are in the order of the file; their places count from the base.
+    Listed {
+        list: &'a [Move],
+        base: u64,
+    },
+    /// Where they are when the file type is first, next a movie box of so many bytes, then all else in its order.
+    Front {
+        file_type: TopBox,
+        movie: TopBox,
+        movie_len: u64,
+    },
 }
 
 impl Moves<'_> {
     /// Where a byte of the file is in the rewritten one; where it isn't there, the end of the bytes before it that are.
-    pub fn moved(&self, place: u64) -> u64 {
-        let after = self.list.partition_point(|one| one.from <= place);
-        if after == 0 {
-            return self.base;
+    pub fn moved(&self, place: u64) -> u64
+        ensures { IsPlaceBy self.now place result }
+    {
+        match self {
+            Moves::Listed { list, base } => base.saturating_add(listed_place(list, place)),
+            Moves::Front {
+                file_type,
+                movie,
+                movie_len,
+            } => place_in_front(*file_type, *movie, *movie_len, place),
         }
-        let one = self.list[after - 1];
-        let skipped = place.min(one.end).saturating_sub(one.from);
-        self.base.saturating_add(one.to).saturating_add(skipped)
     }
+
+    /// The place from which those that they say count.
+    pub fn base(&self) -> u64 {
+        match self {
+            Moves::Listed { list: _, base } => *base,
+            Moves::Front { .. } => 0,
+        }
+    }
+}
+
+/// Where a byte is by moves in the order of the file.
+fn listed_place(list: &[Move], place: u64) -> u64 {
+    let after = list.partition_point(|one| one.from <= place);
+    if after == 0 {
+        return 0;
+    }
+    let one = list[after - 1];
+    let skipped = place.min(one.end).saturating_sub(one.from);
+    one.to.saturating_add(skipped)
+}
+
+/// How many bytes of a box are before a place.
+fn bytes_before(one: TopBox, place: u64) -> u64
+    ensures { result ≡ bytes_before one place }
+{
+    place.min(one.end).saturating_sub(place.min(one.place))
+}
+
+/// Where a byte is when the file type is first, and next a movie box of so many bytes.
+fn place_in_front(file_type: TopBox, movie: TopBox, movie_len: u64, place: u64) -> u64
+    ensures { result ≡ place_in_front file_type movie movie_len place }
+{
+    if place >= file_type.place && place < file_type.end {
+        return place - file_type.place;
+    }
+    let before = place
+        .saturating_sub(bytes_before(file_type, place))
+        .saturating_sub(bytes_before(movie, place));
+    before
+        .saturating_add(file_type.end.saturating_sub(file_type.place))
+        .saturating_add(movie_len)
 }

@@ -1,6 +1,7 @@
 //! A movie box in which tables, durations and tracks are others: all its other bytes stay.
 
-ghost use Rattle.std.specs.Prelude.{◌≤◌};
+ghost use Rattle.std.specs.Prelude.{◌≤◌, ℕ, IfErr, IfOk};
+ghost use Rattle.mp4_remux.specs.Moved.{IsBy, IsMovedAt, IsOfOffsets, IsUpToTwice, IsWhyNotMoved};
 
 use crate::box_bytes::{BoxBytes, end_box, first_box};
 use crate::chunk_offsets::put_table;
@@ -73,7 +74,9 @@ enum Step<'a> {
 
 impl MovieEdit {
     /// Chunk offsets alone.
-    pub fn of_offsets(alloc: Global) -> Self {
+    pub fn of_offsets(alloc: Global) -> Self
+        ensures { IsOfOffsets result }
+    {
         MovieEdit {
             tracks: Vec::new(alloc),
             duration: None,
@@ -216,7 +219,7 @@ fn put_step(
         Step::Tables(tables) => {
             put_whole(one, out)?;
             out.extend_from_slice(&tables.bytes)?;
-            tables.put_offsets(alloc, moves.base, out)
+            tables.put_offsets(alloc, moves.base(), out)
         }
     }
 }
@@ -261,7 +264,14 @@ pub(crate) fn edited(
     movie: &[u8],
     edit: &MovieEdit,
     moves: &Moves,
-) -> Result<Vec<u8>> {
+) -> Result<Vec<u8>>
+    ensures moved { (to : ℕ → ℕ) → IsBy moves.now to → IsOfOffsets edit.now
+        → IfOk result (λ out. IsMovedAt to 0 movie.now out.items) }
+    ensures len { (to : ℕ → ℕ) → IsBy moves.now to → IsOfOffsets edit.now
+        → IfOk result (λ out. IsUpToTwice movie.now out.items) }
+    ensures refused { (to : ℕ → ℕ) → IsBy moves.now to → IsOfOffsets edit.now
+        → IfErr result (IsWhyNotMoved movie.now) }
+{
     let mut out = Vec::with_capacity(alloc, movie.len())?;
     put_boxes(alloc, movie, 0, 0, edit, moves, &mut out)?;
     Ok(out)

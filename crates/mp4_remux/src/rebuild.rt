@@ -76,7 +76,7 @@ fn track_edit(
     if !has_fragments(movie) {
         return Ok(TrackEdit::Moved);
     }
-    let moves = Moves {
+    let moves = Moves::Listed {
         list: moves,
         base: 0,
     };
@@ -247,7 +247,7 @@ fn plan_data(
     for _ in 0..edit.tracks.len().saturating_add(3) {
         let before = frame.len_before_data(movie_len);
         let base = before.saturating_add(header.len() as u64);
-        let moves = Moves { list, base };
+        let moves = Moves::Listed { list, base };
         if let Some(made) = made_bytes(
             alloc,
             frame,
