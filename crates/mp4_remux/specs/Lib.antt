@@ -7,6 +7,7 @@ pub mod Kept
 pub mod Named
 pub mod Reads
 pub mod References
+pub mod Refused
 pub mod Remuxed
 pub mod Same
 pub mod Splice
