@@ -1,6 +1,6 @@
 -- Why a movie that was made of another isn't written: what is wrong in the file that it would be, or in the other
 -- (ISO/IEC 14496-12, 8.3.2, 8.4.2, 8.6 and 8.7).
-use Rattle.std.specs.Prelude.{◌≡◌, ◌+◌, ◌≤◌, ◌⊎◌, ⊤, ℕ, List, length, Option, None, Some, Ok, Err, slice_get}
+use Rattle.std.specs.Prelude.{◌≡◌, ◌≤◌, ◌⊎◌, ⊤, ℕ, List, length, Option, Some, Ok, Err, slice_get}
 use Rattle.mp4_codec.specs.Cause.{Cause, cause_of}
 use Rattle.mp4_codec.specs.declared.error.Error.{Error}
 use Rattle.mp4_codec.specs.declared.error.Error.TheVariants.{OutOfMemory}
@@ -10,9 +10,9 @@ use Rattle.mp4_remux.specs.Headers.{DurationsOf, KeepsHeaders}
 use Rattle.mp4_remux.specs.Named.{OpensTo}
 use Rattle.mp4_remux.specs.Reads.{count_of, place_in}
 use Rattle.mp4_remux.specs.Remuxed.{IsNoFile, ids_of}
+use Rattle.mp4_remux.specs.Same.{IsSameAt}
 use Rattle.mp4_remux.specs.Splice.{spliced}
 use Rattle.mp4_remux.specs.declared.made.Made.{Made}
-use Rattle.mp4_remux.specs.declared.piece.Origin.TheVariants.{Kept}
 use Rattle.mp4_remux.specs.declared.piece.Piece.{Piece}
 use Rattle.mp4_remux.specs.declared.error.RemuxError.{RemuxError}
 use Rattle.mp4_remux.specs.declared.error.RemuxError.TheVariants.{Mp4, Read, Write, Twice, SaysPlaces}
@@ -27,41 +27,6 @@ pub record IsUnreadable (movie : OpenedFile) (ids : List ℕ) (c : Cause) : Type
   pub number : ℕ
   pub is : slice_get ids number ≡ Some id
   pub refused : (count_of movie id ≡ Err c) ⊎ ((k : ℕ) × ((1 ≤ k) × (place_in movie id k ≡ Err c)))
-
--- WHERE A SAMPLE IS
-
--- n bytes of a splice from a place on are in one piece of the file, whose bytes they are from another place on
-pub record AreInPiece (pieces : List Piece) (place origin n : ℕ) : Type 0 where
-  pub piece : Piece
-  pub number : ℕ
-  pub is : slice_get pieces number ≡ Some piece
-  pub kept : piece.origin ≡ Kept
-  pub begins : piece.at ≤ place
-  pub ends : place + n ≤ piece.at + piece.len
-  pub from : piece.place + place ≡ origin + piece.at
-
--- The n bytes of the file from a place on, its origin, are there, and so are those of the splice from another on; and
--- they are the same, as one piece of the file has them, where they are any.
-pub record IsMovedTo (pieces : List Piece) (source_len len place origin n : ℕ) : Type 0 where
-  pub there : place + n ≤ len
-  pub within : origin + n ≤ source_len
-  pub moved : (n ≡ 0) ⊎ AreInPiece pieces place origin n
-
--- a sample of the splice is one of the file, with its times and marks (8.6)
-pub record IsMovedSample (pieces : List Piece) (source_len len : ℕ) (before after : Place) : Type 0 where
-  pub size : after.size ≡ before.size
-  pub start_time : after.start_time ≡ before.start_time
-  pub duration : after.duration ≡ before.duration
-  pub rendering_offset : after.rendering_offset ≡ before.rendering_offset
-  pub is_sync : after.is_sync ≡ before.is_sync
-  pub bytes : IsMovedTo pieces source_len len after.offset before.offset before.size
-
--- the splice has such a sample where the file has one, and none where it has none
-abbrev pub IsSameAt : List Piece → ℕ → ℕ → Option Place → Option Place → Type 0
-IsSameAt pieces source_len len None None = ⊤
-IsSameAt pieces source_len len None (Some after) = ⊥
-IsSameAt pieces source_len len (Some before) None = ⊥
-IsSameAt pieces source_len len (Some before) (Some after) = IsMovedSample pieces source_len len before after
 
 -- what one of these tracks has at number k in the splice isn't what it has there in the file
 pub record IsOtherSample (ids : List ℕ) (pieces : List Piece) (source_len len : ℕ) (opened rewritten : OpenedFile)
