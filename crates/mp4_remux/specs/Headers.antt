@@ -36,12 +36,17 @@ pub record HasShown (opened : OpenedFile) (id k end : ℕ) : Type 0 where
   pub there : place_in opened id k ≡ Ok (Some place)
   pub shown : shown_end place ≡ end
 
+-- a track says that it has no samples, and none is found at the first number
+abbrev pub HasNoSamples : OpenedFile → ℕ → Type 0
+HasNoSamples opened id =
+    (count_of opened id ≡ Ok 0) × ((first : Place) → place_in opened id 1 ≡ Ok (Some first) → ⊥)
+
 -- All samples of a track have been shown at this time, and one of them not before, where there are any.
 pub record IsShownUntil (opened : OpenedFile) (id end : ℕ) : Type 0 where
   pub count : ℕ
   pub all : (k : ℕ) → 1 ≤ k → k ≤ count → (shown : ℕ) × (HasShown opened id k shown × (shown ≤ end))
   pub one : (end ≡ 0) ⊎ ((k : ℕ) × ((1 ≤ k) × ((k ≤ count) × HasShown opened id k end)))
-  pub none : ((count ≡ 0) × (count_of opened id ≡ Ok 0)) ⊎ (place_in opened id (count + 1) ≡ Ok None)
+  pub none : ((count ≡ 0) × HasNoSamples opened id) ⊎ (place_in opened id (count + 1) ≡ Ok None)
 
 -- HOW LONG A TRACK IS (8.3.2.3 and 8.6.6)
 

@@ -9,6 +9,7 @@ pub mod Moved
 pub mod Named
 pub mod Reads
 pub mod References
+pub mod Refused
 pub mod Remuxed
 pub mod Same
 pub mod Splice

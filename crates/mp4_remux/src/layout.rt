@@ -1,7 +1,8 @@
 //! Where the bytes of a splice come from.
 
-ghost use Rattle.std.specs.Prelude.{◌≡◌, ◌↔◌, ◌+◌, ◌≤◌, ◌<◌, ◌^◌, ℕ, length, IfOk, IfNone, IfSome, IsTrue};
-ghost use Rattle.mp4_remux.specs.Splice.{of_origin, Follow, Follow-prop, IsPieceAt, IsPartOfBoth};
+ghost use Rattle.std.specs.Prelude.{◌≡◌, ◌↔◌, ◌+◌, ◌≤◌, ◌<◌, ◌^◌, ℕ, length, IfOk, IfNone, IfSome, IsTrue, Some};
+ghost use Rattle.std.specs.Prelude.{slice_get};
+ghost use Rattle.mp4_remux.specs.Splice.{of_origin, Follow, Follow-prop, IsMovedTo, IsPieceAt};
 
 use crate::piece::{Origin, Piece};
 use std::alloc::{AllocError, Global};
@@ -110,18 +111,18 @@ impl Layout {
     /// The piece in which a place lies, and how many of its bytes come before.
     pub fn piece_at(&self, place: u64) -> (Piece, u64)
         requires { place < self.now.len }
-        ensures { IsPieceAt self.now.source_len (length self.now.made.items) self.now.pieces.items place
+        ensures at { IsPieceAt self.now.source_len (length self.now.made.items) self.now.pieces.items place
             result.0 result.1 }
+        ensures is { (number : ℕ) × (slice_get self.now.pieces.items number ≡ Some result.0) }
     {
         let after = self.pieces.partition_point(|piece| piece.at <= place);
         let piece = self.pieces[after - 1];
         (piece, place - piece.at)
     }
 
-    /// Whether the n bytes from a place on are there, and are those of the file from another on.
+    /// Whether the n bytes from a place on are there, and a piece of the file has them from another place on.
     pub fn is_part(&self, place: u64, origin: u64, n: u32) -> bool
-        ensures { IsTrue result → IsPartOfBoth self.now.source_len self.now.len self.now.made.items
-            self.now.pieces.items place origin n }
+        ensures { IsTrue result ↔ IsMovedTo self.now.pieces.items self.now.source_len self.now.len place origin n }
     {
         let n = u64::from(n);
         if !fits(place, n, self.len) || !fits(origin, n, self.source_len) {
@@ -131,11 +132,13 @@ impl Layout {
             return true;
         }
         let (piece, skipped) = self.piece_at(place);
-        let is_kept = match piece.origin {
+        if n > piece.len - skipped || piece.place + skipped != origin {
+            return false;
+        }
+        match piece.origin {
             Origin::Kept => true,
             Origin::Made => false,
-        };
-        is_kept && n <= piece.len - skipped && piece.place + skipped == origin
+        }
     }
 }
 
