@@ -129,7 +129,7 @@ top_within xs b top = by (top.size == 0) refl
     moves : b.place + 8 ≤ top.from
     moves = (header_read (here xs b.place) _ (here xs top.from) top.head).moves
 
-    by : (open : Bool) → (top.size == 0) ≡ open → IsWithin xs b
+    by : (no_end : Bool) → (top.size == 0) ≡ no_end → IsWithin xs b
     by true is =
         let end : b.end ≡ length xs = top.end
         ∙ ap (λ (o : Bool). if o then length xs else min (top.from + (top.size - 8)) (length xs)) is in

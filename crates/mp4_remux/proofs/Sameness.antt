@@ -21,6 +21,7 @@ use Rattle.mp4_remux.specs.Reads.{count_of, place_in, read_of}
 use Rattle.mp4_remux.specs.Same.{IsSamePlace, IsNumberAsBefore, IsTrackAsBefore}
 use Rattle.mp4_remux.specs.Splice.{spliced, Follow, IsPartOfBoth}
 use Rattle.mp4_remux.proofs.Pieces.{length-spliced}
+pub use Rattle.mp4_remux.proofs.Numbered.{got, got_within}
 
 -- WHAT IS READ OF AN OPENED MOVIE
 
@@ -118,17 +119,6 @@ pub have_ids : {bs : List TrakBox} (traks : List TrakBox) (ids : List ℕ) (n : 
     → map (λ (t : TrakBox). t.tkhd.track_id) traks ≡ ids
 have_ids {bs} traks ids n is e whole same =
     rw (sym is) (same_ids bs ids e (λ d m i lt. same d m i (omega (arith, lt, whole))))
-
--- what is there at a number is what is read there
-pub got : {X : Type 0} (xs : List X) (i : ℕ) (x d : X) → slice_get xs i ≡ Some x → slice_index_or xs i d ≡ x
-got [] i x d e = absurd cc
-got (y ∷ ys) zero x d e = cc
-got (y ∷ ys) (suc i) x d e = got ys i x d e
-
-pub got_within : {X : Type 0} (xs : List X) (i : ℕ) (x : X) → slice_get xs i ≡ Some x → i < length xs
-got_within [] i x e = absurd cc
-got_within (y ∷ ys) zero x e = omega arith
-got_within (y ∷ ys) (suc i) x e = omega (arith, got_within ys i x e)
 
 -- A TRACK
 

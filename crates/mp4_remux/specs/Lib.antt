@@ -7,6 +7,7 @@ pub mod Headers
 pub mod Kept
 pub mod Moved
 pub mod Named
+pub mod PlannedFront
 pub mod Reads
 pub mod References
 pub mod Refused
