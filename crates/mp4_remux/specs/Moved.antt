@@ -10,6 +10,8 @@ use Rattle.mp4_codec.specs.declared.box_type.BoxType.TheVariants.{StcoBox, Co64B
 use Rattle.mp4_codec.specs.declared.error.Error.{Error}
 use Rattle.mp4_codec.specs.declared.error.Error.TheVariants.{OutOfMemory, TooLarge}
 use Rattle.mp4_codec.specs.declared.error.Limit.TheVariants.{BoxSize}
+use Rattle.mp4_remux.specs.declared.chunk_offsets.OffsetWidth.{OffsetWidth}
+use Rattle.mp4_remux.specs.declared.chunk_offsets.OffsetWidth.TheVariants.{Narrow, Wide}
 use Rattle.mp4_remux.specs.declared.moves.Moves.{Moves}
 use Rattle.mp4_remux.specs.declared.moves.Moves.TheVariants.{Listed, Front}
 use Rattle.mp4_remux.specs.declared.movie_box.MovieEdit.{MovieEdit}
@@ -33,9 +35,27 @@ sized header n =
     if nat_lt (length header) 16 then big_bytes 4 (length header + n) ++ drop 4 header
     else take 8 header ++ big_bytes 8 (length header + n)
 
+-- the bytes are so many, as many as a header has
+abbrev pub IsHeader : List ℕ → ℕ → Type 0
+IsHeader header n = (length header ≡ n) × ((n ≡ 8) ⊎ (n ≡ 16))
+
+-- the new bytes are those of a box with its size
+abbrev pub IsSized : (header payload new : List ℕ) → Type 0
+IsSized header payload new = HasRoom header (length payload) × (new ≡ sized header (length payload) ++ payload)
+
+-- the same where others are before it
+abbrev pub EndsSized : (before header payload new : List ℕ) → Type 0
+EndsSized before header payload new =
+    HasRoom header (length payload) × (new ≡ before ++ (sized header (length payload) ++ payload))
+
 -- TABLES OF CHUNK OFFSETS
 
--- how many bytes an entry has in a table of chunk offsets of this type
+-- how many bytes an entry has
+abbrev pub size_of : OffsetWidth → ℕ
+size_of Narrow = 4
+size_of Wide = 8
+
+-- the same in a table of chunk offsets of this type
 abbrev pub entry_size : BoxType → Option ℕ
 entry_size StcoBox = Some 4
 entry_size Co64Box = Some 8
@@ -54,19 +74,26 @@ numbers_in (suc n) size bytes = big_number size bytes ∷ numbers_in n size (dro
 abbrev pub offsets_in : ℕ → List ℕ → List ℕ
 offsets_in size payload = numbers_in (entry_count size payload) size (drop 8 payload)
 
+-- an offset passes 32 bits where it is moved to
+abbrev pub passes : (ℕ → ℕ) → ℕ → Bool
+passes to offset = nat_lt (2 ^ 32 - 1) (to offset)
+
 -- the new offsets have 64 bits: the old ones have, or a new one passes 32
 abbrev pub is_wide : (ℕ → ℕ) → ℕ → List ℕ → Bool
-is_wide to size payload = (size == 8) || list_any (λ offset. nat_lt (2 ^ 32 - 1) (to offset)) (offsets_in size payload)
+is_wide to size payload = (size == 8) || list_any (passes to) (offsets_in size payload)
 
 -- the type `co64` in a header
 abbrev pub wide_header : Bool → List ℕ → List ℕ
 wide_header wide header = if wide then take 4 header ++ (big_bytes 4 (code_of Co64Box) ++ drop 8 header) else header
 
+-- an offset of 64 bits or of 32
+abbrev pub wide_bytes : Bool → ℕ → List ℕ
+wide_bytes wide offset = if wide then big_bytes 8 offset else big_bytes 4 offset
+
 -- a payload whose entries are the new offsets: what is before them and after them stays
 abbrev pub wide_payload : Bool → (ℕ → ℕ) → ℕ → List ℕ → List ℕ
 wide_payload wide to size payload =
-    take 8 payload
-    ++ (flat_map (λ offset. big_bytes (if wide then 8 else 4) (to offset)) (offsets_in size payload)
+    take 8 payload ++ (flat_map (λ offset. wide_bytes wide (to offset)) (offsets_in size payload)
     ++ drop (8 + entry_count size payload * size) payload)
 
 abbrev pub moved_payload : (ℕ → ℕ) → ℕ → List ℕ → List ℕ
@@ -77,6 +104,11 @@ abbrev pub moved_table : (ℕ → ℕ) → ℕ → List ℕ → List ℕ → Lis
 moved_table to size header payload =
     sized (wide_header (is_wide to size payload) header) (length (moved_payload to size payload))
     ++ moved_payload to size payload
+
+-- the new bytes are the old ones and the moved table
+abbrev pub AddsTable : (ℕ → ℕ) → ℕ → (header payload old new : List ℕ) → Type 0
+AddsTable to size header payload old new =
+    HasRoom header (length (moved_payload to size payload)) × (new ≡ old ++ moved_table to size header payload)
 
 -- THE MOVIE BOX
 

@@ -1,7 +1,9 @@
 //! Boxes as bytes, whatever is in them.
 
-ghost use Rattle.std.specs.Prelude.{◌≡◌, ◌+◌, ◌-◌, ◌≤◌, ◌<◌, List, length, take, None, IfNone, IfSome};
+ghost use Rattle.std.specs.Prelude.{◌≡◌, ◌+◌, ◌-◌, ◌^◌, ◌≤◌, ◌<◌, ◌++◌, ℕ, List, length, take, None};
+ghost use Rattle.std.specs.Prelude.{IfErr, IfNone, IfSome, OnOk};
 ghost use Rattle.mp4_remux.specs.Kept.{IsFirstBox};
+ghost use Rattle.mp4_remux.specs.Moved.{EndsSized, IsHeader, IsSized};
 ghost use Rattle.mp4_remux.specs.References.{first_part};
 
 use mp4_codec::{BoxHeader, BoxType, ByteCursor, Error, HEADER_SIZE, Limit, OPEN_END, Result};
@@ -84,7 +86,11 @@ impl<'a> BoxBytes<'a> {
 
 /// Writes the size of a box, all of whose bytes these are, into its header, which has so many bytes: 8, or 16 where the
 /// size has 64 bits. `TooLarge(BoxSize)` where it doesn't fit.
-pub(crate) fn put_size(bytes: &mut [u8], header: usize) -> Result<()> {
+pub(crate) fn put_size(bytes: &mut [u8], header: usize) -> Result<()>
+    ensures sized { OnOk result ((head payload : List ℕ) → IsHeader head header → bytes.old ≡ head ++ payload
+        → IsSized head payload bytes.new) }
+    ensures refused { IfErr result (λ e. (e ≡ Error.TooLarge Limit.BoxSize) × (2 ^ 32 ≤ length bytes.old)) }
+{
     let size = bytes.len() as u64;
     if header >= 16 && bytes.len() >= 16 {
         bytes[8..16].copy_from_slice(&size.to_be_bytes());
@@ -100,7 +106,12 @@ pub(crate) fn put_size(bytes: &mut [u8], header: usize) -> Result<()> {
 }
 
 /// Ends a box that was begun at this place of a buffer, with a header of so many bytes: its size is written.
-pub(crate) fn end_box(out: &mut Vec<u8>, start: usize, header: usize) -> Result<()> {
+pub(crate) fn end_box(out: &mut Vec<u8>, start: usize, header: usize) -> Result<()>
+    ensures sized { OnOk result ((before head payload : List ℕ) → length before ≡ start → IsHeader head header
+        → out.old.items ≡ before ++ (head ++ payload) → EndsSized before head payload out.new.items) }
+    ensures refused { IfErr result (λ e. (e ≡ Error.TooLarge Limit.BoxSize)
+        × (start + 2 ^ 32 ≤ length out.old.items)) }
+{
     if start <= out.len() {
         put_size(&mut out[start..], header)?;
     }

@@ -1,77 +1,166 @@
 //! Tables of chunk offsets, with other offsets (ISO/IEC 14496-12, 8.7.5).
 
-ghost use Rattle.std.specs.Prelude.{◌≤◌};
+ghost use Rattle.std.specs.Prelude.{◌≡◌, ◌≤◌, ◌+◌, ◌*◌, ◌++◌, ◌||◌, ◌==◌, ℕ, length, IfErr, OnOk};
+ghost use Rattle.std.specs.List.{flat_map, list_any};
+ghost use Rattle.byteorder.specs.Endian.{big_number};
+ghost use Rattle.mp4_codec.specs.Bytes.{Appends};
+ghost use Rattle.mp4_remux.specs.Moved.{AddsTable, IsBy, IsHeader, IsWhyNotMoved, entry_count, numbers_in, passes};
+ghost use Rattle.mp4_remux.specs.Moved.{size_of, wide_bytes, wide_header};
 
 use crate::box_bytes::{BoxBytes, end_box};
 use crate::moves::Moves;
 use byteorder::{BigEndian, ByteOrder};
-use mp4_codec::{BoxType, Result};
+use mp4_codec::{BoxType, Put, Result};
 
-/// The offset in an entry of a table, of 32 bits or of 64.
-fn offset_in(entry: &[u8]) -> u64 {
-    if entry.len() >= 8 {
-        BigEndian::read_u64(entry)
-    } else if entry.len() >= 4 {
-        u64::from(BigEndian::read_u32(entry))
-    } else {
-        0
+/// How wide the offsets of a table are.
+#[derive(Debug, Clone, Copy)]
+pub(crate) enum OffsetWidth {
+    /// 32 bits, in a `stco`.
+    Narrow,
+    /// 64 bits, in a `co64`.
+    Wide,
+}
+
+impl OffsetWidth {
+    /// How many bytes an entry has.
+    fn size(self) -> usize
+        ensures { result ≡ size_of self }
+    {
+        match self {
+            OffsetWidth::Narrow => 4,
+            OffsetWidth::Wide => 8,
+        }
+    }
+
+    /// Whether they have 64 bits.
+    fn is_wide(self) -> bool
+        ensures { result ≡ (size_of self == 8) }
+    {
+        match self {
+            OffsetWidth::Narrow => false,
+            OffsetWidth::Wide => true,
+        }
+    }
+
+    /// The offset in the first entry of some.
+    fn first(self, entries: &[u8]) -> u64
+        requires { size_of self ≤ length entries.now }
+        ensures { result ≡ big_number (size_of self) entries.now }
+    {
+        match self {
+            OffsetWidth::Narrow => u64::from(BigEndian::read_u32(entries)),
+            OffsetWidth::Wide => BigEndian::read_u64(entries),
+        }
     }
 }
 
-/// How many bytes an entry of such a table has.
-fn entry_size(name: BoxType) -> usize
-    ensures { 4 ≤ result }
+/// How many entries a table has whole, of those that it counts after its version and flags.
+fn entry_count(payload: &[u8], width: OffsetWidth) -> usize
+    ensures { result ≡ entry_count (size_of width) payload.now }
 {
-    match name {
-        BoxType::Co64Box => 8,
-        _ => 4,
+    if payload.len() < 8 {
+        return 0;
     }
+    let counted = BigEndian::read_u32(&payload[4..]) as usize;
+    counted.min((payload.len() - 8) / width.size())
 }
 
-/// The entries of a table, of so many bytes each, and what is after them; the fields before them have 8 bytes.
-fn entries_in(fields: &[u8], size: usize) -> (&[u8], &[u8]) {
-    if fields.len() < 8 {
-        return (&[], &[]);
-    }
-    let (head, rest) = fields.split_at(8);
-    let count = BigEndian::read_u32(&head[4..]) as usize;
-    let bytes = count.saturating_mul(size);
-    if bytes > rest.len() {
-        return (rest, &[]);
-    }
-    rest.split_at(bytes)
-}
-
-/// Whether an entry of the table passes 32 bits when all is moved.
-fn needs_64_bits(entries: &[u8], size: usize, moves: &Moves) -> bool
-    requires { 4 ≤ size }
+/// Whether one of so many offsets passes 32 bits when all is moved.
+fn needs_64_bits(entries: &[u8], count: usize, width: OffsetWidth, moves: &Moves) -> bool
+    requires { count * size_of width ≤ length entries.now }
+    ensures { (to : ℕ → ℕ) → IsBy moves.now to
+        → result ≡ list_any (passes to) (numbers_in count (size_of width) entries.now) }
 {
-    for entry in entries.chunks_exact(size) {
-        if moves.moved(offset_in(entry)) > u64::from(u32::MAX) {
+    let mut rest = entries;
+    let mut left = count;
+    while left > 0 {
+        if moves.moved(width.first(rest)) > u64::from(u32::MAX) {
             return true;
         }
+        rest = &rest[width.size()..];
+        left -= 1;
     }
     false
 }
 
+/// Adds the header of a table, whose type is `co64` where the offsets have 64 bits.
+fn put_type(header: &[u8], is_wide: bool, out: &mut Vec<u8>) -> Put
+    requires { 8 ≤ length header.now }
+    ensures { OnOk result (Appends out.old.items out.new.items (wide_header is_wide header.now)) }
+{
+    if !is_wide {
+        return out.extend_from_slice(header);
+    }
+    out.extend_from_slice(&header[..4])?;
+    out.extend_from_slice(&u32::from(BoxType::Co64Box).to_be_bytes())?;
+    out.extend_from_slice(&header[8..])
+}
+
+/// Adds an offset, of 64 bits or of 32.
+fn put_offset(offset: u64, is_wide: bool, out: &mut Vec<u8>) -> Put
+    ensures { OnOk result (Appends out.old.items out.new.items (wide_bytes is_wide offset)) }
+{
+    let bytes = offset.to_be_bytes();
+    if is_wide {
+        return out.extend_from_slice(&bytes);
+    }
+    out.extend_from_slice(&bytes[4..])
+}
+
+/// Adds so many offsets as they are when all is moved.
+fn put_offsets(
+    entries: &[u8],
+    count: usize,
+    width: OffsetWidth,
+    is_wide: bool,
+    moves: &Moves,
+    out: &mut Vec<u8>,
+) -> Put
+    requires { count * size_of width ≤ length entries.now }
+    ensures { (to : ℕ → ℕ) → IsBy moves.now to → OnOk result (Appends out.old.items out.new.items
+        (flat_map (λ offset. wide_bytes is_wide (to offset)) (numbers_in count (size_of width) entries.now))) }
+{
+    let mut rest = entries;
+    let mut left = count;
+    while left > 0 {
+        put_offset(moves.moved(width.first(rest)), is_wide, out)?;
+        rest = &rest[width.size()..];
+        left -= 1;
+    }
+    Ok(())
+}
+
+/// Whether so many offsets have 64 bits when all is moved: they have, or one of them passes 32.
+fn is_wide(entries: &[u8], count: usize, width: OffsetWidth, moves: &Moves) -> bool
+    requires { count * size_of width ≤ length entries.now }
+    ensures { (to : ℕ → ℕ) → IsBy moves.now to → result ≡ ((size_of width == 8)
+        || list_any (passes to) (numbers_in count (size_of width) entries.now)) }
+{
+    width.is_wide() || needs_64_bits(entries, count, width, moves)
+}
+
 /// Adds a table of chunk offsets as they are when all is moved: `stco` becomes `co64` where one passes 32 bits.
-pub(crate) fn put_table(table: &BoxBytes, moves: &Moves, out: &mut Vec<u8>) -> Result<()> {
-    let size = entry_size(table.name);
-    let (entries, after) = entries_in(table.payload, size);
-    let is_wide = size == 8 || needs_64_bits(entries, size, moves);
+pub(crate) fn put_table(
+    table: &BoxBytes,
+    width: OffsetWidth,
+    moves: &Moves,
+    out: &mut Vec<u8>,
+) -> Result<()>
+    requires { 8 ≤ length table.now.header.now }
+    ensures moved { (to : ℕ → ℕ) → IsBy moves.now to → IsHeader table.now.header.now (length table.now.header.now)
+        → OnOk result (AddsTable to (size_of width) table.now.header.now table.now.payload.now out.old.items
+        out.new.items) }
+    ensures refused { (to : ℕ → ℕ) → IsBy moves.now to → IsHeader table.now.header.now (length table.now.header.now)
+        → IfErr result (IsWhyNotMoved (table.now.header.now ++ table.now.payload.now)) }
+{
+    let payload = table.payload;
+    let count = entry_count(payload, width);
+    let (fields, entries) = payload.split_at(payload.len().min(8));
+    let is_wide = is_wide(entries, count, width, moves);
     let start = out.len();
-    out.extend_from_slice(table.header)?;
-    if is_wide && out.len() >= start + 8 {
-        out[start + 4..start + 8].copy_from_slice(&u32::from(BoxType::Co64Box).to_be_bytes());
-    }
-    out.extend_from_slice(&table.payload[..table.payload.len().min(8)])?;
-    for entry in entries.chunks_exact(size) {
-        let offset = moves.moved(offset_in(entry));
-        match u32::try_from(offset) {
-            Ok(offset) if !is_wide => out.extend_from_slice(&offset.to_be_bytes())?,
-            _ => out.extend_from_slice(&offset.to_be_bytes())?,
-        }
-    }
-    out.extend_from_slice(after)?;
+    put_type(table.header, is_wide, out)?;
+    out.extend_from_slice(fields)?;
+    put_offsets(entries, count, width, is_wide, moves, out)?;
+    out.extend_from_slice(&entries[count * width.size()..])?;
     end_box(out, start, table.header.len())
 }

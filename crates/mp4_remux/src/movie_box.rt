@@ -4,7 +4,7 @@ ghost use Rattle.std.specs.Prelude.{◌≤◌, ℕ, IfErr, IfOk};
 ghost use Rattle.mp4_remux.specs.Moved.{IsBy, IsMovedAt, IsOfOffsets, IsUpToTwice, IsWhyNotMoved};
 
 use crate::box_bytes::{BoxBytes, end_box, first_box};
-use crate::chunk_offsets::put_table;
+use crate::chunk_offsets::{OffsetWidth, put_table};
 use crate::edits::{ShownTime, put_edits};
 use crate::header_box::put_header;
 use crate::moves::Moves;
@@ -58,8 +58,8 @@ enum Step<'a> {
     Drop,
     /// What it has in it is looked at.
     Enter,
-    /// It is a table of chunk offsets.
-    Offsets,
+    /// It is a table of chunk offsets of this width.
+    Offsets(OffsetWidth),
     /// It is a header of the movie or of media, with this duration.
     Header(u64),
     /// It is a header of a track, with this duration.
@@ -160,7 +160,8 @@ impl MovieEdit {
                 _ => Step::Keep,
             },
             None => match name {
-                BoxType::StcoBox | BoxType::Co64Box => Step::Offsets,
+                BoxType::StcoBox => Step::Offsets(OffsetWidth::Narrow),
+                BoxType::Co64Box => Step::Offsets(OffsetWidth::Wide),
                 _ => Step::Keep,
             },
         }
@@ -211,7 +212,7 @@ fn put_step(
     match step {
         Step::Keep | Step::Enter => Ok(put_whole(one, out)?),
         Step::Drop => Ok(()),
-        Step::Offsets => put_table(one, moves, out),
+        Step::Offsets(width) => put_table(one, width, moves, out),
         Step::Header(duration) => put_header(one, 4, duration, out),
         Step::TrackHeader(duration) => put_header(one, 8, duration, out),
         Step::Edits(last) => put_edits(one, last, out),
