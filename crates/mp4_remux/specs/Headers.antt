@@ -1,5 +1,5 @@
 -- What the headers of a movie say that was rewritten: how long it and its tracks are, and all else as before.
-use Rattle.std.specs.Prelude.{◌≡◌, ◌+◌, ◌-◌, ◌*◌, ◌^◌, ◌≤◌, ◌<◌, ◌⊎◌, ⊤, ℕ, pos, if◌then◌else◌, max}
+use Rattle.std.specs.Prelude.{◌≡◌, ◌+◌, ◌-◌, ◌*◌, ◌^◌, ◌≤◌, ◌<◌, ◌⊎◌, ⊤, ℕ, ℤ, pos, if◌then◌else◌, max}
 use Rattle.std.specs.Prelude.{int_lt, unsigned_abs, List, [], ◌∷◌, length, Option, None, Some, IfSome, IsSome, Ok}
 use Rattle.std.specs.Prelude.{slice_get}
 use Rattle.mp4_leaf.specs.declared.elst.ElstBox.{ElstBox}
@@ -23,12 +23,15 @@ use Rattle.mp4_remux.specs.Reads.{count_of, place_in}
 
 -- HOW LONG THE MEDIA OF A TRACK ARE (ISO/IEC 14496-12, 8.4.2.3)
 
--- when a sample has been shown: it is shown by its offset later, or earlier, than it is decoded, for its duration
--- (8.6.1)
+-- when a sample has been shown that is decoded at this time: it is shown by its offset later, or earlier, for its
+-- duration (8.6.1)
+abbrev pub shown_at : ℕ → ℕ → ℤ → ℕ
+shown_at decoded duration offset =
+    if int_lt offset (pos 0) then decoded + duration - unsigned_abs offset
+    else decoded + duration + unsigned_abs offset
+
 abbrev pub shown_end : Place → ℕ
-shown_end p =
-    if int_lt p.rendering_offset (pos 0) then p.start_time + p.duration - unsigned_abs p.rendering_offset
-    else p.start_time + p.duration + unsigned_abs p.rendering_offset
+shown_end p = shown_at p.start_time p.duration p.rendering_offset
 
 -- sample k has been shown at this time
 pub record HasShown (opened : OpenedFile) (id k end : ℕ) : Type 0 where

@@ -1,18 +1,22 @@
 -- Why a movie that was made of another isn't written: what is wrong in the file that it would be, or in the other
 -- (ISO/IEC 14496-12, 8.3.2, 8.4.2, 8.6 and 8.7).
-use Rattle.std.specs.Prelude.{◌≡◌, ◌≤◌, ◌⊎◌, ⊤, ℕ, List, length, Option, Some, Ok, Err, slice_get}
+use Rattle.std.specs.Prelude.{◌≡◌, ◌≤◌, ◌⊎◌, ⊤, ℕ, List, length, Option, IfSome, Some, Ok, Err, slice_get}
 use Rattle.mp4_codec.specs.Cause.{Cause, cause_of}
+use Rattle.mp4_codec.specs.Cursor.{here}
 use Rattle.mp4_codec.specs.declared.error.Error.{Error}
 use Rattle.mp4_codec.specs.declared.error.Error.TheVariants.{OutOfMemory}
+use Rattle.mp4_boxes.specs.declared.trak.TrakBox.{TrakBox}
 use Rattle.mp4_samples.specs.declared.sample.Place.{Place}
 use Rattle.mp4_media.specs.FileBoxes.{OpenedFile}
-use Rattle.mp4_remux.specs.Headers.{DurationsOf, KeepsHeaders}
+use Rattle.mp4_media.specs.FileGrammar.{IsFaultyFile}
+use Rattle.mp4_remux.specs.Headers.{DurationsOf, IsShownUntil, KeepsHeaders}
 use Rattle.mp4_remux.specs.Named.{OpensTo}
 use Rattle.mp4_remux.specs.Reads.{count_of, place_in}
-use Rattle.mp4_remux.specs.Remuxed.{IsNoFile, ids_of}
+use Rattle.mp4_remux.specs.Remuxed.{ids_of}
 use Rattle.mp4_remux.specs.Same.{IsSameAt}
 use Rattle.mp4_remux.specs.Splice.{spliced}
 use Rattle.mp4_remux.specs.declared.made.Made.{Made}
+use Rattle.mp4_remux.specs.declared.made.Made.TheVariants.{Tables}
 use Rattle.mp4_remux.specs.declared.piece.Piece.{Piece}
 use Rattle.mp4_remux.specs.declared.error.RemuxError.{RemuxError}
 use Rattle.mp4_remux.specs.declared.error.RemuxError.TheVariants.{Mp4, Read, Write, Twice, SaysPlaces}
@@ -41,6 +45,11 @@ pub record IsOtherSample (ids : List ℕ) (pieces : List Piece) (source_len len 
     pub differ : IsSameAt pieces source_len len before after → ⊥
 
 -- WHAT A MOVIE KEEPS
+
+-- a track has as many samples as it had, and where tables were made, its media last until all of them have been shown
+abbrev pub KeepsSamples : Made → OpenedFile → OpenedFile → TrakBox → Type 0
+KeepsSamples what opened rewritten t = (count_of rewritten t.tkhd.track_id ≡ count_of opened t.tkhd.track_id)
+    × (what ≡ Tables → IsShownUntil rewritten t.tkhd.track_id t.mdia.mdhd.duration)
 
 -- A movie that was made of another has these tracks of it and no fragments, each of them as many samples as it had, and
 -- its headers say what they did and how long it and its tracks are.
@@ -77,12 +86,17 @@ abbrev pub IsWhyOther : Type 0 → List ℕ → List Piece → ℕ → ℕ → O
 IsWhyOther AreOther ids pieces source_len len opened rewritten =
     SaysWhy (IsUnreadOf ids opened rewritten) AreOther (IsOtherSample ids pieces source_len len opened rewritten)
 
--- why this splice isn't written: memory ran out, or it is no file, or a track isn't read, of it or of the file; it
+-- why a file of so many bytes isn't opened, where they are known: memory ran out, or it has this fault
+abbrev pub IsWhyClosed : ℕ → Option (List ℕ) → RemuxError → Type 0
+IsWhyClosed len known =
+    SaysWhy (λ e. (e ≡ OutOfMemory) ⊎ IfSome known (λ xs. IsFaultyFile len (here xs 0) (cause_of e))) ⊥ (λ id k. ⊥)
+
+-- why this splice isn't written: memory ran out, or it has this fault, or a track isn't read, of it or of the file; it
 -- doesn't keep the movie; or this sample of it isn't that of the file
 abbrev pub IsWhyNot : Made → List ℕ → List Piece → OpenedFile → ℕ → List ℕ → RemuxError → Type 0
 IsWhyNot what ids pieces opened source_len after =
     SaysWhy
-    (λ e. (e ≡ OutOfMemory) ⊎ (IsNoFile (Some after)
+    (λ e. (e ≡ OutOfMemory) ⊎ (IsFaultyFile (length after) (here after 0) (cause_of e)
     ⊎ OpensTo (λ rewritten. IsUnreadOf ids opened rewritten e) after))
     (OpensTo (λ rewritten. KeepsMovie what opened rewritten ids → ⊥) after)
     (λ id k. OpensTo (λ rewritten. IsOtherSample ids pieces source_len (length after) opened rewritten id k) after)
