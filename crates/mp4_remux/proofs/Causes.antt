@@ -7,6 +7,7 @@ use Rattle.std.specs.Prelude.{slice_get, slice_index_or}
 use Rattle.mp4_codec.specs.Cause.{Cause}
 use Rattle.mp4_codec.specs.Cursor.{Cursor, here, header_at}
 use Rattle.mp4_codec.specs.declared.box_type.BoxType.{BoxType}
+use Rattle.mp4_codec.specs.declared.box_type.BoxType.TheVariants.{FtypBox}
 use Rattle.mp4_codec.specs.declared.error.Error.{Error}
 use Rattle.mp4_codec.specs.declared.error.Error.TheVariants.{EndOfData, OutOfMemory}
 use Rattle.mp4_codec.specs.declared.header.BoxHeader.{BoxHeader}
@@ -24,7 +25,8 @@ use Rattle.mp4_remux.specs.declared.error.RemuxError.TheVariants.{Mp4, Read, Wri
 use Rattle.mp4_remux.specs.declared.error.RemuxError.TheVariants.{TooManySamples, OtherTracks, Differs}
 use Rattle.mp4_remux.specs.declared.error.RemuxError.TheVariants.{SaysOfSamples, StartsElsewhere, SameIds}
 use Rattle.mp4_remux.specs.declared.top_level.TopBox.{TopBox}
-use Rattle.mp4_remux.proofs.Naming.{each_is_there}
+use Rattle.mp4_remux.specs.Named.{IsOneOf, NamesBy}
+use Rattle.mp4_remux.proofs.Naming.{each_is_there, says_as}
 use Rattle.mp4_remux.proofs.Numbered.{at_index}
 use Rattle.mp4_remux.proofs.Sameness.{got, got_within}
 use Rattle.mp4_remux.proofs.TopBoxes.{none_past}
@@ -139,6 +141,13 @@ top_within xs b top = by (top.size == 0) refl
         ∙ ap (λ (o : Bool). if o then length xs else min (top.from + (top.size - 8)) (length xs)) is in
         record { moves = omega (arith, end, room, moves); within = omega (arith, end) }
 
+-- so it isn't refused as none
+pub top_fits : (known : Option (List ℕ)) (len : ℕ) (b : TopBox) (e : RemuxError) → IsLength known len
+    → (b.place + (b.end - b.place) ≤ len → ⊥) → IfSome known (λ xs. IsTopBox xs b → CausedByMemory e)
+top_fits None len b e measured none = tt
+top_fits (Some xs) len b e measured none = λ top.
+    let box = top_within xs b top in absurd (none (omega (arith, box.moves, box.within, measured)))
+
 -- boxes begin at the place of the first of them, or later
 later : (xs : List ℕ) (from : ℕ) (boxes : List TopBox) → AreBoxes xs from boxes → (b : TopBox) (i : ℕ)
     → slice_get boxes i ≡ Some b → from ≤ b.place
@@ -184,12 +193,27 @@ are_apart xs len boxes b c i j is are there other differ =
         let found : slice_get boxes j ≡ Some b = subst (λ n. slice_get boxes n ≡ Some b) same there in
         let box : b ≡ c = cc in absurd (differ (ap (λ (d : TopBox). d.name) box))
 
+-- a box, where any will do
+abbrev pub some_box : TopBox
+some_box = record { name = FtypBox; place = 0; end = 0 }
+
 -- what is refused of a box of a file for memory alone, is so of all of them
-pub each_caused : (known : Option (List ℕ)) (boxes : List TopBox) (i : ℕ) (b : TopBox) (e : RemuxError)
-    → slice_get boxes i ≡ Some b → IfSome known (λ xs. IsTopBox xs b → CausedByMemory e)
+pub each_caused : (known : Option (List ℕ)) (boxes : List TopBox) (i : ℕ) (d : TopBox) (e : RemuxError)
+    → i < length boxes → IfSome known (λ xs. IsTopBox xs (slice_index_or boxes i d) → CausedByMemory e)
     → IfSome known (λ xs. AreBoxes xs 0 boxes → CausedByMemory e)
-each_caused None boxes i b e there caused = tt
-each_caused (Some xs) boxes i b e there caused = λ are. caused (each_is_there xs 0 boxes are b i there)
+each_caused None boxes i d e inside caused = tt
+each_caused (Some xs) boxes i d e inside caused = λ are.
+    caused (each_is_there xs 0 boxes are (slice_index_or boxes i d) i (at_index boxes i d inside))
+
+-- what is named of one of these boxes is named of them
+pub one_named : (boxes : List TopBox) (i : ℕ) (d : TopBox) (e : RemuxError) → i < length boxes
+    → NamesBy (λ name place. ((slice_index_or boxes i d).name ≡ name) × ((slice_index_or boxes i d).place ≡ place)) e
+    → NamesBy (IsOneOf boxes) e
+one_named boxes i d e inside says =
+    says_as (λ name place. ((slice_index_or boxes i d).name ≡ name) × ((slice_index_or boxes i d).place ≡ place))
+    (IsOneOf boxes) (λ name. ⊥) (λ name. ⊥) (λ track. ⊥) (λ track. ⊥) (λ IsSo. ⊥) (λ IsSo. ⊥)
+    (λ name place is. (slice_index_or boxes i d, i, at_index boxes i d inside, is.0, is.1)) (λ name no. no)
+    (λ track no. no) (λ IsSo no. no) e says
 
 -- what is caused by nothing isn't whatever is known
 pub none_caused : (known : Option (List ℕ)) (Is : List ℕ → Type 0) (e : RemuxError) → CausedByNone e
