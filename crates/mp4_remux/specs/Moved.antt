@@ -15,6 +15,9 @@ use Rattle.mp4_remux.specs.declared.chunk_offsets.OffsetWidth.TheVariants.{Narro
 use Rattle.mp4_remux.specs.declared.moves.Moves.{Moves}
 use Rattle.mp4_remux.specs.declared.moves.Moves.TheVariants.{Listed, Front}
 use Rattle.mp4_remux.specs.declared.movie_box.MovieEdit.{MovieEdit}
+use Rattle.mp4_remux.specs.declared.movie_box.Step.{Step}
+use Rattle.mp4_remux.specs.declared.movie_box.Step.TheVariants.{Keep, Drop, Enter, Offsets, Header, TrackHeader, Edits}
+use Rattle.mp4_remux.specs.declared.movie_box.Step.TheVariants.{References, Tables}
 use Rattle.mp4_remux.specs.declared.top_level.TopBox.{TopBox}
 use Rattle.mp4_remux.specs.Kept.{IsFirstBox}
 use Rattle.mp4_remux.specs.References.{first_part}
@@ -171,6 +174,19 @@ pub record IsOfOffsets (edit : MovieEdit) : Type 0 where
   pub duration : edit.duration ≡ None
   pub ids : edit.ids ≡ None
   pub gathered : edit.is_gathered ≡ false
+
+-- What becomes of a box at a level then: one on the way is entered, a table of chunk offsets gets others, every other
+-- box stays.
+abbrev pub IsStepOf : ℕ → BoxType → Step → Type 0
+IsStepOf level name Enter = level_of name ≡ Some level
+IsStepOf level name (Offsets width) = (level ≡ 5) × (entry_size name ≡ Some (size_of width))
+IsStepOf level name Keep = (level_of name ≡ Some level → ⊥) × (level ≡ 5 → entry_size name ≡ None)
+IsStepOf level name Drop = ⊥
+IsStepOf level name (Header duration) = ⊥
+IsStepOf level name (TrackHeader duration) = ⊥
+IsStepOf level name (Edits last) = ⊥
+IsStepOf level name (References ids) = ⊥
+IsStepOf level name (Tables tables) = ⊥
 
 -- as many bytes as before or more, and at most twice as many
 abbrev pub IsUpToTwice : List ℕ → List ℕ → Type 0

@@ -1,7 +1,7 @@
 //! A movie box in which tables, durations and tracks are others: all its other bytes stay.
 
-ghost use Rattle.std.specs.Prelude.{◌≤◌, ℕ, IfErr, IfOk};
-ghost use Rattle.mp4_remux.specs.Moved.{IsBy, IsMovedAt, IsOfOffsets, IsUpToTwice, IsWhyNotMoved};
+ghost use Rattle.std.specs.Prelude.{◌≡◌, ◌≤◌, ℕ, IfErr, IfOk, IsNone, false};
+ghost use Rattle.mp4_remux.specs.Moved.{IsBy, IsMovedAt, IsOfOffsets, IsStepOf, IsUpToTwice, IsWhyNotMoved};
 
 use crate::box_bytes::{BoxBytes, end_box, first_box};
 use crate::chunk_offsets::{OffsetWidth, put_table};
@@ -86,7 +86,9 @@ impl MovieEdit {
     }
 
     /// Whether a track is left out, by its number among the boxes, which counts from 0.
-    fn is_dropped(&self, track: usize) -> bool {
+    fn is_dropped(&self, track: usize) -> bool
+        ensures { IsOfOffsets self.now → result ≡ false }
+    {
         match self.tracks.get(track) {
             Some(TrackEdit::Dropped) => true,
             _ => false,
@@ -94,7 +96,9 @@ impl MovieEdit {
     }
 
     /// What was made of a track, if its tables were.
-    fn made(&self, track: usize) -> Option<&MadeTrack> {
+    fn made(&self, track: usize) -> Option<&MadeTrack>
+        ensures { IsOfOffsets self.now → IsNone result }
+    {
         match self.tracks.get(track) {
             Some(TrackEdit::Made(made)) => Some(made),
             _ => None,
@@ -102,12 +106,16 @@ impl MovieEdit {
     }
 
     /// How long the last edit of a track is, where that is other than its edit list says.
-    fn last_edit(&self, track: usize) -> Option<u64> {
+    fn last_edit(&self, track: usize) -> Option<u64>
+        ensures { IsOfOffsets self.now → IsNone result }
+    {
         self.made(track)?.shown.last
     }
 
     /// What becomes of a box in the movie box.
-    fn movie_step(&self, name: BoxType, track: usize) -> Step<'_> {
+    fn movie_step(&self, name: BoxType, track: usize) -> Step<'_>
+        ensures { IsOfOffsets self.now → IsStepOf 1 name result }
+    {
         match name {
             BoxType::MvhdBox => match self.duration {
                 Some(duration) => Step::Header(duration),
@@ -121,7 +129,9 @@ impl MovieEdit {
     }
 
     /// What becomes of a box in that of a track.
-    fn track_step(&self, name: BoxType, track: usize) -> Step<'_> {
+    fn track_step(&self, name: BoxType, track: usize) -> Step<'_>
+        ensures { IsOfOffsets self.now → IsStepOf 2 name result }
+    {
         match name {
             BoxType::MdiaBox => Step::Enter,
             BoxType::TkhdBox => match self.made(track) {
@@ -140,7 +150,9 @@ impl MovieEdit {
     }
 
     /// What becomes of a box in that of a track's media.
-    fn media_step(&self, name: BoxType, track: usize) -> Step<'_> {
+    fn media_step(&self, name: BoxType, track: usize) -> Step<'_>
+        ensures { IsOfOffsets self.now → IsStepOf 3 name result }
+    {
         match name {
             BoxType::MinfBox => Step::Enter,
             BoxType::MdhdBox => match self.made(track) {
@@ -152,7 +164,9 @@ impl MovieEdit {
     }
 
     /// What becomes of a box among a track's tables.
-    fn table_step(&self, name: BoxType, track: usize) -> Step<'_> {
+    fn table_step(&self, name: BoxType, track: usize) -> Step<'_>
+        ensures { IsOfOffsets self.now → IsStepOf 5 name result }
+    {
         match self.made(track) {
             Some(made) => match name {
                 BoxType::StsdBox => Step::Tables(&made.tables),
@@ -168,7 +182,9 @@ impl MovieEdit {
     }
 
     /// What becomes of a box at this level, which is 0 for the movie box.
-    fn step(&self, level: usize, name: BoxType, track: usize) -> Step<'_> {
+    fn step(&self, level: usize, name: BoxType, track: usize) -> Step<'_>
+        ensures { IsOfOffsets self.now → IsStepOf level name result }
+    {
         match level {
             0 if name == BoxType::MoovBox => Step::Enter,
             1 => self.movie_step(name, track),
