@@ -1,6 +1,6 @@
 -- Why a movie that was made of another isn't written: what is wrong in the file that it would be, or in the other
 -- (ISO/IEC 14496-12, 8.3.2, 8.4.2, 8.6 and 8.7).
-use Rattle.std.specs.Prelude.{◌≡◌, ◌≤◌, ◌⊎◌, ⊤, ℕ, List, length, Option, IfSome, Some, Ok, Err, slice_get}
+use Rattle.std.specs.Prelude.{◌≡◌, ◌≤◌, ◌⊎◌, ⊤, ℕ, List, [], length, Option, IfSome, Some, Ok, Err, slice_get}
 use Rattle.mp4_codec.specs.Cause.{Cause, cause_of}
 use Rattle.mp4_codec.specs.Cursor.{here}
 use Rattle.mp4_codec.specs.declared.error.Error.{Error}
