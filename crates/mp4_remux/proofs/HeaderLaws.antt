@@ -1,6 +1,6 @@
 -- Headers that were looked at, one after the other.
 use Rattle.std.proofs.Common.{◌≡◌, ◌∙◌, ◌⊎◌, inl, inr, ℕ, suc, ◌+◌, ◌*◌, ◌≤◌, ◌<◌, List, [], ◌∷◌, length, drop, Option, None, Some, Ok}
-use Rattle.std.proofs.Common.{Err, option_map, refl, sym, ap, arith, max, Bool, true, false, ◌==◌}
+use Rattle.std.proofs.Common.{Err, option_map, refl, sym, ap, subst, arith, max, Bool, true, false, ◌==◌}
 use Rattle.std.proofs.lemmas.Bool.{cases_lt, eqb-false, eqb-true}
 use Rattle.std.specs.Prelude.{slice_get, slice_index_or}
 use Rattle.mp4_codec.specs.Cause.{Cause, trak_not_found}
@@ -180,6 +180,27 @@ keeps_more m are t was is keeps = (
     keeps,
   ),
 )
+
+-- what is kept of a track is kept of the one that was found
+pub kept_there : (m : Movie) (are : AreTracks m.moov m.moofs m.moof_places m.tracks) (t : TrakBox) (was : Mp4Track)
+    → needed_track m.tracks t.tkhd.track_id ≡ Ok was
+    → (o : OpenedTrack) × ((track_at m.moov m.moofs m.moof_places t.tkhd.track_id ≡ Some o) × KeepsTrack o.trak t)
+    → KeepsTrack was.trak t
+kept_there m are t was is kept =
+    let there = sym (are t.tkhd.track_id)
+    ∙ ap (λ (o : Option Mp4Track). option_map opened_track o)
+    (found t.tkhd.track_id (at_id m.tracks t.tkhd.track_id) was is) in
+    subst (λ (o : OpenedTrack). KeepsTrack o.trak t) (same kept.0 (opened_track was) (sym kept.1.0 ∙ there)) kept.1.1
+  where
+    same : (o p : OpenedTrack) → Some o ≡ Some p → o ≡ p
+    same o p e = cc
+
+-- and of none where none was found
+pub none_kept : (m : Movie) (are : AreTracks m.moov m.moofs m.moof_places m.tracks) (t : TrakBox) (c : Cause)
+    → needed_track m.tracks t.tkhd.track_id ≡ Err c
+    → (o : OpenedTrack) × ((track_at m.moov m.moofs m.moof_places t.tkhd.track_id ≡ Some o) × KeepsTrack o.trak t) → ⊥
+none_kept m are t c is kept =
+    let none = sym (track_missing m are t.tkhd.track_id c is).0 ∙ kept.1.0 in absurd cc
 
 -- the durations of what was made
 pub durations_of : (made : Made) (opened : OpenedFile) → ((made ≡ Offsets → ⊥) → IsAsLong opened)

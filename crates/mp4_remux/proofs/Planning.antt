@@ -209,6 +209,6 @@ planned_moved (Some xs) made ps front = record {
   made = made;
   has_file_type = front.has_file_type.whole;
   has_movie = front.has_movie.whole;
-  kept = moved_is_kept _ _ _ front.moved;
+  kept = moved_is_kept _ 0 _ _ front.moved;
   bytes = front.bytes xs refl;
 }

@@ -1,6 +1,6 @@
 -- Why a file that was made of another isn't written.
 use Rattle.std.proofs.Common.{◌≡◌, ◌∙◌, ◌⊎◌, inl, inr, ℕ, zero, suc, ◌≤◌, Bool, List, [], ◌∷◌, length}
-use Rattle.std.proofs.Common.{Option, None, Some, IfSome, Ok, Err, refl, sym, ap, subst, option_map}
+use Rattle.std.proofs.Common.{Option, None, Some, IfSome, Result, Ok, Err, IfErr, refl, sym, ap, subst, option_map}
 use Rattle.std.specs.Prelude.{slice_get}
 use Rattle.mp4_boxes.specs.declared.trak.TrakBox.{TrakBox}
 use Rattle.mp4_codec.specs.Cause.{Cause, cause_of}
@@ -158,7 +158,7 @@ module _ (b a : Movie) (were : AreTracks b.moov b.moofs b.moof_places b.tracks)
         let all = sym is ∙ sym (counted_there a are id) ∙ same ∙ counted_there b were id ∙ was in
         differ (ok_same n m all)
       where
-        ok_same : (n m : ℕ) → Ok n ≡ Ok {E = Cause} m → n ≡ m
+        ok_same : (n m : ℕ) → ◌≡◌ {A = Result ℕ Cause} (Ok n) (Ok m) → n ≡ m
         ok_same n m e = cc
 
 -- ALL TRACKS
@@ -209,6 +209,15 @@ not_copied (Some xs) l what ids opened Refuses can_refuse e fails = by e fails
     by SameIds fails = tt
     by OtherTracks fails = absurd fails
     by (Differs track number) fails = absurd fails
+
+-- what is answered where all bytes are copied, or aren't
+pub copied_or_not : {X : Type 0} (known : Option (List ℕ)) (l : Layout) (what : Made) (ids : List ℕ)
+    (opened : OpenedFile) (Refuses : Type 0) (can_refuse : Bool) (result : Result X RemuxError)
+    → IfErr result (CopyFails Refuses can_refuse)
+    → IfErr result (λ e. IfSome known (λ xs. IsWhyMade what ids xs l.made.items l.pieces.items opened e))
+copied_or_not known l what ids opened Refuses can_refuse (Ok x) fails = tt
+copied_or_not known l what ids opened Refuses can_refuse (Err e) fails =
+    not_copied known l what ids opened Refuses can_refuse e fails
 
 module _ (what : Made) (ids xs : List ℕ) (l : Layout) (opened : OpenedFile) (measured : l.source_len ≡ length xs)
   where

@@ -86,7 +86,8 @@ fn is_nowhere(movie: &Movie, track_id: u32) -> bool
 {
     match movie.place(track_id, 1) {
         Ok(Some(_)) => false,
-        Ok(None) | Err(_) => true,
+        Ok(None) => true,
+        Err(_) => true,
     }
 }
 
