@@ -16,7 +16,7 @@ use Rattle.mp4_codec.specs.declared.header.BoxHeader.{BoxHeader}
 use Rattle.mp4_codec.proofs.HeadLaws.{header_read}
 use Rattle.mp4_remux.specs.Kept.{IsFirstBox}
 use Rattle.mp4_remux.specs.Moved.{IsMovedAt, entry_count, entry_size, is_wide, level_of, moved_payload}
-use Rattle.mp4_remux.specs.Moved.{moved_table, offsets_in, sized, wide_header, wide_payload}
+use Rattle.mp4_remux.specs.Moved.{moved_table, offsets_in, passes, sized, wide_bytes, wide_header, wide_payload}
 use Rattle.mp4_remux.specs.Moved.{no_box, on_the_way, of_offsets, as_it_is}
 use Rattle.mp4_remux.specs.References.{Part, first_part, part_after, part_with}
 
@@ -53,39 +53,43 @@ length-wide true header long =
     )
 length-wide false header long = refl
 
--- numbers of more bytes have more
-flat_longer : (a b : ℕ) (to up : ℕ → ℕ) (offsets : List ℕ) → a ≤ b
-    → length (flat_map (λ offset. big_bytes a (to offset)) offsets)
-    ≤ length (flat_map (λ offset. big_bytes b (up offset)) offsets)
-flat_longer a b to up [] le = omega arith
-flat_longer a b to up (o ∷ os) le =
-    omega (
-      arith,
-      length-append (big_bytes a (to o)) (flat_map (λ offset. big_bytes a (to offset)) os),
-      length-append (big_bytes b (up o)) (flat_map (λ offset. big_bytes b (up offset)) os),
-      length-big a (to o),
-      length-big b (up o),
-      flat_longer a b to up os le,
-      le,
-    )
-
 abbrev width : Bool → ℕ
 width wide = if wide then 8 else 4
+
+length-offset : (wide : Bool) (offset : ℕ) → length (wide_bytes wide offset) ≡ width wide
+length-offset true offset = length-big 8 offset
+length-offset false offset = length-big 4 offset
+
+-- offsets of more bytes have more
+flat_longer : (wide more : Bool) (to up : ℕ → ℕ) (offsets : List ℕ) → width wide ≤ width more
+    → length (flat_map (λ offset. wide_bytes wide (to offset)) offsets)
+    ≤ length (flat_map (λ offset. wide_bytes more (up offset)) offsets)
+flat_longer wide more to up [] le = omega arith
+flat_longer wide more to up (o ∷ os) le =
+    omega (
+      arith,
+      length-append (wide_bytes wide (to o)) (flat_map (λ offset. wide_bytes wide (to offset)) os),
+      length-append (wide_bytes more (up o)) (flat_map (λ offset. wide_bytes more (up offset)) os),
+      length-offset wide (to o),
+      length-offset more (up o),
+      flat_longer wide more to up os le,
+      le,
+    )
 
 payload_longer : (wide more : Bool) (to up : ℕ → ℕ) (size : ℕ) (payload : List ℕ) → width wide ≤ width more
     → length (wide_payload wide to size payload) ≤ length (wide_payload more up size payload)
 payload_longer wide more to up size payload le =
     let os = offsets_in size payload in
     let rest = drop (8 + entry_count size payload * size) payload in
-    let one = flat_map (λ offset. big_bytes (width wide) (to offset)) os in
-    let two = flat_map (λ offset. big_bytes (width more) (up offset)) os in
+    let one = flat_map (λ offset. wide_bytes wide (to offset)) os in
+    let two = flat_map (λ offset. wide_bytes more (up offset)) os in
     omega (
       arith,
       length-append (take 8 payload) (one ++ rest),
       length-append one rest,
       length-append (take 8 payload) (two ++ rest),
       length-append two rest,
-      flat_longer (width wide) (width more) to up os le,
+      flat_longer wide more to up os le,
     )
 
 -- OFFSETS THAT PASS 32 BITS
@@ -96,20 +100,17 @@ or_more false b true d first second is = refl
 or_more false b false d first second is = second is
 
 module _ (to up : ℕ → ℕ) (farther : (place : ℕ) → to place ≤ up place) where
-  passes_too : (offsets : List ℕ) → list_any (λ offset. nat_lt (2 ^ 32 - 1) (to offset)) offsets ≡ true
-      → list_any (λ offset. nat_lt (2 ^ 32 - 1) (up offset)) offsets ≡ true
-  passes_too [] passes = passes
-  passes_too (o ∷ os) passes =
-      or_more (nat_lt (2 ^ 32 - 1) (to o)) (list_any (λ offset. nat_lt (2 ^ 32 - 1) (to offset)) os)
-      (nat_lt (2 ^ 32 - 1) (up o)) (list_any (λ offset. nat_lt (2 ^ 32 - 1) (up offset)) os)
+  passes_too : (offsets : List ℕ) → list_any (passes to) offsets ≡ true → list_any (passes up) offsets ≡ true
+  passes_too [] is = is
+  passes_too (o ∷ os) is =
+      or_more (passes to o) (list_any (passes to) os) (passes up o) (list_any (passes up) os)
       (λ past. lt-ltb (2 ^ 32 - 1) (up o) (omega (arith, ltb-true (2 ^ 32 - 1) (to o) past, farther o)))
-      (passes_too os) passes
+      (passes_too os) is
 
   wide_too : (size : ℕ) (payload : List ℕ) → is_wide to size payload ≡ true → is_wide up size payload ≡ true
   wide_too size payload wide =
-      or_more (size == 8) (list_any (λ offset. nat_lt (2 ^ 32 - 1) (to offset)) (offsets_in size payload))
-      (size == 8) (list_any (λ offset. nat_lt (2 ^ 32 - 1) (up offset)) (offsets_in size payload)) (λ e. e)
-      (passes_too (offsets_in size payload)) wide
+      or_more (size == 8) (list_any (passes to) (offsets_in size payload)) (size == 8)
+      (list_any (passes up) (offsets_in size payload)) (λ e. e) (passes_too (offsets_in size payload)) wide
 
   wider : (size : ℕ) (payload : List ℕ) → width (is_wide to size payload) ≤ width (is_wide up size payload)
   wider size payload = by (is_wide to size payload) (is_wide up size payload) (wide_too size payload)

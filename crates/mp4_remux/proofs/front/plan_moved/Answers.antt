@@ -1,6 +1,8 @@
-use Rattle.std.proofs.Common.{◌∙◌, Err, ap, inl, inr, refl}
+use Rattle.std.proofs.Common.{◌≡◌, ◌∙◌, ◌-◌, ◌*◌, ◌^◌, ◌<◌, ◌≤◌, ℕ, length, Err, ap, arith, inl, inr, refl, subst}
 use Rattle.std.proofs.lemmas.Result.{err_from_is_err_and}
 use Rattle.mp4_codec.specs.declared.box_type.BoxType.TheVariants.{FtypBox, MoovBox}
+use Rattle.mp4_remux.specs.Front.{AreApart}
+use Rattle.mp4_remux.specs.Splice.{Follow}
 use Rattle.mp4_remux.specs.declared.error.RemuxError.{RemuxError}
 use Rattle.mp4_remux.proofs.Naming.{names_known, one_of_known}
 use Rattle.mp4_remux.proofs.Planning.{box_why, header_why, is_planned, memory_why, moved_why, no_layout_why}
@@ -29,3 +31,32 @@ returns-in_err-source-2-clause-why g c =
     (header_why (g.S.ByteSource.contents c.args.source) c.args.boxes.now MoovBox c.args.movie _ (inr refl)
     c.requires.movie c.requires.boxes
     (rw c.in_ok-source.ensures.contents at c.in_err-source-2.ensures.cause))
+
+pub returns-in_err-bytes-clause-why : goal.returns-in_err-bytes-clause-why
+returns-in_err-bytes-clause-why g c =
+    let p = err_from_is_err_and c.from_residual-in_err-bytes.result c.from_residual-in_err-bytes.ensures.1 in
+    rw (p.1 ∙ ap (λ (e : RemuxError). Err e) p.2)
+    (box_why (g.S.ByteSource.contents c.args.source) c.args.boxes.now MoovBox c.args.movie _ c.requires.movie
+    c.requires.boxes (rw (
+      c.check_metadata.ensures.contents,
+      c.check_moved.ensures.contents,
+      c.in_ok-source-2.ensures.contents,
+      c.in_ok-source.ensures.contents,
+    ) at c.in_err-bytes.ensures.cause))
+
+pub returns-in_default-clause-why : goal.returns-in_default-clause-why
+returns-in_default-clause-why g c =
+    let many : c.len.result ≡ length c.in_ok-made.made.items = omega (arith, c.len.ensures) in
+    no_layout_why (g.S.ByteSource.contents c.args.source) c.args.len c.args.boxes.now c.args.file_type c.args.movie
+    c.in_ok-bytes.bytes.items c.in_ok-made.made.items c.in_ok-pieces.pieces.items c.requires.len c.requires.file_type
+    c.requires.movie c.requires.boxes
+    (rw (
+      c.check_metadata.ensures.contents,
+      c.check_moved.ensures.contents,
+      c.in_ok-source-2.ensures.contents,
+      c.in_ok-source.ensures.contents,
+    ) at c.in_ok-bytes.ensures.bytes) (rw c.deref.ensures.value at c.in_ok-made.ensures.len)
+    (subst (λ n. AreApart c.args.len c.args.file_type c.args.movie → c.args.len < 2 ^ 63
+    → n ≤ 2 * (c.args.movie.end - c.args.movie.place)
+    → (end : ℕ) × ((end < 2 ^ 64) × Follow c.args.len n 0 c.in_ok-pieces.pieces.items end)) many
+    c.in_ok-pieces.ensures.follow) c.in_default.ensures.none
