@@ -1,10 +1,13 @@
 -- Movie boxes with other chunk offsets.
 use Rattle.std.proofs.Common.{◌≡◌, ◌∙◌, ◌⊎◌, inl, inr, ℕ, ◌+◌, ◌*◌, ◌^◌, ◌≤◌, ◌<◌, List, [], ◌∷◌, ◌++◌, length, take, drop}
 use Rattle.std.proofs.Common.{Option, None, Some, Bool, true, false, if◌then◌else◌, nat_lt, refl, sym, ap, subst, append_assoc, arith}
-use Rattle.std.proofs.lemmas.List.{drop_at, length-append, length-take, take_at as take_front}
+use Rattle.std.proofs.lemmas.List.{append-nil, drop_at, length-append, length-take, take_at as take_front}
 use Rattle.byteorder.specs.Endian.{big_bytes, big_number}
 use Rattle.byteorder.specs.Numbers.{big_from-append, big_from-take}
 use Rattle.mp4_codec.specs.BoxType.{box_type, code_of}
+use Rattle.mp4_codec.specs.declared.error.Error.{Error}
+use Rattle.mp4_codec.specs.declared.error.Error.TheVariants.{TooLarge}
+use Rattle.mp4_codec.specs.declared.error.Limit.TheVariants.{BoxSize}
 use Rattle.mp4_codec.specs.declared.box_type.BoxType.{BoxType}
 use Rattle.mp4_codec.specs.declared.box_type.BoxType.TheVariants.{MoovBox, TrakBox, MdiaBox, MinfBox, StblBox}
 use Rattle.mp4_codec.specs.declared.box_type.BoxType.TheVariants.{StcoBox, Co64Box}
@@ -12,9 +15,15 @@ use Rattle.mp4_remux.specs.Kept.{IsAmong, IsFirstBox, IsKept, entered, offsets, 
 use Rattle.mp4_remux.specs.References.{first_part}
 use Rattle.mp4_remux.specs.declared.chunk_offsets.OffsetWidth.{OffsetWidth}
 use Rattle.mp4_remux.specs.declared.chunk_offsets.OffsetWidth.TheVariants.{Narrow, Wide}
+use Rattle.mp4_remux.specs.declared.moves.Moves.TheVariants.{Front}
+use Rattle.mp4_remux.specs.declared.top_level.TopBox.{TopBox}
+use Rattle.mp4_remux.specs.declared.movie_box.Step.{Step}
+use Rattle.mp4_remux.specs.declared.movie_box.Step.TheVariants.{Keep, Drop, Enter, Offsets, Header, TrackHeader, Edits}
+use Rattle.mp4_remux.specs.declared.movie_box.Step.TheVariants.{References, Tables}
+use Rattle.mp4_remux.specs.Moved.{AddsMoved, AddsStep, EndsSized, IsBy, IsStepOf, IsWhyNotAdded, IsWhyNotMoved}
 use Rattle.mp4_remux.specs.Moved.{HasRoom, IsHeader, IsMovedAt, IsUpToTwice, entry_size, is_wide, level_of}
 use Rattle.mp4_remux.specs.Moved.{moved_payload, moved_table, no_box, on_the_way, of_offsets, as_it_is, size_of, sized}
-use Rattle.mp4_remux.specs.Moved.{wide_header}
+use Rattle.mp4_remux.specs.Moved.{place_in_front, wide_header}
 use Rattle.mp4_remux.proofs.Offsets.{length-wide_header, payload_length, table_header}
 use Rattle.mp4_remux.proofs.Sizing.{SaysType, first_again, is_header, length-sized, says_type, sized_first}
 
@@ -67,8 +76,7 @@ moved_length to level xs ys
     let long = first_length xs name header payload rest first in
     let sizes = length-sized header (length payload_after) (is_header xs name header payload rest first) in
     let whole = piece_length (sized header (length payload_after)) (payload_after ++ rest_after) ys is in
-    let parts = length-append payload_after rest_after in
-    (
+    let parts = length-append payload_after rest_after in (
       omega (arith, inner.0, later.0, long, sizes, whole, parts),
       omega (arith, inner.1, later.1, long, sizes, whole, parts),
     )
@@ -81,8 +89,7 @@ moved_length to level xs ys
     let tables = table_length to w.0 header payload (is_header xs name header payload rest first) in
     let same : ys ≡ made ++ rest_after = is ∙ ap (λ n. moved_table to n header payload ++ rest_after) w.1 in
     let whole = piece_length made rest_after ys same in
-    let before = length-append header payload in
-    (
+    let before = length-append header payload in (
       omega (arith, tables.0, later.0, long, whole, before),
       omega (arith, tables.1, later.1, long, whole, before),
     )
@@ -190,3 +197,124 @@ moved_is_kept to level xs ys
     subst (λ (zs : List ℕ). IsKept offsets [] xs zs) (sym is)
     (next xs (header ++ (payload ++ rest_after)) rest rest_after name header payload first
     (first_again xs name header payload rest first rest_after) (moved_is_kept to level rest rest_after others))
+
+-- BOX BY BOX
+
+-- boxes are on the way at levels 0 to 4
+too_deep : (name : BoxType) (level : ℕ) → level_of name ≡ Some level → 5 ≤ level → ⊥
+too_deep MoovBox level is deep = let at : 0 ≡ level = cc in omega (arith, at, deep)
+too_deep TrakBox level is deep = let at : 1 ≡ level = cc in omega (arith, at, deep)
+too_deep MdiaBox level is deep = let at : 2 ≡ level = cc in omega (arith, at, deep)
+too_deep MinfBox level is deep = let at : 3 ≡ level = cc in omega (arith, at, deep)
+too_deep StblBox level is deep = let at : 4 ≡ level = cc in omega (arith, at, deep)
+too_deep _ level is deep = absurd cc
+
+-- With what the rest becomes, what was added is what all becomes.
+pub record AreMoved (to : ℕ → ℕ) (level : ℕ) (bytes rest old new : List ℕ) : Type 0 where
+  pub done : List ℕ
+  pub is : new ≡ old ++ done
+  pub later : (after : List ℕ) → IsMovedAt to level rest after → IsMovedAt to level bytes (done ++ after)
+
+pub none_moved : (to : ℕ → ℕ) (level : ℕ) (bytes old : List ℕ) → AreMoved to level bytes bytes old old
+none_moved to level bytes old = record { done = []; is = sym (append-nil old); later = λ after m. m }
+
+module _ (to : ℕ → ℕ) (level : ℕ) (bytes rest old now new : List ℕ) (upto : AreMoved to level bytes rest old now) where
+  -- the bytes after the boxes stay
+  pub all_moved : first_part rest ≡ None → new ≡ now ++ rest → AddsMoved to level bytes old new
+  all_moved none is =
+      record {
+        after = upto.done ++ rest;
+        is = is ∙ ap (λ (xs : List ℕ). xs ++ rest) upto.is ∙ append_assoc old upto.done rest;
+        moved = upto.later rest (no_box level rest none);
+      }
+
+  module _ (name : BoxType) (header payload rest' : List ℕ) (first : IsFirstBox rest name header payload rest') where
+    -- one box more
+    piece_moved : (piece : List ℕ) → new ≡ now ++ piece
+        → ((after : List ℕ) → IsMovedAt to level rest' after → IsMovedAt to level rest (piece ++ after))
+        → AreMoved to level bytes rest' old new
+    piece_moved piece is becomes =
+        record {
+          done = upto.done ++ piece;
+          is = is ∙ ap (λ (xs : List ℕ). xs ++ piece) upto.is ∙ append_assoc old upto.done piece;
+          later = λ after m. subst (λ (xs : List ℕ). IsMovedAt to level bytes xs)
+              (sym (append_assoc upto.done piece after)) (upto.later (piece ++ after) (becomes after m));
+        }
+
+    -- it is on the way
+    pub entered_moved : (inner : List ℕ) → level_of name ≡ Some level → IsMovedAt to (level + 1) payload inner
+        → EndsSized now header inner new → AreMoved to level bytes rest' old new
+    entered_moved inner way within ends =
+        piece_moved (sized header (length inner) ++ inner) ends.1
+        (λ after m. on_the_way level rest _ rest' after name header payload inner first way within ends.0 m
+        (append_assoc (sized header (length inner)) inner after))
+
+    -- it is at another step
+    pub step_moved : (step : Step) → IsStepOf level name step → (step ≡ Enter → 5 ≤ level)
+        → AddsStep to step header payload now new → AreMoved to level bytes rest' old new
+    step_moved Enter way deep is = absurd (too_deep name level way (deep refl))
+    step_moved Keep (no_way, no_table) deep is =
+        piece_moved (header ++ payload) is
+        (λ after m. as_it_is level rest _ rest' after name header payload first no_way no_table m
+        (append_assoc header payload after))
+    step_moved (Offsets width) (five, table) deep is =
+        piece_moved (moved_table to (size_of width) header payload) is.1
+        (λ after m. of_offsets level rest _ rest' after name header payload (size_of width) first five table is.0 m refl)
+    step_moved Drop step deep is = absurd step
+    step_moved (Header duration) step deep is = absurd step
+    step_moved (TrackHeader duration) step deep is = absurd step
+    step_moved (Edits last) step deep is = absurd step
+    step_moved (References ids) step deep is = absurd step
+    step_moved (Tables tables) step deep is = absurd step
+
+-- WHY NOT
+
+-- bytes in which these are aren't moved for the same
+pub not_moved : (xs bytes : List ℕ) (e : Error) → length xs ≤ length bytes → IsWhyNotMoved xs e → IsWhyNotMoved bytes e
+not_moved xs bytes e le (inl memory) = inl memory
+not_moved xs bytes e le (inr large) = inr (large.0, omega (arith, le, large.1))
+
+module _ (bytes rest : List ℕ) (name : BoxType) (header payload rest' : List ℕ)
+    (first : IsFirstBox rest name header payload rest') (less : length rest ≤ length bytes) (e : Error) where
+  box_not_moved : IsWhyNotMoved (header ++ payload) e → IsWhyNotMoved bytes e
+  box_not_moved why =
+      let long = first_length rest name header payload rest' first in
+      not_moved (header ++ payload) bytes e (omega (arith, long, less, length-append header payload)) why
+
+  -- a box isn't added
+  pub step_not_moved : (level : ℕ) (step : Step) → IsStepOf level name step
+      → IsWhyNotAdded step (header ++ payload) e → IsWhyNotMoved bytes e
+  step_not_moved level Enter is why = box_not_moved why
+  step_not_moved level Keep is why = box_not_moved why
+  step_not_moved level (Offsets width) is why = box_not_moved why
+  step_not_moved level Drop is why = absurd is
+  step_not_moved level (Header duration) is why = absurd is
+  step_not_moved level (TrackHeader duration) is why = absurd is
+  step_not_moved level (Edits last) is why = absurd is
+  step_not_moved level (References ids) is why = absurd is
+  step_not_moved level (Tables tables) is why = absurd is
+
+  -- the size of a box on the way is too large
+  pub way_not_moved : (to : ℕ → ℕ) (level start : ℕ) (now new : List ℕ) → start ≡ length now
+      → AddsMoved to level payload (now ++ header) new → (e ≡ TooLarge BoxSize) × (start + 2 ^ 32 ≤ length new)
+      → IsWhyNotMoved bytes e
+  way_not_moved to level start now new begins adds why =
+      let long = first_length rest name header payload rest' first in
+      let inner = moved_length to level payload adds.after adds.moved in
+      let whole = piece_length (now ++ header) adds.after new adds.is in
+      let before = length-append now header in
+      inr (why.0, omega (arith, long, less, begins, inner.1, whole, before, why.1))
+
+-- THE WHOLE BOX
+
+-- where the edit is of offsets, what an empty buffer gets is the moved box
+pub made_moved : (to : ℕ → ℕ) (bytes old new : List ℕ) → old ≡ [] → AddsMoved to 0 bytes old new
+    → IsMovedAt to 0 bytes new
+made_moved to bytes old new none adds =
+    subst (λ (xs : List ℕ). IsMovedAt to 0 bytes xs)
+    (sym (adds.is ∙ ap (λ (xs : List ℕ). xs ++ adds.after) none)) adds.moved
+
+-- moves with the movie box in front are by its places
+pub front_by : (file_type movie : TopBox) (movie_len : ℕ)
+    → IsBy (Front file_type movie movie_len) (place_in_front file_type movie movie_len)
+front_by file_type movie movie_len = record { each = λ place new is. is }

@@ -227,8 +227,8 @@ module _ (bytes : List ℕ) (name : BoxType) (header payload after : List ℕ)
       λ sixteen. (
         omega (arith, sixteen, at, long'),
         ap (λ (xs : List ℕ). take 8 (drop 8 xs)) is ∙ middle header tail (omega (arith, sixteen, at))
-        ∙ sym (ap (λ (xs : List ℕ). take 8 (drop 8 xs)) first.all
-        ∙ middle header (payload ++ after) (omega (arith, sixteen, at))),
+            ∙ sym (ap (λ (xs : List ℕ). take 8 (drop 8 xs)) first.all
+            ∙ middle header (payload ++ after) (omega (arith, sixteen, at))),
       ) in
       rw (opens bytes' (omega (arith, long', many)), front, what.again bytes' large)
       (ap (λ (x : BoxHeader × Cursor). Ok (x.0, here bytes' x.1.position)) same)

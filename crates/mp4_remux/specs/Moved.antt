@@ -188,6 +188,29 @@ IsStepOf level name (Edits last) = ⊥
 IsStepOf level name (References ids) = ⊥
 IsStepOf level name (Tables tables) = ⊥
 
+-- boxes are entered at levels 0 to 4 alone
+abbrev pub EntersAt : ℕ → Step → Type 0
+EntersAt level Enter = level < 5
+EntersAt level _ = ⊤
+
+-- what is added for a box at a step that isn't left out, and isn't made anew
+abbrev pub AddsStep : (ℕ → ℕ) → Step → (header payload old new : List ℕ) → Type 0
+AddsStep to Enter header payload old new = new ≡ old ++ (header ++ payload)
+AddsStep to (Offsets width) header payload old new = AddsTable to (size_of width) header payload old new
+AddsStep to Keep header payload old new = new ≡ old ++ (header ++ payload)
+AddsStep to Drop header payload old new = ⊤
+AddsStep to (Header duration) header payload old new = ⊤
+AddsStep to (TrackHeader duration) header payload old new = ⊤
+AddsStep to (Edits last) header payload old new = ⊤
+AddsStep to (References ids) header payload old new = ⊤
+AddsStep to (Tables tables) header payload old new = ⊤
+
+-- the new bytes are the old ones and moved ones
+pub record AddsMoved (to : ℕ → ℕ) (level : ℕ) (bytes old new : List ℕ) : Type 0 where
+  pub after : List ℕ
+  pub is : new ≡ old ++ after
+  pub moved : IsMovedAt to level bytes after
+
 -- as many bytes as before or more, and at most twice as many
 abbrev pub IsUpToTwice : List ℕ → List ℕ → Type 0
 IsUpToTwice before after = (length before ≤ length after) × (length after ≤ 2 * length before)
@@ -195,3 +218,15 @@ IsUpToTwice before after = (length before ≤ length after) × (length after ≤
 -- Why bytes aren't moved: out of memory; or a box would be too large, which has half as many bytes at least.
 abbrev pub IsWhyNotMoved : List ℕ → Error → Type 0
 IsWhyNotMoved before e = (e ≡ OutOfMemory) ⊎ ((e ≡ TooLarge BoxSize) × (2 ^ 31 ≤ length before))
+
+-- the same for a box at a step
+abbrev pub IsWhyNotAdded : Step → List ℕ → Error → Type 0
+IsWhyNotAdded Enter before e = IsWhyNotMoved before e
+IsWhyNotAdded (Offsets width) before e = IsWhyNotMoved before e
+IsWhyNotAdded Keep before e = IsWhyNotMoved before e
+IsWhyNotAdded Drop before e = ⊤
+IsWhyNotAdded (Header duration) before e = ⊤
+IsWhyNotAdded (TrackHeader duration) before e = ⊤
+IsWhyNotAdded (Edits last) before e = ⊤
+IsWhyNotAdded (References ids) before e = ⊤
+IsWhyNotAdded (Tables tables) before e = ⊤

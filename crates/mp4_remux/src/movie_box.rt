@@ -1,7 +1,8 @@
 //! A movie box in which tables, durations and tracks are others: all its other bytes stay.
 
-ghost use Rattle.std.specs.Prelude.{◌≡◌, ◌≤◌, ℕ, IfErr, IfOk, IsNone, false};
-ghost use Rattle.mp4_remux.specs.Moved.{IsBy, IsMovedAt, IsOfOffsets, IsStepOf, IsUpToTwice, IsWhyNotMoved};
+ghost use Rattle.std.specs.Prelude.{◌≡◌, ◌≤◌, ◌++◌, ℕ, length, IfErr, IfOk, IsNone, OnOk, false};
+ghost use Rattle.mp4_remux.specs.Moved.{AddsMoved, AddsStep, EntersAt, IsBy, IsHeader, IsMovedAt, IsOfOffsets, IsStepOf};
+ghost use Rattle.mp4_remux.specs.Moved.{IsUpToTwice, IsWhyNotAdded, IsWhyNotMoved};
 
 use crate::box_bytes::{BoxBytes, end_box, first_box};
 use crate::chunk_offsets::{OffsetWidth, put_table};
@@ -114,7 +115,8 @@ impl MovieEdit {
 
     /// What becomes of a box in the movie box.
     fn movie_step(&self, name: BoxType, track: usize) -> Step<'_>
-        ensures { IsOfOffsets self.now → IsStepOf 1 name result }
+        ensures of_offsets { IsOfOffsets self.now → IsStepOf 1 name result }
+        ensures enters { EntersAt 1 result }
     {
         match name {
             BoxType::MvhdBox => match self.duration {
@@ -130,7 +132,8 @@ impl MovieEdit {
 
     /// What becomes of a box in that of a track.
     fn track_step(&self, name: BoxType, track: usize) -> Step<'_>
-        ensures { IsOfOffsets self.now → IsStepOf 2 name result }
+        ensures of_offsets { IsOfOffsets self.now → IsStepOf 2 name result }
+        ensures enters { EntersAt 2 result }
     {
         match name {
             BoxType::MdiaBox => Step::Enter,
@@ -151,7 +154,8 @@ impl MovieEdit {
 
     /// What becomes of a box in that of a track's media.
     fn media_step(&self, name: BoxType, track: usize) -> Step<'_>
-        ensures { IsOfOffsets self.now → IsStepOf 3 name result }
+        ensures of_offsets { IsOfOffsets self.now → IsStepOf 3 name result }
+        ensures enters { EntersAt 3 result }
     {
         match name {
             BoxType::MinfBox => Step::Enter,
@@ -165,7 +169,8 @@ impl MovieEdit {
 
     /// What becomes of a box among a track's tables.
     fn table_step(&self, name: BoxType, track: usize) -> Step<'_>
-        ensures { IsOfOffsets self.now → IsStepOf 5 name result }
+        ensures of_offsets { IsOfOffsets self.now → IsStepOf 5 name result }
+        ensures enters { EntersAt 5 result }
     {
         match self.made(track) {
             Some(made) => match name {
@@ -183,7 +188,8 @@ impl MovieEdit {
 
     /// What becomes of a box at this level, which is 0 for the movie box.
     fn step(&self, level: usize, name: BoxType, track: usize) -> Step<'_>
-        ensures { IsOfOffsets self.now → IsStepOf level name result }
+        ensures of_offsets { IsOfOffsets self.now → IsStepOf level name result }
+        ensures enters { EntersAt level result }
     {
         match level {
             0 if name == BoxType::MoovBox => Step::Enter,
@@ -212,7 +218,9 @@ fn is_table(name: BoxType) -> bool {
 }
 
 /// Adds a box as it is.
-fn put_whole(one: &BoxBytes, out: &mut Vec<u8>) -> Put {
+fn put_whole(one: &BoxBytes, out: &mut Vec<u8>) -> Put
+    ensures { OnOk result (out.new.items ≡ out.old.items ++ (one.now.header.now ++ one.now.payload.now)) }
+{
     out.extend_from_slice(one.header)?;
     out.extend_from_slice(one.payload)
 }
@@ -224,7 +232,13 @@ fn put_step(
     step: Step,
     moves: &Moves,
     out: &mut Vec<u8>,
-) -> Result<()> {
+) -> Result<()>
+    requires { 8 ≤ length one.now.header.now }
+    ensures added { (to : ℕ → ℕ) → IsBy moves.now to → IsHeader one.now.header.now (length one.now.header.now)
+        → OnOk result (AddsStep to step.entry one.now.header.now one.now.payload.now out.old.items out.new.items) }
+    ensures refused { (to : ℕ → ℕ) → IsBy moves.now to → IsHeader one.now.header.now (length one.now.header.now)
+        → IfErr result (IsWhyNotAdded step.entry (one.now.header.now ++ one.now.payload.now)) }
+{
     match step {
         Step::Keep | Step::Enter => Ok(put_whole(one, out)?),
         Step::Drop => Ok(()),
@@ -253,12 +267,16 @@ fn put_boxes(
     out: &mut Vec<u8>,
 ) -> Result<()>
     requires { level ≤ 5 }
+    ensures moved { (to : ℕ → ℕ) → IsBy moves.now to → IsOfOffsets edit.now
+        → OnOk result (AddsMoved to level bytes.now out.old.items out.new.items) }
+    ensures refused { (to : ℕ → ℕ) → IsBy moves.now to → IsOfOffsets edit.now
+        → IfErr result (IsWhyNotMoved bytes.now) }
 {
     let mut rest = bytes;
     let mut track = track;
     while let Some(one) = first_box(rest) {
         match edit.step(level, one.name, track) {
-            Step::Enter if level < 5 => {
+            Step::Enter => {
                 let start = out.len();
                 out.extend_from_slice(one.header)?;
                 put_boxes(alloc, one.payload, level + 1, track, edit, moves, out)?;
