@@ -23,7 +23,6 @@ use Rattle.mp4_remux.specs.declared.error.RemuxError.TheVariants.{TooManySamples
 use Rattle.mp4_remux.specs.declared.error.RemuxError.TheVariants.{SaysOfSamples, StartsElsewhere, SameIds}
 use Rattle.mp4_remux.specs.declared.layout.Layout.{Layout}
 use Rattle.mp4_remux.specs.declared.made.Made.{Made}
-use Rattle.mp4_remux.specs.declared.made.Made.TheVariants.{Tables}
 use Rattle.mp4_remux.specs.declared.piece.Piece.{Piece}
 use Rattle.mp4_remux.specs.Errors.{CopyFails, of_file}
 use Rattle.mp4_remux.specs.Headers.{DurationsOf}

@@ -77,9 +77,10 @@ nothing_shown opened id none =
 
 -- ALL ARE SHOWN AT ONE TIME
 
-shown_apart : (opened : OpenedFile) (id k : ℕ) (p : Place) → place_in opened id k ≡ Ok (Some p)
+-- a sample is there or isn't
+there_or_not : (opened : OpenedFile) (id k : ℕ) (p : Place) → place_in opened id k ≡ Ok (Some p)
     → place_in opened id k ≡ Ok None → ⊥
-shown_apart opened id k p is none = let both = sym is ∙ none in absurd cc
+there_or_not opened id k p is none = let both = sym is ∙ none in absurd cc
 
 same_place : (opened : OpenedFile) (id k : ℕ) (p q : Place) → place_in opened id k ≡ Ok (Some p)
     → place_in opened id k ≡ Ok (Some q) → p ≡ q
@@ -95,7 +96,7 @@ module _ (opened : OpenedFile) (id : ℕ) where
           let first = t.all 1 (omega arith) (omega (arith, less)) in none.1.1 first.1.0.place first.1.0.there
       by (inr past) =
           let next = t.all (s.count + 1) (omega arith) (omega (arith, less)) in
-          shown_apart opened id (s.count + 1) next.1.0.place next.1.0.there past
+          there_or_not opened id (s.count + 1) next.1.0.place next.1.0.there past
 
   no_later : (a b : ℕ) (s : IsShownUntil opened id a) (t : IsShownUntil opened id b) → a ≤ b
   no_later a b s t = by s.one (cases_lt t.count s.count)

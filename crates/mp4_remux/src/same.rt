@@ -85,8 +85,7 @@ fn is_nowhere(movie: &Movie, track_id: u32) -> bool
     ensures { IsTrue result → (first : Place) → place_in (opened_movie movie.now) track_id 1 ≡ Ok (Some first) → ⊥ }
 {
     match movie.place(track_id, 1) {
-        Ok(Some(_)) => false,
-        Ok(None) => true,
+        Ok(first) => first.is_none(),
         Err(_) => true,
     }
 }

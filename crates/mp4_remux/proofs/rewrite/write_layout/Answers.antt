@@ -54,7 +54,7 @@ returns-in_err-check_same-clause-names g c =
 
 pub returns-in_err-try_clone-clause-why : goal.returns-in_err-try_clone-clause-why
 returns-in_err-try_clone-clause-why g c =
-    let p = err_from_is_err_and c.from_residual-in_err-try_clone.result c.from_residual-in_err-try_clone.ensures.1 in
+    let p = err_from_is_err_and c.from_residual.result c.from_residual.ensures.1 in
     rw (p.1 ∙ ap (λ (e : RemuxError). Err e) p.2)
     (out_of_memory (g.S.ByteSource.contents c.args.source) c.args.layout.now c.args.made c.args.ids.now
     (opened_movie c.args.before.now))

@@ -1,4 +1,4 @@
-use Rattle.std.proofs.Common.{◌≡◌, refl, ◌+◌, ◌<◌, arith, Ok, Err, ap, inr, subst, sym, ◌∙◌}
+use Rattle.std.proofs.Common.{◌≡◌, refl, ◌+◌, arith, Ok, Err, ap, inr, subst, sym, ◌∙◌}
 use Rattle.std.proofs.lemmas.Result.{err_from_is_err_and}
 use Rattle.mp4_remux.specs.declared.layout_error.LayoutError.{LayoutError}
 use Rattle.mp4_remux.proofs.Counting.{past_most}

@@ -16,8 +16,8 @@ returns-then-n-piece c = (λ is. absurd cc, λ moved. absurd (by moved.moved))
         let its = of_piece _ _ _ l.len c.args.place c.args.origin c.args.n one.0 _ _ c.piece_at-skipped.ensures.at
         one.1 l.follow (λ none. c.if-n-eq0.false (c.from-n.ensures ∙ none)) a in
         elim c.then-n-piece.branch [
-          then-n-piece-via-then-n-piece w ↦ absurd (omega (arith, w.if-n-piece.true, its.1.0, c.from-n.ensures)) |
-          then-n-piece-via-else-n-piece+then-piece-skipped w ↦ w.if-piece-skipped.true its.1.1
+          | then-n-piece-via-then-n-piece w ↦ absurd (omega (arith, w.if-n-piece.true, its.1.0, c.from-n.ensures))
+          | then-n-piece-via-else-n-piece+then-piece-skipped w ↦ w.if-piece-skipped.true its.1.1
         ]
 
 pub returns-in-Kept : goal.returns-in-Kept
