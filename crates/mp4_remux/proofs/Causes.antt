@@ -100,12 +100,15 @@ pub no_box_of : (known : Option (List ℕ)) (len : ℕ) (name : BoxType) (one : 
     → IfSome known (λ xs. IsTopBox xs one → one.name ≡ name → CausedBy (IsCut xs name one) ⊥ (Mp4 EndOfData))
 unfolding header_in place_in
 no_box_of None len name one h from measured head none = tt
-no_box_of (Some xs) len name one h from measured head none = λ top is. inr (refl, λ box.
-    let both = sym head ∙ box.head in
-    let same : h.name ≡ name = ap (λ r. (header_in r h).name) both in
-    let size : h.size ≡ box.size = ap (λ r. (header_in r h).size) both in
-    let start : from ≡ box.from = ap place_in both in
-    none same (omega (arith, box.end, size, start)) (omega (arith, box.within, measured)))
+no_box_of (Some xs) len name one h from measured head none = λ top is. inr (
+  refl,
+  λ box.
+      let both = sym head ∙ box.head in
+      let same : h.name ≡ name = ap (λ r. (header_in r h).name) both in
+      let size : h.size ≡ box.size = ap (λ r. (header_in r h).size) both in
+      let start : from ≡ box.from = ap place_in both in
+      none same (omega (arith, box.end, size, start)) (omega (arith, box.within, measured)),
+)
 
 -- WHERE BOXES ARE
 

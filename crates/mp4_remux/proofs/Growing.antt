@@ -130,7 +130,7 @@ module _ (to up : ℕ → ℕ) (farther : (place : ℕ) → to place ≤ up plac
       let one = moved_payload to size payload in
       let two = moved_payload up size payload in
       let heads : length (sized (wide_header wide header) (length one))
-          ≡ length (sized (wide_header more header) (length two)) =
+      ≡ length (sized (wide_header more header) (length two)) =
       length-sized (wide_header wide header) (length one)
       ∙ ap sized_len (length-wide wide header long ∙ sym (length-wide more header long))
       ∙ sym (length-sized (wide_header more header) (length two)) in

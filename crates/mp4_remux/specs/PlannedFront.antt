@@ -54,3 +54,16 @@ abbrev pub IsWhyNotPlanned : List ℕ → List TopBox → RemuxError → Type 0
 IsWhyNotPlanned before boxes =
     CausedBy (λ error. (error ≡ OutOfMemory) ⊎ (IsNotWhole before boxes error ⊎ IsTooLarge boxes error))
     (HasNone boxes ftyp ⊎ (HasNone boxes moov ⊎ (2 ^ 63 ≤ length before)))
+
+-- the movie box of a file has half as many bytes as the size of a box counts in 32 bits, or more
+abbrev pub HasLargeMovie : List ℕ → Type 0
+HasLargeMovie before = (b : TopBox) × (IsBoxOf before moov b × (2 ^ 31 ≤ b.end - b.place))
+
+-- Why a file that opens isn't written with its movie box in front: out of memory; its movie box is too large, or the
+-- file has half as many bytes as 64 bits count; or why the file that would be written isn't.
+abbrev pub IsWhyNotInFront : List ℕ → OpenedFile → RemuxError → Type 0
+IsWhyNotInFront before opened e =
+    CausedBy (λ error. (error ≡ OutOfMemory) ⊎ ((error ≡ TooLarge BoxSize) × HasLargeMovie before))
+    (2 ^ 63 ≤ length before) e
+    ⊎ ((made : List ℕ) × ((pieces : List Piece) × (IsInFront before made pieces
+    × IsWhyMade Offsets (ids_of opened.moov) before made pieces opened e)))

@@ -5,12 +5,14 @@ ghost use Rattle.std.specs.Prelude.{IfOk, OnOk, IsFalse, IsTrue, []};
 ghost use Rattle.mp4_codec.specs.declared.box_type.BoxType.TheVariants.{FtypBox, MoovBox};
 ghost use Rattle.mp4_source.specs.Answers.{IsLength};
 ghost use Rattle.mp4_remux.specs.Errors.{IsNamed, IsRefusalOf, MayRefuse, SaysFault, TakesMemory};
-ghost use Rattle.mp4_media.specs.FileGrammar.{between};
+ghost use Rattle.mp4_codec.specs.Cursor.{here};
+ghost use Rattle.mp4_media.specs.FileBoxes.{OpenedFile};
+ghost use Rattle.mp4_media.specs.FileGrammar.{IsFile, between};
 ghost use Rattle.mp4_remux.specs.Front.{AreApart, AreBoxes, HasToMove, in_front, IsMovieFirst, IsMovieLater};
 ghost use Rattle.mp4_remux.specs.Front.{IsOnly, NoMovieAfterData, WritesFront};
 ghost use Rattle.mp4_remux.specs.Moved.{IsMovedAt, IsUpToTwice, IsWhyNotMoved, place_in_front};
 ghost use Rattle.mp4_remux.specs.Named.{NamesBox};
-ghost use Rattle.mp4_remux.specs.PlannedFront.{IsInFront, IsWhyNotPlanned};
+ghost use Rattle.mp4_remux.specs.PlannedFront.{IsInFront, IsWhyNotInFront, IsWhyNotPlanned};
 ghost use Rattle.mp4_remux.specs.Splice.{Follow, of_origin, spliced};
 
 use crate::chosen::all_ids;
@@ -210,6 +212,8 @@ pub fn move_to_front<S: ByteSource + Drop, K: ByteSink>(
     ensures as_it_is { IfErr result (λ e. IsNamed e → HasToMove (S.contents source)) }
     ensures names { IfErr result (NamesBox (S.contents source)) }
     ensures memory { TakesMemory (S.contents source) result }
+    ensures why { IfErr result (λ e. IfSome (S.contents source) (λ xs. (opened : OpenedFile)
+        → IsFile (length xs) (here xs 0) opened → IsWhyNotInFront xs opened e)) }
 {
     let (source, len, before) = open_source(alloc, source)?;
     let (source, layout) = plan(alloc, source, len)?;

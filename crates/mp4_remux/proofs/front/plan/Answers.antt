@@ -72,7 +72,7 @@ returns-in_default-clause-why g c =
     c.in_ok-source.ensures.boxes
     (neither_why (g.S.ByteSource.contents c.args.source) c.in_ok-source.boxes.items
     (elim c.in_default.branch [
-        in_default-via-in-Some+in_default w ↦
+      | in_default-via-in-Some+in_default w ↦
           inr (rw (w.in_default.is-1, c.deref-3.ensures.value) at c.in_ok-movie.ensures.none)
       | in_default-via-in_default w ↦
           inl (rw (w.in_default.is-0, c.deref-2.ensures.value) at c.in_ok-file_type.ensures.none)

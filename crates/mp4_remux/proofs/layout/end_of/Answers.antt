@@ -46,7 +46,7 @@ returns-then-piece-end-clause-none c = λ e small f.
     (drop (c.loop-i.i + 1) ps) e) (sym c.index-pieces-i.is) (is_next c.args.source_len c.args.made_len ps c.loop-i.i
     (c.loop-i.i + 1) c.loop-i.end e p c.loop-i-test.true (omega arith) (c.loop-i.invariant.rest e f)) in
     elim c.then-piece-end.branch [
-        then-piece-end-via-then-piece-end w ↦ omega (arith, next.at)
+      | then-piece-end-via-then-piece-end w ↦ omega (arith, next.at)
       | then-piece-end-via-else-piece-end+then-piece-eq0 w ↦ omega (arith, next.some)
       | then-piece-end-via-else-piece-end+else-piece-eq0+then-piece-whole w ↦
           omega (arith, next.within, c.len_of-whole.ensures)
