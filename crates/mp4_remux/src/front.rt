@@ -192,9 +192,10 @@ fn plan<S: ByteSource + Drop>(
 /// or in the file's metadata, a `dref` that says that samples are in another file, or a `sidx` that can't be read, or
 /// where the movie box or the file type is between it and the end of what it refers to; `TooManySamples` where the
 /// tracks have more than the file has bytes, or than 4,294,967,294; `SameIds` where two tracks have one id; `Differs`
-/// where a sample wouldn't be read as before. `Read` where the source refuses, `Write` where the sink does: then the
-/// sink may have some first bytes of the file. A refusal that is none of memory, source or sink leaves the sink as it
-/// was.
+/// where a sample wouldn't be read as before; `OtherTracks` where the tracks, their numbers of samples or the headers
+/// would be others, or the file has 2^63 bytes or more; `TooLarge` where the movie box has 2^31 bytes or more, and
+/// wouldn't fit the size of a box. `Read` where the source refuses, `Write` where the sink does: then the sink may have
+/// some first bytes of the file. A refusal that is none of memory, source or sink leaves the sink as it was.
 pub fn move_to_front<S: ByteSource + Drop, K: ByteSink>(
     alloc: Global,
     source: S,
