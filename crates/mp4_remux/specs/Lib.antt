@@ -1,4 +1,5 @@
 pub mod Alike
+pub mod Edited
 pub mod Errors
 pub mod Front
 pub mod Gathered
