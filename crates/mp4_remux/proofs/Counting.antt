@@ -2,7 +2,7 @@
 use Rattle.std.proofs.Common.{◌≡◌, ◌∙◌, ℕ, zero, suc, ◌+◌, ◌≤◌, ◌<◌, List, [], ◌∷◌, length, map, min, Some, Ok}
 use Rattle.std.proofs.Common.{Bool, true, false, nat_lt, if◌then◌else◌, inl, inr}
 use Rattle.std.proofs.Common.{Option, None, Result, Err, option_map, IfOk, IfSome, refl, sym, ap, subst, arith}
-use Rattle.std.specs.Prelude.{slice_get, slice_index_or}
+use Rattle.std.specs.Prelude.{is_some, slice_get, slice_index_or}
 use Rattle.mp4_boxes.specs.declared.trak.TrakBox.{TrakBox}
 use Rattle.mp4_codec.specs.Cause.{Cause, Gives, end_of_data, ◌>>=◌}
 use Rattle.mp4_codec.specs.declared.error.Error.{Error}
@@ -25,6 +25,14 @@ pub placed_as : (m : Movie) → AreTracks m.moov m.moofs m.moof_places m.tracks 
 placed_as m are track k (Ok None) gives = tt
 placed_as m are track k (Ok (Some s)) gives = placed_there m are track k ∙ gives
 placed_as m are track k (Err e) gives = tt
+
+-- nor is there one where it answers none
+pub none_placed : (m : Movie) → AreTracks m.moov m.moofs m.moof_places m.tracks → (track k : ℕ)
+    → (o : Option SamplePlace) → located_in m.tracks track k ≡ Ok (option_map place_of o) → is_some o ≡ false
+    → (p : Place) → place_in (opened_movie m) track k ≡ Ok (Some p) → ⊥
+none_placed m are track k None gives none p there =
+    let both = sym there ∙ placed_there m are track k ∙ gives in absurd cc
+none_placed m are track k (Some s) gives none p there = absurd cc
 
 -- a sample that lies whole in the file is there
 within_there : (len : ℕ) (r : Result (Option Place) Cause) (p : Place) → (r >>= within len) ≡ Ok (Some p)

@@ -1,23 +1,22 @@
 -- The bytes of a file with its movie box in front, as pieces make them.
 use Rattle.std.proofs.Common.{◌≡◌, ◌∙◌, ℕ, ◌-◌, ◌≤◌, List, [], ◌++◌, length, take, drop, refl, sym, ap, arith}
 use Rattle.std.proofs.Common.{append_assoc}
-use Rattle.std.proofs.Common.{◌∷◌, min, max, take_all, Option, None, Some, IfSome}
+use Rattle.std.proofs.Common.{◌⊎◌, inl, inr, ◌+◌, ◌*◌, ◌^◌, ◌<◌, ◌∷◌, min, max, take_all, Option, None, Some, IfSome}
 use Rattle.std.proofs.lemmas.List.{append-nil}
 use Rattle.mp4_media.specs.FileGrammar.{between}
 use Rattle.mp4_remux.specs.declared.piece.Piece.{Piece}
 use Rattle.mp4_remux.specs.declared.top_level.TopBox.{TopBox}
-use Rattle.mp4_codec.specs.declared.box_type.BoxType.TheVariants.{FtypBox as ftyp, MoovBox as moov}
-use Rattle.mp4_source.specs.Answers.{IsLength}
+use Rattle.mp4_remux.specs.declared.piece.Origin.{Origin}
+use Rattle.mp4_remux.specs.declared.piece.Origin.TheVariants.{Kept, Made}
 use Rattle.mp4_remux.specs.declared.layout.Layout.{Layout}
-use Rattle.mp4_remux.specs.Front.{in_front, IsBoxOf, IsMoved, IsMovieFirst, WritesFront, as_it_is, moved}
+use Rattle.mp4_remux.specs.Front.{AreApart, in_front, IsMoved, IsMovieFirst, WritesFront, as_it_is, moved}
 use Rattle.mp4_remux.specs.declared.made.Made.TheVariants.{Offsets}
-use Rattle.mp4_remux.specs.Kept.{IsKept, offsets}
 use Rattle.mp4_remux.specs.Remuxed.{IsRemuxed, WritesRemuxed, ids_of}
 use Rattle.std.proofs.Common.{Result, Ok, Err, OnOk, subst}
 use Rattle.mp4_source.specs.Sink.{IsAppended}
 use Rattle.mp4_media.specs.FileBoxes.{OpenedFile}
 use Rattle.mp4_remux.specs.declared.error.RemuxError.{RemuxError}
-use Rattle.mp4_remux.specs.Splice.{piece_bytes, spliced}
+use Rattle.mp4_remux.specs.Splice.{Follow, of_origin, piece_bytes, spliced}
 
 -- five parts, one added after the other
 pub five_parts : {A B C D E F : List ℕ} (a b c d e : List ℕ) → A ≡ [] → B ≡ A ++ a → C ≡ B ++ b → D ≡ C ++ c
@@ -73,26 +72,78 @@ pub no_pieces : (source made : List ℕ) (ps : List Piece) → ps ≡ [] → spl
 unfolding spliced
 no_pieces source made ps none = rw none refl
 
--- a layout with the bytes of a file with its movie box in front
-pub was_moved : (known : Option (List ℕ)) (len : ℕ) (l : Layout) (made : List ℕ) (ps : List Piece)
-    (one other : TopBox) (bytes : List ℕ) → IsLength known len → l.made.items ≡ made → l.pieces.items ≡ ps
-    → IfSome known (λ xs. IsBoxOf xs ftyp one) → IfSome known (λ xs. IsBoxOf xs moov other)
-    → IfSome known (λ xs. bytes ≡ between xs other.place other.end) → IsKept offsets [] bytes made
-    → ((source : List ℕ) → length source ≡ len → spliced source made ps ≡ in_front source one other made)
-    → IfSome known (λ xs. IsMoved xs (spliced xs l.made.items l.pieces.items))
-was_moved None len l made ps one other bytes measured is_made is_ps first second movie k all = tt
-was_moved (Some xs) len l made ps one other bytes measured is_made is_ps first second movie k all =
-    record {
-      file_type = one;
-      movie = other;
-      made = made;
-      has_file_type = first;
-      has_movie = second;
-      kept = subst (λ (b : List ℕ). IsKept offsets [] b made) movie k;
-      bytes =
-          ap (λ (qs : List Piece). spliced xs l.made.items qs) is_ps
-          ∙ ap (λ (m : List ℕ). spliced xs m ps) is_made ∙ all xs (sym measured);
-    }
+-- WHERE THE PIECES ARE
+
+-- no pieces end where they begin
+none_follow : (source_len made_len : ℕ) (ps : List Piece) → ps ≡ [] → Follow source_len made_len 0 ps 0
+unfolding Follow
+none_follow source_len made_len ps none = rw none refl
+
+-- pieces with these bytes more follow each other where they did before
+abbrev pub Pushes : List Piece → List Piece → Origin → ℕ → ℕ → Type 0
+Pushes before after origin place end = (source_len made_len stop : ℕ)
+    → end ≤ of_origin origin source_len made_len → stop + (end - place) < 2 ^ 64
+    → Follow source_len made_len 0 before stop → Follow source_len made_len 0 after (stop + (end - place))
+
+-- how many bytes the pieces have, where the two boxes are in one order or the other
+abbrev all_of : ℕ → ℕ → ℕ → ℕ → ℕ → ℕ → ℕ → ℕ → ℕ
+all_of place end made_len first middle second after len =
+    0 + (end - place) + (made_len - 0) + (first - 0) + (second - middle) + (len - after)
+
+few_bytes : (one other : TopBox) (made_len first middle second after len : ℕ) → first ≡ min one.place other.place
+    → middle ≡ min one.end other.end → second ≡ max one.place other.place → after ≡ max one.end other.end
+    → AreApart len one other → len < 2 ^ 63 → made_len ≤ 2 * (other.end - other.place)
+    → all_of one.place one.end made_len first middle second after len < 2 ^ 64
+few_bytes one other made_len first middle second after len is_first is_middle is_second is_after boxes small twice =
+    by boxes.apart
+  where
+    by : (one.end ≤ other.place) ⊎ (other.end ≤ one.place)
+        → all_of one.place one.end made_len first middle second after len < 2 ^ 64
+    by (inl before) =
+        let f : first ≡ one.place = omega (arith, is_first, before, boxes.first) in
+        let m : middle ≡ one.end = omega (arith, is_middle, before, boxes.second) in
+        let s : second ≡ other.place = omega (arith, is_second, before, boxes.first) in
+        let a : after ≡ other.end = omega (arith, is_after, before, boxes.second) in
+        omega (arith, f, m, s, a, before, boxes.first, boxes.second, boxes.also, small, twice)
+    by (inr before) =
+        let f : first ≡ other.place = omega (arith, is_first, before, boxes.second) in
+        let m : middle ≡ other.end = omega (arith, is_middle, before, boxes.first) in
+        let s : second ≡ one.place = omega (arith, is_second, before, boxes.second) in
+        let a : after ≡ one.end = omega (arith, is_after, before, boxes.first) in
+        omega (arith, f, m, s, a, before, boxes.first, boxes.second, boxes.within, small, twice)
+
+-- five pieces, one after the other
+five_end : (A B C D E F : List Piece) (place end made_len first middle second after len : ℕ) → A ≡ []
+    → Pushes A B Kept place end → Pushes B C Made 0 made_len → Pushes C D Kept 0 first → Pushes D E Kept middle second
+    → Pushes E F Kept after len → end ≤ len → first ≤ len → second ≤ len
+    → all_of place end made_len first middle second after len < 2 ^ 64
+    → Follow len made_len 0 F (all_of place end made_len first middle second after len)
+five_end A B C D E F place end made_len first middle second after len none a b c d e one two three small =
+    e len made_len _ (omega arith) small
+    (d len made_len _ three (omega (arith, small))
+    (c len made_len _ two (omega (arith, small))
+    (b len made_len _ (omega arith) (omega (arith, small))
+    (a len made_len 0 one (omega (arith, small)) (none_follow len made_len A none)))))
+
+-- the pieces of a file with its movie box in front follow each other
+pub front_follow : (A B C D E F : List Piece) (one other : TopBox) (made_len first middle second after len : ℕ)
+    → first ≡ min one.place other.place → middle ≡ min one.end other.end → second ≡ max one.place other.place
+    → after ≡ max one.end other.end → A ≡ [] → Pushes A B Kept one.place one.end → Pushes B C Made 0 made_len
+    → Pushes C D Kept 0 first → Pushes D E Kept middle second → Pushes E F Kept after len → AreApart len one other
+    → len < 2 ^ 63 → made_len ≤ 2 * (other.end - other.place)
+    → (end : ℕ) × ((end < 2 ^ 64) × Follow len made_len 0 F end)
+front_follow A B C D E F one other made_len first middle second after len is_first is_middle is_second is_after none a b
+    c d e boxes small twice =
+    let few = few_bytes one other made_len first middle second after len is_first is_middle is_second is_after boxes
+    small twice in (
+      all_of one.place one.end made_len first middle second after len,
+      (
+        few,
+        five_end A B C D E F one.place one.end made_len first middle second after len none a b c d e boxes.within
+            (omega (arith, is_first, boxes.first, boxes.within))
+            (omega (arith, is_second, boxes.first, boxes.within, boxes.second, boxes.also)) few,
+      ),
+    )
 
 -- a file whose movie box comes before its data is written as it is
 pub writes_as_it_is : (known had has : Option (List ℕ)) (r : Result (Unit {0}) RemuxError)

@@ -1,7 +1,7 @@
 -- Headers that were looked at, one after the other.
-use Rattle.std.proofs.Common.{◌≡◌, ◌∙◌, ℕ, suc, ◌+◌, ◌≤◌, ◌<◌, List, [], ◌∷◌, length, drop, Option, None, Some, Ok}
-use Rattle.std.proofs.Common.{Err, option_map, refl, sym, ap, arith, max, Bool, true, false, ◌==◌}
-use Rattle.std.proofs.lemmas.Bool.{eqb-true}
+use Rattle.std.proofs.Common.{◌≡◌, ◌∙◌, ◌⊎◌, inl, inr, ℕ, suc, ◌+◌, ◌*◌, ◌≤◌, ◌<◌, List, [], ◌∷◌, length, drop, Option, None, Some, Ok}
+use Rattle.std.proofs.Common.{Err, option_map, refl, sym, ap, subst, arith, max, Bool, true, false, ◌==◌}
+use Rattle.std.proofs.lemmas.Bool.{cases_lt, eqb-false, eqb-true}
 use Rattle.std.specs.Prelude.{slice_get, slice_index_or}
 use Rattle.mp4_codec.specs.Cause.{Cause, trak_not_found}
 use Rattle.mp4_leaf.specs.declared.elst.ElstEntry.{ElstEntry}
@@ -16,6 +16,7 @@ use Rattle.mp4_remux.specs.declared.made.Made.TheVariants.{Offsets, Tracks, Tabl
 use Rattle.mp4_remux.specs.Headers.{DurationsOf, IsAsLong, IsShownUntil, IsTrackTime, KeepsTrack, edits_time, longest}
 use Rattle.mp4_remux.specs.Headers.{IsEditAt, IsRoundedUp, IsTimeOf, edit_like}
 use Rattle.mp4_remux.proofs.Numbered.{at_index, drop_next, drop_all}
+use Rattle.mp4_remux.proofs.Sameness.{got}
 
 -- EDITS
 
@@ -36,6 +37,18 @@ pub time_more : (es : List ElstEntry) (i time next : ℕ) (d : ElstEntry) → i 
 time_more es i time next d lt upto is =
     omega (arith, upto, is, times_from es i (i + 1) d lt (omega arith))
 
+-- those that are left are as long as the next one, or longer
+pub time_past : (es : List ElstEntry) (i time most : ℕ) (d : ElstEntry) → i < length es
+    → time + edits_time (drop i es) ≡ edits_time es → (time + (slice_index_or es i d).segment_duration < most → ⊥)
+    → most ≤ edits_time es
+time_past es i time most d lt upto past =
+    by (cases_lt (time + (slice_index_or es i d).segment_duration) most)
+  where
+    by : (time + (slice_index_or es i d).segment_duration < most)
+        ⊎ (most ≤ time + (slice_index_or es i d).segment_duration) → most ≤ edits_time es
+    by (inl less) = absurd (past less)
+    by (inr more) = omega (arith, upto, more, times_from es i (i + 1) d lt (omega arith))
+
 -- all edits
 pub time_of_all : (es : List ElstEntry) (i time : ℕ) → length es ≤ i
     → time + edits_time (drop i es) ≡ edits_time es → time ≡ edits_time es
@@ -52,6 +65,28 @@ pub time_with : (t : TrakBox) (clock : ℕ) (es : List ElstEntry) → (length es
     → t.tkhd.duration ≡ edits_time es → IsTimeOf t clock es
 time_with t clock [] some is = absurd (some refl)
 time_with t clock (e ∷ es) some is = is
+
+-- the same of what its header says
+pub without_time : (t : TrakBox) (clock : ℕ) (es : List ElstEntry) → length es ≡ 0 → IsTimeOf t clock es
+    → IsRoundedUp t.mdia.mdhd.duration t.mdia.mdhd.timescale clock t.tkhd.duration
+without_time t clock [] none is = is
+without_time t clock (e ∷ es) none is = absurd (omega (arith, none))
+
+pub with_time : (t : TrakBox) (clock : ℕ) (es : List ElstEntry) → (length es ≡ 0 → ⊥) → IsTimeOf t clock es
+    → t.tkhd.duration ≡ edits_time es
+with_time t clock [] some is = absurd (some refl)
+with_time t clock (e ∷ es) some is = is
+
+-- a clock without ticks
+pub no_clock : (duration clock other shown : ℕ) → clock ≡ 0 → IsRoundedUp duration clock other shown → shown ≡ 0
+no_clock duration clock other shown none (inl is) = is.1
+no_clock duration clock other shown none (inr is) = absurd (omega (arith, none, is.0, is.1))
+
+-- and one with ticks
+pub some_clock : (duration clock other shown : ℕ) → (clock ≡ 0 → ⊥) → IsRoundedUp duration clock other shown
+    → (duration * other ≤ shown * clock) × (shown * clock < duration * other + clock)
+some_clock duration clock other shown some (inl is) = absurd (some is.0)
+some_clock duration clock other shown some (inr is) = is
 
 -- THE LONGEST TRACK
 
@@ -95,6 +130,19 @@ edit_at was is i d e lt like same = record {
     by true last before = absurd (omega (arith, eqb-true (i + 1) (length was) last, before))
     by false other before = other
 
+-- an edit that isn't as it was, at its number
+pub edit_is : (was is : List ElstEntry) (i : ℕ) (d e : ElstEntry) → i < length was
+    → IsEditAt was i (slice_index_or is i e)
+    → (slice_index_or is i e ≡ edit_like (slice_index_or was i d) (slice_index_or is i e))
+    × ((i + 1 == length was) ≡ false → slice_index_or is i e ≡ slice_index_or was i d)
+edit_is was is i d e lt at =
+    let edit : at.edit ≡ slice_index_or was i d = sym (got was i at.edit d at.there) in (
+      at.like ∙ ap (λ x. edit_like x (slice_index_or is i e)) edit,
+      λ before.
+          let last = eqb-false (i + 1) (length was) before in
+          at.same (omega (arith, lt, last)) ∙ edit,
+    )
+
 -- a track that was found
 found : {T : Type 0} (id : ℕ) (o : Option T) (t : T) → track_or id o ≡ Ok t → o ≡ Some t
 found id None t is = absurd cc
@@ -132,6 +180,27 @@ keeps_more m are t was is keeps = (
     keeps,
   ),
 )
+
+-- what is kept of a track is kept of the one that was found
+pub kept_there : (m : Movie) (are : AreTracks m.moov m.moofs m.moof_places m.tracks) (t : TrakBox) (was : Mp4Track)
+    → needed_track m.tracks t.tkhd.track_id ≡ Ok was
+    → (o : OpenedTrack) × ((track_at m.moov m.moofs m.moof_places t.tkhd.track_id ≡ Some o) × KeepsTrack o.trak t)
+    → KeepsTrack was.trak t
+kept_there m are t was is kept =
+    let there = sym (are t.tkhd.track_id)
+    ∙ ap (λ (o : Option Mp4Track). option_map opened_track o)
+    (found t.tkhd.track_id (at_id m.tracks t.tkhd.track_id) was is) in
+    subst (λ (o : OpenedTrack). KeepsTrack o.trak t) (same kept.0 (opened_track was) (sym kept.1.0 ∙ there)) kept.1.1
+  where
+    same : (o p : OpenedTrack) → Some o ≡ Some p → o ≡ p
+    same o p e = cc
+
+-- and of none where none was found
+pub none_kept : (m : Movie) (are : AreTracks m.moov m.moofs m.moof_places m.tracks) (t : TrakBox) (c : Cause)
+    → needed_track m.tracks t.tkhd.track_id ≡ Err c
+    → (o : OpenedTrack) × ((track_at m.moov m.moofs m.moof_places t.tkhd.track_id ≡ Some o) × KeepsTrack o.trak t) → ⊥
+none_kept m are t c is kept =
+    let none = sym (track_missing m are t.tkhd.track_id c is).0 ∙ kept.1.0 in absurd cc
 
 -- the durations of what was made
 pub durations_of : (made : Made) (opened : OpenedFile) → ((made ≡ Offsets → ⊥) → IsAsLong opened)

@@ -236,7 +236,7 @@ within_known None bytes end at name place named = tt
 within_known (Some xs) bytes end at name place named = named xs at
 
 -- so is each of the file's boxes
-each_is_there : (xs : List ℕ) (from : ℕ) (boxes : List TopBox) → AreBoxes xs from boxes → (b : TopBox) (i : ℕ)
+pub each_is_there : (xs : List ℕ) (from : ℕ) (boxes : List TopBox) → AreBoxes xs from boxes → (b : TopBox) (i : ℕ)
     → slice_get boxes i ≡ Some b → IsTopBox xs b
 unfolding AreBoxes
 each_is_there xs from [] are b i there = absurd cc

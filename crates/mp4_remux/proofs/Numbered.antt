@@ -3,7 +3,17 @@ use Rattle.std.proofs.Common.{◌≡◌, ℕ, zero, suc, ◌+◌, ◌≤◌, ◌
 use Rattle.std.proofs.Common.{Some, refl, subst, arith}
 use Rattle.std.proofs.lemmas.Bool.{ltb-true, ltb-false}
 use Rattle.std.specs.Prelude.{slice_get, slice_index_or}
-use Rattle.mp4_remux.proofs.Sameness.{got}
+
+-- what is there at a number is what is read there
+pub got : {X : Type 0} (xs : List X) (i : ℕ) (x d : X) → slice_get xs i ≡ Some x → slice_index_or xs i d ≡ x
+got [] i x d e = absurd cc
+got (y ∷ ys) zero x d e = cc
+got (y ∷ ys) (suc i) x d e = got ys i x d e
+
+pub got_within : {X : Type 0} (xs : List X) (i : ℕ) (x : X) → slice_get xs i ≡ Some x → i < length xs
+got_within [] i x e = absurd cc
+got_within (y ∷ ys) zero x e = omega arith
+got_within (y ∷ ys) (suc i) x e = omega (arith, got_within ys i x e)
 
 -- what holds of those that were looked at, and of their numbers, holds of one more
 pub each_numbered_more : {X : Type 0} (xs : List X) (P : X → ℕ → Type 0) (i : ℕ) (d : X)

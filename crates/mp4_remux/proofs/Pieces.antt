@@ -1,7 +1,7 @@
 -- Where the bytes of pieces are in their splice.
 use Rattle.std.proofs.Common.{◌≡◌, ◌∙◌, ℕ, zero, suc, ◌+◌, ◌-◌, ◌<◌, ◌≤◌, List, [], ◌∷◌, ◌++◌, length, take, drop}
 use Rattle.std.proofs.Common.{refl, sym, ap, subst, arith, take-add, take-take, take_all, drop-drop, Bool, true}
-use Rattle.std.proofs.Common.{false, leb, nat_lt}
+use Rattle.std.proofs.Common.{◌^◌, false, leb, nat_lt, slice_get}
 use Rattle.std.proofs.Common.{Option, None, Some, option_map, IfSome}
 use Rattle.std.proofs.lemmas.Bool.{leb-true, leb-false, ltb-true, ltb-false}
 use Rattle.std.proofs.lemmas.List.{length-take, length-drop, length-append, drop-take, take-append-le, drop-append-le}
@@ -16,6 +16,7 @@ use Rattle.mp4_remux.specs.declared.piece.Origin.{Origin}
 use Rattle.mp4_remux.specs.declared.piece.Origin.TheVariants.{Kept, Made}
 use Rattle.mp4_remux.specs.declared.piece.Piece.{Piece}
 use Rattle.mp4_remux.specs.Splice.{of_origin, piece_bytes, spliced, Follow, IsPieceAt}
+use Rattle.mp4_remux.proofs.Numbered.{at_index, drop_next}
 
 -- what a piece is of has so many bytes
 whole_length : (o : Origin) (source made : List ℕ) → length (of_origin o source made)
@@ -113,6 +114,58 @@ follow_more source_len made_len [] p start end f at some within =
     (omega (arith, at, f), (some, (within, omega (arith, f))))
 follow_more source_len made_len (q ∷ qs) p start end f at some within =
     (f.0, (f.1.0, (f.1.1.0, follow_more source_len made_len qs p (start + q.len) end f.1.1.1 at some within)))
+
+-- pieces end where they begin, or later
+pub ends_later : (source_len made_len : ℕ) (ps : List Piece) (start end : ℕ)
+    → Follow source_len made_len start ps end → start ≤ end
+unfolding Follow
+ends_later source_len made_len [] start end f = omega (arith, f)
+ends_later source_len made_len (p ∷ ps) start end f =
+    omega (arith, ends_later source_len made_len ps (start + p.len) end f.1.1.1)
+
+-- the next of some pieces, and those after it
+pub record IsNext (source_len made_len start : ℕ) (p : Piece) (ps : List Piece) (end : ℕ) : Type 0 where
+  pub at : p.at ≡ start
+  pub some : 0 < p.len
+  pub within : p.place + p.len ≤ of_origin p.origin source_len made_len
+  pub rest : Follow source_len made_len (start + p.len) ps end
+
+pub is_next : (source_len made_len : ℕ) (ps : List Piece) (i n start end : ℕ) (d : Piece) → i < length ps → n ≡ suc i
+    → Follow source_len made_len start (drop i ps) end
+    → IsNext source_len made_len start (slice_index_or ps i d) (drop n ps) end
+unfolding Follow
+is_next source_len made_len ps i n start end d lt e f =
+    let g = subst (λ (qs : List Piece). Follow source_len made_len start qs end) (drop_next ps i n d lt e) f in
+    record { at = g.0; some = g.1.0; within = g.1.1.0; rest = g.1.1.1 }
+
+-- no pieces end where they begin
+pub none_end : (source_len made_len : ℕ) (ps : List Piece) (end : ℕ) → slice_get ps (length ps - 1) ≡ None
+    → Follow source_len made_len 0 ps end → end ≡ 0
+unfolding Follow
+none_end source_len made_len [] end none f = omega (arith, f)
+none_end source_len made_len (p ∷ ps) end none f =
+    let there = at_index (p ∷ ps) (length (p ∷ ps) - 1) p (omega arith) in absurd cc
+
+-- the others where the last of them ends
+pub last_end : (source_len made_len : ℕ) (ps : List Piece) (end : ℕ) (p : Piece)
+    → slice_get ps (length ps - 1) ≡ Some p → Follow source_len made_len 0 ps end → p.at + p.len ≡ end
+last_end source_len made_len [] end p is f = absurd cc
+last_end source_len made_len (q ∷ qs) end p is f =
+    let i = length (q ∷ qs) - 1 in
+    let there = at_index (q ∷ qs) i q (omega arith) in
+    let same : slice_index_or (q ∷ qs) i q ≡ p = cc in
+    subst (λ (r : Piece). r.at + r.len ≡ end) same
+    (last_ends source_len made_len (q ∷ qs) 0 end i q f (omega arith))
+
+-- one piece more, after those that end where it begins
+pub pushed : (source_len made_len : ℕ) (ps qs : List Piece) (at place len end stop : ℕ) (origin : Origin)
+    (small : place + len < 2 ^ 64)
+    → qs ≡ ps ++ record { at = at; origin = origin; place = place; len = len; small = small } ∷ []
+    → Follow source_len made_len 0 ps end → at ≡ end → 0 < len → place + len ≤ of_origin origin source_len made_len
+    → stop ≡ end + len → Follow source_len made_len 0 qs stop
+pushed source_len made_len ps qs at place len end stop origin small is f there some within e =
+    rw (is, e) (follow_more source_len made_len ps
+    (record { at = at; origin = origin; place = place; len = len; small = small }) 0 end f there some within)
 
 -- THE BYTES FROM A PLACE ON
 

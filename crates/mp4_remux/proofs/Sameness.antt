@@ -3,6 +3,7 @@ use Rattle.std.proofs.Common.{◌≡◌, ◌∙◌, ℕ, zero, suc, ◌+◌, ◌
 use Rattle.std.proofs.Common.{Option, None, Some, Ok, inl, inr}
 use Rattle.std.proofs.Common.{ℤ, Bool, nat_lt, true, false, option_map, refl, sym, ap, subst, arith}
 use Rattle.std.proofs.lemmas.Bool.{le-ltb, ltb-true, ltb-false}
+use Rattle.std.proofs.lemmas.List.{length-map}
 use Rattle.std.specs.Prelude.{slice_get, slice_index_or}
 use Rattle.mp4_codec.specs.Cause.{◌>>=◌}
 use Rattle.mp4_boxes.specs.declared.trak.TrakBox.{TrakBox}
@@ -21,6 +22,7 @@ use Rattle.mp4_remux.specs.Reads.{count_of, place_in, read_of}
 use Rattle.mp4_remux.specs.Same.{IsSamePlace, IsNumberAsBefore, IsTrackAsBefore}
 use Rattle.mp4_remux.specs.Splice.{spliced, Follow, IsPartOfBoth}
 use Rattle.mp4_remux.proofs.Pieces.{length-spliced}
+pub use Rattle.mp4_remux.proofs.Numbered.{got, got_within}
 
 -- WHAT IS READ OF AN OPENED MOVIE
 
@@ -119,16 +121,26 @@ pub have_ids : {bs : List TrakBox} (traks : List TrakBox) (ids : List ℕ) (n : 
 have_ids {bs} traks ids n is e whole same =
     rw (sym is) (same_ids bs ids e (λ d m i lt. same d m i (omega (arith, lt, whole))))
 
--- what is there at a number is what is read there
-pub got : {X : Type 0} (xs : List X) (i : ℕ) (x d : X) → slice_get xs i ≡ Some x → slice_index_or xs i d ≡ x
-got [] i x d e = absurd cc
-got (y ∷ ys) zero x d e = cc
-got (y ∷ ys) (suc i) x d e = got ys i x d e
+-- boxes that have these ids have as many, and each at its number
+pub as_many_ids : (bs traks : List TrakBox) (ids : List ℕ) → bs ≡ traks
+    → map (λ (t : TrakBox). t.tkhd.track_id) traks ≡ ids → length bs ≡ length ids
+as_many_ids bs traks ids is same =
+    ap (λ (ts : List TrakBox). length ts) is ∙ sym (length-map traks (λ (t : TrakBox). t.tkhd.track_id))
+    ∙ ap (λ (ns : List ℕ). length ns) same
 
-pub got_within : {X : Type 0} (xs : List X) (i : ℕ) (x : X) → slice_get xs i ≡ Some x → i < length xs
-got_within [] i x e = absurd cc
-got_within (y ∷ ys) zero x e = omega arith
-got_within (y ∷ ys) (suc i) x e = omega (arith, got_within ys i x e)
+id_of_map : (bs : List TrakBox) (i : ℕ) (d : TrakBox) (n : ℕ) → i < length bs
+    → (slice_index_or bs i d).tkhd.track_id ≡ slice_index_or (map (λ (t : TrakBox). t.tkhd.track_id) bs) i n
+id_of_map [] i d n lt = absurd (omega (arith, lt))
+id_of_map (b ∷ bs) zero d n lt = refl
+id_of_map (b ∷ bs) (suc i) d n lt = id_of_map bs i d n (omega (arith, lt))
+
+pub same_id : (bs traks : List TrakBox) (ids : List ℕ) (i : ℕ) (d : TrakBox) (n : ℕ) → bs ≡ traks
+    → map (λ (t : TrakBox). t.tkhd.track_id) traks ≡ ids → i < length bs
+    → (slice_index_or bs i d).tkhd.track_id ≡ slice_index_or ids i n
+same_id bs traks ids i d n is same lt =
+    id_of_map bs i d n lt
+    ∙ ap (λ (ts : List TrakBox). slice_index_or (map (λ (t : TrakBox). t.tkhd.track_id) ts) i n) is
+    ∙ ap (λ (ns : List ℕ). slice_index_or ns i n) same
 
 -- A TRACK
 

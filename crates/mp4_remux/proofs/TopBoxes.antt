@@ -76,13 +76,13 @@ ok_or_err : (r : Result (BoxHeader × Cursor) Cause) (x : BoxHeader × Cursor) (
 ok_or_err r x c is isnt = absurd cc
 
 -- no header has room
-none_past : (xs : List ℕ) (place : ℕ) → length xs < place + 8 → (x : BoxHeader × Cursor)
+pub none_past : (xs : List ℕ) (place : ℕ) → length xs < place + 8 → (x : BoxHeader × Cursor)
     → header_at (here xs place) ≡ Ok x → ⊥
 none_past xs place past x is =
     ok_or_err (header_at (here xs place)) x _ is
     (says_cut_short (here xs place) (omega (arith, length-drop place xs, past)))
 
-same_boxes : (xs : List ℕ) (place : ℕ) (bs cs : List TopBox) → AreBoxes xs place bs → AreBoxes xs place cs → bs ≡ cs
+pub same_boxes : (xs : List ℕ) (place : ℕ) (bs cs : List TopBox) → AreBoxes xs place bs → AreBoxes xs place cs → bs ≡ cs
 unfolding AreBoxes
 same_boxes xs place [] [] are also = refl
 same_boxes xs place [] (c ∷ cs) past (there, (top, after)) =

@@ -1,6 +1,6 @@
 -- A file with its movie box in front: every byte outside of that box is there, in its order (ISO/IEC 14496-12, 6.2.3).
 use Rattle.std.specs.Prelude.{◌≡◌, ◌+◌, ◌-◌, ◌≤◌, ◌<◌, ◌==◌, ◌++◌, ℕ, if◌then◌else◌, List, [], ◌∷◌, length, min, max}
-use Rattle.std.specs.Prelude.{Option, Some, IfSome, Ok, slice_get}
+use Rattle.std.specs.Prelude.{◌⊎◌, Option, Some, IfSome, Ok, slice_get}
 use Rattle.mp4_codec.specs.declared.box_type.BoxType.{BoxType}
 use Rattle.mp4_codec.specs.declared.box_type.BoxType.TheVariants.{FtypBox as ftyp, MoovBox as moov, MdatBox as mdat}
 use Rattle.mp4_codec.specs.declared.header.BoxHeader.{BoxHeader}
@@ -35,6 +35,25 @@ pub record IsTopBox (bytes : List ℕ) (b : TopBox) : Type 0 where
 unfoldable pub AreBoxes : List ℕ → ℕ → List TopBox → Type 0
 AreBoxes bytes place [] = length bytes < place + 8
 AreBoxes bytes place (b ∷ bs) = (b.place ≡ place) × (IsTopBox bytes b × AreBoxes bytes b.end bs)
+
+-- a box of this type is the only one of these
+pub record IsOnly (boxes : List TopBox) (name : BoxType) (b : TopBox) : Type 0 where
+  pub i : ℕ
+  pub there : slice_get boxes i ≡ Some b
+  pub has_name : b.name ≡ name
+  pub only : (c : TopBox) (j : ℕ) → slice_get boxes j ≡ Some c → c.name ≡ name → j ≡ i
+
+-- none of these boxes has this type
+abbrev pub HasNone : List TopBox → BoxType → Type 0
+HasNone boxes name = (c : TopBox) (j : ℕ) → slice_get boxes j ≡ Some c → c.name ≡ name → ⊥
+
+-- two boxes are within so many bytes, one after the other
+pub record AreApart (len : ℕ) (one other : TopBox) : Type 0 where
+  pub first : one.place ≤ one.end
+  pub within : one.end ≤ len
+  pub second : other.place ≤ other.end
+  pub also : other.end ≤ len
+  pub apart : (one.end ≤ other.place) ⊎ (other.end ≤ one.place)
 
 -- no movie box comes after data
 abbrev pub NoMovieAfterData : List TopBox → Type 0

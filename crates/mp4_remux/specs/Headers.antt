@@ -1,5 +1,5 @@
 -- What the headers of a movie say that was rewritten: how long it and its tracks are, and all else as before.
-use Rattle.std.specs.Prelude.{◌≡◌, ◌+◌, ◌-◌, ◌*◌, ◌^◌, ◌≤◌, ◌<◌, ◌⊎◌, ⊤, ℕ, pos, if◌then◌else◌, max}
+use Rattle.std.specs.Prelude.{◌≡◌, ◌+◌, ◌-◌, ◌*◌, ◌^◌, ◌≤◌, ◌<◌, ◌⊎◌, ⊤, ℕ, ℤ, pos, if◌then◌else◌, max}
 use Rattle.std.specs.Prelude.{int_lt, unsigned_abs, List, [], ◌∷◌, length, Option, None, Some, IfSome, IsSome, Ok}
 use Rattle.std.specs.Prelude.{slice_get}
 use Rattle.mp4_leaf.specs.declared.elst.ElstBox.{ElstBox}
@@ -23,12 +23,15 @@ use Rattle.mp4_remux.specs.Reads.{count_of, place_in}
 
 -- HOW LONG THE MEDIA OF A TRACK ARE (ISO/IEC 14496-12, 8.4.2.3)
 
--- when a sample has been shown: it is shown by its offset later, or earlier, than it is decoded, for its duration
--- (8.6.1)
+-- when a sample has been shown that is decoded at this time: it is shown by its offset later, or earlier, for its
+-- duration (8.6.1)
+abbrev pub shown_at : ℕ → ℕ → ℤ → ℕ
+shown_at decoded duration offset =
+    if int_lt offset (pos 0) then decoded + duration - unsigned_abs offset
+    else decoded + duration + unsigned_abs offset
+
 abbrev pub shown_end : Place → ℕ
-shown_end p =
-    if int_lt p.rendering_offset (pos 0) then p.start_time + p.duration - unsigned_abs p.rendering_offset
-    else p.start_time + p.duration + unsigned_abs p.rendering_offset
+shown_end p = shown_at p.start_time p.duration p.rendering_offset
 
 -- sample k has been shown at this time
 pub record HasShown (opened : OpenedFile) (id k end : ℕ) : Type 0 where
@@ -36,12 +39,17 @@ pub record HasShown (opened : OpenedFile) (id k end : ℕ) : Type 0 where
   pub there : place_in opened id k ≡ Ok (Some place)
   pub shown : shown_end place ≡ end
 
+-- a track says that it has no samples, and none is found at the first number
+abbrev pub HasNoSamples : OpenedFile → ℕ → Type 0
+HasNoSamples opened id =
+    (count_of opened id ≡ Ok 0) × ((first : Place) → place_in opened id 1 ≡ Ok (Some first) → ⊥)
+
 -- All samples of a track have been shown at this time, and one of them not before, where there are any.
 pub record IsShownUntil (opened : OpenedFile) (id end : ℕ) : Type 0 where
   pub count : ℕ
   pub all : (k : ℕ) → 1 ≤ k → k ≤ count → (shown : ℕ) × (HasShown opened id k shown × (shown ≤ end))
   pub one : (end ≡ 0) ⊎ ((k : ℕ) × ((1 ≤ k) × ((k ≤ count) × HasShown opened id k end)))
-  pub none : ((count ≡ 0) × (count_of opened id ≡ Ok 0)) ⊎ (place_in opened id (count + 1) ≡ Ok None)
+  pub none : ((count ≡ 0) × HasNoSamples opened id) ⊎ (place_in opened id (count + 1) ≡ Ok None)
 
 -- HOW LONG A TRACK IS (8.3.2.3 and 8.6.6)
 

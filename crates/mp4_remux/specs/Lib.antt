@@ -1,4 +1,5 @@
 pub mod Alike
+pub mod Caused
 pub mod Edited
 pub mod Errors
 pub mod Front
@@ -7,8 +8,10 @@ pub mod Headers
 pub mod Kept
 pub mod Moved
 pub mod Named
+pub mod PlannedFront
 pub mod Reads
 pub mod References
+pub mod Refused
 pub mod Remuxed
 pub mod Same
 pub mod Splice

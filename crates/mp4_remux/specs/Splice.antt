@@ -1,5 +1,6 @@
 -- The bytes of a source in pieces, with others between them.
-use Rattle.std.specs.Prelude.{◌≡◌, ◌+◌, ◌≤◌, ◌<◌, ℕ, List, [], ◌∷◌, length, take, drop}
+use Rattle.std.specs.Prelude.{◌≡◌, ◌+◌, ◌≤◌, ◌<◌, ◌⊎◌, ℕ, List, [], ◌∷◌, length, take, drop}
+use Rattle.std.specs.Prelude.{Some, slice_get}
 use Rattle.std.specs.List.{flat_map}
 use Rattle.std.proofs.Props.{props}
 use mathlib.Core.HLevel.{×_prop}
@@ -44,6 +45,23 @@ pub record IsPartOfBoth (source_len len : ℕ) (made : List ℕ) (pieces : List 
   pub within : origin + n ≤ source_len
   pub bytes : (source : List ℕ) → length source ≡ source_len
       → take n (drop place (spliced source made pieces)) ≡ take n (drop origin source)
+
+-- n bytes of a splice from a place on are in one piece of the file, whose bytes they are from another place on
+pub record AreInPiece (pieces : List Piece) (place origin n : ℕ) : Type 0 where
+  pub piece : Piece
+  pub number : ℕ
+  pub is : slice_get pieces number ≡ Some piece
+  pub kept : piece.origin ≡ Kept
+  pub begins : piece.at ≤ place
+  pub ends : place + n ≤ piece.at + piece.len
+  pub from : piece.place + place ≡ origin + piece.at
+
+-- The n bytes of the file from a place on, its origin, are there, and so are those of the splice from another on; and
+-- they are the same, as one piece of the file has them, where they are any.
+pub record IsMovedTo (pieces : List Piece) (source_len len place origin n : ℕ) : Type 0 where
+  pub there : place + n ≤ len
+  pub within : origin + n ≤ source_len
+  pub moved : (n ≡ 0) ⊎ AreInPiece pieces place origin n
 
 pub Follow-prop : (source_len made_len start : ℕ) (pieces : List Piece) (end : ℕ)
     → IsProp (Follow source_len made_len start pieces end)

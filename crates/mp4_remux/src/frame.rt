@@ -1,11 +1,13 @@
 //! The boxes of a file that is rewritten.
 
-ghost use Rattle.std.specs.Prelude.{◌≡◌, IfSome, IfErr, IfOk};
+ghost use Rattle.std.specs.Prelude.{◌≡◌, ◌⊎◌, IfSome, IfErr, IfNone, IfOk};
+ghost use Rattle.mp4_codec.specs.declared.error.Error.TheVariants.{OutOfMemory, EndOfData};
 ghost use Rattle.mp4_source.specs.Answers.{IsLength};
 ghost use Rattle.mp4_remux.specs.Errors.{IsRefusalOf, MayRefuse};
 ghost use Rattle.mp4_remux.specs.Named.{AreTwo, EndsAt, NamesBox, NamesBy, SaysTwice};
 ghost use Rattle.mp4_media.specs.FileGrammar.{between};
-ghost use Rattle.mp4_remux.specs.Front.{AreBoxes, IsBoxOf};
+ghost use Rattle.mp4_remux.specs.Caused.{CausedBy, CausedByMemory, CausedByNone};
+ghost use Rattle.mp4_remux.specs.Front.{AreBoxes, HasNone, IsBoxOf, IsOnly, IsTopBox};
 ghost use Rattle.mp4_remux.specs.Gathered.{IsFrameOf};
 
 use crate::error::RemuxError;
@@ -21,6 +23,9 @@ use std::alloc::{AllocError, Global};
 pub(crate) fn only_box(boxes: &[TopBox], name: BoxType) -> Result<Option<TopBox>, RemuxError>
     ensures names { IfErr result (SaysTwice (λ n. (n ≡ name) × AreTwo boxes.now n)) }
     ensures refused { IfErr result (IsRefusalOf ⊥ ⊥) }
+    ensures cause { IfErr result CausedByNone }
+    ensures only { IfOk result (λ found. IfSome found (IsOnly boxes.now name)) }
+    ensures none { IfOk result (λ found. IfNone found (HasNone boxes.now name)) }
 {
     let mut found: Option<TopBox> = None;
     for i in 0..boxes.len() {
@@ -46,6 +51,8 @@ pub(crate) fn check_header<S: ByteSource + Drop>(
 ) -> Result<S, RemuxError>
     requires { IsLength (S.contents source) len }
     ensures header { IfOk result (λ _. IfSome (S.contents source) (λ xs. IsBoxOf xs name one)) }
+    ensures cause { IfErr result (λ e. IfSome (S.contents source) (λ xs. IsTopBox xs one → one.name ≡ name
+        → CausedBy (λ error. (error ≡ OutOfMemory) ⊎ ((error ≡ EndOfData) × (IsBoxOf xs name one → ⊥))) ⊥ e)) }
     ensures names { IfErr result (NamesBy (λ _ _. ⊥)) }
     ensures contents { IfOk result (λ s. S.contents s ≡ S.contents source) }
     ensures can_refuse { IfOk result (λ s. S.can_refuse s ≡ S.can_refuse source) }
@@ -74,6 +81,7 @@ pub(crate) fn bytes_of<S: ByteSource>(
     ensures bytes { IfOk result (λ bytes. IfSome (S.contents source.old) (λ xs.
         bytes.items ≡ between xs one.place one.end)) }
     ensures ends { IfOk result (λ bytes. IfSome (S.contents source.old) (λ xs. EndsAt xs bytes.items one.end)) }
+    ensures cause { IfErr result (λ e. IfSome (S.contents source.old) (λ xs. IsTopBox xs one → CausedByMemory e)) }
     ensures names { IfErr result (NamesBy (λ _ _. ⊥)) }
     ensures contents { S.contents source.new ≡ S.contents source.old }
     ensures can_refuse { S.can_refuse source.new ≡ S.can_refuse source.old }
@@ -98,6 +106,7 @@ pub(crate) fn checked_bytes<S: ByteSource>(
 ) -> Result<Vec<u8>, RemuxError>
     requires { IsLength (S.contents source.old) len }
     ensures names { IfErr result (NamesBox (S.contents source.old)) }
+    ensures cause { IfErr result (λ e. IfSome (S.contents source.old) (λ xs. IsTopBox xs one → CausedByMemory e)) }
     ensures bytes { IfOk result (λ bytes. IfSome (S.contents source.old) (λ xs.
         bytes.items ≡ between xs one.place one.end)) }
     ensures contents { S.contents source.new ≡ S.contents source.old }
@@ -118,6 +127,8 @@ pub(crate) fn check_metadata<S: ByteSource>(
 ) -> Result<(), RemuxError>
     requires { IsLength (S.contents source.old) len }
     ensures names { IfErr result (NamesBox (S.contents source.old)) }
+    ensures cause { IfErr result (λ e. IfSome (S.contents source.old) (λ xs. AreBoxes xs 0 boxes.now
+        → CausedByMemory e)) }
     ensures contents { S.contents source.new ≡ S.contents source.old }
     ensures can_refuse { S.can_refuse source.new ≡ S.can_refuse source.old }
     ensures refused { IfErr result (IsRefusalOf (MayRefuse (S.contents source.old) (S.can_refuse source.old)) ⊥) }

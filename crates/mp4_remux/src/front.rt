@@ -1,23 +1,26 @@
 //! The movie box moved to the front.
 
-ghost use Rattle.std.specs.Prelude.{◌≡◌, ◌≤◌, ◌++◌, ℕ, List, length, IfSome, IfErr, IfNone, IfOk, OnOk, IsFalse};
-ghost use Rattle.std.specs.Prelude.{IsTrue, []};
+ghost use Rattle.std.specs.Prelude.{◌≡◌, ◌≤◌, ◌<◌, ◌+◌, ◌-◌, ◌*◌, ◌^◌, ◌++◌, ℕ, List, length, IfSome, IfErr, IfNone};
+ghost use Rattle.std.specs.Prelude.{IfOk, OnOk, IsFalse, IsTrue, []};
+ghost use Rattle.mp4_codec.specs.declared.box_type.BoxType.TheVariants.{FtypBox, MoovBox};
 ghost use Rattle.mp4_source.specs.Answers.{IsLength};
 ghost use Rattle.mp4_remux.specs.Errors.{IsNamed, IsRefusalOf, MayRefuse, SaysFault, TakesMemory};
-ghost use Rattle.mp4_media.specs.FileGrammar.{between};
-ghost use Rattle.mp4_remux.specs.Front.{AreBoxes, HasToMove, in_front, IsMoved, IsMovieFirst, IsMovieLater};
-ghost use Rattle.mp4_remux.specs.Front.{NoMovieAfterData, WritesFront};
-ghost use Rattle.mp4_remux.specs.Kept.{IsKept, offsets};
+ghost use Rattle.mp4_codec.specs.Cursor.{here};
+ghost use Rattle.mp4_media.specs.FileBoxes.{OpenedFile};
+ghost use Rattle.mp4_media.specs.FileGrammar.{IsFile, between};
+ghost use Rattle.mp4_remux.specs.Front.{AreApart, AreBoxes, HasToMove, in_front, IsMovieFirst, IsMovieLater};
+ghost use Rattle.mp4_remux.specs.Front.{IsOnly, NoMovieAfterData, WritesFront};
+ghost use Rattle.mp4_remux.specs.Moved.{IsMovedAt, IsUpToTwice, IsWhyNotMoved, place_in_front};
 ghost use Rattle.mp4_remux.specs.Named.{NamesBox};
-ghost use Rattle.mp4_remux.specs.Splice.{of_origin, spliced};
+ghost use Rattle.mp4_remux.specs.PlannedFront.{IsInFront, IsWhyNotInFront, IsWhyNotPlanned};
+ghost use Rattle.mp4_remux.specs.Splice.{Follow, of_origin, spliced};
 
 use crate::chosen::all_ids;
 use crate::copy::copy_all;
 use crate::error::RemuxError;
 use crate::frame::{check_header, check_metadata, checked_bytes, only_box};
-use crate::kept::is_kept;
 use crate::layout::Layout;
-use crate::made::{Made, OFFSETS};
+use crate::made::Made;
 use crate::moves::Moves;
 use crate::movie_box::{MovieEdit, edited};
 use crate::piece::{Origin, Piece};
@@ -25,7 +28,7 @@ use crate::piece_list::push_piece;
 use crate::rewrite::{open_source, write_layout};
 use crate::segment_index::check_moved;
 use crate::top_level::{TopBox, top_boxes};
-use mp4_codec::{BoxType, Error, Limit};
+use mp4_codec::{BoxType, Error};
 use mp4_source::{ByteSink, ByteSource};
 use std::alloc::{AllocError, Global};
 
@@ -58,6 +61,9 @@ fn front_pieces(
 ) -> Result<Vec<Piece>, AllocError>
     ensures bytes { IfOk result (λ ps. (source made : List ℕ) → length source ≡ len → length made ≡ movie_len
         → spliced source made ps.items ≡ in_front source file_type movie made) }
+    ensures follow { IfOk result (λ ps. AreApart len file_type movie → len < 2 ^ 63
+        → movie_len ≤ 2 * (movie.end - movie.place)
+        → (end : ℕ) × ((end < 2 ^ 64) × Follow len movie_len 0 ps.items end)) }
 {
     let mut pieces = Vec::new(alloc);
     let first = file_type.place.min(movie.place);
@@ -72,23 +78,22 @@ fn front_pieces(
     Ok(pieces)
 }
 
-/// The bytes of a movie box, as they are when it is in front, and the pieces of that file. Its chunk offsets are those
-/// of where the data is then, which depends on the length of the box: a table that becomes `co64` makes it longer.
-fn plan_front(
+/// The bytes of a movie box as they are when it is in front. Its chunk offsets are those of where the data is then,
+/// which depends on the length of the box: a table that becomes `co64` makes it longer.
+fn movie_in_front(
     alloc: Global,
     movie_bytes: &[u8],
     file_type: TopBox,
     movie: TopBox,
-    len: u64,
-    tries: usize,
-) -> Result<(Vec<u8>, Vec<Piece>), Error>
-    ensures bytes { IfOk result (λ x. (source : List ℕ) → length source ≡ len
-        → spliced source x.0.items x.1.items ≡ in_front source file_type movie x.0.items) }
+) -> Result<Vec<u8>, Error>
+    ensures moved { IfOk result (λ made. IsMovedAt (place_in_front file_type movie (length made.items)) 0
+        movie_bytes.now made.items) }
+    ensures len { IfOk result (λ made. IsUpToTwice movie_bytes.now made.items) }
+    ensures refused { IfErr result (IsWhyNotMoved movie_bytes.now) }
 {
     let edit = MovieEdit::of_offsets(alloc);
     let mut movie_len = movie_bytes.len() as u64;
-    for _ in 0..tries {
-        let pieces = front_pieces(alloc, file_type, movie, movie_len, len)?;
+    loop {
         let moves = Moves::Front {
             file_type,
             movie,
@@ -96,14 +101,13 @@ fn plan_front(
         };
         let made = edited(alloc, movie_bytes, &edit, &moves)?;
         if made.len() as u64 == movie_len {
-            return Ok((made, pieces));
+            return Ok(made);
         }
         movie_len = made.len() as u64;
     }
-    Err(Error::TooLarge(Limit::BoxSize))
 }
 
-/// The source, and the layout of its file with the movie box in front, of a movie with so many tracks.
+/// The source, and the layout of its file with the movie box in front, of which these are all boxes.
 fn plan_moved<S: ByteSource + Drop>(
     alloc: Global,
     source: S,
@@ -111,16 +115,18 @@ fn plan_moved<S: ByteSource + Drop>(
     boxes: &[TopBox],
     file_type: TopBox,
     movie: TopBox,
-    tracks: usize,
 ) -> Result<(S, Layout), RemuxError>
     requires len { IsLength (S.contents source) len }
     requires boxes { IfSome (S.contents source) (λ xs. AreBoxes xs 0 boxes.now) }
+    requires file_type { IsOnly boxes.now FtypBox file_type }
+    requires movie { IsOnly boxes.now MoovBox movie }
     ensures names { IfErr result (NamesBox (S.contents source)) }
     ensures contents { IfOk result (λ x. S.contents x.0 ≡ S.contents source) }
     ensures can_refuse { IfOk result (λ x. S.can_refuse x.0 ≡ S.can_refuse source) }
     ensures source_len { IfOk result (λ x. x.1.source_len ≡ len) }
-    ensures front { IfOk result (λ x. IfSome (S.contents source) (λ xs.
-        IsMoved xs (spliced xs x.1.made.items x.1.pieces.items))) }
+    ensures planned { IfOk result (λ x. IfSome (S.contents source) (λ xs.
+        IsInFront xs x.1.made.items x.1.pieces.items)) }
+    ensures why { IfErr result (λ e. IfSome (S.contents source) (λ xs. IsWhyNotPlanned xs boxes.now e)) }
     ensures refused { IfErr result (IsRefusalOf (MayRefuse (S.contents source) (S.can_refuse source)) ⊥) }
 {
     let source = check_header(alloc, source, len, BoxType::FtypBox, file_type)?;
@@ -128,32 +134,29 @@ fn plan_moved<S: ByteSource + Drop>(
     check_moved(alloc, &mut source, len, boxes, &[file_type, movie])?;
     check_metadata(alloc, &mut source, len, boxes)?;
     let bytes = checked_bytes(alloc, &mut source, len, movie, false)?;
-    let tries = tracks.saturating_add(2);
-    let (made, pieces) = plan_front(alloc, &bytes, file_type, movie, len, tries)?;
-    if !is_kept(&bytes, &made, &OFFSETS, &[], 0) {
-        return Err(RemuxError::OtherTracks);
-    }
+    let made = movie_in_front(alloc, &bytes, file_type, movie)?;
+    let pieces = front_pieces(alloc, file_type, movie, made.len() as u64, len)?;
     let Some(layout) = Layout::new(len, made, pieces) else {
         return Err(RemuxError::OtherTracks);
     };
     Ok((source, layout))
 }
 
-/// The source, and the layout that is to be written of its file, of a movie with so many tracks; none where that is the
-/// file as it is.
+/// The source, and the layout that is to be written of its file; none where that is the file as it is.
 fn plan<S: ByteSource + Drop>(
     alloc: Global,
     source: S,
     len: u64,
-    tracks: usize,
 ) -> Result<(S, Option<Layout>), RemuxError>
     requires { IsLength (S.contents source) len }
     ensures contents { IfOk result (λ x. S.contents x.0 ≡ S.contents source) }
     ensures can_refuse { IfOk result (λ x. S.can_refuse x.0 ≡ S.can_refuse source) }
     ensures source_len { IfOk result (λ x. IfSome x.1 (λ l. l.source_len ≡ len)) }
     ensures first { IfOk result (λ x. IfNone x.1 (IfSome (S.contents source) IsMovieFirst)) }
-    ensures moved { IfOk result (λ x. IfSome x.1 (λ l. IfSome (S.contents source) (λ xs.
-        IsMoved xs (spliced xs l.made.items l.pieces.items)))) }
+    ensures planned { IfOk result (λ x. IfSome x.1 (λ l. IfSome (S.contents source) (λ xs.
+        IsInFront xs l.made.items l.pieces.items))) }
+    ensures why { IfErr result (λ e. IfSome (S.contents source) (λ xs. (boxes : List TopBox) → AreBoxes xs 0 boxes
+        → IsWhyNotPlanned xs boxes e)) }
     ensures refused { IfErr result (IsRefusalOf (MayRefuse (S.contents source) (S.can_refuse source)) ⊥) }
     ensures named { IfErr result (λ e. IsNamed e → IsMovieLater (S.contents source)) }
     ensures names { IfErr result (NamesBox (S.contents source)) }
@@ -168,7 +171,7 @@ fn plan<S: ByteSource + Drop>(
     let (Some(file_type), Some(movie)) = (file_type, movie) else {
         return Err(RemuxError::OtherTracks);
     };
-    let (source, layout) = plan_moved(alloc, source, len, &boxes, file_type, movie, tracks)?;
+    let (source, layout) = plan_moved(alloc, source, len, &boxes, file_type, movie)?;
     Ok((source, Some(layout)))
 }
 
@@ -209,9 +212,11 @@ pub fn move_to_front<S: ByteSource + Drop, K: ByteSink>(
     ensures as_it_is { IfErr result (λ e. IsNamed e → HasToMove (S.contents source)) }
     ensures names { IfErr result (NamesBox (S.contents source)) }
     ensures memory { TakesMemory (S.contents source) result }
+    ensures why { IfErr result (λ e. IfSome (S.contents source) (λ xs. (opened : OpenedFile)
+        → IsFile (length xs) (here xs 0) opened → IsWhyNotInFront xs opened e)) }
 {
     let (source, len, before) = open_source(alloc, source)?;
-    let (source, layout) = plan(alloc, source, len, before.moov.traks.len())?;
+    let (source, layout) = plan(alloc, source, len)?;
     let Some(layout) = layout else {
         let mut source = source;
         return copy_all(alloc, &mut source, len, sink);

@@ -1,10 +1,10 @@
 //! The headers of a movie that was made, beside those that it had.
 
-ghost use Rattle.std.specs.Prelude.{◌≡◌, ℕ, IsTrue, IsFalse, IfSome, Some, slice_get};
+ghost use Rattle.std.specs.Prelude.{◌≡◌, ◌↔◌, ◌≤◌, ◌^◌, ℕ, IsTrue, IsFalse, IfNone, IfSome, Some, slice_get};
 ghost use Rattle.mp4_boxes.specs.declared.trak.TrakBox.{TrakBox};
 ghost use Rattle.mp4_media.specs.FileBoxes.{opened_movie};
 ghost use Rattle.mp4_media.specs.MovieTracks.{AreTracks};
-ghost use Rattle.mp4_remux.specs.Headers.{HasFarChunk, IsAsLong, IsNarrow, IsRoundedUp, IsTrackTime, KeepsHeaders};
+ghost use Rattle.mp4_remux.specs.Headers.{DurationsOf, HasFarChunk, IsAsLong, IsNarrow, IsRoundedUp, IsTrackTime, KeepsHeaders};
 ghost use Rattle.mp4_remux.specs.Headers.{KeepsEdits, KeepsTrack, edit_like, edits_time, longest, media_header_like};
 ghost use Rattle.mp4_remux.specs.Headers.{movie_header_like, track_header_like};
 ghost use Rattle.mp4_remux.specs.declared.made.Made.TheVariants.{Offsets, Tables};
@@ -19,7 +19,7 @@ use mp4_table::Co64Box;
 
 /// Whether a duration by one clock is so long by another, rounded up. Clocks are by their ticks in a second.
 fn is_rounded_up(duration: u64, clock: u32, other: u32, shown: u64) -> bool
-    ensures { IsTrue result → IsRoundedUp duration clock other shown }
+    ensures { IsTrue result ↔ IsRoundedUp duration clock other shown }
 {
     if clock == 0 {
         return shown == 0;
@@ -35,7 +35,8 @@ fn is_rounded_up(duration: u64, clock: u32, other: u32, shown: u64) -> bool
 
 /// How long these edits are, one after the other; none where that passes 64 bits.
 fn time_of(edits: &[ElstEntry]) -> Option<u64>
-    ensures { IfSome result (λ time. time ≡ edits_time edits.now) }
+    ensures time { IfSome result (λ time. time ≡ edits_time edits.now) }
+    ensures long { IfNone result (2 ^ 64 ≤ edits_time edits.now) }
 {
     let mut time: u64 = 0;
     let mut i = 0;
@@ -46,27 +47,31 @@ fn time_of(edits: &[ElstEntry]) -> Option<u64>
     Some(time)
 }
 
+/// Whether these edits, one after the other, are so long.
+fn are_so_long(edits: &[ElstEntry], shown: u64) -> bool
+    ensures { IsTrue result ↔ (shown ≡ edits_time edits.now) }
+{
+    match time_of(edits) {
+        Some(time) => shown == time,
+        None => false,
+    }
+}
+
 /// Whether its header says how long a track is, by the movie's clock.
 fn has_track_time(trak: &TrakBox, clock: u32) -> bool
-    ensures { IsTrue result → IsTrackTime trak.now clock }
+    ensures { IsTrue result ↔ IsTrackTime trak.now clock }
 {
     let edits = edits_of(trak);
     if edits.is_empty() {
         let media = &trak.mdia.mdhd;
         return is_rounded_up(media.duration, media.timescale, clock, trak.tkhd.duration);
     }
-    let Some(time) = time_of(edits) else {
-        return false;
-    };
-    if trak.tkhd.duration != time {
-        return false;
-    }
-    true
+    are_so_long(edits, trak.tkhd.duration)
 }
 
 /// Whether the headers of these tracks say how long they are, by the movie's clock.
 fn have_track_times(traks: &[TrakBox], clock: u32) -> bool
-    ensures { IsTrue result → (t : TrakBox) (i : ℕ) → slice_get traks.now i ≡ Some t → IsTrackTime t clock }
+    ensures { IsTrue result ↔ ((t : TrakBox) (i : ℕ) → slice_get traks.now i ≡ Some t → IsTrackTime t clock) }
 {
     let mut i = 0;
     while i < traks.len() {
@@ -93,7 +98,7 @@ fn longest(traks: &[TrakBox]) -> u64
 
 /// Whether a movie is as long as its longest track.
 fn is_as_long(movie: &Movie) -> bool
-    ensures { IsTrue result → IsAsLong (opened_movie movie.now) }
+    ensures { IsTrue result ↔ IsAsLong (opened_movie movie.now) }
 {
     movie.moov.mvhd.duration == longest(movie.moov.traks.as_slice())
 }
@@ -103,6 +108,7 @@ pub(crate) fn has_durations(movie: &Movie, made: Made) -> bool
     ensures movie { IsTrue result → (made ≡ Offsets → ⊥) → IsAsLong (opened_movie movie.now) }
     ensures tracks { IsTrue result → made ≡ Tables → (t : TrakBox) (i : ℕ) → slice_get movie.now.moov.traks i ≡ Some t
         → IsTrackTime t movie.now.moov.mvhd.timescale }
+    ensures other { IsFalse result → DurationsOf made (opened_movie movie.now) → ⊥ }
 {
     match made {
         Made::Offsets => true,
@@ -115,7 +121,7 @@ pub(crate) fn has_durations(movie: &Movie, made: Made) -> bool
 
 /// Whether the header of a movie is as it was, but for its version and its duration.
 fn keeps_movie_header(was: &MvhdBox, is: &MvhdBox) -> bool
-    ensures { IsTrue result → is.now ≡ movie_header_like was.now is.now }
+    ensures { IsTrue result ↔ (is.now ≡ movie_header_like was.now is.now) }
 {
     let like = MvhdBox {
         version: is.version,
@@ -127,7 +133,7 @@ fn keeps_movie_header(was: &MvhdBox, is: &MvhdBox) -> bool
 
 /// Whether the header of a track is as it was, but for its version and its duration.
 fn keeps_track_header(was: &TkhdBox, is: &TkhdBox) -> bool
-    ensures { IsTrue result → is.now ≡ track_header_like was.now is.now }
+    ensures { IsTrue result ↔ (is.now ≡ track_header_like was.now is.now) }
 {
     let like = TkhdBox {
         version: is.version,
@@ -139,7 +145,7 @@ fn keeps_track_header(was: &TkhdBox, is: &TkhdBox) -> bool
 
 /// Whether the header of a track's media is as it was, but for its version and its duration.
 fn keeps_media_header(was: &MdhdBox, is: &MdhdBox) -> bool
-    ensures { IsTrue result → is.now ≡ media_header_like was.now is.now }
+    ensures { IsTrue result ↔ (is.now ≡ media_header_like was.now is.now) }
 {
     if is.flags != was.flags
         || is.creation_time != was.creation_time
@@ -153,7 +159,7 @@ fn keeps_media_header(was: &MdhdBox, is: &MdhdBox) -> bool
 
 /// Whether a chunk begins past 32 bits.
 fn has_far_chunk(table: &Co64Box) -> bool
-    ensures { IsTrue result → HasFarChunk table.now }
+    ensures { IsTrue result ↔ HasFarChunk table.now }
 {
     let offsets = table.entries.as_slice();
     let mut i = 0;
@@ -168,7 +174,7 @@ fn has_far_chunk(table: &Co64Box) -> bool
 
 /// Whether chunk offsets have 64 bits only where one needs them, or where they had.
 fn is_narrow(was: &StblBox, is: &StblBox) -> bool
-    ensures { IsTrue result → IsNarrow was.now is.now }
+    ensures { IsTrue result ↔ IsNarrow was.now is.now }
 {
     match &is.co64 {
         Some(table) => was.co64.is_some() || has_far_chunk(table),
@@ -178,8 +184,7 @@ fn is_narrow(was: &StblBox, is: &StblBox) -> bool
 
 /// Whether an edit is as it was; the last one, but for how long it lasts.
 fn is_kept_edit(was: &ElstEntry, is: &ElstEntry, is_last: bool) -> bool
-    ensures like { IsTrue result → is.now ≡ edit_like was.now is.now }
-    ensures same { IsTrue result → IsFalse is_last → is.now ≡ was.now }
+    ensures { IsTrue result ↔ (is.now ≡ edit_like was.now is.now) × (IsFalse is_last → is.now ≡ was.now) }
 {
     if !is_last {
         return is_equal(is, was);
@@ -193,7 +198,7 @@ fn is_kept_edit(was: &ElstEntry, is: &ElstEntry, is_last: bool) -> bool
 
 /// Whether edits are as they were, but for how long the last one lasts.
 fn keeps_edits(was: &[ElstEntry], is: &[ElstEntry]) -> bool
-    ensures { IsTrue result → KeepsEdits was.now is.now }
+    ensures { IsTrue result ↔ KeepsEdits was.now is.now }
 {
     if is.len() != was.len() {
         return false;
@@ -210,7 +215,7 @@ fn keeps_edits(was: &[ElstEntry], is: &[ElstEntry]) -> bool
 
 /// Whether a track keeps what its headers say beside durations, and its edits.
 fn keeps_track(was: &TrakBox, is: &TrakBox) -> bool
-    ensures { IsTrue result → KeepsTrack was.now is.now }
+    ensures { IsTrue result ↔ KeepsTrack was.now is.now }
 {
     keeps_track_header(&was.tkhd, &is.tkhd)
         && keeps_media_header(&was.mdia.mdhd, &is.mdia.mdhd)
@@ -221,7 +226,7 @@ fn keeps_track(was: &TrakBox, is: &TrakBox) -> bool
 /// Whether a movie keeps what its headers and those of its tracks say beside durations, and its edits.
 pub(crate) fn keeps_headers(before: &Movie, after: &Movie) -> bool
     requires { AreTracks before.now.moov before.now.moofs before.now.moof_places before.now.tracks }
-    ensures { IsTrue result → KeepsHeaders (opened_movie before.now) (opened_movie after.now) }
+    ensures { IsTrue result ↔ KeepsHeaders (opened_movie before.now) (opened_movie after.now) }
 {
     if !keeps_movie_header(&before.moov.mvhd, &after.moov.mvhd) {
         return false;

@@ -1,7 +1,8 @@
 //! Where the bytes of a splice come from.
 
-ghost use Rattle.std.specs.Prelude.{◌≡◌, ◌↔◌, ◌+◌, ◌≤◌, ◌<◌, length, IfOk, IfSome, IsTrue};
-ghost use Rattle.mp4_remux.specs.Splice.{of_origin, Follow, Follow-prop, IsPieceAt, IsPartOfBoth};
+ghost use Rattle.std.specs.Prelude.{◌≡◌, ◌↔◌, ◌+◌, ◌≤◌, ◌<◌, ◌^◌, ℕ, length, IfOk, IfNone, IfSome, IsTrue, Some};
+ghost use Rattle.std.specs.Prelude.{slice_get};
+ghost use Rattle.mp4_remux.specs.Splice.{of_origin, Follow, Follow-prop, IsMovedTo, IsPieceAt};
 
 use crate::piece::{Origin, Piece};
 use std::alloc::{AllocError, Global};
@@ -31,7 +32,8 @@ fn len_of(origin: Origin, source_len: u64, made_len: u64) -> u64
 /// Where pieces end, of which each begins where the one before ends, the first at 0, has a byte, and lies whole in the
 /// file or in the bytes that were made, which have so many bytes; none where they aren't so.
 fn end_of(pieces: &[Piece], source_len: u64, made_len: u64) -> Option<u64>
-    ensures { IfSome result (λ end. Follow source_len made_len 0 pieces.now end) }
+    ensures follow { IfSome result (λ end. Follow source_len made_len 0 pieces.now end) }
+    ensures none { IfNone result ((end : ℕ) → end < 2 ^ 64 → Follow source_len made_len 0 pieces.now end → ⊥) }
 {
     let mut end: u64 = 0;
     let mut i = 0;
@@ -48,11 +50,14 @@ fn end_of(pieces: &[Piece], source_len: u64, made_len: u64) -> Option<u64>
 }
 
 impl Layout {
-    /// A layout of a file of so many bytes. None where the pieces don't follow each other, or one passes what it is of.
+    /// A layout of a file of so many bytes. None where the pieces don't follow each other, one passes what it is of, or
+    /// all of them have more bytes than 64 bits count.
     pub fn new(source_len: u64, made: Vec<u8>, pieces: Vec<Piece>) -> Option<Self>
         ensures source_len { IfSome result (λ l. l.source_len ≡ source_len) }
         ensures made { IfSome result (λ l. l.made.items ≡ made.items) }
         ensures pieces { IfSome result (λ l. l.pieces.items ≡ pieces.items) }
+        ensures none { IfNone result ((end : ℕ) → end < 2 ^ 64
+            → Follow source_len (length made.items) 0 pieces.items end → ⊥) }
     {
         let len = end_of(&pieces, source_len, made.len() as u64)?;
         Some(Layout {
@@ -106,18 +111,18 @@ impl Layout {
     /// The piece in which a place lies, and how many of its bytes come before.
     pub fn piece_at(&self, place: u64) -> (Piece, u64)
         requires { place < self.now.len }
-        ensures { IsPieceAt self.now.source_len (length self.now.made.items) self.now.pieces.items place
+        ensures at { IsPieceAt self.now.source_len (length self.now.made.items) self.now.pieces.items place
             result.0 result.1 }
+        ensures is { (number : ℕ) × (slice_get self.now.pieces.items number ≡ Some result.0) }
     {
         let after = self.pieces.partition_point(|piece| piece.at <= place);
         let piece = self.pieces[after - 1];
         (piece, place - piece.at)
     }
 
-    /// Whether the n bytes from a place on are there, and are those of the file from another on.
+    /// Whether the n bytes from a place on are there, and a piece of the file has them from another place on.
     pub fn is_part(&self, place: u64, origin: u64, n: u32) -> bool
-        ensures { IsTrue result → IsPartOfBoth self.now.source_len self.now.len self.now.made.items
-            self.now.pieces.items place origin n }
+        ensures { IsTrue result ↔ IsMovedTo self.now.pieces.items self.now.source_len self.now.len place origin n }
     {
         let n = u64::from(n);
         if !fits(place, n, self.len) || !fits(origin, n, self.source_len) {
@@ -127,11 +132,13 @@ impl Layout {
             return true;
         }
         let (piece, skipped) = self.piece_at(place);
-        let is_kept = match piece.origin {
+        if n > piece.len - skipped || piece.place + skipped != origin {
+            return false;
+        }
+        match piece.origin {
             Origin::Kept => true,
             Origin::Made => false,
-        };
-        is_kept && n <= piece.len - skipped && piece.place + skipped == origin
+        }
     }
 }
 

@@ -22,7 +22,7 @@ pub(crate) enum Made {
 }
 
 /// The codes of the tables of chunk offsets: `stco` and `co64`.
-pub(crate) const OFFSETS: [u32; 2] = [0x7374_636f, 0x636f_3634];
+const OFFSETS: [u32; 2] = [0x7374_636f, 0x636f_3634];
 
 /// The codes of the boxes that may be others where tracks are left out: these tables, `mvhd` and `tref`.
 const OF_TRACKS: [u32; 4] = [0x6d76_6864, 0x7472_6566, 0x7374_636f, 0x636f_3634];

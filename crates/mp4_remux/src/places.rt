@@ -1,6 +1,7 @@
 //! Boxes that say places of a file in a way that isn't rewritten.
 
 ghost use Rattle.std.specs.Prelude.{◌≡◌, ◌≤◌, ◌++◌, ◌⊎◌, ℕ, List, IfErr, IfSome, IsTrue};
+ghost use Rattle.mp4_remux.specs.Caused.{CausedByNone};
 ghost use Rattle.mp4_remux.specs.Errors.{IsRefusalOf};
 ghost use Rattle.mp4_remux.specs.Kept.{IsAmong};
 ghost use Rattle.mp4_remux.specs.Named.{HasBoxWithin, IsOneOf, IsPlacing, NamesBy, of_samples, placing};
@@ -126,6 +127,7 @@ fn find_in(bytes: &[u8], end: u64, level: usize, is_gathered: bool) -> Option<Fo
 pub(crate) fn check_box(bytes: &[u8], end: u64, is_gathered: bool) -> Result<(), RemuxError>
     ensures names { IfErr result (NamesBy (HasBoxWithin bytes.now end)) }
     ensures refused { IfErr result (IsRefusalOf ⊥ ⊥) }
+    ensures cause { IfErr result CausedByNone }
 {
     let Some(FoundBox { name, place }) = find_in(bytes, end, 0, is_gathered) else {
         return Ok(());
@@ -158,6 +160,7 @@ pub(crate) fn is_segment_index(name: BoxType) -> bool
 pub(crate) fn check_top_box(one: TopBox) -> Result<(), RemuxError>
     ensures names { IfErr result (NamesBy (λ name place. (one.name ≡ name) × (one.place ≡ place))) }
     ensures refused { IfErr result (IsRefusalOf ⊥ ⊥) }
+    ensures cause { IfErr result CausedByNone }
 {
     if is_among(&PLACING_OTHERS, one.name) {
         return Err(RemuxError::SaysPlaces(one.name, one.place));

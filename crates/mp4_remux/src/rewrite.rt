@@ -14,6 +14,7 @@ ghost use Rattle.mp4_remux.specs.Named.{NamesBox, NamesBy};
 ghost use Rattle.mp4_remux.specs.declared.error.RemuxError.TheVariants.{Mp4};
 ghost use Rattle.mp4_codec.specs.declared.error.Error.TheVariants.{OutOfMemory};
 ghost use Rattle.mp4_source.specs.Source.{HasPart};
+ghost use Rattle.mp4_remux.specs.Refused.{IsWhyClosed, IsWhyMade};
 ghost use Rattle.mp4_remux.specs.Why.{AreKept};
 ghost use Rattle.mp4_remux.specs.Remuxed.{IsNoFile, IsOnlyFile, WritesRemuxed};
 ghost use Rattle.mp4_remux.specs.Splice.{spliced};
@@ -52,6 +53,7 @@ pub(crate) fn open_whole<S: ByteSource + Drop>(
     ensures names { IfErr result (NamesBy (λ _ _. ⊥)) }
     ensures memory { IfErr result (λ e. e ≡ Mp4 OutOfMemory → 8 ≤ len) }
     ensures room { OnOk result (IfSome (S.contents source) (λ _. 8 ≤ len)) }
+    ensures why { IfErr result (IsWhyClosed len (S.contents source)) }
 {
     let file = Mp4File::open(alloc, source, 0, len)?;
     Ok(file.into_parts())
@@ -113,6 +115,8 @@ pub(crate) fn write_layout<S: ByteSource + Drop, K: ByteSink>(
     ensures more { OnOk result (K.len sink.old ≤ K.len sink.new) }
     ensures refused { IfErr result (IsRefusalOf (MayRefuse (S.contents source) (S.can_refuse source))
         (IsTrue (K.can_refuse sink.old))) }
+    ensures why { IfErr result (λ e. IfSome (S.contents source) (λ xs. IsWhyMade made ids.now xs
+        layout.now.made.items layout.now.pieces.items (opened_movie before.now) e)) }
 {
     let splice = Splice::new(source, layout.try_clone(alloc)?);
     let len = layout.len();

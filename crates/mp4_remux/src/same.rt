@@ -3,15 +3,18 @@
 ghost use Rattle.std.specs.Prelude.{◌≡◌, ◌↔◌, ◌-◌, ◌<◌, ◌≤◌, ◌^◌, ◌∷◌, ℕ, [], Some, Ok, IfErr, IfOk, IfSome};
 ghost use Rattle.std.specs.Prelude.{OnOk, IsTrue, is_some, option_map, slice_get};
 ghost use Rattle.mp4_boxes.specs.declared.trak.TrakBox.{TrakBox};
+ghost use Rattle.mp4_samples.specs.declared.sample.Place.{Place};
 ghost use Rattle.mp4_samples.specs.Places.{place_of};
 ghost use Rattle.mp4_media.specs.FileBoxes.{opened_movie};
 ghost use Rattle.mp4_media.specs.MovieTracks.{AreTracks};
+ghost use Rattle.mp4_remux.specs.Errors.{of_layout};
 ghost use Rattle.mp4_remux.specs.Headers.{IsShownUntil};
 ghost use Rattle.mp4_remux.specs.Named.{IsWhy, SaysNone};
-ghost use Rattle.mp4_remux.specs.Reads.{place_in};
+ghost use Rattle.mp4_remux.specs.Reads.{count_of, place_in};
+ghost use Rattle.mp4_remux.specs.Refused.{IsWhyOther, KeepsMovie, KeepsSamples};
 ghost use Rattle.mp4_remux.specs.Remuxed.{ids_of};
 ghost use Rattle.mp4_remux.specs.declared.made.Made.TheVariants.{Tables};
-ghost use Rattle.mp4_remux.specs.Same.{IsSamePlace, IsNumberAsBefore, IsTrackAsBefore};
+ghost use Rattle.mp4_remux.specs.Same.{IsMovedSample, IsNumberAsBefore, IsTrackAsBefore};
 ghost use Rattle.mp4_remux.specs.Why.{HasSample, HasSamples, most_samples};
 
 use crate::layout::Layout;
@@ -27,7 +30,7 @@ const MOST_SAMPLES: u64 = u32::MAX as u64 - 1;
 
 /// Whether a sample that is opened from a layout is one of its file.
 fn is_same(layout: &Layout, before: &SamplePlace, after: &SamplePlace) -> bool
-    ensures { IsTrue result → IsSamePlace layout.now.source_len layout.now.made.items layout.now.pieces.items
+    ensures { IsTrue result ↔ IsMovedSample layout.now.pieces.items layout.now.source_len layout.now.len
         (place_of before.now) (place_of after.now) }
 {
     if after.size != before.size
@@ -52,11 +55,14 @@ fn check_sample(
 ) -> Result<Option<SamplePlace>, LayoutError>
     requires before { AreTracks before.now.moov before.now.moofs before.now.moof_places before.now.tracks }
     requires after { AreTracks after.now.moov after.now.moofs after.now.moof_places after.now.tracks }
+    requires number { 1 ≤ k }
     ensures same { IfOk result (λ p. IsNumberAsBefore layout.now.source_len layout.now.made.items
         layout.now.pieces.items (opened_movie before.now) (opened_movie after.now) track_id k (is_some p)) }
     ensures there { IfOk result (λ p. place_in (opened_movie after.now) track_id k ≡ Ok (option_map place_of p)) }
     ensures was { IfOk result (λ p. IfSome p (λ _. HasSample (opened_movie before.now) track_id k)) }
     ensures why { IfErr result SaysNone }
+    ensures other { IfErr result (λ e. IsWhyOther ⊥ (track_id ∷ []) layout.now.pieces.items layout.now.source_len
+        layout.now.len (opened_movie before.now) (opened_movie after.now) (of_layout e)) }
 {
     let Some(kept) = before.place(track_id, k)? else {
         return match after.place(track_id, k)? {
@@ -74,10 +80,13 @@ fn check_sample(
 }
 
 /// Whether the first sample of a track isn't there, or can't be looked up, as of tables that are empty.
-fn is_nowhere(movie: &Movie, track_id: u32) -> bool {
+fn is_nowhere(movie: &Movie, track_id: u32) -> bool
+    requires { AreTracks movie.now.moov movie.now.moofs movie.now.moof_places movie.now.tracks }
+    ensures { IsTrue result → (first : Place) → place_in (opened_movie movie.now) track_id 1 ≡ Ok (Some first) → ⊥ }
+{
     match movie.place(track_id, 1) {
-        Ok(Some(_)) => false,
-        Ok(None) | Err(_) => true,
+        Ok(first) => first.is_none(),
+        Err(_) => true,
     }
 }
 
@@ -105,8 +114,8 @@ pub(crate) fn place_of_any(
 struct SameTrack {
     /// How many samples it has.
     count: u32,
-    /// When all of them have been shown, in ticks of the track; the largest number where that passes 64 bits.
-    end: u64,
+    /// When all of them have been shown, in ticks of the track.
+    end: u128,
 }
 
 /// A track whose samples are the same before and after. `TooManySamples` where they are more than `most`.
@@ -122,11 +131,13 @@ fn count_same(
     requires most { most < 2 ^ 32 - 1 }
     ensures same { OnOk result (IsTrackAsBefore layout.now.source_len layout.now.made.items
         layout.now.pieces.items (opened_movie before.now) (opened_movie after.now) track_id) }
-    ensures end { IfOk result (λ same. same.end < 2 ^ 64 - 1
-        → IsShownUntil (opened_movie after.now) track_id same.end) }
+    ensures end { IfOk result (λ same. IsShownUntil (opened_movie after.now) track_id same.end) }
     ensures few { IfOk result (λ same. same.count ≤ most) }
     ensures counted { IfOk result (λ same. HasSamples (opened_movie before.now) track_id same.count) }
     ensures why { IfErr result (IsWhy (track_id ∷ []) most (opened_movie before.now)) }
+    ensures other { IfErr result (λ e. IsWhyOther (count_of (opened_movie after.now) track_id
+        ≡ count_of (opened_movie before.now) track_id → ⊥) (track_id ∷ []) layout.now.pieces.items
+        layout.now.source_len layout.now.len (opened_movie before.now) (opened_movie after.now) (of_layout e)) }
 {
     let count = before.sample_count(track_id)?;
     if after.sample_count(track_id)? != count {
@@ -136,7 +147,7 @@ fn count_same(
         return Ok(SameTrack { count: 0, end: 0 });
     }
     let mut k = 0;
-    let mut end = 0;
+    let mut end: u128 = 0;
     while k <= most {
         let Some(sample) = check_sample(before, after, layout, track_id, k + 1)? else {
             return Ok(SameTrack { count: k, end });
@@ -167,12 +178,15 @@ fn check_track(
     ensures few { IfOk result (λ count. count ≤ most) }
     ensures counted { IfOk result (λ count. HasSamples (opened_movie before.now) trak.now.tkhd.track_id count) }
     ensures why { IfErr result (IsWhy (trak.now.tkhd.track_id ∷ []) most (opened_movie before.now)) }
+    ensures other { IfErr result (λ e. IsWhyOther (KeepsSamples made (opened_movie before.now)
+        (opened_movie after.now) trak.now → ⊥) (trak.now.tkhd.track_id ∷ []) layout.now.pieces.items
+        layout.now.source_len layout.now.len (opened_movie before.now) (opened_movie after.now) (of_layout e)) }
 {
     let same = count_same(before, after, layout, trak.tkhd.track_id, most)?;
     if !made.has_tables() {
         return Ok(same.count);
     }
-    if same.end < u64::MAX && trak.mdia.mdhd.duration == same.end {
+    if u128::from(trak.mdia.mdhd.duration) == same.end {
         return Ok(same.count);
     }
     Err(LayoutError::OtherTracks)
@@ -180,7 +194,7 @@ fn check_track(
 
 /// Whether a movie has tracks of these ids, in this order.
 fn has_ids(movie: &Movie, ids: &[u32]) -> bool
-    ensures { IsTrue result → ids_of movie.now.moov ≡ ids.now }
+    ensures { IsTrue result ↔ (ids_of movie.now.moov ≡ ids.now) }
 {
     let traks = movie.moov.traks.as_slice();
     if traks.len() != ids.len() {
@@ -225,6 +239,9 @@ pub(crate) fn check_same(
     ensures media { OnOk result (made ≡ Tables → (t : TrakBox) (i : ℕ) → slice_get after.now.moov.traks i ≡ Some t
         → IsShownUntil (opened_movie after.now) t.tkhd.track_id t.mdia.mdhd.duration) }
     ensures why { IfErr result (IsWhy ids.now (most_samples layout.now.source_len) (opened_movie before.now)) }
+    ensures other { IfErr result (λ e. IsWhyOther (KeepsMovie made (opened_movie before.now) (opened_movie after.now)
+        ids.now → ⊥) ids.now layout.now.pieces.items layout.now.source_len layout.now.len (opened_movie before.now)
+        (opened_movie after.now) (of_layout e)) }
 {
     if before.tracks().len() < before.moov.traks.len() {
         return Err(LayoutError::SameIds);

@@ -1,8 +1,10 @@
 //! Segment indexes (`sidx`), which say places as distances from their own end (ISO/IEC 14496-12, 8.16.3).
 
-ghost use Rattle.std.specs.Prelude.{◌≡◌, IfErr};
+ghost use Rattle.std.specs.Prelude.{◌≡◌, IfErr, IfSome};
 ghost use Rattle.mp4_source.specs.Answers.{IsLength};
+ghost use Rattle.mp4_remux.specs.Caused.{CausedByMemory};
 ghost use Rattle.mp4_remux.specs.Errors.{IsRefusalOf, MayRefuse};
+ghost use Rattle.mp4_remux.specs.Front.{AreBoxes, IsTopBox};
 ghost use Rattle.mp4_remux.specs.Named.{IsOneOf, IsPlacing, NamesBy};
 
 use crate::box_bytes::first_box;
@@ -81,6 +83,7 @@ fn check_index<S: ByteSource>(
     requires len { IsLength (S.contents source.old) len }
     requires name { IsPlacing one.name }
     ensures names { IfErr result (NamesBy (λ name place. (one.name ≡ name) × (one.place ≡ place))) }
+    ensures cause { IfErr result (λ e. IfSome (S.contents source.old) (λ xs. IsTopBox xs one → CausedByMemory e)) }
     ensures contents { S.contents source.new ≡ S.contents source.old }
     ensures can_refuse { S.can_refuse source.new ≡ S.can_refuse source.old }
     ensures refused { IfErr result (IsRefusalOf (MayRefuse (S.contents source.old) (S.can_refuse source.old)) ⊥) }
@@ -106,6 +109,8 @@ pub(crate) fn check_moved<S: ByteSource>(
 ) -> Result<(), RemuxError>
     requires { IsLength (S.contents source.old) len }
     ensures names { IfErr result (NamesBy (IsOneOf boxes.now)) }
+    ensures cause { IfErr result (λ e. IfSome (S.contents source.old) (λ xs. AreBoxes xs 0 boxes.now
+        → CausedByMemory e)) }
     ensures contents { S.contents source.new ≡ S.contents source.old }
     ensures can_refuse { S.can_refuse source.new ≡ S.can_refuse source.old }
     ensures refused { IfErr result (IsRefusalOf (MayRefuse (S.contents source.old) (S.can_refuse source.old)) ⊥) }

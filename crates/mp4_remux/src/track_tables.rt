@@ -9,7 +9,7 @@ use crate::descriptions::Descriptions;
 use crate::layout_error::LayoutError;
 use crate::moves::Moves;
 use crate::same::place_of_any;
-use crate::shown::shown_end;
+use crate::shown::shown_ticks;
 use mp4_boxes::MoovBox;
 use mp4_codec::{Error, Put, SharedItems, WriteBox};
 use mp4_media::{Movie, SamplePlace};
@@ -85,7 +85,7 @@ impl SampleTables {
         push_chunk(&mut self.chunks, place, begins, description)?;
         self.end = place.saturating_add(u64::from(sample.size));
         self.duration = self.duration.saturating_add(u64::from(sample.duration));
-        self.shown = self.shown.max(shown_end(sample));
+        self.shown = self.shown.max(shown_ticks(sample));
         Ok(())
     }
 

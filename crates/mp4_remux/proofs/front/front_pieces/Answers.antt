@@ -1,14 +1,20 @@
-use Rattle.mp4_remux.proofs.Fronting.{front_bytes, no_pieces}
+use Rattle.mp4_remux.proofs.Fronting.{front_bytes, front_follow, no_pieces}
 use Rattle.mp4_remux.proofs.front.front_pieces.Goals as goal
 
-pub returns : goal.returns
-returns c = record {
-  bytes = λ source made long_source long_made.
-      front_bytes source made c.args.file_type c.args.movie c.min-first.result c.min-between.result c.max-second.result
-      c.max-after.result c.args.len c.args.movie_len c.min-first.ensures c.min-between.ensures c.max-second.ensures
-      c.max-after.ensures long_source long_made
-      (no_pieces source made c.new-pieces.result.items c.new-pieces.ensures.items) (c.in_ok-push_piece.ensures.bytes
-      source made)
-      (c.in_ok-push_piece-2.ensures.bytes source made) (c.in_ok-push_piece-3.ensures.bytes source made)
-      (c.in_ok-push_piece-4.ensures.bytes source made) (c.in_ok-push_piece-5.ensures.bytes source made);
-}
+pub returns-clause-bytes : goal.returns-clause-bytes
+returns-clause-bytes c = λ source made long_source long_made.
+    front_bytes source made c.args.file_type c.args.movie c.min-first.result c.min-between.result c.max-second.result
+    c.max-after.result c.args.len c.args.movie_len c.min-first.ensures c.min-between.ensures c.max-second.ensures
+    c.max-after.ensures long_source long_made
+    (no_pieces source made c.new-pieces.result.items c.new-pieces.ensures.items)
+    (c.in_ok-push_piece.ensures.bytes source made) (c.in_ok-push_piece-2.ensures.bytes source made)
+    (c.in_ok-push_piece-3.ensures.bytes source made) (c.in_ok-push_piece-4.ensures.bytes source made)
+    (c.in_ok-push_piece-5.ensures.bytes source made)
+
+pub returns-clause-follow : goal.returns-clause-follow
+returns-clause-follow c = λ apart small twice.
+    front_follow _ _ _ _ _ _ c.args.file_type c.args.movie c.args.movie_len c.min-first.result c.min-between.result
+    c.max-second.result c.max-after.result c.args.len c.min-first.ensures c.min-between.ensures c.max-second.ensures
+    c.max-after.ensures c.new-pieces.ensures.items c.in_ok-push_piece.ensures.follow
+    c.in_ok-push_piece-2.ensures.follow c.in_ok-push_piece-3.ensures.follow c.in_ok-push_piece-4.ensures.follow
+    c.in_ok-push_piece-5.ensures.follow apart small twice

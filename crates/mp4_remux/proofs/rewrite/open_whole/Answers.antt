@@ -4,6 +4,7 @@ use Rattle.mp4_media.specs.FileBoxes.{opened_movie}
 use Rattle.mp4_remux.specs.declared.error.RemuxError.{RemuxError}
 use Rattle.mp4_remux.proofs.Faults.{fault_of_opening, given_on, memory_of_file, opened_alone, opened_has_room}
 use Rattle.mp4_remux.proofs.Faults.{opened_without_fault, opens_or_is_none, opens_without_fault}
+use Rattle.mp4_remux.proofs.Refusing.{closed}
 use Rattle.mp4_remux.proofs.rewrite.open_whole.Goals as goal
 
 pub returns-in_err-file-clause-fault : goal.returns-in_err-file-clause-fault
@@ -48,4 +49,11 @@ returns-in_err-file-clause-no_fault g c =
     let p = err_from_is_err_and c.from_residual.result c.from_residual.ensures.1 in
     rw (p.1 ∙ ap (λ (e : RemuxError). Err e) p.2)
     (opens_without_fault (g.S.ByteSource.contents c.args.source) (g.S.ByteSource.can_refuse c.args.source)
+    (λ f. opened_movie f.movie) c.args.len c.in_err-file.field-0.0 c.in_err-file.ensures.opening)
+
+pub returns-in_err-file-clause-why : goal.returns-in_err-file-clause-why
+returns-in_err-file-clause-why g c =
+    let p = err_from_is_err_and c.from_residual.result c.from_residual.ensures.1 in
+    rw (p.1 ∙ ap (λ (e : RemuxError). Err e) p.2)
+    (closed (g.S.ByteSource.contents c.args.source) (g.S.ByteSource.can_refuse c.args.source)
     (λ f. opened_movie f.movie) c.args.len c.in_err-file.field-0.0 c.in_err-file.ensures.opening)

@@ -6,11 +6,13 @@ use Rattle.mp4_boxes.specs.declared.trak.TrakBox.{TrakBox}
 use Rattle.mp4_media.specs.FileBoxes.{opened_movie}
 use Rattle.mp4_remux.specs.Headers.{IsShownUntil}
 use Rattle.mp4_remux.specs.Same.{IsTrackAsBefore}
+use Rattle.mp4_remux.specs.Refused.{KeepsMovie, KeepsSamples}
 use Rattle.mp4_remux.specs.Remuxed.{ids_of}
 use Rattle.mp4_remux.specs.Why.{most_samples}
 use Rattle.mp4_remux.specs.declared.layout_error.LayoutError.{LayoutError}
 use Rattle.mp4_remux.proofs.Counting.{id_at, more_samples}
 use Rattle.mp4_remux.proofs.Naming.{why_among}
+use Rattle.mp4_remux.proofs.Refusing.{keeps_track_too, other_among}
 use Rattle.mp4_remux.proofs.SameIds.{have_same_ids}
 use Rattle.mp4_remux.proofs.Numbered.{at_index, each_more}
 use Rattle.mp4_remux.proofs.Sameness.{got_within}
@@ -73,7 +75,7 @@ returns-in_err-left-clause-why c =
     at_index traks c.loop-i.i trak (omega (arith, ap length c.as_slice-traks.ensures, c.loop-i-test.true))
     ∙ ap (λ (t : TrakBox). Some t) (sym at) in
     rw (p.1 ∙ ap (λ (e : LayoutError). Err e) p.2)
-    (rw (c.if-not-has_ids.ensures refl) at
+    (rw (c.if-not-has_ids.ensures.0 refl) at
     (why_among trak.tkhd.track_id c.loop-i.left (most_samples c.args.layout.now.source_len)
     (ids_of c.args.after.now.moov) (opened_movie c.args.before.now) c.loop-i.i inv.have.0
     (id_at traks c.loop-i.i trak there) inv.have.1.0 inv.have.1.1 _ c.in_err-left.ensures.why))
@@ -82,3 +84,24 @@ pub returns-then-len-clause-why : goal.returns-then-len-clause-why
 returns-then-len-clause-why c =
     have_same_ids c.args.before.now c.requires.before
     (omega (arith, c.if-len.true, c.len.ensures.len, ap hash_map_len c.tracks.ensures))
+
+pub returns-in_err-left-clause-other : goal.returns-in_err-left-clause-other
+returns-in_err-left-clause-other c =
+    let p = err_from_is_err_and c.from_residual.result c.from_residual.ensures.1 in
+    let traks = c.args.after.now.moov.traks in
+    let trak = c.index-traks-i.result in
+    let l = c.args.layout.now in
+    let before = opened_movie c.args.before.now in
+    let after = opened_movie c.args.after.now in
+    let at : trak ≡ slice_index_or traks c.loop-i.i trak =
+    c.index-traks-i.is ∙ ap (λ (ts : List TrakBox). slice_index_or ts c.loop-i.i trak) c.as_slice-traks.ensures in
+    let there : slice_get traks c.loop-i.i ≡ Some trak =
+    at_index traks c.loop-i.i trak (omega (arith, ap length c.as_slice-traks.ensures, c.loop-i-test.true))
+    ∙ ap (λ (t : TrakBox). Some t) (sym at) in
+    rw (p.1 ∙ ap (λ (e : LayoutError). Err e) p.2)
+    (other_among trak.tkhd.track_id c.loop-i.i c.args.ids.now
+    (rw (c.if-not-has_ids.ensures.0 refl) at (id_at traks c.loop-i.i trak there)) l.pieces.items l.source_len l.len
+    before after (KeepsSamples c.args.made before after trak → ⊥)
+    (KeepsMovie c.args.made before after c.args.ids.now → ⊥)
+    (λ no keeps. no (keeps_track_too c.args.made before after c.args.ids.now trak c.loop-i.i there keeps)) _
+    c.in_err-left.ensures.other)

@@ -1,10 +1,12 @@
-use Rattle.std.proofs.Common.{◌+◌, ◌<◌, arith, Ok, Err, ap, inr, subst, sym, ◌∙◌}
+use Rattle.std.proofs.Common.{◌≡◌, refl, ◌+◌, arith, Ok, Err, ap, inr, subst, sym, ◌∙◌}
 use Rattle.std.proofs.lemmas.Result.{err_from_is_err_and}
 use Rattle.mp4_remux.specs.declared.layout_error.LayoutError.{LayoutError}
 use Rattle.mp4_remux.proofs.Counting.{past_most}
 use Rattle.mp4_remux.proofs.Naming.{why_anyhow}
 use Rattle.mp4_samples.specs.Places.{place_of}
 use Rattle.mp4_media.specs.FileBoxes.{opened_movie}
+use Rattle.mp4_remux.specs.Reads.{count_of}
+use Rattle.mp4_remux.proofs.Refusing.{counted_apart, other_too, uncounted_after, uncounted_before}
 use Rattle.mp4_remux.proofs.Sameness.{one_more, track_as_before, empty_track, counted_there}
 use Rattle.mp4_remux.proofs.Showing.{AreShown, nothing_shown, shown_more, shown_until}
 use Rattle.mp4_remux.proofs.same.count_same.Goals as goal
@@ -18,8 +20,8 @@ returns-in_default-clause-same c =
     (rw c.if-branch-count.false at c.in_ok-sample_count.ensures)
 
 pub returns-in_default-clause-end : goal.returns-in_default-clause-end
-returns-in_default-clause-end c = λ few.
-    shown_until (opened_movie c.args.after.now) c.args.track_id c.loop-k.k c.loop-k.end (c.loop-k.invariant.shown few)
+returns-in_default-clause-end c =
+    shown_until (opened_movie c.args.after.now) c.args.track_id c.loop-k.k c.loop-k.end c.loop-k.invariant.shown
     (rw c.in_default.is at c.in_ok-sample.ensures.there)
 
 pub loop-k-preserved : goal.loop-k-preserved
@@ -34,9 +36,8 @@ loop-k-preserved c =
           c.loop-k.invariant.same (rw c.in-Some.is at c.in_ok-sample.ensures.same);
       have = inr (rw c.in-Some.is at c.in_ok-sample.ensures.was);
       shown =
-          subst (λ n. n < 18446744073709551615
-          → AreShown (opened_movie c.args.after.now) c.args.track_id (c.loop-k.k + 1) n) (sym c.max-end.ensures)
-          (shown_more 18446744073709551615 (opened_movie c.args.after.now) c.args.track_id c.loop-k.k c.loop-k.end
+          subst (AreShown (opened_movie c.args.after.now) c.args.track_id (c.loop-k.k + 1)) (sym c.max-end.ensures)
+          (shown_more (opened_movie c.args.after.now) c.args.track_id c.loop-k.k c.loop-k.end
           c.shown_end.result (place_of c.in-Some.sample) c.loop-k.invariant.shown c.shown_end.ensures
           (rw c.in-Some.is at c.in_ok-sample.ensures.there));
     }
@@ -49,10 +50,12 @@ returns-then-is_nowhere-2-clause-same c =
     (c.in_ok-sample_count.ensures ∙ ap Ok (c.if-branch-count.false ∙ c.if-count-eq0.true))
 
 pub returns-then-is_nowhere-2-clause-end : goal.returns-then-is_nowhere-2-clause-end
-returns-then-is_nowhere-2-clause-end c = λ few.
-    nothing_shown (opened_movie c.args.after.now) c.args.track_id
-    (counted_there c.args.after.now c.requires.after c.args.track_id
-    ∙ c.in_ok-sample_count.ensures ∙ ap Ok (c.if-branch-count.false ∙ c.if-count-eq0.true))
+returns-then-is_nowhere-2-clause-end c =
+    nothing_shown (opened_movie c.args.after.now) c.args.track_id (
+      counted_there c.args.after.now c.requires.after c.args.track_id
+          ∙ c.in_ok-sample_count.ensures ∙ ap Ok (c.if-branch-count.false ∙ c.if-count-eq0.true),
+      c.if-is_nowhere-2.ensures refl,
+    )
 
 pub returns-in_err-sample-clause-why : goal.returns-in_err-sample-clause-why
 returns-in_err-sample-clause-why c =
@@ -63,3 +66,34 @@ pub returns-clause-why : goal.returns-clause-why
 returns-clause-why c =
     past_most (opened_movie c.args.before.now) c.args.track_id c.loop-k.k c.args.most c.loop-k.invariant.have
     (omega (arith, c.loop-k-test.false))
+
+pub returns-in_err-count-clause-other : goal.returns-in_err-count-clause-other
+returns-in_err-count-clause-other c =
+    let p = err_from_is_err_and c.from_residual.result c.from_residual.ensures.1 in
+    rw (p.1 ∙ ap (λ (e : LayoutError). Err e) p.2)
+    (uncounted_before c.args.before.now c.args.after.now c.requires.before c.requires.after c.args.track_id
+    c.in_err-count.field-0.0 c.in_err-count.ensures)
+
+pub returns-in_err-sample_count-clause-other : goal.returns-in_err-sample_count-clause-other
+returns-in_err-sample_count-clause-other c =
+    let p = err_from_is_err_and c.from_residual-in_err-sample_count.result
+    c.from_residual-in_err-sample_count.ensures.1 in
+    rw (p.1 ∙ ap (λ (e : LayoutError). Err e) p.2)
+    (uncounted_after c.args.before.now c.args.after.now c.requires.before c.requires.after c.args.track_id
+    c.in_err-sample_count.field-0.0 c.in_err-sample_count.ensures)
+
+pub returns-then-branch-count-clause-other : goal.returns-then-branch-count-clause-other
+returns-then-branch-count-clause-other c =
+    counted_apart c.args.before.now c.args.after.now c.requires.before c.requires.after c.args.track_id
+    c.in_ok-count.count _ c.in_ok-count.ensures c.in_ok-sample_count.ensures c.if-branch-count.true
+
+pub returns-in_err-sample-clause-other : goal.returns-in_err-sample-clause-other
+returns-in_err-sample-clause-other c =
+    let p = err_from_is_err_and c.from_residual-in_err-sample.result c.from_residual-in_err-sample.ensures.1 in
+    let l = c.args.layout.now in
+    let before = opened_movie c.args.before.now in
+    let after = opened_movie c.args.after.now in
+    rw (p.1 ∙ ap (λ (e : LayoutError). Err e) p.2)
+    (other_too c.args.track_id l.pieces.items l.source_len l.len before after ⊥
+    (count_of after c.args.track_id ≡ count_of before c.args.track_id → ⊥) (λ no. absurd no) _
+    c.in_err-sample.ensures.other)

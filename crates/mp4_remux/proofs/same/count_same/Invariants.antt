@@ -1,4 +1,4 @@
-use Rattle.std.proofs.Common.{◌-◌, ◌+◌, ◌≡◌, ◌≤◌, ◌<◌}
+use Rattle.std.proofs.Common.{◌-◌, ◌+◌, ◌≡◌, ◌≤◌}
 use Rattle.mp4_media.specs.FileBoxes.{opened_movie}
 use Rattle.mp4_remux.proofs.Sameness.{AreAsBefore}
 use Rattle.mp4_remux.proofs.Showing.{AreShown}
@@ -13,7 +13,7 @@ invariant-loop-k l = record {
   same : AreAsBefore l.layout.source_len l.layout.made.items l.layout.pieces.items l.before l.after
       l.track_id l.k;
   have : HasSamples (opened_movie l.before) l.track_id l.k;
-  shown : l.end < 18446744073709551615 → AreShown (opened_movie l.after) l.track_id l.k l.end;
+  shown : AreShown (opened_movie l.after) l.track_id l.k l.end;
 }
 
 abbrev pub decreases-loop-k : goal.decreases-loop-k

@@ -1,8 +1,9 @@
-use Rattle.std.proofs.Common.{leb, rules, sym, subst, arith, ◌-◌, ◌≤◌, length}
+use Rattle.std.proofs.Common.{leb, rules, sym, ap, subst, arith, ◌∙◌, ◌-◌, ◌≤◌, length, Some}
 use Rattle.std.proofs.lemmas.List.Sorted.{IsPartitionPoint-from_clause, IsPartitionedBy-leb}
 use Rattle.mp4_remux.specs.declared.piece.Piece.{Piece}
 use Rattle.mp4_remux.specs.Splice.{IsPieceAt}
-use Rattle.mp4_remux.proofs.Pieces.{rise, some_before, begins, is_piece}
+use Rattle.mp4_remux.proofs.Pieces.{rise, some_before, last_before, begins, is_piece}
+use Rattle.mp4_remux.proofs.Numbered.{at_index}
 use Rattle.mp4_remux.proofs.layout.Layout.piece_at.Goals as goal
 
 pub overflow_sub-after : goal.overflow_sub-after
@@ -37,8 +38,8 @@ overflow_sub-result c =
     (rw c.deref.ensures.value at c.partition_point-after.ensures.bound) point c.index-piece.result.now in
     subst (λ (p : Piece). p.at ≤ c.args.place) (sym c.index-piece.ensures) at
 
-pub returns : goal.returns
-returns c =
+pub returns-clause-at : goal.returns-clause-at
+returns-clause-at c =
     let ps = c.args.self.now.pieces.items in
     let follow = c.args.self.now.follow in
     let parted = IsPartitionedBy-leb (λ (p : Piece). p.at) ps c.args.place (rise _ _ ps 0 _ follow) in
@@ -50,3 +51,15 @@ returns c =
     let made_len = length c.args.self.now.made.items in
     subst (λ (p : Piece). IsPieceAt source_len made_len ps c.args.place p (c.args.place - p.at))
     (sym c.index-piece.ensures) is
+
+pub returns-clause-is : goal.returns-clause-is
+returns-clause-is c =
+    let ps = c.args.self.now.pieces.items in
+    let follow = c.args.self.now.follow in
+    let parted = IsPartitionedBy-leb (λ (p : Piece). p.at) ps c.args.place (rise _ _ ps 0 _ follow) in
+    let point = IsPartitionPoint-from_clause (λ (p : Piece). leb p.at c.args.place) _ _
+    (rw c.deref.ensures.value at c.partition_point-after.ensures.partitioned) parted (λ a r q k. search rules) in
+    let last = last_before _ _ ps _ c.args.place _ follow c.requires
+    (rw c.deref.ensures.value at c.partition_point-after.ensures.bound) point in
+    let number = c.partition_point-after.result - 1 in
+    (number, at_index ps number c.index-piece.result.now last ∙ ap (λ (p : Piece). Some p) (sym c.index-piece.ensures))

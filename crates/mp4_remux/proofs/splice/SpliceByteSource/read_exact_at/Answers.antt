@@ -44,8 +44,8 @@ loop-filled-preserved g c = record {
       count (filled + count - filled)
       (length (take (filled + count - filled) (drop filled c.loop-filled.buf))) p skipped c.loop-filled.buf
       c.read_piece.new.part s.measured
-      (rw c.loop-filled.invariant.layout at c.piece_at-skipped.ensures)
-      (omega (arith, c.min-count.ensures, c.piece_at-skipped.ensures.inside))
+      (rw c.loop-filled.invariant.layout at c.piece_at-skipped.ensures.at)
+      (omega (arith, c.min-count.ensures, c.piece_at-skipped.ensures.at.inside))
       (omega (arith, c.loop-filled.invariant.upto, c.loop-filled.invariant.room))
       (omega (arith, c.read_piece.auto.part)) (omega (arith, c.read_piece.auto.part))
       (rw (c.loop-filled.invariant.contents, c.made.ensures, c.loop-filled.invariant.layout)
