@@ -190,7 +190,7 @@ first_long xs name header payload rest first =
     omega (arith, (header_read (here xs 0) _ (here xs (length header)) first.head).moves)
 
 -- bytes that begin with a box don't begin with none
-begins : (xs : List ℕ) (name : BoxType) (header payload rest : List ℕ) → IsFirstBox xs name header payload rest
+pub begins : (xs : List ℕ) (name : BoxType) (header payload rest : List ℕ) → IsFirstBox xs name header payload rest
     → first_part xs ≡ None → ⊥
 unfolding first_part
 begins xs name header payload rest first none =
@@ -209,7 +209,7 @@ begins xs name header payload rest first none =
 -- WHAT BYTES BECOME
 
 -- what a level's bytes become that begin with a box
-data Becomes (up : ℕ → ℕ) (level : ℕ) (name : BoxType) (header payload rest zs : List ℕ) : Type 0 where
+pub data Becomes (up : ℕ → ℕ) (level : ℕ) (name : BoxType) (header payload rest zs : List ℕ) : Type 0 where
   way : (payload_after rest_after : List ℕ) → level_of name ≡ Some level
       → IsMovedAt up (level + 1) payload payload_after → IsMovedAt up level rest rest_after
       → zs ≡ sized header (length payload_after) ++ (payload_after ++ rest_after)
@@ -231,7 +231,7 @@ becomes_too up level name other header header_too payload payload_too rest rest_
     (subst (λ (h : List ℕ). Becomes up level other h payload rest zs) same.headers
     (subst (λ (n : BoxType). Becomes up level n header payload rest zs) same.names becomes)))
 
-becomes : (up : ℕ → ℕ) (level : ℕ) (xs zs : List ℕ) → IsMovedAt up level xs zs → (name : BoxType)
+pub becomes : (up : ℕ → ℕ) (level : ℕ) (xs zs : List ℕ) → IsMovedAt up level xs zs → (name : BoxType)
     (header payload rest : List ℕ) → IsFirstBox xs name header payload rest
     → Becomes up level name header payload rest zs
 becomes up level xs zs (no_box l bytes none) name header payload rest first =
@@ -246,11 +246,11 @@ becomes up level xs zs (as_it_is l before after r ra n h p own isnt none m e) na
     becomes_too up level n name h header p payload r rest zs (same_first xs n name h header p payload r rest own first)
     (stays ra isnt none m e)
 
-some_or_none : (size : ℕ) (o : Option ℕ) → o ≡ Some size → o ≡ None → ⊥
+pub some_or_none : (size : ℕ) (o : Option ℕ) → o ≡ Some size → o ≡ None → ⊥
 some_or_none size o is none = absurd cc
 
 -- a box on the way is no table
-no_table : (name : BoxType) (level size : ℕ) → level_of name ≡ Some level → entry_size name ≡ Some size → ⊥
+pub no_table : (name : BoxType) (level size : ℕ) → level_of name ≡ Some level → entry_size name ≡ Some size → ⊥
 no_table StcoBox level size on is = absurd cc
 no_table Co64Box level size on is = absurd cc
 no_table _ level size on is = absurd cc
