@@ -214,7 +214,8 @@ pub data Becomes (up : ℕ → ℕ) (level : ℕ) (name : BoxType) (header paylo
       → IsMovedAt up (level + 1) payload payload_after → IsMovedAt up level rest rest_after
       → zs ≡ sized header (length payload_after) ++ (payload_after ++ rest_after)
       → Becomes up level name header payload rest zs
-  table : (rest_after : List ℕ) (size : ℕ) → level ≡ 5 → entry_size name ≡ Some size → IsMovedAt up level rest rest_after
+  table : (rest_after : List ℕ) (size : ℕ) → level ≡ 5 → entry_size name ≡ Some size
+      → IsMovedAt up level rest rest_after
       → zs ≡ moved_table up size header payload ++ rest_after → Becomes up level name header payload rest zs
   stays : (rest_after : List ℕ) → (level_of name ≡ Some level → ⊥) → (level ≡ 5 → entry_size name ≡ None)
       → IsMovedAt up level rest rest_after → zs ≡ header ++ (payload ++ rest_after)

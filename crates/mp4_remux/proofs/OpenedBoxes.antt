@@ -106,7 +106,8 @@ module _ (xs : List ℕ) where
   AreWhole boxes bs = (b : FileBox) (i : ℕ) → slice_get bs i ≡ Some b → (b.content ≡ Skipped → ⊥)
       → (name : BoxType) × (HasWhole xs boxes name × IsMeaning name b.content)
 
-  whole_later : (c : TopBox) (boxes : List TopBox) (name : BoxType) → HasWhole xs boxes name → HasWhole xs (c ∷ boxes) name
+  whole_later : (c : TopBox) (boxes : List TopBox) (name : BoxType) → HasWhole xs boxes name
+      → HasWhole xs (c ∷ boxes) name
   whole_later c boxes name h = record {
     b = h.b;
     i = suc h.i;
