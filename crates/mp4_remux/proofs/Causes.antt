@@ -1,10 +1,9 @@
 -- Why boxes of a file aren't read, and where they are.
 use Rattle.std.proofs.Common.{◌≡◌, ◌∙◌, ◌⊎◌, inl, inr, ℕ, zero, suc, ◌+◌, ◌-◌, ◌==◌, ◌<◌, ◌≤◌, Bool, true, false}
 use Rattle.std.proofs.Common.{if◌then◌else◌, min, nat_lt, List, [], ◌∷◌, length, Option, None, Some, IfNone, IfSome}
-use Rattle.std.proofs.Common.{Result, Ok, Err, refl, sym, ap, subst, arith}
+use Rattle.std.proofs.Common.{Ok, refl, sym, ap, subst, arith}
 use Rattle.std.proofs.lemmas.Bool.{ltb-true, ltb-false}
 use Rattle.std.specs.Prelude.{slice_get, slice_index_or}
-use Rattle.mp4_codec.specs.Cause.{Cause}
 use Rattle.mp4_codec.specs.Cursor.{Cursor, here, header_at}
 use Rattle.mp4_codec.specs.declared.box_type.BoxType.{BoxType}
 use Rattle.mp4_codec.specs.declared.box_type.BoxType.TheVariants.{FtypBox}
@@ -12,14 +11,9 @@ use Rattle.mp4_codec.specs.declared.error.Error.{Error}
 use Rattle.mp4_codec.specs.declared.error.Error.TheVariants.{EndOfData, OutOfMemory}
 use Rattle.mp4_codec.specs.declared.header.BoxHeader.{BoxHeader}
 use Rattle.mp4_codec.proofs.HeadLaws.{header_read}
-use Rattle.mp4_source.specs.Answers.{IsIo, IsLength, RefusesRead}
-use Rattle.mp4_source.specs.declared.error.SourceError.{SourceError}
-use Rattle.mp4_source.specs.declared.error.SourceError.TheVariants.{OutOfMemory as no_memory, Io as refused}
-use Rattle.mp4_source.specs.declared.file_error.FileError.{FileError}
-use Rattle.mp4_source.specs.declared.file_error.FileError.TheVariants.{Mp4 as of_mp4, Io as file_refused}
-use Rattle.mp4_remux.specs.Caused.{CausedBy, CausedByMemory, CausedByNone}
-use Rattle.mp4_remux.specs.Errors.{of_file, of_source}
-use Rattle.mp4_remux.specs.Front.{AreApart, AreBoxes, HasNone, IsBoxOf, IsOnly, IsTopBox, top_end}
+use Rattle.mp4_source.specs.Answers.{IsLength}
+use Rattle.mp4_remux.specs.Caused.{CausedBy, CausedByMemory}
+use Rattle.mp4_remux.specs.Front.{AreApart, AreBoxes, HasNone, IsBoxOf, IsOnly, IsTopBox}
 use Rattle.mp4_remux.specs.declared.error.RemuxError.{RemuxError}
 use Rattle.mp4_remux.specs.declared.error.RemuxError.TheVariants.{Mp4, Read, Write, Twice, SaysPlaces}
 use Rattle.mp4_remux.specs.declared.error.RemuxError.TheVariants.{TooManySamples, OtherTracks, Differs}

@@ -1,5 +1,5 @@
 -- A movie box whose chunk offsets are moved farther has no fewer bytes.
-use Rattle.std.proofs.Common.{◌≡◌, ◌∙◌, ◌⊎◌, inl, inr, ◌+◌, ◌-◌, ◌*◌, ◌^◌, ◌<◌, ◌≤◌, ◌==◌, ◌||◌, ◌++◌}
+use Rattle.std.proofs.Common.{◌≡◌, ◌∙◌, ◌+◌, ◌-◌, ◌*◌, ◌^◌, ◌≤◌, ◌==◌, ◌||◌, ◌++◌}
 use Rattle.std.proofs.Common.{ℕ, min, Bool, true, false, if◌then◌else◌, nat_lt, List, [], ◌∷◌, length, take, drop}
 use Rattle.std.proofs.Common.{Option, None, Some, Result, Ok, Err, refl, sym, ap, subst, arith}
 use Rattle.std.proofs.lemmas.Bool.{ltb-true, lt-ltb, le-ltb, ne_eqb}
@@ -9,7 +9,7 @@ use Rattle.byteorder.specs.Endian.{big_bytes}
 use Rattle.byteorder.specs.Numbers.{length-bytes_high_first}
 use Rattle.mp4_codec.specs.BoxType.{code_of}
 use Rattle.mp4_codec.specs.Cause.{Cause}
-use Rattle.mp4_codec.specs.Cursor.{Cursor, here, header_at}
+use Rattle.mp4_codec.specs.Cursor.{Cursor, here}
 use Rattle.mp4_codec.specs.declared.box_type.BoxType.{BoxType}
 use Rattle.mp4_codec.specs.declared.box_type.BoxType.TheVariants.{StcoBox, Co64Box}
 use Rattle.mp4_codec.specs.declared.header.BoxHeader.{BoxHeader}
@@ -18,7 +18,7 @@ use Rattle.mp4_remux.specs.Kept.{IsFirstBox}
 use Rattle.mp4_remux.specs.Moved.{IsMovedAt, entry_count, entry_size, is_wide, level_of, moved_payload}
 use Rattle.mp4_remux.specs.Moved.{moved_table, offsets_in, passes, sized, wide_bytes, wide_header, wide_payload}
 use Rattle.mp4_remux.specs.Moved.{no_box, on_the_way, of_offsets, as_it_is}
-use Rattle.mp4_remux.specs.References.{Part, first_part, part_after, part_with}
+use Rattle.mp4_remux.specs.References.{first_part, part_after, part_with}
 
 -- LENGTHS
 

@@ -1,5 +1,5 @@
 -- Why no movie box is put in front.
-use Rattle.std.proofs.Common.{◌≡◌, ◌∙◌, ◌⊎◌, inl, inr, ℕ, ◌+◌, ◌-◌, ◌*◌, ◌^◌, ◌<◌, ◌≤◌, Bool, true, false, nat_lt}
+use Rattle.std.proofs.Common.{◌≡◌, ◌∙◌, ◌⊎◌, inl, inr, ℕ, ◌-◌, ◌*◌, ◌^◌, ◌<◌, ◌≤◌, Bool, true, false, nat_lt}
 use Rattle.std.proofs.Common.{drop, List, length, Option, None, Some, IfSome, Result, Ok, Err, IfErr}
 use Rattle.std.proofs.Common.{refl, sym, ap, subst, arith}
 use Rattle.std.proofs.lemmas.Bool.{ltb-true, ltb-false}
@@ -15,10 +15,10 @@ use Rattle.mp4_codec.specs.declared.error.Limit.TheVariants.{BoxSize}
 use Rattle.mp4_media.specs.FileBoxes.{OpenedFile}
 use Rattle.mp4_media.specs.FileGrammar.{IsFile, between}
 use Rattle.mp4_source.specs.Answers.{IsLength}
-use Rattle.mp4_remux.specs.Caused.{CausedBy, CausedByMemory, CausedByNone}
-use Rattle.mp4_remux.specs.Errors.{CopyFails, IsNamed, IsNoFault}
+use Rattle.mp4_remux.specs.Caused.{CausedBy, CausedByMemory}
+use Rattle.mp4_remux.specs.Errors.{CopyFails, IsNoFault}
 use Rattle.mp4_remux.specs.Front.{AreApart, AreBoxes, HasNone, IsBoxOf, IsOnly, IsTopBox}
-use Rattle.mp4_remux.specs.Moved.{IsUpToTwice, IsWhyNotMoved}
+use Rattle.mp4_remux.specs.Moved.{IsUpToTwice}
 use Rattle.mp4_remux.specs.Named.{IsSingle}
 use Rattle.mp4_remux.specs.PlannedFront.{HasLargeMovie, IsInFront, IsNotWhole, IsTooLarge, IsWhyNotInFront}
 use Rattle.mp4_remux.specs.PlannedFront.{IsWhyNotPlanned}

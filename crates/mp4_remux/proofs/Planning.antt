@@ -1,11 +1,8 @@
 -- A file whose movie box is put in front.
-use Rattle.std.proofs.Common.{◌≡◌, ◌∙◌, ◌⊎◌, inl, inr, ℕ, ◌+◌, ◌-◌, ◌^◌, ◌<◌, ◌≤◌, ◌&&◌, if◌then◌else◌, min, nat_lt}
-use Rattle.std.proofs.Common.{Bool, true, false, List, length, Option, None, Some, IfSome, refl, sym, subst, arith}
+use Rattle.std.proofs.Common.{◌≡◌, ◌⊎◌, inl, inr, ℕ, ◌+◌, ◌-◌, ◌^◌, ◌≤◌, ◌&&◌, if◌then◌else◌, min, nat_lt}
+use Rattle.std.proofs.Common.{Bool, true, false, List, length, Option, None, Some, IfSome, refl, arith}
 use Rattle.std.specs.Prelude.{not}
-use Rattle.mp4_codec.specs.declared.box_type.BoxType.TheVariants.{FtypBox as ftyp, MoovBox as moov}
-use Rattle.mp4_media.specs.FileGrammar.{between}
-use Rattle.mp4_source.specs.Answers.{IsLength}
-use Rattle.mp4_remux.specs.Front.{AreBoxes, in_front, IsBoxOf, IsMoved, IsOnly}
+use Rattle.mp4_remux.specs.Front.{IsMoved}
 use Rattle.mp4_remux.specs.Moved.{IsMovedAt, IsUpToTwice, bytes_before, place_in_front}
 use Rattle.mp4_remux.specs.PlannedFront.{IsInFront}
 use Rattle.mp4_remux.specs.Splice.{spliced}
