@@ -1,7 +1,7 @@
 //! The movie box moved to the front.
 
-ghost use Rattle.std.specs.Prelude.{◌≡◌, ◌≤◌, ◌<◌, ◌+◌, ◌-◌, ◌*◌, ◌^◌, ◌++◌, ℕ, List, length, IfSome, IfErr, IfNone};
-ghost use Rattle.std.specs.Prelude.{IfOk, OnOk, IsFalse, IsTrue, []};
+ghost use Rattle.std.specs.Prelude.{◌≡◌, ◌≤◌, ◌<◌, ◌+◌, ◌-◌, ◌*◌, ◌^◌, ℕ, List, length, IfSome, IfErr, IfNone};
+ghost use Rattle.std.specs.Prelude.{IfOk, OnOk, IsFalse, IsTrue};
 ghost use Rattle.mp4_codec.specs.declared.box_type.BoxType.TheVariants.{FtypBox, MoovBox};
 ghost use Rattle.mp4_source.specs.Answers.{IsLength};
 ghost use Rattle.mp4_remux.specs.Errors.{IsNamed, IsRefusalOf, MayRefuse, SaysFault, TakesMemory};
@@ -13,7 +13,7 @@ ghost use Rattle.mp4_remux.specs.Front.{IsOnly, NoMovieAfterData, WritesFront};
 ghost use Rattle.mp4_remux.specs.Moved.{IsMovedAt, IsUpToTwice, IsWhyNotMoved, place_in_front};
 ghost use Rattle.mp4_remux.specs.Named.{NamesBox};
 ghost use Rattle.mp4_remux.specs.PlannedFront.{IsInFront, IsWhyNotInFront, IsWhyNotPlanned};
-ghost use Rattle.mp4_remux.specs.Splice.{Follow, of_origin, spliced};
+ghost use Rattle.mp4_remux.specs.Splice.{Follow, spliced};
 
 use crate::chosen::all_ids;
 use crate::copy::copy_all;
