@@ -1,7 +1,7 @@
 -- Where the bytes of a file are when its movie box is in front.
 use Rattle.std.proofs.Common.{◌≡◌, ◌∙◌, ◌⊎◌, inl, inr, ℕ, zero, suc, ◌+◌, ◌-◌, ◌^◌, ◌<◌, ◌≤◌, ◌&&◌, Bool, true, false}
 use Rattle.std.proofs.Common.{if◌then◌else◌, min, max, nat_lt, List, [], ◌∷◌, ◌++◌, length, take, drop}
-use Rattle.std.proofs.Common.{Option, None, Some, refl, sym, ap, subst, arith, append_assoc, take_all}
+use Rattle.std.proofs.Common.{Option, None, Some, refl, sym, ap, arith, append_assoc}
 use Rattle.std.proofs.lemmas.Bool.{ltb-true, ltb-false, lt-ltb, le-ltb}
 use Rattle.std.proofs.lemmas.List.{append-nil, length-append, length-drop, length-take, take-append-le, drop-append-le}
 use Rattle.std.specs.Prelude.{not, slice_get}
