@@ -162,7 +162,8 @@ module _ (xs made : List ℕ) (one other : TopBox) (boxes : AreApart (length xs)
     -- the byte is in the file type
     of_type : (p : ℕ) → one.place ≤ p → p < one.end → Moves p
     of_type p from to =
-        at [] (made ++ (B ++ (C ++ D))) one.place one.end (p - one.place) (place_in_front one other (length made) p) p refl
+        at [] (made ++ (B ++ (C ++ D))) one.place one.end (p - one.place)
+        (place_in_front one other (length made) p) p refl
         boxes.within (omega (arith, from, to)) (in_type one other (length made) p from to ∙ omega arith)
         (omega (arith, from))
 

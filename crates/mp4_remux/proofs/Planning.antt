@@ -73,8 +73,8 @@ pub is_planned : (known : Option (List ℕ)) (len : ℕ) (boxes : List TopBox) (
     → IfSome known (λ xs. IsInFront xs made ps)
 is_planned None len boxes one other bytes made ps l measured first second are whole also is moved all is_len is_made
     is_ps small = tt
-is_planned (Some xs) len boxes one other bytes made ps l measured first second are whole also is moved all is_len is_made
-    is_ps small = record {
+is_planned (Some xs) len boxes one other bytes made ps l measured first second are whole also is moved all is_len
+    is_made is_ps small = record {
       boxes = boxes;
       file_type = one;
       movie = other;
