@@ -1,6 +1,7 @@
 -- Headers that were looked at, one after the other.
-use Rattle.std.proofs.Common.{◌≡◌, ◌∙◌, ◌⊎◌, inl, inr, ℕ, suc, ◌+◌, ◌*◌, ◌≤◌, ◌<◌, List, [], ◌∷◌, length, drop, Option, None, Some, Ok}
-use Rattle.std.proofs.Common.{Err, option_map, refl, sym, ap, subst, arith, max, Bool, true, false, ◌==◌}
+use Rattle.std.proofs.Common.{◌≡◌, ◌∙◌, ◌⊎◌, inl, inr, ℕ, suc, ◌+◌, ◌*◌, ◌≤◌, ◌<◌, List, [], ◌∷◌, length, drop}
+use Rattle.std.proofs.Common.{Option, None, Some, Ok, Err, option_map, refl, sym, ap, subst, arith, max}
+use Rattle.std.proofs.Common.{Bool, true, false, ◌==◌}
 use Rattle.std.proofs.lemmas.Bool.{cases_lt, eqb-false, eqb-true}
 use Rattle.std.specs.Prelude.{slice_get, slice_index_or}
 use Rattle.mp4_codec.specs.Cause.{Cause, trak_not_found}

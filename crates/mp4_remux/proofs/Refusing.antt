@@ -287,7 +287,8 @@ not_the_other (Some xs) known_after l len what ids opened rewritten measured is 
     let all : l.len ≡ length ys =
     counted (Some xs) l.made.items l.pieces.items l.source_len l.len measured l.follow in
     let there = subst (λ (k : Option (List ℕ)). IfSome k (λ zs. IsFile len (here zs 0) rewritten)) is file in
-    let W : ℕ → ℕ → Type 0 = λ m n. IsWhyOther (KeepsMovie what opened rewritten ids → ⊥) ids l.pieces.items m n opened rewritten e in
+    let W : ℕ → ℕ → Type 0 = λ m n.
+    IsWhyOther (KeepsMovie what opened rewritten ids → ⊥) ids l.pieces.items m n opened rewritten e in
     of_movie what ids xs l opened measured rewritten
     (subst (λ n. IsFile n (here ys 0) rewritten) (whole ∙ all) there) e
     (subst (λ n. W (length xs) n) all (subst (λ m. W m l.len) measured why))

@@ -1,6 +1,6 @@
 -- When the samples of a track have been shown.
-use Rattle.std.proofs.Common.{◌≡◌, ◌∙◌, ℕ, ◌+◌, ◌≤◌, ◌<◌, ◌⊎◌, inl, inr, Bool, true, false, nat_lt, None, Some, Ok, refl}
-use Rattle.std.proofs.Common.{sym, ap, subst, arith, max}
+use Rattle.std.proofs.Common.{◌≡◌, ◌∙◌, ℕ, ◌+◌, ◌≤◌, ◌<◌, ◌⊎◌, inl, inr, Bool, true, false, nat_lt}
+use Rattle.std.proofs.Common.{None, Some, Ok, refl, sym, ap, subst, arith, max}
 use Rattle.std.proofs.lemmas.Bool.{cases_lt, ltb-true, ltb-false}
 use Rattle.mp4_samples.specs.declared.sample.Place.{Place}
 use Rattle.mp4_media.specs.FileBoxes.{OpenedFile}

@@ -4,9 +4,9 @@ ghost use Rattle.std.specs.Prelude.{◌≡◌, ◌↔◌, ◌≤◌, ◌^◌, �
 ghost use Rattle.mp4_boxes.specs.declared.trak.TrakBox.{TrakBox};
 ghost use Rattle.mp4_media.specs.FileBoxes.{opened_movie};
 ghost use Rattle.mp4_media.specs.MovieTracks.{AreTracks};
-ghost use Rattle.mp4_remux.specs.Headers.{DurationsOf, HasFarChunk, IsAsLong, IsNarrow, IsRoundedUp, IsTrackTime, KeepsHeaders};
-ghost use Rattle.mp4_remux.specs.Headers.{KeepsEdits, KeepsTrack, edit_like, edits_time, longest, media_header_like};
-ghost use Rattle.mp4_remux.specs.Headers.{movie_header_like, track_header_like};
+ghost use Rattle.mp4_remux.specs.Headers.{DurationsOf, HasFarChunk, IsAsLong, IsNarrow, IsRoundedUp, IsTrackTime};
+ghost use Rattle.mp4_remux.specs.Headers.{KeepsEdits, KeepsHeaders, KeepsTrack, edit_like, edits_time, longest};
+ghost use Rattle.mp4_remux.specs.Headers.{media_header_like, movie_header_like, track_header_like};
 ghost use Rattle.mp4_remux.specs.declared.made.Made.TheVariants.{Offsets, Tables};
 
 use crate::edits::edits_of;

@@ -74,8 +74,8 @@ pub returns-in_err-check_same-clause-why : goal.returns-in_err-check_same-clause
 returns-in_err-check_same-clause-why g c =
     let p = err_from_is_err_and c.from_residual-in_err-check_same.result c.from_residual-in_err-check_same.ensures.1 in
     rw (p.1 ∙ ap (λ (e : RemuxError). Err e) p.2)
-    (not_the_other (g.S.ByteSource.contents c.args.source) _ c.args.layout.now c.len-len.result c.args.made c.args.ids.now
-    (opened_movie c.args.before.now) (opened_movie c.in_ok-splice.after) c.requires.len
+    (not_the_other (g.S.ByteSource.contents c.args.source) _ c.args.layout.now c.len-len.result c.args.made
+    c.args.ids.now (opened_movie c.args.before.now) (opened_movie c.in_ok-splice.after) c.requires.len
     (c.in_ok-splice.ensures.contents
     ∙ same_splice g.S.ByteSource.contents c.new-splice.result.source c.args.source c.new-splice.result.layout
     c.in_ok-try_clone.field-0 c.args.layout.now c.new-splice.ensures.source c.new-splice.ensures.layout
@@ -87,8 +87,8 @@ returns-in_err-check_same-clause-why g c =
 
 pub returns-then-not-keeps_headers-clause-why : goal.returns-then-not-keeps_headers-clause-why
 returns-then-not-keeps_headers-clause-why g c =
-    not_the_other (g.S.ByteSource.contents c.args.source) _ c.args.layout.now c.len-len.result c.args.made c.args.ids.now
-    (opened_movie c.args.before.now) (opened_movie c.in_ok-splice.after) c.requires.len
+    not_the_other (g.S.ByteSource.contents c.args.source) _ c.args.layout.now c.len-len.result c.args.made
+    c.args.ids.now (opened_movie c.args.before.now) (opened_movie c.in_ok-splice.after) c.requires.len
     (c.in_ok-splice.ensures.contents
     ∙ same_splice g.S.ByteSource.contents c.new-splice.result.source c.args.source c.new-splice.result.layout
     c.in_ok-try_clone.field-0 c.args.layout.now c.new-splice.ensures.source c.new-splice.ensures.layout
@@ -100,8 +100,8 @@ returns-then-not-keeps_headers-clause-why g c =
 
 pub returns-then-not-has_durations-clause-why : goal.returns-then-not-has_durations-clause-why
 returns-then-not-has_durations-clause-why g c =
-    not_the_other (g.S.ByteSource.contents c.args.source) _ c.args.layout.now c.len-len.result c.args.made c.args.ids.now
-    (opened_movie c.args.before.now) (opened_movie c.in_ok-splice.after) c.requires.len
+    not_the_other (g.S.ByteSource.contents c.args.source) _ c.args.layout.now c.len-len.result c.args.made
+    c.args.ids.now (opened_movie c.args.before.now) (opened_movie c.in_ok-splice.after) c.requires.len
     (c.in_ok-splice.ensures.contents
     ∙ same_splice g.S.ByteSource.contents c.new-splice.result.source c.args.source c.new-splice.result.layout
     c.in_ok-try_clone.field-0 c.args.layout.now c.new-splice.ensures.source c.new-splice.ensures.layout
