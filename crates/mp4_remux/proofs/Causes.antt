@@ -1,10 +1,9 @@
 -- Why boxes of a file aren't read, and where they are.
-use Rattle.std.proofs.Common.{◌≡◌, ◌∙◌, ◌⊎◌, inl, inr, ℕ, zero, suc, ◌+◌, ◌-◌, ◌==◌, ◌<◌, ◌≤◌, Bool, true, false, nat_lt}
-use Rattle.std.proofs.Common.{List, [], ◌∷◌, length, min, Option, None, Some, IfNone, IfSome, Result, Ok, Err, refl, sym, ap, subst}
-use Rattle.std.proofs.Common.{if◌then◌else◌, arith}
+use Rattle.std.proofs.Common.{◌≡◌, ◌∙◌, ◌⊎◌, inl, inr, ℕ, zero, suc, ◌+◌, ◌-◌, ◌==◌, ◌<◌, ◌≤◌, Bool, true, false}
+use Rattle.std.proofs.Common.{if◌then◌else◌, min, nat_lt, List, [], ◌∷◌, length, Option, None, Some, IfNone, IfSome}
+use Rattle.std.proofs.Common.{Ok, refl, sym, ap, subst, arith}
 use Rattle.std.proofs.lemmas.Bool.{ltb-true, ltb-false}
 use Rattle.std.specs.Prelude.{slice_get, slice_index_or}
-use Rattle.mp4_codec.specs.Cause.{Cause}
 use Rattle.mp4_codec.specs.Cursor.{Cursor, here, header_at}
 use Rattle.mp4_codec.specs.declared.box_type.BoxType.{BoxType}
 use Rattle.mp4_codec.specs.declared.box_type.BoxType.TheVariants.{FtypBox}
@@ -12,14 +11,9 @@ use Rattle.mp4_codec.specs.declared.error.Error.{Error}
 use Rattle.mp4_codec.specs.declared.error.Error.TheVariants.{EndOfData, OutOfMemory}
 use Rattle.mp4_codec.specs.declared.header.BoxHeader.{BoxHeader}
 use Rattle.mp4_codec.proofs.HeadLaws.{header_read}
-use Rattle.mp4_source.specs.Answers.{IsIo, IsLength, RefusesRead}
-use Rattle.mp4_source.specs.declared.error.SourceError.{SourceError}
-use Rattle.mp4_source.specs.declared.error.SourceError.TheVariants.{OutOfMemory as no_memory, Io as refused}
-use Rattle.mp4_source.specs.declared.file_error.FileError.{FileError}
-use Rattle.mp4_source.specs.declared.file_error.FileError.TheVariants.{Mp4 as of_mp4, Io as file_refused}
-use Rattle.mp4_remux.specs.Caused.{CausedBy, CausedByMemory, CausedByNone}
-use Rattle.mp4_remux.specs.Errors.{of_file, of_source}
-use Rattle.mp4_remux.specs.Front.{AreApart, AreBoxes, HasNone, IsBoxOf, IsOnly, IsTopBox, top_end}
+use Rattle.mp4_source.specs.Answers.{IsLength}
+use Rattle.mp4_remux.specs.Caused.{CausedBy, CausedByMemory}
+use Rattle.mp4_remux.specs.Front.{AreApart, AreBoxes, HasNone, IsBoxOf, IsOnly, IsTopBox}
 use Rattle.mp4_remux.specs.declared.error.RemuxError.{RemuxError}
 use Rattle.mp4_remux.specs.declared.error.RemuxError.TheVariants.{Mp4, Read, Write, Twice, SaysPlaces}
 use Rattle.mp4_remux.specs.declared.error.RemuxError.TheVariants.{TooManySamples, OtherTracks, Differs}
@@ -48,67 +42,15 @@ caused_as P Q A B also others SameIds caused = tt
 caused_as P Q A B also others OtherTracks caused = others caused
 caused_as P Q A B also others (Differs track number) caused = caused
 
--- what is caused by nothing, or by memory, is caused by whatever has that
-pub anyhow : (P : Error → Type 0) (A : Type 0) (e : RemuxError) → CausedByNone e → CausedBy P A e
-anyhow P A e caused = caused_as (λ error. ⊥) P ⊥ A (λ error no. absurd no) (λ no. absurd no) e caused
-
+-- what is caused by memory is caused by whatever has that
 pub for_memory : (P : Error → Type 0) (A : Type 0) → P OutOfMemory → (e : RemuxError) → CausedByMemory e
     → CausedBy P A e
 for_memory P A none e caused =
     caused_as (λ error. error ≡ OutOfMemory) P ⊥ A (λ error is. subst P (sym is) none) (λ no. absurd no) e caused
 
--- a source that isn't read is one that refuses, or memory ran out
-pub source_refused : (e : SourceError) → CausedByMemory (of_source e)
-source_refused no_memory = refl
-source_refused (refused e) = tt
-
--- a file of which it isn't known how many bytes it has
-pub io_refused : (P : Error → Type 0) (A : Type 0) (e : FileError) → IsIo e → CausedBy P A (of_file e)
-io_refused P A (of_mp4 e) io = absurd io
-io_refused P A (file_refused e) io = tt
-
--- a header that is there
-read_there : (can_refuse : Bool) (e : FileError) (x : BoxHeader × Cursor) (r : Result (BoxHeader × Cursor) Cause)
-    → RefusesRead can_refuse e r → r ≡ Ok x → CausedByMemory (of_file e)
-read_there can_refuse (of_mp4 e) x r (inl none) is = none
-read_there can_refuse (of_mp4 e) x r (inr isnt) is = absurd cc
-read_there can_refuse (file_refused e) x r may is = tt
-
 -- no box of this type is there, or memory ran out
 abbrev pub IsCut : List ℕ → BoxType → TopBox → Error → Type 0
 IsCut xs name one error = (error ≡ OutOfMemory) ⊎ ((error ≡ EndOfData) × (IsBoxOf xs name one → ⊥))
-
-pub header_refused : (known : Option (List ℕ)) (can_refuse : Bool) (e : FileError) (name : BoxType) (one : TopBox)
-    → IfSome known (λ xs. RefusesRead can_refuse e (header_at (here xs one.place)))
-    → IfSome known (λ xs. IsTopBox xs one → one.name ≡ name → CausedBy (IsCut xs name one) ⊥ (of_file e))
-header_refused None can_refuse e name one answer = tt
-header_refused (Some xs) can_refuse e name one answer = λ top is.
-    for_memory (IsCut xs name one) ⊥ (inl refl) (of_file e) (read_there can_refuse e _ _ answer top.head)
-
-header_in : Result (BoxHeader × Cursor) Cause → BoxHeader → BoxHeader
-header_in (Ok x) h = x.0
-header_in (Err c) h = h
-
-place_in : Result (BoxHeader × Cursor) Cause → ℕ
-place_in (Ok x) = x.1.position
-place_in (Err c) = 0
-
--- a box that doesn't end where its header says, or past the file, or has another type
-pub no_box_of : (known : Option (List ℕ)) (len : ℕ) (name : BoxType) (one : TopBox) (h : BoxHeader) (from : ℕ)
-    → IsLength known len → IfSome known (λ xs. header_at (here xs one.place) ≡ Ok (h, here xs from))
-    → (h.name ≡ name → one.end ≡ from + (h.size - 8) → one.end ≤ len → ⊥)
-    → IfSome known (λ xs. IsTopBox xs one → one.name ≡ name → CausedBy (IsCut xs name one) ⊥ (Mp4 EndOfData))
-unfolding header_in place_in
-no_box_of None len name one h from measured head none = tt
-no_box_of (Some xs) len name one h from measured head none = λ top is. inr (
-  refl,
-  λ box.
-      let both = sym head ∙ box.head in
-      let same : h.name ≡ name = ap (λ r. (header_in r h).name) both in
-      let size : h.size ≡ box.size = ap (λ r. (header_in r h).size) both in
-      let start : from ≡ box.from = ap place_in both in
-      none same (omega (arith, box.end, size, start)) (omega (arith, box.within, measured)),
-)
 
 -- WHERE BOXES ARE
 
@@ -217,17 +159,6 @@ one_named boxes i d e inside says =
     (IsOneOf boxes) (λ name. ⊥) (λ name. ⊥) (λ track. ⊥) (λ track. ⊥) (λ IsSo. ⊥) (λ IsSo. ⊥)
     (λ name place is. (slice_index_or boxes i d, i, at_index boxes i d inside, is.0, is.1)) (λ name no. no)
     (λ track no. no) (λ IsSo no. no) e says
-
--- what is caused by nothing isn't whatever is known
-pub none_caused : (known : Option (List ℕ)) (Is : List ℕ → Type 0) (e : RemuxError) → CausedByNone e
-    → IfSome known (λ xs. Is xs → CausedByMemory e)
-none_caused None Is e caused = tt
-none_caused (Some xs) Is e caused = λ is. anyhow (λ error. error ≡ OutOfMemory) ⊥ e caused
-
-pub memory_alone : (known : Option (List ℕ)) (Is : List ℕ → Type 0) (e : RemuxError) → CausedByMemory e
-    → IfSome known (λ xs. Is xs → CausedByMemory e)
-memory_alone None Is e caused = tt
-memory_alone (Some xs) Is e caused = λ is. caused
 
 -- ONLY ONE BOX
 

@@ -1,5 +1,5 @@
 -- A movie box whose chunk offsets are moved farther has no fewer bytes.
-use Rattle.std.proofs.Common.{◌≡◌, ◌∙◌, ◌⊎◌, inl, inr, ◌+◌, ◌-◌, ◌*◌, ◌^◌, ◌<◌, ◌≤◌, ◌==◌, ◌||◌, ◌++◌}
+use Rattle.std.proofs.Common.{◌≡◌, ◌∙◌, ◌+◌, ◌-◌, ◌*◌, ◌^◌, ◌≤◌, ◌==◌, ◌||◌, ◌++◌}
 use Rattle.std.proofs.Common.{ℕ, min, Bool, true, false, if◌then◌else◌, nat_lt, List, [], ◌∷◌, length, take, drop}
 use Rattle.std.proofs.Common.{Option, None, Some, Result, Ok, Err, refl, sym, ap, subst, arith}
 use Rattle.std.proofs.lemmas.Bool.{ltb-true, lt-ltb, le-ltb, ne_eqb}
@@ -9,7 +9,7 @@ use Rattle.byteorder.specs.Endian.{big_bytes}
 use Rattle.byteorder.specs.Numbers.{length-bytes_high_first}
 use Rattle.mp4_codec.specs.BoxType.{code_of}
 use Rattle.mp4_codec.specs.Cause.{Cause}
-use Rattle.mp4_codec.specs.Cursor.{Cursor, here, header_at}
+use Rattle.mp4_codec.specs.Cursor.{Cursor, here}
 use Rattle.mp4_codec.specs.declared.box_type.BoxType.{BoxType}
 use Rattle.mp4_codec.specs.declared.box_type.BoxType.TheVariants.{StcoBox, Co64Box}
 use Rattle.mp4_codec.specs.declared.header.BoxHeader.{BoxHeader}
@@ -18,7 +18,7 @@ use Rattle.mp4_remux.specs.Kept.{IsFirstBox}
 use Rattle.mp4_remux.specs.Moved.{IsMovedAt, entry_count, entry_size, is_wide, level_of, moved_payload}
 use Rattle.mp4_remux.specs.Moved.{moved_table, offsets_in, passes, sized, wide_bytes, wide_header, wide_payload}
 use Rattle.mp4_remux.specs.Moved.{no_box, on_the_way, of_offsets, as_it_is}
-use Rattle.mp4_remux.specs.References.{Part, first_part, part_after, part_with}
+use Rattle.mp4_remux.specs.References.{first_part, part_after, part_with}
 
 -- LENGTHS
 
@@ -190,7 +190,7 @@ first_long xs name header payload rest first =
     omega (arith, (header_read (here xs 0) _ (here xs (length header)) first.head).moves)
 
 -- bytes that begin with a box don't begin with none
-begins : (xs : List ℕ) (name : BoxType) (header payload rest : List ℕ) → IsFirstBox xs name header payload rest
+pub begins : (xs : List ℕ) (name : BoxType) (header payload rest : List ℕ) → IsFirstBox xs name header payload rest
     → first_part xs ≡ None → ⊥
 unfolding first_part
 begins xs name header payload rest first none =
@@ -209,12 +209,13 @@ begins xs name header payload rest first none =
 -- WHAT BYTES BECOME
 
 -- what a level's bytes become that begin with a box
-data Becomes (up : ℕ → ℕ) (level : ℕ) (name : BoxType) (header payload rest zs : List ℕ) : Type 0 where
+pub data Becomes (up : ℕ → ℕ) (level : ℕ) (name : BoxType) (header payload rest zs : List ℕ) : Type 0 where
   way : (payload_after rest_after : List ℕ) → level_of name ≡ Some level
       → IsMovedAt up (level + 1) payload payload_after → IsMovedAt up level rest rest_after
       → zs ≡ sized header (length payload_after) ++ (payload_after ++ rest_after)
       → Becomes up level name header payload rest zs
-  table : (rest_after : List ℕ) (size : ℕ) → level ≡ 5 → entry_size name ≡ Some size → IsMovedAt up level rest rest_after
+  table : (rest_after : List ℕ) (size : ℕ) → level ≡ 5 → entry_size name ≡ Some size
+      → IsMovedAt up level rest rest_after
       → zs ≡ moved_table up size header payload ++ rest_after → Becomes up level name header payload rest zs
   stays : (rest_after : List ℕ) → (level_of name ≡ Some level → ⊥) → (level ≡ 5 → entry_size name ≡ None)
       → IsMovedAt up level rest rest_after → zs ≡ header ++ (payload ++ rest_after)
@@ -231,7 +232,7 @@ becomes_too up level name other header header_too payload payload_too rest rest_
     (subst (λ (h : List ℕ). Becomes up level other h payload rest zs) same.headers
     (subst (λ (n : BoxType). Becomes up level n header payload rest zs) same.names becomes)))
 
-becomes : (up : ℕ → ℕ) (level : ℕ) (xs zs : List ℕ) → IsMovedAt up level xs zs → (name : BoxType)
+pub becomes : (up : ℕ → ℕ) (level : ℕ) (xs zs : List ℕ) → IsMovedAt up level xs zs → (name : BoxType)
     (header payload rest : List ℕ) → IsFirstBox xs name header payload rest
     → Becomes up level name header payload rest zs
 becomes up level xs zs (no_box l bytes none) name header payload rest first =
@@ -246,11 +247,11 @@ becomes up level xs zs (as_it_is l before after r ra n h p own isnt none m e) na
     becomes_too up level n name h header p payload r rest zs (same_first xs n name h header p payload r rest own first)
     (stays ra isnt none m e)
 
-some_or_none : (size : ℕ) (o : Option ℕ) → o ≡ Some size → o ≡ None → ⊥
+pub some_or_none : (size : ℕ) (o : Option ℕ) → o ≡ Some size → o ≡ None → ⊥
 some_or_none size o is none = absurd cc
 
 -- a box on the way is no table
-no_table : (name : BoxType) (level size : ℕ) → level_of name ≡ Some level → entry_size name ≡ Some size → ⊥
+pub no_table : (name : BoxType) (level size : ℕ) → level_of name ≡ Some level → entry_size name ≡ Some size → ⊥
 no_table StcoBox level size on is = absurd cc
 no_table Co64Box level size on is = absurd cc
 no_table _ level size on is = absurd cc

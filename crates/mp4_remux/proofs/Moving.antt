@@ -1,6 +1,7 @@
 -- Movie boxes with other chunk offsets.
-use Rattle.std.proofs.Common.{◌≡◌, ◌∙◌, ◌⊎◌, inl, inr, ℕ, ◌+◌, ◌*◌, ◌^◌, ◌≤◌, ◌<◌, List, [], ◌∷◌, ◌++◌, length, take, drop}
-use Rattle.std.proofs.Common.{Option, None, Some, Bool, true, false, if◌then◌else◌, nat_lt, refl, sym, ap, subst, append_assoc, arith}
+use Rattle.std.proofs.Common.{◌≡◌, ◌∙◌, ◌⊎◌, inl, inr, ℕ, ◌+◌, ◌^◌, ◌≤◌, ◌<◌, List, [], ◌++◌, length, take, drop}
+use Rattle.std.proofs.Common.{None, Some, Bool, true, false, if◌then◌else◌, nat_lt, refl, sym, ap, subst}
+use Rattle.std.proofs.Common.{append_assoc, arith}
 use Rattle.std.proofs.lemmas.List.{append-nil, drop_at, length-append, length-take, take_at as take_front}
 use Rattle.byteorder.specs.Endian.{big_bytes, big_number}
 use Rattle.byteorder.specs.Numbers.{big_from-append, big_from-take}
@@ -18,17 +19,17 @@ use Rattle.mp4_remux.specs.declared.chunk_offsets.OffsetWidth.TheVariants.{Narro
 use Rattle.mp4_remux.specs.declared.moves.Moves.TheVariants.{Front}
 use Rattle.mp4_remux.specs.declared.top_level.TopBox.{TopBox}
 use Rattle.mp4_remux.specs.declared.movie_box.Step.{Step}
-use Rattle.mp4_remux.specs.declared.movie_box.Step.TheVariants.{Keep, Drop, Enter, Offsets, Header, TrackHeader, Edits}
-use Rattle.mp4_remux.specs.declared.movie_box.Step.TheVariants.{References, Tables}
-use Rattle.mp4_remux.specs.Moved.{AddsMoved, AddsStep, EndsSized, IsBy, IsStepOf, IsWhyNotAdded, IsWhyNotMoved}
-use Rattle.mp4_remux.specs.Moved.{HasRoom, IsHeader, IsMovedAt, IsUpToTwice, entry_size, is_wide, level_of}
-use Rattle.mp4_remux.specs.Moved.{moved_payload, moved_table, no_box, on_the_way, of_offsets, as_it_is, size_of, sized}
-use Rattle.mp4_remux.specs.Moved.{place_in_front, wide_header}
+use Rattle.mp4_remux.specs.declared.movie_box.Step.TheVariants.{Enter, Keep, Offsets}
+use Rattle.mp4_remux.specs.Edited.{AddsMoved, AddsStep, EndsSized, IsHeader, IsStepOf, IsWhyNotAdded}
+use Rattle.mp4_remux.specs.Moved.{HasRoom, IsBy, IsMovedAt, IsUpToTwice, IsWhyNotMoved, as_it_is, entry_size, is_wide}
+use Rattle.mp4_remux.specs.Moved.{level_of, moved_payload, moved_table, no_box, of_offsets, on_the_way}
+use Rattle.mp4_remux.specs.Moved.{place_in_front, size_of, sized, wide_header}
 use Rattle.mp4_remux.proofs.Offsets.{length-wide_header, payload_length, table_header}
 use Rattle.mp4_remux.proofs.Sizing.{SaysType, first_again, is_header, length-sized, says_type, sized_first}
 
 -- a table has entries of one of two sizes
-pub width_is : (name : BoxType) (size : ℕ) → entry_size name ≡ Some size → (width : OffsetWidth) × (size ≡ size_of width)
+pub width_is : (name : BoxType) (size : ℕ) → entry_size name ≡ Some size
+    → (width : OffsetWidth) × (size ≡ size_of width)
 width_is StcoBox size is = (Narrow, cc)
 width_is Co64Box size is = (Wide, cc)
 width_is _ size is = absurd cc
@@ -126,7 +127,8 @@ table_among _ size is = absurd cc
 wide_says : (header : List ℕ) (name : BoxType) → 8 ≤ length header → SaysType header name
     → SaysType (wide_header true header) Co64Box
 unfolding box_type
-wide_says header name many says = record { type_is = ap (λ (xs : List ℕ). box_type (big_number 4 xs)) type; kind = by says.kind }
+wide_says header name many says =
+    record { type_is = ap (λ (xs : List ℕ). box_type (big_number 4 xs)) type; kind = by says.kind }
   where
     four : length (take 4 header) ≡ 4
     four = omega (arith, length-take 4 header, many)
@@ -200,15 +202,6 @@ moved_is_kept to level xs ys
 
 -- BOX BY BOX
 
--- boxes are on the way at levels 0 to 4
-too_deep : (name : BoxType) (level : ℕ) → level_of name ≡ Some level → 5 ≤ level → ⊥
-too_deep MoovBox level is deep = let at : 0 ≡ level = cc in omega (arith, at, deep)
-too_deep TrakBox level is deep = let at : 1 ≡ level = cc in omega (arith, at, deep)
-too_deep MdiaBox level is deep = let at : 2 ≡ level = cc in omega (arith, at, deep)
-too_deep MinfBox level is deep = let at : 3 ≡ level = cc in omega (arith, at, deep)
-too_deep StblBox level is deep = let at : 4 ≡ level = cc in omega (arith, at, deep)
-too_deep _ level is deep = absurd cc
-
 -- With what the rest becomes, what was added is what all becomes.
 pub record AreMoved (to : ℕ → ℕ) (level : ℕ) (bytes rest old new : List ℕ) : Type 0 where
   pub done : List ℕ
@@ -242,30 +235,30 @@ module _ (to : ℕ → ℕ) (level : ℕ) (bytes rest old now new : List ℕ) (u
         }
 
     -- it is on the way
-    pub entered_moved : (inner : List ℕ) → level_of name ≡ Some level → IsMovedAt to (level + 1) payload inner
-        → EndsSized now header inner new → AreMoved to level bytes rest' old new
-    entered_moved inner way within ends =
-        piece_moved (sized header (length inner) ++ inner) ends.1
-        (λ after m. on_the_way level rest _ rest' after name header payload inner first way within ends.0 m
+    pub entered_moved : (base mid : List ℕ) → level_of name ≡ Some level → base ≡ now ++ header
+        → (adds : AddsMoved to (level + 1) payload base mid)
+        → (mid ≡ now ++ (header ++ adds.after) → EndsSized now header adds.after new)
+        → AreMoved to level bytes rest' old new
+    entered_moved base mid way begun adds ends =
+        let inner : List ℕ = adds.after in
+        let sizes = ends (adds.is ∙ ap (λ (xs : List ℕ). xs ++ inner) begun ∙ append_assoc now header inner) in
+        piece_moved (sized header (length inner) ++ inner) sizes.1
+        (λ after m. on_the_way level rest _ rest' after name header payload inner first way adds.moved sizes.0 m
         (append_assoc (sized header (length inner)) inner after))
 
     -- it is at another step
-    pub step_moved : (step : Step) → IsStepOf level name step → (step ≡ Enter → 5 ≤ level)
+    pub step_moved : (step : Step) → IsStepOf level name step → (step ≡ Enter → ⊥)
         → AddsStep to step header payload now new → AreMoved to level bytes rest' old new
-    step_moved Enter way deep is = absurd (too_deep name level way (deep refl))
-    step_moved Keep (no_way, no_table) deep is =
+    step_moved Enter way never is = absurd (never refl)
+    step_moved Keep (no_way, no_table) never is =
         piece_moved (header ++ payload) is
         (λ after m. as_it_is level rest _ rest' after name header payload first no_way no_table m
         (append_assoc header payload after))
-    step_moved (Offsets width) (five, table) deep is =
+    step_moved (Offsets width) (five, table) never is =
         piece_moved (moved_table to (size_of width) header payload) is.1
-        (λ after m. of_offsets level rest _ rest' after name header payload (size_of width) first five table is.0 m refl)
-    step_moved Drop step deep is = absurd step
-    step_moved (Header duration) step deep is = absurd step
-    step_moved (TrackHeader duration) step deep is = absurd step
-    step_moved (Edits last) step deep is = absurd step
-    step_moved (References ids) step deep is = absurd step
-    step_moved (Tables tables) step deep is = absurd step
+        (λ after m. of_offsets level rest _ rest' after name header payload (size_of width) first five table is.0 m
+        refl)
+    step_moved _ step never is = absurd step
 
 -- WHY NOT
 
@@ -282,27 +275,23 @@ module _ (bytes rest : List ℕ) (name : BoxType) (header payload rest' : List �
       not_moved (header ++ payload) bytes e (omega (arith, long, less, length-append header payload)) why
 
   -- a box isn't added
-  pub step_not_moved : (level : ℕ) (step : Step) → IsStepOf level name step
+  pub step_not_moved : (level : ℕ) (step : Step) → IsStepOf level name step → (step ≡ Enter → ⊥)
       → IsWhyNotAdded step (header ++ payload) e → IsWhyNotMoved bytes e
-  step_not_moved level Enter is why = box_not_moved why
-  step_not_moved level Keep is why = box_not_moved why
-  step_not_moved level (Offsets width) is why = box_not_moved why
-  step_not_moved level Drop is why = absurd is
-  step_not_moved level (Header duration) is why = absurd is
-  step_not_moved level (TrackHeader duration) is why = absurd is
-  step_not_moved level (Edits last) is why = absurd is
-  step_not_moved level (References ids) is why = absurd is
-  step_not_moved level (Tables tables) is why = absurd is
+  step_not_moved level Enter is never why = absurd (never refl)
+  step_not_moved level Keep is never why = box_not_moved why
+  step_not_moved level (Offsets width) is never why = box_not_moved why
+  step_not_moved level _ is never why = absurd is
 
   -- the size of a box on the way is too large
-  pub way_not_moved : (to : ℕ → ℕ) (level start : ℕ) (now new : List ℕ) → start ≡ length now
-      → AddsMoved to level payload (now ++ header) new → (e ≡ TooLarge BoxSize) × (start + 2 ^ 32 ≤ length new)
-      → IsWhyNotMoved bytes e
-  way_not_moved to level start now new begins adds why =
+  pub way_not_moved : (to : ℕ → ℕ) (level start : ℕ) (now base new : List ℕ) → start ≡ length now
+      → base ≡ now ++ header → AddsMoved to level payload base new
+      → (e ≡ TooLarge BoxSize) × (start + 2 ^ 32 ≤ length new) → IsWhyNotMoved bytes e
+  way_not_moved to level start now base new begins begun adds why =
       let long = first_length rest name header payload rest' first in
       let inner = moved_length to level payload adds.after adds.moved in
-      let whole = piece_length (now ++ header) adds.after new adds.is in
-      let before = length-append now header in
+      let whole = piece_length base adds.after new adds.is in
+      let before : length base ≡ length now + length header = ap (λ (xs : List ℕ). length xs) begun
+      ∙ length-append now header in
       inr (why.0, omega (arith, long, less, begins, inner.1, whole, before, why.1))
 
 -- THE WHOLE BOX

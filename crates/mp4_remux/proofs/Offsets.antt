@@ -12,8 +12,9 @@ use Rattle.mp4_remux.specs.declared.chunk_offsets.OffsetWidth.{OffsetWidth}
 use Rattle.mp4_remux.specs.declared.chunk_offsets.OffsetWidth.TheVariants.{Narrow, Wide}
 use Rattle.mp4_codec.specs.BoxType.{code_of}
 use Rattle.mp4_codec.specs.declared.box_type.BoxType.TheVariants.{Co64Box}
-use Rattle.mp4_remux.specs.Moved.{AddsTable, EndsSized, IsHeader, IsUpToTwice, entry_count, is_wide, moved_payload}
-use Rattle.mp4_remux.specs.Moved.{numbers_in, offsets_in, size_of, wide_bytes, wide_header, wide_payload}
+use Rattle.mp4_remux.specs.Edited.{AddsTable, EndsSized, IsHeader}
+use Rattle.mp4_remux.specs.Moved.{IsUpToTwice, entry_count, is_wide, moved_payload, numbers_in, offsets_in, size_of}
+use Rattle.mp4_remux.specs.Moved.{wide_bytes, wide_header, wide_payload}
 
 -- some entries are one and those after it
 pub numbers_next : (n size : ℕ) (bytes : List ℕ) → 0 < n

@@ -1,12 +1,12 @@
 -- A file that opens has boxes to its end, and among them its file type and its movie box, whole.
 use Rattle.std.proofs.Common.{◌≡◌, ◌∙◌, ◌+◌, ◌-◌, ◌==◌, ◌<◌, ◌≤◌, ℕ, zero, suc, min, Bool, true, false, nat_lt}
-use Rattle.std.proofs.Common.{if◌then◌else◌, List, [], ◌∷◌, length, Option, None, Some, Result, Ok, Err}
+use Rattle.std.proofs.Common.{if◌then◌else◌, List, [], ◌∷◌, length, Option, None, Some, Result, Ok}
 use Rattle.std.proofs.Common.{refl, sym, ap, subst, arith}
 use Rattle.std.proofs.lemmas.Bool.{eqb-true, ltb-true, ltb-false, ne_eqb}
 use Rattle.std.specs.List.{cons_option, filter_map}
 use Rattle.std.specs.Prelude.{slice_get}
 use Rattle.mp4_codec.specs.BoxType.{IsNamed, box_type, code_of}
-use Rattle.mp4_codec.specs.Cause.{Cause, ◌>>=◌}
+use Rattle.mp4_codec.specs.Cause.{Cause}
 use Rattle.mp4_codec.specs.Children.{last}
 use Rattle.mp4_codec.specs.Cursor.{here}
 use Rattle.mp4_codec.specs.Steps.{both_steps, ok_is}
@@ -22,9 +22,9 @@ use Rattle.mp4_boxes.specs.Moov.{moov_of}
 use Rattle.mp4_boxes.specs.declared.moov.MoovBox.{MoovBox}
 use Rattle.mp4_media.specs.FileBoxes.{BoxContent, FileBox, OpenedFile, Ftyp, Moov, Moof, Emsg, Skipped}
 use Rattle.mp4_media.specs.FileBoxes.{ftyp_from, ftyps_in, is_type, meaning_of, moov_from, moovs_in, read_as}
-use Rattle.mp4_media.specs.FileGrammar.{AreFileBoxes, Begins, EndsFile, Holds, IsFile, IsFileBox, no_more, open_end}
+use Rattle.mp4_media.specs.FileGrammar.{AreFileBoxes, EndsFile, Holds, IsFile, IsFileBox, no_more, open_end}
 use Rattle.mp4_media.specs.FileGrammar.{read, skipped}
-use Rattle.mp4_remux.specs.Front.{AreBoxes, IsBoxOf, IsTopBox, top_end}
+use Rattle.mp4_remux.specs.Front.{AreBoxes, IsBoxOf, IsTopBox}
 use Rattle.mp4_remux.specs.declared.top_level.TopBox.{TopBox}
 
 -- WHAT A BOX MEANS
@@ -106,7 +106,8 @@ module _ (xs : List ℕ) where
   AreWhole boxes bs = (b : FileBox) (i : ℕ) → slice_get bs i ≡ Some b → (b.content ≡ Skipped → ⊥)
       → (name : BoxType) × (HasWhole xs boxes name × IsMeaning name b.content)
 
-  whole_later : (c : TopBox) (boxes : List TopBox) (name : BoxType) → HasWhole xs boxes name → HasWhole xs (c ∷ boxes) name
+  whole_later : (c : TopBox) (boxes : List TopBox) (name : BoxType) → HasWhole xs boxes name
+      → HasWhole xs (c ∷ boxes) name
   whole_later c boxes name h = record {
     b = h.b;
     i = suc h.i;

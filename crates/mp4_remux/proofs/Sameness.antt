@@ -4,7 +4,7 @@ use Rattle.std.proofs.Common.{Option, None, Some, Ok, inl, inr}
 use Rattle.std.proofs.Common.{ℤ, Bool, nat_lt, true, false, option_map, refl, sym, ap, subst, arith}
 use Rattle.std.proofs.lemmas.Bool.{le-ltb, ltb-true, ltb-false}
 use Rattle.std.proofs.lemmas.List.{length-map}
-use Rattle.std.specs.Prelude.{slice_get, slice_index_or}
+use Rattle.std.specs.Prelude.{slice_index_or}
 use Rattle.mp4_codec.specs.Cause.{◌>>=◌}
 use Rattle.mp4_boxes.specs.declared.trak.TrakBox.{TrakBox}
 use Rattle.mp4_lookup.specs.declared.track.Mp4Track.{Mp4Track}

@@ -1,22 +1,24 @@
 -- Headers of boxes that get their size.
-use Rattle.std.proofs.Common.{◌≡◌, ◌∙◌, ◌⊎◌, inl, inr, ℕ, zero, suc, ◌+◌, ◌-◌, ◌*◌, ◌^◌, ◌≤◌, ◌<◌, Bool, true, false, cond}
-use Rattle.std.proofs.Common.{List, [], ◌∷◌, ◌++◌, length, take, drop, refl, sym, ap, subst, append_assoc, arith}
-use Rattle.std.proofs.Common.{Option, None, Some, Result, Ok, Err, eqb, ltb}
+use Rattle.std.proofs.Common.{◌≡◌, ◌∙◌, ◌⊎◌, inl, inr, ℕ, ◌+◌, ◌-◌, ◌^◌, ◌≤◌, ◌<◌, Bool, true, false, cond}
+use Rattle.std.proofs.Common.{List, [], ◌++◌, length, take, drop, refl, sym, ap, subst, append_assoc, arith}
+use Rattle.std.proofs.Common.{None, Some, Ok, Err, eqb, ltb}
 use Rattle.std.proofs.lemmas.Bool.{lt-ltb, le-ltb, eqb-true}
-use Rattle.std.proofs.lemmas.List.{take_at as take_front, drop_at, drop-drop, length-append, take-append-le, drop-append-le}
+use Rattle.std.proofs.lemmas.List.{take_at as take_front, drop_at, drop-drop, length-append}
+use Rattle.std.proofs.lemmas.List.{take-append-le, drop-append-le}
 use Rattle.std.proofs.lemmas.List.{append-nil, length-drop, length-take, take_all}
 use Rattle.byteorder.specs.Endian.{big_bytes, big_number}
-use Rattle.byteorder.specs.Numbers.{big_number-reads_back, length-bytes_high_first}
+use Rattle.byteorder.specs.Numbers.{big_number-reads_back}
 use Rattle.mp4_codec.proofs.HeadLaws.{header_read, was_taken}
 use Rattle.mp4_codec.specs.BoxType.{box_type}
-use Rattle.mp4_codec.specs.Cause.{Cause, invalid_data, ◌>>=◌}
+use Rattle.mp4_codec.specs.Cause.{invalid_data, ◌>>=◌}
 use Rattle.mp4_codec.specs.Cursor.{Cursor, Head, head_after, head_at, head_with, header_at, here, reported, take_at}
 use Rattle.mp4_codec.specs.FramingLaws.{head_with-total, off, taken}
 use Rattle.mp4_codec.specs.Steps.{both_steps, ok_is}
 use Rattle.mp4_codec.specs.declared.box_type.BoxType.{BoxType}
 use Rattle.mp4_codec.specs.declared.header.BoxHeader.{BoxHeader}
 use Rattle.mp4_remux.specs.Kept.{IsFirstBox}
-use Rattle.mp4_remux.specs.Moved.{HasRoom, IsHeader, IsSized, sized, size_width}
+use Rattle.mp4_remux.specs.Edited.{IsHeader}
+use Rattle.mp4_remux.specs.Moved.{HasRoom, sized}
 
 -- a header of 8 bytes, and one of 16
 pub short_sized : (head : List ℕ) (n : ℕ) → length head ≡ 8
@@ -133,6 +135,18 @@ module _ (bytes : List ℕ) (name : BoxType) (size : ℕ) (read : Head × Cursor
       let same : take 8 (drop 8 bytes') ≡ large = there.1 ∙ taken in
       rw (is, le-ltb (length bytes') 16 there.0, same, says) refl
 
+  -- the header ends after it
+  of_long : (head : Head) (large : List ℕ) → size ≡ 1 → 16 ≡ read.1.position → head ≡ read.0
+      → take 8 (drop 8 bytes) ≡ large → head_with name 16 (big_number 8 large) ≡ Ok head → Said bytes name size read
+  of_long head large is end heads taken says =
+      record {
+        type_is = sym (ap (λ (h : Head). h.name) heads) ∙ named_with name 16 (big_number 8 large) head says;
+        kind = inr (sym end, is);
+        again = λ bytes' there. again_long bytes' is large head (there (sym end)) taken says
+            ∙ ap (λ (k : ℕ). Ok (head, here bytes' k)) end
+            ∙ ap (λ (h : Head). Ok (h, here bytes' read.1.position)) heads;
+      }
+
   said_long : size ≡ 1
       → (take_at 8 (here bytes 8) >>= λ large. head_with name 16 (big_number 8 large.0) >>= λ head. Ok (head, large.1))
       ≡ Ok read → Said bytes name size read
@@ -142,25 +156,18 @@ module _ (bytes : List ℕ) (name : BoxType) (size : ℕ) (read : Head × Cursor
       let two = both_steps (head_with name 16 (big_number 8 one.0.0)) (λ (head : Head). Ok (head, one.0.1)) read
       one.2 in
       let same = ok_is (two.0, one.0.1) read two.2 in
-      let end : 16 ≡ one.0.1.position =
-      ap (λ (x : List ℕ × Cursor). x.1.position) (was_taken 8 (here bytes 8) one.0 one.1).1 in
-      record {
-        type_is = sym (ap (λ (x : Head × Cursor). x.0.name) same)
-            ∙ named_with name 16 (big_number 8 one.0.0) two.0 two.1;
-        kind = inr (sym (end ∙ ap (λ (x : Head × Cursor). x.1.position) same), is);
-        again = λ bytes' large. again_long bytes' is one.0.0 two.0
-            (large (sym (end ∙ ap (λ (x : Head × Cursor). x.1.position) same)))
-            (ap (λ (x : List ℕ × Cursor). x.0) (was_taken 8 (here bytes 8) one.0 one.1).1) two.1
-            ∙ ap (λ (k : ℕ). Ok (two.0, here bytes' k)) end
-            ∙ ap (λ (x : Head × Cursor). Ok (x.0, here bytes' x.1.position)) same;
-      }
+      let there = (was_taken 8 (here bytes 8) one.0 one.1).1 in
+      of_long two.0 one.0.0 is
+      (ap (λ (x : List ℕ × Cursor). x.1.position) there ∙ ap (λ (x : Head × Cursor). x.1.position) same)
+      (ap (λ (x : Head × Cursor). x.0) same) (ap (λ (x : List ℕ × Cursor). x.0) there) two.1
 
   said : head_after name size (here bytes 8) ≡ Ok read → Said bytes name size read
   said e = by (eqb size 1) refl e
     where
       by : (b : Bool) → eqb size 1 ≡ b
           → cond b
-          (take_at 8 (here bytes 8) >>= λ large. head_with name 16 (big_number 8 large.0) >>= λ head. Ok (head, large.1))
+          (take_at 8 (here bytes 8)
+          >>= λ large. head_with name 16 (big_number 8 large.0) >>= λ head. Ok (head, large.1))
           (head_with name 8 size >>= λ head. Ok (head, here bytes 8))
           ≡ Ok read → Said bytes name size read
       by true is e = said_long (eqb-true size 1 is) e
@@ -198,7 +205,8 @@ module _ (bytes : List ℕ) (name : BoxType) (header payload after : List ℕ)
             (ap (big_number 4) front) what.kind;
       }
     where
-      kind_at : (place header size other : ℕ) → place ≡ header → size ≡ other → (place ≡ 8) ⊎ ((place ≡ 16) × (size ≡ 1))
+      kind_at : (place header size other : ℕ) → place ≡ header → size ≡ other
+          → (place ≡ 8) ⊎ ((place ≡ 16) × (size ≡ 1))
           → (header ≡ 8) ⊎ ((header ≡ 16) × (other ≡ 1))
       kind_at place header size other at is (inl short) = inl (sym at ∙ short)
       kind_at place header size other at is (inr long) = inr (sym at ∙ long.0, sym is ∙ long.1)

@@ -1,5 +1,6 @@
 pub mod Alike
 pub mod Caused
+pub mod Edited
 pub mod Errors
 pub mod Front
 pub mod Gathered

@@ -1,6 +1,7 @@
 -- A movie box with other chunk offsets, byte for byte (ISO/IEC 14496-12, 4.2 and 8.7.5).
 use Rattle.std.specs.Prelude.{◌≡◌, ◌⊎◌, ◌+◌, ◌-◌, ◌*◌, ◌/◌, ◌^◌, ◌<◌, ◌≤◌, ◌==◌, ◌||◌, ◌&&◌, ◌++◌, ⊤, not, nat_lt}
-use Rattle.std.specs.Prelude.{ℕ, zero, suc, min, Bool, false, if◌then◌else◌, List, [], ◌∷◌, length, take, drop, Option, Some, None}
+use Rattle.std.specs.Prelude.{ℕ, zero, suc, min, Bool, false, if◌then◌else◌, List, [], ◌∷◌, length, take, drop}
+use Rattle.std.specs.Prelude.{Option, Some, None}
 use Rattle.std.specs.List.{flat_map, list_any}
 use Rattle.byteorder.specs.Endian.{big_number, big_bytes}
 use Rattle.mp4_codec.specs.BoxType.{code_of}
@@ -15,9 +16,6 @@ use Rattle.mp4_remux.specs.declared.chunk_offsets.OffsetWidth.TheVariants.{Narro
 use Rattle.mp4_remux.specs.declared.moves.Moves.{Moves}
 use Rattle.mp4_remux.specs.declared.moves.Moves.TheVariants.{Listed, Front}
 use Rattle.mp4_remux.specs.declared.movie_box.MovieEdit.{MovieEdit}
-use Rattle.mp4_remux.specs.declared.movie_box.Step.{Step}
-use Rattle.mp4_remux.specs.declared.movie_box.Step.TheVariants.{Keep, Drop, Enter, Offsets, Header, TrackHeader, Edits}
-use Rattle.mp4_remux.specs.declared.movie_box.Step.TheVariants.{References, Tables}
 use Rattle.mp4_remux.specs.declared.top_level.TopBox.{TopBox}
 use Rattle.mp4_remux.specs.Kept.{IsFirstBox}
 use Rattle.mp4_remux.specs.References.{first_part}
@@ -38,19 +36,6 @@ sized header n =
     if nat_lt (length header) 16 then big_bytes 4 (length header + n) ++ drop 4 header
     else take 8 header ++ big_bytes 8 (length header + n)
 
--- the bytes are so many, as many as a header has
-abbrev pub IsHeader : List ℕ → ℕ → Type 0
-IsHeader header n = (length header ≡ n) × ((n ≡ 8) ⊎ (n ≡ 16))
-
--- the new bytes are those of a box with its size
-abbrev pub IsSized : (header payload new : List ℕ) → Type 0
-IsSized header payload new = HasRoom header (length payload) × (new ≡ sized header (length payload) ++ payload)
-
--- the same where others are before it
-abbrev pub EndsSized : (before header payload new : List ℕ) → Type 0
-EndsSized before header payload new =
-    HasRoom header (length payload) × (new ≡ before ++ (sized header (length payload) ++ payload))
-
 -- TABLES OF CHUNK OFFSETS
 
 -- how many bytes an entry has
@@ -58,7 +43,7 @@ abbrev pub size_of : OffsetWidth → ℕ
 size_of Narrow = 4
 size_of Wide = 8
 
--- the same in a table of chunk offsets of this type
+-- the same in a table of chunk offsets, by its type
 abbrev pub entry_size : BoxType → Option ℕ
 entry_size StcoBox = Some 4
 entry_size Co64Box = Some 8
@@ -107,11 +92,6 @@ abbrev pub moved_table : (ℕ → ℕ) → ℕ → List ℕ → List ℕ → Lis
 moved_table to size header payload =
     sized (wide_header (is_wide to size payload) header) (length (moved_payload to size payload))
     ++ moved_payload to size payload
-
--- the new bytes are the old ones and the moved table
-abbrev pub AddsTable : (ℕ → ℕ) → ℕ → (header payload old new : List ℕ) → Type 0
-AddsTable to size header payload old new =
-    HasRoom header (length (moved_payload to size payload)) × (new ≡ old ++ moved_table to size header payload)
 
 -- THE MOVIE BOX
 
@@ -175,58 +155,11 @@ pub record IsOfOffsets (edit : MovieEdit) : Type 0 where
   pub ids : edit.ids ≡ None
   pub gathered : edit.is_gathered ≡ false
 
--- What becomes of a box at a level then: one on the way is entered, a table of chunk offsets gets others, every other
--- box stays.
-abbrev pub IsStepOf : ℕ → BoxType → Step → Type 0
-IsStepOf level name Enter = level_of name ≡ Some level
-IsStepOf level name (Offsets width) = (level ≡ 5) × (entry_size name ≡ Some (size_of width))
-IsStepOf level name Keep = (level_of name ≡ Some level → ⊥) × (level ≡ 5 → entry_size name ≡ None)
-IsStepOf level name Drop = ⊥
-IsStepOf level name (Header duration) = ⊥
-IsStepOf level name (TrackHeader duration) = ⊥
-IsStepOf level name (Edits last) = ⊥
-IsStepOf level name (References ids) = ⊥
-IsStepOf level name (Tables tables) = ⊥
-
--- boxes are entered at levels 0 to 4 alone
-abbrev pub EntersAt : ℕ → Step → Type 0
-EntersAt level Enter = level < 5
-EntersAt level _ = ⊤
-
--- what is added for a box at a step that isn't left out, and isn't made anew
-abbrev pub AddsStep : (ℕ → ℕ) → Step → (header payload old new : List ℕ) → Type 0
-AddsStep to Enter header payload old new = new ≡ old ++ (header ++ payload)
-AddsStep to (Offsets width) header payload old new = AddsTable to (size_of width) header payload old new
-AddsStep to Keep header payload old new = new ≡ old ++ (header ++ payload)
-AddsStep to Drop header payload old new = ⊤
-AddsStep to (Header duration) header payload old new = ⊤
-AddsStep to (TrackHeader duration) header payload old new = ⊤
-AddsStep to (Edits last) header payload old new = ⊤
-AddsStep to (References ids) header payload old new = ⊤
-AddsStep to (Tables tables) header payload old new = ⊤
-
--- the new bytes are the old ones and moved ones
-pub record AddsMoved (to : ℕ → ℕ) (level : ℕ) (bytes old new : List ℕ) : Type 0 where
-  pub after : List ℕ
-  pub is : new ≡ old ++ after
-  pub moved : IsMovedAt to level bytes after
-
 -- as many bytes as before or more, and at most twice as many
 abbrev pub IsUpToTwice : List ℕ → List ℕ → Type 0
 IsUpToTwice before after = (length before ≤ length after) × (length after ≤ 2 * length before)
 
--- Why bytes aren't moved: out of memory; or a box would be too large, which has half as many bytes at least.
+-- Why bytes aren't moved: out of memory; or a box with 32 bits for its size would have 2^32 bytes or more, for which
+-- there have to be half as many.
 abbrev pub IsWhyNotMoved : List ℕ → Error → Type 0
 IsWhyNotMoved before e = (e ≡ OutOfMemory) ⊎ ((e ≡ TooLarge BoxSize) × (2 ^ 31 ≤ length before))
-
--- the same for a box at a step
-abbrev pub IsWhyNotAdded : Step → List ℕ → Error → Type 0
-IsWhyNotAdded Enter before e = IsWhyNotMoved before e
-IsWhyNotAdded (Offsets width) before e = IsWhyNotMoved before e
-IsWhyNotAdded Keep before e = IsWhyNotMoved before e
-IsWhyNotAdded Drop before e = ⊤
-IsWhyNotAdded (Header duration) before e = ⊤
-IsWhyNotAdded (TrackHeader duration) before e = ⊤
-IsWhyNotAdded (Edits last) before e = ⊤
-IsWhyNotAdded (References ids) before e = ⊤
-IsWhyNotAdded (Tables tables) before e = ⊤

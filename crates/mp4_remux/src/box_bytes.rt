@@ -3,7 +3,7 @@
 ghost use Rattle.std.specs.Prelude.{◌≡◌, ◌+◌, ◌-◌, ◌^◌, ◌≤◌, ◌<◌, ◌++◌, ℕ, List, length, take, None};
 ghost use Rattle.std.specs.Prelude.{IfErr, IfNone, IfSome, OnOk};
 ghost use Rattle.mp4_remux.specs.Kept.{IsFirstBox};
-ghost use Rattle.mp4_remux.specs.Moved.{EndsSized, IsHeader, IsSized};
+ghost use Rattle.mp4_remux.specs.Edited.{EndsSized, IsHeader, IsSized};
 ghost use Rattle.mp4_remux.specs.References.{first_part};
 
 use mp4_codec::{BoxHeader, BoxType, ByteCursor, Error, HEADER_SIZE, Limit, OPEN_END, Result};

@@ -4,8 +4,9 @@ ghost use Rattle.std.specs.Prelude.{◌≡◌, ◌≤◌, ◌+◌, ◌*◌, ◌+
 ghost use Rattle.std.specs.List.{flat_map, list_any};
 ghost use Rattle.byteorder.specs.Endian.{big_number};
 ghost use Rattle.mp4_codec.specs.Bytes.{Appends};
-ghost use Rattle.mp4_remux.specs.Moved.{AddsTable, IsBy, IsHeader, IsWhyNotMoved, entry_count, numbers_in, passes};
-ghost use Rattle.mp4_remux.specs.Moved.{size_of, wide_bytes, wide_header};
+ghost use Rattle.mp4_remux.specs.Edited.{AddsTable, IsHeader};
+ghost use Rattle.mp4_remux.specs.Moved.{IsBy, IsWhyNotMoved, entry_count, numbers_in, passes, size_of, wide_bytes};
+ghost use Rattle.mp4_remux.specs.Moved.{wide_header};
 
 use crate::box_bytes::{BoxBytes, end_box};
 use crate::moves::Moves;

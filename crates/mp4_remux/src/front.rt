@@ -1,7 +1,7 @@
 //! The movie box moved to the front.
 
-ghost use Rattle.std.specs.Prelude.{◌≡◌, ◌≤◌, ◌<◌, ◌+◌, ◌-◌, ◌*◌, ◌^◌, ◌++◌, ℕ, List, length, IfSome, IfErr, IfNone};
-ghost use Rattle.std.specs.Prelude.{IfOk, OnOk, IsFalse, IsTrue, []};
+ghost use Rattle.std.specs.Prelude.{◌≡◌, ◌≤◌, ◌<◌, ◌+◌, ◌-◌, ◌*◌, ◌^◌, ℕ, List, length, IfSome, IfErr, IfNone};
+ghost use Rattle.std.specs.Prelude.{IfOk, OnOk, IsFalse, IsTrue};
 ghost use Rattle.mp4_codec.specs.declared.box_type.BoxType.TheVariants.{FtypBox, MoovBox};
 ghost use Rattle.mp4_source.specs.Answers.{IsLength};
 ghost use Rattle.mp4_remux.specs.Errors.{IsNamed, IsRefusalOf, MayRefuse, SaysFault, TakesMemory};
@@ -13,7 +13,7 @@ ghost use Rattle.mp4_remux.specs.Front.{IsOnly, NoMovieAfterData, WritesFront};
 ghost use Rattle.mp4_remux.specs.Moved.{IsMovedAt, IsUpToTwice, IsWhyNotMoved, place_in_front};
 ghost use Rattle.mp4_remux.specs.Named.{NamesBox};
 ghost use Rattle.mp4_remux.specs.PlannedFront.{IsInFront, IsWhyNotInFront, IsWhyNotPlanned};
-ghost use Rattle.mp4_remux.specs.Splice.{Follow, of_origin, spliced};
+ghost use Rattle.mp4_remux.specs.Splice.{Follow, spliced};
 
 use crate::chosen::all_ids;
 use crate::copy::copy_all;
@@ -192,9 +192,10 @@ fn plan<S: ByteSource + Drop>(
 /// or in the file's metadata, a `dref` that says that samples are in another file, or a `sidx` that can't be read, or
 /// where the movie box or the file type is between it and the end of what it refers to; `TooManySamples` where the
 /// tracks have more than the file has bytes, or than 4,294,967,294; `SameIds` where two tracks have one id; `Differs`
-/// where a sample wouldn't be read as before. `Read` where the source refuses, `Write` where the sink does: then the
-/// sink may have some first bytes of the file. A refusal that is none of memory, source or sink leaves the sink as it
-/// was.
+/// where a sample wouldn't be read as before; `OtherTracks` where the tracks, their numbers of samples or the headers
+/// would be others, or the file has 2^63 bytes or more; `TooLarge` where the movie box has 2^31 bytes or more, and
+/// wouldn't fit the size of a box. `Read` where the source refuses, `Write` where the sink does: then the sink may have
+/// some first bytes of the file. A refusal that is none of memory, source or sink leaves the sink as it was.
 pub fn move_to_front<S: ByteSource + Drop, K: ByteSink>(
     alloc: Global,
     source: S,

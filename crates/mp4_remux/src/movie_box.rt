@@ -1,8 +1,8 @@
 //! A movie box in which tables, durations and tracks are others: all its other bytes stay.
 
 ghost use Rattle.std.specs.Prelude.{◌≡◌, ◌≤◌, ◌++◌, ℕ, length, IfErr, IfOk, IsNone, OnOk, false};
-ghost use Rattle.mp4_remux.specs.Moved.{AddsMoved, AddsStep, EntersAt, IsBy, IsHeader, IsMovedAt, IsOfOffsets, IsStepOf};
-ghost use Rattle.mp4_remux.specs.Moved.{IsUpToTwice, IsWhyNotAdded, IsWhyNotMoved};
+ghost use Rattle.mp4_remux.specs.Edited.{AddsMoved, AddsStep, EntersAt, IsHeader, IsStepOf, IsWhyNotAdded};
+ghost use Rattle.mp4_remux.specs.Moved.{IsBy, IsMovedAt, IsOfOffsets, IsUpToTwice, IsWhyNotMoved};
 
 use crate::box_bytes::{BoxBytes, end_box, first_box};
 use crate::chunk_offsets::{OffsetWidth, put_table};

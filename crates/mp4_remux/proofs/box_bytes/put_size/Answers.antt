@@ -1,7 +1,6 @@
-use Rattle.std.proofs.Common.{◌≡◌, ◌∙◌, ◌++◌, ◌+◌, ◌<◌, ◌^◌, inl, inr, length, take, drop, arith, ap, sym, List, ℕ}
+use Rattle.std.proofs.Common.{◌≡◌, ◌∙◌, ◌++◌, ◌+◌, ◌<◌, ◌^◌, length, take, drop, arith, ap, List, ℕ}
 use Rattle.std.proofs.lemmas.List.{length-append}
 use Rattle.byteorder.specs.Endian.{big_bytes}
-use Rattle.mp4_remux.proofs.Moving.{moved_length}
 use Rattle.mp4_remux.proofs.Sizing.{long_is, long_room, short_is, short_room, of_16, of_8}
 use Rattle.mp4_remux.proofs.box_bytes.put_size.Goals.{then-bytes-ge4, else-bytes-ge4}
 use Rattle.mp4_remux.proofs.box_bytes.put_size.Goals as goal

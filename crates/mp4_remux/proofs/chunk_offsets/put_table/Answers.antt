@@ -1,11 +1,8 @@
-use Rattle.std.proofs.Common.{◌≡◌, ◌∙◌, ◌++◌, ◌*◌, ◌-◌, ◌==◌, ◌||◌, ℕ, List, length, drop, take, arith, ap, inr, refl, sym}
+use Rattle.std.proofs.Common.{◌≡◌, ◌∙◌, ◌++◌, ◌*◌, ◌==◌, ◌||◌, ℕ, List, length, drop, take, arith, ap, inr}
 use Rattle.std.proofs.Common.{min}
 use Rattle.std.proofs.lemmas.Result.{on_ok_weaker, MatchResult-weaker}
 use Rattle.std.specs.List.{flat_map, list_any}
-use Rattle.mp4_codec.specs.declared.error.Error.{Error}
-use Rattle.mp4_codec.specs.declared.error.Error.TheVariants.{TooLarge}
-use Rattle.mp4_codec.specs.declared.error.Limit.TheVariants.{BoxSize}
-use Rattle.mp4_remux.specs.Moved.{IsBy, IsWhyNotMoved, entry_count, is_wide, moved_payload, numbers_in, passes, size_of}
+use Rattle.mp4_remux.specs.Moved.{IsBy, entry_count, is_wide, moved_payload, numbers_in, passes, size_of}
 use Rattle.mp4_remux.specs.Moved.{wide_bytes, wide_header}
 use Rattle.mp4_remux.proofs.Offsets.{entries_are, table_ends, table_header, table_is, too_large}
 use Rattle.mp4_remux.proofs.Referring.{rest_of}

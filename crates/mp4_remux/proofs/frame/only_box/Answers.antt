@@ -1,4 +1,4 @@
-use Rattle.std.proofs.Common.{◌≡◌, false, IsTrue, arith, refl, slice_index_or, subst}
+use Rattle.std.proofs.Common.{false, IsTrue, arith, refl, slice_index_or, subst}
 use Rattle.mp4_remux.proofs.Causes.{none_of_all, only_first, only_of_all, only_still, some_box}
 use Rattle.mp4_remux.proofs.Numbered.{at_index}
 use Rattle.mp4_remux.proofs.frame.only_box.Goals as goal

@@ -6,7 +6,8 @@ use Rattle.mp4_remux.specs.declared.error.RemuxError.{RemuxError}
 use Rattle.mp4_remux.proofs.Choosing.{are_all}
 use Rattle.mp4_remux.proofs.Faults.{moved_later, no_fault, no_file_to_move, passed_on, refused_anyhow, refused_unnamed}
 use Rattle.mp4_remux.specs.Front.{HasToMove}
-use Rattle.mp4_remux.proofs.Planning.{copy_why, made_why, no_fault_why, plan_why, planned_moved}
+use Rattle.mp4_remux.proofs.NotInFront.{copy_why, made_why, no_fault_why, plan_why}
+use Rattle.mp4_remux.proofs.Planning.{planned_moved}
 use Rattle.mp4_remux.proofs.front.move_to_front.Goals as goal
 
 pub returns-clause-written : goal.returns-clause-written

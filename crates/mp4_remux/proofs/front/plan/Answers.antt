@@ -6,7 +6,7 @@ use Rattle.mp4_codec.specs.declared.box_type.BoxType.TheVariants.{FtypBox, MoovB
 use Rattle.mp4_remux.proofs.Faults.{refused_anyhow}
 use Rattle.mp4_remux.proofs.Naming.{twice_known}
 use Rattle.mp4_remux.proofs.TopBoxes.{movie_later, no_boxes_at_all}
-use Rattle.mp4_remux.proofs.Planning.{neither_why, whatever_boxes}
+use Rattle.mp4_remux.proofs.NotInFront.{neither_why, whatever_boxes}
 use Rattle.mp4_remux.specs.declared.error.RemuxError.TheVariants.{OtherTracks}
 use Rattle.mp4_remux.proofs.front.plan.Goals as goal
 use Rattle.mp4_remux.proofs.front.plan.Goals.{in_default-via-in-Some+in_default, in_default-via-in_default}

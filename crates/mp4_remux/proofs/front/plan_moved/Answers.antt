@@ -5,7 +5,7 @@ use Rattle.mp4_remux.specs.Front.{AreApart}
 use Rattle.mp4_remux.specs.Splice.{Follow}
 use Rattle.mp4_remux.specs.declared.error.RemuxError.{RemuxError}
 use Rattle.mp4_remux.proofs.Naming.{names_known, one_of_known}
-use Rattle.mp4_remux.proofs.Planning.{box_why, header_why, is_planned, memory_why, moved_why, no_layout_why}
+use Rattle.mp4_remux.proofs.NotInFront.{box_why, header_why, no_layout_why}
 use Rattle.mp4_remux.proofs.front.plan_moved.Goals as goal
 
 pub returns-in_err-check_moved-clause-names : goal.returns-in_err-check_moved-clause-names

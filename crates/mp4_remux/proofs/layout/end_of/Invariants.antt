@@ -2,7 +2,7 @@ use Rattle.std.proofs.Common.{◌-◌, ◌≤◌, ℕ, drop, length, take}
 use Rattle.mp4_remux.specs.Splice.{Follow}
 use Rattle.mp4_remux.proofs.layout.end_of.Given as goal
 
--- the pieces that were looked at follow each other to this end; where all follow each other, so do the others from there
+-- the pieces that were looked at follow each other to this end, and where all do, so do the others from there
 abbrev pub invariant-loop-i : goal.invariant-loop-i
 invariant-loop-i l = record {
   upto : l.i ≤ length l.pieces;
