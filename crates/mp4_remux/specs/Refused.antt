@@ -82,7 +82,7 @@ SaysWhy IsUnread AreOther IsOther (Differs track number) = IsOther track number
 abbrev pub SaysDiffers : (ℕ → ℕ → Type 0) → RemuxError → Type 0
 SaysDiffers IsOther = SaysWhy (λ e. ⊤) ⊤ IsOther
 
--- no layout is made for another reason than that
+-- why no layout is made says of no sample that it is another
 abbrev pub SaysNoneDiffers : LayoutError → Type 0
 SaysNoneDiffers e = SaysDiffers (λ id k. ⊥) (of_layout e)
 
