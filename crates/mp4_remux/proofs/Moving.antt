@@ -2,7 +2,7 @@
 use Rattle.std.proofs.Common.{◌≡◌, ◌∙◌, ◌⊎◌, inl, inr, ℕ, ◌+◌, ◌^◌, ◌≤◌, ◌<◌, List, [], ◌++◌, length, take, drop}
 use Rattle.std.proofs.Common.{None, Some, Bool, true, false, if◌then◌else◌, nat_lt, refl, sym, ap, subst}
 use Rattle.std.proofs.Common.{append_assoc, arith}
-use Rattle.std.proofs.lemmas.List.{append-nil, drop_at, length-append, length-take, take_at as take_front}
+use Rattle.std.proofs.lemmas.List.{drop_at, length-append, length-take, take_at as take_front}
 use Rattle.byteorder.specs.Endian.{big_bytes, big_number}
 use Rattle.byteorder.specs.Numbers.{big_from-append, big_from-take}
 use Rattle.mp4_codec.specs.BoxType.{box_type, code_of}
@@ -16,14 +16,12 @@ use Rattle.mp4_remux.specs.Kept.{IsAmong, IsFirstBox, IsKept, entered, offsets, 
 use Rattle.mp4_remux.specs.References.{first_part}
 use Rattle.mp4_remux.specs.declared.chunk_offsets.OffsetWidth.{OffsetWidth}
 use Rattle.mp4_remux.specs.declared.chunk_offsets.OffsetWidth.TheVariants.{Narrow, Wide}
-use Rattle.mp4_remux.specs.declared.moves.Moves.TheVariants.{Front}
-use Rattle.mp4_remux.specs.declared.top_level.TopBox.{TopBox}
 use Rattle.mp4_remux.specs.declared.movie_box.Step.{Step}
 use Rattle.mp4_remux.specs.declared.movie_box.Step.TheVariants.{Enter, Keep, Offsets}
 use Rattle.mp4_remux.specs.Edited.{AddsMoved, AddsStep, EndsSized, IsHeader, IsStepOf, IsWhyNotAdded}
-use Rattle.mp4_remux.specs.Moved.{HasRoom, IsBy, IsMovedAt, IsUpToTwice, IsWhyNotMoved, as_it_is, entry_size, is_wide}
+use Rattle.mp4_remux.specs.Moved.{HasRoom, IsMovedAt, IsUpToTwice, IsWhyNotMoved, as_it_is, entry_size, is_wide}
 use Rattle.mp4_remux.specs.Moved.{level_of, moved_payload, moved_table, no_box, of_offsets, on_the_way}
-use Rattle.mp4_remux.specs.Moved.{place_in_front, size_of, sized, wide_header}
+use Rattle.mp4_remux.specs.Moved.{size_of, sized, wide_header}
 use Rattle.mp4_remux.proofs.Offsets.{length-wide_header, payload_length, table_header}
 use Rattle.mp4_remux.proofs.Sizing.{SaysType, first_again, is_header, length-sized, says_type, sized_first}
 
@@ -208,9 +206,6 @@ pub record AreMoved (to : ℕ → ℕ) (level : ℕ) (bytes rest old new : List 
   pub is : new ≡ old ++ done
   pub later : (after : List ℕ) → IsMovedAt to level rest after → IsMovedAt to level bytes (done ++ after)
 
-pub none_moved : (to : ℕ → ℕ) (level : ℕ) (bytes old : List ℕ) → AreMoved to level bytes bytes old old
-none_moved to level bytes old = record { done = []; is = sym (append-nil old); later = λ after m. m }
-
 module _ (to : ℕ → ℕ) (level : ℕ) (bytes rest old now new : List ℕ) (upto : AreMoved to level bytes rest old now) where
   -- the bytes after the boxes stay
   pub all_moved : first_part rest ≡ None → new ≡ now ++ rest → AddsMoved to level bytes old new
@@ -302,8 +297,3 @@ pub made_moved : (to : ℕ → ℕ) (bytes old new : List ℕ) → old ≡ [] �
 made_moved to bytes old new none adds =
     subst (λ (xs : List ℕ). IsMovedAt to 0 bytes xs)
     (sym (adds.is ∙ ap (λ (xs : List ℕ). xs ++ adds.after) none)) adds.moved
-
--- moves with the movie box in front are by its places
-pub front_by : (file_type movie : TopBox) (movie_len : ℕ)
-    → IsBy (Front file_type movie movie_len) (place_in_front file_type movie movie_len)
-front_by file_type movie movie_len = record { each = λ place new is. is }

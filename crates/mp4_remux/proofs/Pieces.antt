@@ -32,7 +32,7 @@ length-piece source made p within =
     ∙ omega (arith, within, long, length-drop p.place (of_origin p.origin source made))
 
 -- bytes of a piece that follow each other are bytes of what it is of
-within_piece : (xs : List ℕ) (place len skipped n : ℕ) → skipped + n ≤ len
+pub within_piece : (xs : List ℕ) (place len skipped n : ℕ) → skipped + n ≤ len
     → take n (drop skipped (take len (drop place xs))) ≡ take n (drop (place + skipped) xs)
 within_piece xs place len skipped n fits =
     let rest = len - skipped in

@@ -106,7 +106,7 @@ level_of _ = None
 
 -- Bytes at a level and what they become when each chunk offset is moved: a box on the way has other bytes in it, and
 -- its size; a table of chunk offsets, at level 5, has other offsets; every other box, and what is after the boxes,
--- stays. For any bytes there is one such answer.
+-- stays. Bytes become one list of bytes alone (`moved_once`).
 pub data IsMovedAt (to : ℕ → ℕ) : ℕ → List ℕ → List ℕ → Type 0 where
   no_box : (level : ℕ) (bytes : List ℕ) → first_part bytes ≡ None → IsMovedAt to level bytes bytes
   on_the_way : (level : ℕ) (before after rest rest_after : List ℕ) (name : BoxType)
@@ -129,8 +129,8 @@ pub data IsMovedAt (to : ℕ → ℕ) : ℕ → List ℕ → List ℕ → Type 0
 abbrev pub bytes_before : TopBox → ℕ → ℕ
 bytes_before b place = min place b.end - min place b.place
 
--- Where a byte of a file is when its file type is first, and next a movie box of so many bytes; one in the old movie
--- box is where the byte after that is.
+-- Where a byte of a file is when its file type is first, and next a movie box of so many bytes: one of the file type is
+-- as far from its begin as before; any other is after these two and all bytes before it that are of neither.
 abbrev pub place_in_front : TopBox → TopBox → ℕ → ℕ → ℕ
 place_in_front file_type movie movie_len place =
     if not (nat_lt place file_type.place) && nat_lt place file_type.end then place - file_type.place else

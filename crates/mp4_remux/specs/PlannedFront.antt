@@ -1,5 +1,5 @@
 -- A file with its movie box in front, as it is planned, and why none is (ISO/IEC 14496-12, 4.2, 4.3 and 8.2.1).
-use Rattle.std.specs.Prelude.{◌≡◌, ◌⊎◌, ◌-◌, ◌≤◌, ◌^◌, ℕ, List, length}
+use Rattle.std.specs.Prelude.{◌≡◌, ◌⊎◌, ◌-◌, ◌<◌, ◌≤◌, ◌^◌, ℕ, List, length, slice_get}
 use Rattle.mp4_codec.specs.declared.box_type.BoxType.{BoxType}
 use Rattle.mp4_codec.specs.declared.box_type.BoxType.TheVariants.{FtypBox as ftyp, MoovBox as moov}
 use Rattle.mp4_codec.specs.declared.error.Error.{Error}
@@ -26,7 +26,7 @@ pub record IsTheBox (before : List ℕ) (boxes : List TopBox) (name : BoxType) (
 
 -- The bytes that were made and the pieces are those of a file with its movie box in front: the bytes are that box with
 -- its chunk offsets moved to where the data is then, and nothing else other; the pieces put them after the file type,
--- and before all else.
+-- and before all else. Each byte outside of the old movie box is where an offset of it is moved to.
 pub record IsInFront (before made : List ℕ) (pieces : List Piece) : Type 0 where
   pub boxes : List TopBox
   pub file_type : TopBox
@@ -37,6 +37,9 @@ pub record IsInFront (before made : List ℕ) (pieces : List Piece) : Type 0 whe
   pub moved : IsMovedAt (place_in_front file_type movie (length made)) 0 (between before movie.place movie.end) made
   pub bytes : (source : List ℕ) → length source ≡ length before
       → spliced source made pieces ≡ in_front source file_type movie made
+  pub places : (place : ℕ) → place < length before → (place < movie.place) ⊎ (movie.end ≤ place)
+      → slice_get (spliced before made pieces) (place_in_front file_type movie (length made) place)
+      ≡ slice_get before place
 
 -- the only box of a type is cut short, or its end is open
 abbrev pub IsNotWhole : List ℕ → List TopBox → Error → Type 0

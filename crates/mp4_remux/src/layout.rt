@@ -56,6 +56,7 @@ impl Layout {
         ensures source_len { IfSome result (λ l. l.source_len ≡ source_len) }
         ensures made { IfSome result (λ l. l.made.items ≡ made.items) }
         ensures pieces { IfSome result (λ l. l.pieces.items ≡ pieces.items) }
+        ensures small { IfSome result (λ l. l.len < 2 ^ 64) }
         ensures none { IfNone result ((end : ℕ) → end < 2 ^ 64
             → Follow source_len (length made.items) 0 pieces.items end → ⊥) }
     {

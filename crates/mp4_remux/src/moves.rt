@@ -32,7 +32,7 @@ pub(crate) enum Moves<'a> {
 }
 
 impl Moves<'_> {
-    /// Where a byte of the file is in the rewritten one; where it isn't there, the end of the bytes before it that are.
+    /// Where a byte of the file is in the rewritten one; where it isn't there, the end of bytes before it that are.
     pub fn moved(&self, place: u64) -> u64
         ensures { IsPlaceBy self.now place result }
     {
@@ -73,7 +73,8 @@ fn bytes_before(one: TopBox, place: u64) -> u64
     place.min(one.end).saturating_sub(place.min(one.place))
 }
 
-/// Where a byte is when the file type is first, and next a movie box of so many bytes.
+/// Where a byte is when the file type is first, and next a movie box of so many bytes: one that isn't of the file type
+/// is after these two and all bytes before it that are of neither.
 fn place_in_front(file_type: TopBox, movie: TopBox, movie_len: u64, place: u64) -> u64
     ensures { result ≡ place_in_front file_type movie movie_len place }
 {

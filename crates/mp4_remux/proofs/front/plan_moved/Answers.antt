@@ -6,6 +6,7 @@ use Rattle.mp4_remux.specs.Splice.{Follow}
 use Rattle.mp4_remux.specs.declared.error.RemuxError.{RemuxError}
 use Rattle.mp4_remux.proofs.Naming.{names_known, one_of_known}
 use Rattle.mp4_remux.proofs.NotInFront.{box_why, header_why, no_layout_why}
+use Rattle.mp4_remux.proofs.Planning.{is_planned}
 use Rattle.mp4_remux.proofs.front.plan_moved.Goals as goal
 
 pub returns-in_err-check_moved-clause-names : goal.returns-in_err-check_moved-clause-names
@@ -16,6 +17,22 @@ returns-in_err-check_moved-clause-names g c =
     (names_known (g.S.ByteSource.contents c.args.source) _
     (one_of_known (g.S.ByteSource.contents c.args.source) c.args.boxes.now c.requires.boxes) _
     c.in_err-check_moved.ensures.names)
+
+pub returns-clause-planned : goal.returns-clause-planned
+returns-clause-planned g c =
+    rw (c.in-Some.ensures.made, c.in-Some.ensures.pieces)
+    (is_planned (g.S.ByteSource.contents c.args.source) c.args.len c.args.boxes.now c.args.file_type c.args.movie
+    c.in_ok-bytes.bytes.items c.in_ok-made.made.items c.in_ok-pieces.pieces.items c.in-Some.layout c.requires.len
+    c.requires.file_type c.requires.movie c.requires.boxes c.in_ok-source.ensures.header
+    (rw c.in_ok-source.ensures.contents at c.in_ok-source-2.ensures.header)
+    (rw (
+      c.check_metadata.ensures.contents,
+      c.check_moved.ensures.contents,
+      c.in_ok-source-2.ensures.contents,
+      c.in_ok-source.ensures.contents,
+    ) at c.in_ok-bytes.ensures.bytes) (rw c.deref.ensures.value at c.in_ok-made.ensures.moved)
+    (λ source long. c.in_ok-pieces.ensures.bytes source c.in_ok-made.made.items long (omega (arith, c.len.ensures)))
+    c.in-Some.ensures.source_len c.in-Some.ensures.made c.in-Some.ensures.pieces c.in-Some.ensures.small)
 
 pub returns-in_err-source-clause-why : goal.returns-in_err-source-clause-why
 returns-in_err-source-clause-why g c =
