@@ -60,6 +60,27 @@ begins_with what ids references file_type movie_bytes made header movie pieces l
           (a.0, a.1 ∙ ap (λ (m : List ℕ). between source file_type.place file_type.end ++ (m ++ a.0)) first);
     }
 
+-- a layout that begins with the file type and the movie box is that of a file which is rebuilt
+pub is_rebuilt : (xs : List ℕ) (l : Layout) (opened : OpenedFile) (all ids : List ℕ)
+    (staying left_out : List Reference) (file_type movie : TopBox) (movie_bytes : List ℕ)
+    → IsFrameOf xs file_type movie movie_bytes
+    → BeginsWith (made_of opened) ids staying file_type movie_bytes l.made.items l.pieces.items
+    → staying ≡ filter (stays (leaves_some all ids) ids) (references_in movie_bytes all)
+    → AreLeftOut movie_bytes all ids left_out
+    → IsRebuilt (made_of opened) xs (spliced xs l.made.items l.pieces.items) all ids left_out
+is_rebuilt xs l opened all ids staying left_out file_type movie movie_bytes f b kept gone = record {
+  file_type = file_type;
+  movie = movie;
+  made = b.movie;
+  rest = (b.bytes xs).0;
+  has_file_type = f.has_file_type;
+  has_movie = f.has_movie;
+  kept = subst (λ (bytes : List ℕ). IsKept (changed_by (made_of opened)) tracks bytes b.movie) f.movie_is b.kept;
+  referring = subst (λ (bytes : List ℕ). KeepsReferences bytes b.movie all ids) f.movie_is (b.referring ∙ kept);
+  gone = subst (λ (bytes : List ℕ). AreLeftOut bytes all ids left_out) f.movie_is gone;
+  bytes = (b.bytes xs).1;
+}
+
 -- a layout that begins with the file type and the movie box is written
 pub writes_rebuilt : (known had has : Option (List ℕ)) (r : Result (Unit {0}) RemuxError) (l : Layout)
     (opened : OpenedFile) (all ids : List ℕ) (staying left_out : List Reference) (file_type movie : TopBox)
@@ -79,20 +100,7 @@ writes_rebuilt (Some xs) had has (Ok u) l opened all ids staying left_out file_t
       (
         w.0,
         (
-          record {
-            file_type = file_type;
-            movie = movie;
-            made = b.movie;
-            rest = (b.bytes xs).0;
-            has_file_type = f.has_file_type;
-            has_movie = f.has_movie;
-            kept =
-                subst (λ (bytes : List ℕ). IsKept (changed_by (made_of opened)) tracks bytes b.movie) f.movie_is b.kept;
-            referring =
-                subst (λ (bytes : List ℕ). KeepsReferences bytes b.movie all ids) f.movie_is (b.referring ∙ kept);
-            gone = subst (λ (bytes : List ℕ). AreLeftOut bytes all ids left_out) f.movie_is gone;
-            bytes = (b.bytes xs).1;
-          },
+          is_rebuilt xs l opened all ids staying left_out file_type movie movie_bytes f b kept gone,
           w.1,
         ),
       ),

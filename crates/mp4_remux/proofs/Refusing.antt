@@ -70,7 +70,7 @@ alone t id zero e = cc
 alone t id (suc n) e = absurd cc
 
 module _ (t i : ℕ) (ids : List ℕ) (there : slice_get ids i ≡ Some t) where
-  among : (id n : ℕ) → slice_get (t ∷ []) n ≡ Some id → slice_get ids i ≡ Some id
+  pub among : (id n : ℕ) → slice_get (t ∷ []) n ≡ Some id → slice_get ids i ≡ Some id
   among id n e = there ∙ ap (λ m. Some m) (alone t id n e)
 
   unreadable_among : (movie : OpenedFile) (c : Cause) → IsUnreadable movie (t ∷ []) c → IsUnreadable movie ids c

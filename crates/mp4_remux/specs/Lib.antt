@@ -12,6 +12,7 @@ pub mod PlannedFront
 pub mod Reads
 pub mod References
 pub mod Refused
+pub mod RefusedRebuilt
 pub mod Remuxed
 pub mod Same
 pub mod Splice

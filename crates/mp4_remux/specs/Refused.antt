@@ -9,12 +9,14 @@ use Rattle.mp4_boxes.specs.declared.trak.TrakBox.{TrakBox}
 use Rattle.mp4_samples.specs.declared.sample.Place.{Place}
 use Rattle.mp4_media.specs.FileBoxes.{OpenedFile}
 use Rattle.mp4_media.specs.FileGrammar.{IsFaultyFile}
+use Rattle.mp4_remux.specs.Errors.{of_layout}
 use Rattle.mp4_remux.specs.Headers.{DurationsOf, IsShownUntil, KeepsHeaders}
 use Rattle.mp4_remux.specs.Named.{OpensTo}
 use Rattle.mp4_remux.specs.Reads.{count_of, place_in}
 use Rattle.mp4_remux.specs.Remuxed.{ids_of}
 use Rattle.mp4_remux.specs.Same.{IsSameAt}
 use Rattle.mp4_remux.specs.Splice.{spliced}
+use Rattle.mp4_remux.specs.declared.layout_error.LayoutError.{LayoutError}
 use Rattle.mp4_remux.specs.declared.made.Made.{Made}
 use Rattle.mp4_remux.specs.declared.made.Made.TheVariants.{Tables}
 use Rattle.mp4_remux.specs.declared.piece.Piece.{Piece}
@@ -75,6 +77,14 @@ SaysWhy IsUnread AreOther IsOther (StartsElsewhere track number) = ⊤
 SaysWhy IsUnread AreOther IsOther SameIds = ⊤
 SaysWhy IsUnread AreOther IsOther OtherTracks = AreOther
 SaysWhy IsUnread AreOther IsOther (Differs track number) = IsOther track number
+
+-- a refusal says that a sample is another only where this is so
+abbrev pub SaysDiffers : (ℕ → ℕ → Type 0) → RemuxError → Type 0
+SaysDiffers IsOther = SaysWhy (λ e. ⊤) ⊤ IsOther
+
+-- why no layout is made says of no sample that it is another
+abbrev pub SaysNoneDiffers : LayoutError → Type 0
+SaysNoneDiffers e = SaysDiffers (λ id k. ⊥) (of_layout e)
 
 -- one of these tracks isn't read, of the file or of the splice
 abbrev pub IsUnreadOf : List ℕ → OpenedFile → OpenedFile → Error → Type 0

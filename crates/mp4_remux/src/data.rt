@@ -1,8 +1,11 @@
 //! The data of samples, closed up: what lies between it is left out.
 
-ghost use Rattle.std.specs.Prelude.{◌<◌, ◌≤◌, ◌-◌, ◌^◌, ◌∷◌, [], IfErr, IfOk};
+ghost use Rattle.std.specs.Prelude.{◌+◌, ◌<◌, ◌≤◌, ◌-◌, ◌^◌, ◌∷◌, [], IfErr, IfNone, IfOk};
 ghost use Rattle.mp4_media.specs.FileBoxes.{opened_movie};
 ghost use Rattle.mp4_media.specs.MovieTracks.{AreTracks};
+ghost use Rattle.mp4_remux.specs.Errors.{of_layout};
+ghost use Rattle.mp4_remux.specs.Refused.{SaysDiffers};
+ghost use Rattle.mp4_remux.specs.RefusedRebuilt.{IsCutSample};
 ghost use Rattle.mp4_remux.specs.Named.{IsWhy};
 ghost use Rattle.mp4_remux.specs.Why.{HasSamples};
 
@@ -37,7 +40,9 @@ fn push_extent(extents: &mut Vec<Extent>, extent: Extent) -> Put {
 }
 
 /// The bytes of a sample; none where they pass the end of a file of `len` bytes.
-fn extent_of(sample: &SamplePlace, len: u64) -> Option<Extent> {
+fn extent_of(sample: &SamplePlace, len: u64) -> Option<Extent>
+    ensures { IfNone result (len < sample.now.offset + sample.now.size) }
+{
     let end = sample.offset.checked_add(u64::from(sample.size))?;
     if end > len {
         return None;
@@ -62,6 +67,8 @@ fn push_track(
     ensures few { IfOk result (λ count. count ≤ most) }
     ensures counted { IfOk result (λ count. HasSamples (opened_movie movie.now) track_id count) }
     ensures why { IfErr result (IsWhy (track_id ∷ []) most (opened_movie movie.now)) }
+    ensures differs { IfErr result (λ e. SaysDiffers (IsCutSample len (track_id ∷ []) (opened_movie movie.now))
+        (of_layout e)) }
 {
     let mut k = 0;
     while k <= most {
@@ -91,6 +98,8 @@ pub(crate) fn data_of(
     requires most { most < 2 ^ 32 - 1 }
     requires tracks { AreTracks movie.now.moov movie.now.moofs movie.now.moof_places movie.now.tracks }
     ensures why { IfErr result (IsWhy ids.now most (opened_movie movie.now)) }
+    ensures differs { IfErr result (λ e. SaysDiffers (IsCutSample len ids.now (opened_movie movie.now))
+        (of_layout e)) }
 {
     let mut extents = Vec::new(alloc);
     let mut left = most;

@@ -1,6 +1,7 @@
 //! What movie fragments say of their samples beside places, times and marks.
 
 ghost use Rattle.std.specs.Prelude.{◌↔◌, IfErr, IfSome, IsTrue};
+ghost use Rattle.mp4_remux.specs.Refused.{SaysDiffers};
 ghost use Rattle.mp4_remux.specs.Errors.{IsRefusalOf};
 ghost use Rattle.mp4_remux.specs.Kept.{IsAmong};
 ghost use Rattle.mp4_remux.specs.Named.{HasBoxWithin, NamesBy, kept_by_tables, of_samples};
@@ -86,6 +87,7 @@ fn more_in(bytes: &[u8], end: u64) -> Option<FoundBox>
 pub(crate) fn check_fragment(bytes: &[u8], end: u64) -> Result<(), RemuxError>
     ensures names { IfErr result (NamesBy (HasBoxWithin bytes.now end)) }
     ensures refused { IfErr result (IsRefusalOf ⊥ ⊥) }
+    ensures differs { IfErr result (SaysDiffers (λ _ _. ⊥)) }
 {
     let Some(fragment) = first_box(bytes) else {
         return Ok(());

@@ -3,6 +3,7 @@
 ghost use Rattle.std.specs.Prelude.{◌≡◌, ◌⊎◌, IfSome, IfErr, IfNone, IfOk};
 ghost use Rattle.mp4_codec.specs.declared.error.Error.TheVariants.{OutOfMemory, EndOfData};
 ghost use Rattle.mp4_source.specs.Answers.{IsLength};
+ghost use Rattle.mp4_remux.specs.Refused.{SaysDiffers};
 ghost use Rattle.mp4_remux.specs.Errors.{IsRefusalOf, MayRefuse};
 ghost use Rattle.mp4_remux.specs.Named.{AreTwo, EndsAt, NamesBox, NamesBy, SaysTwice};
 ghost use Rattle.mp4_media.specs.FileGrammar.{between};
@@ -57,6 +58,7 @@ pub(crate) fn check_header<S: ByteSource + Drop>(
     ensures contents { IfOk result (λ s. S.contents s ≡ S.contents source) }
     ensures can_refuse { IfOk result (λ s. S.can_refuse s ≡ S.can_refuse source) }
     ensures refused { IfErr result (IsRefusalOf (MayRefuse (S.contents source) (S.can_refuse source)) ⊥) }
+    ensures differs { IfErr result (SaysDiffers (λ _ _. ⊥)) }
 {
     let mut cursor = SourceCursor::new(alloc, source, one.place)?;
     let header = cursor.read_header()?;
@@ -86,6 +88,7 @@ pub(crate) fn bytes_of<S: ByteSource>(
     ensures contents { S.contents source.new ≡ S.contents source.old }
     ensures can_refuse { S.can_refuse source.new ≡ S.can_refuse source.old }
     ensures refused { IfErr result (IsRefusalOf (MayRefuse (S.contents source.old) (S.can_refuse source.old)) ⊥) }
+    ensures differs { IfErr result (SaysDiffers (λ _ _. ⊥)) }
 {
     let size = one.end.saturating_sub(one.place);
     if !fits(one.place, size, len) {
@@ -112,6 +115,7 @@ pub(crate) fn checked_bytes<S: ByteSource>(
     ensures contents { S.contents source.new ≡ S.contents source.old }
     ensures can_refuse { S.can_refuse source.new ≡ S.can_refuse source.old }
     ensures refused { IfErr result (IsRefusalOf (MayRefuse (S.contents source.old) (S.can_refuse source.old)) ⊥) }
+    ensures differs { IfErr result (SaysDiffers (λ _ _. ⊥)) }
 {
     let bytes = bytes_of(alloc, source, len, one)?;
     check_box(&bytes, one.end, is_gathered)?;
@@ -132,6 +136,7 @@ pub(crate) fn check_metadata<S: ByteSource>(
     ensures contents { S.contents source.new ≡ S.contents source.old }
     ensures can_refuse { S.can_refuse source.new ≡ S.can_refuse source.old }
     ensures refused { IfErr result (IsRefusalOf (MayRefuse (S.contents source.old) (S.can_refuse source.old)) ⊥) }
+    ensures differs { IfErr result (SaysDiffers (λ _ _. ⊥)) }
 {
     for one in boxes {
         if one.name == BoxType::MetaBox || u32::from(one.name) == MORE_METADATA {
@@ -193,6 +198,7 @@ fn check_fragments<S: ByteSource>(
     ensures contents { S.contents source.new ≡ S.contents source.old }
     ensures can_refuse { S.can_refuse source.new ≡ S.can_refuse source.old }
     ensures refused { IfErr result (IsRefusalOf (MayRefuse (S.contents source.old) (S.can_refuse source.old)) ⊥) }
+    ensures differs { IfErr result (SaysDiffers (λ _ _. ⊥)) }
 {
     for one in boxes {
         if one.name == BoxType::MoofBox {
@@ -217,6 +223,7 @@ fn check_others<S: ByteSource>(
     ensures contents { S.contents source.new ≡ S.contents source.old }
     ensures can_refuse { S.can_refuse source.new ≡ S.can_refuse source.old }
     ensures refused { IfErr result (IsRefusalOf (MayRefuse (S.contents source.old) (S.can_refuse source.old)) ⊥) }
+    ensures differs { IfErr result (SaysDiffers (λ _ _. ⊥)) }
 {
     if is_gathered {
         check_fragments(alloc, source, len, boxes)?;
@@ -240,6 +247,7 @@ pub(crate) fn read_frame<S: ByteSource + Drop>(
         IsFrameOf xs x.1.file_type x.1.movie x.1.movie_bytes.items)) }
     ensures names { IfErr result (NamesBox (S.contents source)) }
     ensures refused { IfErr result (IsRefusalOf (MayRefuse (S.contents source) (S.can_refuse source)) ⊥) }
+    ensures differs { IfErr result (SaysDiffers (λ _ _. ⊥)) }
 {
     let (source, boxes) = top_boxes(alloc, source, len)?;
     let file_type = only_box(&boxes, BoxType::FtypBox)?;

@@ -1,6 +1,7 @@
 //! Boxes that say places of a file in a way that isn't rewritten.
 
 ghost use Rattle.std.specs.Prelude.{◌≡◌, ◌≤◌, ◌++◌, ◌⊎◌, ℕ, List, IfErr, IfSome, IsTrue};
+ghost use Rattle.mp4_remux.specs.Refused.{SaysDiffers};
 ghost use Rattle.mp4_remux.specs.Caused.{CausedByNone};
 ghost use Rattle.mp4_remux.specs.Errors.{IsRefusalOf};
 ghost use Rattle.mp4_remux.specs.Kept.{IsAmong};
@@ -172,6 +173,7 @@ pub(crate) fn check_top_box(one: TopBox) -> Result<(), RemuxError>
 pub(crate) fn check_top_level(boxes: &[TopBox]) -> Result<(), RemuxError>
     ensures names { IfErr result (NamesBy (IsOneOf boxes.now)) }
     ensures refused { IfErr result (IsRefusalOf ⊥ ⊥) }
+    ensures differs { IfErr result (SaysDiffers (λ _ _. ⊥)) }
 {
     for i in 0..boxes.len() {
         check_top_box(boxes[i])?;

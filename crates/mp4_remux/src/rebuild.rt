@@ -6,6 +6,10 @@ ghost use Rattle.mp4_codec.specs.Cursor.{here};
 ghost use Rattle.mp4_media.specs.FileBoxes.{opened_movie};
 ghost use Rattle.mp4_media.specs.FileGrammar.{IsFile, between};
 ghost use Rattle.mp4_media.specs.MovieTracks.{AreTracks};
+ghost use Rattle.mp4_media.specs.FileBoxes.{OpenedFile};
+ghost use Rattle.mp4_remux.specs.Refused.{SaysDiffers, SaysNoneDiffers};
+ghost use Rattle.mp4_remux.specs.RefusedRebuilt.{IsCutSample, IsNotKept};
+ghost use Rattle.mp4_remux.specs.Remuxed.{ids_of, kept_of};
 ghost use Rattle.mp4_remux.specs.Gathered.{BeginsWith, HasMoreThanTables, WritesChosen, WritesGathered};
 ghost use Rattle.mp4_remux.specs.Gathered.{WritesRebuilt};
 ghost use Rattle.mp4_remux.specs.Headers.{changed_by, made_of};
@@ -16,7 +20,8 @@ ghost use Rattle.mp4_remux.specs.References.{references_in};
 ghost use Rattle.mp4_remux.specs.declared.made.Made.TheVariants.{Tables};
 ghost use Rattle.mp4_remux.specs.Splice.{spliced};
 ghost use Rattle.mp4_source.specs.Answers.{IsLength};
-ghost use Rattle.mp4_remux.specs.Errors.{IsNamed, IsRefusalOf, MayRefuse, SaysFault, SaysMissing, TakesMemory};
+ghost use Rattle.mp4_remux.specs.Errors.{IsNamed, IsRefusalOf, MayRefuse, SaysFault, SaysMissing};
+ghost use Rattle.mp4_remux.specs.Errors.{TakesMemory, of_layout};
 
 use crate::chosen::{all_ids, kept_ids};
 use crate::copy::copy_all;
@@ -72,6 +77,7 @@ fn track_edit(
     requires most { most < 2 ^ 32 - 1 }
     requires tracks { AreTracks movie.now.moov movie.now.moofs movie.now.moof_places movie.now.tracks }
     ensures why { IfErr result (IsWhy (trak.now.tkhd.track_id ∷ []) most (opened_movie movie.now)) }
+    ensures differs { IfErr result SaysNoneDiffers }
 {
     if !has_fragments(movie) {
         return Ok(TrackEdit::Moved);
@@ -105,6 +111,7 @@ fn edit_of(
     requires most { most < 2 ^ 32 - 1 }
     requires tracks { AreTracks movie.now.moov movie.now.moofs movie.now.moof_places movie.now.tracks }
     ensures why { IfErr result (IsWhy ids.now most (opened_movie movie.now)) }
+    ensures differs { IfErr result SaysNoneDiffers }
 {
     let mut edit = MovieEdit::of_offsets(alloc);
     let mut duration = 0;
@@ -215,6 +222,7 @@ fn made_bytes(
         × ((length movie ≡ movie_len.new) × (IsKept (changed_by keeps.now.what) tracks frame.now.movie_bytes.items movie
         × (references_in movie keeps.now.ids.now ≡ keeps.now.references.now))))) }
     ensures why { IfErr result SaysNone }
+    ensures differs { IfErr result SaysNoneDiffers }
 {
     let mut made = edited(alloc, &frame.movie_bytes, edit, moves)?;
     let len = made.len() as u64;
@@ -241,6 +249,7 @@ fn plan_data(
     ensures begins { IfOk result (λ x. BeginsWith keeps.now.what keeps.now.ids.now keeps.now.references.now
         frame.now.file_type frame.now.movie_bytes.items x.0.items x.1.items) }
     ensures why { IfErr result SaysNone }
+    ensures differs { IfErr result SaysNoneDiffers }
 {
     let header = data_header(alloc, len_of(extents))?;
     let mut movie_len = frame.movie_bytes.len() as u64;
@@ -277,6 +286,8 @@ fn plan(
     ensures begins { IfOk result (λ l. BeginsWith keeps.now.what keeps.now.ids.now keeps.now.references.now
         frame.now.file_type frame.now.movie_bytes.items l.made.items l.pieces.items) }
     ensures why { IfErr result (IsWhy keeps.now.ids.now (most_samples len) (opened_movie movie.now)) }
+    ensures differs { IfErr result (λ e. SaysDiffers (IsCutSample len keeps.now.ids.now (opened_movie movie.now))
+        (of_layout e)) }
 {
     let most = most_samples(len);
     let extents = data_of(alloc, movie, keeps.ids, len, most)?;
@@ -313,6 +324,8 @@ fn write_chosen<S: ByteSource + Drop, K: ByteSink>(
     ensures more { OnOk result (K.len sink.old ≤ K.len sink.new) }
     ensures refused { IfErr result (IsRefusalOf (MayRefuse (S.contents source) (S.can_refuse source))
         (IsTrue (K.can_refuse sink.old))) }
+    ensures differs { IfErr result (λ e. IfSome (S.contents source) (λ xs. SaysDiffers
+        (IsNotKept xs (opened_movie movie.now) all.now ids.now) e)) }
 {
     let (source, frame) = read_frame(alloc, source, len, has_fragments(movie))?;
     let references = references_in(alloc, &frame.movie_bytes, all)?;
@@ -371,6 +384,9 @@ pub fn gather<S: ByteSource + Drop, K: ByteSink>(
     ensures names { IfErr result (NamesBox (S.contents source)) }
     ensures as_it_is { IfErr result (λ e. IsNamed e → HasMoreThanTables (S.contents source)) }
     ensures memory { TakesMemory (S.contents source) result }
+    ensures differs { IfErr result (λ e. IfSome (S.contents source) (λ xs. (opened : OpenedFile)
+        → IsFile (length xs) (here xs 0) opened
+        → SaysDiffers (IsNotKept xs opened (ids_of opened.moov) (ids_of opened.moov)) e)) }
 {
     let (source, len, movie) = open_source(alloc, source)?;
     if !has_fragments(&movie) {
@@ -414,6 +430,9 @@ pub fn choose<S: ByteSource + Drop, K: ByteSink>(
     ensures fault { SaysFault (S.contents source) (S.can_refuse source) result }
     ensures names { IfErr result (NamesBox (S.contents source)) }
     ensures memory { TakesMemory (S.contents source) result }
+    ensures differs { IfErr result (λ e. IfSome (S.contents source) (λ xs. (opened : OpenedFile)
+        → IsFile (length xs) (here xs 0) opened → SaysDiffers
+        (IsNotKept xs opened (ids_of opened.moov) (kept_of ids.now (ids_of opened.moov))) e)) }
 {
     let (source, len, movie) = open_source(alloc, source)?;
     let all = all_ids(alloc, &movie)?;

@@ -2,6 +2,7 @@
 
 ghost use Rattle.std.specs.Prelude.{◌≡◌, ◌+◌, ◌≤◌, ◌<◌, List, length, IfSome, IfOk, IfErr};
 ghost use Rattle.mp4_source.specs.Answers.{IsLength};
+ghost use Rattle.mp4_remux.specs.Refused.{SaysDiffers};
 ghost use Rattle.mp4_remux.specs.Errors.{IsNamed, IsRefusalOf, MayRefuse};
 ghost use Rattle.mp4_remux.specs.Named.{NamesBy};
 ghost use Rattle.mp4_remux.specs.Front.{AreBoxes, HasNoHeader, IsTopBox, top_end};
@@ -58,6 +59,7 @@ fn read_top<S: ByteSource + Drop>(
     ensures same_len { cursor.new.len ≡ cursor.old.len }
     ensures refused { IfErr result (IsRefusalOf
         (MayRefuse (S.contents cursor.old.source) (S.can_refuse cursor.old.source)) ⊥) }
+    ensures differs { IfErr result (SaysDiffers (λ _ _. ⊥)) }
 {
     cursor.set_position(place);
     let header = cursor.read_header()?;
@@ -83,6 +85,7 @@ pub(crate) fn top_boxes<S: ByteSource + Drop>(
     ensures contents { IfOk result (λ x. S.contents x.0 ≡ S.contents source) }
     ensures can_refuse { IfOk result (λ x. S.can_refuse x.0 ≡ S.can_refuse source) }
     ensures refused { IfErr result (IsRefusalOf (MayRefuse (S.contents source) (S.can_refuse source)) ⊥) }
+    ensures differs { IfErr result (SaysDiffers (λ _ _. ⊥)) }
 {
     let mut boxes = Vec::new(alloc);
     let mut cursor = SourceCursor::new(alloc, source, 0)?;

@@ -3,6 +3,7 @@
 ghost use Rattle.std.specs.Prelude.{◌≡◌, ◌+◌, ◌<◌, ◌-◌, ◌^◌, ◌∷◌, [], min, IfErr, OnOk};
 ghost use Rattle.mp4_media.specs.FileBoxes.{opened_movie};
 ghost use Rattle.mp4_media.specs.MovieTracks.{AreTracks};
+ghost use Rattle.mp4_remux.specs.Refused.{SaysNoneDiffers};
 ghost use Rattle.mp4_remux.specs.Named.{IsWhy};
 
 use crate::descriptions::Descriptions;
@@ -300,6 +301,7 @@ pub(crate) fn tables_of(
     requires most { most < 2 ^ 32 - 1 }
     requires tracks { AreTracks movie.now.moov movie.now.moofs movie.now.moof_places movie.now.tracks }
     ensures why { IfErr result (IsWhy (track_id ∷ []) most (opened_movie movie.now)) }
+    ensures differs { IfErr result SaysNoneDiffers }
 {
     let mut descriptions = Descriptions::of(alloc, movie.track(track_id)?, &movie.moov.mvex)?;
     let mut tables = SampleTables::new(alloc);

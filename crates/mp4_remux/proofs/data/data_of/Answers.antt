@@ -6,6 +6,7 @@ use Rattle.mp4_remux.specs.declared.layout_error.LayoutError.{LayoutError}
 use Rattle.mp4_remux.proofs.Counting.{more_samples}
 use Rattle.mp4_remux.proofs.Naming.{why_among}
 use Rattle.mp4_remux.proofs.Numbered.{at_index}
+use Rattle.mp4_remux.proofs.RefusingRebuilt.{cut_among}
 use Rattle.mp4_remux.proofs.data.data_of.Goals as goal
 
 pub loop-i-preserved : goal.loop-i-preserved
@@ -38,4 +39,7 @@ returns-in_err-left c =
           (why_among (slice_index_or ids c.loop-i.i 0) c.loop-i.left c.args.most ids (opened_movie c.args.movie.now)
           c.loop-i.i inv.have.0 (at_index ids c.loop-i.i 0 (omega (arith, c.loop-i-test.true))) inv.have.1.0
           inv.have.1.1 _ c.in_err-left.ensures.why);
+      differs = rw (p.1 ∙ ap (λ (e : LayoutError). Err e) p.2)
+          (cut_among (slice_index_or ids c.loop-i.i 0) c.loop-i.i c.args.len ids (opened_movie c.args.movie.now)
+          (at_index ids c.loop-i.i 0 (omega (arith, c.loop-i-test.true))) _ c.in_err-left.ensures.differs);
     }

@@ -1,5 +1,6 @@
 use Rattle.std.proofs.Common.{◌∙◌, Err, ap, inl, refl, sym}
-use Rattle.mp4_remux.specs.Remuxed.{kept_of}
+use Rattle.mp4_remux.specs.RefusedRebuilt.{IsNotKept}
+use Rattle.mp4_remux.specs.Remuxed.{ids_of, kept_of}
 use Rattle.mp4_media.specs.FileBoxes.{opened_movie}
 use Rattle.mp4_remux.proofs.Choosing.{missing_said, missing_unopened, none_missing}
 use Rattle.mp4_remux.proofs.Rebuilding.{writes_chosen}
@@ -7,6 +8,7 @@ use Rattle.std.proofs.lemmas.Result.{err_from_is_err_and}
 use Rattle.mp4_codec.specs.declared.error.Error.TheVariants.{OutOfMemory}
 use Rattle.mp4_remux.specs.declared.error.RemuxError.{RemuxError}
 use Rattle.mp4_remux.proofs.Faults.{no_fault, passed_on}
+use Rattle.mp4_remux.proofs.RefusingRebuilt.{answer_of_opened, opened_anyhow}
 use Rattle.mp4_remux.proofs.rebuild.choose.Goals as goal
 
 pub returns-clause-written : goal.returns-clause-written
@@ -73,3 +75,20 @@ write_chosen-requires-clause-kept g c = (
   c.deref-3.ensures.value ∙ c.in_ok-kept.ensures.ids
       ∙ ap (kept_of c.args.ids.now) (c.deref.ensures.value ∙ c.in_ok-all.ensures.ids),
 )
+
+pub returns-in_err-source-clause-differs : goal.returns-in_err-source-clause-differs
+returns-in_err-source-clause-differs g c =
+    let p = err_from_is_err_and c.from_residual.result c.from_residual.ensures.1 in
+    rw (p.1 ∙ ap (λ (e : RemuxError). Err e) p.2)
+    (opened_anyhow (g.S.ByteSource.contents c.args.source) (g.S.ByteSource.can_refuse c.args.source)
+    (λ xs o. IsNotKept xs o (ids_of o.moov) (kept_of c.args.ids.now (ids_of o.moov))) _
+    c.in_err-source.ensures.no_fault)
+
+pub returns-clause-differs : goal.returns-clause-differs
+returns-clause-differs g c =
+    let all = c.deref-2.ensures.value ∙ c.in_ok-all.ensures.ids in
+    answer_of_opened c.write_chosen.result (g.S.ByteSource.contents c.args.source) (opened_movie c.in_ok-source.movie)
+    _ _ (kept_of c.args.ids.now) c.in_ok-source.ensures.only all
+    (c.deref-3.ensures.value ∙ c.in_ok-kept.ensures.ids
+    ∙ ap (kept_of c.args.ids.now) (c.deref.ensures.value ∙ c.in_ok-all.ensures.ids))
+    (rw c.in_ok-source.ensures.contents at c.write_chosen.ensures.differs)

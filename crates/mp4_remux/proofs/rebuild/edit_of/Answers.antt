@@ -18,4 +18,5 @@ returns-in_err-one c =
           0 (at_index ids kept 0 (omega (arith, c.if-kept-ids.true)) ∙ ap (λ (n : ℕ). Some n) c.if-ids-kept.true)
           (no_samples (opened_movie c.args.movie.now) ids kept (omega (arith, c.if-kept-ids.true))) (omega arith) _
           c.in_err-one.ensures.why);
+      differs = rw (p.1 ∙ ap (λ (e : LayoutError). Err e) p.2) c.in_err-one.ensures.differs;
     }

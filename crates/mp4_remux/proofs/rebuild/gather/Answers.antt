@@ -6,6 +6,9 @@ use Rattle.std.proofs.lemmas.Result.{err_from_is_err_and}
 use Rattle.mp4_remux.specs.declared.error.RemuxError.{RemuxError}
 use Rattle.mp4_remux.proofs.Choosing.{are_all}
 use Rattle.mp4_remux.proofs.Faults.{no_fault, passed_on, refused_anyhow, refused_unnamed}
+use Rattle.mp4_remux.proofs.RefusingRebuilt.{of_opened, opened_anyhow}
+use Rattle.mp4_remux.specs.RefusedRebuilt.{IsNotKept}
+use Rattle.mp4_remux.specs.Remuxed.{ids_of}
 use Rattle.mp4_remux.proofs.rebuild.gather.Goals as goal
 
 pub returns-then-not-has_fragments-clause-written : goal.returns-then-not-has_fragments-clause-written
@@ -71,3 +74,20 @@ returns-in_err-write_chosen-clause-as_it_is g c =
 pub write_chosen-requires-clause-kept : goal.write_chosen-requires-clause-kept
 write_chosen-requires-clause-kept g c =
     are_all (opened_movie c.in_ok-source.movie) _ (c.deref-2.ensures.value ∙ c.in_ok-ids.ensures.ids)
+
+pub returns-in_err-source-clause-differs : goal.returns-in_err-source-clause-differs
+returns-in_err-source-clause-differs g c =
+    let p = err_from_is_err_and c.from_residual.result c.from_residual.ensures.1 in
+    rw (p.1 ∙ ap (λ (e : RemuxError). Err e) p.2)
+    (opened_anyhow (g.S.ByteSource.contents c.args.source) (g.S.ByteSource.can_refuse c.args.source)
+    (λ xs o. IsNotKept xs o (ids_of o.moov) (ids_of o.moov)) _ c.in_err-source.ensures.no_fault)
+
+pub returns-in_err-write_chosen-clause-differs : goal.returns-in_err-write_chosen-clause-differs
+returns-in_err-write_chosen-clause-differs g c =
+    let p = err_from_is_err_and c.from_residual-in_err-write_chosen.result
+    c.from_residual-in_err-write_chosen.ensures.1 in
+    rw (p.1 ∙ ap (λ (e : RemuxError). Err e) p.2)
+    (of_opened (g.S.ByteSource.contents c.args.source) (opened_movie c.in_ok-source.movie) _ _ (λ ids. ids) _
+    c.in_ok-source.ensures.only (c.deref.ensures.value ∙ c.in_ok-ids.ensures.ids)
+    (c.deref-2.ensures.value ∙ c.in_ok-ids.ensures.ids)
+    (rw c.in_ok-source.ensures.contents at c.in_err-write_chosen.ensures.differs))

@@ -7,6 +7,7 @@ use Rattle.mp4_media.specs.FileBoxes.{opened_movie}
 use Rattle.mp4_remux.specs.References.{leaves_some, references_in}
 use Rattle.mp4_remux.proofs.Finding.{left_out_by, staying_by}
 use Rattle.mp4_remux.proofs.Rebuilding.{writes_rebuilt}
+use Rattle.mp4_remux.proofs.RefusingRebuilt.{cut_is_not_kept, none_is_not_kept, other_is_not_kept}
 use Rattle.mp4_remux.proofs.rebuild.write_chosen.Goals as goal
 
 pub returns-clause-written : goal.returns-clause-written
@@ -39,3 +40,38 @@ returns-in_err-layout-clause-names g c =
     rw (p.1 ∙ ap (λ (e : RemuxError). Err e) p.2)
     (why_known (g.S.ByteSource.contents c.args.source) c.args.len (opened_movie c.args.movie.now) c.args.ids.now
     c.requires.len c.requires.opened c.requires.kept _ c.in_err-layout.ensures.why)
+
+pub returns-in_err-source-clause-differs : goal.returns-in_err-source-clause-differs
+returns-in_err-source-clause-differs g c =
+    let p = err_from_is_err_and c.from_residual.result c.from_residual.ensures.1 in
+    rw (p.1 ∙ ap (λ (e : RemuxError). Err e) p.2)
+    (none_is_not_kept (g.S.ByteSource.contents c.args.source) (opened_movie c.args.movie.now) c.args.all.now
+    c.args.ids.now _ c.in_err-source.ensures.differs)
+
+pub returns-in_err-layout-clause-differs : goal.returns-in_err-layout-clause-differs
+returns-in_err-layout-clause-differs g c =
+    let p = err_from_is_err_and c.from_residual-in_err-layout.result c.from_residual-in_err-layout.ensures.1 in
+    rw (p.1 ∙ ap (λ (e : RemuxError). Err e) p.2)
+    (cut_is_not_kept (g.S.ByteSource.contents c.args.source) c.args.len (opened_movie c.args.movie.now) c.args.all.now
+    c.args.ids.now _ c.requires.len c.in_err-layout.ensures.differs)
+
+pub returns-in_err-write_layout-clause-differs : goal.returns-in_err-write_layout-clause-differs
+returns-in_err-write_layout-clause-differs g c =
+    let p = err_from_is_err_and c.from_residual-in_err-write_layout.result
+    c.from_residual-in_err-write_layout.ensures.1 in
+    let f = c.in_ok-source.frame in
+    let some = leaves_some c.args.all.now c.args.ids.now in
+    let sorted = c.in_ok-sorted.sorted.items in
+    let all : c.in_ok-references.references.items ≡ references_in f.movie_bytes.items c.args.all.now =
+    c.in_ok-references.ensures.list
+    ∙ ap (λ (movie : List ℕ). references_in movie c.args.all.now) c.deref.ensures.value in
+    rw (p.1 ∙ ap (λ (e : RemuxError). Err e) p.2)
+    (other_is_not_kept (g.S.ByteSource.contents c.args.source) c.in_ok-layout.layout
+    (opened_movie c.args.movie.now) c.args.all.now c.args.ids.now _ _ f.file_type f.movie f.movie_bytes.items
+    c.in_ok-source.ensures.frame (rw c.made_of.ensures at c.in_ok-layout.ensures.begins)
+    (c.deref-4.ensures.value
+    ∙ (rw (c.deref-3.ensures.value, c.deref-2.ensures.value, all) at c.in_ok-staying.ensures.staying)
+    ∙ staying_by some c.args.ids.now sorted c.in_ok-sorted.ensures.same _)
+    ((rw (c.deref-3.ensures.value, c.deref-2.ensures.value, all) at c.in_ok-staying.ensures.left_out)
+    ∙ left_out_by some c.args.ids.now sorted c.in_ok-sorted.ensures.same _) _
+    (rw (c.in_ok-source.ensures.contents, c.made_of.ensures) at c.in_err-write_layout.ensures.why))

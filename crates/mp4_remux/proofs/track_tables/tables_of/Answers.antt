@@ -26,6 +26,7 @@ returns-then-sample-tables c = record {
   why = next_apart (opened_movie c.args.movie.now) c.args.track_id c.loop-k.k c.loop-k.tables.duration
       (place_of c.in-Some.sample) c.loop-k.invariant.timed (rw c.in-Some.is at c.in_ok-sample.ensures) (omega arith)
       c.if-sample-tables.true;
+  differs = tt;
 }
 
 pub returns : goal.returns
@@ -33,4 +34,5 @@ returns c = record {
   why = past_most (opened_movie c.args.movie.now) c.args.track_id c.loop-k.k c.args.most
       (timed_samples (opened_movie c.args.movie.now) c.args.track_id c.loop-k.k c.loop-k.tables.duration
       c.loop-k.invariant.timed) (omega (arith, c.loop-k-test.false));
+  differs = tt;
 }
