@@ -6,10 +6,11 @@ use Rattle.mp4_codec.specs.declared.box_type.BoxType.TheVariants.{FtypBox as fty
 use Rattle.mp4_media.specs.FileGrammar.{between}
 use Rattle.mp4_source.specs.Answers.{IsLength}
 use Rattle.mp4_remux.specs.Front.{AreApart, AreBoxes, in_front, IsBoxOf, IsMoved, IsOnly}
-use Rattle.mp4_remux.specs.Moved.{IsMovedAt, IsUpToTwice, bytes_before, place_in_front}
+use Rattle.mp4_remux.specs.Moved.{IsBy, IsMovedAt, IsUpToTwice, bytes_before, place_in_front}
 use Rattle.mp4_remux.specs.PlannedFront.{IsInFront}
 use Rattle.mp4_remux.specs.Splice.{Follow, spliced}
 use Rattle.mp4_remux.specs.declared.layout.Layout.{Layout}
+use Rattle.mp4_remux.specs.declared.moves.Moves.TheVariants.{Front}
 use Rattle.mp4_remux.specs.declared.piece.Piece.{Piece}
 use Rattle.mp4_remux.specs.declared.top_level.TopBox.{TopBox}
 use Rattle.mp4_remux.proofs.Causes.{are_apart}
@@ -17,6 +18,12 @@ use Rattle.mp4_remux.proofs.FrontPlaces.{moved_there}
 use Rattle.mp4_remux.proofs.Growing.{longer}
 use Rattle.mp4_remux.proofs.Moving.{moved_is_kept}
 use Rattle.mp4_remux.proofs.Pieces.{length-spliced}
+
+-- WHERE BYTES ARE
+
+-- moves to the front are by where they say that a byte is
+pub is_by : (file_type movie : TopBox) (n : ℕ) → IsBy (Front file_type movie n) (place_in_front file_type movie n)
+is_by file_type movie n = record { each = λ place new is. is }
 
 -- A LONGER MOVIE BOX
 

@@ -56,7 +56,7 @@ impl OffsetWidth {
 }
 
 /// How many entries a table has whole, of those that it counts after its version and flags.
-fn entry_count(payload: &[u8], width: OffsetWidth) -> usize
+pub(crate) fn entry_count(payload: &[u8], width: OffsetWidth) -> usize
     ensures { result ≡ entry_count (size_of width) payload.now }
 {
     if payload.len() < 8 {

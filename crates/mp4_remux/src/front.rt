@@ -27,6 +27,7 @@ use crate::piece::{Origin, Piece};
 use crate::piece_list::push_piece;
 use crate::rewrite::{open_source, write_layout};
 use crate::segment_index::check_moved;
+use crate::settled::settled_len;
 use crate::top_level::{TopBox, top_boxes};
 use mp4_codec::{BoxType, Error};
 use mp4_source::{ByteSink, ByteSource};
@@ -79,8 +80,8 @@ fn front_pieces(
 }
 
 /// The bytes of a movie box as they are when it is in front. Its chunk offsets are those of where the data is then,
-/// which depends on the length of the box: a table that becomes `co64` makes it longer.
-fn movie_in_front(
+/// which depends on the length of the box: a table that becomes `co64` makes it longer, and then another may.
+fn movie_by_rounds(
     alloc: Global,
     movie_bytes: &[u8],
     file_type: TopBox,
@@ -105,6 +106,33 @@ fn movie_in_front(
         }
         movie_len = made.len() as u64;
     }
+}
+
+/// The same, by one round where the length that the box has then is reckoned first: tables that become `co64` one after
+/// the other would take a round each.
+fn movie_in_front(
+    alloc: Global,
+    movie_bytes: &[u8],
+    file_type: TopBox,
+    movie: TopBox,
+) -> Result<Vec<u8>, Error>
+    ensures moved { IfOk result (λ made. IsMovedAt (place_in_front file_type movie (length made.items)) 0
+        movie_bytes.now made.items) }
+    ensures len { IfOk result (λ made. IsUpToTwice movie_bytes.now made.items) }
+    ensures refused { IfErr result (IsWhyNotMoved movie_bytes.now) }
+{
+    let edit = MovieEdit::of_offsets(alloc);
+    let movie_len = settled_len(alloc, movie_bytes, &edit, file_type, movie)?;
+    let moves = Moves::Front {
+        file_type,
+        movie,
+        movie_len,
+    };
+    let made = edited(alloc, movie_bytes, &edit, &moves)?;
+    if made.len() as u64 == movie_len {
+        return Ok(made);
+    }
+    movie_by_rounds(alloc, movie_bytes, file_type, movie)
 }
 
 /// The source, and the layout of its file with the movie box in front, of which these are all boxes.

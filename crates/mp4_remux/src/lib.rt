@@ -33,6 +33,7 @@ mod references;
 mod rewrite;
 mod same;
 mod segment_index;
+mod settled;
 mod shown;
 mod splice;
 mod top_level;

@@ -52,7 +52,8 @@ pub(crate) struct MovieEdit {
 }
 
 /// What becomes of a box.
-enum Step<'a> {
+#[derive(Clone, Copy)]
+pub(crate) enum Step<'a> {
     /// It stays as it is.
     Keep,
     /// It is left out.
@@ -187,7 +188,7 @@ impl MovieEdit {
     }
 
     /// What becomes of a box at this level, which is 0 for the movie box.
-    fn step(&self, level: usize, name: BoxType, track: usize) -> Step<'_>
+    pub fn step(&self, level: usize, name: BoxType, track: usize) -> Step<'_>
         ensures of_offsets { IsOfOffsets self.now → IsStepOf level name result }
         ensures enters { EntersAt level result }
     {

@@ -1,7 +1,7 @@
 use Rattle.std.proofs.Common.{◌-◌, ◌*◌, ◌≡◌, ◌≤◌, length}
 use Rattle.mp4_remux.specs.Moved.{IsOfOffsets}
 use Rattle.mp4_remux.proofs.Planning.{IsLeast}
-use Rattle.mp4_remux.proofs.front.movie_in_front.Given as goal
+use Rattle.mp4_remux.proofs.front.movie_by_rounds.Given as goal
 
 -- nothing but offsets is other; no movie box that is made with the length that is reckoned with has fewer bytes
 abbrev pub invariant-loop-edit : goal.invariant-loop-edit
