@@ -34,4 +34,6 @@ pub use laws::{
 pub use mdat::mdat_header;
 pub use media::Media;
 pub use sample_info::SampleInfo;
+pub use sample_infos::SampleInfos;
+pub use tables::{ctts, stss, stsz, stts};
 pub use track_writer::TrackWriter;
