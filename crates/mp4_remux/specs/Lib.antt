@@ -17,3 +17,4 @@ pub mod Remuxed
 pub mod Same
 pub mod Splice
 pub mod Why
+pub mod ChunkTable

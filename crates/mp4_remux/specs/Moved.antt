@@ -142,6 +142,11 @@ abbrev pub IsPlaceBy : Moves → ℕ → ℕ → Type 0
 IsPlaceBy (Listed list base) place to = ⊤
 IsPlaceBy (Front file_type movie movie_len) place to = to ≡ place_in_front file_type movie movie_len place
 
+-- the place from which those that moves list count
+abbrev pub base_of : Moves → ℕ
+base_of (Listed list base) = base
+base_of (Front file_type movie movie_len) = 0
+
 -- Moves are by this function: wherever they say that a byte is, it is where the function says.
 pub record IsBy (moves : Moves) (to : ℕ → ℕ) : Type 0 where
   pub each : (place new : ℕ) → IsPlaceBy moves place new → new ≡ to place

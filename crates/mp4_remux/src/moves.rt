@@ -1,7 +1,7 @@
 //! Where the bytes of a file are in the rewritten one.
 
 ghost use Rattle.std.specs.Prelude.{◌≡◌};
-ghost use Rattle.mp4_remux.specs.Moved.{IsPlaceBy, bytes_before, place_in_front};
+ghost use Rattle.mp4_remux.specs.Moved.{IsPlaceBy, base_of, bytes_before, place_in_front};
 
 use crate::top_level::TopBox;
 
@@ -47,7 +47,9 @@ impl Moves<'_> {
     }
 
     /// The place from which those that they say count.
-    pub fn base(&self) -> u64 {
+    pub fn base(&self) -> u64
+        ensures { result ≡ base_of self.now }
+    {
         match self {
             Moves::Listed { list: _, base } => *base,
             Moves::Front { .. } => 0,

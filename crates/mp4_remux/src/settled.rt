@@ -59,8 +59,8 @@ impl InFront {
     }
 }
 
-/// Adds the tables whose chunk offsets of 32 bits are moved by an edit, of the boxes that these bytes hold, which are at
-/// this level.
+/// Adds the tables whose chunk offsets of 32 bits are moved by an edit, of the boxes that these bytes hold, which are
+/// at this level.
 fn push_tables(
     bytes: &[u8],
     level: usize,
@@ -82,9 +82,9 @@ fn push_tables(
     Ok(())
 }
 
-/// How many bytes a movie box has in front, where nothing but its chunk offsets is other: as many as these, and more for
-/// each table that becomes `co64` as the box passes what it may have at most. Each table is looked at once, those first
-/// that can have the fewest.
+/// How many bytes a movie box has in front, where nothing but its chunk offsets is other: as many as these, and more
+/// for each table that becomes `co64` as the box passes what it may have at most. Each table is looked at once, those
+/// first that can have the fewest.
 pub(crate) fn settled_len(
     alloc: Global,
     movie_bytes: &[u8],
