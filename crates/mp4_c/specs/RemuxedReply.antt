@@ -10,7 +10,10 @@ use Rattle.mp4_remux.specs.Errors.{IsCause, IsNamed, IsRefusalOf}
 use Rattle.mp4_remux.specs.Front.{HasToMove}
 use Rattle.mp4_remux.specs.Gathered.{HasMoreThanTables, IsChosen}
 use Rattle.mp4_remux.specs.Named.{NamesBox}
+use Rattle.mp4_remux.specs.PlannedFront.{IsWhyNotInFront}
+use Rattle.mp4_remux.specs.PlannedRebuilt.{IsWhyNotChosen, IsWhyNotRebuilt}
 use Rattle.mp4_remux.specs.Reads.{IsMissing}
+use Rattle.mp4_remux.specs.Remuxed.{ids_of}
 use Rattle.mp4_c.specs.declared.answer.Answer.{Answer}
 use Rattle.mp4_c.specs.Answers.{not_remuxed}
 use Rattle.mp4_c.specs.Replies.{Gave}
@@ -33,20 +36,30 @@ pub record IsNotRewritten (file : List ℕ) (IsMore : RemuxError → Type 0) (e 
   pub names : NamesBox (Some file) e
   pub more : IsMore e
 
--- a file whose movie box isn't moved to the front: but for memory, only one whose movie box has to be moved
+-- where the file opens, this is so of what it opens to
+abbrev pub WhereOpened : List ℕ → (OpenedFile → Type 0) → Type 0
+WhereOpened file IsSo = (opened : OpenedFile) → IsFile (length file) (here file 0) opened → IsSo opened
+
+-- a file whose movie box isn't moved to the front: but for memory, only one whose movie box has to be moved; and one
+-- that opens has what is said wrong, or the file that would be written has
 abbrev pub IsNotMoved : List ℕ → RemuxError → Type 0
-IsNotMoved file = IsNotRewritten file (λ e. IsNamed e → HasToMove (Some file))
+IsNotMoved file =
+    IsNotRewritten file (λ e. (IsNamed e → HasToMove (Some file)) × WhereOpened file (λ o. IsWhyNotInFront file o e))
 
 -- one whose fragments aren't gathered: but for memory, only one with samples that no table has, or of which more may
--- follow
+-- follow; and one that opens has what is said wrong, or the file that would be written has
 abbrev pub IsNotGathered : List ℕ → RemuxError → Type 0
-IsNotGathered file = IsNotRewritten file (λ e. IsNamed e → HasMoreThanTables (Some file))
+IsNotGathered file =
+    IsNotRewritten file (λ e. (IsNamed e → HasMoreThanTables (Some file))
+    × WhereOpened file (λ o. IsWhyNotRebuilt file o (ids_of o.moov) e))
 
 -- one whose tracks with these ids aren't chosen: where one isn't there, it is refused for the first such, or memory ran
--- out
+-- out; and one that opens has what is said wrong, or the file that would be written has
 abbrev pub IsNotChosen : List ℕ → List ℕ → RemuxError → Type 0
-IsNotChosen file ids = IsNotRewritten file (λ e. (opened : OpenedFile) (id i : ℕ)
-    → IsFile (length file) (here file 0) opened → IsMissing opened ids id i → IsCause false (trak_not_found id) e)
+IsNotChosen file ids =
+    IsNotRewritten file (λ e. ((opened : OpenedFile) (id i : ℕ) → IsFile (length file) (here file 0) opened
+    → IsMissing opened ids id i → IsCause false (trak_not_found id) e)
+    × WhereOpened file (λ o. IsWhyNotChosen file o ids e))
 
 -- A call has copied such bytes to the front of the room, where they fit; or it was refused for such a reason, and has
 -- left the room as it was.

@@ -75,7 +75,7 @@ no_pieces source made ps none = rw none refl
 -- WHERE THE PIECES ARE
 
 -- no pieces end where they begin
-none_follow : (source_len made_len : ℕ) (ps : List Piece) → ps ≡ [] → Follow source_len made_len 0 ps 0
+pub none_follow : (source_len made_len : ℕ) (ps : List Piece) → ps ≡ [] → Follow source_len made_len 0 ps 0
 unfolding Follow
 none_follow source_len made_len ps none = rw none refl
 

@@ -22,14 +22,14 @@ use Rattle.mp4_remux.specs.References.{first_part, part_after, part_with}
 
 -- LENGTHS
 
-length-big : (n x : ℕ) → length (big_bytes n x) ≡ n
+pub length-big : (n x : ℕ) → length (big_bytes n x) ≡ n
 length-big n x = length-bytes_high_first n x
 
 -- a header with a size has as many bytes whatever the size is, and whatever header of that length it is
-abbrev sized_len : ℕ → ℕ
+abbrev pub sized_len : ℕ → ℕ
 sized_len n = if nat_lt n 16 then 4 + (n - 4) else min 8 n + 8
 
-length-sized : (header : List ℕ) (n : ℕ) → length (sized header n) ≡ sized_len (length header)
+pub length-sized : (header : List ℕ) (n : ℕ) → length (sized header n) ≡ sized_len (length header)
 length-sized header n = by (nat_lt (length header) 16) refl
   where
     by : (b : Bool) → nat_lt (length header) 16 ≡ b → length (sized header n) ≡ sized_len (length header)
@@ -94,7 +94,7 @@ payload_longer wide more to up size payload le =
 
 -- OFFSETS THAT PASS 32 BITS
 
-or_more : (a b c d : Bool) → (a ≡ true → c ≡ true) → (b ≡ true → d ≡ true) → (a || b) ≡ true → (c || d) ≡ true
+pub or_more : (a b c d : Bool) → (a ≡ true → c ≡ true) → (b ≡ true → d ≡ true) → (a || b) ≡ true → (c || d) ≡ true
 or_more true b c d first second is = rw (first refl) refl
 or_more false b true d first second is = refl
 or_more false b false d first second is = second is
@@ -122,7 +122,7 @@ module _ (to up : ℕ → ℕ) (farther : (place : ℕ) → to place ≤ up plac
       by false false too = omega arith
 
   -- a table has no fewer bytes
-  table_longer : (size : ℕ) (header payload : List ℕ) → 8 ≤ length header
+  pub table_longer : (size : ℕ) (header payload : List ℕ) → 8 ≤ length header
       → length (moved_table to size header payload) ≤ length (moved_table up size header payload)
   table_longer size header payload long =
       let wide = is_wide to size payload in
@@ -157,7 +157,7 @@ place_in (Ok x) = x.1.position
 place_in (Err c) = 0
 
 -- two boxes with which bytes begin are one
-record AreSame (name other : BoxType) (header header_too payload payload_too rest rest_too : List ℕ) : Type 0 where
+pub record AreSame (name other : BoxType) (header header_too payload payload_too rest rest_too : List ℕ) : Type 0 where
   pub names : name ≡ other
   pub headers : header ≡ header_too
   pub payloads : payload ≡ payload_too
@@ -171,7 +171,7 @@ parts_of xs a b c d one two long = (
       ∙ ap (λ n. drop n (c ++ d)) long ∙ drop_at c d (length c) refl,
 )
 
-same_first : (xs : List ℕ) (name other : BoxType) (header header_too payload payload_too rest rest_too : List ℕ)
+pub same_first : (xs : List ℕ) (name other : BoxType) (header header_too payload payload_too rest rest_too : List ℕ)
     → IsFirstBox xs name header payload rest → IsFirstBox xs other header_too payload_too rest_too
     → AreSame name other header header_too payload payload_too rest rest_too
 unfolding name_in size_in place_in
@@ -184,7 +184,7 @@ same_first xs name other header header_too payload payload_too rest rest_too fir
     record { names = ap (λ r. name_in r name) both; headers = one.0; payloads = two.0; rests = two.1 }
 
 -- the header of a box has 8 bytes or more
-first_long : (xs : List ℕ) (name : BoxType) (header payload rest : List ℕ) → IsFirstBox xs name header payload rest
+pub first_long : (xs : List ℕ) (name : BoxType) (header payload rest : List ℕ) → IsFirstBox xs name header payload rest
     → 8 ≤ length header
 first_long xs name header payload rest first =
     omega (arith, (header_read (here xs 0) _ (here xs (length header)) first.head).moves)
@@ -256,7 +256,7 @@ no_table StcoBox level size on is = absurd cc
 no_table Co64Box level size on is = absurd cc
 no_table _ level size on is = absurd cc
 
-three : (a b c : List ℕ) → length (a ++ (b ++ c)) ≡ length a + (length b + length c)
+pub three : (a b c : List ℕ) → length (a ++ (b ++ c)) ≡ length a + (length b + length c)
 three a b c = omega (arith, length-append a (b ++ c), length-append b c)
 
 module _ (to up : ℕ → ℕ) (farther : (place : ℕ) → to place ≤ up place) where

@@ -1,6 +1,6 @@
 -- Movie boxes with other chunk offsets.
 use Rattle.std.proofs.Common.{◌≡◌, ◌∙◌, ◌⊎◌, inl, inr, ℕ, ◌+◌, ◌^◌, ◌≤◌, ◌<◌, List, [], ◌++◌, length, take, drop}
-use Rattle.std.proofs.Common.{None, Some, Bool, true, false, if◌then◌else◌, nat_lt, refl, sym, ap, subst}
+use Rattle.std.proofs.Common.{Some, Bool, true, false, if◌then◌else◌, nat_lt, refl, sym, ap, subst}
 use Rattle.std.proofs.Common.{append_assoc, arith}
 use Rattle.std.proofs.lemmas.List.{drop_at, length-append, length-take, take_at as take_front}
 use Rattle.byteorder.specs.Endian.{big_bytes, big_number}
@@ -13,12 +13,9 @@ use Rattle.mp4_codec.specs.declared.box_type.BoxType.{BoxType}
 use Rattle.mp4_codec.specs.declared.box_type.BoxType.TheVariants.{MoovBox, TrakBox, MdiaBox, MinfBox, StblBox}
 use Rattle.mp4_codec.specs.declared.box_type.BoxType.TheVariants.{StcoBox, Co64Box}
 use Rattle.mp4_remux.specs.Kept.{IsAmong, IsFirstBox, IsKept, entered, offsets, same, next, inside, other, more}
-use Rattle.mp4_remux.specs.References.{first_part}
 use Rattle.mp4_remux.specs.declared.chunk_offsets.OffsetWidth.{OffsetWidth}
 use Rattle.mp4_remux.specs.declared.chunk_offsets.OffsetWidth.TheVariants.{Narrow, Wide}
-use Rattle.mp4_remux.specs.declared.movie_box.Step.{Step}
-use Rattle.mp4_remux.specs.declared.movie_box.Step.TheVariants.{Enter, Keep, Offsets}
-use Rattle.mp4_remux.specs.Edited.{AddsMoved, AddsStep, EndsSized, IsHeader, IsStepOf, IsWhyNotAdded}
+use Rattle.mp4_remux.specs.Edited.{IsHeader}
 use Rattle.mp4_remux.specs.Moved.{HasRoom, IsMovedAt, IsUpToTwice, IsWhyNotMoved, as_it_is, entry_size, is_wide}
 use Rattle.mp4_remux.specs.Moved.{level_of, moved_payload, moved_table, no_box, of_offsets, on_the_way}
 use Rattle.mp4_remux.specs.Moved.{size_of, sized, wide_header}
@@ -34,7 +31,7 @@ width_is _ size is = absurd cc
 
 -- LENGTHS
 
-first_length : (bytes : List ℕ) (name : BoxType) (header payload rest : List ℕ)
+pub first_length : (bytes : List ℕ) (name : BoxType) (header payload rest : List ℕ)
     → IsFirstBox bytes name header payload rest → length bytes ≡ length header + (length payload + length rest)
 first_length bytes name header payload rest first =
     ap (λ (xs : List ℕ). length xs) first.all ∙ length-append header (payload ++ rest)
@@ -116,7 +113,7 @@ way_entered StblBox level is = refl
 way_entered _ level is = absurd cc
 
 -- a table is one of those that may be others
-table_among : (name : BoxType) (size : ℕ) → entry_size name ≡ Some size → IsAmong offsets name
+pub table_among : (name : BoxType) (size : ℕ) → entry_size name ≡ Some size → IsAmong offsets name
 table_among StcoBox size is = refl
 table_among Co64Box size is = refl
 table_among _ size is = absurd cc
@@ -158,7 +155,7 @@ pub record SaysTable (header : List ℕ) : Type 0 where
   pub says : SaysType header name
   pub among : IsAmong offsets name
 
-table_says : (wide : Bool) (header : List ℕ) (name : BoxType) → 8 ≤ length header → SaysType header name
+pub table_says : (wide : Bool) (header : List ℕ) (name : BoxType) → 8 ≤ length header → SaysType header name
     → IsAmong offsets name → SaysTable (wide_header wide header)
 table_says false header name many says among = record { name = name; says = says; among = among }
 table_says true header name many says among =
@@ -198,63 +195,6 @@ moved_is_kept to level xs ys
     (next xs (header ++ (payload ++ rest_after)) rest rest_after name header payload first
     (first_again xs name header payload rest first rest_after) (moved_is_kept to level rest rest_after others))
 
--- BOX BY BOX
-
--- With what the rest becomes, what was added is what all becomes.
-pub record AreMoved (to : ℕ → ℕ) (level : ℕ) (bytes rest old new : List ℕ) : Type 0 where
-  pub done : List ℕ
-  pub is : new ≡ old ++ done
-  pub later : (after : List ℕ) → IsMovedAt to level rest after → IsMovedAt to level bytes (done ++ after)
-
-module _ (to : ℕ → ℕ) (level : ℕ) (bytes rest old now new : List ℕ) (upto : AreMoved to level bytes rest old now) where
-  -- the bytes after the boxes stay
-  pub all_moved : first_part rest ≡ None → new ≡ now ++ rest → AddsMoved to level bytes old new
-  all_moved none is =
-      record {
-        after = upto.done ++ rest;
-        is = is ∙ ap (λ (xs : List ℕ). xs ++ rest) upto.is ∙ append_assoc old upto.done rest;
-        moved = upto.later rest (no_box level rest none);
-      }
-
-  module _ (name : BoxType) (header payload rest' : List ℕ) (first : IsFirstBox rest name header payload rest') where
-    -- one box more
-    piece_moved : (piece : List ℕ) → new ≡ now ++ piece
-        → ((after : List ℕ) → IsMovedAt to level rest' after → IsMovedAt to level rest (piece ++ after))
-        → AreMoved to level bytes rest' old new
-    piece_moved piece is becomes =
-        record {
-          done = upto.done ++ piece;
-          is = is ∙ ap (λ (xs : List ℕ). xs ++ piece) upto.is ∙ append_assoc old upto.done piece;
-          later = λ after m. subst (λ (xs : List ℕ). IsMovedAt to level bytes xs)
-              (sym (append_assoc upto.done piece after)) (upto.later (piece ++ after) (becomes after m));
-        }
-
-    -- it is on the way
-    pub entered_moved : (base mid : List ℕ) → level_of name ≡ Some level → base ≡ now ++ header
-        → (adds : AddsMoved to (level + 1) payload base mid)
-        → (mid ≡ now ++ (header ++ adds.after) → EndsSized now header adds.after new)
-        → AreMoved to level bytes rest' old new
-    entered_moved base mid way begun adds ends =
-        let inner : List ℕ = adds.after in
-        let sizes = ends (adds.is ∙ ap (λ (xs : List ℕ). xs ++ inner) begun ∙ append_assoc now header inner) in
-        piece_moved (sized header (length inner) ++ inner) sizes.1
-        (λ after m. on_the_way level rest _ rest' after name header payload inner first way adds.moved sizes.0 m
-        (append_assoc (sized header (length inner)) inner after))
-
-    -- it is at another step
-    pub step_moved : (step : Step) → IsStepOf level name step → (step ≡ Enter → ⊥)
-        → AddsStep to step header payload now new → AreMoved to level bytes rest' old new
-    step_moved Enter way never is = absurd (never refl)
-    step_moved Keep (no_way, no_table) never is =
-        piece_moved (header ++ payload) is
-        (λ after m. as_it_is level rest _ rest' after name header payload first no_way no_table m
-        (append_assoc header payload after))
-    step_moved (Offsets width) (five, table) never is =
-        piece_moved (moved_table to (size_of width) header payload) is.1
-        (λ after m. of_offsets level rest _ rest' after name header payload (size_of width) first five table is.0 m
-        refl)
-    step_moved _ step never is = absurd step
-
 -- WHY NOT
 
 -- bytes in which these are aren't moved for the same
@@ -264,36 +204,20 @@ not_moved xs bytes e le (inr large) = inr (large.0, omega (arith, le, large.1))
 
 module _ (bytes rest : List ℕ) (name : BoxType) (header payload rest' : List ℕ)
     (first : IsFirstBox rest name header payload rest') (less : length rest ≤ length bytes) (e : Error) where
-  box_not_moved : IsWhyNotMoved (header ++ payload) e → IsWhyNotMoved bytes e
+  -- a box isn't added
+  pub box_not_moved : IsWhyNotMoved (header ++ payload) e → IsWhyNotMoved bytes e
   box_not_moved why =
       let long = first_length rest name header payload rest' first in
       not_moved (header ++ payload) bytes e (omega (arith, long, less, length-append header payload)) why
 
-  -- a box isn't added
-  pub step_not_moved : (level : ℕ) (step : Step) → IsStepOf level name step → (step ≡ Enter → ⊥)
-      → IsWhyNotAdded step (header ++ payload) e → IsWhyNotMoved bytes e
-  step_not_moved level Enter is never why = absurd (never refl)
-  step_not_moved level Keep is never why = box_not_moved why
-  step_not_moved level (Offsets width) is never why = box_not_moved why
-  step_not_moved level _ is never why = absurd is
-
   -- the size of a box on the way is too large
-  pub way_not_moved : (to : ℕ → ℕ) (level start : ℕ) (now base new : List ℕ) → start ≡ length now
-      → base ≡ now ++ header → AddsMoved to level payload base new
+  pub way_not_moved : (to : ℕ → ℕ) (level start : ℕ) (now base new after : List ℕ) → start ≡ length now
+      → base ≡ now ++ header → new ≡ base ++ after → IsMovedAt to level payload after
       → (e ≡ TooLarge BoxSize) × (start + 2 ^ 32 ≤ length new) → IsWhyNotMoved bytes e
-  way_not_moved to level start now base new begins begun adds why =
+  way_not_moved to level start now base new after begins begun is moved why =
       let long = first_length rest name header payload rest' first in
-      let inner = moved_length to level payload adds.after adds.moved in
-      let whole = piece_length base adds.after new adds.is in
+      let inner = moved_length to level payload after moved in
+      let whole = piece_length base after new is in
       let before : length base ≡ length now + length header = ap (λ (xs : List ℕ). length xs) begun
       ∙ length-append now header in
       inr (why.0, omega (arith, long, less, begins, inner.1, whole, before, why.1))
-
--- THE WHOLE BOX
-
--- where the edit is of offsets, what an empty buffer gets is the moved box
-pub made_moved : (to : ℕ → ℕ) (bytes old new : List ℕ) → old ≡ [] → AddsMoved to 0 bytes old new
-    → IsMovedAt to 0 bytes new
-made_moved to bytes old new none adds =
-    subst (λ (xs : List ℕ). IsMovedAt to 0 bytes xs)
-    (sym (adds.is ∙ ap (λ (xs : List ℕ). xs ++ adds.after) none)) adds.moved

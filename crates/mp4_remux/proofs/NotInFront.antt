@@ -115,7 +115,7 @@ neither_why (Some xs) boxes (inr no_movie) = inr (inl no_movie)
 -- WHY A FILE THAT OPENS ISN'T WRITTEN
 
 -- the only box of a type is the one that is whole
-the_whole : (xs : List ℕ) (boxes : List TopBox) (name : BoxType) (b : TopBox) → HasWhole xs boxes name
+pub the_whole : (xs : List ℕ) (boxes : List TopBox) (name : BoxType) (b : TopBox) → HasWhole xs boxes name
     → IsOnly boxes name b → IsBoxOf xs name b
 the_whole xs boxes name b has only =
     let same : has.i ≡ only.i = only.only has.b has.i has.there has.has_name in
@@ -167,32 +167,44 @@ pub plan_why : (known : Option (List ℕ)) (e : RemuxError)
 plan_why None e why = tt
 plan_why (Some xs) e why = λ opened file. why_opened xs opened e file why
 
--- it is refused for memory or by the source alone, before its boxes are looked at
-pub no_fault_why : (known : Option (List ℕ)) (can_refuse : Bool) (e : RemuxError) → IsNoFault known can_refuse e
-    → SaysWhyNot known e
-no_fault_why None can_refuse e no_cause = tt
-no_fault_why (Some xs) can_refuse (Mp4 error) no_cause = λ opened file.
-    inl (inl (both error (no_cause opened file end_of_data) (no_cause opened file invalid_data)))
+-- where it is a file, it is refused for memory or by the source alone, before its boxes are looked at
+pub no_fault_memory : (known : Option (List ℕ)) (can_refuse : Bool) (e : RemuxError) → IsNoFault known can_refuse e
+    → IfSome known (λ xs. (opened : OpenedFile) → IsFile (length xs) (here xs 0) opened → CausedByMemory e)
+no_fault_memory None can_refuse e no_cause = tt
+no_fault_memory (Some xs) can_refuse (Mp4 error) no_cause = λ opened file.
+    both error (no_cause opened file end_of_data) (no_cause opened file invalid_data)
   where
     both : (error : Error) → (error ≡ OutOfMemory) ⊎ (end_of_data ≡ cause_of error)
         → (error ≡ OutOfMemory) ⊎ (invalid_data ≡ cause_of error) → error ≡ OutOfMemory
     both error (inl none) other = none
     both error (inr is) (inl none) = none
     both error (inr is) (inr isnt) = absurd cc
-no_fault_why (Some xs) can_refuse (Read error) no_cause = λ opened file. inl tt
-no_fault_why (Some xs) can_refuse (Write error) no_cause = λ opened file. inl tt
-no_fault_why (Some xs) can_refuse (Twice name) no_cause = λ opened file. inl tt
-no_fault_why (Some xs) can_refuse (SaysPlaces name place) no_cause = λ opened file. inl tt
-no_fault_why (Some xs) can_refuse (TooManySamples track) no_cause = λ opened file. inl tt
-no_fault_why (Some xs) can_refuse (SaysOfSamples name place) no_cause = λ opened file. inl tt
-no_fault_why (Some xs) can_refuse (StartsElsewhere track number) no_cause = λ opened file. inl tt
-no_fault_why (Some xs) can_refuse SameIds no_cause = λ opened file. inl tt
-no_fault_why (Some xs) can_refuse OtherTracks no_cause = λ opened file. absurd (no_cause opened file end_of_data)
-no_fault_why (Some xs) can_refuse (Differs track number) no_cause = λ opened file.
+no_fault_memory (Some xs) can_refuse (Read error) no_cause = λ opened file. tt
+no_fault_memory (Some xs) can_refuse (Write error) no_cause = λ opened file. tt
+no_fault_memory (Some xs) can_refuse (Twice name) no_cause = λ opened file. tt
+no_fault_memory (Some xs) can_refuse (SaysPlaces name place) no_cause = λ opened file. tt
+no_fault_memory (Some xs) can_refuse (TooManySamples track) no_cause = λ opened file. tt
+no_fault_memory (Some xs) can_refuse (SaysOfSamples name place) no_cause = λ opened file. tt
+no_fault_memory (Some xs) can_refuse (StartsElsewhere track number) no_cause = λ opened file. tt
+no_fault_memory (Some xs) can_refuse SameIds no_cause = λ opened file. tt
+no_fault_memory (Some xs) can_refuse OtherTracks no_cause = λ opened file.
+    absurd (no_cause opened file end_of_data)
+no_fault_memory (Some xs) can_refuse (Differs track number) no_cause = λ opened file.
     absurd (no_cause opened file end_of_data)
 
+pub no_fault_why : (known : Option (List ℕ)) (can_refuse : Bool) (e : RemuxError) → IsNoFault known can_refuse e
+    → SaysWhyNot known e
+no_fault_why known can_refuse e no_cause = by known (no_fault_memory known can_refuse e no_cause)
+  where
+    by : (known : Option (List ℕ)) → IfSome known (λ xs. (opened : OpenedFile) → IsFile (length xs) (here xs 0) opened
+        → CausedByMemory e) → SaysWhyNot known e
+    by None why = tt
+    by (Some xs) why = λ opened file.
+        inl (for_memory (λ error. (error ≡ OutOfMemory) ⊎ ((error ≡ TooLarge BoxSize) × HasLargeMovie xs))
+        (2 ^ 63 ≤ length xs) (inl refl) e (why opened file))
+
 -- a copy is refused for memory, by the source or by the sink
-copy_caused : (Refuses : Type 0) (can_refuse : Bool) (e : RemuxError) → CopyFails Refuses can_refuse e
+pub copy_caused : (Refuses : Type 0) (can_refuse : Bool) (e : RemuxError) → CopyFails Refuses can_refuse e
     → CausedByMemory e
 copy_caused Refuses can_refuse (Mp4 error) fails = fails
 copy_caused Refuses can_refuse (Read error) fails = tt

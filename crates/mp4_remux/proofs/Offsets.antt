@@ -1,6 +1,5 @@
 -- Chunk offsets in a table, one after the other.
 use Rattle.std.proofs.Common.{◌≡◌, ◌∙◌, ℕ, zero, suc, ◌+◌, ◌-◌, ◌*◌, ◌^◌, ◌≤◌, ◌<◌, Bool, true, false, ◌||◌}
-use Rattle.std.proofs.Common.{if◌then◌else◌, nat_lt, subst}
 use Rattle.std.proofs.Common.{List, [], ◌∷◌, ◌++◌, length, take, drop, min, refl, sym, ap, append_assoc, arith}
 use Rattle.std.proofs.Common.{◌⊎◌, inl, inr}
 use Rattle.std.proofs.lemmas.List.{length-append, length-take, drop-drop}
@@ -12,7 +11,7 @@ use Rattle.mp4_remux.specs.declared.chunk_offsets.OffsetWidth.{OffsetWidth}
 use Rattle.mp4_remux.specs.declared.chunk_offsets.OffsetWidth.TheVariants.{Narrow, Wide}
 use Rattle.mp4_codec.specs.BoxType.{code_of}
 use Rattle.mp4_codec.specs.declared.box_type.BoxType.TheVariants.{Co64Box}
-use Rattle.mp4_remux.specs.Edited.{AddsTable, EndsSized, IsHeader}
+use Rattle.mp4_remux.specs.Edited.{IsHeader}
 use Rattle.mp4_remux.specs.Moved.{IsUpToTwice, entry_count, is_wide, moved_payload, numbers_in, offsets_in, size_of}
 use Rattle.mp4_remux.specs.Moved.{wide_bytes, wide_header, wide_payload}
 
@@ -196,16 +195,6 @@ module _ (to : ℕ → ℕ) (size : ℕ) (header payload : List ℕ) where
       (payload_is to size payload wide fields entries is first rest)
       ∙ ap (λ b. old ++ (wide_header b header ++ moved_payload to size payload)) is
 
-  -- the size is then in its header
-  pub table_ends : (old new : List ℕ) → 8 ≤ length header
-      → EndsSized old (wide_header (is_wide to size payload) header) (moved_payload to size payload) new
-      → AddsTable to size header payload old new
-  table_ends old new many ends =
-      let same : length (wide_header (is_wide to size payload) header) ≡ length header =
-      length-wide_header (is_wide to size payload) header many in
-      let room : ℕ → Type 0 = λ n. n + length (moved_payload to size payload) < 256 ^ (if nat_lt n 16 then 4 else 8) in
-      (subst room same ends.0, ends.1)
-
   -- a header is as long as before
   pub table_header : IsHeader header (length header)
       → IsHeader (wide_header (is_wide to size payload) header) (length header)
@@ -232,3 +221,15 @@ too_large to width header payload old new start many is begins large =
       (payload_length to width payload).1,
       length-append header payload,
     )
+
+-- and its size can't be said
+pub past_32_bits : (to : ℕ → ℕ) (size : ℕ) (header payload old new : List ℕ) (start : ℕ) → 8 ≤ length header
+    → new ≡ old ++ (wide_header (is_wide to size payload) header ++ moved_payload to size payload)
+    → start ≡ length old → start + 2 ^ 32 ≤ length new
+    → 2 ^ 32 ≤ length (wide_header (is_wide to size payload) header) + length (moved_payload to size payload)
+past_32_bits to size header payload old new start many is begins large =
+    let head : List ℕ = wide_header (is_wide to size payload) header in
+    let whole : length new ≡ length old + (length head + length (moved_payload to size payload)) =
+    ap (λ (xs : List ℕ). length xs) is ∙ length-append old (head ++ moved_payload to size payload)
+    ∙ ap (λ n. length old + n) (length-append head (moved_payload to size payload)) in
+    omega (arith, whole, begins, large)

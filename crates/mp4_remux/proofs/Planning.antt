@@ -1,14 +1,15 @@
 -- A file whose movie box is put in front.
 use Rattle.std.proofs.Common.{◌≡◌, ◌∙◌, ◌⊎◌, inl, inr, ℕ, ◌+◌, ◌-◌, ◌^◌, ◌<◌, ◌≤◌, ◌&&◌, if◌then◌else◌, min, nat_lt}
 use Rattle.std.proofs.Common.{Bool, true, false, List, length, Option, None, Some, IfSome, refl, sym, ap, subst, arith}
-use Rattle.std.specs.Prelude.{not, slice_get}
+use Rattle.std.specs.Prelude.{map, not, slice_get}
+use Rattle.std.specs.List.{filter}
 use Rattle.mp4_codec.specs.declared.box_type.BoxType.TheVariants.{FtypBox as ftyp, MoovBox as moov}
 use Rattle.mp4_media.specs.FileGrammar.{between}
 use Rattle.mp4_source.specs.Answers.{IsLength}
 use Rattle.mp4_remux.specs.Front.{AreApart, AreBoxes, in_front, IsBoxOf, IsMoved, IsOnly}
 use Rattle.mp4_remux.specs.Moved.{IsBy, IsMovedAt, IsUpToTwice, bytes_before, place_in_front}
-use Rattle.mp4_remux.specs.PlannedFront.{IsInFront}
-use Rattle.mp4_remux.specs.Splice.{Follow, spliced}
+use Rattle.mp4_remux.specs.PlannedFront.{IsInFront, front_stretches}
+use Rattle.mp4_remux.specs.Splice.{Follow, has_bytes, spliced, stretch_of}
 use Rattle.mp4_remux.specs.declared.layout.Layout.{Layout}
 use Rattle.mp4_remux.specs.declared.moves.Moves.TheVariants.{Front}
 use Rattle.mp4_remux.specs.declared.piece.Piece.{Piece}
@@ -60,14 +61,23 @@ least_still file_type movie bytes made n le moved = inr (λ other also.
 
 -- WHAT IS PLANNED
 
+-- the pieces of a layout follow each other
+pub laid_out : (xs made : List ℕ) (ps : List Piece) (len : ℕ) (l : Layout) → len ≡ length xs → l.source_len ≡ len
+    → l.made.items ≡ made → l.pieces.items ≡ ps → Follow (length xs) (length made) 0 ps l.len
+laid_out xs made ps len l measured is_len is_made is_ps =
+    let one = subst (λ (qs : List Piece). Follow l.source_len (length l.made.items) 0 qs l.len) is_ps l.follow in
+    let two = subst (λ (m : List ℕ). Follow l.source_len (length m) 0 ps l.len) is_made one in
+    subst (λ n. Follow n (length made) 0 ps l.len) (is_len ∙ measured) two
+
 -- a file with its movie box in front has less than 2^64 bytes
 short : (xs made : List ℕ) (ps : List Piece) (len : ℕ) (l : Layout) → len ≡ length xs → l.source_len ≡ len
     → l.made.items ≡ made → l.pieces.items ≡ ps → l.len < 2 ^ 64 → length (spliced xs made ps) < 2 ^ 64
 short xs made ps len l measured is_len is_made is_ps small =
-    let one = subst (λ (qs : List Piece). Follow l.source_len (length l.made.items) 0 qs l.len) is_ps l.follow in
-    let two = subst (λ (m : List ℕ). Follow l.source_len (length m) 0 ps l.len) is_made one in
-    let follow = subst (λ n. Follow n (length made) 0 ps l.len) (is_len ∙ measured) two in
-    omega (arith, length-spliced xs made ps 0 l.len follow, small)
+    omega (
+      arith,
+      length-spliced xs made ps 0 l.len (laid_out xs made ps len l measured is_len is_made is_ps),
+      small,
+    )
 
 -- the bytes and pieces of a file with its movie box in front
 pub is_planned : (known : Option (List ℕ)) (len : ℕ) (boxes : List TopBox) (one other : TopBox)
@@ -75,12 +85,13 @@ pub is_planned : (known : Option (List ℕ)) (len : ℕ) (boxes : List TopBox) (
     → IsOnly boxes moov other → IfSome known (λ xs. AreBoxes xs 0 boxes) → IfSome known (λ xs. IsBoxOf xs ftyp one)
     → IfSome known (λ xs. IsBoxOf xs moov other) → IfSome known (λ xs. bytes ≡ between xs other.place other.end)
     → IsMovedAt (place_in_front one other (length made)) 0 bytes made
+    → map stretch_of ps ≡ filter has_bytes (front_stretches len one other (length made))
     → ((source : List ℕ) → length source ≡ len → spliced source made ps ≡ in_front source one other made)
     → l.source_len ≡ len → l.made.items ≡ made → l.pieces.items ≡ ps → l.len < 2 ^ 64
     → IfSome known (λ xs. IsInFront xs made ps)
-is_planned None len boxes one other bytes made ps l measured first second are whole also is moved all is_len is_made
-    is_ps small = tt
-is_planned (Some xs) len boxes one other bytes made ps l measured first second are whole also is moved all is_len
+is_planned None len boxes one other bytes made ps l measured first second are whole also is moved laid all is_len
+    is_made is_ps small = tt
+is_planned (Some xs) len boxes one other bytes made ps l measured first second are whole also is moved laid all is_len
     is_made is_ps small = record {
       boxes = boxes;
       file_type = one;
@@ -89,6 +100,11 @@ is_planned (Some xs) len boxes one other bytes made ps l measured first second a
       has_file_type = record { only = first; whole = whole };
       has_movie = record { only = second; whole = also };
       moved = subst (λ (b : List ℕ). IsMovedAt (place_in_front one other (length made)) 0 b made) is moved;
+      stretches = record {
+        are = laid ∙ ap (λ n. filter has_bytes (front_stretches n one other (length made))) measured;
+        end = l.len;
+        follow = laid_out xs made ps len l measured is_len is_made is_ps;
+      };
       bytes = λ source long. all source (long ∙ sym measured);
       places = λ place inside outside.
           ap (λ ys. slice_get ys (place_in_front one other (length made) place)) is_front

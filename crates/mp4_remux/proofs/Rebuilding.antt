@@ -35,7 +35,7 @@ then_more first before after bytes upto then source made =
     )
 
 -- the first of two lists
-front_of : (xs ys : List ℕ) → take (length xs) (xs ++ ys) ≡ xs
+pub front_of : (xs ys : List ℕ) → take (length xs) (xs ++ ys) ≡ xs
 front_of [] ys = refl
 front_of (x ∷ xs) ys = ap (λ (zs : List ℕ). x ∷ zs) (front_of xs ys)
 

@@ -1,11 +1,16 @@
--- How a movie box is edited whose chunk offsets are moved, box by box.
-use Rattle.std.specs.Prelude.{◌≡◌, ◌⊎◌, ◌<◌, ◌++◌, ⊤, ℕ, List, length, Some, None}
-use Rattle.mp4_codec.specs.declared.box_type.BoxType.{BoxType}
+-- How a movie box is edited, box by box.
+use Rattle.std.specs.Prelude.{◌≡◌, ◌⊎◌, ◌<◌, ◌++◌, ⊤, ℕ, List, length, Option, None, IfSome}
+use Rattle.std.specs.List.Sorted.{IsSorted}
+use Rattle.std.specs.Ordering.{nat_cmp}
 use Rattle.mp4_codec.specs.declared.error.Error.{Error}
-use Rattle.mp4_remux.specs.Moved.{HasRoom, IsMovedAt, IsWhyNotMoved, entry_size, level_of, moved_payload, moved_table}
-use Rattle.mp4_remux.specs.Moved.{size_of, sized}
+use Rattle.mp4_codec.specs.declared.error.Error.TheVariants.{OutOfMemory, TooLarge}
+use Rattle.mp4_codec.specs.declared.error.Limit.TheVariants.{BoxSize, TrackDuration}
+use Rattle.mp4_remux.specs.Edit.{Change, IsEditedAt, entered, kept, left_out, moved, referring, shown, tabled, timed}
+use Rattle.mp4_remux.specs.Moved.{HasRoom, IsWhyNotMoved, size_of, sized}
+use Rattle.mp4_remux.specs.declared.movie_box.MovieEdit.{MovieEdit}
 use Rattle.mp4_remux.specs.declared.movie_box.Step.{Step}
-use Rattle.mp4_remux.specs.declared.movie_box.Step.TheVariants.{Enter, Keep, Offsets}
+use Rattle.mp4_remux.specs.declared.movie_box.Step.TheVariants.{Drop, Edits, Enter, Header, Keep, Offsets, References}
+use Rattle.mp4_remux.specs.declared.movie_box.Step.TheVariants.{Tables, TrackHeader}
 
 -- the bytes are so many, as many as a header has
 abbrev pub IsHeader : List ℕ → ℕ → Type 0
@@ -20,29 +25,22 @@ abbrev pub EndsSized : (before header payload new : List ℕ) → Type 0
 EndsSized before header payload new =
     HasRoom header (length payload) × (new ≡ before ++ (sized header (length payload) ++ payload))
 
--- the new bytes are the old ones and a table whose offsets are moved
-abbrev pub AddsTable : (ℕ → ℕ) → ℕ → (header payload old new : List ℕ) → Type 0
-AddsTable to size header payload old new =
-    HasRoom header (length (moved_payload to size payload)) × (new ≡ old ++ moved_table to size header payload)
-
--- The step of a box at a level, where nothing but chunk offsets is other: it is entered on the way to the tables, a
--- table of chunk offsets gets others, and every other box stays.
-abbrev pub IsStepOf : ℕ → BoxType → Step → Type 0
-IsStepOf level name Enter = level_of name ≡ Some level
-IsStepOf level name (Offsets width) = (level ≡ 5) × (entry_size name ≡ Some (size_of width))
-IsStepOf level name Keep = (level_of name ≡ Some level → ⊥) × (level ≡ 5 → entry_size name ≡ None)
-IsStepOf level name _ = ⊥
+-- what becomes of a box at a step
+abbrev pub change_in : Step → Change
+change_in Keep = kept
+change_in Drop = left_out
+change_in Enter = entered
+change_in (Offsets width) = moved (size_of width)
+change_in (Header duration) = timed 4 duration
+change_in (TrackHeader duration) = timed 8 duration
+change_in (Edits last) = shown last
+change_in (References ids) = referring ids.now
+change_in (Tables tables) = tabled tables.now
 
 -- boxes are entered at levels 0 to 4 alone
 abbrev pub EntersAt : ℕ → Step → Type 0
 EntersAt level Enter = level < 5
 EntersAt level _ = ⊤
-
--- the new bytes are the old ones and those of a box at such a step, which isn't entered
-abbrev pub AddsStep : (ℕ → ℕ) → Step → (header payload old new : List ℕ) → Type 0
-AddsStep to (Offsets width) header payload old new = AddsTable to (size_of width) header payload old new
-AddsStep to Keep header payload old new = new ≡ old ++ (header ++ payload)
-AddsStep to _ header payload old new = ⊤
 
 -- why a box at such a step isn't added
 abbrev pub IsWhyNotAdded : Step → List ℕ → Error → Type 0
@@ -50,8 +48,21 @@ IsWhyNotAdded (Offsets width) before e = IsWhyNotMoved before e
 IsWhyNotAdded Keep before e = IsWhyNotMoved before e
 IsWhyNotAdded _ before e = ⊤
 
+-- Why there are no such bytes: out of memory; or a size or a duration in them is too large to be said.
+abbrev pub IsWhyNone : Option (List ℕ) → Error → Type 0
+IsWhyNone made e = (e ≡ OutOfMemory) ⊎ (((e ≡ TooLarge BoxSize) ⊎ (e ≡ TooLarge TrackDuration)) × (made ≡ None))
+
+-- the ids of references that stay are sorted, the lowest first
+abbrev pub HasSorted : Step → Type 0
+HasSorted (References ids) = IsSorted nat_cmp ids.now
+HasSorted _ = ⊤
+
+-- the ids of an edit are sorted, the lowest first
+abbrev pub HasSortedIds : MovieEdit → Type 0
+HasSortedIds edit = IfSome edit.ids (λ ids. IsSorted nat_cmp ids.items)
+
 -- the new bytes are the old ones and what bytes at a level become
-pub record AddsMoved (to : ℕ → ℕ) (level : ℕ) (bytes old new : List ℕ) : Type 0 where
+pub record AddsEdited (edit : MovieEdit) (to : ℕ → ℕ) (base level track : ℕ) (bytes old new : List ℕ) : Type 0 where
   pub after : List ℕ
   pub is : new ≡ old ++ after
-  pub moved : IsMovedAt to level bytes after
+  pub edited : IsEditedAt edit to base level track bytes after

@@ -1,7 +1,7 @@
 -- What the headers of a movie say that was rewritten: how long it and its tracks are, and all else as before.
 use Rattle.std.specs.Prelude.{◌≡◌, ◌+◌, ◌-◌, ◌*◌, ◌^◌, ◌≤◌, ◌<◌, ◌⊎◌, ⊤, ℕ, ℤ, pos, if◌then◌else◌, max}
 use Rattle.std.specs.Prelude.{int_lt, unsigned_abs, List, [], ◌∷◌, length, Option, None, Some, IfSome, IsSome, Ok}
-use Rattle.std.specs.Prelude.{slice_get}
+use Rattle.std.specs.Prelude.{Bool, true, false, slice_get}
 use Rattle.mp4_leaf.specs.declared.elst.ElstBox.{ElstBox}
 use Rattle.mp4_leaf.specs.declared.elst.ElstEntry.{ElstEntry}
 use Rattle.mp4_leaf.specs.declared.mdhd.MdhdBox.{MdhdBox}
@@ -108,6 +108,12 @@ made_from (moof ∷ moofs) mvex = Tables
 
 abbrev pub made_of : OpenedFile → Made
 made_of opened = made_from opened.moofs opened.moov.mvex
+
+-- so fragments are gathered
+abbrev pub has_tables : Made → Bool
+has_tables Offsets = false
+has_tables Tracks = false
+has_tables Tables = true
 
 -- the types of the boxes that may be others then
 abbrev pub changed_by : Made → List ℕ

@@ -1,6 +1,6 @@
 -- A movie box in which some boxes are others: all else is there, byte for byte and in its order (ISO/IEC 14496-12,
 -- 4.2).
-use Rattle.std.specs.Prelude.{◌≡◌, ◌+◌, ◌++◌, ◌==◌, ℕ, List, [], ◌∷◌, length, IsTrue, Ok}
+use Rattle.std.specs.Prelude.{◌≡◌, ◌+◌, ◌++◌, ◌==◌, ℕ, Bool, List, [], ◌∷◌, length, IsTrue, Ok}
 use Rattle.std.specs.List.{list_any}
 use Rattle.mp4_codec.specs.BoxType.{code_of}
 use Rattle.mp4_codec.specs.declared.box_type.BoxType.{BoxType}
@@ -17,8 +17,11 @@ pub record IsFirstBox (bytes : List ℕ) (name : BoxType) (header payload after 
   pub all : bytes ≡ header ++ (payload ++ after)
 
 -- the type is one of those with these codes
+abbrev pub is_among : List ℕ → BoxType → Bool
+is_among codes name = list_any (λ c. c == code_of name) codes
+
 abbrev pub IsAmong : List ℕ → BoxType → Type 0
-IsAmong codes name = IsTrue (list_any (λ c. c == code_of name) codes)
+IsAmong codes name = IsTrue (is_among codes name)
 
 -- the boxes that have boxes in them which may be others: from the movie box to each track's tables
 abbrev pub entered : List ℕ

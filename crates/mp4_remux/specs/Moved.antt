@@ -1,5 +1,5 @@
 -- A movie box with other chunk offsets, byte for byte (ISO/IEC 14496-12, 4.2 and 8.7.5).
-use Rattle.std.specs.Prelude.{◌≡◌, ◌⊎◌, ◌+◌, ◌-◌, ◌*◌, ◌/◌, ◌^◌, ◌<◌, ◌≤◌, ◌==◌, ◌||◌, ◌&&◌, ◌++◌, ⊤, not, nat_lt}
+use Rattle.std.specs.Prelude.{◌≡◌, ◌⊎◌, ◌+◌, ◌-◌, ◌*◌, ◌/◌, ◌^◌, ◌<◌, ◌≤◌, ◌==◌, ◌||◌, ◌&&◌, ◌++◌, not, nat_lt}
 use Rattle.std.specs.Prelude.{ℕ, zero, suc, min, Bool, false, if◌then◌else◌, List, [], ◌∷◌, length, take, drop}
 use Rattle.std.specs.Prelude.{Option, Some, None}
 use Rattle.std.specs.List.{flat_map, list_any}
@@ -13,10 +13,12 @@ use Rattle.mp4_codec.specs.declared.error.Error.TheVariants.{OutOfMemory, TooLar
 use Rattle.mp4_codec.specs.declared.error.Limit.TheVariants.{BoxSize}
 use Rattle.mp4_remux.specs.declared.chunk_offsets.OffsetWidth.{OffsetWidth}
 use Rattle.mp4_remux.specs.declared.chunk_offsets.OffsetWidth.TheVariants.{Narrow, Wide}
+use Rattle.mp4_remux.specs.declared.data.Extent.{Extent}
 use Rattle.mp4_remux.specs.declared.moves.Moves.{Moves}
 use Rattle.mp4_remux.specs.declared.moves.Moves.TheVariants.{Listed, Front}
 use Rattle.mp4_remux.specs.declared.movie_box.MovieEdit.{MovieEdit}
 use Rattle.mp4_remux.specs.declared.top_level.TopBox.{TopBox}
+use Rattle.mp4_remux.specs.Data.{AreClosedUp, closed_place}
 use Rattle.mp4_remux.specs.Kept.{IsFirstBox}
 use Rattle.mp4_remux.specs.References.{first_part}
 
@@ -137,9 +139,11 @@ place_in_front file_type movie movie_len place =
     min (2 ^ 64 - 1) (place - bytes_before file_type place - bytes_before movie place
     + (file_type.end - file_type.place) + movie_len)
 
--- Where moves say that a byte is; of those that are listed nothing is said here.
+-- Where moves say that a byte is: where they close up bytes of the file, it is as far after the base as it is after the
+-- first of these when they are closed up.
 abbrev pub IsPlaceBy : Moves → ℕ → ℕ → Type 0
-IsPlaceBy (Listed list base) place to = ⊤
+IsPlaceBy (Listed list base) place to = (extents : List Extent) → AreClosedUp extents list.now
+    → to ≡ min (2 ^ 64 - 1) (base + closed_place extents place)
 IsPlaceBy (Front file_type movie movie_len) place to = to ≡ place_in_front file_type movie movie_len place
 
 -- the place from which those that moves list count

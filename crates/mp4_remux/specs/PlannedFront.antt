@@ -1,5 +1,5 @@
 -- A file with its movie box in front, as it is planned, and why none is (ISO/IEC 14496-12, 4.2, 4.3 and 8.2.1).
-use Rattle.std.specs.Prelude.{◌≡◌, ◌⊎◌, ◌-◌, ◌<◌, ◌≤◌, ◌^◌, ℕ, List, length, slice_get}
+use Rattle.std.specs.Prelude.{◌≡◌, ◌⊎◌, ◌-◌, ◌<◌, ◌≤◌, ◌^◌, ℕ, min, max, List, [], ◌∷◌, length, slice_get}
 use Rattle.mp4_codec.specs.declared.box_type.BoxType.{BoxType}
 use Rattle.mp4_codec.specs.declared.box_type.BoxType.TheVariants.{FtypBox as ftyp, MoovBox as moov}
 use Rattle.mp4_codec.specs.declared.error.Error.{Error}
@@ -13,7 +13,7 @@ use Rattle.mp4_remux.specs.Moved.{IsMovedAt, place_in_front}
 use Rattle.mp4_remux.specs.Named.{IsSingle}
 use Rattle.mp4_remux.specs.Refused.{IsWhyMade}
 use Rattle.mp4_remux.specs.Remuxed.{ids_of}
-use Rattle.mp4_remux.specs.Splice.{spliced}
+use Rattle.mp4_remux.specs.Splice.{AreStretches, Stretch, kept_stretch, made_stretch, spliced}
 use Rattle.mp4_remux.specs.declared.error.RemuxError.{RemuxError}
 use Rattle.mp4_remux.specs.declared.made.Made.TheVariants.{Offsets}
 use Rattle.mp4_remux.specs.declared.piece.Piece.{Piece}
@@ -23,6 +23,14 @@ use Rattle.mp4_remux.specs.declared.top_level.TopBox.{TopBox}
 pub record IsTheBox (before : List ℕ) (boxes : List TopBox) (name : BoxType) (b : TopBox) : Type 0 where
   pub only : IsOnly boxes name b
   pub whole : IsBoxOf before name b
+
+-- all bytes of a file of so many: those of one of its boxes, so many that are made in place of a second, then all else
+-- in its order
+abbrev pub front_stretches : ℕ → TopBox → TopBox → ℕ → List Stretch
+front_stretches len one other made_len =
+    kept_stretch one.place one.end ∷ made_stretch 0 made_len ∷ kept_stretch 0 (min one.place other.place)
+    ∷ kept_stretch (min one.end other.end) (max one.place other.place)
+    ∷ kept_stretch (max one.end other.end) len ∷ []
 
 -- The bytes that were made and the pieces are those of a file with its movie box in front: the bytes are that box with
 -- its chunk offsets moved to where the data is then, and nothing else other; the pieces put them after the file type,
@@ -35,6 +43,8 @@ pub record IsInFront (before made : List ℕ) (pieces : List Piece) : Type 0 whe
   pub has_file_type : IsTheBox before boxes ftyp file_type
   pub has_movie : IsTheBox before boxes moov movie
   pub moved : IsMovedAt (place_in_front file_type movie (length made)) 0 (between before movie.place movie.end) made
+  pub stretches : AreStretches (length before) (length made)
+      (front_stretches (length before) file_type movie (length made)) pieces
   pub bytes : (source : List ℕ) → length source ≡ length before
       → spliced source made pieces ≡ in_front source file_type movie made
   pub places : (place : ℕ) → place < length before → (place < movie.place) ⊎ (movie.end ≤ place)

@@ -1,7 +1,7 @@
 -- The bytes of a source in pieces, with others between them.
-use Rattle.std.specs.Prelude.{◌≡◌, ◌+◌, ◌≤◌, ◌<◌, ◌⊎◌, ℕ, List, [], ◌∷◌, length, take, drop}
-use Rattle.std.specs.Prelude.{Some, slice_get}
-use Rattle.std.specs.List.{flat_map}
+use Rattle.std.specs.Prelude.{◌≡◌, ◌+◌, ◌-◌, ◌≤◌, ◌<◌, ◌⊎◌, ℕ, List, [], ◌∷◌, length, take, drop}
+use Rattle.std.specs.Prelude.{Bool, map, nat_lt, Some, slice_get}
+use Rattle.std.specs.List.{filter, flat_map}
 use Rattle.std.proofs.Props.{props}
 use mathlib.Core.HLevel.{×_prop}
 use Rattle.mp4_remux.specs.declared.piece.Origin.{Origin}
@@ -28,6 +28,33 @@ Follow source_len made_len start [] end = end ≡ start
 Follow source_len made_len start (p ∷ ps) end =
     (p.at ≡ start) × ((0 < p.len) × ((p.place + p.len ≤ of_origin p.origin source_len made_len)
     × Follow source_len made_len (start + p.len) ps end))
+
+-- bytes of the source, or of those that were made, from a place to an end
+pub record Stretch : Type 0 where
+  pub origin : Origin
+  pub place : ℕ
+  pub end : ℕ
+
+abbrev pub kept_stretch : ℕ → ℕ → Stretch
+kept_stretch place end = record { origin = Kept; place = place; end = end }
+
+abbrev pub made_stretch : ℕ → ℕ → Stretch
+made_stretch place end = record { origin = Made; place = place; end = end }
+
+abbrev pub stretch_of : Piece → Stretch
+stretch_of p = record { origin = p.origin; place = p.place; end = p.place + p.len }
+
+abbrev pub stretch_len : Stretch → ℕ
+stretch_len s = s.end - s.place
+
+abbrev pub has_bytes : Stretch → Bool
+has_bytes s = nat_lt s.place s.end
+
+-- The pieces of a splice are these stretches, one after the other, but those without bytes.
+pub record AreStretches (source_len made_len : ℕ) (stretches : List Stretch) (pieces : List Piece) : Type 0 where
+  pub are : map stretch_of pieces ≡ filter has_bytes stretches
+  pub end : ℕ
+  pub follow : Follow source_len made_len 0 pieces end
 
 -- A place of the splice is in this piece, after so many bytes of it; so the bytes from there on are the piece's.
 pub record IsPieceAt (source_len made_len : ℕ) (pieces : List Piece) (place : ℕ) (p : Piece) (skipped : ℕ) : Type 0

@@ -1,12 +1,12 @@
 //! Boxes as bytes, whatever is in them.
 
-ghost use Rattle.std.specs.Prelude.{◌≡◌, ◌+◌, ◌-◌, ◌^◌, ◌≤◌, ◌<◌, ◌++◌, ℕ, List, length, take, None};
-ghost use Rattle.std.specs.Prelude.{IfErr, IfNone, IfSome, OnOk};
-ghost use Rattle.mp4_remux.specs.Kept.{IsFirstBox};
+ghost use Rattle.std.specs.Prelude.{◌≡◌, ◌↔◌, ◌+◌, ◌-◌, ◌^◌, ◌≤◌, ◌<◌, ◌++◌, ℕ, List, length, take, None};
+ghost use Rattle.std.specs.Prelude.{IfErr, IfNone, IfSome, IsTrue, OnOk};
+ghost use Rattle.mp4_remux.specs.Kept.{IsAmong, IsFirstBox};
 ghost use Rattle.mp4_remux.specs.Edited.{EndsSized, IsHeader, IsSized};
 ghost use Rattle.mp4_remux.specs.References.{first_part};
 
-use mp4_codec::{BoxHeader, BoxType, ByteCursor, Error, HEADER_SIZE, Limit, OPEN_END, Result};
+use mp4_codec::{BoxHeader, BoxType, ByteCursor, Error, HEADER_SIZE, Limit, OPEN_END, Put, Result};
 
 /// A box with which some bytes begin.
 #[derive(Clone, Copy)]
@@ -24,6 +24,7 @@ pub(crate) fn first_box(bytes: &[u8]) -> Option<BoxBytes>
     ensures first { IfSome result (λ b. IsFirstBox bytes.now b.name b.header.now b.payload.now b.after.now) }
     ensures after { IfSome result (λ b. length b.after.now < length bytes.now) }
     ensures header { IfSome result (λ b. 8 ≤ length b.header.now) }
+    ensures framed { IfSome result (λ b. IsHeader b.header.now (length b.header.now)) }
     ensures none { IfNone result (first_part bytes.now ≡ None) }
 {
     let mut cursor = ByteCursor::new(bytes);
@@ -84,12 +85,21 @@ impl<'a> BoxBytes<'a> {
     }
 }
 
+/// Adds a box as it is.
+pub(crate) fn put_whole(one: &BoxBytes, out: &mut Vec<u8>) -> Put
+    ensures { OnOk result (out.new.items ≡ out.old.items ++ (one.now.header.now ++ one.now.payload.now)) }
+{
+    out.extend_from_slice(one.header)?;
+    out.extend_from_slice(one.payload)
+}
+
 /// Writes the size of a box, all of whose bytes these are, into its header, which has so many bytes: 8, or 16 where the
 /// size has 64 bits. `TooLarge(BoxSize)` where it doesn't fit.
 pub(crate) fn put_size(bytes: &mut [u8], header: usize) -> Result<()>
     ensures sized { OnOk result ((head payload : List ℕ) → IsHeader head header → bytes.old ≡ head ++ payload
         → IsSized head payload bytes.new) }
-    ensures refused { IfErr result (λ e. (e ≡ Error.TooLarge Limit.BoxSize) × (2 ^ 32 ≤ length bytes.old)) }
+    ensures refused { IfErr result (λ e. (e ≡ Error.TooLarge Limit.BoxSize)
+        × ((header < 16) × (2 ^ 32 ≤ length bytes.old))) }
 {
     let size = bytes.len() as u64;
     if header >= 16 && bytes.len() >= 16 {
@@ -110,10 +120,17 @@ pub(crate) fn end_box(out: &mut Vec<u8>, start: usize, header: usize) -> Result<
     ensures sized { OnOk result ((before head payload : List ℕ) → length before ≡ start → IsHeader head header
         → out.old.items ≡ before ++ (head ++ payload) → EndsSized before head payload out.new.items) }
     ensures refused { IfErr result (λ e. (e ≡ Error.TooLarge Limit.BoxSize)
-        × (start + 2 ^ 32 ≤ length out.old.items)) }
+        × ((header < 16) × (start + 2 ^ 32 ≤ length out.old.items))) }
 {
     if start <= out.len() {
         put_size(&mut out[start..], header)?;
     }
     Ok(())
+}
+
+/// Whether the code of a type is one of these.
+pub(crate) fn is_among(codes: &[u32], name: BoxType) -> bool
+    ensures { IsTrue result ↔ IsAmong codes.now name }
+{
+    codes.contains(&u32::from(name))
 }

@@ -1,10 +1,11 @@
 //! Tables of chunk offsets, with other offsets (ISO/IEC 14496-12, 8.7.5).
 
-ghost use Rattle.std.specs.Prelude.{◌≡◌, ◌≤◌, ◌+◌, ◌*◌, ◌++◌, ◌||◌, ◌==◌, ℕ, length, IfErr, OnOk};
+ghost use Rattle.std.specs.Prelude.{◌≡◌, ◌≤◌, ◌+◌, ◌*◌, ◌++◌, ◌||◌, ◌==◌, ℕ, length, Some, IfErr, OnOk};
 ghost use Rattle.std.specs.List.{flat_map, list_any};
 ghost use Rattle.byteorder.specs.Endian.{big_number};
 ghost use Rattle.mp4_codec.specs.Bytes.{Appends};
-ghost use Rattle.mp4_remux.specs.Edited.{AddsTable, IsHeader};
+ghost use Rattle.mp4_remux.specs.Edit.{joined, moved_box};
+ghost use Rattle.mp4_remux.specs.Edited.{IsHeader, IsWhyNone};
 ghost use Rattle.mp4_remux.specs.Moved.{IsBy, IsWhyNotMoved, entry_count, numbers_in, passes, size_of, wide_bytes};
 ghost use Rattle.mp4_remux.specs.Moved.{wide_header};
 
@@ -98,7 +99,7 @@ fn put_type(header: &[u8], is_wide: bool, out: &mut Vec<u8>) -> Put
 }
 
 /// Adds an offset, of 64 bits or of 32.
-fn put_offset(offset: u64, is_wide: bool, out: &mut Vec<u8>) -> Put
+pub(crate) fn put_offset(offset: u64, is_wide: bool, out: &mut Vec<u8>) -> Put
     ensures { OnOk result (Appends out.old.items out.new.items (wide_bytes is_wide offset)) }
 {
     let bytes = offset.to_be_bytes();
@@ -147,11 +148,13 @@ pub(crate) fn put_table(
     moves: &Moves,
     out: &mut Vec<u8>,
 ) -> Result<()>
-    requires { 8 ≤ length table.now.header.now }
-    ensures moved { (to : ℕ → ℕ) → IsBy moves.now to → IsHeader table.now.header.now (length table.now.header.now)
-        → OnOk result (AddsTable to (size_of width) table.now.header.now table.now.payload.now out.old.items
-        out.new.items) }
-    ensures refused { (to : ℕ → ℕ) → IsBy moves.now to → IsHeader table.now.header.now (length table.now.header.now)
+    requires long { 8 ≤ length table.now.header.now }
+    requires header { IsHeader table.now.header.now (length table.now.header.now) }
+    ensures added { (to : ℕ → ℕ) → IsBy moves.now to → OnOk result (joined (Some out.old.items)
+        (moved_box to (size_of width) table.now.header.now table.now.payload.now) ≡ Some out.new.items) }
+    ensures refused { (to : ℕ → ℕ) → IsBy moves.now to → IfErr result
+        (IsWhyNone (moved_box to (size_of width) table.now.header.now table.now.payload.now)) }
+    ensures large { (to : ℕ → ℕ) → IsBy moves.now to
         → IfErr result (IsWhyNotMoved (table.now.header.now ++ table.now.payload.now)) }
 {
     let payload = table.payload;

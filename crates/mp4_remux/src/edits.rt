@@ -1,13 +1,18 @@
 //! Edit lists of tracks whose tables are made (ISO/IEC 14496-12, 8.6.6).
 
-ghost use Rattle.std.specs.Prelude.{◌≡◌};
-ghost use Rattle.mp4_remux.specs.Headers.{edits_of_box};
+ghost use Rattle.std.specs.Prelude.{◌≡◌, ◌-◌, ◌^◌, ◌++◌, length, min, Some, IfErr, OnOk};
+ghost use Rattle.mp4_remux.specs.Edit.{box_of, each_box, edit_box, joined, last_edit_place, with_last_edit};
+ghost use Rattle.mp4_remux.specs.Edited.{IsHeader, IsWhyNone};
+ghost use Rattle.mp4_remux.specs.Headers.{edits_of_box, edits_time};
+ghost use Rattle.mp4_remux.specs.ShownTimes.{IsShownTime, is_empty, lasts_to_the_end, movie_ticks};
 
-use crate::box_bytes::{BoxBytes, end_box, first_box};
+use crate::box_bytes::{BoxBytes, end_box, first_box, put_whole};
+use crate::header_box::{is_version_1, put_with_time, time_size};
+use crate::headers::time_of;
 use byteorder::{BigEndian, ByteOrder};
 use mp4_boxes::TrakBox;
-use mp4_codec::{BoxType, Error, Limit, Result, put_u32, put_u64};
-use mp4_leaf::ElstEntry;
+use mp4_codec::{BoxType, Error, Limit, Result};
+use mp4_leaf::{ElstEntry, MdhdBox};
 
 /// How long a track is shown, in ticks of the movie.
 #[derive(Debug, Clone, Copy)]
@@ -19,29 +24,22 @@ pub(crate) struct ShownTime {
 }
 
 /// A duration in ticks of the movie, rounded up, of one in ticks of a track.
-pub(crate) fn movie_ticks(duration: u64, movie_timescale: u32, timescale: u32) -> u64 {
+pub(crate) fn movie_ticks(duration: u64, movie_timescale: u32, timescale: u32) -> u64
+    ensures { result ≡ movie_ticks duration movie_timescale timescale }
+{
     if timescale == 0 {
         return 0;
     }
-    let timescale = u64::from(timescale);
-    let movie_timescale = u64::from(movie_timescale);
-    let whole = (duration / timescale).saturating_mul(movie_timescale);
-    let rest = (duration % timescale) * movie_timescale;
-    whole.saturating_add(rest.div_ceil(timescale))
+    let ticks = u128::from(duration) * u128::from(movie_timescale);
+    let ticks = ticks.div_ceil(u128::from(timescale));
+    ticks.min(u128::from(u64::MAX)) as u64
 }
 
 /// Whether an edit shows nothing of the media: its time is -1, of 32 bits or of 64.
-fn is_empty(entry: &ElstEntry) -> bool {
+fn is_empty(entry: &ElstEntry) -> bool
+    ensures { result ≡ is_empty entry.now }
+{
     entry.media_time == u64::MAX || entry.media_time == u64::from(u32::MAX)
-}
-
-/// How long all these edits last.
-fn sum_of(entries: &[ElstEntry]) -> u64 {
-    let mut sum: u64 = 0;
-    for entry in entries {
-        sum = sum.saturating_add(entry.segment_duration);
-    }
-    sum
 }
 
 /// The edits of a track, in the order in which they are shown.
@@ -59,14 +57,15 @@ pub(crate) fn edits_of(trak: &TrakBox) -> &[ElstEntry]
 
 /// Whether an edit lasts to the end of media that last so long with all fragments, in ticks of the track: it has no
 /// duration, or ends with the media of the movie box alone, as where a recording was broken off.
-fn lasts_to_the_end(last: &ElstEntry, trak: &TrakBox, duration: u64, movie_timescale: u32) -> bool {
+fn lasts_to_the_end(last: &ElstEntry, header: &MdhdBox, duration: u64, movie_timescale: u32) -> bool
+    ensures { result ≡ lasts_to_the_end header.now duration movie_timescale last.now }
+{
     if is_empty(last) {
         return false;
     }
     if last.segment_duration == 0 {
         return true;
     }
-    let header = &trak.mdia.mdhd;
     let shown = header.duration.saturating_sub(last.media_time);
     let shown = movie_ticks(shown, movie_timescale, header.timescale);
     0 < header.duration
@@ -74,84 +73,123 @@ fn lasts_to_the_end(last: &ElstEntry, trak: &TrakBox, duration: u64, movie_times
         && shown <= last.segment_duration.saturating_add(1)
 }
 
+/// How long these edits last, one after the other; the largest number where that passes 64 bits.
+fn sum_of(edits: &[ElstEntry]) -> u64
+    ensures { result ≡ min (2 ^ 64 - 1) (edits_time edits.now) }
+{
+    time_of(edits).unwrap_or(u64::MAX)
+}
+
 /// How long a track is shown whose media last so long, in its ticks.
-pub(crate) fn shown_time(trak: &TrakBox, duration: u64, movie_timescale: u32) -> ShownTime {
-    let timescale = trak.mdia.mdhd.timescale;
+pub(crate) fn shown_time(trak: &TrakBox, duration: u64, movie_timescale: u32) -> ShownTime
+    ensures { IsShownTime (edits_of_box trak.now.edts) trak.now.mdia.mdhd duration movie_timescale result }
+{
+    let header = &trak.mdia.mdhd;
     let Some((last, before)) = edits_of(trak).split_last() else {
         return ShownTime {
-            total: movie_ticks(duration, movie_timescale, timescale),
+            total: movie_ticks(duration, movie_timescale, header.timescale),
             last: None,
         };
     };
     let sum = sum_of(before);
-    if !lasts_to_the_end(last, trak, duration, movie_timescale) {
+    if !lasts_to_the_end(last, header, duration, movie_timescale) {
         return ShownTime {
             total: sum.saturating_add(last.segment_duration),
             last: None,
         };
     }
     let left = duration.saturating_sub(last.media_time);
-    let rest = movie_ticks(left, movie_timescale, timescale);
+    let rest = movie_ticks(left, movie_timescale, header.timescale);
     ShownTime {
         total: sum.saturating_add(rest),
         last: Some(rest),
     }
 }
 
-/// Where the last entry of an edit list begins in its payload, in which an entry has 12 bytes, or 20 in version 1; none
-/// where the list is empty or cut.
-fn last_entry(payload: &[u8]) -> Option<usize> {
+/// Where the last edit of an edit list begins in its payload; none where the list is empty or cut.
+fn last_edit_place(payload: &[u8]) -> Option<usize>
+    ensures { result ≡ last_edit_place payload.now }
+{
     if payload.len() < 8 {
         return None;
     }
-    let size = if payload[0] == 1 { 20 } else { 12 };
+    let size = 2 * time_size(payload) + 4;
     let count = BigEndian::read_u32(&payload[4..]) as usize;
-    let entries = (payload.len() - 8) / size;
-    if count == 0 || count > entries {
+    if count == 0 || count > (payload.len() - 8) / size {
         return None;
     }
     Some(8 + (count - 1) * size)
 }
 
-/// Adds an edit list whose last entry lasts so long. `TooLarge(TrackDuration)` where that passes 32 bits in version 0.
-fn put_list(list: &BoxBytes, last: u64, out: &mut Vec<u8>) -> Result<()> {
+/// Adds the payload of an edit list whose last edit lasts so long. `TooLarge(TrackDuration)` where that passes 32 bits
+/// in version 0.
+#[tactic(auto, unfolding(crate::specs::Edit::with_last_edit))]
+fn put_last_edit(payload: &[u8], last: u64, out: &mut Vec<u8>) -> Result<()>
+    ensures added { OnOk result (joined (Some out.old.items) (with_last_edit last payload.now) ≡ Some out.new.items) }
+    ensures refused { IfErr result (IsWhyNone (with_last_edit last payload.now)) }
+{
+    let Some(place) = last_edit_place(payload) else {
+        return Ok(out.extend_from_slice(payload)?);
+    };
+    if !is_version_1(payload) && last > u64::from(u32::MAX) {
+        return Err(Error::TooLarge(Limit::TrackDuration));
+    }
+    Ok(put_with_time(payload, place, last, out)?)
+}
+
+/// Adds an edit list whose last edit lasts so long.
+fn put_list(list: &BoxBytes, last: u64, out: &mut Vec<u8>) -> Result<()>
+    requires { IsHeader list.now.header.now (length list.now.header.now) }
+    ensures added { OnOk result (joined (Some out.old.items)
+        (box_of list.now.header.now (with_last_edit last list.now.payload.now)) ≡ Some out.new.items) }
+    ensures refused { IfErr result
+        (IsWhyNone (box_of list.now.header.now (with_last_edit last list.now.payload.now))) }
+{
     let start = out.len();
     out.extend_from_slice(list.header)?;
-    let payload = list.payload;
-    let is_long = payload.first() == Some(&1);
-    let width = if is_long { 8 } else { 4 };
-    let at = last_entry(payload).unwrap_or(payload.len());
-    if payload.len() < width || at > payload.len() - width {
-        out.extend_from_slice(payload)?;
-        return end_box(out, start, list.header.len());
-    }
-    out.extend_from_slice(&payload[..at])?;
-    if is_long {
-        put_u64(out, last)?;
-    } else {
-        let Ok(last) = u32::try_from(last) else {
-            return Err(Error::TooLarge(Limit::TrackDuration));
-        };
-        put_u32(out, last)?;
-    }
-    out.extend_from_slice(&payload[at + width..])?;
+    put_last_edit(list.payload, last, out)?;
     end_box(out, start, list.header.len())
 }
 
-/// Adds an `edts` in whose edit list the last entry lasts so long.
-pub(crate) fn put_edits(one: &BoxBytes, last: u64, out: &mut Vec<u8>) -> Result<()> {
-    let start = out.len();
-    out.extend_from_slice(one.header)?;
-    let mut rest = one.payload;
+/// Adds a box in an `edts`: in an edit list the last edit lasts so long.
+fn put_child(child: &BoxBytes, last: u64, out: &mut Vec<u8>) -> Result<()>
+    requires { IsHeader child.now.header.now (length child.now.header.now) }
+    ensures added { OnOk result (joined (Some out.old.items)
+        (edit_box last child.now.name child.now.header.now child.now.payload.now) ≡ Some out.new.items) }
+    ensures refused { IfErr result
+        (IsWhyNone (edit_box last child.now.name child.now.header.now child.now.payload.now)) }
+{
+    match child.name {
+        BoxType::ElstBox => put_list(child, last, out),
+        _ => Ok(put_whole(child, out)?),
+    }
+}
+
+/// Adds the payload of an `edts` in whose edit list the last edit lasts so long.
+fn put_children(payload: &[u8], last: u64, out: &mut Vec<u8>) -> Result<()>
+    ensures added { OnOk result (joined (Some out.old.items) (each_box (edit_box last) (λ rest. rest) payload.now)
+        ≡ Some out.new.items) }
+    ensures refused { IfErr result (IsWhyNone (each_box (edit_box last) (λ rest. rest) payload.now)) }
+{
+    let mut rest = payload;
     while let Some(child) = first_box(rest) {
-        if child.name == BoxType::ElstBox {
-            put_list(&child, last, out)?;
-        } else {
-            out.extend_from_slice(child.header)?;
-            out.extend_from_slice(child.payload)?;
-        }
+        put_child(&child, last, out)?;
         rest = child.after;
     }
-    out.extend_from_slice(rest)?;
+    Ok(out.extend_from_slice(rest)?)
+}
+
+/// Adds an `edts` in whose edit list the last edit lasts so long.
+pub(crate) fn put_edits(one: &BoxBytes, last: u64, out: &mut Vec<u8>) -> Result<()>
+    requires { IsHeader one.now.header.now (length one.now.header.now) }
+    ensures added { OnOk result (joined (Some out.old.items)
+        (box_of one.now.header.now (each_box (edit_box last) (λ rest. rest) one.now.payload.now))
+        ≡ Some out.new.items) }
+    ensures refused { IfErr result
+        (IsWhyNone (box_of one.now.header.now (each_box (edit_box last) (λ rest. rest) one.now.payload.now))) }
+{
+    let start = out.len();
+    out.extend_from_slice(one.header)?;
+    put_children(one.payload, last, out)?;
     end_box(out, start, one.header.len())
 }

@@ -2,13 +2,13 @@
 
 ghost use Rattle.std.specs.Prelude.{◌↔◌, IfErr, IfSome, IsTrue};
 ghost use Rattle.mp4_remux.specs.Refused.{SaysDiffers};
+ghost use Rattle.mp4_remux.specs.Caused.{CausedByNone};
 ghost use Rattle.mp4_remux.specs.Errors.{IsRefusalOf};
 ghost use Rattle.mp4_remux.specs.Kept.{IsAmong};
 ghost use Rattle.mp4_remux.specs.Named.{HasBoxWithin, NamesBy, kept_by_tables, of_samples};
 
-use crate::box_bytes::{FoundBox, first_box};
+use crate::box_bytes::{FoundBox, first_box, is_among};
 use crate::error::RemuxError;
-use crate::kept::is_among;
 use mp4_codec::BoxType;
 
 /// The codes of the boxes that say something of each sample: on which others it depends (`sdtp`, ISO/IEC 14496-12,
@@ -87,6 +87,7 @@ fn more_in(bytes: &[u8], end: u64) -> Option<FoundBox>
 pub(crate) fn check_fragment(bytes: &[u8], end: u64) -> Result<(), RemuxError>
     ensures names { IfErr result (NamesBy (HasBoxWithin bytes.now end)) }
     ensures refused { IfErr result (IsRefusalOf ⊥ ⊥) }
+    ensures cause { IfErr result CausedByNone }
     ensures differs { IfErr result (SaysDiffers (λ _ _. ⊥)) }
 {
     let Some(fragment) = first_box(bytes) else {

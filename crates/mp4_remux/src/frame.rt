@@ -1,6 +1,7 @@
 //! The boxes of a file that is rewritten.
 
-ghost use Rattle.std.specs.Prelude.{◌≡◌, ◌⊎◌, IfSome, IfErr, IfNone, IfOk};
+ghost use Rattle.std.specs.Prelude.{◌≡◌, ◌⊎◌, List, IfSome, IfErr, IfNone, IfOk};
+ghost use Rattle.std.specs.List.{filter, sum_by};
 ghost use Rattle.mp4_codec.specs.declared.error.Error.TheVariants.{OutOfMemory, EndOfData};
 ghost use Rattle.mp4_source.specs.Answers.{IsLength};
 ghost use Rattle.mp4_remux.specs.Refused.{SaysDiffers};
@@ -9,8 +10,10 @@ ghost use Rattle.mp4_remux.specs.Named.{AreTwo, EndsAt, NamesBox, NamesBy, SaysT
 ghost use Rattle.mp4_media.specs.FileGrammar.{between};
 ghost use Rattle.mp4_remux.specs.Caused.{CausedBy, CausedByMemory, CausedByNone};
 ghost use Rattle.mp4_remux.specs.Front.{AreBoxes, HasNone, IsBoxOf, IsOnly, IsTopBox};
-ghost use Rattle.mp4_remux.specs.Gathered.{IsFrameOf};
+ghost use Rattle.mp4_remux.specs.Frames.{IsFrame, IsWhyNoFrame, box_len, data_begin, stays_beside};
+ghost use Rattle.mp4_remux.specs.ShownTimes.{in_64_bits};
 
+use crate::box_bytes::is_among;
 use crate::error::RemuxError;
 use crate::fragment_boxes::check_fragment;
 use crate::layout::fits;
@@ -158,30 +161,54 @@ pub(crate) struct Frame {
 }
 
 impl Frame {
-    /// How many bytes come before the data, where the movie box has so many.
-    pub fn len_before_data(&self, movie_len: u64) -> u64 {
-        let mut len = movie_len.saturating_add(self.file_type.len());
-        for one in self.others.as_slice() {
-            len = len.saturating_add(one.len());
-        }
-        len
+    /// Where the data begins: after the file type, a movie box of so many bytes, the boxes that stay, and a header of
+    /// so many.
+    pub fn data_begin(&self, movie_len: u64, header_len: u64) -> u64
+        ensures { result ≡ data_begin self.now movie_len header_len }
+    {
+        movie_len
+            .saturating_add(self.file_type.len())
+            .saturating_add(len_of_boxes(&self.others))
+            .saturating_add(header_len)
     }
 }
 
-/// The boxes that stay beside the file type and the movie box: all but those of the data, and where the fragments are
-/// gathered, those that go with them.
-fn others_of(
-    alloc: Global,
-    boxes: &[TopBox],
-    is_gathered: bool,
-) -> Result<Vec<TopBox>, AllocError> {
-    let mut others = Vec::new(alloc);
+/// How many bytes these boxes have; the largest number where that passes 64 bits.
+fn len_of_boxes(boxes: &[TopBox]) -> u64
+    ensures { result ≡ in_64_bits (sum_by box_len boxes.now) }
+{
+    let mut len: u64 = 0;
     for one in boxes {
-        match one.name {
-            BoxType::FtypBox | BoxType::MoovBox | BoxType::MdatBox => {}
-            _ if is_gathered && is_of_fragments(one.name) => {}
-            _ => others.push(*one)?,
+        len = len.saturating_add(one.len());
+    }
+    len
+}
+
+/// The codes of the file type, of the movie box, and of data: `ftyp`, `moov` and `mdat`.
+const OWN_BOXES: [u32; 3] = [0x6674_7970, 0x6d6f_6f76, 0x6d64_6174];
+
+/// Whether a box of this type stays beside the file type and the movie box: it is none of the data, and where
+/// fragments are gathered, none that goes with them.
+fn stays_beside(name: BoxType, is_gathered: bool) -> bool
+    ensures { result ≡ stays_beside is_gathered name }
+{
+    if is_among(&OWN_BOXES, name) {
+        return false;
+    }
+    !(is_gathered && is_of_fragments(name))
+}
+
+/// The boxes that stay beside the file type and the movie box, in their order.
+fn others_of(alloc: Global, boxes: &[TopBox], is_gathered: bool) -> Result<Vec<TopBox>, AllocError>
+    ensures { IfOk result (λ others. others.items ≡ filter (λ b. stays_beside is_gathered b.name) boxes.now) }
+{
+    let mut others = Vec::new(alloc);
+    for i in 0..boxes.len() {
+        let one = boxes[i];
+        if !stays_beside(one.name, is_gathered) {
+            continue;
         }
+        others.push(one)?;
     }
     Ok(others)
 }
@@ -195,6 +222,8 @@ fn check_fragments<S: ByteSource>(
 ) -> Result<(), RemuxError>
     requires { IsLength (S.contents source.old) len }
     ensures names { IfErr result (NamesBox (S.contents source.old)) }
+    ensures cause { IfErr result (λ e. IfSome (S.contents source.old) (λ xs. AreBoxes xs 0 boxes.now
+        → CausedByMemory e)) }
     ensures contents { S.contents source.new ≡ S.contents source.old }
     ensures can_refuse { S.can_refuse source.new ≡ S.can_refuse source.old }
     ensures refused { IfErr result (IsRefusalOf (MayRefuse (S.contents source.old) (S.can_refuse source.old)) ⊥) }
@@ -220,6 +249,8 @@ fn check_others<S: ByteSource>(
     requires len { IsLength (S.contents source.old) len }
     requires boxes { IfSome (S.contents source.old) (λ xs. AreBoxes xs 0 boxes.now) }
     ensures names { IfErr result (NamesBox (S.contents source.old)) }
+    ensures cause { IfErr result (λ e. IfSome (S.contents source.old) (λ xs. AreBoxes xs 0 boxes.now
+        → CausedByMemory e)) }
     ensures contents { S.contents source.new ≡ S.contents source.old }
     ensures can_refuse { S.can_refuse source.new ≡ S.can_refuse source.old }
     ensures refused { IfErr result (IsRefusalOf (MayRefuse (S.contents source.old) (S.can_refuse source.old)) ⊥) }
@@ -243,9 +274,10 @@ pub(crate) fn read_frame<S: ByteSource + Drop>(
     requires { IsLength (S.contents source) len }
     ensures contents { IfOk result (λ x. S.contents x.0 ≡ S.contents source) }
     ensures can_refuse { IfOk result (λ x. S.can_refuse x.0 ≡ S.can_refuse source) }
-    ensures frame { IfOk result (λ x. IfSome (S.contents source) (λ xs.
-        IsFrameOf xs x.1.file_type x.1.movie x.1.movie_bytes.items)) }
+    ensures frame { IfOk result (λ x. IfSome (S.contents source) (λ xs. IsFrame xs is_gathered x.1)) }
     ensures names { IfErr result (NamesBox (S.contents source)) }
+    ensures why { IfErr result (λ e. IfSome (S.contents source) (λ xs. (boxes : List TopBox) → AreBoxes xs 0 boxes
+        → IsWhyNoFrame xs boxes e)) }
     ensures refused { IfErr result (IsRefusalOf (MayRefuse (S.contents source) (S.can_refuse source)) ⊥) }
     ensures differs { IfErr result (SaysDiffers (λ _ _. ⊥)) }
 {

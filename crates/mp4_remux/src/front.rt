@@ -1,7 +1,8 @@
 //! The movie box moved to the front.
 
 ghost use Rattle.std.specs.Prelude.{◌≡◌, ◌≤◌, ◌<◌, ◌+◌, ◌-◌, ◌*◌, ◌^◌, ℕ, List, length, IfSome, IfErr, IfNone};
-ghost use Rattle.std.specs.Prelude.{IfOk, OnOk, IsFalse, IsTrue};
+ghost use Rattle.std.specs.Prelude.{IfOk, OnOk, IsFalse, IsTrue, map};
+ghost use Rattle.std.specs.List.{filter};
 ghost use Rattle.mp4_codec.specs.declared.box_type.BoxType.TheVariants.{FtypBox, MoovBox};
 ghost use Rattle.mp4_source.specs.Answers.{IsLength};
 ghost use Rattle.mp4_remux.specs.Errors.{IsNamed, IsRefusalOf, MayRefuse, SaysFault, TakesMemory};
@@ -12,8 +13,8 @@ ghost use Rattle.mp4_remux.specs.Front.{AreApart, AreBoxes, HasToMove, in_front,
 ghost use Rattle.mp4_remux.specs.Front.{IsOnly, NoMovieAfterData, WritesFront};
 ghost use Rattle.mp4_remux.specs.Moved.{IsMovedAt, IsUpToTwice, IsWhyNotMoved, place_in_front};
 ghost use Rattle.mp4_remux.specs.Named.{NamesBox};
-ghost use Rattle.mp4_remux.specs.PlannedFront.{IsInFront, IsWhyNotInFront, IsWhyNotPlanned};
-ghost use Rattle.mp4_remux.specs.Splice.{Follow, spliced};
+ghost use Rattle.mp4_remux.specs.PlannedFront.{IsInFront, IsWhyNotInFront, IsWhyNotPlanned, front_stretches};
+ghost use Rattle.mp4_remux.specs.Splice.{Follow, has_bytes, spliced, stretch_of};
 
 use crate::chosen::all_ids;
 use crate::copy::copy_all;
@@ -62,6 +63,8 @@ fn front_pieces(
 ) -> Result<Vec<Piece>, AllocError>
     ensures bytes { IfOk result (λ ps. (source made : List ℕ) → length source ≡ len → length made ≡ movie_len
         → spliced source made ps.items ≡ in_front source file_type movie made) }
+    ensures stretches { IfOk result (λ ps. map stretch_of ps.items
+        ≡ filter has_bytes (front_stretches len file_type movie movie_len)) }
     ensures follow { IfOk result (λ ps. AreApart len file_type movie → len < 2 ^ 63
         → movie_len ≤ 2 * (movie.end - movie.place)
         → (end : ℕ) × ((end < 2 ^ 64) × Follow len movie_len 0 ps.items end)) }
@@ -122,7 +125,12 @@ fn movie_in_front(
     ensures refused { IfErr result (IsWhyNotMoved movie_bytes.now) }
 {
     let edit = MovieEdit::of_offsets(alloc);
-    let movie_len = settled_len(alloc, movie_bytes, &edit, file_type, movie)?;
+    let alone = Moves::Front {
+        file_type,
+        movie,
+        movie_len: 0,
+    };
+    let movie_len = settled_len(alloc, movie_bytes, &edit, &alone, movie_bytes.len() as u64)?;
     let moves = Moves::Front {
         file_type,
         movie,

@@ -34,7 +34,7 @@ fn is_rounded_up(duration: u64, clock: u32, other: u32, shown: u64) -> bool
 }
 
 /// How long these edits are, one after the other; none where that passes 64 bits.
-fn time_of(edits: &[ElstEntry]) -> Option<u64>
+pub(crate) fn time_of(edits: &[ElstEntry]) -> Option<u64>
     ensures time { IfSome result (λ time. time ≡ edits_time edits.now) }
     ensures long { IfNone result (2 ^ 64 ≤ edits_time edits.now) }
 {

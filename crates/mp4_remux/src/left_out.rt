@@ -21,7 +21,7 @@ pub(crate) fn sorted_ids(alloc: Global, ids: &[u32]) -> Result<Vec<u32>, AllocEr
 }
 
 /// Whether an id is one of these, the lowest of which is first.
-fn contains_id(sorted: &[u32], id: u32) -> bool
+pub(crate) fn contains_id(sorted: &[u32], id: u32) -> bool
     requires { IsSorted nat_cmp sorted.now }
     ensures { result ≡ contains_id sorted.now id }
 {

@@ -1,7 +1,9 @@
 //! Where the bytes of a file are in the rewritten one.
 
-ghost use Rattle.std.specs.Prelude.{◌≡◌};
+ghost use Rattle.std.specs.Prelude.{◌≡◌, ◌^◌, ◌-◌, List, min};
+ghost use Rattle.mp4_remux.specs.Data.{AreClosedUp, closed_place};
 ghost use Rattle.mp4_remux.specs.Moved.{IsPlaceBy, base_of, bytes_before, place_in_front};
+ghost use Rattle.mp4_remux.specs.declared.data.Extent.{Extent};
 
 use crate::top_level::TopBox;
 
@@ -46,6 +48,17 @@ impl Moves<'_> {
         }
     }
 
+    /// How many bytes a movie box may have at most, so that this byte isn't moved past 32 bits; these moves are those
+    /// after one of no bytes.
+    pub fn most_len(&self, place: u64) -> u64 {
+        match self {
+            Moves::Front { file_type, .. } if place >= file_type.place && place < file_type.end => {
+                u64::MAX
+            }
+            _ => u64::from(u32::MAX).saturating_sub(self.moved(place)),
+        }
+    }
+
     /// The place from which those that they say count.
     pub fn base(&self) -> u64
         ensures { result ≡ base_of self.now }
@@ -58,7 +71,10 @@ impl Moves<'_> {
 }
 
 /// Where a byte is by moves in the order of the file.
-fn listed_place(list: &[Move], place: u64) -> u64 {
+fn listed_place(list: &[Move], place: u64) -> u64
+    ensures { (extents : List Extent) → AreClosedUp extents list.now
+        → result ≡ min (2 ^ 64 - 1) (closed_place extents place) }
+{
     let after = list.partition_point(|one| one.from <= place);
     if after == 0 {
         return 0;

@@ -1,17 +1,25 @@
 //! A movie box in which tables, durations and tracks are others: all its other bytes stay.
 
-ghost use Rattle.std.specs.Prelude.{◌≡◌, ◌≤◌, ◌++◌, ℕ, length, IfErr, IfOk, IsNone, OnOk, false};
-ghost use Rattle.mp4_remux.specs.Edited.{AddsMoved, AddsStep, EntersAt, IsHeader, IsStepOf, IsWhyNotAdded};
-ghost use Rattle.mp4_remux.specs.Moved.{IsBy, IsMovedAt, IsOfOffsets, IsUpToTwice, IsWhyNotMoved};
+ghost use Rattle.std.specs.Prelude.{◌≡◌, ◌+◌, ◌-◌, ◌^◌, ◌<◌, ◌≤◌, ◌++◌, ℕ, length, if◌then◌else◌, slice_get};
+ghost use Rattle.std.specs.Prelude.{Some, option_copied, IfErr, IfOk, OnOk};
+ghost use Rattle.mp4_codec.specs.declared.box_type.BoxType.TheVariants.{StsdBox};
+ghost use Rattle.mp4_remux.specs.Edit.{change_of, last_edit, made_at, made_change, media_change, movie_change};
+ghost use Rattle.mp4_remux.specs.Edit.{entered, kept, left_out, table_change, track_change, trak_change};
+ghost use Rattle.mp4_remux.specs.Edit.{IsEditedAt, IsWhyNotEdited, changed_box, joined, tables_at, track_after};
+ghost use Rattle.mp4_remux.specs.Edited.{AddsEdited, EntersAt, HasSorted, HasSortedIds, IsHeader, IsWhyNone};
+ghost use Rattle.mp4_remux.specs.Edited.{IsWhyNotAdded, change_in};
+ghost use Rattle.mp4_remux.specs.Moved.{IsBy, IsMovedAt, IsOfOffsets, IsUpToTwice, IsWhyNotMoved, base_of};
+ghost use Rattle.mp4_remux.specs.declared.movie_box.Step.TheVariants.{Enter};
+ghost use Rattle.mp4_remux.specs.declared.movie_box.MadeTrack.{MadeTrack};
 
-use crate::box_bytes::{BoxBytes, end_box, first_box};
+use crate::box_bytes::{BoxBytes, end_box, first_box, put_whole};
 use crate::chunk_offsets::{OffsetWidth, put_table};
 use crate::edits::{ShownTime, put_edits};
 use crate::header_box::put_header;
 use crate::moves::Moves;
 use crate::references::put_references;
 use crate::track_tables::MadeTables;
-use mp4_codec::{BoxType, Put, Result};
+use mp4_codec::{BoxType, Result};
 use std::alloc::Global;
 
 /// `tref`, where the references of a track to others are (8.3.3).
@@ -89,7 +97,7 @@ impl MovieEdit {
 
     /// Whether a track is left out, by its number among the boxes, which counts from 0.
     fn is_dropped(&self, track: usize) -> bool
-        ensures { IsOfOffsets self.now → result ≡ false }
+        ensures { trak_change (slice_get self.now.tracks.items track) ≡ (if result then left_out else entered) }
     {
         match self.tracks.get(track) {
             Some(TrackEdit::Dropped) => true,
@@ -99,7 +107,7 @@ impl MovieEdit {
 
     /// What was made of a track, if its tables were.
     fn made(&self, track: usize) -> Option<&MadeTrack>
-        ensures { IsOfOffsets self.now → IsNone result }
+        ensures { option_copied result ≡ made_at self.now track }
     {
         match self.tracks.get(track) {
             Some(TrackEdit::Made(made)) => Some(made),
@@ -109,15 +117,19 @@ impl MovieEdit {
 
     /// How long the last edit of a track is, where that is other than its edit list says.
     fn last_edit(&self, track: usize) -> Option<u64>
-        ensures { IsOfOffsets self.now → IsNone result }
+        ensures { result ≡ last_edit (made_at self.now track) }
     {
-        self.made(track)?.shown.last
+        match self.made(track) {
+            Some(made) => made.shown.last,
+            None => None,
+        }
     }
 
     /// What becomes of a box in the movie box.
     fn movie_step(&self, name: BoxType, track: usize) -> Step<'_>
-        ensures of_offsets { IsOfOffsets self.now → IsStepOf 1 name result }
+        ensures is { change_in result ≡ movie_change self.now name track }
         ensures enters { EntersAt 1 result }
+        ensures sorted { HasSortedIds self.now → HasSorted result }
     {
         match name {
             BoxType::MvhdBox => match self.duration {
@@ -133,8 +145,9 @@ impl MovieEdit {
 
     /// What becomes of a box in that of a track.
     fn track_step(&self, name: BoxType, track: usize) -> Step<'_>
-        ensures of_offsets { IsOfOffsets self.now → IsStepOf 2 name result }
+        ensures is { change_in result ≡ track_change self.now name track }
         ensures enters { EntersAt 2 result }
+        ensures sorted { HasSortedIds self.now → HasSorted result }
     {
         match name {
             BoxType::MdiaBox => Step::Enter,
@@ -155,8 +168,9 @@ impl MovieEdit {
 
     /// What becomes of a box in that of a track's media.
     fn media_step(&self, name: BoxType, track: usize) -> Step<'_>
-        ensures of_offsets { IsOfOffsets self.now → IsStepOf 3 name result }
+        ensures is { change_in result ≡ media_change self.now name track }
         ensures enters { EntersAt 3 result }
+        ensures sorted { HasSortedIds self.now → HasSorted result }
     {
         match name {
             BoxType::MinfBox => Step::Enter,
@@ -170,8 +184,9 @@ impl MovieEdit {
 
     /// What becomes of a box among a track's tables.
     fn table_step(&self, name: BoxType, track: usize) -> Step<'_>
-        ensures of_offsets { IsOfOffsets self.now → IsStepOf 5 name result }
+        ensures is { change_in result ≡ table_change (made_at self.now track) name }
         ensures enters { EntersAt 5 result }
+        ensures sorted { HasSortedIds self.now → HasSorted result }
     {
         match self.made(track) {
             Some(made) => match name {
@@ -188,9 +203,11 @@ impl MovieEdit {
     }
 
     /// What becomes of a box at this level, which is 0 for the movie box.
+    #[tactic(auto, unfolding(crate::specs::Edit::change_of))]
     pub fn step(&self, level: usize, name: BoxType, track: usize) -> Step<'_>
-        ensures of_offsets { IsOfOffsets self.now → IsStepOf level name result }
+        ensures is { change_in result ≡ change_of self.now level name track }
         ensures enters { EntersAt level result }
+        ensures sorted { HasSortedIds self.now → HasSorted result }
     {
         match level {
             0 if name == BoxType::MoovBox => Step::Enter,
@@ -205,7 +222,9 @@ impl MovieEdit {
 }
 
 /// Whether a box is one of the tables that are made.
-fn is_table(name: BoxType) -> bool {
+fn is_table(name: BoxType) -> bool
+    ensures { (m : MadeTrack) → (name ≡ StsdBox → ⊥) → made_change m name ≡ (if result then left_out else kept) }
+{
     match name {
         BoxType::SttsBox
         | BoxType::CttsBox
@@ -218,15 +237,27 @@ fn is_table(name: BoxType) -> bool {
     }
 }
 
-/// Adds a box as it is.
-fn put_whole(one: &BoxBytes, out: &mut Vec<u8>) -> Put
-    ensures { OnOk result (out.new.items ≡ out.old.items ++ (one.now.header.now ++ one.now.payload.now)) }
+/// Adds a box as it is, and after it these tables, of data that begins at this place.
+fn put_with_tables(
+    alloc: Global,
+    one: &BoxBytes,
+    tables: &MadeTables,
+    base: u64,
+    out: &mut Vec<u8>,
+) -> Result<()>
+    ensures added { OnOk result (joined (Some out.old.items)
+        (joined (Some (one.now.header.now ++ one.now.payload.now)) (tables_at base tables.now)) ≡ Some out.new.items) }
+    ensures refused { IfErr result
+        (IsWhyNone (joined (Some (one.now.header.now ++ one.now.payload.now)) (tables_at base tables.now))) }
 {
-    out.extend_from_slice(one.header)?;
-    out.extend_from_slice(one.payload)
+    put_whole(one, out)?;
+    out.extend_from_slice(&tables.bytes)?;
+    tables.put_offsets(alloc, base, out)?;
+    Ok(())
 }
 
 /// Adds what becomes of a box that isn't entered.
+#[tactic(auto, unfolding(crate::specs::Edit::changed_box))]
 fn put_step(
     alloc: Global,
     one: &BoxBytes,
@@ -234,10 +265,15 @@ fn put_step(
     moves: &Moves,
     out: &mut Vec<u8>,
 ) -> Result<()>
-    requires { 8 ≤ length one.now.header.now }
-    ensures added { (to : ℕ → ℕ) → IsBy moves.now to → IsHeader one.now.header.now (length one.now.header.now)
-        → OnOk result (AddsStep to step.entry one.now.header.now one.now.payload.now out.old.items out.new.items) }
-    ensures refused { (to : ℕ → ℕ) → IsBy moves.now to → IsHeader one.now.header.now (length one.now.header.now)
+    requires long { 8 ≤ length one.now.header.now }
+    requires header { IsHeader one.now.header.now (length one.now.header.now) }
+    requires sorted { HasSorted step }
+    requires other { step ≡ Enter → ⊥ }
+    ensures added { (to : ℕ → ℕ) → IsBy moves.now to → OnOk result (joined (Some out.old.items) (changed_box to
+        (base_of moves.now) (change_in step.entry) one.now.header.now one.now.payload.now) ≡ Some out.new.items) }
+    ensures refused { (to : ℕ → ℕ) → IsBy moves.now to → IfErr result (IsWhyNone (changed_box to
+        (base_of moves.now) (change_in step.entry) one.now.header.now one.now.payload.now)) }
+    ensures large { (to : ℕ → ℕ) → IsBy moves.now to
         → IfErr result (IsWhyNotAdded step.entry (one.now.header.now ++ one.now.payload.now)) }
 {
     match step {
@@ -248,11 +284,19 @@ fn put_step(
         Step::TrackHeader(duration) => put_header(one, 8, duration, out),
         Step::Edits(last) => put_edits(one, last, out),
         Step::References(ids) => put_references(one, ids, out),
-        Step::Tables(tables) => {
-            put_whole(one, out)?;
-            out.extend_from_slice(&tables.bytes)?;
-            tables.put_offsets(alloc, moves.base(), out)
-        }
+        Step::Tables(tables) => put_with_tables(alloc, one, tables, moves.base(), out),
+    }
+}
+
+/// How many tracks are before the next box at this level.
+#[tactic(auto, unfolding(crate::specs::Edit::track_after))]
+fn track_after(level: usize, name: BoxType, track: usize) -> usize
+    requires { track < 2 ^ 64 - 1 }
+    ensures { result ≡ track_after level name track }
+{
+    match name {
+        BoxType::TrakBox if level == 1 => track + 1,
+        _ => track,
     }
 }
 
@@ -267,10 +311,14 @@ fn put_boxes(
     moves: &Moves,
     out: &mut Vec<u8>,
 ) -> Result<()>
-    requires { level ≤ 5 }
-    ensures moved { (to : ℕ → ℕ) → IsBy moves.now to → IsOfOffsets edit.now
-        → OnOk result (AddsMoved to level bytes.now out.old.items out.new.items) }
-    ensures refused { (to : ℕ → ℕ) → IsBy moves.now to → IsOfOffsets edit.now
+    requires level { level ≤ 5 }
+    requires track { track + length bytes.now < 2 ^ 64 }
+    requires ids { HasSortedIds edit.now }
+    ensures edited { (to : ℕ → ℕ) → IsBy moves.now to → OnOk result
+        (AddsEdited edit.now to (base_of moves.now) level track bytes.now out.old.items out.new.items) }
+    ensures refused { (to : ℕ → ℕ) → IsBy moves.now to
+        → IfErr result (IsWhyNotEdited edit.now to (base_of moves.now) level track bytes.now) }
+    ensures large { (to : ℕ → ℕ) → IsBy moves.now to → IsOfOffsets edit.now
         → IfErr result (IsWhyNotMoved bytes.now) }
 {
     let mut rest = bytes;
@@ -285,9 +333,7 @@ fn put_boxes(
             }
             step => put_step(alloc, &one, step, moves, out)?,
         }
-        if level == 1 && one.name == BoxType::TrakBox {
-            track = track.saturating_add(1);
-        }
+        track = track_after(level, one.name, track);
         rest = one.after;
     }
     out.extend_from_slice(rest)?;
@@ -301,11 +347,16 @@ pub(crate) fn edited(
     edit: &MovieEdit,
     moves: &Moves,
 ) -> Result<Vec<u8>>
+    requires { HasSortedIds edit.now }
+    ensures edited { (to : ℕ → ℕ) → IsBy moves.now to
+        → IfOk result (λ out. IsEditedAt edit.now to (base_of moves.now) 0 0 movie.now out.items) }
+    ensures refused { (to : ℕ → ℕ) → IsBy moves.now to
+        → IfErr result (IsWhyNotEdited edit.now to (base_of moves.now) 0 0 movie.now) }
     ensures moved { (to : ℕ → ℕ) → IsBy moves.now to → IsOfOffsets edit.now
         → IfOk result (λ out. IsMovedAt to 0 movie.now out.items) }
     ensures len { (to : ℕ → ℕ) → IsBy moves.now to → IsOfOffsets edit.now
         → IfOk result (λ out. IsUpToTwice movie.now out.items) }
-    ensures refused { (to : ℕ → ℕ) → IsBy moves.now to → IsOfOffsets edit.now
+    ensures large { (to : ℕ → ℕ) → IsBy moves.now to → IsOfOffsets edit.now
         → IfErr result (IsWhyNotMoved movie.now) }
 {
     let mut out = Vec::with_capacity(alloc, movie.len())?;

@@ -1,8 +1,9 @@
 //! Pieces of a layout, one after the other.
 
-ghost use Rattle.std.specs.Prelude.{◌≡◌, ◌++◌, ◌+◌, ◌-◌, ◌≤◌, ◌<◌, ◌^◌, ℕ, List, OnOk};
+ghost use Rattle.std.specs.Prelude.{◌≡◌, ◌++◌, ◌+◌, ◌-◌, ◌≤◌, ◌<◌, ◌^◌, ◌∷◌, ℕ, List, [], map, OnOk};
+ghost use Rattle.std.specs.List.{filter};
 ghost use Rattle.mp4_media.specs.FileGrammar.{between};
-ghost use Rattle.mp4_remux.specs.Splice.{Follow, of_origin, spliced};
+ghost use Rattle.mp4_remux.specs.Splice.{Follow, has_bytes, of_origin, spliced, stretch_of};
 
 use crate::piece::{Origin, Piece};
 use mp4_codec::Put;
@@ -22,6 +23,8 @@ fn end_of_all(pieces: &[Piece]) -> u64
 pub(crate) fn push_piece(pieces: &mut Vec<Piece>, origin: Origin, place: u64, end: u64) -> Put
     ensures bytes { OnOk result ((source made : List ℕ) → spliced source made pieces.new.items
         ≡ spliced source made pieces.old.items ++ between (of_origin origin source made) place end) }
+    ensures stretches { OnOk result (map stretch_of pieces.new.items ≡ map stretch_of pieces.old.items
+        ++ filter has_bytes (record { origin = origin; place = place; end = end } ∷ [])) }
     ensures follow { OnOk result ((source_len made_len before : ℕ) → end ≤ of_origin origin source_len made_len
         → before + (end - place) < 2 ^ 64 → Follow source_len made_len 0 pieces.old.items before
         → Follow source_len made_len 0 pieces.new.items (before + (end - place))) }

@@ -1,16 +1,16 @@
 //! Boxes that say places of a file in a way that isn't rewritten.
 
-ghost use Rattle.std.specs.Prelude.{◌≡◌, ◌≤◌, ◌++◌, ◌⊎◌, ℕ, List, IfErr, IfSome, IsTrue};
+ghost use Rattle.std.specs.Prelude.{◌≡◌, ◌↔◌, ◌≤◌, ◌++◌, ◌⊎◌, ℕ, List, IfErr, IfSome, IsTrue};
 ghost use Rattle.mp4_remux.specs.Refused.{SaysDiffers};
 ghost use Rattle.mp4_remux.specs.Caused.{CausedByNone};
 ghost use Rattle.mp4_remux.specs.Errors.{IsRefusalOf};
 ghost use Rattle.mp4_remux.specs.Kept.{IsAmong};
+ghost use Rattle.mp4_remux.specs.Frames.{of_fragments};
 ghost use Rattle.mp4_remux.specs.Named.{HasBoxWithin, IsOneOf, IsPlacing, NamesBy, of_samples, placing};
 
-use crate::box_bytes::{BoxBytes, FoundBox, first_box};
+use crate::box_bytes::{BoxBytes, FoundBox, first_box, is_among};
 use crate::error::RemuxError;
 use crate::fragment_boxes::is_of_samples;
-use crate::kept::is_among;
 use crate::top_level::TopBox;
 use mp4_codec::BoxType;
 
@@ -22,23 +22,23 @@ const PLACING: [u32; 3] = [0x696c_6f63, 0x7361_696f, 0x6472_6566];
 /// The codes of the boxes of a file that say places of others: `moof` (8.8.4), `mfra` (8.8.9) and `sidx` (8.16.3).
 const PLACING_OTHERS: [u32; 3] = [0x6d6f_6f66, 0x6d66_7261, SEGMENT_PLACES];
 
-/// `mfra`, where movie fragments are (8.8.9).
-const FRAGMENT_PLACES: u32 = 0x6d66_7261;
-
 /// `sidx`, where segments are (8.16.3).
 const SEGMENT_PLACES: u32 = 0x7369_6478;
 
 /// `meco`, which has more metadata (8.11.7).
 pub(crate) const MORE_METADATA: u32 = 0x6d65_636f;
 
-/// `ssix`, where the levels of a segment are (8.16.4).
-const SUBSEGMENT_PLACES: u32 = 0x7373_6978;
-
-/// `styp`, what specifications a segment follows (8.16.2).
-const SEGMENT_TYPE: u32 = 0x7374_7970;
-
-/// `prft`, when a movie fragment was made (8.16.5).
-const PRODUCER_TIME: u32 = 0x7072_6674;
+/// The codes of the boxes that go with fragments: `moof` (8.8.4), `mfra`, where movie fragments are (8.8.9), `sidx` and
+/// `ssix`, where segments and their levels are (8.16.3 and 8.16.4), `styp`, what specifications a segment follows
+/// (8.16.2), and `prft`, when a movie fragment was made (8.16.5).
+const OF_FRAGMENTS: [u32; 6] = [
+    0x6d6f_6f66,
+    0x6d66_7261,
+    SEGMENT_PLACES,
+    0x7373_6978,
+    0x7374_7970,
+    0x7072_6674,
+];
 
 /// How many boxes are entered, one in the other, at most: none that says places is deeper in a movie box.
 const DEEPEST: usize = 8;
@@ -140,14 +140,10 @@ pub(crate) fn check_box(bytes: &[u8], end: u64, is_gathered: bool) -> Result<(),
 }
 
 /// Whether a box goes with the fragments of a movie, or is where the data of its samples is.
-pub(crate) fn is_of_fragments(name: BoxType) -> bool {
-    let code = u32::from(name);
-    name == BoxType::MoofBox
-        || code == FRAGMENT_PLACES
-        || is_segment_index(name)
-        || code == SUBSEGMENT_PLACES
-        || code == SEGMENT_TYPE
-        || code == PRODUCER_TIME
+pub(crate) fn is_of_fragments(name: BoxType) -> bool
+    ensures { IsTrue result ↔ IsAmong of_fragments name }
+{
+    is_among(&OF_FRAGMENTS, name)
 }
 
 /// Whether a box says where segments are, by how far they are from its own end.
@@ -173,6 +169,7 @@ pub(crate) fn check_top_box(one: TopBox) -> Result<(), RemuxError>
 pub(crate) fn check_top_level(boxes: &[TopBox]) -> Result<(), RemuxError>
     ensures names { IfErr result (NamesBy (IsOneOf boxes.now)) }
     ensures refused { IfErr result (IsRefusalOf ⊥ ⊥) }
+    ensures cause { IfErr result CausedByNone }
     ensures differs { IfErr result (SaysDiffers (λ _ _. ⊥)) }
 {
     for i in 0..boxes.len() {

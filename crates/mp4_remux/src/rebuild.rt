@@ -1,304 +1,37 @@
 //! A movie of some of its tracks, and one whose fragments are gathered.
 
-ghost use Rattle.std.specs.Prelude.{◌≡◌, ◌≤◌, ◌<◌, ◌-◌, ◌^◌, ◌++◌, ◌∷◌, ◌↔◌, ℕ, List, [], length, None};
-ghost use Rattle.std.specs.Prelude.{IfSome, IfErr, IfOk, OnOk, IsTrue, IsFalse};
+ghost use Rattle.std.specs.Prelude.{◌≡◌, ◌≤◌, ◌<◌, ◌+◌, ◌-◌, length};
+ghost use Rattle.std.specs.Prelude.{IfSome, IfErr, IfOk, OnOk, IsTrue};
 ghost use Rattle.mp4_codec.specs.Cursor.{here};
-ghost use Rattle.mp4_media.specs.FileBoxes.{opened_movie};
-ghost use Rattle.mp4_media.specs.FileGrammar.{IsFile, between};
-ghost use Rattle.mp4_media.specs.MovieTracks.{AreTracks};
-ghost use Rattle.mp4_media.specs.FileBoxes.{OpenedFile};
-ghost use Rattle.mp4_remux.specs.Refused.{SaysDiffers, SaysNoneDiffers};
-ghost use Rattle.mp4_remux.specs.RefusedRebuilt.{IsCutSample, IsNotKept};
-ghost use Rattle.mp4_remux.specs.Remuxed.{ids_of, kept_of};
-ghost use Rattle.mp4_remux.specs.Gathered.{BeginsWith, HasMoreThanTables, WritesChosen, WritesGathered};
-ghost use Rattle.mp4_remux.specs.Gathered.{WritesRebuilt};
-ghost use Rattle.mp4_remux.specs.Headers.{changed_by, made_of};
-ghost use Rattle.mp4_remux.specs.Kept.{IsKept, tracks};
-ghost use Rattle.mp4_remux.specs.Named.{IsWhy, NamesBox, SaysNone};
-ghost use Rattle.mp4_remux.specs.Why.{AreKept, most_samples};
-ghost use Rattle.mp4_remux.specs.References.{references_in};
-ghost use Rattle.mp4_remux.specs.declared.made.Made.TheVariants.{Tables};
-ghost use Rattle.mp4_remux.specs.Splice.{spliced};
 ghost use Rattle.mp4_source.specs.Answers.{IsLength};
+ghost use Rattle.mp4_media.specs.FileBoxes.{OpenedFile, opened_movie};
+ghost use Rattle.mp4_media.specs.FileGrammar.{IsFile};
+ghost use Rattle.mp4_media.specs.MovieTracks.{AreTracks};
 ghost use Rattle.mp4_remux.specs.Errors.{IsNamed, IsRefusalOf, MayRefuse, SaysFault, SaysMissing};
-ghost use Rattle.mp4_remux.specs.Errors.{TakesMemory, of_layout};
+ghost use Rattle.mp4_remux.specs.Errors.{TakesMemory};
+ghost use Rattle.mp4_remux.specs.Gathered.{HasMoreThanTables, WritesChosen, WritesGathered};
+ghost use Rattle.mp4_remux.specs.Gathered.{WritesRebuilt};
+ghost use Rattle.mp4_remux.specs.Headers.{made_of};
+ghost use Rattle.mp4_remux.specs.Named.{NamesBox};
+ghost use Rattle.mp4_remux.specs.PlannedRebuilt.{IsWhyNotChosen, IsWhyNotRebuilt};
+ghost use Rattle.mp4_remux.specs.PlannedRebuilt.{WritesPlanned};
+ghost use Rattle.mp4_remux.specs.Remuxed.{ids_of, kept_of};
+ghost use Rattle.mp4_remux.specs.Why.{AreKept};
+ghost use Rattle.mp4_remux.specs.declared.made.Made.TheVariants.{Tables};
 
 use crate::chosen::{all_ids, kept_ids};
 use crate::copy::copy_all;
-use crate::data::{Extent, closed_up, data_of};
-use crate::edits::shown_time;
 use crate::error::RemuxError;
-use crate::frame::{Frame, read_frame};
-use crate::layout::Layout;
-use crate::layout_error::LayoutError;
+use crate::frame::read_frame;
 use crate::left_out::{Parted, part, sorted_ids};
-use crate::made::{Keeps, Made};
-use crate::moves::{Move, Moves};
-use crate::movie_box::{MadeTrack, MovieEdit, TrackEdit, edited};
-use crate::piece::{Origin, Piece};
-use crate::piece_list::push_piece;
+use crate::made::Keeps;
+use crate::movie_edits::{has_fragments, made_of};
+use crate::rebuilt_layout::plan;
 use crate::reference::{Reference, references_in};
 use crate::rewrite::{open_source, write_layout};
-use crate::same::most_samples;
-use crate::top_level::TopBox;
-use crate::track_tables::tables_of;
-use mp4_boxes::TrakBox;
-use mp4_codec::{BoxType, Error, HEADER_SIZE, Limit, Put, put_u32, put_u64};
 use mp4_media::Movie;
 use mp4_source::{ByteSink, ByteSource};
-use std::alloc::{AllocError, Global};
-
-/// Whether samples of the movie are or may be in fragments.
-fn has_fragments(movie: &Movie) -> bool
-    ensures none { IsFalse result → (movie.now.moofs ≡ []) × (movie.now.moov.mvex ≡ None) }
-    ensures some { IsTrue result → made_of (opened_movie movie.now) ≡ Tables }
-{
-    movie.is_fragmented() || movie.moov.mvex.is_some()
-}
-
-/// What is made anew where tracks are chosen.
-fn made_of(movie: &Movie) -> Made
-    ensures { result ≡ made_of (opened_movie movie.now) }
-{
-    if has_fragments(movie) {
-        return Made::Tables;
-    }
-    Made::Tracks
-}
-
-/// What becomes of a track that is kept: its tables are made where the movie may have fragments.
-fn track_edit(
-    alloc: Global,
-    movie: &Movie,
-    trak: &TrakBox,
-    moves: &[Move],
-    most: u32,
-) -> Result<TrackEdit, LayoutError>
-    requires most { most < 2 ^ 32 - 1 }
-    requires tracks { AreTracks movie.now.moov movie.now.moofs movie.now.moof_places movie.now.tracks }
-    ensures why { IfErr result (IsWhy (trak.now.tkhd.track_id ∷ []) most (opened_movie movie.now)) }
-    ensures differs { IfErr result SaysNoneDiffers }
-{
-    if !has_fragments(movie) {
-        return Ok(TrackEdit::Moved);
-    }
-    let moves = Moves::Listed {
-        list: moves,
-        base: 0,
-    };
-    let tables = tables_of(alloc, movie, trak.tkhd.track_id, &moves, most)?;
-    let shown = shown_time(trak, tables.duration, movie.timescale());
-    Ok(TrackEdit::Made(MadeTrack { tables, shown }))
-}
-
-/// How long a track is then, in ticks of the movie.
-fn duration_of(edit: &TrackEdit, trak: &TrakBox) -> u64 {
-    match edit {
-        TrackEdit::Dropped => 0,
-        TrackEdit::Moved => trak.tkhd.duration,
-        TrackEdit::Made(made) => made.shown.total,
-    }
-}
-
-/// What becomes of the movie box where the tracks with these ids are kept, which are in the order of their boxes.
-fn edit_of(
-    alloc: Global,
-    movie: &Movie,
-    ids: &[u32],
-    moves: &[Move],
-    most: u32,
-) -> Result<MovieEdit, LayoutError>
-    requires most { most < 2 ^ 32 - 1 }
-    requires tracks { AreTracks movie.now.moov movie.now.moofs movie.now.moof_places movie.now.tracks }
-    ensures why { IfErr result (IsWhy ids.now most (opened_movie movie.now)) }
-    ensures differs { IfErr result SaysNoneDiffers }
-{
-    let mut edit = MovieEdit::of_offsets(alloc);
-    let mut duration = 0;
-    let mut kept = 0;
-    for trak in movie.moov.traks.as_slice() {
-        let mut one = TrackEdit::Dropped;
-        if kept < ids.len() && ids[kept] == trak.tkhd.track_id {
-            one = track_edit(alloc, movie, trak, moves, most)?;
-            kept += 1;
-        }
-        duration = duration.max(duration_of(&one, trak));
-        edit.tracks.push(one)?;
-    }
-    edit.is_gathered = has_fragments(movie);
-    edit.duration = Some(duration);
-    if kept < edit.tracks.len() {
-        edit.ids = Some(sorted_ids(alloc, ids)?);
-    }
-    Ok(edit)
-}
-
-/// The header of a box of so much data; none where there is no data (ISO/IEC 14496-12, 4.2 and 8.1.1).
-fn data_header(alloc: Global, len: u64) -> Result<Vec<u8>, AllocError> {
-    let mut header = Vec::new(alloc);
-    if len == 0 {
-        return Ok(header);
-    }
-    match u32::try_from(len.saturating_add(HEADER_SIZE)) {
-        Ok(size) => {
-            put_u32(&mut header, size)?;
-            put_u32(&mut header, u32::from(BoxType::MdatBox))?;
-        }
-        Err(_) => {
-            put_u32(&mut header, 1)?;
-            put_u32(&mut header, u32::from(BoxType::MdatBox))?;
-            put_u64(&mut header, len.saturating_add(2 * HEADER_SIZE))?;
-        }
-    }
-    Ok(header)
-}
-
-/// How many bytes all these have.
-fn len_of(extents: &[Extent]) -> u64 {
-    let mut len: u64 = 0;
-    for extent in extents {
-        len = len.saturating_add(extent.end.saturating_sub(extent.place));
-    }
-    len
-}
-
-/// Adds the bytes of these boxes of the file.
-fn push_boxes(pieces: &mut Vec<Piece>, boxes: &[TopBox]) -> Put
-    ensures more { OnOk result ((source made : List ℕ) → (more : List ℕ)
-        × (spliced source made pieces.new.items ≡ spliced source made pieces.old.items ++ more)) }
-{
-    for i in 0..boxes.len() {
-        push_piece(pieces, Origin::Kept, boxes[i].place, boxes[i].end)?;
-    }
-    Ok(())
-}
-
-/// Adds these bytes of the file.
-fn push_extents(pieces: &mut Vec<Piece>, extents: &[Extent]) -> Put
-    ensures more { OnOk result ((source made : List ℕ) → (more : List ℕ)
-        × (spliced source made pieces.new.items ≡ spliced source made pieces.old.items ++ more)) }
-{
-    for i in 0..extents.len() {
-        push_piece(pieces, Origin::Kept, extents[i].place, extents[i].end)?;
-    }
-    Ok(())
-}
-
-/// The pieces of a file with its movie box of `movie_len` bytes after its file type, then the other boxes that stay,
-/// and the data in one box.
-fn data_pieces(
-    alloc: Global,
-    frame: &Frame,
-    movie_len: u64,
-    made_len: u64,
-    extents: &[Extent],
-) -> Result<Vec<Piece>, AllocError>
-    ensures bytes { IfOk result (λ ps. (source made : List ℕ) → (rest : List ℕ) × (spliced source made ps.items
-        ≡ between source frame.now.file_type.place frame.now.file_type.end ++ (between made 0 movie_len ++ rest))) }
-{
-    let mut pieces = Vec::new(alloc);
-    let file_type = frame.file_type;
-    push_piece(&mut pieces, Origin::Kept, file_type.place, file_type.end)?;
-    push_piece(&mut pieces, Origin::Made, 0, movie_len)?;
-    push_boxes(&mut pieces, &frame.others)?;
-    push_piece(&mut pieces, Origin::Made, movie_len, made_len)?;
-    push_extents(&mut pieces, extents)?;
-    Ok(pieces)
-}
-
-/// The bytes of the movie box and of the header of the data, where the movie box has `movie_len` bytes; none where it
-/// has more or less, as a table that becomes `co64` makes it longer. `OtherTracks` where something else would be other
-/// in the movie box than may be.
-fn made_bytes(
-    alloc: Global,
-    frame: &Frame,
-    edit: &MovieEdit,
-    moves: &Moves,
-    header: &[u8],
-    keeps: &Keeps,
-    movie_len: &mut u64,
-) -> Result<Option<Vec<u8>>, LayoutError>
-    ensures kept { IfOk result (λ x. IfSome x (λ made. (movie : List ℕ) × (made.items ≡ movie ++ header.now)
-        × ((length movie ≡ movie_len.new) × (IsKept (changed_by keeps.now.what) tracks frame.now.movie_bytes.items movie
-        × (references_in movie keeps.now.ids.now ≡ keeps.now.references.now))))) }
-    ensures why { IfErr result SaysNone }
-    ensures differs { IfErr result SaysNoneDiffers }
-{
-    let mut made = edited(alloc, &frame.movie_bytes, edit, moves)?;
-    let len = made.len() as u64;
-    if len != *movie_len {
-        *movie_len = len;
-        return Ok(None);
-    }
-    if !keeps.holds(alloc, &frame.movie_bytes, &made)? {
-        return Err(LayoutError::OtherTracks);
-    }
-    made.extend_from_slice(header)?;
-    Ok(Some(made))
-}
-
-/// The bytes of the movie box and of the header of the data, and the pieces of their file.
-fn plan_data(
-    alloc: Global,
-    frame: &Frame,
-    edit: &MovieEdit,
-    extents: &[Extent],
-    list: &[Move],
-    keeps: &Keeps,
-) -> Result<(Vec<u8>, Vec<Piece>), LayoutError>
-    ensures begins { IfOk result (λ x. BeginsWith keeps.now.what keeps.now.ids.now keeps.now.references.now
-        frame.now.file_type frame.now.movie_bytes.items x.0.items x.1.items) }
-    ensures why { IfErr result SaysNone }
-    ensures differs { IfErr result SaysNoneDiffers }
-{
-    let header = data_header(alloc, len_of(extents))?;
-    let mut movie_len = frame.movie_bytes.len() as u64;
-    for _ in 0..edit.tracks.len().saturating_add(3) {
-        let before = frame.len_before_data(movie_len);
-        let base = before.saturating_add(header.len() as u64);
-        let moves = Moves::Listed { list, base };
-        if let Some(made) = made_bytes(
-            alloc,
-            frame,
-            edit,
-            &moves,
-            &header,
-            keeps,
-            &mut movie_len,
-        )? {
-            let pieces = data_pieces(alloc, frame, movie_len, made.len() as u64, extents)?;
-            return Ok((made, pieces));
-        }
-    }
-    Err(LayoutError::Mp4(Error::TooLarge(Limit::BoxSize)))
-}
-
-/// The layout of a movie of the tracks that are kept, and of what is to be kept of its movie box.
-fn plan(
-    alloc: Global,
-    frame: &Frame,
-    movie: &Movie,
-    keeps: &Keeps,
-    len: u64,
-) -> Result<Layout, LayoutError>
-    requires { AreTracks movie.now.moov movie.now.moofs movie.now.moof_places movie.now.tracks }
-    ensures source_len { IfOk result (λ l. l.source_len ≡ len) }
-    ensures begins { IfOk result (λ l. BeginsWith keeps.now.what keeps.now.ids.now keeps.now.references.now
-        frame.now.file_type frame.now.movie_bytes.items l.made.items l.pieces.items) }
-    ensures why { IfErr result (IsWhy keeps.now.ids.now (most_samples len) (opened_movie movie.now)) }
-    ensures differs { IfErr result (λ e. SaysDiffers (IsCutSample len keeps.now.ids.now (opened_movie movie.now))
-        (of_layout e)) }
-{
-    let most = most_samples(len);
-    let extents = data_of(alloc, movie, keeps.ids, len, most)?;
-    let moves = closed_up(alloc, &extents)?;
-    let edit = edit_of(alloc, movie, keeps.ids, &moves, most)?;
-    let (made, pieces) = plan_data(alloc, frame, &edit, &extents, &moves, keeps)?;
-    match Layout::new(len, made, pieces) {
-        Some(layout) => Ok(layout),
-        None => Err(LayoutError::OtherTracks),
-    }
-}
+use std::alloc::Global;
 
 /// Writes a movie of the tracks with these ids, of all, which are in the order of their boxes, and answers which
 /// references of them are left out.
@@ -315,8 +48,11 @@ fn write_chosen<S: ByteSource + Drop, K: ByteSink>(
     requires tracks { AreTracks movie.now.moov movie.now.moofs movie.now.moof_places movie.now.tracks }
     requires opened { IfSome (S.contents source) (λ xs. IsFile (length xs) (here xs 0) (opened_movie movie.now)) }
     requires kept { AreKept (opened_movie movie.now) ids.now }
+    requires all { all.now ≡ ids_of movie.now.moov }
     ensures written { IfOk result (λ gone. IfSome (S.contents source) (λ xs. WritesRebuilt xs (opened_movie movie.now)
         all.now ids.now gone.items (K.contents sink.old) (K.contents sink.new))) }
+    ensures planned { OnOk result (IfSome (S.contents source) (λ xs. WritesPlanned xs (opened_movie movie.now) ids.now
+        (K.contents sink.old) (K.contents sink.new))) }
     ensures names { IfErr result (NamesBox (S.contents source)) }
     ensures flushed { OnOk result (K.waiting sink.new ≡ 0) }
     ensures kept { IfErr result (λ e. IsNamed e → K.contents sink.new ≡ K.contents sink.old) }
@@ -324,8 +60,8 @@ fn write_chosen<S: ByteSource + Drop, K: ByteSink>(
     ensures more { OnOk result (K.len sink.old ≤ K.len sink.new) }
     ensures refused { IfErr result (IsRefusalOf (MayRefuse (S.contents source) (S.can_refuse source))
         (IsTrue (K.can_refuse sink.old))) }
-    ensures differs { IfErr result (λ e. IfSome (S.contents source) (λ xs. SaysDiffers
-        (IsNotKept xs (opened_movie movie.now) all.now ids.now) e)) }
+    ensures why { IfErr result (λ e. IfSome (S.contents source) (λ xs.
+        IsWhyNotRebuilt xs (opened_movie movie.now) ids.now e)) }
 {
     let (source, frame) = read_frame(alloc, source, len, has_fragments(movie))?;
     let references = references_in(alloc, &frame.movie_bytes, all)?;
@@ -334,13 +70,12 @@ fn write_chosen<S: ByteSource + Drop, K: ByteSink>(
     let Parted { staying, left_out } = part(alloc, &references, leaves_some, &sorted)?;
     drop(references);
     let keeps = Keeps {
-        what: made_of(movie),
         ids,
         references: &staying,
     };
-    let layout = plan(alloc, &frame, movie, &keeps, len)?;
+    let layout = plan(alloc, &frame, movie, &keeps, &sorted, len)?;
     drop(frame);
-    write_layout(alloc, source, movie, &layout, keeps.ids, keeps.what, sink)?;
+    write_layout(alloc, source, movie, &layout, ids, made_of(movie), sink)?;
     Ok(left_out)
 }
 
@@ -384,9 +119,11 @@ pub fn gather<S: ByteSource + Drop, K: ByteSink>(
     ensures names { IfErr result (NamesBox (S.contents source)) }
     ensures as_it_is { IfErr result (λ e. IsNamed e → HasMoreThanTables (S.contents source)) }
     ensures memory { TakesMemory (S.contents source) result }
-    ensures differs { IfErr result (λ e. IfSome (S.contents source) (λ xs. (opened : OpenedFile)
-        → IsFile (length xs) (here xs 0) opened
-        → SaysDiffers (IsNotKept xs opened (ids_of opened.moov) (ids_of opened.moov)) e)) }
+    ensures planned { OnOk result (IfSome (S.contents source) (λ xs. (opened : OpenedFile)
+        → IsFile (length xs) (here xs 0) opened → made_of opened ≡ Tables
+        → WritesPlanned xs opened (ids_of opened.moov) (K.contents sink.old) (K.contents sink.new))) }
+    ensures why { IfErr result (λ e. IfSome (S.contents source) (λ xs. (opened : OpenedFile)
+        → IsFile (length xs) (here xs 0) opened → IsWhyNotRebuilt xs opened (ids_of opened.moov) e)) }
 {
     let (source, len, movie) = open_source(alloc, source)?;
     if !has_fragments(&movie) {
@@ -430,9 +167,11 @@ pub fn choose<S: ByteSource + Drop, K: ByteSink>(
     ensures fault { SaysFault (S.contents source) (S.can_refuse source) result }
     ensures names { IfErr result (NamesBox (S.contents source)) }
     ensures memory { TakesMemory (S.contents source) result }
-    ensures differs { IfErr result (λ e. IfSome (S.contents source) (λ xs. (opened : OpenedFile)
-        → IsFile (length xs) (here xs 0) opened → SaysDiffers
-        (IsNotKept xs opened (ids_of opened.moov) (kept_of ids.now (ids_of opened.moov))) e)) }
+    ensures planned { OnOk result (IfSome (S.contents source) (λ xs. (opened : OpenedFile)
+        → IsFile (length xs) (here xs 0) opened → WritesPlanned xs opened (kept_of ids.now (ids_of opened.moov))
+        (K.contents sink.old) (K.contents sink.new))) }
+    ensures why { IfErr result (λ e. IfSome (S.contents source) (λ xs. (opened : OpenedFile)
+        → IsFile (length xs) (here xs 0) opened → IsWhyNotChosen xs opened ids.now e)) }
 {
     let (source, len, movie) = open_source(alloc, source)?;
     let all = all_ids(alloc, &movie)?;

@@ -1,6 +1,6 @@
 //! The references of a movie's tracks to others (ISO/IEC 14496-12, 8.3.3).
 
-ghost use Rattle.std.specs.Prelude.{◌≡◌, ◌++◌, IfOk, IsTrue, OnOk};
+ghost use Rattle.std.specs.Prelude.{◌≡◌, ◌↔◌, ◌++◌, IfOk, IsTrue, OnOk};
 ghost use Rattle.mp4_codec.specs.ExactTest.{by_law, by_test, field_tests};
 ghost use Rattle.mp4_codec.specs.contracts.box_type.BoxTypeExactEq.TheImpl.Laws.{lawful as box_type_laws};
 ghost use Rattle.mp4_remux.specs.References.{of_box, of_kind, of_track, references_in};
@@ -98,7 +98,7 @@ pub(crate) fn references_in(
 
 /// Whether two lists of references are the same.
 pub(crate) fn are_same(one: &[Reference], other: &[Reference]) -> bool
-    ensures { IsTrue result → one.now ≡ other.now }
+    ensures { IsTrue result ↔ (one.now ≡ other.now) }
 {
     if one.len() != other.len() {
         return false;

@@ -1,17 +1,18 @@
 //! Whether every sample is read as before.
 
-ghost use Rattle.std.specs.Prelude.{◌≡◌, ◌↔◌, ◌-◌, ◌<◌, ◌≤◌, ◌^◌, ◌∷◌, ℕ, [], Some, Ok, IfErr, IfOk, IfSome};
-ghost use Rattle.std.specs.Prelude.{OnOk, IsTrue, is_some, option_map, slice_get};
+ghost use Rattle.std.specs.Prelude.{◌≡◌, ◌↔◌, ◌⊎◌, ◌-◌, ◌<◌, ◌≤◌, ◌^◌, ◌∷◌, ℕ, [], None, Some, Ok, IfErr, IfOk, IfSome};
+ghost use Rattle.std.specs.Prelude.{IfNone, OnOk, IsTrue, is_some, option_map, slice_get};
+ghost use Rattle.mp4_codec.specs.Cause.{cause_of};
 ghost use Rattle.mp4_boxes.specs.declared.trak.TrakBox.{TrakBox};
 ghost use Rattle.mp4_samples.specs.declared.sample.Place.{Place};
 ghost use Rattle.mp4_samples.specs.Places.{place_of};
 ghost use Rattle.mp4_media.specs.FileBoxes.{opened_movie};
 ghost use Rattle.mp4_media.specs.MovieTracks.{AreTracks};
 ghost use Rattle.mp4_remux.specs.Errors.{of_layout};
-ghost use Rattle.mp4_remux.specs.Headers.{IsShownUntil};
+ghost use Rattle.mp4_remux.specs.Headers.{HasNoSamples, IsShownUntil};
 ghost use Rattle.mp4_remux.specs.Named.{IsWhy, SaysNone};
 ghost use Rattle.mp4_remux.specs.Reads.{count_of, place_in};
-ghost use Rattle.mp4_remux.specs.Refused.{IsWhyOther, KeepsMovie, KeepsSamples};
+ghost use Rattle.mp4_remux.specs.Refused.{IsUnreadable, IsWhyOther, KeepsMovie, KeepsSamples};
 ghost use Rattle.mp4_remux.specs.Remuxed.{ids_of};
 ghost use Rattle.mp4_remux.specs.declared.made.Made.TheVariants.{Tables};
 ghost use Rattle.mp4_remux.specs.Same.{IsMovedSample, IsNumberAsBefore, IsTrackAsBefore};
@@ -97,16 +98,25 @@ pub(crate) fn place_of_any(
     track_id: u32,
     k: u32,
 ) -> mp4_media::Result<Option<SamplePlace>>
-    requires { AreTracks movie.now.moov movie.now.moofs movie.now.moof_places movie.now.tracks }
-    ensures { IfOk result (λ p. IfSome p (λ s. place_in (opened_movie movie.now) track_id k ≡ Ok (Some (place_of s)))) }
+    requires tracks { AreTracks movie.now.moov movie.now.moofs movie.now.moof_places movie.now.tracks }
+    requires number { 1 ≤ k }
+    ensures some { IfOk result (λ p. IfSome p (λ s. place_in (opened_movie movie.now) track_id k
+        ≡ Ok (Some (place_of s)))) }
+    ensures none { IfOk result (λ p. IfNone p (((k ≡ 1) × HasNoSamples (opened_movie movie.now) track_id)
+        ⊎ (place_in (opened_movie movie.now) track_id k ≡ Ok None))) }
+    ensures unread { IfErr result (λ e. IsUnreadable (opened_movie movie.now) (track_id ∷ []) (cause_of e)) }
 {
-    let place = movie.place(track_id, k);
-    if let Err(_) = place {
-        if k == 1 && movie.sample_count(track_id)? == 0 {
-            return Ok(None);
-        }
+    let error = match movie.place(track_id, k) {
+        Ok(place) => return Ok(place),
+        Err(error) => error,
+    };
+    if k != 1 {
+        return Err(error);
     }
-    place
+    if movie.sample_count(track_id)? == 0 {
+        return Ok(None);
+    }
+    Err(error)
 }
 
 /// A track that is the same before and after.

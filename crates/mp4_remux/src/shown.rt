@@ -1,6 +1,6 @@
 //! When samples have been shown.
 
-ghost use Rattle.std.specs.Prelude.{◌≡◌};
+ghost use Rattle.std.specs.Prelude.{◌≡◌, ◌-◌, ◌^◌, min};
 ghost use Rattle.mp4_samples.specs.Places.{place_of};
 ghost use Rattle.mp4_remux.specs.Headers.{shown_at, shown_end};
 
@@ -27,6 +27,8 @@ pub(crate) fn shown_end(sample: &SamplePlace) -> u128
 }
 
 /// The same; the largest number where that passes 64 bits.
-pub(crate) fn shown_ticks(sample: &SamplePlace) -> u64 {
+pub(crate) fn shown_ticks(sample: &SamplePlace) -> u64
+    ensures { result ≡ min (2 ^ 64 - 1) (shown_end (place_of sample.now)) }
+{
     shown_end(sample).min(u128::from(u64::MAX)) as u64
 }

@@ -5,6 +5,7 @@ ghost use Rattle.mp4_source.specs.Answers.{IsLength};
 ghost use Rattle.mp4_remux.specs.Refused.{SaysDiffers};
 ghost use Rattle.mp4_remux.specs.Errors.{IsNamed, IsRefusalOf, MayRefuse};
 ghost use Rattle.mp4_remux.specs.Named.{NamesBy};
+ghost use Rattle.mp4_remux.specs.Frames.{box_len};
 ghost use Rattle.mp4_remux.specs.Front.{AreBoxes, HasNoHeader, IsTopBox, top_end};
 
 use crate::error::RemuxError;
@@ -23,7 +24,9 @@ pub(crate) struct TopBox {
 
 impl TopBox {
     /// How many bytes it has.
-    pub fn len(&self) -> u64 {
+    pub fn len(&self) -> u64
+        ensures { result ≡ box_len self.now }
+    {
         self.end.saturating_sub(self.place)
     }
 }

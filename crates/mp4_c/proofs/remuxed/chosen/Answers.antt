@@ -19,5 +19,5 @@ returns-in_err-choose-clause-refused c =
       refused = neither_refuses _ why.refused;
       fault = why.fault;
       names = why.names;
-      more = why.missing;
+      more = (why.missing, why.why);
     })

@@ -12,5 +12,5 @@ returns-in_err-move_to_front-clause-refused c =
       refused = neither_refuses _ why.refused;
       fault = why.fault;
       names = why.names;
-      more = why.as_it_is;
+      more = (why.as_it_is, why.why);
     })

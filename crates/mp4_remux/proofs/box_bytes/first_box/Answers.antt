@@ -1,5 +1,6 @@
-use Rattle.std.proofs.Common.{arith, inl, inr}
+use Rattle.std.proofs.Common.{arith, inl, inr, rules}
 use Rattle.mp4_remux.proofs.Referring.{no_header, not_whole}
+use Rattle.mp4_remux.proofs.Sizing.{is_header}
 use Rattle.mp4_remux.proofs.box_bytes.first_box.Goals.{
   then-header-eq-OPEN_END-via-then-header-eq-OPEN_END,
   then-header-eq-OPEN_END-via-else-header-eq-OPEN_END+then-from-len,
@@ -21,3 +22,9 @@ returns-then-header-eq-OPEN_END-clause-none c =
       | then-header-eq-OPEN_END-via-else-header-eq-OPEN_END+else-from-len+then-header-len w ↦
           inr (omega (arith, w.if-header-len.true, w.if-from-len.false, c.position-from.ensures))
     ])
+
+pub returns-clause-first : goal.returns-clause-first
+returns-clause-first c = search rules
+
+pub returns-clause-framed : goal.returns-clause-framed
+returns-clause-framed c = is_header c.args.bytes.now _ _ _ _ (returns-clause-first c)

@@ -1,10 +1,11 @@
-use Rattle.std.proofs.Common.{◌≡◌, ◌∙◌, ◌++◌, ◌*◌, ◌==◌, ◌||◌, ℕ, List, length, drop, take, arith, ap, inr}
+use Rattle.std.proofs.Common.{◌≡◌, ◌∙◌, ◌++◌, ◌*◌, ◌==◌, ◌||◌, ℕ, List, length, drop, take, arith, ap, inl, inr}
 use Rattle.std.proofs.Common.{min}
 use Rattle.std.proofs.lemmas.Result.{on_ok_weaker, MatchResult-weaker}
 use Rattle.std.specs.List.{flat_map, list_any}
 use Rattle.mp4_remux.specs.Moved.{IsBy, entry_count, is_wide, moved_payload, numbers_in, passes, size_of}
 use Rattle.mp4_remux.specs.Moved.{wide_bytes, wide_header}
-use Rattle.mp4_remux.proofs.Offsets.{entries_are, table_ends, table_header, table_is, too_large}
+use Rattle.mp4_remux.proofs.Editing.{ended, no_size}
+use Rattle.mp4_remux.proofs.Offsets.{entries_are, length-wide_header, past_32_bits, table_header, table_is, too_large}
 use Rattle.mp4_remux.proofs.Referring.{rest_of}
 use Rattle.mp4_remux.proofs.chunk_offsets.put_table.Goals as goal
 
@@ -42,24 +43,39 @@ written c to by =
     ∙ ap (λ (n : ℕ). three ++ drop (n * c.size.result) entries) count
     ∙ ap (λ (n : ℕ). three ++ drop (entry_count size payload * n) entries) c.size.ensures)
 
-pub returns-clause-moved : goal.returns-clause-moved
-returns-clause-moved c = λ to by header.
+pub returns-clause-added : goal.returns-clause-added
+returns-clause-added c = λ to by.
     let size : ℕ = size_of c.args.width in
     let payload : List ℕ = c.args.table.now.payload.now in
+    let head : List ℕ = wide_header (is_wide to size payload) c.args.table.now.header.now in
     on_ok_weaker c.end_box.result
-    (λ ends. table_ends to size c.args.table.now.header.now payload c.args.out.now.items c.end_box.new.out.items
-    c.requires
-    (ends c.args.out.now.items (wide_header (is_wide to size payload) c.args.table.now.header.now)
-    (moved_payload to size payload) (omega (arith, c.len-start.ensures, c.args.out.now.ok.0))
-    (table_header to size c.args.table.now.header.now payload header) (written c to by)))
+    (λ ends. ended c.args.out.now.items head (moved_payload to size payload) c.end_box.new.out.items
+    (ends c.args.out.now.items head (moved_payload to size payload)
+    (omega (arith, c.len-start.ensures, c.args.out.now.ok.0))
+    (table_header to size c.args.table.now.header.now payload c.requires.header) (written c to by)))
     c.end_box.ensures.sized
 
 pub returns-clause-refused : goal.returns-clause-refused
-returns-clause-refused c = λ to by header.
+returns-clause-refused c = λ to by.
+    let size : ℕ = size_of c.args.width in
+    let payload : List ℕ = c.args.table.now.payload.now in
+    let header : List ℕ = c.args.table.now.header.now in
+    MatchResult-weaker c.end_box.result c.end_box.ensures.refused (λ x u. u)
+    (λ e is. inr (
+      inl is.0,
+      no_size (wide_header (is_wide to size payload) header) (moved_payload to size payload)
+          (omega (arith, length-wide_header (is_wide to size payload) header c.requires.long, is.1.0))
+          (past_32_bits to size header payload c.args.out.now.items c.extend_from_slice-2.new.self.items
+          c.len-start.result c.requires.long (written c to by)
+          (omega (arith, c.len-start.ensures, c.args.out.now.ok.0)) is.1.1),
+    ))
+
+pub returns-clause-large : goal.returns-clause-large
+returns-clause-large c = λ to by.
     MatchResult-weaker c.end_box.result c.end_box.ensures.refused (λ x u. u)
     (λ e is. inr (
       is.0,
       too_large to c.args.width c.args.table.now.header.now c.args.table.now.payload.now
-          c.args.out.now.items c.extend_from_slice-2.new.self.items c.len-start.result c.requires (written c to by)
-          (omega (arith, c.len-start.ensures, c.args.out.now.ok.0)) is.1,
+          c.args.out.now.items c.extend_from_slice-2.new.self.items c.len-start.result c.requires.long
+          (written c to by) (omega (arith, c.len-start.ensures, c.args.out.now.ok.0)) is.1.1,
     ))

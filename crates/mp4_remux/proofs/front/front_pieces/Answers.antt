@@ -1,4 +1,6 @@
+use Rattle.std.proofs.Common.{sym}
 use Rattle.mp4_remux.proofs.Fronting.{front_bytes, front_follow, no_pieces}
+use Rattle.mp4_remux.proofs.Stretching.{five_laid, no_stretches}
 use Rattle.mp4_remux.proofs.front.front_pieces.Goals as goal
 
 pub returns-clause-bytes : goal.returns-clause-bytes
@@ -10,6 +12,14 @@ returns-clause-bytes c = λ source made long_source long_made.
     (c.in_ok-push_piece.ensures.bytes source made) (c.in_ok-push_piece-2.ensures.bytes source made)
     (c.in_ok-push_piece-3.ensures.bytes source made) (c.in_ok-push_piece-4.ensures.bytes source made)
     (c.in_ok-push_piece-5.ensures.bytes source made)
+
+pub returns-clause-stretches : goal.returns-clause-stretches
+returns-clause-stretches c =
+    rw (sym c.min-first.ensures, sym c.min-between.ensures, sym c.max-second.ensures, sym c.max-after.ensures)
+    (five_laid _ _ _ _ _ (no_stretches c.new-pieces.result.items c.new-pieces.ensures.items)
+    c.in_ok-push_piece.ensures.stretches c.in_ok-push_piece-2.ensures.stretches
+    c.in_ok-push_piece-3.ensures.stretches c.in_ok-push_piece-4.ensures.stretches
+    c.in_ok-push_piece-5.ensures.stretches)
 
 pub returns-clause-follow : goal.returns-clause-follow
 returns-clause-follow c = λ apart small twice.

@@ -9,7 +9,7 @@ pub returns-in_err-made-clause-refused : goal.returns-in_err-made-clause-refused
 returns-in_err-made-clause-refused c =
     let p = err_from_is_err_and c.from_residual.result c.from_residual.ensures.1 in
     rw (p.1 ∙ ap (λ (e : Error). Err e) p.2)
-    (c.in_err-made.ensures.refused (place_in_front c.args.file_type c.args.movie c.loop-edit.movie_len)
+    (c.in_err-made.ensures.large (place_in_front c.args.file_type c.args.movie c.loop-edit.movie_len)
     (is_by c.args.file_type c.args.movie c.loop-edit.movie_len) c.loop-edit.invariant.of_offsets)
 
 pub loop-edit-smaller : goal.loop-edit-smaller

@@ -1,8 +1,10 @@
 use Rattle.std.proofs.Common.{◌≡◌, ◌∙◌, ◌-◌, ◌*◌, ◌^◌, ◌<◌, ◌≤◌, ℕ, length, Err, ap, arith, inl, inr, refl, subst}
 use Rattle.std.proofs.lemmas.Result.{err_from_is_err_and}
+use Rattle.std.specs.List.{filter}
 use Rattle.mp4_codec.specs.declared.box_type.BoxType.TheVariants.{FtypBox, MoovBox}
 use Rattle.mp4_remux.specs.Front.{AreApart}
-use Rattle.mp4_remux.specs.Splice.{Follow}
+use Rattle.mp4_remux.specs.PlannedFront.{front_stretches}
+use Rattle.mp4_remux.specs.Splice.{Follow, has_bytes}
 use Rattle.mp4_remux.specs.declared.error.RemuxError.{RemuxError}
 use Rattle.mp4_remux.proofs.Naming.{names_known, one_of_known}
 use Rattle.mp4_remux.proofs.NotInFront.{box_why, header_why, no_layout_why}
@@ -31,6 +33,8 @@ returns-clause-planned g c =
       c.in_ok-source-2.ensures.contents,
       c.in_ok-source.ensures.contents,
     ) at c.in_ok-bytes.ensures.bytes) (rw c.deref.ensures.value at c.in_ok-made.ensures.moved)
+    (c.in_ok-pieces.ensures.stretches ∙ ap (λ n. filter has_bytes
+    (front_stretches c.args.len c.args.file_type c.args.movie n)) (omega (arith, c.len.ensures)))
     (λ source long. c.in_ok-pieces.ensures.bytes source c.in_ok-made.made.items long (omega (arith, c.len.ensures)))
     c.in-Some.ensures.source_len c.in-Some.ensures.made c.in-Some.ensures.pieces c.in-Some.ensures.small)
 

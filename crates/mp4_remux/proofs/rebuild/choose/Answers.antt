@@ -1,5 +1,4 @@
 use Rattle.std.proofs.Common.{◌∙◌, Err, ap, inl, refl, sym}
-use Rattle.mp4_remux.specs.RefusedRebuilt.{IsNotKept}
 use Rattle.mp4_remux.specs.Remuxed.{ids_of, kept_of}
 use Rattle.mp4_media.specs.FileBoxes.{opened_movie}
 use Rattle.mp4_remux.proofs.Choosing.{missing_said, missing_unopened, none_missing}
@@ -8,7 +7,8 @@ use Rattle.std.proofs.lemmas.Result.{err_from_is_err_and}
 use Rattle.mp4_codec.specs.declared.error.Error.TheVariants.{OutOfMemory}
 use Rattle.mp4_remux.specs.declared.error.RemuxError.{RemuxError}
 use Rattle.mp4_remux.proofs.Faults.{no_fault, passed_on}
-use Rattle.mp4_remux.proofs.RefusingRebuilt.{answer_of_opened, opened_anyhow}
+use Rattle.mp4_remux.proofs.PlanningRebuilt.{answer_chosen, answer_made, chosen_opened, missing_opened}
+use Rattle.mp4_remux.proofs.PlanningRebuilt.{no_fault_rebuilt}
 use Rattle.mp4_remux.proofs.rebuild.choose.Goals as goal
 
 pub returns-clause-written : goal.returns-clause-written
@@ -76,19 +76,43 @@ write_chosen-requires-clause-kept g c = (
       ∙ ap (kept_of c.args.ids.now) (c.deref.ensures.value ∙ c.in_ok-all.ensures.ids),
 )
 
-pub returns-in_err-source-clause-differs : goal.returns-in_err-source-clause-differs
-returns-in_err-source-clause-differs g c =
+pub write_chosen-requires-clause-all : goal.write_chosen-requires-clause-all
+write_chosen-requires-clause-all g c = c.deref-2.ensures.value ∙ c.in_ok-all.ensures.ids
+
+pub returns-in_err-source-clause-why : goal.returns-in_err-source-clause-why
+returns-in_err-source-clause-why g c =
     let p = err_from_is_err_and c.from_residual.result c.from_residual.ensures.1 in
     rw (p.1 ∙ ap (λ (e : RemuxError). Err e) p.2)
-    (opened_anyhow (g.S.ByteSource.contents c.args.source) (g.S.ByteSource.can_refuse c.args.source)
-    (λ xs o. IsNotKept xs o (ids_of o.moov) (kept_of c.args.ids.now (ids_of o.moov))) _
-    c.in_err-source.ensures.no_fault)
+    (chosen_opened (g.S.ByteSource.contents c.args.source) c.args.ids.now _
+    (no_fault_rebuilt (g.S.ByteSource.contents c.args.source) (g.S.ByteSource.can_refuse c.args.source)
+    (λ o. kept_of c.args.ids.now (ids_of o.moov)) _ c.in_err-source.ensures.no_fault))
 
-pub returns-clause-differs : goal.returns-clause-differs
-returns-clause-differs g c =
-    let all = c.deref-2.ensures.value ∙ c.in_ok-all.ensures.ids in
-    answer_of_opened c.write_chosen.result (g.S.ByteSource.contents c.args.source) (opened_movie c.in_ok-source.movie)
-    _ _ (kept_of c.args.ids.now) c.in_ok-source.ensures.only all
+pub returns-in_err-all-clause-why : goal.returns-in_err-all-clause-why
+returns-in_err-all-clause-why g c =
+    let p = err_from_is_err_and c.from_residual-in_err-all.result c.from_residual-in_err-all.ensures.1 in
+    rw (p.1 ∙ ap (λ (e : RemuxError). Err e) p.2)
+    (missing_opened (g.S.ByteSource.contents c.args.source) (opened_movie c.in_ok-source.movie) c.args.ids.now
+    OutOfMemory c.in_ok-source.ensures.only (inl refl))
+
+pub returns-in_err-kept-clause-why : goal.returns-in_err-kept-clause-why
+returns-in_err-kept-clause-why g c =
+    let p = err_from_is_err_and c.from_residual-in_err-kept.result c.from_residual-in_err-kept.ensures.1 in
+    rw (p.1 ∙ ap (λ (e : RemuxError). Err e) p.2)
+    (missing_opened (g.S.ByteSource.contents c.args.source) (opened_movie c.in_ok-source.movie) c.args.ids.now
+    c.in_err-kept.field-0.0 c.in_ok-source.ensures.only c.in_err-kept.ensures.missing)
+
+pub returns-clause-why : goal.returns-clause-why
+returns-clause-why g c =
+    answer_chosen c.write_chosen.result (g.S.ByteSource.contents c.args.source) (opened_movie c.in_ok-source.movie) _
+    c.args.ids.now c.in_ok-source.ensures.only
     (c.deref-3.ensures.value ∙ c.in_ok-kept.ensures.ids
     ∙ ap (kept_of c.args.ids.now) (c.deref.ensures.value ∙ c.in_ok-all.ensures.ids))
-    (rw c.in_ok-source.ensures.contents at c.write_chosen.ensures.differs)
+    (rw c.in_ok-source.ensures.contents at c.write_chosen.ensures.why)
+
+pub returns-clause-planned : goal.returns-clause-planned
+returns-clause-planned g c =
+    answer_made c.write_chosen.result (g.S.ByteSource.contents c.args.source) _ _
+    (opened_movie c.in_ok-source.movie) _ (kept_of c.args.ids.now) c.in_ok-source.ensures.only
+    (c.deref-3.ensures.value ∙ c.in_ok-kept.ensures.ids
+    ∙ ap (kept_of c.args.ids.now) (c.deref.ensures.value ∙ c.in_ok-all.ensures.ids))
+    (rw c.in_ok-source.ensures.contents at c.write_chosen.ensures.planned)
